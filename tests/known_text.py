@@ -1,4 +1,4 @@
-"""What a router writes into its file of tables, by docs/PROTOCOL.md and the page of ipx_known: read and computed anew."""
+"""What a router writes into its file of tables, by docs/PROTOCOL.md and the page of ipx_table_dump: read and computed anew."""
 import re
 
 LIFE = 180_000

@@ -4,7 +4,7 @@ use Rattle.ipx_carrier.specs.declared.fault.RunFault.{RunFault}
 use Rattle.ipx_carrier.specs.Device.{Reception, TrafficOf}
 use Rattle.ipx_carrier.specs.Turns.{FailsAtPort, HearsAnswer, HearsEach}
 use Rattle.ipx_carrier.specs.Counts.{heard_in}
-use Rattle.ipx_carrier.specs.Parts.{AsksInVain, AsksPort, AsksPorts, AsksSomePorts}
+use Rattle.ipx_carrier.specs.Parts.{PollFails, AsksPort, AsksPorts, AsksSomePorts}
 use Rattle.ipx_carrier.proofs.Passing.{count-append, passes_nothing, passes_received}
 
 abbrev Hears : Type 0 → Type 1
@@ -39,7 +39,7 @@ asked_more hears now port s t u a b c count more heard h k e =
       e ∙ ap (λ b. count + cond b 1 0) is ∙ ap (λ n. n + cond (is_some k.0) 1 0) counted ∙ sym (heard_more rs port k.0),
     )
 
-pub asked_some : {C A : Type 0} (hears misses : Hears C) (now port ports : ℕ) (s t u : Option (TrafficOf A)) (a b c : C) (count : ℕ) (f : RunFault) → AsksPorts hears now port s t a b count → AsksInVain hears misses now port t u f b c → port < ports → AsksSomePorts hears misses now ports s u f a c
-asked_some hears misses now port ports s t u a b c count f h k e =
+pub asked_some : {C A : Type 0} (hears hear_out_of_memory : Hears C) (now port ports : ℕ) (s t u : Option (TrafficOf A)) (a b c : C) (count : ℕ) (f : RunFault) → AsksPorts hears now port s t a b count → PollFails hears hear_out_of_memory now port t u f b c → port < ports → AsksSomePorts hears hear_out_of_memory now ports s u f a c
+asked_some hears hear_out_of_memory now port ports s t u a b c count f h k e =
     let long : length h.0 ≡ port = h.1 in
-    (h.0, k.0, b, omega arith, passes_received s t u h.0 k.0 h.2 k.1, h.3, subst (λ n. FailsAtPort misses now n k.0 f b c) (sym long) k.2)
+    (h.0, k.0, b, omega arith, passes_received s t u h.0 k.0 h.2 k.1, h.3, subst (λ n. FailsAtPort hear_out_of_memory now n k.0 f b c) (sym long) k.2)

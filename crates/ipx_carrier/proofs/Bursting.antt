@@ -7,7 +7,7 @@ use Rattle.ipx_carrier.specs.declared.fault.RunFault.TheVariants.{Device}
 use Rattle.ipx_carrier.specs.declared.report.Report.{Report}
 use Rattle.ipx_carrier.specs.Turns.{Given, Ways}
 use Rattle.ipx_carrier.specs.Runs.{EndsEarlyBy, RunsBy}
-use Rattle.ipx_carrier.specs.declared.report.Burst.{Burst}
+use Rattle.ipx_carrier.specs.declared.report.Batch.{Batch}
 use Rattle.ipx_carrier.specs.Counting.{counted}
 use Rattle.ipx_carrier.specs.Device.{TrafficOf}
 use Rattle.ipx_carrier.specs.Driving.{AreBusy, BurstsBy, CanBeginBy, ChainBy, CountsTurns, EndsBy, IsIdle, Stops, TakesTurnBy, TurnTaken, no_turns, refused}
@@ -18,7 +18,7 @@ pub begins_again : {ports ports_now device device_now failed failed_now : ℕ} �
 begins_again e f g can = rw (e, f, g) can
 
 -- where none can be begun, the first one ends the burst, and there is none where none is to be taken
-pub refused_first : (count most : ℕ) (x y : Burst) (f : RunFault) → count < most → x ≡ no_turns → f ≡ Device
+pub refused_first : (count most : ℕ) (x y : Batch) (f : RunFault) → count < most → x ≡ no_turns → f ≡ Device
     → y ≡ record x { fault = Some f } → y ≡ refused most
 refused_first count zero x y f few none e is = absurd (omega (arith, few))
 refused_first count (suc most) x y f few none e is = rw (is, none, e) refl
@@ -49,27 +49,27 @@ pub is_busy_so : (b : Bool) (r : Report) → IsTrue b ↔ ((r.heard ≡ 0) × (r
 unfolding holds
 is_busy_so b r h e idle = subst holds (sym (h.1 idle) ∙ e) tt
 
-pub refused_none : (count most : ℕ) (x : Burst) → count ≡ 0 → count ≡ most → x ≡ no_turns → x ≡ refused most
+pub refused_none : (count most : ℕ) (x : Batch) → count ≡ 0 → count ≡ most → x ≡ no_turns → x ≡ refused most
 refused_none count most x first all none = rw (← all, first, none) refl
 
 -- a turn that was taken, by what it answers
-module _ {C K : Type 0} (hears misses : C → ℕ → List ℕ → ℕ → C → Type 0)
-    (gives : C → ℕ → Option Given → C → Type 0) (withholds : C → ℕ → C → Type 0)
-    (tells : K → ℕ → K → Type 0) (ports : ℕ) {A : Type 0} (ways : Ways A) where
+module _ {C K : Type 0} (hears hear_out_of_memory : C → ℕ → List ℕ → ℕ → C → Type 0)
+    (gives : C → ℕ → Option Given → C → Type 0) (next_out_of_memory : C → ℕ → C → Type 0)
+    (tells : K → ℕ → K → Type 0) (ports : ℕ) {A : Type 0} (transmissions : Ways A) where
   pub takes : (before after : Option (TrafficOf A)) (l m : K) (b c : C) (ran : Result Report RunFault)
-      → IfOk ran (λ report. RunsBy hears gives tells ports ways 1 before after l m b c report)
-      → IfErr ran (λ f. EndsEarlyBy hears misses gives withholds tells ports ways 1 before after l m f b c)
-      → TakesTurnBy hears misses gives withholds tells ports ways before after l m b c ran
+      → IfOk ran (λ report. RunsBy hears gives tells ports transmissions 1 before after l m b c report)
+      → IfErr ran (λ f. EndsEarlyBy hears hear_out_of_memory gives next_out_of_memory tells ports transmissions 1 before after l m f b c)
+      → TakesTurnBy hears hear_out_of_memory gives next_out_of_memory tells ports transmissions before after l m b c ran
   takes before after l m b c (Ok report) well ill = well
   takes before after l m b c (Err f) well ill = ill
 
   -- what passed is not told any more
   pub ran_untold : (before after : Option (TrafficOf A)) (l m : K) (b c : C) (report : Report)
-      → RunsBy hears gives tells ports ways 1 before after l m b c report → RunsBy hears gives tells ports ways 1 None None l m b c report
+      → RunsBy hears gives tells ports transmissions 1 before after l m b c report → RunsBy hears gives tells ports transmissions 1 None None l m b c report
   ran_untold before after l m b c report h = (h.0, h.1, h.2, tt, h.4, h.5)
 
   pub ended_untold : (before after : Option (TrafficOf A)) (l m : K) (f : RunFault) (b c : C)
-      → EndsEarlyBy hears misses gives withholds tells ports ways 1 before after l m f b c → EndsEarlyBy hears misses gives withholds tells ports ways 1 None None l m f b c
+      → EndsEarlyBy hears hear_out_of_memory gives next_out_of_memory tells ports transmissions 1 before after l m f b c → EndsEarlyBy hears hear_out_of_memory gives next_out_of_memory tells ports transmissions 1 None None l m f b c
   ended_untold before after l m f b c h = (h.0, h.1, h.2, h.3, h.4, h.5, h.6, tt, h.8)
 
 -- what holds of a turn in any case
@@ -86,11 +86,11 @@ more_counted f ts t before after e k =
     omega (arith, e, k, s)
 
 -- a burst that counts one more turn
-abbrev pub CountsOne : Report → Burst → Burst → Type 0
+abbrev pub CountsOne : Report → Batch → Batch → Type 0
 CountsOne r b c = (c.heard ≡ counted (b.heard + r.heard)) × (c.sent ≡ counted (b.sent + r.sent))
     × (c.unmapped ≡ counted (b.unmapped + r.unmapped))
 
-more_counts : (ts : List TurnTaken) (t : TurnTaken) (x y : Burst) → CountsTurns ts x → CountsOne t.report x y → CountsTurns (ts ++ t ∷ []) y
+more_counts : (ts : List TurnTaken) (t : TurnTaken) (x y : Batch) → CountsTurns ts x → CountsOne t.report x y → CountsTurns (ts ++ t ∷ []) y
 more_counts ts t x y h counts = (
   more_counted (λ t. t.report.heard) ts t x.heard y.heard h.0 counts.0,
   more_counted (λ t. t.report.sent) ts t x.sent y.sent h.1 counts.1,
@@ -103,46 +103,46 @@ taken r before after = record { report = r; before = before; after = after }
 
 module _ {C K : Type 0} (hears : C → ℕ → List ℕ → ℕ → C → Type 0)
     (gives : C → ℕ → Option Given → C → Type 0) (tells : K → ℕ → K → Type 0)
-    (ports : ℕ) {A : Type 0} (ways : Ways A) where
+    (ports : ℕ) {A : Type 0} (transmissions : Ways A) where
   -- so many whole turns, none of them idle, and their counts
-  abbrev pub Goes : ℕ → Burst → ℕ → ℕ → K → K → C → C → Type 0
+  abbrev pub Goes : ℕ → Batch → ℕ → ℕ → K → K → C → C → Type 0
   Goes count b kept kept_after clock clock_after old new = (turns : List TurnTaken) × (length turns ≡ count)
-      × ChainBy hears gives tells ports ways turns kept kept_after clock clock_after old new
+      × ChainBy hears gives tells ports transmissions turns kept kept_after clock clock_after old new
       × CountsTurns turns b × AreBusy turns
 
   -- a turn over the same ports and ways
-  ran_here : (here : ℕ) (there : Ways A) (l m : K) (b c : C) (report : Report) → here ≡ ports → there ≡ ways
-      → RunsBy hears gives tells here there 1 None None l m b c report → RunsBy hears gives tells ports ways 1 None None l m b c report
+  ran_here : (here : ℕ) (there : Ways A) (l m : K) (b c : C) (report : Report) → here ≡ ports → there ≡ transmissions
+      → RunsBy hears gives tells here there 1 None None l m b c report → RunsBy hears gives tells ports transmissions 1 None None l m b c report
   ran_here here there l m b c report e w ran =
       subst (λ (it : Ways A). RunsBy hears gives tells ports it 1 None None l m b c report) w
       (subst (λ n. RunsBy hears gives tells n there 1 None None l m b c report) e ran)
 
-  chain_on : (ts : List TurnTaken) (t : TurnTaken) (i j : ℕ) (k l m : K) (a b c : C) → ChainBy hears gives tells ports ways ts i j k l a b
-      → t.before ≡ j → j ≤ t.after → RunsBy hears gives tells ports ways 1 None None l m b c t.report
-      → ChainBy hears gives tells ports ways (ts ++ t ∷ []) i t.after k m a c
+  chain_on : (ts : List TurnTaken) (t : TurnTaken) (i j : ℕ) (k l m : K) (a b c : C) → ChainBy hears gives tells ports transmissions ts i j k l a b
+      → t.before ≡ j → j ≤ t.after → RunsBy hears gives tells ports transmissions 1 None None l m b c t.report
+      → ChainBy hears gives tells ports transmissions (ts ++ t ∷ []) i t.after k m a c
   chain_on [] t i j k l m a b c h e le ran =
-      let ran' = subst (λ l. RunsBy hears gives tells ports ways 1 None None l m b c t.report) h.1 ran in (
+      let ran' = subst (λ l. RunsBy hears gives tells ports transmissions 1 None None l m b c t.report) h.1 ran in (
         m,
         c,
         rw (← h.0) e,
         rw (← h.0) le,
-        subst (λ b. RunsBy hears gives tells ports ways 1 None None k m b c t.report) h.2 ran',
+        subst (λ b. RunsBy hears gives tells ports transmissions 1 None None k m b c t.report) h.2 ran',
         (refl, refl, refl),
       )
   chain_on (s ∷ ss) t i j k l m a b c h e le ran = (h.0, h.1, h.2, h.3, h.4, chain_on ss t s.after j h.0 l m h.1 b c h.5 e le ran)
 
-  pub goes_nowhere : (i : ℕ) (k : K) (a : C) (burst : Burst) → CountsTurns [] burst → Goes 0 burst i i k k a a
-  goes_nowhere i k a burst counts = ([], refl, (refl, refl, refl), counts, All-nil (λ t. IsIdle t → ⊥))
+  pub goes_nowhere : (i : ℕ) (k : K) (a : C) (batch : Batch) → CountsTurns [] batch → Goes 0 batch i i k k a a
+  goes_nowhere i k a batch counts = ([], refl, (refl, refl, refl), counts, All-nil (λ t. IsIdle t → ⊥))
 
   -- one more turn, idle or not
-  one_more : (here count : ℕ) (there : Ways A) (i j n : ℕ) (k l m : K) (a b c : C) (x : Burst) (report : Report) → here ≡ ports
-      → there ≡ ways → (h : Goes count x i j k l a b) → j ≤ n → RunsBy hears gives tells here there 1 None None l m b c report
-      → ChainBy hears gives tells ports ways (h.0 ++ taken report j n ∷ []) i n k m a c
+  one_more : (here count : ℕ) (there : Ways A) (i j n : ℕ) (k l m : K) (a b c : C) (x : Batch) (report : Report) → here ≡ ports
+      → there ≡ transmissions → (h : Goes count x i j k l a b) → j ≤ n → RunsBy hears gives tells here there 1 None None l m b c report
+      → ChainBy hears gives tells ports transmissions (h.0 ++ taken report j n ∷ []) i n k m a c
   one_more here count there i j n k l m a b c x report e w h le ran =
       chain_on h.0 (taken report j n) i j k l m a b c h.2 refl le (ran_here here there l m b c report e w ran)
 
-  pub goes_on : (here count : ℕ) (there : Ways A) (i j n : ℕ) (k l m : K) (a b c : C) (x y : Burst) (report : Report) → here ≡ ports
-      → there ≡ ways → Goes count x i j k l a b → j ≤ n → RunsBy hears gives tells here there 1 None None l m b c report → CountsOne report x y
+  pub goes_on : (here count : ℕ) (there : Ways A) (i j n : ℕ) (k l m : K) (a b c : C) (x y : Batch) (report : Report) → here ≡ ports
+      → there ≡ transmissions → Goes count x i j k l a b → j ≤ n → RunsBy hears gives tells here there 1 None None l m b c report → CountsOne report x y
       → (IsIdle (taken report j n) → ⊥) → Goes (count + 1) y i n k m a c
   goes_on here count there i j n k l m a b c x y report e w h le ran counts busy = (
     h.0 ++ taken report j n ∷ [],
@@ -152,18 +152,18 @@ module _ {C K : Type 0} (hears : C → ℕ → List ℕ → ℕ → C → Type 0
     All-push (λ t. IsIdle t → ⊥) h.0 (taken report j n) h.4 busy,
   )
 
-module _ {C K : Type 0} (hears misses : C → ℕ → List ℕ → ℕ → C → Type 0)
-    (gives : C → ℕ → Option Given → C → Type 0) (withholds : C → ℕ → C → Type 0)
-    (tells : K → ℕ → K → Type 0) (ports : ℕ) {A : Type 0} (ways : Ways A) where
+module _ {C K : Type 0} (hears hear_out_of_memory : C → ℕ → List ℕ → ℕ → C → Type 0)
+    (gives : C → ℕ → Option Given → C → Type 0) (next_out_of_memory : C → ℕ → C → Type 0)
+    (tells : K → ℕ → K → Type 0) (ports : ℕ) {A : Type 0} (transmissions : Ways A) where
   nothing_more : (fault : Option RunFault) (j : ℕ) (l : K) (b : C) → fault ≡ None
-      → EndsBy hears misses gives withholds tells ports ways fault j j l l b b
+      → EndsBy hears hear_out_of_memory gives next_out_of_memory tells ports transmissions fault j j l l b b
   nothing_more fault j l b e =
-      subst (λ (it : Option RunFault). EndsBy hears misses gives withholds tells ports ways it j j l l b b) (sym e) (refl, refl, refl)
+      subst (λ (it : Option RunFault). EndsBy hears hear_out_of_memory gives next_out_of_memory tells ports transmissions it j j l l b b) (sym e) (refl, refl, refl)
 
   -- no fault ended it, and it is not quiet: there were so many turns
-  pub ends_at_most : (count most : ℕ) (i j : ℕ) (k l : K) (a b : C) (x : Burst) → count ≡ most → x.fault ≡ None → x.quiet ≡ false
-      → Goes hears gives tells ports ways count x i j k l a b
-      → BurstsBy hears misses gives withholds tells ports ways most x i j k l a b
+  pub ends_at_most : (count most : ℕ) (i j : ℕ) (k l : K) (a b : C) (x : Batch) → count ≡ most → x.fault ≡ None → x.quiet ≡ false
+      → Goes hears gives tells ports transmissions count x i j k l a b
+      → BurstsBy hears hear_out_of_memory gives next_out_of_memory tells ports transmissions most x i j k l a b
   ends_at_most count most i j k l a b x all e f h = (
     h.0,
     j,
@@ -176,33 +176,33 @@ module _ {C K : Type 0} (hears misses : C → ℕ → List ℕ → ℕ → C →
         (subst (λ (it : Bool). Stops most h.0 None it) (sym f) (omega (arith, h.1, all), h.4)),
   )
 
-  pub ends_quietly : (here count most : ℕ) (there : Ways A) (i j n : ℕ) (k l m : K) (a b c : C) (x y z : Burst) (report : Report) → here ≡ ports
-      → there ≡ ways → count < most → Goes hears gives tells ports ways count x i j k l a b → n ≡ j
+  pub ends_quietly : (here count most : ℕ) (there : Ways A) (i j n : ℕ) (k l m : K) (a b c : C) (x y z : Batch) (report : Report) → here ≡ ports
+      → there ≡ transmissions → count < most → Goes hears gives tells ports transmissions count x i j k l a b → n ≡ j
       → RunsBy hears gives tells here there 1 None None l m b c report → (report.heard ≡ 0) × (report.sent ≡ 0)
       → CountsOne report x y → y.fault ≡ None → z ≡ record y { quiet = true }
-      → BurstsBy hears misses gives withholds tells ports ways most z i n k m a c
+      → BurstsBy hears hear_out_of_memory gives next_out_of_memory tells ports transmissions most z i n k m a c
   unfolding one_more
   ends_quietly here count most there i j n k l m a b c x y z report e w few h same ran idle counts f is =
       let last = taken report j n in
-      subst (λ (it : Burst). BurstsBy hears misses gives withholds tells ports ways most it i n k m a c) (sym is) (
+      subst (λ (it : Batch). BurstsBy hears hear_out_of_memory gives next_out_of_memory tells ports transmissions most it i n k m a c) (sym is) (
         h.0 ++ last ∷ [],
         n,
         m,
         c,
-        one_more hears gives tells ports ways here count there i j n k l m a b c x report e w h (omega (arith, same)) ran,
+        one_more hears gives tells ports transmissions here count there i j n k l m a b c x report e w h (omega (arith, same)) ran,
         nothing_more y.fault n m c f,
         more_counts h.0 last x y h.3 counts,
         subst (λ (it : Option RunFault). Stops most (h.0 ++ last ∷ []) it true) (sym f)
             (omega (arith, length-append h.0 (last ∷ []), h.1, few), (h.0, last, refl, h.4, (idle.0, idle.1, same))),
       )
 
-  pub ends_badly : (here count most : ℕ) (there : Ways A) (i j n : ℕ) (k l m : K) (a b c : C) (x y : Burst) (f : RunFault) → here ≡ ports
-      → there ≡ ways → count < most → x.quiet ≡ false → y ≡ record x { fault = Some f }
-      → Goes hears gives tells ports ways count x i j k l a b → j ≤ n
-      → EndsEarlyBy hears misses gives withholds tells here there 1 None None l m f b c
-      → BurstsBy hears misses gives withholds tells ports ways most y i n k m a c
+  pub ends_badly : (here count most : ℕ) (there : Ways A) (i j n : ℕ) (k l m : K) (a b c : C) (x y : Batch) (f : RunFault) → here ≡ ports
+      → there ≡ transmissions → count < most → x.quiet ≡ false → y ≡ record x { fault = Some f }
+      → Goes hears gives tells ports transmissions count x i j k l a b → j ≤ n
+      → EndsEarlyBy hears hear_out_of_memory gives next_out_of_memory tells here there 1 None None l m f b c
+      → BurstsBy hears hear_out_of_memory gives next_out_of_memory tells ports transmissions most y i n k m a c
   ends_badly here count most there i j n k l m a b c x y f e w few loud is h le how =
-      subst (λ (it : Burst). BurstsBy hears misses gives withholds tells ports ways most it i n k m a c) (sym is) (
+      subst (λ (it : Batch). BurstsBy hears hear_out_of_memory gives next_out_of_memory tells ports transmissions most it i n k m a c) (sym is) (
         h.0,
         j,
         l,
@@ -210,8 +210,8 @@ module _ {C K : Type 0} (hears misses : C → ℕ → List ℕ → ℕ → C →
         h.2,
         (
           le,
-          subst (λ (it : Ways A). EndsEarlyBy hears misses gives withholds tells ports it 1 None None l m f b c) w
-              (subst (λ n. EndsEarlyBy hears misses gives withholds tells n there 1 None None l m f b c) e how),
+          subst (λ (it : Ways A). EndsEarlyBy hears hear_out_of_memory gives next_out_of_memory tells ports it 1 None None l m f b c) w
+              (subst (λ n. EndsEarlyBy hears hear_out_of_memory gives next_out_of_memory tells n there 1 None None l m f b c) e how),
         ),
         h.3,
         (omega (arith, h.1, few), h.4, loud),

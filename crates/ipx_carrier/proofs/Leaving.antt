@@ -4,7 +4,7 @@ use Rattle.std.specs.Prelude.{option_map}
 use Rattle.ipx_router.specs.declared.outcome.Reply.{Reply}
 use Rattle.ipx_router.specs.RouterPackets.{SendingView, sending_of, sendings}
 use Rattle.ipx_carrier.specs.Turns.{Given, GivesEach}
-use Rattle.ipx_carrier.specs.RouterCore.{CoreQueues, CoreView, ForwardedLeaveFirst, GivesNext, LeaveInOrder, Leaves, RouterGives, StartsAndTells, given_of, KeepsAllButQueues, most_in_a_row, most_of_own, row_behind}
+use Rattle.ipx_carrier.specs.RouterCore.{CoreQueues, CoreView, ForwardedLeaveFirst, GivesNext, LeaveInOrder, Dequeues, RouterGives, StartsAndTells, given_of, KeepsAllButQueues, max_originated_run, max_of_own, row_behind}
 use Rattle.ipx_carrier.specs.Queued.{core_queues}
 use Rattle.ipx_carrier.proofs.Staying.{all_once, keeps_on, keeps_rest, no_more_own, ready_once}
 
@@ -16,47 +16,47 @@ none_left [] ys e rest = refl
 none_left (x ∷ xs) ys e rest = absurd (omega (arith, ap length e, ap length rest))
 
 -- the first that is forwarded leaves
-pub forwarded_leaves : (w w' q : List Reply) (row row' : ℕ) (r : Reply) → w ≡ r ∷ w' → row' ≡ row_behind (sendings q) → Leaves (core_queues w q row) (Some (sending_of r)) (core_queues w' q row')
+pub forwarded_leaves : (w w' q : List Reply) (row row' : ℕ) (r : Reply) → w ≡ r ∷ w' → row' ≡ row_behind (sendings q) → Dequeues (core_queues w q row) (Some (sending_of r)) (core_queues w' q row')
 forwarded_leaves w w' q row row' r e is =
     inl (ap sendings e, ap (λ n. core_queues w' q n) is)
 
 -- the first of its own does
-pub own_leaves : (q q' : List Reply) (row row' : ℕ) (r : Reply) → q ≡ r ∷ q' → row < most_in_a_row → row' ≡ row + 1 → Leaves (core_queues [] q row) (Some (sending_of r)) (core_queues [] q' row')
+pub own_leaves : (q q' : List Reply) (row row' : ℕ) (r : Reply) → q ≡ r ∷ q' → row < max_originated_run → row' ≡ row + 1 → Dequeues (core_queues [] q row) (Some (sending_of r)) (core_queues [] q' row')
 own_leaves q q' row row' r e less is =
     inr (refl, ap sendings e, less, ap (λ n. core_queues [] q' n) is)
 
 -- none does behind the most
-pub row_ends : (q : List Reply) (row row' : ℕ) → most_in_a_row ≤ row → row' ≡ 0 → Leaves (core_queues [] q row) None (core_queues [] q row')
+pub row_ends : (q : List Reply) (row row' : ℕ) → max_originated_run ≤ row → row' ≡ 0 → Dequeues (core_queues [] q row) None (core_queues [] q row')
 row_ends q row row' most is = (refl, inr most, ap (λ n. core_queues [] q n) is)
 
 -- or where there is none
-pub none_leaves : (q q' : List Reply) (row row' : ℕ) → q ≡ q' → q' ≡ drop 1 q → row' ≡ 0 → Leaves (core_queues [] q row) None (core_queues [] q' row')
+pub none_leaves : (q q' : List Reply) (row row' : ℕ) → q ≡ q' → q' ≡ drop 1 q → row' ≡ 0 → Dequeues (core_queues [] q row) None (core_queues [] q' row')
 none_leaves q q' row row' e rest is =
     (refl, inl (ap sendings (none_left q q' e rest)), ap (λ (xs : List Reply). core_queues [] xs row') (sym e) ∙ ap (λ n. core_queues [] q n) is)
 
 -- its own leave where nothing is forwarded
-pub behind_none : (w w' q q' : List Reply) (row row' : ℕ) (leaving : Option SendingView) → w ≡ w' → w' ≡ drop 1 w → Leaves (core_queues [] q row) leaving (core_queues [] q' row') → Leaves (core_queues w q row) leaving (core_queues w' q' row')
+pub behind_none : (w w' q q' : List Reply) (row row' : ℕ) (leaving : Option SendingView) → w ≡ w' → w' ≡ drop 1 w → Dequeues (core_queues [] q row) leaving (core_queues [] q' row') → Dequeues (core_queues w q row) leaving (core_queues w' q' row')
 behind_none w w' q q' row row' leaving e rest h =
     let none : w ≡ [] = none_left w w' e rest in
-    subst (λ (xs : List Reply). Leaves (core_queues xs q row) leaving (core_queues w' q' row')) (sym none)
-    (subst (λ (xs : List Reply). Leaves (core_queues [] q row) leaving (core_queues xs q' row')) (sym none ∙ e) h)
+    subst (λ (xs : List Reply). Dequeues (core_queues xs q row) leaving (core_queues w' q' row')) (sym none)
+    (subst (λ (xs : List Reply). Dequeues (core_queues [] q row) leaving (core_queues xs q' row')) (sym none ∙ e) h)
 
 -- ---- all that leave until none does
 
-none_then : (q new : CoreQueues) (leaving : Option SendingView) → Leaves q leaving new → None ≡ option_map given_of leaving → Leaves q None new
+none_then : (q new : CoreQueues) (leaving : Option SendingView) → Dequeues q leaving new → None ≡ option_map given_of leaving → Dequeues q None new
 none_then q new None h is = h
 none_then q new (Some s) h is =
     let other : None ≡ Some (given_of s) = is in
     cc
 
-some_then : (q new : CoreQueues) (p : Given) (leaving : Option SendingView) → Leaves q leaving new → Some p ≡ option_map given_of leaving → (s : SendingView) × Leaves q (Some s) new × (p ≡ given_of s)
+some_then : (q new : CoreQueues) (p : Given) (leaving : Option SendingView) → Dequeues q leaving new → Some p ≡ option_map given_of leaving → (s : SendingView) × Dequeues q (Some s) new × (p ≡ given_of s)
 some_then q new p None h is =
     let other : Some p ≡ None = is in
     cc
 some_then q new p (Some s) h is = (s, h, ap (λ (o : Option Given). unwrap_or o p) is)
 
 abbrev all_of : List SendingView → List SendingView → ℕ → CoreQueues
-all_of w own row = record { forwarded = w; own = own; in_a_row = row }
+all_of w own row = record { forwarded = w; own = own; originated_run = row }
 
 taken_of_none : (n : ℕ) → take {A = SendingView} n [] ≡ []
 taken_of_none zero = refl
@@ -67,16 +67,16 @@ left_of_none zero = refl
 left_of_none (suc n) = refl
 
 -- none of its own leaves where it has none, or where the most left
-no_more : (own : List SendingView) (row : ℕ) (new : CoreQueues) → (own ≡ []) ⊎ (most_in_a_row ≤ row) → new ≡ all_of [] own 0 → LeaveInOrder (all_of [] own row) [] new
+no_more : (own : List SendingView) (row : ℕ) (new : CoreQueues) → (own ≡ []) ⊎ (max_originated_run ≤ row) → new ≡ all_of [] own 0 → LeaveInOrder (all_of [] own row) [] new
 no_more own row new (inl none) is =
-    let taken = ap (λ (xs : List SendingView). take (most_in_a_row - row) xs) none ∙ taken_of_none (most_in_a_row - row) in
-    let left = ap (λ (xs : List SendingView). drop (most_in_a_row - row) xs) none ∙ left_of_none (most_in_a_row - row) in
+    let taken = ap (λ (xs : List SendingView). take (max_originated_run - row) xs) none ∙ taken_of_none (max_originated_run - row) in
+    let left = ap (λ (xs : List SendingView). drop (max_originated_run - row) xs) none ∙ left_of_none (max_originated_run - row) in
     (sym (ap (map given_of) taken), is ∙ ap (λ (xs : List SendingView). all_of [] xs 0) (none ∙ sym left))
 no_more own row new (inr most) is =
-    let none : most_in_a_row - row ≡ 0 = omega (arith, most) in
+    let none : max_originated_run - row ≡ 0 = omega (arith, most) in
     (sym (ap (λ n. map given_of (take n own)) none), is ∙ sym (ap (λ n. all_of [] (drop n own) 0) none))
 
-same_row : (w own : List SendingView) → most_of_own w own (row_behind own) ≡ most_in_a_row - row_behind own
+same_row : (w own : List SendingView) → max_of_own w own (row_behind own) ≡ max_originated_run - row_behind own
 same_row [] own = refl
 same_row (s ∷ w) own = refl
 
@@ -88,30 +88,30 @@ one_forwarded_more p ps s w own row new is rest = (
 )
 
 -- one of its own does
-one_own_more : (p : Given) (ps : List Given) (s : SendingView) (own : List SendingView) (row : ℕ) (new : CoreQueues) → p ≡ given_of s → row < most_in_a_row → LeaveInOrder (all_of [] own (row + 1)) ps new → LeaveInOrder (all_of [] (s ∷ own) row) (p ∷ ps) new
+one_own_more : (p : Given) (ps : List Given) (s : SendingView) (own : List SendingView) (row : ℕ) (new : CoreQueues) → p ≡ given_of s → row < max_originated_run → LeaveInOrder (all_of [] own (row + 1)) ps new → LeaveInOrder (all_of [] (s ∷ own) row) (p ∷ ps) new
 one_own_more p ps s own row new is less rest =
-    let more : most_in_a_row - row ≡ suc (most_in_a_row - (row + 1)) = omega (arith, less) in (
+    let more : max_originated_run - row ≡ suc (max_originated_run - (row + 1)) = omega (arith, less) in (
       ap (λ (x : Given). x ∷ ps) is ∙ ap (λ (xs : List Given). given_of s ∷ xs) rest.0 ∙ sym (ap (λ n. map given_of (take n (s ∷ own))) more),
       rest.1 ∙ sym (ap (λ n. all_of [] (drop n (s ∷ own)) 0) more),
     )
 
-one_more : (ps : List Given) (p : Given) (s : SendingView) (q mid new : CoreQueues) → p ≡ given_of s → Leaves q (Some s) mid → LeaveInOrder mid ps new → LeaveInOrder q (p ∷ ps) new
+one_more : (ps : List Given) (p : Given) (s : SendingView) (q mid new : CoreQueues) → p ≡ given_of s → Dequeues q (Some s) mid → LeaveInOrder mid ps new → LeaveInOrder q (p ∷ ps) new
 one_more ps p s q mid new is (inl h) rest =
     let after = subst (λ (c : CoreQueues). LeaveInOrder c ps new) h.1 rest in
-    subst (λ (w : List SendingView). LeaveInOrder (all_of w q.own q.in_a_row) (p ∷ ps) new) (sym h.0) (one_forwarded_more p ps s mid.forwarded q.own q.in_a_row new is after)
+    subst (λ (w : List SendingView). LeaveInOrder (all_of w q.own q.originated_run) (p ∷ ps) new) (sym h.0) (one_forwarded_more p ps s mid.forwarded q.own q.originated_run new is after)
 one_more ps p s q mid new is (inr h) rest =
-    let after : LeaveInOrder (all_of [] mid.own (q.in_a_row + 1)) ps new =
-    subst (λ (c : CoreQueues). LeaveInOrder c ps new) (h.3 ∙ ap (λ (w : List SendingView). all_of w mid.own (q.in_a_row + 1)) h.0) rest in
-    let before : q ≡ all_of [] (s ∷ mid.own) q.in_a_row =
-    ap (λ (w : List SendingView). all_of w q.own q.in_a_row) h.0 ∙ ap (λ (xs : List SendingView). all_of [] xs q.in_a_row) h.1 in
-    subst (λ (c : CoreQueues). LeaveInOrder c (p ∷ ps) new) (sym before) (one_own_more p ps s mid.own q.in_a_row new is h.2 after)
+    let after : LeaveInOrder (all_of [] mid.own (q.originated_run + 1)) ps new =
+    subst (λ (c : CoreQueues). LeaveInOrder c ps new) (h.3 ∙ ap (λ (w : List SendingView). all_of w mid.own (q.originated_run + 1)) h.0) rest in
+    let before : q ≡ all_of [] (s ∷ mid.own) q.originated_run =
+    ap (λ (w : List SendingView). all_of w q.own q.originated_run) h.0 ∙ ap (λ (xs : List SendingView). all_of [] xs q.originated_run) h.1 in
+    subst (λ (c : CoreQueues). LeaveInOrder c (p ∷ ps) new) (sym before) (one_own_more p ps s mid.own q.originated_run new is h.2 after)
 
 -- none leaves any more
-last_of : (q new : CoreQueues) → Leaves q None new → LeaveInOrder q [] new
+last_of : (q new : CoreQueues) → Dequeues q None new → LeaveInOrder q [] new
 last_of q new h =
-    let before : q ≡ all_of [] q.own q.in_a_row = ap (λ (w : List SendingView). all_of w q.own q.in_a_row) h.0 in
+    let before : q ≡ all_of [] q.own q.originated_run = ap (λ (w : List SendingView). all_of w q.own q.originated_run) h.0 in
     subst (λ (c : CoreQueues). LeaveInOrder c [] new) (sym before)
-    (no_more q.own q.in_a_row new h.1 (h.2 ∙ ap (λ (w : List SendingView). all_of w q.own 0) h.0))
+    (no_more q.own q.originated_run new h.1 (h.2 ∙ ap (λ (w : List SendingView). all_of w q.own 0) h.0))
 
 -- these were given until none was
 pub record AreGivenSo (now : ℕ) (packets : List Given) (old new : CoreView) : Type 0 where

@@ -13,8 +13,8 @@ use Rattle.ipx_carrier.specs.Turns.{FailsAfter, FailsInLast, Given, GivesEach, I
 use Rattle.ipx_carrier.specs.SendingView.{with_one_packet}
 use Rattle.ipx_carrier.specs.Counts.{unmapped_in}
 use Rattle.ipx_carrier.specs.Mapping.{ip_at}
-use Rattle.ipx_carrier.specs.Parts.{SendsAll, SendsEach, SendsNext, SendsSome, tally_of}
-use Rattle.ipx_carrier.specs.Segments.{SendsFrontOf, copies_count}
+use Rattle.ipx_carrier.specs.Parts.{SendsAll, SendsEach, SendsNext, SendsSome, totals_of}
+use Rattle.ipx_carrier.specs.PortDrivers.{SendsFrontOf, copies_count}
 use Rattle.ipx_carrier.proofs.Passing.{count-append, passes_nothing, passes_sent}
 
 -- of what is sent to each, a front is sent to the first
@@ -42,13 +42,13 @@ one_unsent (Err f) peers p to s t single found e =
     rw (single, found) ([], (datagram_to p to, [], refl), passes_nothing s t e)
 
 -- a packet whose datagrams were sent in part
-pub one_sent_in_part : {C A : Type 0} (gives : C → ℕ → Option Given → C → Type 0) (withholds : C → ℕ → C → Type 0) (now : ℕ) (ways : Ways A) (p : Given) (s t : Option (TrafficOf A)) (a b : C) → gives a now (Some p) b → SendsFrontOf (copies_of ways p) s t → SendsSome gives withholds 1 now ways s t Device a b
-one_sent_in_part gives withholds now ways p s t a b h k =
+pub one_sent_in_part : {C A : Type 0} (gives : C → ℕ → Option Given → C → Type 0) (next_out_of_memory : C → ℕ → C → Type 0) (now : ℕ) (transmissions : Ways A) (p : Given) (s t : Option (TrafficOf A)) (a b : C) → gives a now (Some p) b → SendsFrontOf (copies_of transmissions p) s t → SendsSome gives next_out_of_memory 1 now transmissions s t Device a b
+one_sent_in_part gives next_out_of_memory now transmissions p s t a b h k =
     (p ∷ [], k.0, ((b, h, refl), lit≤ tt, ([], p, k.0, refl, k.1, refl)), k.2)
 
 -- a packet that is withheld
-pub none_sent : {C A : Type 0} (gives : C → ℕ → Option Given → C → Type 0) (withholds : C → ℕ → C → Type 0) (now : ℕ) (ways : Ways A) (s t : Option (TrafficOf A)) (a b : C) → withholds a now b → t ≡ s → SendsSome gives withholds 1 now ways s t OutOfMemory a b
-none_sent gives withholds now ways s t a b h e =
+pub none_sent : {C A : Type 0} (gives : C → ℕ → Option Given → C → Type 0) (next_out_of_memory : C → ℕ → C → Type 0) (now : ℕ) (transmissions : Ways A) (s t : Option (TrafficOf A)) (a b : C) → next_out_of_memory a now b → t ≡ s → SendsSome gives next_out_of_memory 1 now transmissions s t OutOfMemory a b
+none_sent gives next_out_of_memory now transmissions s t a b h e =
     ([], [], (a, refl, lit< tt, refl, h), passes_nothing s t e)
 
 pub gives_on : {C : Type 0} (gives : C → ℕ → Option Given → C → Type 0) (now : ℕ) (ps qs : List Given) (a b c : C) → GivesEach gives now ps a b → GivesEach gives now qs b c → GivesEach gives now (ps ++ qs) a c
@@ -56,17 +56,17 @@ gives_on gives now [] qs a b c h k = subst (λ a. GivesEach gives now qs a c) h 
 gives_on gives now (p ∷ ps) qs a b c h k = (h.0, h.1, gives_on gives now ps qs h.0 b c h.2 k)
 
 -- the same where other packets were sent before
-fails_later : {A : Type 0} (ways : Ways A) (ps qs : List Given) (sent : List A) → FailsInLast ways qs sent → FailsInLast ways (ps ++ qs) (sent_of ways ps ++ sent)
-fails_later {A} ways ps qs sent h =
+fails_later : {A : Type 0} (transmissions : Ways A) (ps qs : List Given) (sent : List A) → FailsInLast transmissions qs sent → FailsInLast transmissions (ps ++ qs) (sent_of transmissions ps ++ sent)
+fails_later {A} transmissions ps qs sent h =
     let before : List Given = h.0 in
     let front : List A = h.2 in
-    let all : sent_of ways (ps ++ before) ≡ sent_of ways ps ++ sent_of ways before = flat_map-append (copies_of ways) ps before in (
+    let all : sent_of transmissions (ps ++ before) ≡ sent_of transmissions ps ++ sent_of transmissions before = flat_map-append (copies_of transmissions) ps before in (
       ps ++ before,
       h.1,
       front,
       ap (λ qs. ps ++ qs) h.3 ∙ sym (append_assoc ps before (h.1 ∷ [])),
       h.4,
-      ap (λ ds. sent_of ways ps ++ ds) h.5 ∙ sym (append_assoc (sent_of ways ps) (sent_of ways before) front) ∙ ap (λ ds. ds ++ front) (sym all),
+      ap (λ ds. sent_of transmissions ps ++ ds) h.5 ∙ sym (append_assoc (sent_of transmissions ps) (sent_of transmissions before) front) ∙ ap (λ ds. ds ++ front) (sym all),
     )
 
 abbrev record_of : ℕ → ℕ → SendCounts
@@ -76,65 +76,65 @@ count_cases : {A : Type 0} (o : Option (List A)) (s u : ℕ) → record_of (s + 
 count_cases None s u = ap (λ s. record_of s (u + 1)) (add-zero s)
 count_cases (Some xs) s u = ap (λ u. record_of (s + length xs) u) (add-zero u)
 
-sent_of_more : {A : Type 0} (ways : Ways A) (ps : List Given) (p : Given) → sent_of ways (ps ++ p ∷ []) ≡ sent_of ways ps ++ copies_of ways p
-sent_of_more ways ps p =
-    flat_map-append (copies_of ways) ps (p ∷ []) ∙ ap (λ ds. sent_of ways ps ++ ds) (append-nil (copies_of ways p))
+sent_of_more : {A : Type 0} (transmissions : Ways A) (ps : List Given) (p : Given) → sent_of transmissions (ps ++ p ∷ []) ≡ sent_of transmissions ps ++ copies_of transmissions p
+sent_of_more transmissions ps p =
+    flat_map-append (copies_of transmissions) ps (p ∷ []) ∙ ap (λ ds. sent_of transmissions ps ++ ds) (append-nil (copies_of transmissions p))
 
-tally_more : {A : Type 0} (ways : Ways A) (ps : List Given) (p : Given) → tally_of ways (ps ++ p ∷ []) ≡ with_one_packet (tally_of ways ps) (copies_count ways p)
-tally_more ways ps p =
-    let sent : length (sent_of ways (ps ++ p ∷ [])) ≡ length (sent_of ways ps) + length (copies_of ways p) =
-    ap length (sent_of_more ways ps p) ∙ length-append (sent_of ways ps) (copies_of ways p) in
-    let unmapped : unmapped_in ways (ps ++ p ∷ []) ≡ unmapped_in ways ps + cond (is_none (ways p)) 1 0 =
-    omega (arith, count-append (λ (q : Given). is_none (ways q)) ps (p ∷ [])) in
-    ap (λ n. record_of n (unmapped_in ways (ps ++ p ∷ []))) sent ∙ ap (λ n. record_of (length (sent_of ways ps) + length (copies_of ways p)) n) unmapped
-    ∙ count_cases (ways p) (length (sent_of ways ps)) (unmapped_in ways ps)
+totals_more : {A : Type 0} (transmissions : Ways A) (ps : List Given) (p : Given) → totals_of transmissions (ps ++ p ∷ []) ≡ with_one_packet (totals_of transmissions ps) (copies_count transmissions p)
+totals_more transmissions ps p =
+    let sent : length (sent_of transmissions (ps ++ p ∷ [])) ≡ length (sent_of transmissions ps) + length (copies_of transmissions p) =
+    ap length (sent_of_more transmissions ps p) ∙ length-append (sent_of transmissions ps) (copies_of transmissions p) in
+    let unmapped : unmapped_in transmissions (ps ++ p ∷ []) ≡ unmapped_in transmissions ps + cond (is_none (transmissions p)) 1 0 =
+    omega (arith, count-append (λ (q : Given). is_none (transmissions q)) ps (p ∷ [])) in
+    ap (λ n. record_of n (unmapped_in transmissions (ps ++ p ∷ []))) sent ∙ ap (λ n. record_of (length (sent_of transmissions ps) + length (copies_of transmissions p)) n) unmapped
+    ∙ count_cases (transmissions p) (length (sent_of transmissions ps)) (unmapped_in transmissions ps)
 
-pub sends_none : {C A : Type 0} (gives : C → ℕ → Option Given → C → Type 0) (now : ℕ) (ways : Ways A) (s : Option (TrafficOf A)) (a : C) (t : SendCounts) → t ≡ record_of 0 0 → SendsEach gives 0 now ways s s a a t
-sends_none gives now ways s a t e = ([], refl, refl, passes_nothing s s refl, e)
+pub sends_none : {C A : Type 0} (gives : C → ℕ → Option Given → C → Type 0) (now : ℕ) (transmissions : Ways A) (s : Option (TrafficOf A)) (a : C) (t : SendCounts) → t ≡ record_of 0 0 → SendsEach gives 0 now transmissions s s a a t
+sends_none gives now transmissions s a t e = ([], refl, refl, passes_nothing s s refl, e)
 
-pub sends_more : {C A : Type 0} (gives : C → ℕ → Option Given → C → Type 0) (n now : ℕ) (ways : Ways A) (s t u : Option (TrafficOf A)) (a b c : C) (tally next : SendCounts) (o : Option ℕ) → SendsEach gives n now ways s t a b tally → SendsNext gives now ways t u b c (Some o) → next ≡ with_one_packet tally o → SendsEach gives (n + 1) now ways s u a c next
-sends_more {A = A} gives n now ways s t u a b c tally next o h k e =
+pub sends_more : {C A : Type 0} (gives : C → ℕ → Option Given → C → Type 0) (n now : ℕ) (transmissions : Ways A) (s t u : Option (TrafficOf A)) (a b c : C) (totals next : SendCounts) (o : Option ℕ) → SendsEach gives n now transmissions s t a b totals → SendsNext gives now transmissions t u b c (Some o) → next ≡ with_one_packet totals o → SendsEach gives (n + 1) now transmissions s u a c next
+sends_more {A = A} gives n now transmissions s t u a b c totals next o h k e =
     let ps = h.0 in
     let p = k.0 in
-    let sent : Passes s u [] (sent_of ways ps ++ copies_of ways p) = passes_sent s t u (sent_of ways ps) (copies_of ways p) h.3 k.2 in (
+    let sent : Passes s u [] (sent_of transmissions ps ++ copies_of transmissions p) = passes_sent s t u (sent_of transmissions ps) (copies_of transmissions p) h.3 k.2 in (
       ps ++ p ∷ [],
       omega (arith, length-append ps (p ∷ []), h.1),
       gives_on gives now ps (p ∷ []) a b c h.2 (c, k.1, refl),
-      subst (λ (ds : List A). Passes s u [] ds) (sym (sent_of_more ways ps p)) sent,
-      e ∙ ap (λ t. with_one_packet t o) h.4 ∙ ap (λ o. with_one_packet (tally_of ways ps) o) k.3 ∙ sym (tally_more ways ps p),
+      subst (λ (ds : List A). Passes s u [] ds) (sym (sent_of_more transmissions ps p)) sent,
+      e ∙ ap (λ t. with_one_packet t o) h.4 ∙ ap (λ o. with_one_packet (totals_of transmissions ps) o) k.3 ∙ sym (totals_more transmissions ps p),
     )
 
 -- the same where the ways are written otherwise
-pub sends_more_there : {C A : Type 0} (gives : C → ℕ → Option Given → C → Type 0) (n now : ℕ) (ways there : Ways A) (s t u : Option (TrafficOf A)) (a b c : C) (tally next : SendCounts) (o : Option ℕ) → there ≡ ways → SendsEach gives n now ways s t a b tally → SendsNext gives now there t u b c (Some o) → next ≡ with_one_packet tally o → SendsEach gives (n + 1) now ways s u a c next
-sends_more_there gives n now ways there s t u a b c tally next o is h k e =
-    sends_more gives n now ways s t u a b c tally next o h (subst (λ w. SendsNext gives now w t u b c (Some o)) is k) e
+pub sends_more_there : {C A : Type 0} (gives : C → ℕ → Option Given → C → Type 0) (n now : ℕ) (transmissions there : Ways A) (s t u : Option (TrafficOf A)) (a b c : C) (totals next : SendCounts) (o : Option ℕ) → there ≡ transmissions → SendsEach gives n now transmissions s t a b totals → SendsNext gives now there t u b c (Some o) → next ≡ with_one_packet totals o → SendsEach gives (n + 1) now transmissions s u a c next
+sends_more_there gives n now transmissions there s t u a b c totals next o is h k e =
+    sends_more gives n now transmissions s t u a b c totals next o h (subst (λ w. SendsNext gives now w t u b c (Some o)) is k) e
 
-pub sends_quiet : {C A : Type 0} (gives : C → ℕ → Option Given → C → Type 0) (n now : ℕ) (ways : Ways A) (s t u : Option (TrafficOf A)) (a b c : C) (tally : SendCounts) → SendsEach gives n now ways s t a b tally → n < 64 → SendsNext gives now ways t u b c None → SendsAll gives now ways s u a c tally
-sends_quiet gives n now ways s t u a b c tally h lt k =
+pub sends_quiet : {C A : Type 0} (gives : C → ℕ → Option Given → C → Type 0) (n now : ℕ) (transmissions : Ways A) (s t u : Option (TrafficOf A)) (a b c : C) (totals : SendCounts) → SendsEach gives n now transmissions s t a b totals → n < 64 → SendsNext gives now transmissions t u b c None → SendsAll gives now transmissions s u a c totals
+sends_quiet gives n now transmissions s t u a b c totals h lt k =
     let count : length h.0 ≡ n = h.1 in
-    (h.0, inr (b, h.2, omega arith, k.0), subst (λ u. Passes s u [] (sent_of ways h.0)) (sym k.1) h.3, h.4)
+    (h.0, inr (b, h.2, omega arith, k.0), subst (λ u. Passes s u [] (sent_of transmissions h.0)) (sym k.1) h.3, h.4)
 
-pub sends_quiet_there : {C A : Type 0} (gives : C → ℕ → Option Given → C → Type 0) (n now : ℕ) (ways there : Ways A) (s t u : Option (TrafficOf A)) (a b c : C) (tally : SendCounts) → there ≡ ways → SendsEach gives n now ways s t a b tally → n < 64 → SendsNext gives now there t u b c None → SendsAll gives now ways s u a c tally
-sends_quiet_there gives n now ways there s t u a b c tally is h lt k =
-    sends_quiet gives n now ways s t u a b c tally h lt (subst (λ w. SendsNext gives now w t u b c None) is k)
+pub sends_quiet_there : {C A : Type 0} (gives : C → ℕ → Option Given → C → Type 0) (n now : ℕ) (transmissions there : Ways A) (s t u : Option (TrafficOf A)) (a b c : C) (totals : SendCounts) → there ≡ transmissions → SendsEach gives n now transmissions s t a b totals → n < 64 → SendsNext gives now there t u b c None → SendsAll gives now transmissions s u a c totals
+sends_quiet_there gives n now transmissions there s t u a b c totals is h lt k =
+    sends_quiet gives n now transmissions s t u a b c totals h lt (subst (λ w. SendsNext gives now w t u b c None) is k)
 
-pub sends_full : {C A : Type 0} (gives : C → ℕ → Option Given → C → Type 0) (n now : ℕ) (ways : Ways A) (s t : Option (TrafficOf A)) (a b : C) (tally : SendCounts) → SendsEach gives n now ways s t a b tally → n ≡ 64 → SendsAll gives now ways s t a b tally
-sends_full gives n now ways s t a b tally h e = (h.0, inl (h.2, h.1 ∙ e), h.3, h.4)
+pub sends_full : {C A : Type 0} (gives : C → ℕ → Option Given → C → Type 0) (n now : ℕ) (transmissions : Ways A) (s t : Option (TrafficOf A)) (a b : C) (totals : SendCounts) → SendsEach gives n now transmissions s t a b totals → n ≡ 64 → SendsAll gives now transmissions s t a b totals
+sends_full gives n now transmissions s t a b totals h e = (h.0, inl (h.2, h.1 ∙ e), h.3, h.4)
 
-fails_on : {C A : Type 0} (gives : C → ℕ → Option Given → C → Type 0) (withholds : C → ℕ → C → Type 0) (n most now : ℕ) (ways : Ways A) (ps qs : List Given) (sent : List A) (f : RunFault) (a b c : C) → length ps ≡ n → n < most → GivesEach gives now ps a b → FailsAfter gives withholds 1 now ways qs sent f b c → FailsAfter gives withholds most now ways (ps ++ qs) (sent_of ways ps ++ sent) f a c
-fails_on gives withholds n most now ways ps qs sent Device a b c first lt h k =
+fails_on : {C A : Type 0} (gives : C → ℕ → Option Given → C → Type 0) (next_out_of_memory : C → ℕ → C → Type 0) (n most now : ℕ) (transmissions : Ways A) (ps qs : List Given) (sent : List A) (f : RunFault) (a b c : C) → length ps ≡ n → n < most → GivesEach gives now ps a b → FailsAfter gives next_out_of_memory 1 now transmissions qs sent f b c → FailsAfter gives next_out_of_memory most now transmissions (ps ++ qs) (sent_of transmissions ps ++ sent) f a c
+fails_on gives next_out_of_memory n most now transmissions ps qs sent Device a b c first lt h k =
     let last : length qs ≤ 1 = k.1 in
-    (gives_on gives now ps qs a b c h k.0, omega (arith, length-append ps qs), fails_later ways ps qs sent k.2)
-fails_on gives withholds n most now ways ps qs sent OutOfMemory a b c first lt h k =
-    let all : sent_of ways (ps ++ qs) ≡ sent_of ways ps ++ sent_of ways qs = flat_map-append (copies_of ways) ps qs in
+    (gives_on gives now ps qs a b c h k.0, omega (arith, length-append ps qs), fails_later transmissions ps qs sent k.2)
+fails_on gives next_out_of_memory n most now transmissions ps qs sent OutOfMemory a b c first lt h k =
+    let all : sent_of transmissions (ps ++ qs) ≡ sent_of transmissions ps ++ sent_of transmissions qs = flat_map-append (copies_of transmissions) ps qs in
     let none : length qs < 1 = k.2 in
-    (k.0, gives_on gives now ps qs a b k.0 h k.1, omega (arith, length-append ps qs), ap (λ ds. sent_of ways ps ++ ds) k.3 ∙ sym all, k.4)
+    (k.0, gives_on gives now ps qs a b k.0 h k.1, omega (arith, length-append ps qs), ap (λ ds. sent_of transmissions ps ++ ds) k.3 ∙ sym all, k.4)
 
 -- packets that were sent, and then a fault
-pub sends_in_part : {C A : Type 0} (gives : C → ℕ → Option Given → C → Type 0) (withholds : C → ℕ → C → Type 0) (n most now : ℕ) (ways : Ways A) (s t u : Option (TrafficOf A)) (a b c : C) (tally : SendCounts) (f : RunFault) → SendsEach gives n now ways s t a b tally → n < most → SendsSome gives withholds 1 now ways t u f b c → SendsSome gives withholds most now ways s u f a c
-sends_in_part gives withholds n most now ways s t u a b c tally f h lt k =
-    (h.0 ++ k.0, sent_of ways h.0 ++ k.1, fails_on gives withholds n most now ways h.0 k.0 k.1 f a b c h.1 lt h.2 k.2, passes_sent s t u (sent_of ways h.0) k.1 h.3 k.3)
+pub sends_in_part : {C A : Type 0} (gives : C → ℕ → Option Given → C → Type 0) (next_out_of_memory : C → ℕ → C → Type 0) (n most now : ℕ) (transmissions : Ways A) (s t u : Option (TrafficOf A)) (a b c : C) (totals : SendCounts) (f : RunFault) → SendsEach gives n now transmissions s t a b totals → n < most → SendsSome gives next_out_of_memory 1 now transmissions t u f b c → SendsSome gives next_out_of_memory most now transmissions s u f a c
+sends_in_part gives next_out_of_memory n most now transmissions s t u a b c totals f h lt k =
+    (h.0 ++ k.0, sent_of transmissions h.0 ++ k.1, fails_on gives next_out_of_memory n most now transmissions h.0 k.0 k.1 f a b c h.1 lt h.2 k.2, passes_sent s t u (sent_of transmissions h.0) k.1 h.3 k.3)
 
-pub sends_in_part_there : {C A : Type 0} (gives : C → ℕ → Option Given → C → Type 0) (withholds : C → ℕ → C → Type 0) (n most now : ℕ) (ways there : Ways A) (s t u : Option (TrafficOf A)) (a b c : C) (tally : SendCounts) (f : RunFault) → there ≡ ways → SendsEach gives n now ways s t a b tally → n < most → SendsSome gives withholds 1 now there t u f b c → SendsSome gives withholds most now ways s u f a c
-sends_in_part_there gives withholds n most now ways there s t u a b c tally f is h lt k =
-    sends_in_part gives withholds n most now ways s t u a b c tally f h lt (subst (λ w. SendsSome gives withholds 1 now w t u f b c) is k)
+pub sends_in_part_there : {C A : Type 0} (gives : C → ℕ → Option Given → C → Type 0) (next_out_of_memory : C → ℕ → C → Type 0) (n most now : ℕ) (transmissions there : Ways A) (s t u : Option (TrafficOf A)) (a b c : C) (totals : SendCounts) (f : RunFault) → there ≡ transmissions → SendsEach gives n now transmissions s t a b totals → n < most → SendsSome gives next_out_of_memory 1 now there t u f b c → SendsSome gives next_out_of_memory most now transmissions s u f a c
+sends_in_part_there gives next_out_of_memory n most now transmissions there s t u a b c totals f is h lt k =
+    sends_in_part gives next_out_of_memory n most now transmissions s t u a b c totals f h lt (subst (λ w. SendsSome gives next_out_of_memory 1 now w t u f b c) is k)

@@ -9,7 +9,7 @@ use Rattle.ipx_router.specs.RouterPackets.{SendingView}
 use Rattle.ipx_router.specs.RouterView.{RouterView}
 use Rattle.ipx_router.specs.Starting.{AreStarts}
 use Rattle.ipx_router.specs.Telling.{AreTellings, is_due}
-use Rattle.ipx_carrier.specs.RouterCore.{CoreQueues, CoreView, HoldsTheSame, KeepsAllButQueues, Leaves, StartsAndTells, TellsNow, dropped_behind, most_queued, put_behind}
+use Rattle.ipx_carrier.specs.RouterCore.{CoreQueues, CoreView, HoldsTheSame, KeepsAllButQueues, Dequeues, StartsAndTells, TellsNow, dropped_behind, max_queued, put_behind}
 
 -- ---- what is told, and when
 
@@ -75,37 +75,37 @@ put_nothing_by true q = append-nil q
 put_nothing_by false q = refl
 
 put_nothing : (q : List SendingView) → put_behind q [] ≡ q
-put_nothing q = put_nothing_by (nat_le (length q + 0) most_queued) q
+put_nothing q = put_nothing_by (nat_le (length q + 0) max_queued) q
 
 -- a queue is within its limit, or what it dropped was counted
 abbrev IsCounted : List SendingView → ℕ → Type 0
-IsCounted q d = (length q ≤ most_queued) ⊎ (d < 2 ^ 64)
+IsCounted q d = (length q ≤ max_queued) ⊎ (d < 2 ^ 64)
 
-counted_by : (b : Bool) (q sent : List SendingView) (d : ℕ) → b ≡ nat_le (length q + length sent) most_queued → IsCounted (cond b (q ++ sent) q) (cond b d (min (d + length sent) (2 ^ 64 - 1)))
+counted_by : (b : Bool) (q sent : List SendingView) (d : ℕ) → b ≡ nat_le (length q + length sent) max_queued → IsCounted (cond b (q ++ sent) q) (cond b d (min (d + length sent) (2 ^ 64 - 1)))
 counted_by true q sent d e =
-    let room : length q + length sent ≤ most_queued = leb-true _ _ (sym e) in
+    let room : length q + length sent ≤ max_queued = leb-true _ _ (sym e) in
     inl (omega (arith, length-append q sent))
 counted_by false q sent d e = inr (grind (arith))
 
 is_counted : (q sent : List SendingView) (d : ℕ) → IsCounted (put_behind q sent) (dropped_behind q sent d)
-is_counted q sent d = counted_by (nat_le (length q + length sent) most_queued) q sent d refl
+is_counted q sent d = counted_by (nat_le (length q + length sent) max_queued) q sent d refl
 
 counted_fewer : (q q' : List SendingView) (d : ℕ) → length q' ≤ length q → IsCounted q d → IsCounted q' d
 counted_fewer q q' d fewer (inl few) = inl (omega (arith, few, fewer))
 counted_fewer q q' d fewer (inr less) = inr less
 
-drops_nothing_by : (b : Bool) (q : List SendingView) (d : ℕ) → b ≡ nat_le (length q + 0) most_queued → IsCounted q d → cond b d (min (d + 0) (2 ^ 64 - 1)) ≡ d
+drops_nothing_by : (b : Bool) (q : List SendingView) (d : ℕ) → b ≡ nat_le (length q + 0) max_queued → IsCounted q d → cond b d (min (d + 0) (2 ^ 64 - 1)) ≡ d
 drops_nothing_by true q d e h = refl
 drops_nothing_by false q d e (inl few) = absurd (grind (arith))
 drops_nothing_by false q d e (inr less) = grind (arith)
 
 drops_nothing : (q : List SendingView) (d : ℕ) → IsCounted q d → dropped_behind q [] d ≡ d
-drops_nothing q d h = drops_nothing_by (nat_le (length q + 0) most_queued) q d refl h
+drops_nothing q d h = drops_nothing_by (nat_le (length q + 0) max_queued) q d refl h
 
 -- ---- a core that started and told is asked again
 
 -- its own are no more than they were
-pub no_more_own : (s : SendingView) (old new : CoreQueues) → Leaves old (Some s) new → length new.own ≤ length old.own
+pub no_more_own : (s : SendingView) (old new : CoreQueues) → Dequeues old (Some s) new → length new.own ≤ length old.own
 no_more_own s old new (inl h) = omega (arith, ap (λ (q : CoreQueues). length q.own) h.1)
 no_more_own s old new (inr h) = omega (arith, ap length h.1)
 
@@ -143,10 +143,10 @@ dropped_once now old ready mid again h m g fewer =
     ∙ ap (λ (xs : List SendingView). dropped_behind xs [] (dropped_behind q [] d)) (put_nothing q)
     ∙ ap (dropped_behind q []) (drops_nothing q d counted) ∙ drops_nothing q d counted
 
-rest_same : (old new : CoreView) → new.started ≡ old.started → new.dropped ≡ old.dropped → new.fates ≡ old.fates → new ≡ record old { router = new.router; queues = new.queues }
+rest_same : (old new : CoreView) → new.started ≡ old.started → new.dropped ≡ old.dropped → new.outcomes ≡ old.outcomes → new ≡ record old { router = new.router; queues = new.queues }
 rest_same old new s d f =
     ap (λ s. record new { started = s }) s ∙ ap (λ d. record new { started = old.started; dropped = d }) d
-    ∙ ap (λ f. record new { started = old.started; dropped = old.dropped; fates = f }) f
+    ∙ ap (λ f. record new { started = old.started; dropped = old.dropped; outcomes = f }) f
 
 -- and all else does
 pub all_once : (now : ℕ) (old ready mid again : CoreView) → StartsAndTells old now ready → mid ≡ record ready { queues = mid.queues } → StartsAndTells mid now again → length mid.queues.own ≤ length ready.queues.own → KeepsAllButQueues ready again
@@ -159,8 +159,8 @@ all_once now old ready mid again h m g fewer =
     let router : HoldsTheSame ready.router again.router = subst (λ (v : RouterView). HoldsTheSame v again.router) (sym ready_is) (subst (HoldsTheSame h.2) (sym again_is) held) in
     let started : again.started ≡ ready.started = ap (λ (c : CoreView). c.started) g.5 ∙ sym (ap (λ (c : CoreView). c.started) h.5) in
     let dropped : again.dropped ≡ ready.dropped = dropped_once now old ready mid again h m g fewer ∙ ap (λ (c : CoreView). c.dropped) m in
-    let fates : again.fates ≡ ready.fates = ap (λ (c : CoreView). c.fates) g.5 ∙ ap (λ (c : CoreView). c.fates) m in
-    (router, rest_same ready again started dropped fates)
+    let outcomes : again.outcomes ≡ ready.outcomes = ap (λ (c : CoreView). c.outcomes) g.5 ∙ ap (λ (c : CoreView). c.outcomes) m in
+    (router, rest_same ready again started dropped outcomes)
 
 pub keeps_on : (a b c : CoreView) → KeepsAllButQueues a b → KeepsAllButQueues b c → KeepsAllButQueues a c
 keeps_on a b c h k = (
@@ -168,7 +168,7 @@ keeps_on a b c h k = (
   rest_same a c
       (ap (λ (x : CoreView). x.started) k.1 ∙ ap (λ (x : CoreView). x.started) h.1)
       (ap (λ (x : CoreView). x.dropped) k.1 ∙ ap (λ (x : CoreView). x.dropped) h.1)
-      (ap (λ (x : CoreView). x.fates) k.1 ∙ ap (λ (x : CoreView). x.fates) h.1),
+      (ap (λ (x : CoreView). x.outcomes) k.1 ∙ ap (λ (x : CoreView). x.outcomes) h.1),
 )
 
 -- where only the queues change, all else stays
@@ -178,5 +178,5 @@ keeps_rest old new e =
     let same : HoldsTheSame old.router old.router =
     (record { routes = λ p. refl; services = λ p. refl }, record { ports = refl; most_routes = refl; most_services = refl }, refl) in (
       subst (HoldsTheSame old.router) (sym router) same,
-      rest_same old new (ap (λ (c : CoreView). c.started) e) (ap (λ (c : CoreView). c.dropped) e) (ap (λ (c : CoreView). c.fates) e),
+      rest_same old new (ap (λ (c : CoreView). c.started) e) (ap (λ (c : CoreView). c.dropped) e) (ap (λ (c : CoreView). c.outcomes) e),
     )

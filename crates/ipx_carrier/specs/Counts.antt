@@ -10,15 +10,15 @@ heard_in = count_by (λ r. is_some r.bytes)
 
 -- the packets for a node that nothing stands for, so that they are not sent
 abbrev pub unmapped_in : {A : Type 0} → Ways A → List Given → ℕ
-unmapped_in ways = count_by (λ p. is_none (ways p))
+unmapped_in transmissions = count_by (λ p. is_none (transmissions p))
 
 -- what a run tells of its turns
 abbrev pub report_of : {A : Type 0} → Ways A → List Turn → Report
-report_of ways turns = record {
+report_of transmissions turns = record {
   turns = length turns;
   heard = heard_in (received_of turns);
-  sent = length (sent_of ways (packets_of turns));
-  unmapped = unmapped_in ways (packets_of turns);
+  sent = length (sent_of transmissions (packets_of turns));
+  unmapped = unmapped_in transmissions (packets_of turns);
 }
 
 -- two reports as one

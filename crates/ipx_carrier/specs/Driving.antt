@@ -4,7 +4,7 @@
 use Rattle.std.specs.Prelude.{◌≡◌, ◌<◌, ◌≤◌, ℕ, zero, suc, ◌+◌, ◌^◌, List, [], ◌∷◌, ◌++◌, length, sum_by, All, Bool, true, false, Option, Some, None, Result, Ok, Err}
 use Rattle.ipx_carrier.specs.declared.fault.RunFault.{RunFault}
 use Rattle.ipx_carrier.specs.declared.fault.RunFault.TheVariants.{Device, OutOfMemory}
-use Rattle.ipx_carrier.specs.declared.report.Burst.{Burst}
+use Rattle.ipx_carrier.specs.declared.report.Batch.{Batch}
 use Rattle.ipx_carrier.specs.declared.report.Report.{Report}
 use Rattle.ipx_carrier.specs.Counting.{counted}
 use Rattle.ipx_carrier.specs.Device.{Traffic, TrafficOf}
@@ -21,27 +21,27 @@ abbrev pub CanBegin : ℕ → ℕ → ℕ → ℕ → Type 0
 CanBegin ports device_ports peer_lists failed =
     (device_ports ≡ ports) × (peer_lists ≡ ports) × (failed + 1 < 2 ^ 64)
 
-module _ {C : Type 0} (hears misses : C → ℕ → List ℕ → ℕ → C → Type 0)
-    (gives : C → ℕ → Option Given → C → Type 0) (withholds : C → ℕ → C → Type 0)
+module _ {C : Type 0} (hears hear_out_of_memory : C → ℕ → List ℕ → ℕ → C → Type 0)
+    (gives : C → ℕ → Option Given → C → Type 0) (next_out_of_memory : C → ℕ → C → Type 0)
     {K : Type 0} (tells : K → ℕ → K → Type 0) (ports : ℕ) where
   -- one turn, as `run` takes it; or a part of one, which a fault ends
   abbrev pub TakesTurnBy : {A : Type 0} → Ways A → Option (TrafficOf A) → Option (TrafficOf A) → K → K
       → C → C → Result Report RunFault → Type 0
-  TakesTurnBy ways before after clock clock_after old new (Ok report) =
-      RunsBy hears gives tells ports ways 1 before after clock clock_after old new report
-  TakesTurnBy ways before after clock clock_after old new (Err fault) =
-      EndsEarlyBy hears misses gives withholds tells ports ways 1 before after clock clock_after fault old new
+  TakesTurnBy transmissions before after clock clock_after old new (Ok report) =
+      RunsBy hears gives tells ports transmissions 1 before after clock clock_after old new report
+  TakesTurnBy transmissions before after clock clock_after old new (Err fault) =
+      EndsEarlyBy hears hear_out_of_memory gives next_out_of_memory tells ports transmissions 1 before after clock clock_after fault old new
 
   abbrev pub TakesTurn : Peers → Option Traffic → Option Traffic → K → K → C → C → Result Report RunFault
       → Type 0
   TakesTurn peers = TakesTurnBy (by_ip peers)
 
 -- a burst of no turns
-abbrev pub no_turns : Burst
+abbrev pub no_turns : Batch
 no_turns = record { heard = 0; sent = 0; unmapped = 0; fault = None; quiet = false }
 
 -- the burst where none can be begun: the first one fails, if there is one to take
-abbrev pub refused : ℕ → Burst
+abbrev pub refused : ℕ → Batch
 refused zero = no_turns
 refused (suc n) = record no_turns { fault = Some Device }
 
@@ -71,7 +71,7 @@ EndsIdle turns = (busy : List TurnTaken) × (last : TurnTaken) × (turns ≡ bus
     × AreBusy busy × IsIdle last
 
 -- a burst counts what its whole turns report
-abbrev pub CountsTurns : List TurnTaken → Burst → Type 0
+abbrev pub CountsTurns : List TurnTaken → Batch → Type 0
 CountsTurns turns b = (b.heard ≡ counted (sum_by (λ t. t.report.heard) turns))
     × (b.sent ≡ counted (sum_by (λ t. t.report.sent) turns))
     × (b.unmapped ≡ counted (sum_by (λ t. t.report.unmapped) turns))
@@ -89,36 +89,36 @@ module _ {C : Type 0} (hears : C → ℕ → List ℕ → ℕ → C → Type 0)
   -- runs of one turn each, one after another, with what the device keeps back from the one count to
   -- the other, which never falls. What passed at its sockets is not told
   abbrev pub ChainBy : {A : Type 0} → Ways A → List TurnTaken → ℕ → ℕ → K → K → C → C → Type 0
-  ChainBy ways [] kept kept_after clock clock_after old new =
+  ChainBy transmissions [] kept kept_after clock clock_after old new =
       (kept_after ≡ kept) × (clock_after ≡ clock) × (new ≡ old)
-  ChainBy ways (t ∷ ts) kept kept_after clock clock_after old new = (tick : K) × (mid : C)
+  ChainBy transmissions (t ∷ ts) kept kept_after clock clock_after old new = (tick : K) × (mid : C)
       × (t.before ≡ kept) × (kept ≤ t.after)
-      × RunsBy hears gives tells ports ways 1 None None clock tick old mid t.report
-      × ChainBy ways ts t.after kept_after tick clock_after mid new
+      × RunsBy hears gives tells ports transmissions 1 None None clock tick old mid t.report
+      × ChainBy transmissions ts t.after kept_after tick clock_after mid new
 
   abbrev pub Chain : Peers → List TurnTaken → ℕ → ℕ → K → K → C → C → Type 0
   Chain peers = ChainBy (by_ip peers)
 
-module _ {C : Type 0} (hears misses : C → ℕ → List ℕ → ℕ → C → Type 0)
-    (gives : C → ℕ → Option Given → C → Type 0) (withholds : C → ℕ → C → Type 0)
+module _ {C : Type 0} (hears hear_out_of_memory : C → ℕ → List ℕ → ℕ → C → Type 0)
+    (gives : C → ℕ → Option Given → C → Type 0) (next_out_of_memory : C → ℕ → C → Type 0)
     {K : Type 0} (tells : K → ℕ → K → Type 0) (ports : ℕ) where
   -- no fault, and nothing more happens; or a fault ends a turn that was begun
   abbrev pub EndsBy : {A : Type 0} → Ways A → Option RunFault → ℕ → ℕ → K → K → C → C → Type 0
-  EndsBy ways None kept kept_after clock clock_after old new =
+  EndsBy transmissions None kept kept_after clock clock_after old new =
       (kept_after ≡ kept) × (clock_after ≡ clock) × (new ≡ old)
-  EndsBy ways (Some f) kept kept_after clock clock_after old new = (kept ≤ kept_after)
-      × EndsEarlyBy hears misses gives withholds tells ports ways 1 None None clock clock_after f old new
+  EndsBy transmissions (Some f) kept kept_after clock clock_after old new = (kept ≤ kept_after)
+      × EndsEarlyBy hears hear_out_of_memory gives next_out_of_memory tells ports transmissions 1 None None clock clock_after f old new
 
   abbrev pub Ends : Peers → Option RunFault → ℕ → ℕ → K → K → C → C → Type 0
   Ends peers = EndsBy (by_ip peers)
 
   -- at most so many whole turns, which are counted, and then that
-  abbrev pub BurstsBy : {A : Type 0} → Ways A → ℕ → Burst → ℕ → ℕ → K → K → C → C → Type 0
-  BurstsBy ways most b kept kept_after clock clock_after old new = (turns : List TurnTaken)
+  abbrev pub BurstsBy : {A : Type 0} → Ways A → ℕ → Batch → ℕ → ℕ → K → K → C → C → Type 0
+  BurstsBy transmissions most b kept kept_after clock clock_after old new = (turns : List TurnTaken)
       × (kept_then : ℕ) × (tick : K) × (mid : C)
-      × ChainBy hears gives tells ports ways turns kept kept_then clock tick old mid
-      × EndsBy ways b.fault kept_then kept_after tick clock_after mid new
+      × ChainBy hears gives tells ports transmissions turns kept kept_then clock tick old mid
+      × EndsBy transmissions b.fault kept_then kept_after tick clock_after mid new
       × CountsTurns turns b × Stops most turns b.fault b.quiet
 
-  abbrev pub Bursts : Peers → ℕ → Burst → ℕ → ℕ → K → K → C → C → Type 0
+  abbrev pub Bursts : Peers → ℕ → Batch → ℕ → ℕ → K → K → C → C → Type 0
   Bursts peers = BurstsBy (by_ip peers)

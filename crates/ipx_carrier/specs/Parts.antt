@@ -6,7 +6,7 @@ use Rattle.ipx_carrier.specs.declared.report.SendCounts.{SendCounts}
 use Rattle.ipx_carrier.specs.Device.{Passes, Reception, TrafficOf}
 use Rattle.ipx_carrier.specs.Waits.{LeavesPort, WaitingDatagrams}
 use Rattle.ipx_carrier.specs.Turns.{FailsAfter, FailsAtPort, GivesAll, GivesEach, Given, HearsAnswer, HearsEach, Ways, copies_of, sent_of}
-use Rattle.ipx_carrier.specs.Segments.{copies_count}
+use Rattle.ipx_carrier.specs.PortDrivers.{copies_count}
 use Rattle.ipx_carrier.specs.Counts.{heard_in, unmapped_in}
 
 -- ports were asked, one after another and with so much room each time, and answered these
@@ -34,12 +34,12 @@ module _ {C : Type 0} (hears : C → ℕ → List ℕ → ℕ → C → Type 0) 
   AsksPorts now ports before after old new count = (rs : List Reception) × (length rs ≡ ports)
       × Passes before after rs [] × HearsEach hears now 0 rs old new × (count ≡ heard_in rs)
 
-module _ {C : Type 0} (hears misses : C → ℕ → List ℕ → ℕ → C → Type 0) {A : Type 0} where
+module _ {C : Type 0} (hears hear_out_of_memory : C → ℕ → List ℕ → ℕ → C → Type 0) {A : Type 0} where
   -- a port was asked, and a fault came of it
-  abbrev pub AsksInVain : ℕ → ℕ → Option (TrafficOf A) → Option (TrafficOf A) → RunFault → C → C
+  abbrev pub PollFails : ℕ → ℕ → Option (TrafficOf A) → Option (TrafficOf A) → RunFault → C → C
       → Type 0
-  AsksInVain now port before after fault old new = (last : List Reception)
-      × Passes before after last [] × FailsAtPort misses now port last fault old new
+  PollFails now port before after fault old new = (last : List Reception)
+      × Passes before after last [] × FailsAtPort hear_out_of_memory now port last fault old new
 
   -- some of the ports were asked in order, and a fault came of the last one
   abbrev pub AsksSomePorts : ℕ → ℕ → Option (TrafficOf A) → Option (TrafficOf A) → RunFault → C → C
@@ -47,40 +47,40 @@ module _ {C : Type 0} (hears misses : C → ℕ → List ℕ → ℕ → C → T
   AsksSomePorts now ports before after fault old new = (heard last : List Reception) × (mid : C)
       × (length heard < ports) × Passes before after (heard ++ last) []
       × HearsEach hears now 0 heard old mid
-      × FailsAtPort misses now (length heard) last fault mid new
+      × FailsAtPort hear_out_of_memory now (length heard) last fault mid new
 
 -- what sending a core's packets counted
-abbrev pub tally_of : {A : Type 0} → Ways A → List Given → SendCounts
-tally_of ways packets =
-    record { sent = length (sent_of ways packets); unmapped = unmapped_in ways packets }
+abbrev pub totals_of : {A : Type 0} → Ways A → List Given → SendCounts
+totals_of transmissions packets =
+    record { sent = length (sent_of transmissions packets); unmapped = unmapped_in transmissions packets }
 
 module _ {C : Type 0} (gives : C → ℕ → Option Given → C → Type 0) {A : Type 0} where
   -- the core was asked once: it gave none, or a packet that was sent
   abbrev pub SendsNext : ℕ → Ways A → Option (TrafficOf A) → Option (TrafficOf A) → C → C
       → Option (Option ℕ) → Type 0
-  SendsNext now ways before after old new None = gives old now None new × (after ≡ before)
-  SendsNext now ways before after old new (Some count) = (p : Given) × gives old now (Some p) new
-      × Passes before after [] (copies_of ways p) × (count ≡ copies_count ways p)
+  SendsNext now transmissions before after old new None = gives old now None new × (after ≡ before)
+  SendsNext now transmissions before after old new (Some count) = (p : Given) × gives old now (Some p) new
+      × Passes before after [] (copies_of transmissions p) × (count ≡ copies_count transmissions p)
 
   -- the core gave so many packets, and they were sent
   abbrev pub SendsEach : ℕ → ℕ → Ways A → Option (TrafficOf A) → Option (TrafficOf A) → C → C → SendCounts
       → Type 0
-  SendsEach count now ways before after old new tally = (packets : List Given)
+  SendsEach count now transmissions before after old new totals = (packets : List Given)
       × (length packets ≡ count) × GivesEach gives now packets old new
-      × Passes before after [] (sent_of ways packets) × (tally ≡ tally_of ways packets)
+      × Passes before after [] (sent_of transmissions packets) × (totals ≡ totals_of transmissions packets)
 
   -- the core gave all its packets, or 64 of them, and they were sent
   abbrev pub SendsAll : ℕ → Ways A → Option (TrafficOf A) → Option (TrafficOf A) → C → C → SendCounts
       → Type 0
-  SendsAll now ways before after old new tally = (packets : List Given)
+  SendsAll now transmissions before after old new totals = (packets : List Given)
       × GivesAll gives now packets old new
-      × Passes before after [] (sent_of ways packets) × (tally ≡ tally_of ways packets)
+      × Passes before after [] (sent_of transmissions packets) × (totals ≡ totals_of transmissions packets)
 
 module _ {C : Type 0} (gives : C → ℕ → Option Given → C → Type 0)
-    (withholds : C → ℕ → C → Type 0) {A : Type 0} where
+    (next_out_of_memory : C → ℕ → C → Type 0) {A : Type 0} where
   -- the core was asked at most so many times, and a fault came of the last one
   abbrev pub SendsSome : ℕ → ℕ → Ways A → Option (TrafficOf A) → Option (TrafficOf A) → RunFault → C
       → C → Type 0
-  SendsSome most now ways before after fault old new = (packets : List Given)
-      × (sent : List A) × FailsAfter gives withholds most now ways packets sent fault old new
+  SendsSome most now transmissions before after fault old new = (packets : List Given)
+      × (sent : List A) × FailsAfter gives next_out_of_memory most now transmissions packets sent fault old new
       × Passes before after [] sent

@@ -6,17 +6,17 @@ use Rattle.ipx_router.specs.OutcomeView.{OutcomeView, Forward, Replies, Heard, D
 use Rattle.ipx_router.specs.RouterPackets.{SendingView, sendings}
 use Rattle.ipx_router.specs.Starting.{AreStarts}
 use Rattle.ipx_carrier.specs.Counting.{counted}
-use Rattle.ipx_carrier.specs.RouterCore.{AreGivable, CoreQueues, TellsNow, most_queued, one_forwarded}
+use Rattle.ipx_carrier.specs.RouterCore.{AreGivable, CoreQueues, TellsNow, max_queued, one_forwarded}
 
 -- the two queues of packets, without where these lie in memory
 abbrev pub core_queues : List Reply → List Reply → ℕ → CoreQueues
-core_queues forwarded own in_a_row =
-    record { forwarded = sendings forwarded; own = sendings own; in_a_row = in_a_row }
+core_queues forwarded own originated_run =
+    record { forwarded = sendings forwarded; own = sendings own; originated_run = originated_run }
 
 -- all of them stand behind those that were there, or none does and they are counted
 abbrev pub Puts : List SendingView → List SendingView → ℕ → List SendingView → ℕ → Type 0
 Puts sent queue dropped queue_after dropped_after =
-    MatchBool (nat_le (length queue + length sent) most_queued)
+    MatchBool (nat_le (length queue + length sent) max_queued)
     ((queue_after ≡ queue ++ sent) × (dropped_after ≡ dropped))
     ((queue_after ≡ queue) × (dropped_after ≡ counted (dropped + length sent)))
 

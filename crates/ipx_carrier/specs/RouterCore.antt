@@ -12,9 +12,9 @@ use Rattle.ipx_router.specs.WantOfMemory.{WantsMemory}
 use Rattle.ipx_router.specs.Starting.{AreStarts}
 use Rattle.ipx_router.specs.Knowledge.{HoldsKnown, KeepsAllButOffers, known_at, known_in, tables}
 use Rattle.ipx_router.specs.Telling as telling
-use Rattle.ipx_carrier.specs.declared.outcome_counts.OutcomeCounts.{OutcomeCounts}
+use Rattle.ipx_carrier.specs.declared.outcome_counters.OutcomeCounters.{OutcomeCounters}
 use Rattle.ipx_carrier.specs.Counting.{counted}
-use Rattle.ipx_carrier.specs.OutcomeCounts.{fated}
+use Rattle.ipx_carrier.specs.OutcomeCounters.{outcome_counted}
 use Rattle.ipx_carrier.specs.Turns.{Given, GivesEach}
 
 -- the packets that are to be sent, the first one first
@@ -24,10 +24,10 @@ pub record CoreQueues : Type 0 where
   -- those by which the router answers, starts and tells
   pub own : List SendingView
   -- how many of its own were given in a row
-  pub in_a_row : ℕ
+  pub originated_run : ℕ
 
 abbrev pub nothing_waits : CoreQueues
-nothing_waits = record { forwarded = []; own = []; in_a_row = 0 }
+nothing_waits = record { forwarded = []; own = []; originated_run = 0 }
 
 pub record CoreView : Type 0 where
   pub router : RouterView
@@ -37,14 +37,14 @@ pub record CoreView : Type 0 where
   -- how many packets found no room in their queue
   pub dropped : ℕ
   -- what became of the datagrams that came in
-  pub fates : OutcomeCounts
+  pub outcomes : OutcomeCounters
 
-abbrev pub most_queued : ℕ
-most_queued = 16384
+abbrev pub max_queued : ℕ
+max_queued = 16384
 
 -- how many of its own leave in a row at most
-abbrev pub most_in_a_row : ℕ
-most_in_a_row = 8
+abbrev pub max_originated_run : ℕ
+max_originated_run = 8
 
 -- where more of its own than so many wait, fewer leave in a row behind a packet that is forwarded
 abbrev pub few_waiting : ℕ
@@ -57,12 +57,12 @@ least_in_a_row = 2
 -- packets go behind those that wait, if there is room for all of them; else none of them does
 abbrev pub put_behind : List SendingView → List SendingView → List SendingView
 put_behind queue sent =
-    if nat_le (length queue + length sent) most_queued then queue ++ sent else queue
+    if nat_le (length queue + length sent) max_queued then queue ++ sent else queue
 
 -- and then they are counted, as far as a count of 64 bits goes
 abbrev pub dropped_behind : List SendingView → List SendingView → ℕ → ℕ
 dropped_behind queue sent dropped =
-    if nat_le (length queue + length sent) most_queued
+    if nat_le (length queue + length sent) max_queued
     then dropped
     else counted (dropped + length sent)
 
@@ -94,7 +94,7 @@ put_answer (Dropped reason) core = core
 abbrev pub RouterHears : CoreView → ℕ → List ℕ → ℕ → CoreView → Type 0
 RouterHears old port bytes now new = (a : OutcomeView) × (router : RouterView)
     × Receives old.router (port + 1) bytes now a router
-    × (new ≡ put_answer a (record old { router = router; fates = fated a old.fates }))
+    × (new ≡ put_answer a (record old { router = router; outcomes = outcome_counted a old.outcomes }))
 
 abbrev pub given_of : SendingView → Given
 given_of s = record { port = s.port - 1; node = s.next; bytes = s.bytes }
@@ -102,22 +102,22 @@ given_of s = record { port = s.port - 1; node = s.next; bytes = s.bytes }
 -- how many of its own count as having left in a row once a packet that is forwarded leaves: where more than
 -- few wait, as many as leave room in the row for the least alone; else none
 abbrev pub row_behind : List SendingView → ℕ
-row_behind own = if nat_lt few_waiting (length own) then most_in_a_row - least_in_a_row else 0
+row_behind own = if nat_lt few_waiting (length own) then max_originated_run - least_in_a_row else 0
 
 -- which packet leaves next, and what waits then: the first of those that are forwarded; where there is none,
 -- the first of the router's own, unless as many of these left in a row as may; else none, and another row
 -- begins
-abbrev pub Leaves : CoreQueues → Option SendingView → CoreQueues → Type 0
-Leaves old (Some s) new = ((old.forwarded ≡ s ∷ new.forwarded)
-    × (new ≡ record old { forwarded = new.forwarded; in_a_row = row_behind old.own }))
-    ⊎ ((old.forwarded ≡ []) × (old.own ≡ s ∷ new.own) × (old.in_a_row < most_in_a_row)
-    × (new ≡ record old { own = new.own; in_a_row = old.in_a_row + 1 }))
-Leaves old None new = (old.forwarded ≡ []) × ((old.own ≡ []) ⊎ (most_in_a_row ≤ old.in_a_row))
-    × (new ≡ record old { in_a_row = 0 })
+abbrev pub Dequeues : CoreQueues → Option SendingView → CoreQueues → Type 0
+Dequeues old (Some s) new = ((old.forwarded ≡ s ∷ new.forwarded)
+    × (new ≡ record old { forwarded = new.forwarded; originated_run = row_behind old.own }))
+    ⊎ ((old.forwarded ≡ []) × (old.own ≡ s ∷ new.own) × (old.originated_run < max_originated_run)
+    × (new ≡ record old { own = new.own; originated_run = old.originated_run + 1 }))
+Dequeues old None new = (old.forwarded ≡ []) × ((old.own ≡ []) ⊎ (max_originated_run ≤ old.originated_run))
+    × (new ≡ record old { originated_run = 0 })
 
 -- it is given
 abbrev pub GivesNext : CoreQueues → Option Given → CoreQueues → Type 0
-GivesNext old given new = (leaving : Option SendingView) × Leaves old leaving new
+GivesNext old given new = (leaving : Option SendingView) × Dequeues old leaving new
     × (given ≡ option_map given_of leaving)
 
 -- and nothing else changes
@@ -147,7 +147,7 @@ RouterGives old now given new =
 
 -- there are packets to put into a queue, and they would pass no limit of it
 abbrev pub IsRoomFor : List SendingView → List SendingView → Type 0
-IsRoomFor queue sent = (0 < length sent) × (length queue + length sent ≤ most_queued)
+IsRoomFor queue sent = (0 < length sent) × (length queue + length sent ≤ max_queued)
 
 -- so it is with the packets of an answer, and their queue
 abbrev pub IsRoomForAnswer : List SendingView → List SendingView → OutcomeView → Type 0
@@ -167,7 +167,7 @@ abbrev pub Misses : CoreView → ℕ → List ℕ → ℕ → CoreView → Type 
 Misses old port bytes now new = (router : RouterView)
     × (((new ≡ record old { router = router })
     × ReceivesInVain old.router (port + 1) bytes now router)
-    ⊎ ((a : OutcomeView) × (new ≡ record old { router = router; fates = fated a old.fates })
+    ⊎ ((a : OutcomeView) × (new ≡ record old { router = router; outcomes = outcome_counted a old.outcomes })
     × Receives old.router (port + 1) bytes now a router
     × IsRoomForAnswer old.queues.forwarded old.queues.own a))
 
@@ -195,23 +195,23 @@ Withholds old now new = StartsInVain old new
     × IsNotTold old.router now new.queues.own router)
 
 -- a packet leaves by a port that is there, and fits the room
-abbrev pub IsGivable : ℕ → SendingView → Type 0
-IsGivable ports s = IsPortNumber ports s.port × (length s.bytes ≤ 1500)
+abbrev pub CanBeSent : ℕ → SendingView → Type 0
+CanBeSent ports s = IsPortNumber ports s.port × (length s.bytes ≤ 1500)
 
 abbrev pub AreGivable : ℕ → List SendingView → Type 0
-AreGivable ports = All (IsGivable ports)
+AreGivable ports = All (CanBeSent ports)
 
 -- how many of its own may leave once nothing that is forwarded waits any more
-abbrev pub most_of_own : List SendingView → List SendingView → ℕ → ℕ
-most_of_own [] own in_a_row = most_in_a_row - in_a_row
-most_of_own (s ∷ forwarded) own in_a_row = most_in_a_row - row_behind own
+abbrev pub max_of_own : List SendingView → List SendingView → ℕ → ℕ
+max_of_own [] own originated_run = max_originated_run - originated_run
+max_of_own (s ∷ forwarded) own originated_run = max_originated_run - row_behind own
 
 -- all that is forwarded leaves, in order, and behind that the first so many of its own; the others wait
 abbrev pub LeaveInOrder : CoreQueues → List Given → CoreQueues → Type 0
 LeaveInOrder old packets new = (packets ≡ map given_of
-    (old.forwarded ++ take (most_of_own old.forwarded old.own old.in_a_row) old.own))
+    (old.forwarded ++ take (max_of_own old.forwarded old.own old.originated_run) old.own))
     × (new ≡ record nothing_waits
-    { own = drop (most_of_own old.forwarded old.own old.in_a_row) old.own })
+    { own = drop (max_of_own old.forwarded old.own old.originated_run) old.own })
 
 -- a router holds just what it held; in which order its tables list that is own
 abbrev pub HoldsTheSame : RouterView → RouterView → Type 0

@@ -2,7 +2,7 @@
 use Rattle.std.specs.Prelude.{ℕ, ◌+◌, Option, Some, None}
 use Rattle.ipx_carrier.specs.declared.report.SendCounts.{SendCounts}
 use Rattle.ipx_carrier.specs.declared.segments.PacketSent.{PacketSent}
-use Rattle.ipx_carrier.specs.Segments.{count_in}
+use Rattle.ipx_carrier.specs.PortDrivers.{count_in}
 
 -- by how many copies it was sent, where there was one
 abbrev pub copies_view : Option PacketSent → Option (Option ℕ)

@@ -1,5 +1,5 @@
 -- The turns of a core over a device: what each of them received, heard and sent.
--- The entry points are `Turns`, and `BreaksOff` for the turn that a fault ends.
+-- The entry points are `Turns`, and `FailsMidTurn` for the turn that a fault ends.
 use Rattle.std.specs.Prelude.{Vec, ◌≡◌, ◌<◌, ◌≤◌, ◌⊎◌, ℕ, ◌+◌, List, [], ◌∷◌, ◌++◌, length, map, flat_map, slice_get, Option, Some, None, option_map, unwrap_or, if◌then◌else◌}
 use Rattle.std.specs.Global.{Global}
 use Rattle.ipx_wire.specs.declared.address.Node.{Node}
@@ -45,7 +45,7 @@ by_ip peers p =
 
 -- the copies that a packet is sent by
 abbrev pub copies_of : {A : Type 0} → Ways A → Given → List A
-copies_of ways p = unwrap_or (ways p) []
+copies_of transmissions p = unwrap_or (transmissions p) []
 
 -- what turns read, received, and sent
 abbrev pub moments_of : List Turn → List ℕ
@@ -58,7 +58,7 @@ abbrev pub packets_of : List Turn → List Given
 packets_of turns = flat_map (λ t. t.packets) turns
 
 abbrev pub sent_of : {A : Type 0} → Ways A → List Given → List A
-sent_of ways packets = flat_map (copies_of ways) packets
+sent_of transmissions packets = flat_map (copies_of transmissions) packets
 
 -- what comes first in a list, up to some item of it
 abbrev pub IsFrontOf : {A : Type 0} → List A → List A → Type 0
@@ -67,9 +67,9 @@ IsFrontOf {A} front whole = (next : A) × (rest : List A) × (whole ≡ front ++
 -- packets were given, and the last of them could not be sent whole: all copies of those before it
 -- were sent, and its own up to the one that failed
 abbrev pub FailsInLast : {A : Type 0} → Ways A → List Given → List A → Type 0
-FailsInLast {A} ways packets sent = (before : List Given) × (last : Given) × (front : List A)
-    × (packets ≡ before ++ last ∷ []) × IsFrontOf front (copies_of ways last)
-    × (sent ≡ sent_of ways before ++ front)
+FailsInLast {A} transmissions packets sent = (before : List Given) × (last : Given) × (front : List A)
+    × (packets ≡ before ++ last ∷ []) × IsFrontOf front (copies_of transmissions last)
+    × (sent ≡ sent_of transmissions before ++ front)
 
 module _ {C : Type 0} (hears : C → ℕ → List ℕ → ℕ → C → Type 0) where
   -- a core hears what a port answered, if that is a datagram
@@ -106,43 +106,43 @@ module _ {C : Type 0} (hears : C → ℕ → List ℕ → ℕ → C → Type 0)
   Turns ports [] old new = new ≡ old
   Turns ports (t ∷ ts) old new = (mid : C) × IsTurn ports t old mid × Turns ports ts mid new
 
-module _ {C : Type 0} (misses : C → ℕ → List ℕ → ℕ → C → Type 0) where
+module _ {C : Type 0} (hear_out_of_memory : C → ℕ → List ℕ → ℕ → C → Type 0) where
   -- what a fault ends the asking of a port with: the device fails and nothing came, or a datagram
   -- came and the core misses it
   abbrev pub FailsAtPort : ℕ → ℕ → List Reception → RunFault → C → C → Type 0
   FailsAtPort now port last Device old new = (last ≡ []) × (new ≡ old)
   FailsAtPort now port last OutOfMemory old new = (bytes : List ℕ)
-      × (last ≡ record { port = port; bytes = Some bytes } ∷ []) × misses old port bytes now new
+      × (last ≡ record { port = port; bytes = Some bytes } ∷ []) × hear_out_of_memory old port bytes now new
 
 module _ {C : Type 0} (gives : C → ℕ → Option Given → C → Type 0)
-    (withholds : C → ℕ → C → Type 0) {A : Type 0} where
+    (next_out_of_memory : C → ℕ → C → Type 0) {A : Type 0} where
   -- what a fault ends the asking for packets with: the device fails in the last packet, or the core
   -- withholds one more, and those before it were sent
   abbrev pub FailsAfter : ℕ → ℕ → Ways A → List Given → List A → RunFault → C → C → Type 0
-  FailsAfter most now ways packets sent Device old new = GivesEach gives now packets old new
-      × (length packets ≤ most) × FailsInLast ways packets sent
-  FailsAfter most now ways packets sent OutOfMemory old new = (last : C)
+  FailsAfter most now transmissions packets sent Device old new = GivesEach gives now packets old new
+      × (length packets ≤ most) × FailsInLast transmissions packets sent
+  FailsAfter most now transmissions packets sent OutOfMemory old new = (last : C)
       × GivesEach gives now packets old last × (length packets < most)
-      × (sent ≡ sent_of ways packets) × withholds last now new
+      × (sent ≡ sent_of transmissions packets) × next_out_of_memory last now new
 
-module _ {C : Type 0} (hears misses : C → ℕ → List ℕ → ℕ → C → Type 0)
-    (gives : C → ℕ → Option Given → C → Type 0) (withholds : C → ℕ → C → Type 0) {A : Type 0} where
+module _ {C : Type 0} (hears hear_out_of_memory : C → ℕ → List ℕ → ℕ → C → Type 0)
+    (gives : C → ℕ → Option Given → C → Type 0) (next_out_of_memory : C → ℕ → C → Type 0) {A : Type 0} where
   -- a turn that a fault ends as its ports are asked: the answers before were heard, and nothing was
   -- sent
   abbrev pub BreaksOffHearing : ℕ → Turn → List A → RunFault → C → C → Type 0
   BreaksOffHearing ports t sent fault old new = (heard last : List Reception) × (mid : C)
       × (t.answers ≡ heard ++ last) × (length heard < ports)
       × HearsEach hears t.moment 0 heard old mid
-      × FailsAtPort misses t.moment (length heard) last fault mid new
+      × FailsAtPort hear_out_of_memory t.moment (length heard) last fault mid new
       × (t.packets ≡ []) × (sent ≡ [])
 
   -- a turn that a fault ends as its core is asked: each answer was heard
   abbrev pub BreaksOffSending : ℕ → Ways A → Turn → List A → RunFault → C → C → Type 0
-  BreaksOffSending ports ways t sent fault old new = (length t.answers ≡ ports) × (mid : C)
+  BreaksOffSending ports transmissions t sent fault old new = (length t.answers ≡ ports) × (mid : C)
       × HearsEach hears t.moment 0 t.answers old mid
-      × FailsAfter gives withholds 64 t.moment ways t.packets sent fault mid new
+      × FailsAfter gives next_out_of_memory 64 t.moment transmissions t.packets sent fault mid new
 
   -- a turn that a fault ends, what it sent, and the core then
-  abbrev pub BreaksOff : ℕ → Ways A → Turn → List A → RunFault → C → C → Type 0
-  BreaksOff ports ways t sent fault old new = BreaksOffHearing ports t sent fault old new
-      ⊎ BreaksOffSending ports ways t sent fault old new
+  abbrev pub FailsMidTurn : ℕ → Ways A → Turn → List A → RunFault → C → C → Type 0
+  FailsMidTurn ports transmissions t sent fault old new = BreaksOffHearing ports t sent fault old new
+      ⊎ BreaksOffSending ports transmissions t sent fault old new

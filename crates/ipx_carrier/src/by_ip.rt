@@ -3,13 +3,13 @@
 ghost use Rattle.std.specs.Prelude.{◌≡◌, ◌<◌, ◌≤◌, ◌+◌, ◌^◌, [], OnErr, OnOk, map, slice_get, unwrap_or};
 ghost use Rattle.ipx_carrier.specs.Device.{Passes};
 ghost use Rattle.ipx_carrier.specs.RunFaultNumbers.{device_failures};
-ghost use Rattle.ipx_carrier.specs.Segments.{SendsFrontOf};
+ghost use Rattle.ipx_carrier.specs.PortDrivers.{SendsFrontOf};
 ghost use Rattle.ipx_carrier.specs.Turns.{by_ip, peers_of};
 
-use crate::datagrams::{Datagrams, KeepsBack};
+use crate::datagrams::{Datagrams, CountsFiltered};
 use crate::fault::DeviceFault;
 use crate::mapping::ip_of;
-use crate::segments::{PacketSent, Segments, SegmentsKeepBack};
+use crate::segments::{PacketSent, PortDriver, PortDriverFilters};
 use ipx_wire::Node;
 
 /// Segments of a device of datagrams: a broadcast goes to each peer of its port, in order, another
@@ -41,7 +41,7 @@ fn send_to_each<D: Datagrams>(
     ensures failures { D.failed datagrams.new ≡ device_failures result (D.failed datagrams.old) }
     ensures ports { D.port_count datagrams.new ≡ D.port_count datagrams.old }
     ensures access { D.access datagrams.new ≡ D.access datagrams.old }
-    ensures kept_back { D.kept_back datagrams.old ≤ D.kept_back datagrams.new }
+    ensures filtered { D.filtered datagrams.old ≤ D.filtered datagrams.new }
 {
     for to in peers {
         datagrams.send(port, *to, bytes)?;
@@ -59,7 +59,7 @@ fn peers_at(peers: &[Vec<[u8; 4]>], port: usize) -> &[[u8; 4]]
     }
 }
 
-impl<'a, D: Datagrams> Segments for ByIp<'a, D> {
+impl<'a, D: Datagrams> PortDriver for ByIp<'a, D> {
     ghost use Rattle.ipx_carrier.specs.Device.{Datagram};
     ghost use Rattle.std.specs.Borrow.{GName};
 
@@ -74,7 +74,7 @@ impl<'a, D: Datagrams> Segments for ByIp<'a, D> {
 
     ghost failed = { λ s. D.failed s.datagrams.now };
 
-    ghost ways = { λ s. by_ip (peers_of s.peers.now) };
+    ghost transmissions = { λ s. by_ip (peers_of s.peers.now) };
 
     ghost traffic = { λ s. D.traffic s.datagrams.now };
 
@@ -82,7 +82,7 @@ impl<'a, D: Datagrams> Segments for ByIp<'a, D> {
 
     ghost access = { λ s. D.access s.datagrams.now };
 
-    ghost kept_back = { λ s. D.kept_back s.datagrams.now };
+    ghost filtered = { λ s. D.filtered s.datagrams.now };
 
     fn ports(&self) -> usize {
         self.datagrams.ports()
@@ -96,13 +96,13 @@ impl<'a, D: Datagrams> Segments for ByIp<'a, D> {
         if node == Node::BROADCAST {
             let peers = peers_at(self.peers, port);
             send_to_each(self.datagrams, port, peers, packet)?;
-            return Ok(PacketSent::Copies(peers.len()));
+            return Ok(PacketSent::Transmitted(peers.len()));
         }
         let Ok(to) = ip_of(node) else {
             return Ok(PacketSent::Unmapped);
         };
         self.datagrams.send(port, to, packet)?;
-        Ok(PacketSent::Copies(1))
+        Ok(PacketSent::Transmitted(1))
     }
 
     fn receive(&mut self, port: usize, room: &mut [u8]) -> Result<Option<usize>, DeviceFault> {
@@ -110,8 +110,8 @@ impl<'a, D: Datagrams> Segments for ByIp<'a, D> {
     }
 }
 
-impl<'a, D: KeepsBack> SegmentsKeepBack for ByIp<'a, D> {
-    fn kept_back(&self) -> u128 {
-        self.datagrams.kept_back()
+impl<'a, D: CountsFiltered> PortDriverFilters for ByIp<'a, D> {
+    fn filtered(&self) -> u128 {
+        self.datagrams.filtered()
     }
 }

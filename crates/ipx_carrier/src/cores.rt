@@ -21,10 +21,10 @@ pub trait Core {
 
     /// Memory is refused as it hears bytes that came in on a port at a moment, and it is as the
     /// last argument says then.
-    ghost misses: { Self → ℕ → List ℕ → ℕ → Self → Type 0 };
+    ghost hear_out_of_memory: { Self → ℕ → List ℕ → ℕ → Self → Type 0 };
 
     /// Memory is refused as it is asked at a moment, and it is as the last argument says then.
-    ghost withholds: { Self → ℕ → Self → Type 0 };
+    ghost next_out_of_memory: { Self → ℕ → Self → Type 0 };
 
     /// How many ports it has.
     fn ports(&self) -> usize
@@ -41,7 +41,7 @@ pub trait Core {
     ) -> Result<(), OutOfMemory>
         requires { port < port_count self.old }
         ensures heard { OnOk result (hears self.old port bytes.now now self.new) }
-        ensures refused { OnErr result (misses self.old port bytes.now now self.new) }
+        ensures refused { OnErr result (hear_out_of_memory self.old port bytes.now now self.new) }
         ensures ports { port_count self.new ≡ port_count self.old };
 
     /// Gives the next packet that is to be sent, if there is one: its port, the node there that it
@@ -55,7 +55,7 @@ pub trait Core {
         requires { 1536 ≤ length room.old }
         ensures given { IfOk result (λ given.
             gives self.old now (given_in room.new given) self.new) }
-        ensures refused { OnErr result (withholds self.old now self.new) }
+        ensures refused { OnErr result (next_out_of_memory self.old now self.new) }
         ensures within { IfOk result (λ given. IfSome given (λ g. g.2 ≤ length room.old)) }
         ensures there { IfOk result (λ given. IfSome given (λ g. g.0 < port_count self.old)) }
         ensures ports { port_count self.new ≡ port_count self.old };

@@ -36,7 +36,7 @@ pub trait Datagrams {
     ghost access: { Self → List Access };
 
     /// How many datagrams it kept from its core. That never falls.
-    ghost kept_back: { Self → ℕ };
+    ghost filtered: { Self → ℕ };
 
     /// How many ports it has.
     fn ports(&self) -> usize
@@ -60,7 +60,7 @@ pub trait Datagrams {
         ensures failures { failed self.new ≡ device_failures result (failed self.old) }
         ensures ports { port_count self.new ≡ port_count self.old }
         ensures access { access self.new ≡ access self.old }
-        ensures kept_back { kept_back self.old ≤ kept_back self.new };
+        ensures filtered { filtered self.old ≤ filtered self.new };
 
     /// Takes the first datagram that waits at a port, if there is one: its bytes go to the front of
     /// the room, as many as are answered. What the room can't take of a longer one is lost.
@@ -80,12 +80,12 @@ pub trait Datagrams {
         ensures failures { failed self.new ≡ device_failures result (failed self.old) }
         ensures ports { port_count self.new ≡ port_count self.old }
         ensures access { access self.new ≡ access self.old }
-        ensures kept_back { kept_back self.old ≤ kept_back self.new };
+        ensures filtered { filtered self.old ≤ filtered self.new };
 }
 
 /// A device that tells how many datagrams it kept from its core.
-pub trait KeepsBack: Datagrams {
+pub trait CountsFiltered: Datagrams {
     /// How many there were so far, as the device counts them.
-    fn kept_back(&self) -> u128
-        ensures { result ≡ Self.kept_back self.now };
+    fn filtered(&self) -> u128
+        ensures { result ≡ Self.filtered self.now };
 }

@@ -9,11 +9,11 @@ ghost use Rattle.ipx_carrier.specs.Turns.{peers_of};
 use crate::by_ip::ByIp;
 use crate::clock::Clock;
 use crate::cores::Core;
-use crate::datagrams::{Datagrams, KeepsBack};
+use crate::datagrams::{Datagrams, CountsFiltered};
 use crate::fault::RunFault;
-use crate::report::{Burst, Report};
-use crate::running::{ROOM, run, turn_in};
-use crate::segments::{Segments, SegmentsKeepBack};
+use crate::report::{Batch, Report};
+use crate::running::{MAX_DATAGRAM, run, run_once_in};
+use crate::segments::{PortDriver, PortDriverFilters};
 use std::alloc::Global;
 
 /// Whether what a report tells of neither heard nor sent.
@@ -33,15 +33,15 @@ fn can_begin<C: Core, D: Datagrams>(core: &C, device: &D, peers: &[Vec<[u8; 4]>]
 }
 
 /// Whether a turn can be begun over segments.
-fn can_begin_over<C: Core, S: Segments>(core: &C, segments: &S) -> bool
+fn can_begin_over<C: Core, S: PortDriver>(core: &C, segments: &S) -> bool
     ensures { IsTrue result ↔ CanBeginBy (C.port_count core.now) (S.port_count segments.now)
         (S.failed segments.now) }
 {
     segments.ports() == core.ports() && segments.failures() < u64::MAX
 }
 
-/// Takes one turn in a room that is lent, as `turn_segments` does.
-fn turn_lent<C: Core, S: Segments, K: Clock>(
+/// Takes one turn in a room that is lent, as `run_once_over_ports` does.
+fn run_once_lent<C: Core, S: PortDriver, K: Clock>(
     alloc: Global,
     core: &mut C,
     segments: &mut S,
@@ -50,21 +50,21 @@ fn turn_lent<C: Core, S: Segments, K: Clock>(
 ) -> Result<Report, RunFault>
     requires room { 1536 ≤ length room.old }
     ensures turn { IfOk result (λ report.
-        RunsBy C.hears C.gives K.tells (C.port_count core.old) (S.ways segments.old) 1
+        RunsBy C.hears C.gives K.tells (C.port_count core.old) (S.transmissions segments.old) 1
         (S.traffic segments.old) (S.traffic segments.new) clock.old clock.new
         core.old core.new report) }
     ensures fault { IfErr result (λ f.
         ((core.new ≡ core.old) × ((f ≡ RunFault.Device) × ((segments.new ≡ segments.old)
         × (CanBeginBy (C.port_count core.old) (S.port_count segments.old) (S.failed segments.old)
         → ⊥)) × (clock.new ≡ clock.old)))
-        ⊎ EndsEarlyBy C.hears C.misses C.gives C.withholds K.tells
-        (C.port_count core.old) (S.ways segments.old) 1
+        ⊎ EndsEarlyBy C.hears C.hear_out_of_memory C.gives C.next_out_of_memory K.tells
+        (C.port_count core.old) (S.transmissions segments.old) 1
         (S.traffic segments.old) (S.traffic segments.new) clock.old clock.new
         f core.old core.new) }
     // Where a turn can be begun one is, and else nothing happens.
     ensures begins { CanBeginBy (C.port_count core.old) (S.port_count segments.old)
-        (S.failed segments.old) → TakesTurnBy C.hears C.misses C.gives C.withholds K.tells
-        (C.port_count core.old) (S.ways segments.old)
+        (S.failed segments.old) → TakesTurnBy C.hears C.hear_out_of_memory C.gives C.next_out_of_memory K.tells
+        (C.port_count core.old) (S.transmissions segments.old)
         (S.traffic segments.old) (S.traffic segments.new) clock.old clock.new
         core.old core.new result }
     ensures refused { (CanBeginBy (C.port_count core.old) (S.port_count segments.old)
@@ -77,41 +77,41 @@ fn turn_lent<C: Core, S: Segments, K: Clock>(
         → S.failed segments.new ≡ failures_after result (S.failed segments.old) }
     ensures ports { C.port_count core.new ≡ C.port_count core.old }
     ensures segment_ports { S.port_count segments.new ≡ S.port_count segments.old }
-    ensures ways { S.ways segments.new ≡ S.ways segments.old }
+    ensures transmissions { S.transmissions segments.new ≡ S.transmissions segments.old }
     ensures access { S.access segments.new ≡ S.access segments.old }
-    ensures kept_back { S.kept_back segments.old ≤ S.kept_back segments.new }
+    ensures filtered { S.filtered segments.old ≤ S.filtered segments.new }
     ensures kept { S.kept segments.new ≡ S.kept segments.old }
 {
     if !can_begin_over(core, segments) {
         return Err(RunFault::Device);
     }
-    turn_in(alloc, core, segments, clock, room)
+    run_once_in(alloc, core, segments, clock, room)
 }
 
-/// Takes one turn, as `run_segments` does. Segments with other ports than the core, or that failed
+/// Takes one turn, as `run_over_ports` does. Segments with other ports than the core, or that failed
 /// too often to count once more, fail: the error is `Device`, and nothing else happens.
-pub fn turn_segments<C: Core, S: Segments, K: Clock>(
+pub fn run_once_over_ports<C: Core, S: PortDriver, K: Clock>(
     alloc: Global,
     core: &mut C,
     segments: &mut S,
     clock: &mut K,
 ) -> Result<Report, RunFault>
     ensures turn { IfOk result (λ report.
-        RunsBy C.hears C.gives K.tells (C.port_count core.old) (S.ways segments.old) 1
+        RunsBy C.hears C.gives K.tells (C.port_count core.old) (S.transmissions segments.old) 1
         (S.traffic segments.old) (S.traffic segments.new) clock.old clock.new
         core.old core.new report) }
     ensures fault { IfErr result (λ f.
         ((core.new ≡ core.old) × ((f ≡ RunFault.Device) × ((segments.new ≡ segments.old)
         × (CanBeginBy (C.port_count core.old) (S.port_count segments.old) (S.failed segments.old)
         → ⊥)) × (clock.new ≡ clock.old)))
-        ⊎ EndsEarlyBy C.hears C.misses C.gives C.withholds K.tells
-        (C.port_count core.old) (S.ways segments.old) 1
+        ⊎ EndsEarlyBy C.hears C.hear_out_of_memory C.gives C.next_out_of_memory K.tells
+        (C.port_count core.old) (S.transmissions segments.old) 1
         (S.traffic segments.old) (S.traffic segments.new) clock.old clock.new
         f core.old core.new) }
     // Where a turn can be begun one is, and else nothing happens.
     ensures begins { CanBeginBy (C.port_count core.old) (S.port_count segments.old)
-        (S.failed segments.old) → TakesTurnBy C.hears C.misses C.gives C.withholds K.tells
-        (C.port_count core.old) (S.ways segments.old)
+        (S.failed segments.old) → TakesTurnBy C.hears C.hear_out_of_memory C.gives C.next_out_of_memory K.tells
+        (C.port_count core.old) (S.transmissions segments.old)
         (S.traffic segments.old) (S.traffic segments.new) clock.old clock.new
         core.old core.new result }
     ensures refused { (CanBeginBy (C.port_count core.old) (S.port_count segments.old)
@@ -124,13 +124,13 @@ pub fn turn_segments<C: Core, S: Segments, K: Clock>(
         → S.failed segments.new ≡ failures_after result (S.failed segments.old) }
     ensures ports { C.port_count core.new ≡ C.port_count core.old }
     ensures segment_ports { S.port_count segments.new ≡ S.port_count segments.old }
-    ensures ways { S.ways segments.new ≡ S.ways segments.old }
+    ensures transmissions { S.transmissions segments.new ≡ S.transmissions segments.old }
     ensures access { S.access segments.new ≡ S.access segments.old }
-    ensures kept_back { S.kept_back segments.old ≤ S.kept_back segments.new }
+    ensures filtered { S.filtered segments.old ≤ S.filtered segments.new }
     ensures kept { S.kept segments.new ≡ S.kept segments.old }
 {
-    let mut room = [0; ROOM];
-    turn_lent(alloc, core, segments, clock, &mut room)
+    let mut room = [0; MAX_DATAGRAM];
+    run_once_lent(alloc, core, segments, clock, &mut room)
 }
 
 /// Takes turns until one neither hears nor sends and keeps nothing back, until a fault ends one, or
@@ -138,20 +138,20 @@ pub fn turn_segments<C: Core, S: Segments, K: Clock>(
 ///
 /// The last turn of a quiet burst read and sent nothing. One waits then, unless packets wait in a
 /// router, as `RouterCore::queued` says; after another one takes the next.
-/// Where no turn can be begun, as `turn_segments` says, the fault is `Device`, and nothing happens.
-pub fn burst_segments<C: Core, S: SegmentsKeepBack, K: Clock>(
+/// Where no turn can be begun, as `run_once_over_ports` says, the fault is `Device`, and nothing happens.
+pub fn run_batch<C: Core, S: PortDriverFilters, K: Clock>(
     alloc: Global,
     core: &mut C,
     segments: &mut S,
     clock: &mut K,
     most: u32,
-) -> Burst
+) -> Batch
     // Where turns can be begun, what the core and the clock are then comes of whole turns, each as
-    // `run_segments` takes it, which are counted, and of a part of one where a fault ended it.
+    // `run_over_ports` takes it, which are counted, and of a part of one where a fault ended it.
     ensures turns { CanBeginBy (C.port_count core.old) (S.port_count segments.old)
         (S.failed segments.old)
-        → BurstsBy C.hears C.misses C.gives C.withholds K.tells (C.port_count core.old)
-        (S.ways segments.old) most result (S.kept_back segments.old) (S.kept_back segments.new)
+        → BurstsBy C.hears C.hear_out_of_memory C.gives C.next_out_of_memory K.tells (C.port_count core.old)
+        (S.transmissions segments.old) most result (S.filtered segments.old) (S.filtered segments.new)
         clock.old clock.new core.old core.new }
     // Where none can, nothing happens.
     ensures refused { (CanBeginBy (C.port_count core.old) (S.port_count segments.old)
@@ -163,24 +163,24 @@ pub fn burst_segments<C: Core, S: SegmentsKeepBack, K: Clock>(
     ensures ports { C.port_count core.new ≡ C.port_count core.old }
     ensures segment_ports { S.port_count segments.new ≡ S.port_count segments.old }
     // By what packets are sent, who may speak, and what no call changes stays.
-    ensures ways { S.ways segments.new ≡ S.ways segments.old }
+    ensures transmissions { S.transmissions segments.new ≡ S.transmissions segments.old }
     ensures access { S.access segments.new ≡ S.access segments.old }
     ensures kept { S.kept segments.new ≡ S.kept segments.old }
 {
-    let mut room = [0; ROOM];
-    let mut burst = Burst::none();
+    let mut room = [0; MAX_DATAGRAM];
+    let mut batch = Batch::none();
     for _turn in 0..most {
-        let kept = segments.kept_back();
-        let report = match turn_lent(alloc, core, segments, clock, &mut room) {
+        let kept = segments.filtered();
+        let report = match run_once_lent(alloc, core, segments, clock, &mut room) {
             Ok(report) => report,
-            Err(fault) => return burst.ended_by(fault),
+            Err(fault) => return batch.ended_by(fault),
         };
-        burst = burst.with(report);
-        if is_idle(report) && segments.kept_back() == kept {
-            return burst.quieted();
+        batch = batch.with(report);
+        if is_idle(report) && segments.filtered() == kept {
+            return batch.quieted();
         }
     }
-    burst
+    batch
 }
 
 /// Takes one turn, as `run` does. A device with other ports than the core, lists of peers for other
@@ -201,14 +201,14 @@ pub fn turn<C: Core, D: Datagrams, K: Clock>(
         ((core.new ≡ core.old) × ((f ≡ RunFault.Device) × ((device.new ≡ device.old)
         × (CanBegin (C.port_count core.old) (D.port_count device.old) (length peers.now)
         (D.failed device.old) → ⊥)) × (clock.new ≡ clock.old)))
-        ⊎ EndsEarly C.hears C.misses C.gives C.withholds K.tells
+        ⊎ EndsEarly C.hears C.hear_out_of_memory C.gives C.next_out_of_memory K.tells
         (C.port_count core.old) (peers_of peers.now) 1
         (D.traffic device.old) (D.traffic device.new) clock.old clock.new
         f core.old core.new) }
     // Where a turn can be begun one is, and else nothing happens.
     ensures begins { CanBegin (C.port_count core.old) (D.port_count device.old)
         (length peers.now) (D.failed device.old)
-        → TakesTurn C.hears C.misses C.gives C.withholds K.tells
+        → TakesTurn C.hears C.hear_out_of_memory C.gives C.next_out_of_memory K.tells
         (C.port_count core.old) (peers_of peers.now)
         (D.traffic device.old) (D.traffic device.new) clock.old clock.new
         core.old core.new result }
@@ -223,7 +223,7 @@ pub fn turn<C: Core, D: Datagrams, K: Clock>(
     ensures ports { C.port_count core.new ≡ C.port_count core.old }
     ensures device_ports { D.port_count device.new ≡ D.port_count device.old }
     ensures access { D.access device.new ≡ D.access device.old }
-    ensures kept_back { D.kept_back device.old ≤ D.kept_back device.new }
+    ensures filtered { D.filtered device.old ≤ D.filtered device.new }
 {
     if !can_begin(core, device, peers) {
         return Err(RunFault::Device);
@@ -237,20 +237,20 @@ pub fn turn<C: Core, D: Datagrams, K: Clock>(
 /// The last turn of a quiet burst read and sent nothing. One waits then, unless packets wait in a
 /// router, as `RouterCore::queued` says; after another one takes the next.
 /// Where no turn can be begun, as `turn` says, the fault is `Device`, and nothing happens.
-pub fn burst<C: Core, D: KeepsBack, K: Clock>(
+pub fn batch<C: Core, D: CountsFiltered, K: Clock>(
     alloc: Global,
     core: &mut C,
     device: &mut D,
     peers: &[Vec<[u8; 4]>],
     clock: &mut K,
     most: u32,
-) -> Burst
+) -> Batch
     // Where turns can be begun, what the core and the clock are then comes of whole turns, each as
     // `run` takes it, which are counted, and of a part of one where a fault ended it.
     ensures turns { CanBegin (C.port_count core.old) (D.port_count device.old)
         (length peers.now) (D.failed device.old)
-        → Bursts C.hears C.misses C.gives C.withholds K.tells (C.port_count core.old)
-        (peers_of peers.now) most result (D.kept_back device.old) (D.kept_back device.new)
+        → Bursts C.hears C.hear_out_of_memory C.gives C.next_out_of_memory K.tells (C.port_count core.old)
+        (peers_of peers.now) most result (D.filtered device.old) (D.filtered device.new)
         clock.old clock.new core.old core.new }
     // Where none can, nothing happens.
     ensures refused { (CanBegin (C.port_count core.old) (D.port_count device.old)
@@ -265,11 +265,11 @@ pub fn burst<C: Core, D: KeepsBack, K: Clock>(
     ensures access { D.access device.new ≡ D.access device.old }
 {
     if peers.len() != core.ports() {
-        return Burst::refused(most);
+        return Batch::refused(most);
     }
     let mut segments = ByIp {
         datagrams: device,
         peers,
     };
-    burst_segments(alloc, core, &mut segments, clock, most)
+    run_batch(alloc, core, &mut segments, clock, most)
 }

@@ -2,15 +2,15 @@
 
 ghost use Rattle.std.specs.Prelude.{◌≡◌, ◌<◌, ◌≤◌, ◌+◌, ◌^◌, IfOk, IfErr, length};
 ghost use Rattle.ipx_carrier.specs.RunFaultNumbers.{failures_after};
-ghost use Rattle.ipx_carrier.specs.Parts.{AsksInVain, AsksPort, AsksPorts, AsksSomePorts, TakesFromDevice};
+ghost use Rattle.ipx_carrier.specs.Parts.{PollFails, AsksPort, AsksPorts, AsksSomePorts, TakesFromDevice};
 
 use crate::cores::Core;
 use crate::fault::RunFault;
-use crate::segments::Segments;
+use crate::segments::PortDriver;
 use std::alloc::Global;
 
 /// Asks a port for a datagram, and lets the core hear it. It answers whether there was one.
-fn hear_port<C: Core, S: Segments>(
+fn hear_port<C: Core, S: PortDriver>(
     alloc: Global,
     core: &mut C,
     segments: &mut S,
@@ -23,7 +23,7 @@ fn hear_port<C: Core, S: Segments>(
     requires countable { S.failed segments.old + 1 < 2 ^ 64 }
     ensures heard { IfOk result (λ heard. AsksPort C.hears now port
         (S.traffic segments.old) (S.traffic segments.new) core.old core.new heard) }
-    ensures fault { IfErr result (λ f. AsksInVain C.hears C.misses now port
+    ensures fault { IfErr result (λ f. PollFails C.hears C.hear_out_of_memory now port
         (S.traffic segments.old) (S.traffic segments.new) f core.old core.new) }
     ensures waiting { TakesFromDevice (length room.old)
         (S.traffic segments.old) (S.traffic segments.new)
@@ -31,9 +31,9 @@ fn hear_port<C: Core, S: Segments>(
     ensures failures { S.failed segments.new ≡ failures_after result (S.failed segments.old) }
     ensures core_ports { C.port_count core.new ≡ C.port_count core.old }
     ensures segment_ports { S.port_count segments.new ≡ S.port_count segments.old }
-    ensures ways { S.ways segments.new ≡ S.ways segments.old }
+    ensures transmissions { S.transmissions segments.new ≡ S.transmissions segments.old }
     ensures access { S.access segments.new ≡ S.access segments.old }
-    ensures kept_back { S.kept_back segments.old ≤ S.kept_back segments.new }
+    ensures filtered { S.filtered segments.old ≤ S.filtered segments.new }
     ensures kept { S.kept segments.new ≡ S.kept segments.old }
 {
     let Some(count) = segments.receive(port, room)? else {
@@ -45,7 +45,7 @@ fn hear_port<C: Core, S: Segments>(
 
 /// Asks each port once, in order, and lets the core hear what came. It answers how many datagrams
 /// there were.
-pub fn hear_ports<C: Core, S: Segments>(
+pub fn hear_ports<C: Core, S: PortDriver>(
     alloc: Global,
     core: &mut C,
     segments: &mut S,
@@ -56,7 +56,7 @@ pub fn hear_ports<C: Core, S: Segments>(
     requires countable { S.failed segments.old + 1 < 2 ^ 64 }
     ensures heard { IfOk result (λ count. AsksPorts C.hears now (C.port_count core.old)
         (S.traffic segments.old) (S.traffic segments.new) core.old core.new count) }
-    ensures fault { IfErr result (λ f. AsksSomePorts C.hears C.misses now (C.port_count core.old)
+    ensures fault { IfErr result (λ f. AsksSomePorts C.hears C.hear_out_of_memory now (C.port_count core.old)
         (S.traffic segments.old) (S.traffic segments.new) f core.old core.new) }
     ensures waiting { TakesFromDevice (length room.old)
         (S.traffic segments.old) (S.traffic segments.new)
@@ -65,9 +65,9 @@ pub fn hear_ports<C: Core, S: Segments>(
     ensures few { IfOk result (λ count. count < 2 ^ 64) }
     ensures core_ports { C.port_count core.new ≡ C.port_count core.old }
     ensures segment_ports { S.port_count segments.new ≡ S.port_count segments.old }
-    ensures ways { S.ways segments.new ≡ S.ways segments.old }
+    ensures transmissions { S.transmissions segments.new ≡ S.transmissions segments.old }
     ensures access { S.access segments.new ≡ S.access segments.old }
-    ensures kept_back { S.kept_back segments.old ≤ S.kept_back segments.new }
+    ensures filtered { S.filtered segments.old ≤ S.filtered segments.new }
     ensures kept { S.kept segments.new ≡ S.kept segments.old }
 {
     let mut heard = 0;

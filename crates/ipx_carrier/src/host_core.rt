@@ -50,9 +50,9 @@ impl Core for HostCore {
 
     ghost gives = { λ old now given new. HostGives old.endpoint now given new.endpoint };
 
-    ghost misses = { λ old port bytes now new. Misses old.endpoint bytes new.endpoint };
+    ghost hear_out_of_memory = { λ old port bytes now new. Misses old.endpoint bytes new.endpoint };
 
-    ghost withholds = { λ old now new. ⊥ };
+    ghost next_out_of_memory = { λ old now new. ⊥ };
 
     fn ports(&self) -> usize {
         1

@@ -3,10 +3,10 @@
 //! A [`Core`] hears datagrams and gives packets; [`Datagrams`] are the ports of a device, and a
 //! [`Clock`] tells moments. [`run`] takes turns between the three. [`MemoryDatagrams`] keeps its
 //! datagrams in memory, and [`UdpDatagrams`] has a socket of UDP for each port. [`turn`] takes one turn
-//! where one can be begun, and [`burst`] takes turns as long as there is something to do.
+//! where one can be begun, and [`batch`] takes turns as long as there is something to do.
 //!
-//! [`Segments`] say how a packet for a node leaves a port, and what comes in there, whatever it is
-//! sent by. [`run_segments`] takes turns over them, as [`turn_segments`] and [`burst_segments`] do,
+//! [`PortDriver`] say how a packet for a node leaves a port, and what comes in there, whatever it is
+//! sent by. [`run_over_ports`] takes turns over them, as [`run_once_over_ports`] and [`run_batch`] do,
 //! and [`ByIp`] is how `run` has it: datagrams to the IP addresses that nodes stand for. [`OnPeers`]
 //! has a device of its own.
 #![tactic(auto)]
@@ -23,8 +23,8 @@ mod host_core;
 mod mapping;
 mod memory;
 mod on_peers;
-mod outcome_counts;
-mod port_marks;
+mod outcome_counters;
+mod ready_set;
 mod queue;
 mod report;
 mod router_core;
@@ -36,18 +36,18 @@ mod udp;
 pub use by_ip::ByIp;
 pub use clock::{Clock, SteppedClock};
 pub use cores::Core;
-pub use counting::raise;
-pub use datagrams::{Datagrams, KeepsBack};
-pub use driving::{burst, burst_segments, turn, turn_segments};
+pub use counting::saturating_increment;
+pub use datagrams::{Datagrams, CountsFiltered};
+pub use driving::{batch, run_batch, turn, run_once_over_ports};
 pub use fault::{CarrierFault, DeviceFault, RunFault};
 pub use host_core::HostCore;
 pub use mapping::{ip_of, node_of, node_of_ip_has_that_ip, node_with_ip_is_of_it};
 pub use memory::{MemoryDatagrams, SentDatagram};
 pub use on_peers::OnPeers;
-pub use outcome_counts::OutcomeCounts;
-pub use port_marks::PortMarks;
-pub use report::{Burst, Report};
+pub use outcome_counters::OutcomeCounters;
+pub use ready_set::ReadySet;
+pub use report::{Batch, Report};
 pub use router_core::{RouterCore, forwarded_packets_leave_first};
-pub use running::{run, run_segments};
-pub use segments::{PacketSent, Segments, SegmentsKeepBack};
-pub use udp::{UDP_PORT, UdpDatagrams, bound_socket, place_of};
+pub use running::{run, run_over_ports};
+pub use segments::{PacketSent, PortDriver, PortDriverFilters};
+pub use udp::{UDP_PORT, UdpDatagrams, bind_nonblocking, socket_addr};

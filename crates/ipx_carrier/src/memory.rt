@@ -4,8 +4,8 @@ ghost use Rattle.std.specs.Prelude.{◌≡◌, ◌<◌, ◌≤◌, [], ◌∷◌
 ghost use Rattle.ipx_carrier.specs.Device.{received_in};
 ghost use Rattle.ipx_carrier.specs.Memory.{KeepsAllButWaiting, WaitsLast, datagram_bytes, fails_next, memory_received, memory_sent, named_after, traffic_of, waiting_of};
 
-use crate::counting::raise;
-use crate::datagrams::{Datagrams, KeepsBack};
+use crate::counting::saturating_increment;
+use crate::datagrams::{Datagrams, CountsFiltered};
 use crate::fault::DeviceFault;
 use ipx_wire::OutOfMemory;
 use std::alloc::Global;
@@ -201,7 +201,7 @@ impl Datagrams for MemoryDatagrams {
 
     ghost access = { λ d. [] };
 
-    ghost kept_back = { λ d. 0 };
+    ghost filtered = { λ d. 0 };
 
     fn ports(&self) -> usize {
         self.waiting.len()
@@ -217,7 +217,7 @@ impl Datagrams for MemoryDatagrams {
             return Err(DeviceFault);
         }
         if keep_sent(self.alloc, &mut self.sent, port, to, bytes).is_err() {
-            raise(&mut self.refusals);
+            saturating_increment(&mut self.refusals);
             self.failures += 1;
             return Err(DeviceFault);
         }
@@ -231,7 +231,7 @@ impl Datagrams for MemoryDatagrams {
         }
         let waiting = &mut self.waiting[port];
         let Ok(count) = take_waiting(self.alloc, waiting, &mut self.answers, port, room) else {
-            raise(&mut self.refusals);
+            saturating_increment(&mut self.refusals);
             self.failures += 1;
             return Err(DeviceFault);
         };
@@ -239,8 +239,8 @@ impl Datagrams for MemoryDatagrams {
     }
 }
 
-impl KeepsBack for MemoryDatagrams {
-    fn kept_back(&self) -> u128 {
+impl CountsFiltered for MemoryDatagrams {
+    fn filtered(&self) -> u128 {
         // All that comes goes to its core.
         0
     }

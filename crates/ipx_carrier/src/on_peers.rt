@@ -3,9 +3,9 @@
 ghost use Rattle.std.specs.Prelude.{◌≡◌};
 
 use crate::by_ip::ByIp;
-use crate::datagrams::{Datagrams, KeepsBack};
+use crate::datagrams::{Datagrams, CountsFiltered};
 use crate::fault::DeviceFault;
-use crate::segments::{PacketSent, Segments, SegmentsKeepBack};
+use crate::segments::{PacketSent, PortDriver, PortDriverFilters};
 use ipx_wire::Node;
 
 /// The same segments as [`ByIp`], with a device and peers of their own.
@@ -27,7 +27,7 @@ impl<D: Datagrams + Drop> OnPeers<D> {
     }
 }
 
-impl<D: Datagrams + Drop> Segments for OnPeers<D> {
+impl<D: Datagrams + Drop> PortDriver for OnPeers<D> {
     ghost use Rattle.std.specs.Prelude.{List};
     ghost use Rattle.ipx_carrier.specs.Device.{Access, Datagram};
     ghost use Rattle.ipx_carrier.specs.Turns.{Peers, by_ip, peers_of};
@@ -43,7 +43,7 @@ impl<D: Datagrams + Drop> Segments for OnPeers<D> {
 
     ghost failed = { λ s. D.failed s.device };
 
-    ghost ways = { λ s. by_ip (peers_of s.peers.items) };
+    ghost transmissions = { λ s. by_ip (peers_of s.peers.items) };
 
     ghost traffic = { λ s. D.traffic s.device };
 
@@ -51,7 +51,7 @@ impl<D: Datagrams + Drop> Segments for OnPeers<D> {
 
     ghost access = { λ s. D.access s.device };
 
-    ghost kept_back = { λ s. D.kept_back s.device };
+    ghost filtered = { λ s. D.filtered s.device };
 
     fn ports(&self) -> usize {
         self.device.ports()
@@ -74,8 +74,8 @@ impl<D: Datagrams + Drop> Segments for OnPeers<D> {
     }
 }
 
-impl<D: KeepsBack + Drop> SegmentsKeepBack for OnPeers<D> {
-    fn kept_back(&self) -> u128 {
-        self.device.kept_back()
+impl<D: CountsFiltered + Drop> PortDriverFilters for OnPeers<D> {
+    fn filtered(&self) -> u128 {
+        self.device.filtered()
     }
 }

@@ -29,7 +29,7 @@ pub struct SendCounts {
 
 /// What turns one after another counted, and how they ended.
 #[derive(Clone, Copy, Debug, PartialEq, Eq)]
-pub struct Burst {
+pub struct Batch {
     /// The datagrams that the core heard.
     pub heard: u64,
     /// The datagrams that were sent.
@@ -49,12 +49,12 @@ fn count_of(count: u128) -> u64
     u64::try_from(count).unwrap_or(u64::MAX)
 }
 
-impl Burst {
+impl Batch {
     /// A burst of no turns.
-    pub(crate) fn none() -> Burst
+    pub(crate) fn none() -> Batch
         ensures { result ≡ no_turns }
     {
-        Burst {
+        Batch {
             heard: 0,
             sent: 0,
             unmapped: 0,
@@ -64,23 +64,23 @@ impl Burst {
     }
 
     /// A burst of at most so many turns, of which none can be begun.
-    pub(crate) fn refused(most: u32) -> Burst
+    pub(crate) fn refused(most: u32) -> Batch
         ensures { result ≡ refused most }
     {
         if most == 0 {
-            return Burst::none();
+            return Batch::none();
         }
-        Burst::none().ended_by(RunFault::Device)
+        Batch::none().ended_by(RunFault::Device)
     }
 
     /// With one turn more, which ended well.
-    pub(crate) fn with(self, report: Report) -> Burst
+    pub(crate) fn with(self, report: Report) -> Batch
         ensures heard { result.heard ≡ counted (self.heard + report.heard) }
         ensures sent { result.sent ≡ counted (self.sent + report.sent) }
         ensures unmapped { result.unmapped ≡ counted (self.unmapped + report.unmapped) }
         ensures rest { (result.fault ≡ self.fault) × (result.quiet ≡ self.quiet) }
     {
-        Burst {
+        Batch {
             heard: self.heard.saturating_add(count_of(report.heard)),
             sent: self.sent.saturating_add(count_of(report.sent)),
             unmapped: self.unmapped.saturating_add(count_of(report.unmapped)),
@@ -90,20 +90,20 @@ impl Burst {
     }
 
     /// One that a fault ended.
-    pub(crate) fn ended_by(self, fault: RunFault) -> Burst
+    pub(crate) fn ended_by(self, fault: RunFault) -> Batch
         ensures { result ≡ record self { fault = Some fault } }
     {
-        Burst {
+        Batch {
             fault: Some(fault),
             ..self
         }
     }
 
     /// One that ended behind an idle turn.
-    pub(crate) fn quieted(self) -> Burst
+    pub(crate) fn quieted(self) -> Batch
         ensures { result ≡ record self { quiet = true } }
     {
-        Burst {
+        Batch {
             quiet: true,
             ..self
         }

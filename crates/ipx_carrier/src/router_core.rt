@@ -1,12 +1,12 @@
 //! A router as a core.
 
 ghost use Rattle.std.specs.Prelude.{◌≡◌, ◌≤◌, ◌+◌, false, length};
-ghost use Rattle.ipx_carrier.specs.OutcomeCounts.{none};
+ghost use Rattle.ipx_carrier.specs.OutcomeCounters.{none};
 ghost use Rattle.ipx_carrier.specs.RouterCore.{ForwardedLeaveFirst, nothing_waits};
 
 use crate::cores::Core;
-use crate::outcome_counts::OutcomeCounts;
-use crate::queue::{put_outcome, put_start, put_told, take_first};
+use crate::outcome_counters::OutcomeCounters;
+use crate::queue::{put_outcome, enqueue_start, enqueue_advertisements, dequeue};
 use ipx_router::{Reply, Router};
 use ipx_wire::{Node, OutOfMemory};
 use std::alloc::Global;
@@ -25,30 +25,30 @@ pub struct RouterCore {
     router: Router,
     forwarded: VecDeque<Reply>,
     own: VecDeque<Reply>,
-    in_a_row: u32,
+    originated_run: u32,
     started: bool,
     dropped: u64,
-    fates: OutcomeCounts,
+    outcomes: OutcomeCounters,
 }
 
 impl Model for RouterCore {
     ghost use Rattle.std.specs.Prelude.{◌≤◌, length};
     ghost use Rattle.ipx_router.specs.RouterPackets.{sendings};
-    ghost use Rattle.ipx_carrier.specs.RouterCore.{AreGivable, CoreView, most_queued};
+    ghost use Rattle.ipx_carrier.specs.RouterCore.{AreGivable, CoreView, max_queued};
     ghost use Rattle.ipx_carrier.specs.Queued.{core_queues};
 
     ghost Value = { CoreView };
 
     ghost view = { λ c. record {
       router = c.router;
-      queues = core_queues c.forwarded.items c.own.items c.in_a_row;
+      queues = core_queues c.forwarded.items c.own.items c.originated_run;
       started = c.started;
       dropped = c.dropped;
-      fates = c.fates;
+      outcomes = c.outcomes;
     } };
 
     ghost invariant = { λ c. (length c.router.ports ≤ 16)
-        × (length c.forwarded.items ≤ most_queued) × (length c.own.items ≤ most_queued)
+        × (length c.forwarded.items ≤ max_queued) × (length c.own.items ≤ max_queued)
         × AreGivable (length c.router.ports) (sendings c.forwarded.items)
         × AreGivable (length c.router.ports) (sendings c.own.items) };
 }
@@ -59,7 +59,7 @@ impl RouterCore {
         ensures router { result.router ≡ router }
         ensures fresh { (result.queues ≡ nothing_waits) × (result.started ≡ false)
             × (result.dropped ≡ 0) }
-        ensures unheard { result.fates ≡ none }
+        ensures unheard { result.outcomes ≡ none }
     {
         // A router has at most 16 ports, as its ports' contract says.
         let _ports = router.ports();
@@ -67,10 +67,10 @@ impl RouterCore {
             router,
             forwarded: VecDeque::new(alloc),
             own: VecDeque::new(alloc),
-            in_a_row: 0,
+            originated_run: 0,
             started: false,
             dropped: 0,
-            fates: OutcomeCounts::new(),
+            outcomes: OutcomeCounters::new(),
         }
     }
 
@@ -98,16 +98,16 @@ impl RouterCore {
     }
 
     /// What became of the datagrams that it heard.
-    pub fn fates(&self) -> OutcomeCounts
-        ensures { result ≡ self.now.fates }
+    pub fn outcomes(&self) -> OutcomeCounters
+        ensures { result ≡ self.now.outcomes }
     {
-        self.fates
+        self.outcomes
     }
 
     /// The router asks its neighbours for all routes and services once more, as when it started:
     /// the packets of its start are given once again. It is called while a router is young, for
     /// neighbours that weren't there yet or knew little.
-    pub fn ask_again(&mut self)
+    pub fn restart_discovery(&mut self)
         ensures { self.new ≡ record self.old { started = false } }
     {
         self.started = false;
@@ -131,9 +131,9 @@ impl Core for RouterCore {
 
     ghost gives = { RouterGives };
 
-    ghost misses = { Misses };
+    ghost hear_out_of_memory = { Misses };
 
-    ghost withholds = { Withholds };
+    ghost next_out_of_memory = { Withholds };
 
     fn ports(&self) -> usize {
         self.router.ports().len()
@@ -147,7 +147,7 @@ impl Core for RouterCore {
         now: u64,
     ) -> Result<(), OutOfMemory> {
         let outcome = self.router.receive(alloc, port as u8 + 1, bytes, now)?;
-        self.fates.count(&outcome);
+        self.outcomes.count(&outcome);
         put_outcome(
             &mut self.forwarded,
             &mut self.own,
@@ -162,20 +162,20 @@ impl Core for RouterCore {
         now: u64,
         room: &mut [u8],
     ) -> Result<Option<(usize, Node, usize)>, OutOfMemory> {
-        put_start(
+        enqueue_start(
             alloc,
             &self.router,
             &mut self.started,
             &mut self.own,
             &mut self.dropped,
         )?;
-        put_told(
+        enqueue_advertisements(
             alloc,
             &mut self.router,
             now,
             &mut self.own,
             &mut self.dropped,
         )?;
-        Ok(take_first(&mut self.forwarded, &mut self.own, &mut self.in_a_row, room))
+        Ok(dequeue(&mut self.forwarded, &mut self.own, &mut self.originated_run, room))
     }
 }

@@ -15,12 +15,12 @@ use crate::datagrams::Datagrams;
 use crate::fault::RunFault;
 use crate::hearing::hear_ports;
 use crate::report::Report;
-use crate::segments::Segments;
+use crate::segments::PortDriver;
 use crate::sending::send_all;
 use std::alloc::Global;
 
 /// The room that a datagram is received into, and that a packet is given in.
-pub const ROOM: usize = 1536;
+pub const MAX_DATAGRAM: usize = 1536;
 
 fn add(a: Report, b: Report) -> Report
     requires turns { a.turns + b.turns < 2 ^ 128 }
@@ -39,7 +39,7 @@ fn add(a: Report, b: Report) -> Report
 
 /// Takes one turn, in a room that is lent: it reads the clock, asks each port for a datagram, which
 /// the core hears, and sends what the core gives.
-pub fn turn_in<C: Core, S: Segments, K: Clock>(
+pub fn run_once_in<C: Core, S: PortDriver, K: Clock>(
     alloc: Global,
     core: &mut C,
     segments: &mut S,
@@ -50,15 +50,15 @@ pub fn turn_in<C: Core, S: Segments, K: Clock>(
     requires countable { S.failed segments.old + 1 < 2 ^ 64 }
     requires room { 1536 ≤ length room.old }
     ensures turn { IfOk result (λ report.
-        RunsBy C.hears C.gives K.tells (C.port_count core.old) (S.ways segments.old) 1
+        RunsBy C.hears C.gives K.tells (C.port_count core.old) (S.transmissions segments.old) 1
         (S.traffic segments.old) (S.traffic segments.new) clock.old clock.new
         core.old core.new report) }
     ensures one { IfOk result (λ report. report.turns ≡ 1) }
     ensures heard { IfOk result (λ report. report.heard < 2 ^ 64) }
     ensures sent { IfOk result (λ report. report.sent ≤ 64 * 2 ^ 64) }
     ensures unmapped { IfOk result (λ report. report.unmapped ≤ 64) }
-    ensures fault { IfErr result (λ f. EndsEarlyBy C.hears C.misses C.gives C.withholds K.tells
-        (C.port_count core.old) (S.ways segments.old) 1
+    ensures fault { IfErr result (λ f. EndsEarlyBy C.hears C.hear_out_of_memory C.gives C.next_out_of_memory K.tells
+        (C.port_count core.old) (S.transmissions segments.old) 1
         (S.traffic segments.old) (S.traffic segments.new) clock.old clock.new
         f core.old core.new) }
     ensures waiting { TakesFromDevice (length room.old)
@@ -67,19 +67,19 @@ pub fn turn_in<C: Core, S: Segments, K: Clock>(
     ensures failures { S.failed segments.new ≡ failures_after result (S.failed segments.old) }
     ensures core_ports { C.port_count core.new ≡ C.port_count core.old }
     ensures segment_ports { S.port_count segments.new ≡ S.port_count segments.old }
-    ensures ways { S.ways segments.new ≡ S.ways segments.old }
+    ensures transmissions { S.transmissions segments.new ≡ S.transmissions segments.old }
     ensures access { S.access segments.new ≡ S.access segments.old }
-    ensures kept_back { S.kept_back segments.old ≤ S.kept_back segments.new }
+    ensures filtered { S.filtered segments.old ≤ S.filtered segments.new }
     ensures kept { S.kept segments.new ≡ S.kept segments.old }
 {
     let now = clock.now();
     let heard = hear_ports(alloc, core, segments, now, room)?;
-    let tally = send_all(alloc, core, segments, now, room)?;
+    let totals = send_all(alloc, core, segments, now, room)?;
     Ok(Report {
         turns: 1,
         heard,
-        sent: tally.sent,
-        unmapped: tally.unmapped,
+        sent: totals.sent,
+        unmapped: totals.unmapped,
     })
 }
 
@@ -92,7 +92,7 @@ pub fn turn_in<C: Core, S: Segments, K: Clock>(
 /// The caller owes segments for as many ports as the core has, at most 1,000,000 turns, and
 /// segments whose count of failures can rise. A fault ends the run, and what went before stands:
 /// `Device` where the segments failed, and `OutOfMemory` where the core wanted memory.
-pub fn run_segments<C: Core, S: Segments, K: Clock>(
+pub fn run_over_ports<C: Core, S: PortDriver, K: Clock>(
     alloc: Global,
     core: &mut C,
     segments: &mut S,
@@ -104,12 +104,12 @@ pub fn run_segments<C: Core, S: Segments, K: Clock>(
     requires countable { S.failed segments.old + 1 < 2 ^ 64 }
     // What was received and sent, the moments and the core after are those of so many turns.
     ensures turns { IfOk result (λ report.
-        RunsBy C.hears C.gives K.tells (C.port_count core.old) (S.ways segments.old) turns
+        RunsBy C.hears C.gives K.tells (C.port_count core.old) (S.transmissions segments.old) turns
         (S.traffic segments.old) (S.traffic segments.new) clock.old clock.new
         core.old core.new report) }
     // At a fault they are those of fewer turns, and of a part of the next one that the fault ends.
-    ensures fault { IfErr result (λ f. EndsEarlyBy C.hears C.misses C.gives C.withholds K.tells
-        (C.port_count core.old) (S.ways segments.old) turns
+    ensures fault { IfErr result (λ f. EndsEarlyBy C.hears C.hear_out_of_memory C.gives C.next_out_of_memory K.tells
+        (C.port_count core.old) (S.transmissions segments.old) turns
         (S.traffic segments.old) (S.traffic segments.new) clock.old clock.new
         f core.old core.new) }
     // At each port what was received is the first datagrams that waited there, each as far as 1,536
@@ -121,12 +121,12 @@ pub fn run_segments<C: Core, S: Segments, K: Clock>(
     ensures core_ports { C.port_count core.new ≡ C.port_count core.old }
     ensures segment_ports { S.port_count segments.new ≡ S.port_count segments.old }
     // By what packets are sent and who may speak stays, and what is kept from the core is counted on.
-    ensures ways { S.ways segments.new ≡ S.ways segments.old }
+    ensures transmissions { S.transmissions segments.new ≡ S.transmissions segments.old }
     ensures access { S.access segments.new ≡ S.access segments.old }
-    ensures kept_back { S.kept_back segments.old ≤ S.kept_back segments.new }
+    ensures filtered { S.filtered segments.old ≤ S.filtered segments.new }
     ensures kept { S.kept segments.new ≡ S.kept segments.old }
 {
-    let mut room = [0; ROOM];
+    let mut room = [0; MAX_DATAGRAM];
     let mut report = Report {
         turns: 0,
         heard: 0,
@@ -134,7 +134,7 @@ pub fn run_segments<C: Core, S: Segments, K: Clock>(
         unmapped: 0,
     };
     for _turn in 0..turns {
-        let turn = turn_in(alloc, core, segments, clock, &mut room)?;
+        let turn = run_once_in(alloc, core, segments, clock, &mut room)?;
         report = add(report, turn);
     }
     Ok(report)
@@ -169,7 +169,7 @@ pub fn run<C: Core, D: Datagrams, K: Clock>(
         (D.traffic datagrams.old) (D.traffic datagrams.new) clock.old clock.new
         core.old core.new report) }
     // At a fault they are those of fewer turns, and of a part of the next one that the fault ends.
-    ensures fault { IfErr result (λ f. EndsEarly C.hears C.misses C.gives C.withholds K.tells
+    ensures fault { IfErr result (λ f. EndsEarly C.hears C.hear_out_of_memory C.gives C.next_out_of_memory K.tells
         (C.port_count core.old) (peers_of peers.now) turns
         (D.traffic datagrams.old) (D.traffic datagrams.new) clock.old clock.new
         f core.old core.new) }
@@ -183,8 +183,8 @@ pub fn run<C: Core, D: Datagrams, K: Clock>(
     ensures device_ports { D.port_count datagrams.new ≡ D.port_count datagrams.old }
     // Who may speak there stays, and what the device keeps from the core is counted on.
     ensures access { D.access datagrams.new ≡ D.access datagrams.old }
-    ensures kept_back { D.kept_back datagrams.old ≤ D.kept_back datagrams.new }
+    ensures filtered { D.filtered datagrams.old ≤ D.filtered datagrams.new }
 {
     let mut segments = ByIp { datagrams, peers };
-    run_segments(alloc, core, &mut segments, clock, turns)
+    run_over_ports(alloc, core, &mut segments, clock, turns)
 }

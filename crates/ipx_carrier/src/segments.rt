@@ -3,7 +3,7 @@
 ghost use Rattle.std.specs.Prelude.{◌≡◌, ◌<◌, ◌≤◌, ◌+◌, ◌^◌, ℕ, List, [], ◌∷◌, Option, IfOk, OnOk, OnErr, IfSome, length};
 ghost use Rattle.ipx_carrier.specs.Device.{Access, Passes, TrafficOf, received_in};
 ghost use Rattle.ipx_carrier.specs.RunFaultNumbers.{device_failures};
-ghost use Rattle.ipx_carrier.specs.Segments.{SendsFrontOf, copies_count, count_in};
+ghost use Rattle.ipx_carrier.specs.PortDrivers.{SendsFrontOf, copies_count, count_in};
 ghost use Rattle.ipx_carrier.specs.Turns.{Given, copies_of};
 ghost use Rattle.ipx_carrier.specs.Waits.{LeavesPort, WaitingDatagrams};
 
@@ -16,7 +16,7 @@ pub enum PacketSent {
     /// Nothing there stands for its node, so it was not sent.
     Unmapped,
     /// It was sent so many times.
-    Copies(usize),
+    Transmitted(usize),
 }
 
 /// The segments that the ports of a core are at, numbered from 0: how a packet for a node leaves a
@@ -25,7 +25,7 @@ pub enum PacketSent {
 /// They count how often they failed, which no one else can raise. What they received and sent, and
 /// what waits for the core, is known of those that keep it; a contract over segments speaks of what
 /// they tell, and says nothing of it where they tell none.
-pub trait Segments {
+pub trait PortDriver {
     /// What a packet is sent by, as a datagram.
     ghost Copy: { Type 0 };
 
@@ -42,7 +42,7 @@ pub trait Segments {
     ghost failed: { Self → ℕ };
 
     /// By what a packet for a node is sent, or that nothing stands for it. It stays.
-    ghost ways: { Self → Given → Option (List Self.Copy) };
+    ghost transmissions: { Self → Given → Option (List Self.Copy) };
 
     /// What they received and sent so far, if they keep that.
     ghost traffic: { Self → Option (TrafficOf Self.Copy) };
@@ -54,7 +54,7 @@ pub trait Segments {
     ghost access: { Self → List Access };
 
     /// How much that came they kept from the core. That never falls.
-    ghost kept_back: { Self → ℕ };
+    ghost filtered: { Self → ℕ };
 
     /// How many ports there are.
     fn ports(&self) -> usize
@@ -72,19 +72,19 @@ pub trait Segments {
         requires there { port < port_count self.old }
         requires countable { failed self.old + 1 < 2 ^ 64 }
         ensures sent { OnOk result (Passes (traffic self.old) (traffic self.new) []
-            (copies_of (ways self.old)
+            (copies_of (transmissions self.old)
             (record { port = port; node = node; bytes = packet.now }))) }
-        ensures count { IfOk result (λ sent. count_in sent ≡ copies_count (ways self.old)
+        ensures count { IfOk result (λ sent. count_in sent ≡ copies_count (transmissions self.old)
             (record { port = port; node = node; bytes = packet.now })) }
-        ensures refused { OnErr result (SendsFrontOf (copies_of (ways self.old)
+        ensures refused { OnErr result (SendsFrontOf (copies_of (transmissions self.old)
             (record { port = port; node = node; bytes = packet.now }))
             (traffic self.old) (traffic self.new)) }
         ensures waiting { waiting self.new ≡ waiting self.old }
         ensures failures { failed self.new ≡ device_failures result (failed self.old) }
         ensures ports { port_count self.new ≡ port_count self.old }
-        ensures ways { ways self.new ≡ ways self.old }
+        ensures transmissions { transmissions self.new ≡ transmissions self.old }
         ensures access { access self.new ≡ access self.old }
-        ensures kept_back { kept_back self.old ≤ kept_back self.new }
+        ensures filtered { filtered self.old ≤ filtered self.new }
         ensures kept { Self.kept self.new ≡ Self.kept self.old };
 
     /// Takes what comes first for the core at a port, if there is something: its bytes go to the
@@ -103,15 +103,15 @@ pub trait Segments {
         ensures waiting { OnErr result (waiting self.new ≡ waiting self.old) }
         ensures failures { failed self.new ≡ device_failures result (failed self.old) }
         ensures ports { port_count self.new ≡ port_count self.old }
-        ensures ways { ways self.new ≡ ways self.old }
+        ensures transmissions { transmissions self.new ≡ transmissions self.old }
         ensures access { access self.new ≡ access self.old }
-        ensures kept_back { kept_back self.old ≤ kept_back self.new }
+        ensures filtered { filtered self.old ≤ filtered self.new }
         ensures kept { Self.kept self.new ≡ Self.kept self.old };
 }
 
 /// Segments that tell how much they kept from the core.
-pub trait SegmentsKeepBack: Segments {
+pub trait PortDriverFilters: PortDriver {
     /// How much it was so far, as they count it.
-    fn kept_back(&self) -> u128
-        ensures { result ≡ Self.kept_back self.now };
+    fn filtered(&self) -> u128
+        ensures { result ≡ Self.filtered self.now };
 }

@@ -24,7 +24,7 @@ pub struct UdpDatagrams {
 }
 
 /// Where an IP address is reached by UDP, at a port of UDP.
-pub fn place_of(ip: [u8; 4], port: u16) -> SocketAddrV4
+pub fn socket_addr(ip: [u8; 4], port: u16) -> SocketAddrV4
     ensures ip { ipv4_octets (v4_ip result) ≡ ip }
     ensures port { v4_port result ≡ port }
 {
@@ -32,8 +32,8 @@ pub fn place_of(ip: [u8; 4], port: u16) -> SocketAddrV4
 }
 
 /// A socket at an IP address and a port of UDP, which does not wait. The error is the system's.
-pub fn bound_socket<R: Net>(rt: &R, ip: [u8; 4], port: u16) -> io::Result<UdpSocket> {
-    let socket = UdpSocket::bind(rt, place_of(ip, port))?;
+pub fn bind_nonblocking<R: Net>(rt: &R, ip: [u8; 4], port: u16) -> io::Result<UdpSocket> {
+    let socket = UdpSocket::bind(rt, socket_addr(ip, port))?;
     socket.set_nonblocking(true)?;
     Ok(socket)
 }
@@ -53,7 +53,7 @@ impl UdpDatagrams {
     {
         let mut sockets = Vec::new(alloc);
         for ip in addresses {
-            let Ok(socket) = bound_socket(rt, *ip, port) else {
+            let Ok(socket) = bind_nonblocking(rt, *ip, port) else {
                 return Err(DeviceFault);
             };
             if sockets.push(socket).is_err() {
@@ -83,7 +83,7 @@ impl Datagrams for UdpDatagrams {
 
     ghost access = { λ d. [] };
 
-    ghost kept_back = { λ d. 0 };
+    ghost filtered = { λ d. 0 };
 
     fn ports(&self) -> usize {
         self.sockets.len()
@@ -94,7 +94,7 @@ impl Datagrams for UdpDatagrams {
     }
 
     fn send(&mut self, port: usize, to: [u8; 4], bytes: &[u8]) -> Result<(), DeviceFault> {
-        match self.sockets[port].send_to(bytes, place_of(to, self.port)) {
+        match self.sockets[port].send_to(bytes, socket_addr(to, self.port)) {
             Ok(count) if count == bytes.len() => Ok(()),
             _ => {
                 self.failures += 1;

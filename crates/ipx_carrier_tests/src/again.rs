@@ -1,7 +1,7 @@
 //! A router that asks again, and what it counts.
 
 use crate::fixture::{no_peers, one_peer_each, one_turn, two_ports};
-use ipx_carrier::{MemoryDatagrams, OutcomeCounts};
+use ipx_carrier::{MemoryDatagrams, OutcomeCounters};
 use std::test::Fail;
 
 /// In its first turn it asks for routes and services on each port, and tells a network on each;
@@ -14,7 +14,7 @@ fn asks_again_for_all(rt: HostRuntime) -> Result<(), Fail> {
     let mut datagrams = MemoryDatagrams::new(alloc, 2)?;
     assert_eq!(rt; one_turn(alloc, &mut core, &mut datagrams, &peers)?.sent, 6);
     assert_eq!(rt; one_turn(alloc, &mut core, &mut datagrams, &peers)?.sent, 0);
-    core.ask_again();
+    core.restart_discovery();
     assert_eq!(rt; one_turn(alloc, &mut core, &mut datagrams, &peers)?.sent, 4);
     Ok(())
 }
@@ -25,10 +25,10 @@ fn counts_what_is_no_packet(rt: HostRuntime) -> Result<(), Fail> {
     let peers = no_peers(alloc)?;
     let mut core = two_ports(alloc)?;
     let mut datagrams = MemoryDatagrams::new(alloc, 2)?;
-    assert!(rt; core.fates() == OutcomeCounts::new());
+    assert!(rt; core.outcomes() == OutcomeCounters::new());
     datagrams.put(alloc, 1, b"abc")?;
     let _report = one_turn(alloc, &mut core, &mut datagrams, &peers)?;
-    assert_eq!(rt; core.fates().bad, 1);
+    assert_eq!(rt; core.outcomes().bad, 1);
     assert_eq!(rt; core.router().ports().len(), 2);
     assert!(rt; core.router().routes().list(alloc, 0).is_ok());
     assert!(rt; core.router().services().list(alloc, 0).is_ok());

@@ -3,8 +3,8 @@
 use crate::fixture::{text_of, two_ports};
 use crate::refused::core_at_last;
 use ipx_carrier::{
-    Burst, Datagrams, MemoryDatagrams, OnPeers, RunFault, Segments, SegmentsKeepBack, SteppedClock,
-    burst_segments, turn_segments,
+    Batch, Datagrams, MemoryDatagrams, OnPeers, RunFault, PortDriver, PortDriverFilters, SteppedClock,
+    run_batch, run_once_over_ports,
 };
 use ipx_wire::OutOfMemory;
 use std::alloc::Global;
@@ -24,16 +24,16 @@ fn segments(alloc: Global, ports: usize) -> Result<OnPeers<MemoryDatagrams>, Out
 /// What comes at one port goes on at the other; the packets by which the router starts go to the peer
 /// of each; and the burst is quiet then.
 #[test]
-fn a_burst_over_segments(rt: HostRuntime) -> Result<(), Fail> {
+fn a_batch_over_segments(rt: HostRuntime) -> Result<(), Fail> {
     let alloc = rt.alloc();
     let mut segments = segments(alloc, 2)?;
     segments.device.put(alloc, 0, &hex::decode(alloc, ONWARD)?)?;
     let mut core = two_ports(alloc)?;
     let mut clock = SteppedClock::new(0, 10);
-    let burst = burst_segments(alloc, &mut core, &mut segments, &mut clock, 8);
+    let batch = run_batch(alloc, &mut core, &mut segments, &mut clock, 8);
     assert!(rt;
-        burst
-            == Burst {
+        batch
+            == Batch {
                 heard: 1,
                 sent: 7,
                 unmapped: 0,
@@ -50,7 +50,7 @@ fn a_burst_over_segments(rt: HostRuntime) -> Result<(), Fail> {
         text_of(alloc, &sent[1])?.as_str(),
         "0 9 ffff0028000100000011ffffffffffff04530000001100007f00000104530001ffffffffffffffff"
     );
-    assert_eq!(rt; segments.kept_back(), 0);
+    assert_eq!(rt; segments.filtered(), 0);
     Ok(())
 }
 
@@ -62,17 +62,17 @@ fn bursts_that_fail(rt: HostRuntime) -> Result<(), Fail> {
     let mut core = two_ports(alloc)?;
     let mut clock = SteppedClock::new(0, 10);
     let mut three = segments(alloc, 3)?;
-    let refused = burst_segments(alloc, &mut core, &mut three, &mut clock, 8);
+    let refused = run_batch(alloc, &mut core, &mut three, &mut clock, 8);
     assert!(rt; refused.fault == Some(RunFault::Device));
     assert_eq!(rt; three.failures(), 0);
-    let none = burst_segments(alloc, &mut core, &mut three, &mut clock, 0);
+    let none = run_batch(alloc, &mut core, &mut three, &mut clock, 0);
     assert!(rt; none.fault.is_none());
     let mut two = segments(alloc, 2)?;
     two.device.fail_at(1);
-    let failed = turn_segments(alloc, &mut core, &mut two, &mut clock);
+    let failed = run_once_over_ports(alloc, &mut core, &mut two, &mut clock);
     assert!(rt; failed == Err(RunFault::Device));
     assert_eq!(rt; two.failures(), 1);
-    let well = turn_segments(alloc, &mut core, &mut two, &mut clock)?;
+    let well = run_once_over_ports(alloc, &mut core, &mut two, &mut clock)?;
     assert!(rt; well.sent == 6);
     Ok(())
 }
@@ -88,8 +88,8 @@ fn refused_turns_over_segments(rt: HostRuntime) -> Result<(), Fail> {
         Err(_) => segments(alloc, 2)?,
     };
     let mut clock = SteppedClock::new(0, 10);
-    let first = turn_segments(alloc, &mut core, &mut two, &mut clock);
-    let second = burst_segments(alloc, &mut core, &mut two, &mut clock, 8);
+    let first = run_once_over_ports(alloc, &mut core, &mut two, &mut clock);
+    let second = run_batch(alloc, &mut core, &mut two, &mut clock, 8);
     assert!(rt; first.is_ok() || second.fault.is_none());
     assert!(rt; two.device.sent().len() <= 6);
     assert_eq!(rt; two.device.refusals(), two.device.failures());

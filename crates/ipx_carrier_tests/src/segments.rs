@@ -3,7 +3,7 @@
 use crate::fixture::{one_peer_each, text_of, two_ports};
 use crate::turns::are_first;
 use ipx_carrier::{
-    ByIp, Datagrams, DeviceFault, MemoryDatagrams, PacketSent, Segments, SteppedClock, run_segments,
+    ByIp, Datagrams, DeviceFault, MemoryDatagrams, PacketSent, PortDriver, SteppedClock, run_over_ports,
 };
 use ipx_wire::Node;
 use std::alloc::Global;
@@ -28,10 +28,10 @@ fn a_packet_goes_by_its_node(rt: HostRuntime) -> Result<(), Fail> {
     let to_one = segments.send(1, Node([0, 0, 127, 0, 0, 5]), &[1, 2]);
     let to_none = segments.send(0, Node([2, 0, 127, 0, 0, 5]), &[3]);
     let to_no_list = segments.send(1, Node::BROADCAST, &[4]);
-    assert!(rt; matches!(to_all, Ok(PacketSent::Copies(3))));
-    assert!(rt; matches!(to_one, Ok(PacketSent::Copies(1))));
+    assert!(rt; matches!(to_all, Ok(PacketSent::Transmitted(3))));
+    assert!(rt; matches!(to_one, Ok(PacketSent::Transmitted(1))));
     assert!(rt; matches!(to_none, Ok(PacketSent::Unmapped)));
-    assert!(rt; matches!(to_no_list, Ok(PacketSent::Copies(0))));
+    assert!(rt; matches!(to_no_list, Ok(PacketSent::Transmitted(0))));
     let texts = ["0 9 ab", "0 8 ab", "0 7 ab", "1 5 0102"];
     assert_eq!(rt; datagrams.sent().len(), 4);
     for (datagram, text) in datagrams.sent().iter().zip(texts.iter()) {
@@ -68,7 +68,7 @@ fn a_run_over_segments_sends_what_a_run_sends(rt: HostRuntime) -> Result<(), Fai
         peers: &peers,
     };
     let mut clock = SteppedClock::new(0, 10);
-    let report = run_segments(alloc, &mut core, &mut segments, &mut clock, 1)?;
+    let report = run_over_ports(alloc, &mut core, &mut segments, &mut clock, 1)?;
     assert_eq!(rt; report.sent, 6);
     assert_eq!(rt; datagrams.received(), 2);
     assert_eq!(rt; datagrams.sent().len(), 6);

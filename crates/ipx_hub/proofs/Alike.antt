@@ -1,7 +1,7 @@
 -- Frames with the same addresses go the same way, and leave the hub the same.
 use Rattle.std.proofs.Common.{◌≡◌, ℕ, List, true, length, take, drop, refl, sym, ap, ◌∙◌, arith}
 use Rattle.std.proofs.lemmas.List.{drop-take, take-take}
-use Rattle.ipx_hub.specs.Heard.{HubView, hub_passing, may_pass, way_behind}
+use Rattle.ipx_hub.specs.Heard.{SwitchView, switch_passing, may_pass, way_behind}
 
 -- the addresses are the first twelve bytes
 to_in : (bytes : List ℕ) → take 6 bytes ≡ take 6 (take 12 bytes)
@@ -16,17 +16,17 @@ to_alike bytes other same = to_in bytes ∙ ap (take 6) same ∙ sym (to_in othe
 from_alike : (bytes other : List ℕ) → take 12 bytes ≡ take 12 other → take 6 (drop 6 bytes) ≡ take 6 (drop 6 other)
 from_alike bytes other same = from_in bytes ∙ ap (drop 6) same ∙ sym (from_in other)
 
-pub hub_alike : (h : HubView) (bytes other : List ℕ) (end now : ℕ) → take 12 bytes ≡ take 12 other → may_pass (length bytes) ≡ true → may_pass (length other) ≡ true
-    → hub_passing h bytes end now ≡ hub_passing h other end now
-hub_alike h bytes other end now same one two =
+pub switch_alike : (h : SwitchView) (bytes other : List ℕ) (end now : ℕ) → take 12 bytes ≡ take 12 other → may_pass (length bytes) ≡ true → may_pass (length other) ≡ true
+    → switch_passing h bytes end now ≡ switch_passing h other end now
+switch_alike h bytes other end now same one two =
     rw (one, two, to_alike bytes other same, from_alike bytes other same) refl
 
-way_alike : (h : HubView) (bytes other : List ℕ) (end now : ℕ) → take 12 bytes ≡ take 12 other → may_pass (length bytes) ≡ true → may_pass (length other) ≡ true
+way_alike : (h : SwitchView) (bytes other : List ℕ) (end now : ℕ) → take 12 bytes ≡ take 12 other → may_pass (length bytes) ≡ true → may_pass (length other) ≡ true
     → way_behind h bytes end now ≡ way_behind h other end now
 way_alike h bytes other end now same one two =
     rw (one, two, to_alike bytes other same, from_alike bytes other same) refl
 
-pub way_passing_alike : (h : HubView) (bytes other : List ℕ) (end now : ℕ) → take 12 bytes ≡ take 12 other → may_pass (length bytes) ≡ true → may_pass (length other) ≡ true
-    → way_behind (hub_passing h bytes end now) bytes end now ≡ way_behind (hub_passing h other end now) other end now
+pub way_passing_alike : (h : SwitchView) (bytes other : List ℕ) (end now : ℕ) → take 12 bytes ≡ take 12 other → may_pass (length bytes) ≡ true → may_pass (length other) ≡ true
+    → way_behind (switch_passing h bytes end now) bytes end now ≡ way_behind (switch_passing h other end now) other end now
 way_passing_alike h bytes other end now same one two =
-    way_alike (hub_passing h bytes end now) bytes other end now same one two ∙ ap (λ (g : HubView). way_behind g other end now) (hub_alike h bytes other end now same one two)
+    way_alike (switch_passing h bytes end now) bytes other end now same one two ∙ ap (λ (g : SwitchView). way_behind g other end now) (switch_alike h bytes other end now same one two)

@@ -7,8 +7,8 @@ use Rattle.std.proofs.lemmas.List.Filters.{length-filter_both}
 use Rattle.std.proofs.lemmas.List.Folds.{find-append}
 use Rattle.std.proofs.lemmas.Slice.Eq.{bytes_eq-Decides}
 use Rattle.ipx_wire.specs.declared.address.Node.{Node}
-use Rattle.ipx_hub.specs.declared.stations.Station.{Station}
-use Rattle.ipx_hub.specs.WireEnds.{end_of_station, end_while_young, is_at, most_stations, station_age, stations_with}
+use Rattle.ipx_hub.specs.declared.mac_table.Station.{Station}
+use Rattle.ipx_hub.specs.SwitchEnds.{end_of_station, end_while_young, is_at, max_stations, ageing_time, stations_with}
 use Rattle.ipx_hub.proofs.Room.{last_with}
 
 left_by : (node : Node) (x : Station) (b : Bool) (rest : List Station) → is_at node x ≡ b → find (is_at node) rest ≡ None → find (is_at node) (cond (not b) (x ∷ rest) rest) ≡ None
@@ -36,23 +36,23 @@ found : (s : Station) (known : List Station) → find (is_at s.node) (stations_w
 found s known =
     let test = is_at s.node in
     let kept : List Station = filter (λ k. not (is_at s.node k)) known in
-    let n = length kept + 1 - most_stations in
+    let n = length kept + 1 - max_stations in
     let none : find test (drop n kept) ≡ None = none_behind test n kept (none_left s.node known) in
     ap (find test) (sym (last_with kept s)) ∙ find-append test (drop n kept) (s ∷ []) ∙ ap (λ (o : Option Station). option_or o (find test (s ∷ []))) none ∙ alone s
 
-young : (s : Station) (now : ℕ) → s.moment ≤ now → now < s.moment + station_age → end_while_young now (Some s) ≡ Some s.end
-young s now le lt = rw (le-leb s.moment now le, lt-ltb (now - s.moment) station_age (omega (arith, le, lt))) refl
+young : (s : Station) (now : ℕ) → s.moment ≤ now → now < s.moment + ageing_time → end_while_young now (Some s) ≡ Some s.end
+young s now le lt = rw (le-leb s.moment now le, lt-ltb (now - s.moment) ageing_time (omega (arith, le, lt))) refl
 
-old : (s : Station) (now : ℕ) → s.moment + station_age ≤ now → end_while_young now (Some s) ≡ None
-old s now le = rw (le-leb s.moment now (omega (arith, le)), le-ltb (now - s.moment) station_age (omega (arith, le))) refl
+old : (s : Station) (now : ℕ) → s.moment + ageing_time ≤ now → end_while_young now (Some s) ≡ None
+old s now le = rw (le-leb s.moment now (omega (arith, le)), le-ltb (now - s.moment) ageing_time (omega (arith, le))) refl
 
 early : (s : Station) (now : ℕ) → now < s.moment → end_while_young now (Some s) ≡ None
 early s now lt = rw (lt-leb s.moment now lt) refl
 
-pub known_there : (s : Station) (known : List Station) (now : ℕ) → s.moment ≤ now → now < s.moment + station_age → end_of_station s.node now (stations_with s known) ≡ Some s.end
+pub known_there : (s : Station) (known : List Station) (now : ℕ) → s.moment ≤ now → now < s.moment + ageing_time → end_of_station s.node now (stations_with s known) ≡ Some s.end
 known_there s known now le lt = ap (end_while_young now) (found s known) ∙ young s now le lt
 
-pub known_no_more : (s : Station) (known : List Station) (now : ℕ) → s.moment + station_age ≤ now → end_of_station s.node now (stations_with s known) ≡ None
+pub known_no_more : (s : Station) (known : List Station) (now : ℕ) → s.moment + ageing_time ≤ now → end_of_station s.node now (stations_with s known) ≡ None
 known_no_more s known now le = ap (end_while_young now) (found s known) ∙ old s now le
 
 pub known_not_yet : (s : Station) (known : List Station) (now : ℕ) → now < s.moment → end_of_station s.node now (stations_with s known) ≡ None
@@ -82,24 +82,24 @@ not_alone s other apart = rw apart refl
 
 -- where those that are kept but for the ones in front have the other as before, the other is known as before
 kept_still : (s : Station) (known : List Station) (other : Node) (now : ℕ) → bytes_eq s.node.0 other.0 ≡ false
-    → find (is_at other) (drop (length (filter (λ k. not (is_at s.node k)) known) + 1 - most_stations) (filter (λ k. not (is_at s.node k)) known)) ≡ find (is_at other) (filter (λ k. not (is_at s.node k)) known)
+    → find (is_at other) (drop (length (filter (λ k. not (is_at s.node k)) known) + 1 - max_stations) (filter (λ k. not (is_at s.node k)) known)) ≡ find (is_at other) (filter (λ k. not (is_at s.node k)) known)
     → end_of_station other now (stations_with s known) ≡ end_of_station other now known
 kept_still s known other now apart same =
     let test = is_at other in
     let kept : List Station = filter (λ k. not (is_at s.node k)) known in
-    let rest : List Station = drop (length kept + 1 - most_stations) kept in
+    let rest : List Station = drop (length kept + 1 - max_stations) kept in
     ap (end_while_young now) (ap (find test) (sym (last_with kept s)) ∙ find-append test rest (s ∷ []) ∙ ap (option_or (find test rest)) (not_alone s other apart) ∙ or_none (find test rest) ∙ same ∙ others_left s.node other known apart)
 
 fewer : (s : Station) (known : List Station) → length (filter (λ k. not (is_at s.node k)) known) ≤ length known
 fewer s known = omega (arith, length-filter_both (is_at s.node) (λ k. not (is_at s.node k)) (λ x. refl) known)
 
 -- with room none goes
-none_goes : (test : Station → Bool) (kept : List Station) → length kept < most_stations → find test (drop (length kept + 1 - most_stations) kept) ≡ find test kept
+none_goes : (test : Station → Bool) (kept : List Station) → length kept < max_stations → find test (drop (length kept + 1 - max_stations) kept) ≡ find test kept
 none_goes test kept few =
-    let zero : length kept + 1 - most_stations ≡ 0 = omega (arith, few) in
+    let zero : length kept + 1 - max_stations ≡ 0 = omega (arith, few) in
     ap (λ (i : ℕ). find test (drop i kept)) zero
 
-pub known_still : (s : Station) (known : List Station) (other : Node) (now : ℕ) → bytes_eq s.node.0 other.0 ≡ false → length known < most_stations
+pub known_still : (s : Station) (known : List Station) (other : Node) (now : ℕ) → bytes_eq s.node.0 other.0 ≡ false → length known < max_stations
     → end_of_station other now (stations_with s known) ≡ end_of_station other now known
 known_still s known other now apart few =
     let kept : List Station = filter (λ k. not (is_at s.node k)) known in
@@ -112,22 +112,22 @@ one_goes test first rest (suc n) le unlike =
     let none : n ≡ 0 = omega (arith, le) in
     ap (λ (i : ℕ). find test (drop i rest)) none ∙ sym (ap (λ (b : Bool). cond b (Some first) (find test rest)) unlike)
 
-first_goes : (test : Station → Bool) (first : Station) (kept : List Station) (b : Bool) → length kept + 1 ≤ most_stations → test first ≡ false
-    → find test (drop (length (cond b (first ∷ kept) kept) + 1 - most_stations) (cond b (first ∷ kept) kept)) ≡ find test (cond b (first ∷ kept) kept)
-first_goes test first kept true few unlike = one_goes test first kept (length (first ∷ kept) + 1 - most_stations) (omega (arith, few)) unlike
+first_goes : (test : Station → Bool) (first : Station) (kept : List Station) (b : Bool) → length kept + 1 ≤ max_stations → test first ≡ false
+    → find test (drop (length (cond b (first ∷ kept) kept) + 1 - max_stations) (cond b (first ∷ kept) kept)) ≡ find test (cond b (first ∷ kept) kept)
+first_goes test first kept true few unlike = one_goes test first kept (length (first ∷ kept) + 1 - max_stations) (omega (arith, few)) unlike
 first_goes test first kept false few unlike = none_goes test kept (omega (arith, few))
 
-full_still : (s first : Station) (rest : List Station) (other : Node) (now : ℕ) → bytes_eq s.node.0 other.0 ≡ false → length (first ∷ rest) ≤ most_stations → bytes_eq first.node.0 other.0 ≡ false
+full_still : (s first : Station) (rest : List Station) (other : Node) (now : ℕ) → bytes_eq s.node.0 other.0 ≡ false → length (first ∷ rest) ≤ max_stations → bytes_eq first.node.0 other.0 ≡ false
     → end_of_station other now (stations_with s (first ∷ rest)) ≡ end_of_station other now (first ∷ rest)
 full_still s first rest other now apart few unlike =
     let kept : List Station = filter (λ k. not (is_at s.node k)) rest in
-    let room : length kept + 1 ≤ most_stations = omega (arith, few, fewer s rest) in
+    let room : length kept + 1 ≤ max_stations = omega (arith, few, fewer s rest) in
     kept_still s (first ∷ rest) other now apart (first_goes (is_at other) first kept (not (is_at s.node first)) room unlike)
 
-pub known_in_full : (s first : Station) (known rest : List Station) (other : Node) (now : ℕ) → known ≡ first ∷ rest → bytes_eq s.node.0 other.0 ≡ false → length known ≤ most_stations → bytes_eq first.node.0 other.0 ≡ false
+pub known_in_full : (s first : Station) (known rest : List Station) (other : Node) (now : ℕ) → known ≡ first ∷ rest → bytes_eq s.node.0 other.0 ≡ false → length known ≤ max_stations → bytes_eq first.node.0 other.0 ≡ false
     → end_of_station other now (stations_with s known) ≡ end_of_station other now known
 known_in_full s first known rest other now is apart few unlike =
-    let P : List Station → Type 0 = λ l. length l ≤ most_stations → end_of_station other now (stations_with s l) ≡ end_of_station other now l in
+    let P : List Station → Type 0 = λ l. length l ≤ max_stations → end_of_station other now (stations_with s l) ≡ end_of_station other now l in
     subst P (sym is) (λ little. full_still s first rest other now apart little unlike) few
 
 -- where the one that was heard was known already, fewer are kept
@@ -140,7 +140,7 @@ shorter : (s before : Station) (known : List Station) → find (is_at s.node) kn
 shorter s before [] found = cc
 shorter s before (x ∷ xs) found = shorter_by s.node x before (is_at s.node x) (filter (λ k. not (is_at s.node k)) xs) xs refl (fewer s xs) (shorter s before xs) found
 
-pub known_again : (s before : Station) (known : List Station) (other : Node) (now : ℕ) → find (is_at s.node) known ≡ Some before → bytes_eq s.node.0 other.0 ≡ false → length known ≤ most_stations
+pub known_again : (s before : Station) (known : List Station) (other : Node) (now : ℕ) → find (is_at s.node) known ≡ Some before → bytes_eq s.node.0 other.0 ≡ false → length known ≤ max_stations
     → end_of_station other now (stations_with s known) ≡ end_of_station other now known
 known_again s before known other now found apart few =
     let kept : List Station = filter (λ k. not (is_at s.node k)) known in

@@ -1,14 +1,14 @@
 -- The last of a list, with one more behind it, and what is put behind all.
 use Rattle.std.proofs.Common.{◌≡◌, ◌+◌, ◌-◌, ℕ, List, [], ◌∷◌, ◌++◌, length, take, drop, arith, refl, sym, ap, ◌∙◌}
 use Rattle.std.proofs.lemmas.List.{drop-append-le, length-append}
-use Rattle.ipx_hub.specs.declared.stations.Station.{Station}
-use Rattle.ipx_hub.specs.WireEnds.{last_of, most_stations}
+use Rattle.ipx_hub.specs.declared.mac_table.Station.{Station}
+use Rattle.ipx_hub.specs.SwitchEnds.{last_of, max_stations}
 
 pub last_with : (xs : List Station) (s : Station)
-    → drop (length xs + 1 - most_stations) xs ++ s ∷ [] ≡ last_of most_stations (xs ++ s ∷ [])
+    → drop (length xs + 1 - max_stations) xs ++ s ∷ [] ≡ last_of max_stations (xs ++ s ∷ [])
 last_with xs s =
-    let n = length xs + 1 - most_stations in
-    sym (drop-append-le n xs (s ∷ []) (omega arith)) ∙ ap (λ (i : ℕ). drop (i - most_stations) (xs ++ s ∷ [])) (sym (length-append xs (s ∷ [])))
+    let n = length xs + 1 - max_stations in
+    sym (drop-append-le n xs (s ∷ []) (omega arith)) ∙ ap (λ (i : ℕ). drop (i - max_stations) (xs ++ s ∷ [])) (sym (length-append xs (s ∷ [])))
 
 pub behind_all : (xs : List Station) (s : Station) → take (length xs) xs ++ s ∷ drop (length xs) xs ≡ xs ++ s ∷ []
 behind_all [] s = refl

@@ -2,30 +2,30 @@
 use Rattle.std.specs.Prelude.{ℕ, List, [], take, drop, length, replicate, Bool, not, ◌&&◌, ◌||◌, Option, nat_le, if◌then◌else◌}
 use Rattle.std.specs.Str.{bytes_eq}
 use Rattle.ipx_wire.specs.declared.address.Node.{Node}
-use Rattle.ipx_frames.specs.declared.wire.KeptFrame.{KeptFrame}
-use Rattle.ipx_frames.specs.declared.wire.WirePort.{WirePort}
-use Rattle.ipx_frames.specs.declared.wire_counts.WireCounts.{WireCounts}
-use Rattle.ipx_frames.specs.Frame.{is_group}
-use Rattle.ipx_frames.specs.FrameFault.{node_of}
-use Rattle.ipx_frames.specs.Wire.{frame_counted, frames_raised, no_frames}
-use Rattle.ipx_hub.specs.declared.onward.Onward.{Onward}
-use Rattle.ipx_hub.specs.declared.onward.Onward.TheVariants.{Nowhere, ToOne, ToAll, ToOthers}
-use Rattle.ipx_hub.specs.declared.stations.Station.{Station}
-use Rattle.ipx_hub.specs.WireEnds.{end_of_station, stations_with, way_out, way_past}
+use Rattle.ipx_ethernet.specs.declared.ethernet_port.FrameDrop.{FrameDrop}
+use Rattle.ipx_ethernet.specs.declared.ethernet_port.EthernetPort.{EthernetPort}
+use Rattle.ipx_ethernet.specs.declared.frame_counters.FrameCounters.{FrameCounters}
+use Rattle.ipx_ethernet.specs.Frame.{is_group}
+use Rattle.ipx_ethernet.specs.FrameFault.{node_of}
+use Rattle.ipx_ethernet.specs.PortFrames.{frame_counted, frames_raised, no_frames}
+use Rattle.ipx_hub.specs.declared.egress.Egress.{Egress}
+use Rattle.ipx_hub.specs.declared.egress.Egress.TheVariants.{Nowhere, ToOne, ToAll, ToOthers}
+use Rattle.ipx_hub.specs.declared.mac_table.Station.{Station}
+use Rattle.ipx_hub.specs.SwitchEnds.{end_of_station, stations_with, way_out, way_past}
 
 -- a port of several ends: whether they are joined, which stations are known, what came, how many frames
 -- were to go on, and how many packets of the core no frame could carry
-pub record HubView : Type 0 where
-  pub port : WirePort
+pub record SwitchView : Type 0 where
+  pub port : EthernetPort
   pub joined : Bool
   pub stations : List Station
-  pub counts : WireCounts
+  pub counts : FrameCounters
   pub passed : ℕ
   pub refused : ℕ
 
 -- nothing came yet
-abbrev pub new_hub : WirePort → Bool → HubView
-new_hub port joined = record {
+abbrev pub new_switch : EthernetPort → Bool → SwitchView
+new_switch port joined = record {
   port = port;
   joined = joined;
   stations = [];
@@ -65,55 +65,55 @@ stations_behind own bytes end now known =
 
 -- where a frame goes on to, by the stations that are known: nowhere one of the port's own, which came
 -- back, nor one that is for the port
-abbrev pub way_between : Node → Node → Node → ℕ → Option ℕ → Onward
+abbrev pub way_between : Node → Node → Node → ℕ → Option ℕ → Egress
 way_between own to from end place =
     if bytes_eq from.0 own.0 || bytes_eq to.0 own.0 then Nowhere else way_past end place
 
 -- the same for bytes, where the ends are joined
-abbrev pub way_joined : Node → List ℕ → ℕ → ℕ → List Station → Onward
+abbrev pub way_joined : Node → List ℕ → ℕ → ℕ → List Station → Egress
 way_joined own bytes end now known =
     if may_pass (length bytes)
     then way_between own (station_to bytes) (station_from bytes) end
     (end_of_station (station_to bytes) now known)
     else Nowhere
 
-abbrev pub way_behind : HubView → List ℕ → ℕ → ℕ → Onward
+abbrev pub way_behind : SwitchView → List ℕ → ℕ → ℕ → Egress
 way_behind h bytes end now =
     if h.joined then way_joined h.port.own bytes end now h.stations else Nowhere
 
 -- where a frame of the port's own to a node goes: a group's to each end, and else to the end at which its station is
 -- known, or to each
-abbrev pub way_of_own : Node → ℕ → List Station → Onward
+abbrev pub way_of_own : Node → ℕ → List Station → Egress
 way_of_own node now known =
     if is_group node.0 then ToAll else way_out (end_of_station node now known)
 
 -- one more frame that was to go on
-abbrev pub passed_with : Onward → ℕ → ℕ
+abbrev pub passed_with : Egress → ℕ → ℕ
 passed_with Nowhere n = n
 passed_with (ToOne e) n = frames_raised n
 passed_with ToAll n = frames_raised n
 passed_with (ToOthers giver) n = frames_raised n
 
 -- the sender is known, if a station may have that address
-abbrev pub hub_knowing : HubView → List ℕ → ℕ → ℕ → HubView
-hub_knowing h bytes end now =
+abbrev pub switch_knowing : SwitchView → List ℕ → ℕ → ℕ → SwitchView
+switch_knowing h bytes end now =
     record h { stations = stations_behind h.port.own bytes end now h.stations }
 
 -- the hub behind a frame that an end gave: its sender is known, and it is counted if it is to go on
-abbrev pub hub_passing : HubView → List ℕ → ℕ → ℕ → HubView
-hub_passing h bytes end now = record (hub_knowing h bytes end now) {
-  passed = passed_with (way_behind (hub_knowing h bytes end now) bytes end now) h.passed;
+abbrev pub switch_passing : SwitchView → List ℕ → ℕ → ℕ → SwitchView
+switch_passing h bytes end now = record (switch_knowing h bytes end now) {
+  passed = passed_with (way_behind (switch_knowing h bytes end now) bytes end now) h.passed;
 }
 
 -- one more frame whose packet went to the core, and one that was kept from it: nothing but its count is
 -- another
-abbrev pub hub_handing : HubView → HubView
-hub_handing h =
+abbrev pub switch_handing : SwitchView → SwitchView
+switch_handing h =
     record h { counts = record h.counts { handed_on = frames_raised h.counts.handed_on } }
 
-abbrev pub hub_keeping : KeptFrame → HubView → HubView
-hub_keeping k h = record h { counts = frame_counted k h.counts }
+abbrev pub switch_keeping : FrameDrop → SwitchView → SwitchView
+switch_keeping k h = record h { counts = frame_counted k h.counts }
 
 -- one more packet of the core that no frame could carry: nothing but its count is another
-abbrev pub hub_refusing : HubView → HubView
-hub_refusing h = record h { refused = frames_raised h.refused }
+abbrev pub switch_refusing : SwitchView → SwitchView
+switch_refusing h = record h { refused = frames_raised h.refused }

@@ -1,2 +1,2 @@
-pub mod WireEnds
+pub mod SwitchEnds
 pub mod Heard

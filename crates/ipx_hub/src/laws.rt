@@ -3,74 +3,74 @@
 ghost use Rattle.std.specs.Prelude.{◌≡◌, ◌<◌, ◌≤◌, ◌+◌, ◌==◌, ℕ, List, ◌∷◌, None, Some, true, false, find, length, take};
 ghost use Rattle.std.specs.Str.{bytes_eq};
 ghost use Rattle.ipx_wire.specs.declared.address.Node.{Node};
-ghost use Rattle.ipx_hub.specs.declared.stations.Station.{Station};
-ghost use Rattle.ipx_hub.specs.Heard.{HubView, hub_passing, may_be_behind, may_pass, station_from, station_to, way_behind};
-ghost use Rattle.ipx_hub.specs.WireEnds.{end_of_station, is_at, is_way_to, most_stations, station_age};
+ghost use Rattle.ipx_hub.specs.declared.mac_table.Station.{Station};
+ghost use Rattle.ipx_hub.specs.Heard.{SwitchView, switch_passing, may_be_behind, may_pass, station_from, station_to, way_behind};
+ghost use Rattle.ipx_hub.specs.SwitchEnds.{end_of_station, is_at, is_way_to, max_stations, ageing_time};
 
 /// Two frames with the same addresses go on to the same ends, and leave the hub the same, whatever
 /// they hold behind those.
 pub fn frames_go_on_whatever_they_hold()
-    ensures ends { (h : HubView) (bytes other : List ℕ) (end now : ℕ) → take 12 bytes ≡ take 12 other
+    ensures ends { (h : SwitchView) (bytes other : List ℕ) (end now : ℕ) → take 12 bytes ≡ take 12 other
         → may_pass (length bytes) ≡ true → may_pass (length other) ≡ true
-        → way_behind (hub_passing h bytes end now) bytes end now
-        ≡ way_behind (hub_passing h other end now) other end now }
-    ensures hub { (h : HubView) (bytes other : List ℕ) (end now : ℕ) → take 12 bytes ≡ take 12 other
+        → way_behind (switch_passing h bytes end now) bytes end now
+        ≡ way_behind (switch_passing h other end now) other end now }
+    ensures switch { (h : SwitchView) (bytes other : List ℕ) (end now : ℕ) → take 12 bytes ≡ take 12 other
         → may_pass (length bytes) ≡ true → may_pass (length other) ≡ true
-        → hub_passing h bytes end now ≡ hub_passing h other end now }
+        → switch_passing h bytes end now ≡ switch_passing h other end now }
 {}
 
 /// Where ends are joined, a frame between two stations other than the port goes to each end but the
 /// giver's, as long as its destination is known nowhere; else to the one end where that is known.
 pub fn frames_go_where_they_are_for()
-    ensures unknown { (h : HubView) (bytes : List ℕ) (end now other : ℕ) → h.joined ≡ true
+    ensures unknown { (h : SwitchView) (bytes : List ℕ) (end now other : ℕ) → h.joined ≡ true
         → may_pass (length bytes) ≡ true
         → bytes_eq (station_from bytes).0 h.port.own.0 ≡ false
         → bytes_eq (station_to bytes).0 h.port.own.0 ≡ false
-        → end_of_station (station_to bytes) now (hub_passing h bytes end now).stations ≡ None
+        → end_of_station (station_to bytes) now (switch_passing h bytes end now).stations ≡ None
         → (end == other) ≡ false
-        → is_way_to (way_behind (hub_passing h bytes end now) bytes end now) other ≡ true }
-    ensures known { (h : HubView) (bytes : List ℕ) (end now place other : ℕ) → h.joined ≡ true
+        → is_way_to (way_behind (switch_passing h bytes end now) bytes end now) other ≡ true }
+    ensures known { (h : SwitchView) (bytes : List ℕ) (end now place other : ℕ) → h.joined ≡ true
         → may_pass (length bytes) ≡ true
         → bytes_eq (station_from bytes).0 h.port.own.0 ≡ false
         → bytes_eq (station_to bytes).0 h.port.own.0 ≡ false
-        → end_of_station (station_to bytes) now (hub_passing h bytes end now).stations ≡ Some place
+        → end_of_station (station_to bytes) now (switch_passing h bytes end now).stations ≡ Some place
         → (place == end) ≡ false
-        → is_way_to (way_behind (hub_passing h bytes end now) bytes end now) other ≡ (place == other) }
+        → is_way_to (way_behind (switch_passing h bytes end now) bytes end now) other ≡ (place == other) }
 {}
 
 /// The sender of a frame, where a station may have its address, is known at the end that gave it from
 /// that moment on, for five minutes and no longer, and not before that moment.
 pub fn station_is_known_where_it_was_heard()
-    ensures known { (h : HubView) (bytes : List ℕ) (end heard now : ℕ) → may_pass (length bytes) ≡ true
+    ensures known { (h : SwitchView) (bytes : List ℕ) (end heard now : ℕ) → may_pass (length bytes) ≡ true
         → may_be_behind h.port.own (station_from bytes) ≡ true
-        → heard ≤ now → now < heard + station_age
-        → end_of_station (station_from bytes) now (hub_passing h bytes end heard).stations ≡ Some end }
-    ensures old { (h : HubView) (bytes : List ℕ) (end heard now : ℕ) → may_pass (length bytes) ≡ true
+        → heard ≤ now → now < heard + ageing_time
+        → end_of_station (station_from bytes) now (switch_passing h bytes end heard).stations ≡ Some end }
+    ensures old { (h : SwitchView) (bytes : List ℕ) (end heard now : ℕ) → may_pass (length bytes) ≡ true
         → may_be_behind h.port.own (station_from bytes) ≡ true
-        → heard + station_age ≤ now
-        → end_of_station (station_from bytes) now (hub_passing h bytes end heard).stations ≡ None }
-    ensures before { (h : HubView) (bytes : List ℕ) (end heard now : ℕ) → may_pass (length bytes) ≡ true
+        → heard + ageing_time ≤ now
+        → end_of_station (station_from bytes) now (switch_passing h bytes end heard).stations ≡ None }
+    ensures before { (h : SwitchView) (bytes : List ℕ) (end heard now : ℕ) → may_pass (length bytes) ≡ true
         → may_be_behind h.port.own (station_from bytes) ≡ true
         → now < heard
-        → end_of_station (station_from bytes) now (hub_passing h bytes end heard).stations ≡ None }
+        → end_of_station (station_from bytes) now (switch_passing h bytes end heard).stations ≡ None }
 {}
 
 /// What is known of stations other than the sender of a frame stays: of each where there is room or
 /// the sender was in the table, and else of all but the first, which was heard longest ago.
 pub fn other_stations_are_known_still()
-    ensures room { (h : HubView) (bytes : List ℕ) (end heard : ℕ) (other : Node) (now : ℕ)
-        → bytes_eq (station_from bytes).0 other.0 ≡ false → length h.stations < most_stations
-        → end_of_station other now (hub_passing h bytes end heard).stations
+    ensures room { (h : SwitchView) (bytes : List ℕ) (end heard : ℕ) (other : Node) (now : ℕ)
+        → bytes_eq (station_from bytes).0 other.0 ≡ false → length h.stations < max_stations
+        → end_of_station other now (switch_passing h bytes end heard).stations
         ≡ end_of_station other now h.stations }
-    ensures full { (h : HubView) (bytes : List ℕ) (end heard : ℕ) (other : Node) (now : ℕ)
+    ensures full { (h : SwitchView) (bytes : List ℕ) (end heard : ℕ) (other : Node) (now : ℕ)
         (first : Station) (rest : List Station) → h.stations ≡ first ∷ rest
-        → bytes_eq (station_from bytes).0 other.0 ≡ false → length h.stations ≤ most_stations
+        → bytes_eq (station_from bytes).0 other.0 ≡ false → length h.stations ≤ max_stations
         → bytes_eq first.node.0 other.0 ≡ false
-        → end_of_station other now (hub_passing h bytes end heard).stations
+        → end_of_station other now (switch_passing h bytes end heard).stations
         ≡ end_of_station other now h.stations }
-    ensures again { (h : HubView) (bytes : List ℕ) (end heard : ℕ) (other : Node) (now : ℕ) (before : Station)
+    ensures again { (h : SwitchView) (bytes : List ℕ) (end heard : ℕ) (other : Node) (now : ℕ) (before : Station)
         → find (is_at (station_from bytes)) h.stations ≡ Some before
-        → bytes_eq (station_from bytes).0 other.0 ≡ false → length h.stations ≤ most_stations
-        → end_of_station other now (hub_passing h bytes end heard).stations
+        → bytes_eq (station_from bytes).0 other.0 ≡ false → length h.stations ≤ max_stations
+        → end_of_station other now (switch_passing h bytes end heard).stations
         ≡ end_of_station other now h.stations }
 {}

@@ -1,16 +1,16 @@
 //! Whether a frame goes on from one end to others, and whose it is.
 
 ghost use Rattle.std.specs.Prelude.{◌≡◌, ◌==◌, IfSome, is_some, length};
-ghost use Rattle.ipx_frames.specs.Frame;
+ghost use Rattle.ipx_ethernet.specs.Frame;
 ghost use Rattle.ipx_hub.specs.Heard.{may_be_behind, may_pass, passed_with, station_from, station_to, stations_from, way_between};
 
-use crate::onward::{Onward, past};
-use crate::stations::{Station, Stations};
-use ipx_frames::stations_of;
+use crate::egress::{Egress, flood_except};
+use crate::mac_table::{Station, MacTable};
+use ipx_ethernet::stations_of;
 use ipx_wire::Node;
 
 /// The most bytes that go on: a full frame of 1,514 with a tag of 802.1Q and its check sequence.
-pub const MOST_PASSED_SIZE: usize = 1522;
+pub const MAX_FORWARDED_SIZE: usize = 1522;
 
 /// The size of the addresses and the length or type.
 const HEADER_SIZE: usize = 14;
@@ -21,7 +21,7 @@ pub fn addresses_of(bytes: &[u8]) -> Option<(Node, Node)>
     ensures from { IfSome result (λ r. r.1 ≡ station_from bytes.now) }
     ensures passes { is_some result ≡ may_pass (length bytes.now) }
 {
-    if bytes.len() < HEADER_SIZE || bytes.len() > MOST_PASSED_SIZE {
+    if bytes.len() < HEADER_SIZE || bytes.len() > MAX_FORWARDED_SIZE {
         return None;
     }
     match stations_of(&bytes[..HEADER_SIZE]) {
@@ -46,7 +46,7 @@ fn may_be_there(own: Node, node: Node) -> bool
 
 /// A frame came from an end: its sender is known there from now on, where a station may have that
 /// address.
-pub fn know(stations: &mut Stations, own: Node, from: Node, end: usize, now: u64)
+pub fn learn(stations: &mut MacTable, own: Node, from: Node, end: usize, now: u64)
     ensures { stations.new ≡ stations_from own from end now stations.old }
 {
     if may_be_there(own, from) {
@@ -59,22 +59,22 @@ pub fn know(stations: &mut Stations, own: Node, from: Node, end: usize, now: u64
 }
 
 /// Where a frame goes on to that an end gave, to a station at a known end, or at any.
-pub fn between(own: Node, to: Node, from: Node, end: usize, place: Option<usize>) -> Onward
+pub fn forwarding_decision(own: Node, to: Node, from: Node, end: usize, place: Option<usize>) -> Egress
     ensures { result ≡ way_between own to from end place }
 {
     if from == own || to == own {
-        return Onward::Nowhere;
+        return Egress::Nowhere;
     }
-    past(end, place)
+    flood_except(end, place)
 }
 
 /// Counts a frame that is to go on, if it is.
-pub fn count_passed(passed: &mut u64, onward: Onward)
+pub fn count_passed(passed: &mut u64, onward: Egress)
     ensures { passed.new ≡ passed_with onward passed.old }
 {
     match onward {
-        Onward::Nowhere => {}
-        Onward::ToOne(_) | Onward::ToAll | Onward::ToOthers(_) => {
+        Egress::Nowhere => {}
+        Egress::ToOne(_) | Egress::ToAll | Egress::ToOthers(_) => {
             *passed = passed.saturating_add(1);
         }
     }

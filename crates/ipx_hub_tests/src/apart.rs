@@ -2,23 +2,23 @@
 
 use crate::caller::give;
 use crate::fixture::{CAME, FIRST, PORT, SECOND, frame};
-use ipx_hub::{Hub, Onward};
+use ipx_hub::{Switch, Egress};
 use ipx_wire::Node;
 use std::test::Fail;
 
 /// Nothing goes from end to end; the port sends a station's frames to its end alone.
 #[test]
 fn ends_apart(rt: HostRuntime) -> Result<(), Fail> {
-    let mut hub = Hub::new(rt.alloc(), PORT, false)?;
+    let mut switch = Switch::new(rt.alloc(), PORT, false)?;
     assert_eq!(rt;
-        give(&mut hub, 0, &frame(SECOND, FIRST), 0),
+        give(&mut switch, 0, &frame(SECOND, FIRST), 0),
         ([false; 3], None)
     );
     let all = frame(Node::BROADCAST, SECOND);
-    assert_eq!(rt; give(&mut hub, 1, &all, 0), ([false; 3], Some(30)));
-    assert_eq!(rt; give(&mut hub, 0, &CAME, 0), ([false; 3], Some(30)));
-    assert_eq!(rt; hub.passed(), 0);
-    assert_eq!(rt; hub.way_to(SECOND, 0), Onward::ToOne(1));
-    assert_eq!(rt; hub.way_to(Node::BROADCAST, 0), Onward::ToAll);
+    assert_eq!(rt; give(&mut switch, 1, &all, 0), ([false; 3], Some(30)));
+    assert_eq!(rt; give(&mut switch, 0, &CAME, 0), ([false; 3], Some(30)));
+    assert_eq!(rt; switch.passed(), 0);
+    assert_eq!(rt; switch.egress_for(SECOND, 0), Egress::ToOne(1));
+    assert_eq!(rt; switch.egress_for(Node::BROADCAST, 0), Egress::ToAll);
     Ok(())
 }

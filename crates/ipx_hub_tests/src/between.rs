@@ -2,27 +2,27 @@
 
 use crate::caller::give;
 use crate::fixture::{CAME, FIRST, PORT, SECOND, THIRD, arp, frame};
-use ipx_frames::{Encapsulation, FrameFault, KeptFrame, WireCounts, WirePort};
-use ipx_hub::{Hub, Onward};
+use ipx_ethernet::{Encapsulation, FrameFault, FrameDrop, FrameCounters, EthernetPort};
+use ipx_hub::{Switch, Egress};
 use ipx_wire::{Network, Node};
 use std::test::Fail;
 
 /// What is no IPX goes on as well, and the core gets none of it.
 #[test]
 fn other_protocols_go_on(rt: HostRuntime) -> Result<(), Fail> {
-    let mut hub = Hub::new(rt.alloc(), PORT, true)?;
+    let mut switch = Switch::new(rt.alloc(), PORT, true)?;
     assert_eq!(rt;
-        give(&mut hub, 2, &arp(THIRD), 0),
+        give(&mut switch, 2, &arp(THIRD), 0),
         ([true, true, false], None)
     );
     // Its sender is known from it.
-    assert_eq!(rt; hub.way_to(THIRD, 1), Onward::ToOne(2));
-    let wanted = WireCounts {
+    assert_eq!(rt; switch.egress_for(THIRD, 1), Egress::ToOne(2));
+    let wanted = FrameCounters {
         other_type: 1,
-        ..WireCounts::new()
+        ..FrameCounters::new()
     };
-    assert_eq!(rt; hub.counts(), wanted);
-    assert_eq!(rt; hub.passed(), 1);
+    assert_eq!(rt; switch.counts(), wanted);
+    assert_eq!(rt; switch.passed(), 1);
     Ok(())
 }
 
@@ -30,16 +30,16 @@ fn other_protocols_go_on(rt: HostRuntime) -> Result<(), Fail> {
 #[test]
 fn to_all_stations(rt: HostRuntime) -> Result<(), Fail> {
     let all = frame(Node::BROADCAST, FIRST);
-    let mut hub = Hub::new(rt.alloc(), PORT, true)?;
-    assert_eq!(rt; give(&mut hub, 0, &all, 0), ([false, true, true], Some(30)));
-    let port = WirePort {
+    let mut switch = Switch::new(rt.alloc(), PORT, true)?;
+    assert_eq!(rt; give(&mut switch, 0, &all, 0), ([false, true, true], Some(30)));
+    let port = EthernetPort {
         network: Network(0x33),
         ..PORT
     };
-    let mut other = Hub::new(rt.alloc(), port, true)?;
+    let mut other = Switch::new(rt.alloc(), port, true)?;
     let (onward, packet) = other.hear(0, &all, 0);
-    assert_eq!(rt; onward, Onward::ToOthers(0));
-    assert!(rt; matches!(packet, Err(KeptFrame::OtherNetwork(Network(0x22)))));
+    assert_eq!(rt; onward, Egress::ToOthers(0));
+    assert!(rt; matches!(packet, Err(FrameDrop::OtherNetwork(Network(0x22)))));
     assert_eq!(rt; other.counts().other_network, 1);
     assert_eq!(rt; other.counts().handed_on, 0);
     Ok(())
@@ -48,28 +48,28 @@ fn to_all_stations(rt: HostRuntime) -> Result<(), Fail> {
 /// A frame of the port's own, given back by an end, goes nowhere and changes its count alone.
 #[test]
 fn own_frames_come_back(rt: HostRuntime) -> Result<(), Fail> {
-    let mut hub = Hub::new(rt.alloc(), PORT, true)?;
+    let mut switch = Switch::new(rt.alloc(), PORT, true)?;
     let own = frame(Node::BROADCAST, PORT.own);
-    let (onward, packet) = hub.hear(1, &own, 0);
-    assert_eq!(rt; onward, Onward::Nowhere);
-    assert!(rt; matches!(packet, Err(KeptFrame::Unheard(FrameFault::OwnSource))));
-    assert!(rt; hub.stations().is_empty());
-    let wanted = WireCounts {
+    let (onward, packet) = switch.hear(1, &own, 0);
+    assert_eq!(rt; onward, Egress::Nowhere);
+    assert!(rt; matches!(packet, Err(FrameDrop::Unheard(FrameFault::OwnSource))));
+    assert!(rt; switch.stations().is_empty());
+    let wanted = FrameCounters {
         own: 1,
-        ..WireCounts::new()
+        ..FrameCounters::new()
     };
-    assert_eq!(rt; hub.counts(), wanted);
-    assert_eq!(rt; hub.passed(), 0);
+    assert_eq!(rt; switch.counts(), wanted);
+    assert_eq!(rt; switch.passed(), 0);
     Ok(())
 }
 
 /// Frames between two stations behind one end stay there.
 #[test]
 fn both_behind_one_end(rt: HostRuntime) -> Result<(), Fail> {
-    let mut hub = Hub::new(rt.alloc(), PORT, true)?;
-    give(&mut hub, 1, &frame(SECOND, FIRST), 0);
+    let mut switch = Switch::new(rt.alloc(), PORT, true)?;
+    give(&mut switch, 1, &frame(SECOND, FIRST), 0);
     assert_eq!(rt;
-        give(&mut hub, 1, &frame(FIRST, SECOND), 0),
+        give(&mut switch, 1, &frame(FIRST, SECOND), 0),
         ([false; 3], None)
     );
     Ok(())
@@ -78,20 +78,20 @@ fn both_behind_one_end(rt: HostRuntime) -> Result<(), Fail> {
 /// IPX in another encapsulation goes on as it came, and is counted by what it was.
 #[test]
 fn another_encapsulation(rt: HostRuntime) -> Result<(), Fail> {
-    let port = WirePort {
+    let port = EthernetPort {
         encapsulation: Encapsulation::Llc,
         ..PORT
     };
-    let mut hub = Hub::new(rt.alloc(), port, true)?;
+    let mut switch = Switch::new(rt.alloc(), port, true)?;
     let all = frame(Node::BROADCAST, FIRST);
-    let (onward, packet) = hub.hear(2, &all, 0);
-    assert_eq!(rt; onward, Onward::ToOthers(2));
-    let kept = KeptFrame::OtherEncapsulation(Encapsulation::EthernetII, Encapsulation::Llc);
+    let (onward, packet) = switch.hear(2, &all, 0);
+    assert_eq!(rt; onward, Egress::ToOthers(2));
+    let kept = FrameDrop::OtherEncapsulation(Encapsulation::EthernetII, Encapsulation::Llc);
     assert!(rt; matches!(packet, Err(why) if why == kept));
     let text = format!(in rt.alloc(); "{kept}")?;
     let wanted = "frames of another encapsulation: ethernet-ii, this port has 802.2";
     assert_eq!(rt; text.as_str(), wanted);
-    assert_eq!(rt; hub.counts().in_ethernet_ii, 1);
+    assert_eq!(rt; switch.counts().in_ethernet_ii, 1);
     Ok(())
 }
 
@@ -107,17 +107,17 @@ fn long_frame() -> [u8; 1523] {
 #[test]
 fn a_tagged_frame_goes_on(rt: HostRuntime) -> Result<(), Fail> {
     let bytes = long_frame();
-    let mut hub = Hub::new(rt.alloc(), PORT, true)?;
-    let (onward, packet) = hub.hear(0, &bytes[..1518], 5);
-    assert_eq!(rt; onward, Onward::ToOthers(0));
-    assert!(rt; matches!(packet, Err(KeptFrame::Unheard(FrameFault::FrameLong(1518)))));
-    assert_eq!(rt; hub.way_to(FIRST, 5), Onward::ToOne(0));
-    let wanted = WireCounts {
+    let mut switch = Switch::new(rt.alloc(), PORT, true)?;
+    let (onward, packet) = switch.hear(0, &bytes[..1518], 5);
+    assert_eq!(rt; onward, Egress::ToOthers(0));
+    assert!(rt; matches!(packet, Err(FrameDrop::Unheard(FrameFault::FrameLong(1518)))));
+    assert_eq!(rt; switch.egress_for(FIRST, 5), Egress::ToOne(0));
+    let wanted = FrameCounters {
         broken: 1,
-        ..WireCounts::new()
+        ..FrameCounters::new()
     };
-    assert_eq!(rt; hub.counts(), wanted);
-    assert_eq!(rt; hub.passed(), 1);
+    assert_eq!(rt; switch.counts(), wanted);
+    assert_eq!(rt; switch.passed(), 1);
     Ok(())
 }
 
@@ -125,42 +125,42 @@ fn a_tagged_frame_goes_on(rt: HostRuntime) -> Result<(), Fail> {
 #[test]
 fn sizes_that_go_on(rt: HostRuntime) -> Result<(), Fail> {
     let bytes = long_frame();
-    let mut hub = Hub::new(rt.alloc(), PORT, true)?;
-    assert_eq!(rt; give(&mut hub, 1, &bytes[..13], 0), ([false; 3], None));
-    assert!(rt; hub.stations().is_empty());
+    let mut switch = Switch::new(rt.alloc(), PORT, true)?;
+    assert_eq!(rt; give(&mut switch, 1, &bytes[..13], 0), ([false; 3], None));
+    assert!(rt; switch.stations().is_empty());
     for size in [14, 1514, 1522] {
         assert_eq!(rt;
-            give(&mut hub, 0, &bytes[..size], 0),
+            give(&mut switch, 0, &bytes[..size], 0),
             ([false, true, true], None)
         );
     }
-    assert_eq!(rt; hub.passed(), 3);
-    assert_eq!(rt; give(&mut hub, 2, &bytes, 0), ([false; 3], None));
-    assert_eq!(rt; hub.way_to(FIRST, 0), Onward::ToOne(0));
-    assert_eq!(rt; hub.passed(), 3);
+    assert_eq!(rt; switch.passed(), 3);
+    assert_eq!(rt; give(&mut switch, 2, &bytes, 0), ([false; 3], None));
+    assert_eq!(rt; switch.egress_for(FIRST, 0), Egress::ToOne(0));
+    assert_eq!(rt; switch.passed(), 3);
     // Of a frame for the port itself the core hears as many as 1,514 bytes.
     let mut own = [0; 1515];
     own[..44].copy_from_slice(&CAME);
-    assert_eq!(rt; give(&mut hub, 0, &own[..1514], 0), ([false; 3], Some(30)));
-    let (_, packet) = hub.hear(0, &own, 0);
-    assert!(rt; matches!(packet, Err(KeptFrame::Unheard(FrameFault::FrameLong(1515)))));
+    assert_eq!(rt; give(&mut switch, 0, &own[..1514], 0), ([false; 3], Some(30)));
+    let (_, packet) = switch.hear(0, &own, 0);
+    assert!(rt; matches!(packet, Err(FrameDrop::Unheard(FrameFault::FrameLong(1515)))));
     Ok(())
 }
 
 /// What is no frame goes nowhere, and from no station: too short, too long, from a group.
 #[test]
 fn what_is_no_frame(rt: HostRuntime) -> Result<(), Fail> {
-    let mut hub = Hub::new(rt.alloc(), PORT, true)?;
-    assert_eq!(rt; give(&mut hub, 0, &CAME[..13], 0), ([false; 3], None));
+    let mut switch = Switch::new(rt.alloc(), PORT, true)?;
+    assert_eq!(rt; give(&mut switch, 0, &CAME[..13], 0), ([false; 3], None));
     let long = long_frame();
-    assert_eq!(rt; give(&mut hub, 0, &long, 0), ([false; 3], None));
-    assert!(rt; hub.stations().is_empty());
+    assert_eq!(rt; give(&mut switch, 0, &long, 0), ([false; 3], None));
+    assert!(rt; switch.stations().is_empty());
     // From a group, it goes on; nobody is known by it.
     let group = frame(Node::BROADCAST, Node([3, 0, 0, 0, 0, 0x42]));
-    assert_eq!(rt; give(&mut hub, 0, &group, 0), ([false, true, true], None));
+    assert_eq!(rt; give(&mut switch, 0, &group, 0), ([false, true, true], None));
     let zero = frame(Node::BROADCAST, Node([0; 6]));
-    assert_eq!(rt; give(&mut hub, 0, &zero, 0), ([false, true, true], None));
-    assert!(rt; hub.stations().is_empty());
-    assert_eq!(rt; hub.counts().broken, 4);
+    assert_eq!(rt; give(&mut switch, 0, &zero, 0), ([false, true, true], None));
+    assert!(rt; switch.stations().is_empty());
+    assert_eq!(rt; switch.counts().broken, 4);
     Ok(())
 }

@@ -1,36 +1,36 @@
 //! How one gives a frame on that came from one of three ends.
 
 use crate::fixture::{CAME, FIRST, PORT, SECOND, frame};
-use ipx_hub::Hub;
+use ipx_hub::Switch;
 use std::test::Fail;
 
 /// Which of three ends take a frame that the end `giver` gave, and how many bytes of it go to the
 /// core of the port.
-pub fn give(hub: &mut Hub, giver: usize, bytes: &[u8], now: u64) -> ([bool; 3], Option<usize>) {
-    let (onward, packet) = hub.hear(giver, bytes, now);
+pub fn give(switch: &mut Switch, giver: usize, bytes: &[u8], now: u64) -> ([bool; 3], Option<usize>) {
+    let (onward, packet) = switch.hear(giver, bytes, now);
     let takers = [onward.is_to(0), onward.is_to(1), onward.is_to(2)];
     (takers, packet.ok().map(|packet| packet.len()))
 }
 
 #[test]
 fn frames_of_three_ends(rt: HostRuntime) -> Result<(), Fail> {
-    let mut hub = Hub::new(rt.alloc(), PORT, true)?;
+    let mut switch = Switch::new(rt.alloc(), PORT, true)?;
     // To a station that nobody heard yet: to both others.
     let first = frame(SECOND, FIRST);
     assert_eq!(rt;
-        give(&mut hub, 0, &first, 1000),
+        give(&mut switch, 0, &first, 1000),
         ([false, true, true], None)
     );
     // Its answer goes to the end of the first station alone.
     let answer = frame(FIRST, SECOND);
     assert_eq!(rt;
-        give(&mut hub, 1, &answer, 1010),
+        give(&mut switch, 1, &answer, 1010),
         ([true, false, false], None)
     );
     // A frame for the port goes to its core alone.
-    assert_eq!(rt; give(&mut hub, 0, &CAME, 1020), ([false; 3], Some(30)));
-    assert_eq!(rt; hub.passed(), 2);
-    assert_eq!(rt; hub.counts().not_ours, 2);
-    assert_eq!(rt; hub.counts().handed_on, 1);
+    assert_eq!(rt; give(&mut switch, 0, &CAME, 1020), ([false; 3], Some(30)));
+    assert_eq!(rt; switch.passed(), 2);
+    assert_eq!(rt; switch.counts().not_ours, 2);
+    assert_eq!(rt; switch.counts().handed_on, 1);
     Ok(())
 }

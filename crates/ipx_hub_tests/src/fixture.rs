@@ -1,10 +1,10 @@
 //! Stations at the ends of a wire, and the frames that they send.
 
-use ipx_frames::{Encapsulation, WirePort};
+use ipx_ethernet::{Encapsulation, EthernetPort};
 use ipx_wire::{Network, Node};
 
 /// The port, which has the network 22 in Ethernet II.
-pub const PORT: WirePort = WirePort {
+pub const PORT: EthernetPort = EthernetPort {
     own: Node([2, 0, 0, 0, 0, 1]),
     network: Network(0x22),
     encapsulation: Encapsulation::EthernetII,

@@ -2,46 +2,46 @@
 
 use crate::caller::give;
 use crate::fixture::{FIRST, PORT, SECOND, frame};
-use ipx_hub::{Hub, Onward};
+use ipx_hub::{Switch, Egress};
 use ipx_wire::Node;
 use std::test::Fail;
 
 /// Five minutes behind its last frame a station is anywhere again.
 #[test]
 fn for_five_minutes(rt: HostRuntime) -> Result<(), Fail> {
-    let mut hub = Hub::new(rt.alloc(), PORT, true)?;
-    give(&mut hub, 0, &frame(SECOND, FIRST), 7);
-    give(&mut hub, 0, &frame(SECOND, FIRST), 1000);
-    assert_eq!(rt; hub.way_to(FIRST, 300_999), Onward::ToOne(0));
-    assert_eq!(rt; hub.way_to(FIRST, 301_000), Onward::ToAll);
+    let mut switch = Switch::new(rt.alloc(), PORT, true)?;
+    give(&mut switch, 0, &frame(SECOND, FIRST), 7);
+    give(&mut switch, 0, &frame(SECOND, FIRST), 1000);
+    assert_eq!(rt; switch.egress_for(FIRST, 300_999), Egress::ToOne(0));
+    assert_eq!(rt; switch.egress_for(FIRST, 301_000), Egress::ToAll);
     // Where the clock went back, nobody knows how long ago it was heard.
-    assert_eq!(rt; hub.way_to(FIRST, 999), Onward::ToAll);
-    give(&mut hub, 0, &frame(SECOND, FIRST), 50);
-    assert_eq!(rt; hub.way_to(FIRST, 50), Onward::ToOne(0));
-    assert_eq!(rt; hub.way_to(FIRST, 300_050), Onward::ToAll);
-    assert_eq!(rt; hub.stations().len(), 1);
+    assert_eq!(rt; switch.egress_for(FIRST, 999), Egress::ToAll);
+    give(&mut switch, 0, &frame(SECOND, FIRST), 50);
+    assert_eq!(rt; switch.egress_for(FIRST, 50), Egress::ToOne(0));
+    assert_eq!(rt; switch.egress_for(FIRST, 300_050), Egress::ToAll);
+    assert_eq!(rt; switch.stations().len(), 1);
     Ok(())
 }
 
 /// A frame for a station that is old goes to each of the others again.
 #[test]
 fn frames_for_an_old_station(rt: HostRuntime) -> Result<(), Fail> {
-    let mut hub = Hub::new(rt.alloc(), PORT, true)?;
-    give(&mut hub, 0, &frame(SECOND, FIRST), 1000);
+    let mut switch = Switch::new(rt.alloc(), PORT, true)?;
+    give(&mut switch, 0, &frame(SECOND, FIRST), 1000);
     let answer = frame(FIRST, SECOND);
     assert_eq!(rt;
-        give(&mut hub, 1, &answer, 300_999),
+        give(&mut switch, 1, &answer, 300_999),
         ([true, false, false], None)
     );
     assert_eq!(rt;
-        give(&mut hub, 1, &answer, 301_000),
+        give(&mut switch, 1, &answer, 301_000),
         ([true, false, true], None)
     );
     // It was known at the giver's own end: a frame stays there, until that is old.
-    give(&mut hub, 1, &frame(SECOND, FIRST), 302_000);
-    assert_eq!(rt; give(&mut hub, 1, &answer, 601_999), ([false; 3], None));
+    give(&mut switch, 1, &frame(SECOND, FIRST), 302_000);
+    assert_eq!(rt; give(&mut switch, 1, &answer, 601_999), ([false; 3], None));
     assert_eq!(rt;
-        give(&mut hub, 1, &answer, 602_000),
+        give(&mut switch, 1, &answer, 602_000),
         ([true, false, true], None)
     );
     Ok(())
@@ -50,11 +50,11 @@ fn frames_for_an_old_station(rt: HostRuntime) -> Result<(), Fail> {
 /// A station that moved is known at its new end.
 #[test]
 fn at_its_last_end(rt: HostRuntime) -> Result<(), Fail> {
-    let mut hub = Hub::new(rt.alloc(), PORT, true)?;
-    give(&mut hub, 0, &frame(SECOND, FIRST), 0);
-    give(&mut hub, 2, &frame(SECOND, FIRST), 1);
-    assert_eq!(rt; hub.way_to(FIRST, 1), Onward::ToOne(2));
-    assert_eq!(rt; hub.stations().len(), 1);
+    let mut switch = Switch::new(rt.alloc(), PORT, true)?;
+    give(&mut switch, 0, &frame(SECOND, FIRST), 0);
+    give(&mut switch, 2, &frame(SECOND, FIRST), 1);
+    assert_eq!(rt; switch.egress_for(FIRST, 1), Egress::ToOne(2));
+    assert_eq!(rt; switch.stations().len(), 1);
     Ok(())
 }
 
@@ -67,42 +67,42 @@ fn station(number: u16) -> Node {
 /// Of 1,025 stations the one that was heard longest ago is known no more.
 #[test]
 fn a_full_table(rt: HostRuntime) -> Result<(), Fail> {
-    let mut hub = Hub::new(rt.alloc(), PORT, true)?;
+    let mut switch = Switch::new(rt.alloc(), PORT, true)?;
     for number in 0..1024 {
         give(
-            &mut hub,
+            &mut switch,
             1,
             &frame(SECOND, station(number)),
             u64::from(number),
         );
     }
     // The first one is heard again, so that the second is the one of longest ago.
-    give(&mut hub, 1, &frame(SECOND, station(0)), 1024);
-    assert_eq!(rt; hub.stations().len(), 1024);
-    give(&mut hub, 1, &frame(SECOND, station(1024)), 1025);
-    assert_eq!(rt; hub.stations().len(), 1024);
-    assert_eq!(rt; hub.way_to(station(0), 1025), Onward::ToOne(1));
-    assert_eq!(rt; hub.way_to(station(1), 1025), Onward::ToAll);
-    assert_eq!(rt; hub.way_to(station(2), 1025), Onward::ToOne(1));
-    assert_eq!(rt; hub.way_to(station(1024), 1025), Onward::ToOne(1));
+    give(&mut switch, 1, &frame(SECOND, station(0)), 1024);
+    assert_eq!(rt; switch.stations().len(), 1024);
+    give(&mut switch, 1, &frame(SECOND, station(1024)), 1025);
+    assert_eq!(rt; switch.stations().len(), 1024);
+    assert_eq!(rt; switch.egress_for(station(0), 1025), Egress::ToOne(1));
+    assert_eq!(rt; switch.egress_for(station(1), 1025), Egress::ToAll);
+    assert_eq!(rt; switch.egress_for(station(2), 1025), Egress::ToOne(1));
+    assert_eq!(rt; switch.egress_for(station(1024), 1025), Egress::ToOne(1));
     Ok(())
 }
 
 /// In a full table of one millisecond, those go that were heard first in it.
 #[test]
 fn two_in_one_millisecond(rt: HostRuntime) -> Result<(), Fail> {
-    let mut hub = Hub::new(rt.alloc(), PORT, true)?;
+    let mut switch = Switch::new(rt.alloc(), PORT, true)?;
     for number in 0..1024 {
-        give(&mut hub, 1, &frame(SECOND, station(number)), 7);
+        give(&mut switch, 1, &frame(SECOND, station(number)), 7);
     }
-    give(&mut hub, 0, &frame(SECOND, station(1024)), 7);
-    assert_eq!(rt; hub.way_to(station(0), 7), Onward::ToAll);
-    assert_eq!(rt; hub.way_to(station(1), 7), Onward::ToOne(1));
-    give(&mut hub, 2, &frame(SECOND, station(1025)), 7);
-    assert_eq!(rt; hub.way_to(station(1), 7), Onward::ToAll);
-    assert_eq!(rt; hub.way_to(station(2), 7), Onward::ToOne(1));
-    assert_eq!(rt; hub.way_to(station(1024), 7), Onward::ToOne(0));
-    assert_eq!(rt; hub.way_to(station(1025), 7), Onward::ToOne(2));
-    assert_eq!(rt; hub.stations().len(), 1024);
+    give(&mut switch, 0, &frame(SECOND, station(1024)), 7);
+    assert_eq!(rt; switch.egress_for(station(0), 7), Egress::ToAll);
+    assert_eq!(rt; switch.egress_for(station(1), 7), Egress::ToOne(1));
+    give(&mut switch, 2, &frame(SECOND, station(1025)), 7);
+    assert_eq!(rt; switch.egress_for(station(1), 7), Egress::ToAll);
+    assert_eq!(rt; switch.egress_for(station(2), 7), Egress::ToOne(1));
+    assert_eq!(rt; switch.egress_for(station(1024), 7), Egress::ToOne(0));
+    assert_eq!(rt; switch.egress_for(station(1025), 7), Egress::ToOne(2));
+    assert_eq!(rt; switch.stations().len(), 1024);
     Ok(())
 }

@@ -2,17 +2,17 @@
 
 use crate::caller::give;
 use crate::fixture::{FIRST, PORT, SECOND, frame};
-use ipx_hub::{Hub, Onward};
+use ipx_hub::{Switch, Egress};
 use std::test::Fail;
 
 /// Where memory is refused there is no hub, and one is made at the next try.
 #[test]
-fn refused_hub(rt: HostRuntime) -> Result<(), Fail> {
-    let mut hub = match Hub::new(rt.alloc(), PORT, true) {
-        Ok(hub) => hub,
-        Err(_) => Hub::new(rt.alloc(), PORT, true)?,
+fn refused_switch(rt: HostRuntime) -> Result<(), Fail> {
+    let mut switch = match Switch::new(rt.alloc(), PORT, true) {
+        Ok(switch) => switch,
+        Err(_) => Switch::new(rt.alloc(), PORT, true)?,
     };
-    give(&mut hub, 0, &frame(SECOND, FIRST), 0);
-    assert_eq!(rt; hub.way_to(FIRST, 0), Onward::ToOne(0));
+    give(&mut switch, 0, &frame(SECOND, FIRST), 0);
+    assert_eq!(rt; switch.egress_for(FIRST, 0), Egress::ToOne(0));
     Ok(())
 }

@@ -2,8 +2,8 @@
 
 use crate::caller::give;
 use crate::fixture::{CAME, FIRST, PORT, SECOND, frame};
-use ipx_frames::FrameFault;
-use ipx_hub::{Hub, Onward};
+use ipx_ethernet::FrameFault;
+use ipx_hub::{Switch, Egress};
 use ipx_wire::Node;
 use std::test::Fail;
 
@@ -17,12 +17,12 @@ const PACKET: [u8; 30] = [
 /// always does.
 #[test]
 fn ends_of_the_ports_frames(rt: HostRuntime) -> Result<(), Fail> {
-    let mut hub = Hub::new(rt.alloc(), PORT, true)?;
-    give(&mut hub, 1, &frame(SECOND, FIRST), 1000);
+    let mut switch = Switch::new(rt.alloc(), PORT, true)?;
+    give(&mut switch, 1, &frame(SECOND, FIRST), 1000);
     let mut out = [0xaa; 64];
     assert_eq!(rt;
-        hub.frame_into(FIRST, &PACKET, 1010, &mut out),
-        Ok((Onward::ToOne(1), 60))
+        switch.frame_into(FIRST, &PACKET, 1010, &mut out),
+        Ok((Egress::ToOne(1), 60))
     );
     // To the station, from the port, Ethernet II, the packet, zeroes up to 60, and no more.
     assert_eq!(rt;
@@ -33,34 +33,34 @@ fn ends_of_the_ports_frames(rt: HostRuntime) -> Result<(), Fail> {
     assert_eq!(rt; &out[44..60], [0; 16].as_slice());
     assert_eq!(rt; &out[60..], [0xaa; 4].as_slice());
     assert_eq!(rt;
-        hub.frame_into(SECOND, &PACKET, 1010, &mut out),
-        Ok((Onward::ToAll, 60))
+        switch.frame_into(SECOND, &PACKET, 1010, &mut out),
+        Ok((Egress::ToAll, 60))
     );
     // Nobody can take the broadcast address for a station's.
-    give(&mut hub, 2, &frame(FIRST, Node::BROADCAST), 1020);
+    give(&mut switch, 2, &frame(FIRST, Node::BROADCAST), 1020);
     assert_eq!(rt;
-        hub.frame_into(Node::BROADCAST, &PACKET, 1030, &mut out),
-        Ok((Onward::ToAll, 60))
+        switch.frame_into(Node::BROADCAST, &PACKET, 1030, &mut out),
+        Ok((Egress::ToAll, 60))
     );
-    assert_eq!(rt; hub.way_to(Node::BROADCAST, 1030), Onward::ToAll);
-    assert_eq!(rt; hub.refused(), 0);
+    assert_eq!(rt; switch.egress_for(Node::BROADCAST, 1030), Egress::ToAll);
+    assert_eq!(rt; switch.refused(), 0);
     Ok(())
 }
 
 /// What no frame can carry is counted, and nothing else changes.
 #[test]
 fn packets_that_no_frame_carries(rt: HostRuntime) -> Result<(), Fail> {
-    let mut hub = Hub::new(rt.alloc(), PORT, true)?;
-    give(&mut hub, 0, &CAME, 1000);
+    let mut switch = Switch::new(rt.alloc(), PORT, true)?;
+    give(&mut switch, 0, &CAME, 1000);
     let mut out = [0xaa; 59];
     assert_eq!(rt;
-        hub.frame_into(FIRST, &PACKET, 1010, &mut out),
+        switch.frame_into(FIRST, &PACKET, 1010, &mut out),
         Err(FrameFault::NoRoom(60, 59))
     );
     assert_eq!(rt; out, [0xaa; 59]);
-    assert_eq!(rt; hub.refused(), 1);
-    assert_eq!(rt; hub.stations().len(), 1);
-    assert_eq!(rt; hub.counts().handed_on, 1);
-    assert_eq!(rt; hub.way_to(FIRST, 1010), Onward::ToOne(0));
+    assert_eq!(rt; switch.refused(), 1);
+    assert_eq!(rt; switch.stations().len(), 1);
+    assert_eq!(rt; switch.counts().handed_on, 1);
+    assert_eq!(rt; switch.egress_for(FIRST, 1010), Egress::ToOne(0));
     Ok(())
 }

@@ -1,9 +1,9 @@
 -- Under the premises of the headline each end begins what its peer handed in.
 use Rattle.std.proofs.Common.{ℕ, ◌<◌, inl, inr, length}
-use Rattle.theory_log.specs.Handed.{handed_in, handed_out, IsBeginning}
-use Rattle.theory_log.specs.Peers.{ArePeers, Premises}
-use Rattle.theory_log.specs.Scan.{scan}
-use Rattle.theory_log.specs.Scene.{Scene}
+use Rattle.spx_theory.specs.Handed.{handed_in, handed_out, IsBeginning}
+use Rattle.spx_theory.specs.Peers.{ArePeers, Premises}
+use Rattle.spx_theory.specs.Scan.{scan}
+use Rattle.spx_theory.specs.Scene.{Scene}
 use Rattle.ipx_net.specs.Begins.{Begins}
 use Rattle.ipx_net.specs.Theorems.{AloneHandsOutNothing, PeersHandOn}
 

@@ -8,7 +8,7 @@ use Rattle.std.proofs.lemmas.List.Elements.{filter_map-append}
 use Rattle.ipx_wire.specs.declared.address.Network.{Network}
 use Rattle.ipx_wire.specs.declared.address.Socket.{Socket}
 use Rattle.spx_link.specs.Limits.{most_units}
-use Rattle.theory_log.specs.Deeds.{Reached}
+use Rattle.spx_theory.specs.Deeds.{Reached}
 use Rattle.ipx_net_hosts.specs.HostBeginnings.{AddsHost, listens_at}
 use Rattle.ipx_net_hosts.specs.Hosts.{HostsView, world_of}
 use Rattle.ipx_router.specs.NewRouter.{ports_fault}
@@ -16,7 +16,7 @@ use Rattle.ipx_router.specs.declared.fault.NewFault.{NewFault}
 use Rattle.ipx_router.specs.declared.port.Port.{Port}
 use Rattle.theory_steps.specs.Reach.{CameTo, HasNoLinks, IsNewWorld}
 use Rattle.theory_steps.specs.World.{InOrder, HostState, World, scene_of}
-use Rattle.ipx_net.specs.BookView.{BookView, blank}
+use Rattle.ipx_net.specs.IndexedLogView.{IndexedLogView, blank}
 use Rattle.ipx_net.specs.NetReach.{GoesOn}
 use Rattle.ipx_net.specs.NetBeginnings.{AreHosts, AreRouters, IsHostOwed, IsStationOf, IsRouterOf, PortLists, first_refusal, router_faults}
 use Rattle.ipx_net.specs.declared.host.Host.{Host}
@@ -94,15 +94,15 @@ all_fresh (h ∷ hs) [] owed are k s at = absurd are
 all_fresh (h ∷ hs) (t ∷ ts) owed are zero s at = subst HasNoLinks (cc at) (fresh h t (owed zero h (omega arith)) are.0)
 all_fresh (h ∷ hs) (t ∷ ts) owed are (suc k) s at = all_fresh hs ts (λ j d within. owed (suc j) d (omega (arith, within))) are.1 k s at
 
-pub begun : (hosts : List Host) (v : HostsView) (b : BookView) → ((w : World) → CameTo w → InOrder w × Reached (scene_of w))
+pub begun : (hosts : List Host) (v : HostsView) (b : IndexedLogView) → ((w : World) → CameTo w → InOrder w × Reached (scene_of w))
     → All IsHostOwed hosts → AreHosts hosts v.stations → v.ends ≡ [] → b ≡ blank → GoesOn (world_of v b.parcels b.log 0)
 begun hosts v b reached owed are ends is =
     let new : IsNewWorld (world_of v b.parcels b.log 0) =
     record {
       hosts = all_fresh hosts v.stations owed are;
       ends = ends;
-      parcels = ap (λ (x : BookView). x.parcels) is;
-      log = ap (λ (x : BookView). x.log) is;
+      parcels = ap (λ (x : IndexedLogView). x.parcels) is;
+      log = ap (λ (x : IndexedLogView). x.log) is;
     } in
     let both = reached (world_of v b.parcels b.log 0) (CameTo.new new) in
     record { order = both.0; reached = both.1 }

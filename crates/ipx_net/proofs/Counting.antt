@@ -4,7 +4,7 @@ use Rattle.std.specs.Prelude.{count_by, if◌then◌else◌}
 use Rattle.std.specs.List.Sorted.{IsPartitionPoint, IsPartitionedBy}
 use Rattle.std.proofs.lemmas.List.Recursion.{is_count_by}
 use Rattle.std.proofs.lemmas.List.Sorted.{IsPartitionedBy-ltb}
-use Rattle.theory_log.specs.Scan.{times}
+use Rattle.spx_theory.specs.Scan.{times}
 use Rattle.ipx_net.specs.Places.{places_from}
 
 -- a list that ends in one number more

@@ -1,6 +1,6 @@
 -- What is counted of the ends of a log, of what is told of them.
 use Rattle.std.proofs.Common.{List}
-use Rattle.theory_log.specs.Note.{Note}
+use Rattle.spx_theory.specs.Note.{Note}
 use Rattle.ipx_net.specs.Ends.{TellsLog}
 use Rattle.ipx_net.specs.ToldEnds.{AreCounted}
 use Rattle.ipx_net.specs.declared.endinfo.EndInfo.{EndInfo}

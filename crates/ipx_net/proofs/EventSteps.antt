@@ -8,7 +8,7 @@ use Rattle.spx_link.specs.declared.outgoing.Sent.{Sent}
 use Rattle.spx_link.specs.declared.unit.Unit.{Unit}
 use Rattle.spx_messages.specs.declared.fault.EndFault.{EndFault}
 use Rattle.spx_messages.specs.Taking.{TakenView, overlong}
-use Rattle.theory_log.specs.Note.{Note}
+use Rattle.spx_theory.specs.Note.{Note}
 use Rattle.theory_steps.specs.HostSteps.{TakesOf, said_notes, given_notes, unit_notes, whole_notes}
 use Rattle.theory_steps.specs.EndCalls.{RefusesAt}
 use Rattle.theory_steps.specs.World.{AtHost, ParcelView, HostState, World, end_at}
@@ -16,7 +16,7 @@ use Rattle.ipx_net_hosts.specs.Hosts.{HostsView, LeftAs, Noting, PolledAt, world
 use Rattle.ipx_net_hosts.specs.Refusing.{PushesTo, TakeIsRefused, end_held, want}
 use Rattle.ipx_net_hosts.specs.HostStates.{given_as, speaker}
 use Rattle.ipx_net.specs.AnswerView.{Parcels, Refused, Taken}
-use Rattle.ipx_net.specs.GrowthView.{GrowthView, GrowsWorld}
+use Rattle.ipx_net.specs.StepResultView.{StepResultView, GrowsWorld}
 use Rattle.ipx_net.specs.HostEvents.{DeliversSo, PollingHost, TakingFrom}
 use Rattle.ipx_net.specs.Speaking.{spoken_notes}
 use Rattle.spx_messages.specs.declared.arrived.Arrived.{Arrived}
@@ -30,7 +30,7 @@ if_ok_then (Ok x) P Q f has = f x has
 if_ok_then (Err e) P Q f has = tt
 
 -- ---- a unit is taken
-pub taking_ok : (old new : HostsView) (first now who : ℕ) (t : TakenView) (u : Option Unit) (r : Result TakenView EndFault) (g : GrowthView) → r ≡ Ok t
+pub taking_ok : (old new : HostsView) (first now who : ℕ) (t : TakenView) (u : Option Unit) (r : Result TakenView EndFault) (g : StepResultView) → r ≡ Ok t
     → Noting old new now (unit_notes r u who ++ whole_notes r who) (λ w w'. TakesOf w who r w')
     → g ≡ record { parcels = []; notes = unit_notes (Ok t) u who ++ whole_notes (Ok t) who; answer = Taken t }
     → GrowsWorld old new first now g (TakingFrom who)
@@ -48,7 +48,7 @@ taking_ok old new first now who t u r g is noting same =
 over_is_not_want : (f : EndFault) → f ≡ overlong → f ≢ want
 over_is_not_want f is e = absurd (cc (sym is ∙ e))
 
-pub taking_err : (old new : HostsView) (first now who : ℕ) (f : EndFault) (u : Option Unit) (g : GrowthView)
+pub taking_err : (old new : HostsView) (first now who : ℕ) (f : EndFault) (u : Option Unit) (g : StepResultView)
     → (f ≢ want → Noting old new now (unit_notes (Err f) u who ++ whole_notes (Err f) who) (λ w w'. TakesOf w who (Err f) w'))
     → (f ≡ want → LeftAs who old new now)
     → TakeIsRefused f
@@ -141,7 +141,7 @@ delivering old new host parcel count bytes now arrived r x who notes ps d counte
     }
 
 pub polling_grows : (old new : HostsView) (host first now : ℕ) (r : Node × ℕ) (room written : List ℕ) (segment : Network) (spoke : Option (ℕ × Sent))
-    (p : ParcelView) (ns : List Note) (g : GrowthView)
+    (p : ParcelView) (ns : List Note) (g : StepResultView)
     → PolledAt old host now (Some r) room written new
     → option_map (λ s. s.endpoint.network) (slice_get old.stations host) ≡ Some segment
     → IfSome (slice_get new.stations host) (λ s. spoke ≡ speaker s.here s.endpoint.said)

@@ -12,15 +12,15 @@ use Rattle.ipx_router.specs.OutcomeView as Outcomes
 use Rattle.ipx_router.specs.RouterPackets.{AreOwn, SendingView}
 use Rattle.ipx_router.specs.RouterView.{RouterView}
 use Rattle.ipx_router.specs.declared.port.Port.{Port}
-use Rattle.theory_log.specs.Note.{Note}
-use Rattle.theory_log.specs.Note as Notes
-use Rattle.theory_log.specs.PacketsOnWay.{IsOneOn}
+use Rattle.spx_theory.specs.Note.{Note}
+use Rattle.spx_theory.specs.Note as Notes
+use Rattle.spx_theory.specs.PacketsOnWay.{IsOneOn}
 use Rattle.theory_steps.specs.Routers.{GivesOwnLetters, told_notes}
 use Rattle.theory_steps.specs.World.{ParcelView, World}
 use Rattle.ipx_net_hosts.specs.Hosts.{HostsView, world_of}
 use Rattle.ipx_net.specs.AnswerView.{AnswerView, Parcels}
-use Rattle.ipx_net.specs.BookView.{BookView}
-use Rattle.ipx_net.specs.GrowthView.{GrowsWorld, GrowthView, growth_view}
+use Rattle.ipx_net.specs.IndexedLogView.{IndexedLogView}
+use Rattle.ipx_net.specs.StepResultView.{GrowsWorld, StepResultView, step_result_view}
 use Rattle.ipx_net.specs.HostEvents.{DeliveringToHost, DeliversSo}
 use Rattle.ipx_net.specs.NetEvents.{BesideRouters}
 use Rattle.ipx_net.specs.NetFaults.{member_fault, network_of_host, network_of_port, place_fault, segment_fault}
@@ -28,28 +28,28 @@ use Rattle.ipx_net.specs.NetView.{NetNow, net_of}
 use Rattle.ipx_net.specs.Parcels.{parcel_view, parcel_views}
 use Rattle.ipx_net.specs.RouterEvents.{DeliveringToRouter, MemberPolled, MemberReached, PollingRouter, RouterDoes, numbers, routed_growth}
 use Rattle.ipx_net.specs.RouterMembers.{letters_of, network_of, port_at}
-use Rattle.ipx_net.specs.declared.growth.Growth.{Growth}
+use Rattle.ipx_net.specs.declared.step_result.StepResult.{StepResult}
 use Rattle.ipx_net.specs.declared.parcel.Parcel.{Parcel}
 use Rattle.ipx_net.specs.declared.routers.RouterNow.{RouterNow}
 use Rattle.ipx_net.proofs.ParcelPlaces.{view_at}
 use Rattle.ipx_net.proofs.RouterSteps.{carried_on, own_letters}
 
 -- the net with what an event added
-abbrev pub after : HostsView → List RouterNow → BookView → GrowthView → ℕ → NetNow
+abbrev pub after : HostsView → List RouterNow → IndexedLogView → StepResultView → ℕ → NetNow
 after hosts routers b g now = net_of hosts routers (b.parcels ++ g.parcels) (b.log ++ g.notes) now
 
-abbrev pub before : HostsView → List RouterNow → BookView → ℕ → NetNow
+abbrev pub before : HostsView → List RouterNow → IndexedLogView → ℕ → NetNow
 before hosts routers b now = net_of hosts routers b.parcels b.log now
 
-pub happened : {E : Type 0} (P : AnswerView → World → World → Type 0) (r : Result Growth E) (old new : HostsView) (routers : List RouterNow) (b : BookView) (first now : ℕ)
-    → length b.parcels ≡ first → IfOk r (λ g. GrowsWorld old new first now (growth_view g) P)
-    → IfOk r (λ g. BesideRouters P (growth_view g).answer (before old routers b now) (after new routers b (growth_view g) now))
+pub happened : {E : Type 0} (P : AnswerView → World → World → Type 0) (r : Result StepResult E) (old new : HostsView) (routers : List RouterNow) (b : IndexedLogView) (first now : ℕ)
+    → length b.parcels ≡ first → IfOk r (λ g. GrowsWorld old new first now (step_result_view g) P)
+    → IfOk r (λ g. BesideRouters P (step_result_view g).answer (before old routers b now) (after new routers b (step_result_view g) now))
 happened P (Ok g) old new routers b first now count grows = (grows b.parcels b.log count, refl)
 happened P (Err e) old new routers b first now count grows = tt
 
 -- ---- a parcel where it is delivered
 
-pub letter_at : (ps : List Parcel) (b : BookView) (k : ℕ) (p : Parcel) → parcel_views ps ≡ b.parcels → k < length ps → p ≡ get_or ps k p → slice_get b.parcels k ≡ Some (parcel_view p)
+pub letter_at : (ps : List Parcel) (b : IndexedLogView) (k : ℕ) (p : Parcel) → parcel_views ps ≡ b.parcels → k < length ps → p ≡ get_or ps k p → slice_get b.parcels k ≡ Some (parcel_view p)
 letter_at ps b k p views within read =
     ap (λ (vs : List ParcelView). slice_get vs k) (sym views) ∙ view_at ps k ∙ ap (option_map parcel_view) (slice_get_read ps (length ps) k p refl within read)
 
@@ -67,12 +67,12 @@ on_segment segment (Some other) network none is =
     sym same ∙ same_network other segment ((Decides-eqb other.0 segment.0).0 (member_there (other.0 == segment.0) none))
 
 -- the place is on the network of the parcel
-segment_there : (b : BookView) (k : ℕ) (l : ParcelView) (o : Option Network) (network : Network) → place_fault (slice_get b.parcels k) o ≡ None → slice_get b.parcels k ≡ Some l → o ≡ Some network → network ≡ l.segment
+segment_there : (b : IndexedLogView) (k : ℕ) (l : ParcelView) (o : Option Network) (network : Network) → place_fault (slice_get b.parcels k) o ≡ None → slice_get b.parcels k ≡ Some l → o ≡ Some network → network ≡ l.segment
 segment_there b k l o network none at is =
     let there : place_fault (Some l) o ≡ None = ap (λ (x : Option ParcelView). place_fault x o) (sym at) ∙ none in
     on_segment l.segment o network there is
 
-pub delivered_host : (old new : HostsView) (routers : List RouterNow) (b : BookView) (host parcel now : ℕ) (l : ParcelView) (g : GrowthView)
+pub delivered_host : (old new : HostsView) (routers : List RouterNow) (b : IndexedLogView) (host parcel now : ℕ) (l : ParcelView) (g : StepResultView)
     → slice_get b.parcels parcel ≡ Some l → place_fault (slice_get b.parcels parcel) (network_of_host (slice_get old.stations host)) ≡ None
     → DeliversSo old host parcel l.bytes now g new
     → BesideRouters (DeliveringToHost parcel host) g.answer (before old routers b now) (after new routers b g now)
@@ -103,7 +103,7 @@ delivered_host old new routers b host parcel now l g at sound d =
 
 -- ---- routers
 
-tells_of : (hosts : HostsView) (b : BookView) (router now first : ℕ) (ports : List Port) (sent : List SendingView) → length b.parcels ≡ first → AreOwn sent
+tells_of : (hosts : HostsView) (b : IndexedLogView) (router now first : ℕ) (ports : List Port) (sent : List SendingView) → length b.parcels ≡ first → AreOwn sent
     → GivesOwnLetters (world_of hosts b.parcels b.log now) router (letters_of router ports sent) (world_of hosts (b.parcels ++ letters_of router ports sent) (b.log ++ told_notes router first (letters_of router ports sent)) now)
 tells_of hosts b router now first ports sent count own =
     record {
@@ -115,11 +115,11 @@ tells_of hosts b router now first ports sent count own =
       moment = refl;
     }
 
-pub polled_router : (hosts : HostsView) (routers routers' : List RouterNow) (b : BookView) (router first now : ℕ) (g : GrowthView) → length b.parcels ≡ first
+pub polled_router : (hosts : HostsView) (routers routers' : List RouterNow) (b : IndexedLogView) (router first now : ℕ) (g : StepResultView) → length b.parcels ≡ first
     → MemberPolled routers router first now g routers'
     → PollingRouter router g.answer (before hosts routers b now) (after hosts routers' b g now)
 polled_router hosts routers routers' b router first now g count m =
-    subst (λ (x : GrowthView). PollingRouter router x.answer (before hosts routers b now) (after hosts routers' b x now)) (sym m.grows) (record {
+    subst (λ (x : StepResultView). PollingRouter router x.answer (before hosts routers b now) (after hosts routers' b x now)) (sym m.grows) (record {
       before = m.before;
       there = m.there;
       after = m.after;
@@ -130,7 +130,7 @@ polled_router hosts routers routers' b router first now g count m =
       routers = m.routers;
     })
 
-does : (hosts : HostsView) (b : BookView) (router port parcel first now : ℕ) (r : RouterView) (l : ParcelView) (o : OutcomeView) → length b.parcels ≡ first → slice_get b.parcels parcel ≡ Some l
+does : (hosts : HostsView) (b : IndexedLogView) (router port parcel first now : ℕ) (r : RouterView) (l : ParcelView) (o : OutcomeView) → length b.parcels ≡ first → slice_get b.parcels parcel ≡ Some l
     → network_of (port_at r.ports port) ≡ l.segment → All IsOwnNetwork r.ports → ForwardsOneHopOn r port l.bytes o → AreOwn (replies_of o)
     → RouterDoes parcel router r.ports o (routed_growth router r.ports parcel first o).answer (world_of hosts b.parcels b.log now)
     (world_of hosts (b.parcels ++ (routed_growth router r.ports parcel first o).parcels) (b.log ++ (routed_growth router r.ports parcel first o).notes) now)
@@ -158,7 +158,7 @@ port_on : (segment : Network) (o : Option Port) → segment_fault segment (optio
 port_on segment None none = absurd (cc none)
 port_on segment (Some p) none = on_segment segment (Some p.network) p.network none refl
 
-pub reached_router : (hosts : HostsView) (routers routers' : List RouterNow) (b : BookView) (router port parcel first now : ℕ) (l : ParcelView) (g : GrowthView) → length b.parcels ≡ first
+pub reached_router : (hosts : HostsView) (routers routers' : List RouterNow) (b : IndexedLogView) (router port parcel first now : ℕ) (l : ParcelView) (g : StepResultView) → length b.parcels ≡ first
     → slice_get b.parcels parcel ≡ Some l → place_fault (slice_get b.parcels parcel) (network_of_port (slice_get routers router) port) ≡ None
     → MemberReached routers router port parcel l.bytes first now g routers'
     → DeliveringToRouter parcel router port g.answer (before hosts routers b now) (after hosts routers' b g now)
@@ -166,7 +166,7 @@ reached_router hosts routers routers' b router port parcel first now l g count a
     let placed : place_fault (Some l) (network_of_port (Some m.before) port) ≡ None =
     ap (λ (x : Option ParcelView). place_fault x (network_of_port (Some m.before) port)) (sym at) ∙ ap (λ (x : Option RouterNow). place_fault (slice_get b.parcels parcel) (network_of_port x port)) (sym m.there) ∙ sound in
     let segment : network_of (port_at m.before.router.ports port) ≡ l.segment = port_on l.segment (port_at m.before.router.ports port) placed in
-    subst (λ (x : GrowthView). DeliveringToRouter parcel router port x.answer (before hosts routers b now) (after hosts routers' b x now)) (sym m.grows) (record {
+    subst (λ (x : StepResultView). DeliveringToRouter parcel router port x.answer (before hosts routers b now) (after hosts routers' b x now)) (sym m.grows) (record {
       letter = l;
       comes = at;
       before = m.before;
@@ -180,38 +180,38 @@ reached_router hosts routers routers' b router port parcel first now l g count a
       routers = m.routers;
     })
 
-pub counted : (ps : List Parcel) (b : BookView) → parcel_views ps ≡ b.parcels → length b.parcels ≡ length ps
+pub counted : (ps : List Parcel) (b : IndexedLogView) → parcel_views ps ≡ b.parcels → length b.parcels ≡ length ps
 counted ps b views = ap length (sym views) ∙ length-map ps parcel_view
 
 -- ---- of calls that may want memory
 
-pub polled_ok : {E : Type 0} (r : Result Growth E) (hosts : HostsView) (routers routers' : List RouterNow) (b : BookView) (router first now : ℕ) → length b.parcels ≡ first
-    → IfOk r (λ g. MemberPolled routers router first now (growth_view g) routers')
-    → IfOk r (λ g. PollingRouter router (growth_view g).answer (before hosts routers b now) (after hosts routers' b (growth_view g) now))
-polled_ok (Ok g) hosts routers routers' b router first now count m = polled_router hosts routers routers' b router first now (growth_view g) count m
+pub polled_ok : {E : Type 0} (r : Result StepResult E) (hosts : HostsView) (routers routers' : List RouterNow) (b : IndexedLogView) (router first now : ℕ) → length b.parcels ≡ first
+    → IfOk r (λ g. MemberPolled routers router first now (step_result_view g) routers')
+    → IfOk r (λ g. PollingRouter router (step_result_view g).answer (before hosts routers b now) (after hosts routers' b (step_result_view g) now))
+polled_ok (Ok g) hosts routers routers' b router first now count m = polled_router hosts routers routers' b router first now (step_result_view g) count m
 polled_ok (Err e) hosts routers routers' b router first now count m = tt
 
-pub delivered_ok : {E : Type 0} (r : Result Growth E) (old new : HostsView) (routers : List RouterNow) (b : BookView) (host parcel now : ℕ) (l : ParcelView) (bytes : List ℕ)
+pub delivered_ok : {E : Type 0} (r : Result StepResult E) (old new : HostsView) (routers : List RouterNow) (b : IndexedLogView) (host parcel now : ℕ) (l : ParcelView) (bytes : List ℕ)
     → bytes ≡ l.bytes → slice_get b.parcels parcel ≡ Some l → place_fault (slice_get b.parcels parcel) (network_of_host (slice_get old.stations host)) ≡ None
-    → IfOk r (λ g. DeliversSo old host parcel bytes now (growth_view g) new)
-    → IfOk r (λ g. BesideRouters (DeliveringToHost parcel host) (growth_view g).answer (before old routers b now) (after new routers b (growth_view g) now))
+    → IfOk r (λ g. DeliversSo old host parcel bytes now (step_result_view g) new)
+    → IfOk r (λ g. BesideRouters (DeliveringToHost parcel host) (step_result_view g).answer (before old routers b now) (after new routers b (step_result_view g) now))
 delivered_ok (Ok g) old new routers b host parcel now l bytes same at sound d =
-    delivered_host old new routers b host parcel now l (growth_view g) at sound (subst (λ bs. DeliversSo old host parcel bs now (growth_view g) new) same d)
+    delivered_host old new routers b host parcel now l (step_result_view g) at sound (subst (λ bs. DeliversSo old host parcel bs now (step_result_view g) new) same d)
 delivered_ok (Err e) old new routers b host parcel now l bytes same at sound d = tt
 
-pub reached_ok : {E : Type 0} (r : Result Growth E) (hosts : HostsView) (routers routers' : List RouterNow) (b : BookView) (router port parcel first now : ℕ) (l : ParcelView) (bytes : List ℕ)
+pub reached_ok : {E : Type 0} (r : Result StepResult E) (hosts : HostsView) (routers routers' : List RouterNow) (b : IndexedLogView) (router port parcel first now : ℕ) (l : ParcelView) (bytes : List ℕ)
     → bytes ≡ l.bytes → length b.parcels ≡ first → slice_get b.parcels parcel ≡ Some l → place_fault (slice_get b.parcels parcel) (network_of_port (slice_get routers router) port) ≡ None
-    → IfOk r (λ g. MemberReached routers router port parcel bytes first now (growth_view g) routers')
-    → IfOk r (λ g. DeliveringToRouter parcel router port (growth_view g).answer (before hosts routers b now) (after hosts routers' b (growth_view g) now))
+    → IfOk r (λ g. MemberReached routers router port parcel bytes first now (step_result_view g) routers')
+    → IfOk r (λ g. DeliveringToRouter parcel router port (step_result_view g).answer (before hosts routers b now) (after hosts routers' b (step_result_view g) now))
 reached_ok (Ok g) hosts routers routers' b router port parcel first now l bytes same count at sound m =
-    reached_router hosts routers routers' b router port parcel first now l (growth_view g) count at sound (subst (λ bs. MemberReached routers router port parcel bs first now (growth_view g) routers') same m)
+    reached_router hosts routers routers' b router port parcel first now l (step_result_view g) count at sound (subst (λ bs. MemberReached routers router port parcel bs first now (step_result_view g) routers') same m)
 reached_ok (Err e) hosts routers routers' b router port parcel first now l bytes same count at sound m = tt
 
 none_missing : (o : Option ParcelView) (n : Option Network) → place_fault o n ≡ None → (l : ParcelView) × (o ≡ Some l)
 none_missing None n none = absurd (cc none)
 none_missing (Some l) n none = (l, refl)
 
-pub parcel_within : (ps : List Parcel) (b : BookView) (k : ℕ) (n : Option Network) → parcel_views ps ≡ b.parcels → place_fault (slice_get b.parcels k) n ≡ None → k < length ps
+pub parcel_within : (ps : List Parcel) (b : IndexedLogView) (k : ℕ) (n : Option Network) → parcel_views ps ≡ b.parcels → place_fault (slice_get b.parcels k) n ≡ None → k < length ps
 parcel_within ps b k n views none =
     let l : (l : ParcelView) × (slice_get b.parcels k ≡ Some l) = none_missing (slice_get b.parcels k) n none in
     subst (λ m. k < m) (counted ps b views) (slice_get_within b.parcels k l.0 l.1)

@@ -5,21 +5,21 @@ use Rattle.std.proofs.lemmas.Bool.{cond-false}
 use Rattle.ipx_wire.specs.declared.address.Network.{Network}
 use Rattle.spx_units.specs.WrittenPackets.{Home}
 use Rattle.spx_messages.specs.EndpointView.{Held}
-use Rattle.theory_log.specs.Addresses.{AddressesTellPeers}
-use Rattle.theory_log.specs.Allocation.{AloneReadsNothing, WithinAllocation}
-use Rattle.theory_log.specs.Carried.{RoutersAlterHopsAlone}
-use Rattle.theory_log.specs.Close.{AcknowledgedIsRead, ConfirmedIsRead, EndTakenIsWhole}
-use Rattle.theory_log.specs.Deeds.{Reached}
-use Rattle.theory_log.specs.EndsTold.{EndsAreTold}
-use Rattle.theory_log.specs.EntriesOfEnds.{EntriesTellEnds}
-use Rattle.theory_log.specs.HandedOut.{HandsOutWhatItTook}
-use Rattle.theory_log.specs.InStep.{PeersAreInStep}
-use Rattle.theory_log.specs.InSteps.{PairsTakeSteps}
-use Rattle.theory_log.specs.Note.{Note}
-use Rattle.theory_log.specs.Numbered.{NumbersAreInOrder}
-use Rattle.theory_log.specs.Scene.{Scene, Stand}
-use Rattle.theory_log.specs.SentUnits.{LinksSendInOrder, UnitsAreSentInOrder}
-use Rattle.theory_log.specs.UnitsOfEnds.{UnitsAreCuts}
+use Rattle.spx_theory.specs.Addresses.{AddressesTellPeers}
+use Rattle.spx_theory.specs.Allocation.{AloneReadsNothing, WithinAllocation}
+use Rattle.spx_theory.specs.Carried.{RoutersAlterHopsAlone}
+use Rattle.spx_theory.specs.Close.{AcknowledgedIsRead, ConfirmedIsRead, EndTakenIsWhole}
+use Rattle.spx_theory.specs.Deeds.{Reached}
+use Rattle.spx_theory.specs.EndsTold.{EndsAreTold}
+use Rattle.spx_theory.specs.EntriesOfEnds.{EntriesTellEnds}
+use Rattle.spx_theory.specs.HandedOut.{HandsOutWhatItTook}
+use Rattle.spx_theory.specs.InStep.{PeersAreInStep}
+use Rattle.spx_theory.specs.InSteps.{PairsTakeSteps}
+use Rattle.spx_theory.specs.Note.{Note}
+use Rattle.spx_theory.specs.Numbered.{NumbersAreInOrder}
+use Rattle.spx_theory.specs.Scene.{Scene, Stand}
+use Rattle.spx_theory.specs.SentUnits.{LinksSendInOrder, UnitsAreSentInOrder}
+use Rattle.spx_theory.specs.UnitsOfEnds.{UnitsAreCuts}
 use Rattle.ipx_recovery.specs.Stuck.{NoPairIsStuck, NoStateIsStuck, NothingIsStuckByAddresses}
 use Rattle.theory_steps.specs.World.{EndNow, InOrder, HostState, World, bytes_of, held_in, held_of, home_at, scene_of, segment_of, stand_of, stand_with}
 use Rattle.ipx_net.specs.NetReach.{GoesOn, IsKept}
@@ -29,7 +29,7 @@ use Rattle.ipx_net.specs.Theorems.{AloneHandsOutNothing, AreNumbered, AreRelease
 abbrev pub IsLaw : (Scene → Type 0) → Type 0
 IsLaw P = (s : Scene) → Reached s → P s
 
--- the laws of scenes, each a clause of a function of `theory_log` or `ipx_recovery`
+-- the laws of scenes, each a clause of a function of `spx_theory` or `ipx_recovery`
 pub record SceneLaws : Type 0 where
   pub carried : IsLaw RoutersAlterHopsAlone
   pub sent : IsLaw UnitsAreSentInOrder

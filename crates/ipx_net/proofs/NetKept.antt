@@ -1,12 +1,12 @@
 -- A network that takes an event goes on.
 use Rattle.std.proofs.Common.{ℕ, ◌≡◌, ◌++◌, List, Bool, true, false, cond, Option, None, Some, Result, Ok, Err, OnOk, refl, sym, subst}
 use Rattle.std.specs.Result.{is_err}
-use Rattle.theory_log.specs.Deeds.{Reached}
+use Rattle.spx_theory.specs.Deeds.{Reached}
 use Rattle.theory_steps.specs.WorldStep.{WorldStep}
 use Rattle.theory_steps.specs.World.{InOrder, World, scene_of}
 use Rattle.ipx_net_hosts.specs.Hosts.{HostsView, world_of}
-use Rattle.ipx_net.specs.BookView.{BookView, written_on}
-use Rattle.ipx_net.specs.GrowthView.{GrowthView}
+use Rattle.ipx_net.specs.IndexedLogView.{IndexedLogView, written_on}
+use Rattle.ipx_net.specs.StepResultView.{StepResultView}
 use Rattle.ipx_net.specs.NetEvents.{Happens}
 use Rattle.ipx_net.specs.NetFaults.{first_fault}
 use Rattle.ipx_net.specs.NetReach.{GoesOn, IsKept}
@@ -31,7 +31,7 @@ ok_holds (Err y) P is p = absurd (cc is)
 kept_going : (w : World) (spent : Bool) → spent ≡ false → IsKept w spent → GoesOn w
 kept_going w spent is kept = subst (IsKept w) is kept
 
-pub goes_on : (hosts hosts' : HostsView) (routers routers' : List RouterNow) (b b' : BookView) (g : GrowthView) (now now' : ℕ) (spent : Bool) (e : Event)
+pub goes_on : (hosts hosts' : HostsView) (routers routers' : List RouterNow) (b b' : IndexedLogView) (g : StepResultView) (now now' : ℕ) (spent : Bool) (e : Event)
     → ((old new : World) → InOrder old → WorldStep old new → InOrder new)
     → ((old new : World) → InOrder old → Reached (scene_of old) → WorldStep old new → Reached (scene_of new))
     → spent ≡ false → IsKept (world_of hosts b.parcels b.log now) spent
@@ -43,5 +43,5 @@ goes_on hosts hosts' routers routers' b b' g now now' spent e order reached goin
     let was : GoesOn old = kept_going old spent going kept in
     let step : WorldStep old new = happens_step e g.answer (net_of hosts routers b.parcels b.log now) (net_of hosts' routers' (b.parcels ++ g.parcels) (b.log ++ g.notes) now') happens in
     let is : GoesOn new = record { order = order old new was.order step; reached = reached old new was.order was.reached step } in
-    let there : GoesOn (world_of hosts' b'.parcels b'.log now') = subst (λ (x : BookView). GoesOn (world_of hosts' x.parcels x.log now')) (sym written) is in
+    let there : GoesOn (world_of hosts' b'.parcels b'.log now') = subst (λ (x : IndexedLogView). GoesOn (world_of hosts' x.parcels x.log now')) (sym written) is in
     subst (IsKept (world_of hosts' b'.parcels b'.log now')) (sym going) there

@@ -42,7 +42,7 @@ happens_step (Events.Take who) a o n h = elim h.0 [
   | inr more ↦ elim more [ inl l ↦ Taken who (Err overlong) l.1 | inr r ↦ refusal who _ a o.world n.world r.1 ]
 ]
 happens_step (Events.Close who) a o n h = elim h.0 [ inl d ↦ Closed who d.2 | inr r ↦ refusal who r.0 a o.world n.world r.2 ]
-happens_step (Events.Pace who window by_hand) a o n h = Paced who window by_hand h.0.1
+happens_step (Events.Pace who window manual) a o n h = Paced who window manual h.0.1
 happens_step (Events.Again who place) a o n h = AskedAgain who place h.0.1
 happens_step (Events.Release who) a o n h = Released who h.0.1
 happens_step (Events.Tick now) a o n h = Ticked now h.0.1

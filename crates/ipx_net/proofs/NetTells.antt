@@ -1,8 +1,8 @@
 -- What is told of ends is right after an event, and after want of memory.
 use Rattle.std.proofs.Common.{ℕ, ◌≡◌, ◌≤◌, List, [], true, false, Option, None, Some, length, take, refl, sym, ap, subst, ◌∙◌, arith, length-take}
 use Rattle.std.proofs.lemmas.List.{length-map}
-use Rattle.theory_log.specs.EndsTold.{EndsAreTold}
-use Rattle.theory_log.specs.Note.{Note}
+use Rattle.spx_theory.specs.EndsTold.{EndsAreTold}
+use Rattle.spx_theory.specs.Note.{Note}
 use Rattle.std.specs.Prelude.{slice_get}
 use Rattle.theory_steps.specs.World.{EndNow, InOrder, World, scene_of, stand_of}
 use Rattle.ipx_net.specs.AnswerView.{AnswerView}

@@ -5,14 +5,14 @@ use Rattle.std.specs.Option.{option_eq}
 use Rattle.std.proofs.lemmas.Option.{slice_get-get_or, slice_get-map}
 use Rattle.std.proofs.lemmas.Bool.{not-false}
 use Rattle.std.proofs.lemmas.List.{length-map}
-use Rattle.theory_log.specs.Note.{Note}
-use Rattle.theory_log.specs.Scan.{Each, Scan, scan}
-use Rattle.theory_log.specs.Peers.{ArePeers, IsFresh, IsRecent}
-use Rattle.theory_log.specs.Handed.{handed_in, handed_out, IsBeginning}
-use Rattle.theory_log.specs.EndsTold.{PeerIsFound, peer_in, peer_of}
+use Rattle.spx_theory.specs.Note.{Note}
+use Rattle.spx_theory.specs.Scan.{Each, Scan, scan}
+use Rattle.spx_theory.specs.Peers.{ArePeers, IsFresh, IsRecent}
+use Rattle.spx_theory.specs.Handed.{handed_in, handed_out, IsBeginning}
+use Rattle.spx_theory.specs.EndsTold.{PeerIsFound, peer_in, peer_of}
 use Rattle.ipx_net.specs.Begins.{Begins}
 use Rattle.ipx_net.specs.Sights.{reading_view, scan_of}
-use Rattle.ipx_net.specs.declared.scanned.Scanned.{Scanned}
+use Rattle.ipx_net.specs.declared.log_index.LogIndex.{LogIndex}
 
 -- of an end with this peer
 pub with_peer : (log : List Note) (end peer : ℕ) → ((s : Scan) (c d : ℕ) → PeerIsFound s c d) → end < length (scan log).roles → peer_of log end ≡ Some peer
@@ -53,7 +53,7 @@ is_this None m e = cc
 is_this (Some k) m e = ap Some (eqb-true k m (not-false (nat_eq k m) e))
 
 -- readings that are recent, by what is kept of them
-pub fresh_by : (P : Type 0) (log : List Note) (kept : Scanned) → scan log ≡ scan_of kept → (P ↔ All (λ r. IsRecent (scan_of kept) (reading_view r)) kept.readings.items) → P ↔ IsFresh log
+pub fresh_by : (P : Type 0) (log : List Note) (kept : LogIndex) → scan log ≡ scan_of kept → (P ↔ All (λ r. IsRecent (scan_of kept) (reading_view r)) kept.readings.items) → P ↔ IsFresh log
 fresh_by P log kept same answer =
     let each = each_all (IsRecent (scan_of kept)) reading_view kept.readings.items in
     let there : Each (IsRecent (scan_of kept)) (scan_of kept).readings → IsFresh log = λ h. subst (λ (s : Scan). Each (IsRecent s) s.readings) (sym same) h in
@@ -61,7 +61,7 @@ fresh_by P log kept same answer =
     (λ p. there (each.0 (answer.0 p)), λ h. answer.1 (each.1 (back h)))
 
 -- whether what an end with a peer handed out is a beginning, by what is kept of the log
-pub begins_with : (P : Type 0) (log : List Note) (kept : Scanned) (end peer : ℕ) → ((s : Scan) (c d : ℕ) → PeerIsFound s c d) → scan log ≡ scan_of kept → end < length kept.roles.items
+pub begins_with : (P : Type 0) (log : List Note) (kept : LogIndex) (end peer : ℕ) → ((s : Scan) (c d : ℕ) → PeerIsFound s c d) → scan log ≡ scan_of kept → end < length kept.roles.items
     → peer_in (scan_of kept) end ≡ Some peer → (P ↔ IsBeginning (handed_out end log) (handed_in peer log)) → P ↔ Begins log end
 begins_with P log kept end peer found same within is answer =
     let there : end < length (scan_of kept).roles = rw length-map within in

@@ -11,8 +11,8 @@ use Rattle.ipx_router.specs.OutcomeView.{Forward}
 use Rattle.ipx_router.specs.RouterPackets.{AreOwn, IsOwn, SendingView}
 use Rattle.ipx_router.specs.Ports.{IsPort}
 use Rattle.ipx_router.specs.RouterView.{RouterView}
-use Rattle.theory_log.specs.PacketsOnWay.{IsOneOn}
-use Rattle.theory_log.specs.Scan.{Each}
+use Rattle.spx_theory.specs.PacketsOnWay.{IsOneOn}
+use Rattle.spx_theory.specs.Scan.{Each}
 use Rattle.theory_steps.specs.Routers.{IsOwnLetter}
 use Rattle.ipx_net.specs.RouterMembers.{letter_of, letters_of, network_of, port_at}
 

@@ -3,9 +3,9 @@ use Rattle.std.proofs.Common.{◌≡◌, ◌<◌, ◌≤◌, ◌+◌, ℕ, zero,
 use Rattle.std.specs.Prelude.{slice_index_or}
 use Rattle.std.proofs.lemmas.List.{map-append, map-set, length_push, get_or_default, drop_more}
 use Rattle.std.proofs.lemmas.List.Elements.{All-push}
-use Rattle.theory_log.specs.Note.{Note}
-use Rattle.theory_log.specs.Scan.{Scan, joined_by, no_role, scan, seen, seen_all, unread}
-use Rattle.theory_log.specs.Scan as Scans
+use Rattle.spx_theory.specs.Note.{Note}
+use Rattle.spx_theory.specs.Scan.{Scan, joined_by, no_role, scan, seen, seen_all, unread}
+use Rattle.spx_theory.specs.Scan as Scans
 use Rattle.ipx_net.specs.LogEntries.{entry_note, entry_notes}
 use Rattle.ipx_net.specs.Sights.{role_view}
 use Rattle.ipx_net.specs.declared.entry.Entry.{Entry}

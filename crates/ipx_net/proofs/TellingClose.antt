@@ -4,9 +4,9 @@ use Rattle.std.specs.Prelude.{slice_get}
 use Rattle.spx_link.specs.declared.state.State.{State}
 use Rattle.spx_link.specs.declared.state.State.TheVariants.{Confirmed}
 use Rattle.spx_messages.specs.EndpointView.{Held}
-use Rattle.theory_log.specs.EndsTold.{PeerIsFound}
-use Rattle.theory_log.specs.Peers.{ArePeersIn}
-use Rattle.theory_log.specs.Scan.{Scan, scan}
+use Rattle.spx_theory.specs.EndsTold.{PeerIsFound}
+use Rattle.spx_theory.specs.Peers.{ArePeersIn}
+use Rattle.spx_theory.specs.Scan.{Scan, scan}
 use Rattle.theory_steps.specs.World.{EndNow, World, held_of, stand_of, stand_with}
 use Rattle.ipx_net_hosts.specs.EndTelling.{state_of}
 use Rattle.ipx_net.specs.Ends.{TellsClosed, TellsEnded, TellsLog, TellsOpened, TellsReleased, TellsStands, told_of}

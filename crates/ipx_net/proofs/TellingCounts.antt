@@ -4,11 +4,11 @@ use Rattle.std.proofs.lemmas.Bool.{eqb-false}
 use Rattle.std.proofs.lemmas.List.{map-append, get_or-set_same, get_or-set_other, take-append-drop, take_more, drop_more, set_past}
 use Rattle.spx_units.specs.Message.{MessageView}
 use Rattle.spx_link.specs.SequenceMarks.{mark}
-use Rattle.theory_log.specs.Handed.{gathered, handed_in, handed_out, in_by, out_by}
-use Rattle.theory_log.specs.Note.{Note, Opened, Accepted, Joined, HandsIn, HandsOut, TakesUnit, AsksEnd, Got, Released, SendsUnit, SendsAgain, SendsSystem, Told, Carried, Injected}
-use Rattle.theory_log.specs.Numbered.{IsNumbered}
-use Rattle.theory_log.specs.Scan.{Scan, asker, joined_by, mark_of, role_of, scan, seen, times, unread}
-use Rattle.theory_log.specs.SentUnits.{sent_by}
+use Rattle.spx_theory.specs.Handed.{gathered, handed_in, handed_out, in_by, out_by}
+use Rattle.spx_theory.specs.Note.{Note, Opened, Accepted, Joined, HandsIn, HandsOut, TakesUnit, AsksEnd, Got, Released, SendsUnit, SendsAgain, SendsSystem, Told, Carried, Injected}
+use Rattle.spx_theory.specs.Numbered.{IsNumbered}
+use Rattle.spx_theory.specs.Scan.{Scan, asker, joined_by, mark_of, role_of, scan, seen, times, unread}
+use Rattle.spx_theory.specs.SentUnits.{sent_by}
 use Rattle.ipx_net.specs.Ends.{nobody, told_of}
 use Rattle.ipx_net.specs.LogEntries.{entry_note, entry_notes}
 use Rattle.ipx_net.specs.Theorems.{AreNumbered}

@@ -4,11 +4,11 @@ use Rattle.std.specs.Prelude.{slice_get}
 use Rattle.std.proofs.lemmas.Bool.{cases_eq}
 use Rattle.std.proofs.lemmas.List.{map-append, take-append-drop, take_all}
 use Rattle.std.proofs.lemmas.Option.{get_or_from_slice_get, same_Some, slice_get_within}
-use Rattle.theory_log.specs.EndsTold.{PeerIsFound, peer_in, peer_of}
-use Rattle.theory_log.specs.Note.{Note, Opened, Accepted, Joined, HandsIn, HandsOut, TakesUnit, AsksEnd, Got, Released, SendsUnit, SendsAgain, SendsSystem, Told, Carried, Injected}
-use Rattle.theory_log.specs.Numbered.{IsNumbered}
-use Rattle.theory_log.specs.Peers.{AreJoined, ArePeersIn}
-use Rattle.theory_log.specs.Scan.{Maker, Role, Scan, asker, joined_by, mark_of, no_role, role_of, scan, seen, seen_all, unread}
+use Rattle.spx_theory.specs.EndsTold.{PeerIsFound, peer_in, peer_of}
+use Rattle.spx_theory.specs.Note.{Note, Opened, Accepted, Joined, HandsIn, HandsOut, TakesUnit, AsksEnd, Got, Released, SendsUnit, SendsAgain, SendsSystem, Told, Carried, Injected}
+use Rattle.spx_theory.specs.Numbered.{IsNumbered}
+use Rattle.spx_theory.specs.Peers.{AreJoined, ArePeersIn}
+use Rattle.spx_theory.specs.Scan.{Maker, Role, Scan, asker, joined_by, mark_of, no_role, role_of, scan, seen, seen_all, unread}
 use Rattle.ipx_net.specs.Ends.{told_of}
 use Rattle.ipx_net.specs.LogEntries.{entry_note, entry_notes}
 use Rattle.ipx_net.specs.Theorems.{AreNumbered}

@@ -3,7 +3,7 @@ use Rattle.std.proofs.Common.{◌≡◌, ◌≢◌, ◌<◌, ◌⊎◌, inl, inr
 use Rattle.std.specs.Prelude.{option_map, slice_get}
 use Rattle.std.proofs.lemmas.Bool.{cases_eq}
 use Rattle.std.proofs.lemmas.Option.{same_Some, slice_get_within}
-use Rattle.theory_log.specs.Note.{Note}
+use Rattle.spx_theory.specs.Note.{Note}
 use Rattle.ipx_router.specs.OutcomeView as Outcomes
 use Rattle.ipx_router.specs.OutcomeView.{OutcomeView}
 use Rattle.ipx_router.specs.declared.port.Port.{Port}
@@ -161,7 +161,7 @@ happens_only (Events.Take who) a o n h = elim h.0 [
   | inr more ↦ elim more [ inl l ↦ takes_only o.world n.world who (Err overlong) l.1 | inr r ↦ refused_of who _ a o.world n.world r.1 ]
 ]
 happens_only (Events.Close who) a o n h = elim h.0 [ inl d ↦ changes_only o.world n.world who _ _ d.2 | inr r ↦ refused_of who r.0 a o.world n.world r.2 ]
-happens_only (Events.Pace who window by_hand) a o n h = quiet_only o.world n.world who _ h.0.1
+happens_only (Events.Pace who window manual) a o n h = quiet_only o.world n.world who _ h.0.1
 happens_only (Events.Again who place) a o n h = quiet_only o.world n.world who _ h.0.1
 happens_only (Events.Release who) a o n h = releases_only o.world n.world who h.0.1
 happens_only (Events.Tick now) a o n h = unmoved None o.world n.world h.0.1.hosts h.0.1.ends

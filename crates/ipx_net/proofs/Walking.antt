@@ -3,8 +3,8 @@ use Rattle.std.proofs.Common.{◌≡◌, ◌<◌, ◌≤◌, ◌+◌, ◌↔◌,
 use Rattle.std.specs.Prelude.{IsTrue, false, true}
 use Rattle.std.proofs.lemmas.List.{drop_all, drop_more}
 use Rattle.spx_units.specs.Message.{MessageView}
-use Rattle.theory_log.specs.Note.{Note}
-use Rattle.theory_log.specs.Handed.{gathered, IsBeginning}
+use Rattle.spx_theory.specs.Note.{Note}
+use Rattle.spx_theory.specs.Handed.{gathered, IsBeginning}
 use Rattle.ipx_net.specs.declared.entry.Entry.{Entry}
 use Rattle.ipx_net.specs.LogEntries.{entry_note, entry_notes}
 

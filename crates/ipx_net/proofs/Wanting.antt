@@ -14,31 +14,31 @@ use Rattle.spx_messages.specs.declared.fault.EndFault.{EndFault}
 use Rattle.ipx_router.specs.RouterPackets.{SendingView, sending_of, sendings}
 use Rattle.ipx_router.specs.declared.outcome.Reply.{Reply}
 use Rattle.ipx_router.specs.declared.port.Port.{Port}
-use Rattle.theory_log.specs.Note.{Note}
+use Rattle.spx_theory.specs.Note.{Note}
 use Rattle.theory_steps.specs.HostSteps.{TakesOf, arrival_notes, unit_notes, whole_notes}
 use Rattle.theory_steps.specs.World.{EndNow, ParcelView, HostState}
 use Rattle.ipx_net_hosts.specs.Hosts.{DeliveredAt, HostsView, Noting}
 use Rattle.ipx_net_hosts.specs.Refusing.{end_held, held_by}
 use Rattle.ipx_net.specs.AnswerView.{AnswerView}
-use Rattle.ipx_net.specs.GrowthView.{GrowthView, growth_view}
+use Rattle.ipx_net.specs.StepResultView.{StepResultView, step_result_view}
 use Rattle.ipx_net.specs.HostEvents.{DeliversSo}
 use Rattle.ipx_net.specs.RouterEvents.{told_growth}
 use Rattle.ipx_net.specs.EventWants.{HostWantsMemory, IsMade, TakeIsTold}
-use Rattle.ipx_net.specs.declared.growth.Growth.{Growth}
+use Rattle.ipx_net.specs.declared.step_result.StepResult.{StepResult}
 use Rattle.ipx_net.specs.declared.routers.RouterNow.{RouterNow}
 
 -- an answer alone makes nothing
-pub quiet_is_none : (g : Growth) (a : AnswerView) → growth_view g ≡ record { parcels = []; notes = []; answer = a } → IsMade (Ok g) → ⊥
+pub quiet_is_none : (g : StepResult) (a : AnswerView) → step_result_view g ≡ record { parcels = []; notes = []; answer = a } → IsMade (Ok g) → ⊥
 quiet_is_none g a is made =
-    let P : GrowthView → Type 0 = λ v. 0 < length v.parcels + length v.notes in
+    let P : StepResultView → Type 0 = λ v. 0 < length v.parcels + length v.notes in
     let none : 0 < 0 = subst P is made in
     omega (arith, none)
 
 -- what makes notes alone made something where there are some, or was refused where there were to be some
-pub made_or_refused : {W : Type 0} (r : Result Growth OutOfMemory) (notes : List Note) (a : AnswerView) → IfOk r (λ g. growth_view g ≡ record { parcels = []; notes = notes; answer = a }) → OnErr r (0 < length notes)
+pub made_or_refused : {W : Type 0} (r : Result StepResult OutOfMemory) (notes : List Note) (a : AnswerView) → IfOk r (λ g. step_result_view g ≡ record { parcels = []; notes = notes; answer = a }) → OnErr r (0 < length notes)
     → (0 < length notes → W) → IsMade r → W
 made_or_refused (Ok g) notes a is refused wants made =
-    let P : GrowthView → Type 0 = λ v. 0 < length v.parcels + length v.notes in
+    let P : StepResultView → Type 0 = λ v. 0 < length v.parcels + length v.notes in
     let some : 0 < 0 + length notes = subst P is made in
     wants (omega (arith, some))
 made_or_refused (Err e) notes a is refused wants made = wants refused
@@ -90,7 +90,7 @@ module _ (old : HostsView) (host parcel now : ℕ) (bytes : List ℕ) where
         let some : 0 < length (arrival_notes r d.after who parcel) = subst (λ t. OnErr t (0 < length (arrival_notes r d.after who parcel))) is at_after in
         inr (r, new, d, subst (λ n. 0 < length (arrival_notes r d.after n parcel)) count some)
 
-  pub want_of_growth : (new : HostsView) (g : GrowthView) → DeliversSo old host parcel bytes now g new → 0 < length g.parcels + length g.notes → HostWantsMemory old host parcel bytes now
+  pub want_of_growth : (new : HostsView) (g : StepResultView) → DeliversSo old host parcel bytes now g new → 0 < length g.parcels + length g.notes → HostWantsMemory old host parcel bytes now
   want_of_growth new g d made =
       let P : List ParcelView → Type 0 = λ ps. 0 < length ps + length g.notes in
       let notes : 0 < 0 + length g.notes = subst P d.parcels made in
@@ -110,9 +110,9 @@ some_behind asked told full =
     rw (length-append (sendings asked.items) (sendings told.items), length-map told.items sending_of) (omega (arith, some))
 
 -- what told of packets, told of some
-pub told_of_some : (g : GrowthView) (router : ℕ) (ports : List Port) (first : ℕ) (sent : List SendingView) → g ≡ told_growth router ports first sent → 0 < length g.parcels + length g.notes → 0 < length sent
+pub told_of_some : (g : StepResultView) (router : ℕ) (ports : List Port) (first : ℕ) (sent : List SendingView) → g ≡ told_growth router ports first sent → 0 < length g.parcels + length g.notes → 0 < length sent
 told_of_some g router ports first [] same made =
-    let none : 0 < 0 = subst (λ (v : GrowthView). 0 < length v.parcels + length v.notes) same made in
+    let none : 0 < 0 = subst (λ (v : StepResultView). 0 < length v.parcels + length v.notes) same made in
     absurd (omega (arith, none))
 told_of_some g router ports first (s ∷ sent) same made = omega arith
 

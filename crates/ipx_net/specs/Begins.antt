@@ -1,9 +1,9 @@
 -- What an end handed out, held against what its peer handed in.
 use Rattle.std.specs.Prelude.{ℕ, ◌≡◌, ◌<◌, List, [], length}
-use Rattle.theory_log.specs.Note.{Note}
-use Rattle.theory_log.specs.Scan.{scan}
-use Rattle.theory_log.specs.Peers.{ArePeers}
-use Rattle.theory_log.specs.Handed.{handed_in, handed_out, IsBeginning}
+use Rattle.spx_theory.specs.Note.{Note}
+use Rattle.spx_theory.specs.Scan.{scan}
+use Rattle.spx_theory.specs.Peers.{ArePeers}
+use Rattle.spx_theory.specs.Handed.{handed_in, handed_out, IsBeginning}
 
 -- there is an end of this number, and what it handed out begins what its peer handed in; without a
 -- peer it handed out nothing

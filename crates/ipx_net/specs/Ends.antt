@@ -6,14 +6,14 @@ use Rattle.spx_link.specs.Limits.{end_stream}
 use Rattle.spx_link.specs.LinkView.{LinkView}
 use Rattle.spx_link.specs.Machine.{End}
 use Rattle.spx_link.specs.SequenceMarks.{mark}
-use Rattle.theory_log.specs.Close.{HoldsAll, IsEndInMachine}
-use Rattle.theory_log.specs.EndsTold.{peer_of}
-use Rattle.theory_log.specs.Handed.{handed_in, handed_out, units_of}
-use Rattle.theory_log.specs.Note.{AsksEnd, Note, Opened, Released, TakesUnit}
-use Rattle.theory_log.specs.Peers.{Premises}
-use Rattle.theory_log.specs.Scan.{scan}
-use Rattle.theory_log.specs.Scene.{Stand, Stands}
-use Rattle.theory_log.specs.SentUnits.{sent_by}
+use Rattle.spx_theory.specs.Close.{HoldsAll, IsEndInMachine}
+use Rattle.spx_theory.specs.EndsTold.{peer_of}
+use Rattle.spx_theory.specs.Handed.{handed_in, handed_out, units_of}
+use Rattle.spx_theory.specs.Note.{AsksEnd, Note, Opened, Released, TakesUnit}
+use Rattle.spx_theory.specs.Peers.{Premises}
+use Rattle.spx_theory.specs.Scan.{scan}
+use Rattle.spx_theory.specs.Scene.{Stand, Stands}
+use Rattle.spx_theory.specs.SentUnits.{sent_by}
 use Rattle.theory_steps.specs.World.{EndNow, HostState, World, held_of, scene_of}
 use Rattle.ipx_net_hosts.specs.EndTelling.{state_of}
 use Rattle.ipx_net.specs.NetView.{NetView}

@@ -17,12 +17,12 @@ use Rattle.ipx_router.specs.RouterPackets.{SendingView}
 use Rattle.ipx_router.specs.RouterView.{RouterView}
 use Rattle.ipx_router.specs.Telling.{HasToTell, is_due}
 use Rattle.ipx_router.specs.WantOfMemory.{WantsMemory}
-use Rattle.theory_log.specs.Note.{Note}
+use Rattle.spx_theory.specs.Note.{Note}
 use Rattle.theory_steps.specs.HostSteps.{arrival_notes, unit_notes, whole_notes}
 use Rattle.theory_steps.specs.World.{ParcelView, HostState}
 use Rattle.ipx_net_hosts.specs.Hosts.{DeliveredAt, HostsView, PolledAt}
 use Rattle.ipx_net_hosts.specs.Refusing.{close_fault, dial_fault, send_fault}
-use Rattle.ipx_net.specs.GrowthView.{growth_view}
+use Rattle.ipx_net.specs.StepResultView.{step_result_view}
 use Rattle.ipx_net.specs.HostEvents.{held_under}
 use Rattle.ipx_net.specs.NetView.{NetNow}
 use Rattle.ipx_net.specs.RouterMembers.{IsPolled}
@@ -30,7 +30,7 @@ use Rattle.ipx_net.specs.declared.event.Event.{Event}
 use Rattle.ipx_net.specs.declared.event.Event.TheVariants as Events
 use Rattle.ipx_net.specs.declared.event.Member.{Member}
 use Rattle.ipx_net.specs.declared.event.Member.TheVariants as Members
-use Rattle.ipx_net.specs.declared.growth.Growth.{Growth}
+use Rattle.ipx_net.specs.declared.step_result.StepResult.{StepResult}
 use Rattle.ipx_net.specs.declared.place.Place.{Place}
 use Rattle.ipx_net.specs.declared.place.Place.TheVariants as Places
 use Rattle.ipx_net.specs.declared.routers.RouterNow.{RouterNow}
@@ -106,7 +106,7 @@ EventWantsMemory n (Events.Send who message) =
     send_fault (held_under n.world who) (message_view message) ≡ None
 EventWantsMemory n (Events.Take who) = TakeIsTold (held_under n.world who) who
 EventWantsMemory n (Events.Close who) = close_fault (held_under n.world who) ≡ None
-EventWantsMemory n (Events.Pace who window by_hand) = ⊥
+EventWantsMemory n (Events.Pace who window manual) = ⊥
 EventWantsMemory n (Events.Again who place) = ⊥
 EventWantsMemory n (Events.Release who) = Unit {0}
 EventWantsMemory n (Events.Tick now) = ⊥
@@ -119,6 +119,6 @@ EventWantsMemory n (Events.Inject segment next bytes) = Unit {0}
 -- ---- words of the private functions
 
 -- an event made something, or memory was refused as it was to
-abbrev pub IsMade : Result Growth OutOfMemory → Type 0
-IsMade (Ok g) = 0 < length (growth_view g).parcels + length (growth_view g).notes
+abbrev pub IsMade : Result StepResult OutOfMemory → Type 0
+IsMade (Ok g) = 0 < length (step_result_view g).parcels + length (step_result_view g).notes
 IsMade (Err e) = Unit {0}

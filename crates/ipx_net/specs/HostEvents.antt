@@ -15,7 +15,7 @@ use Rattle.theory_steps.specs.EndCalls.{AsksAgainOf, Closes, DialsFrom, PacesOf,
 use Rattle.theory_steps.specs.HostSteps.{Delivers, PollsHost, TakesOf, arrival_notes}
 use Rattle.theory_steps.specs.World.{EndNow, HostState, World, end_at}
 use Rattle.ipx_net.specs.AnswerView.{AnswerView, ArrivedAt, Done, End, Parcels, Refused, Taken}
-use Rattle.ipx_net.specs.GrowthView.{GrowthView}
+use Rattle.ipx_net.specs.StepResultView.{StepResultView}
 
 -- a host refused, and the world is as it was
 abbrev pub RefusedAt : ℕ → EndFault → AnswerView → World → World → Type 0
@@ -54,7 +54,7 @@ Closing who = IsDoneOrRefused (λ old new. Closes old who new) (λ w. close_faul
 
 -- the link of an end that stands gets a window, or a place of it is asked for: neither is refused
 abbrev pub Pacing : ℕ → ℕ → Bool → AnswerView → World → World → Type 0
-Pacing who window by_hand a old new = (a ≡ Done) × PacesOf old who window by_hand new
+Pacing who window manual a old new = (a ≡ Done) × PacesOf old who window manual new
 
 abbrev pub AskingAgain : ℕ → ℕ → AnswerView → World → World → Type 0
 AskingAgain who place a old new = (a ≡ Done) × AsksAgainOf old who place new
@@ -102,7 +102,7 @@ DeliveringToHost parcel host a old new = (r : Arrived) × (d : Delivers old parc
 
 -- the same of the hosts alone, with what it adds to the book
 pub record DeliversSo (old : HostsView) (host parcel : ℕ) (bytes : List ℕ) (now : ℕ)
-    (g : GrowthView) (new : HostsView) : Type 0 where
+    (g : StepResultView) (new : HostsView) : Type 0 where
   pub answer : Arrived
   pub delivered : DeliveredAt old host bytes now answer new
   pub parcels : g.parcels ≡ []

@@ -1,5 +1,5 @@
 pub mod Begins
-pub mod BookView
+pub mod IndexedLogView
 pub mod LogEntries
 pub mod NetFaultNumbers
 pub mod Parcels
@@ -7,7 +7,7 @@ pub mod Places
 pub mod Sights
 pub mod RouterMembers
 pub mod AnswerView
-pub mod GrowthView
+pub mod StepResultView
 pub mod HostEvents
 pub mod Speaking
 pub mod NetView

@@ -7,8 +7,8 @@ use Rattle.theory_steps.specs.World.{World}
 use Rattle.ipx_net.specs.AnswerView.{AnswerView, Done, Parcels}
 use Rattle.ipx_wire.specs.declared.address.Network.{Network}
 use Rattle.ipx_wire.specs.declared.address.Node.{Node}
-use Rattle.theory_log.specs.Note as Notes
-use Rattle.ipx_net.specs.GrowthView.{GrowthView}
+use Rattle.spx_theory.specs.Note as Notes
+use Rattle.ipx_net.specs.StepResultView.{StepResultView}
 use Rattle.ipx_net.specs.HostEvents.{AskingAgain, Closing, DeliveringToHost, Dialling, Pacing, PollingHost, Releasing, Sending, TakingFrom}
 use Rattle.ipx_net.specs.NetView.{NetNow}
 use Rattle.ipx_net.specs.RouterEvents.{DeliveringToRouter, PollingRouter}
@@ -37,7 +37,7 @@ Happens (Events.Dial host socket to buffers) = BesideRouters (Dialling host sock
 Happens (Events.Send who message) = BesideRouters (Sending who (message_view message))
 Happens (Events.Take who) = BesideRouters (TakingFrom who)
 Happens (Events.Close who) = BesideRouters (Closing who)
-Happens (Events.Pace who window by_hand) = BesideRouters (Pacing who window by_hand)
+Happens (Events.Pace who window manual) = BesideRouters (Pacing who window manual)
 Happens (Events.Again who place) = BesideRouters (AskingAgain who place)
 Happens (Events.Release who) = BesideRouters (Releasing who)
 Happens (Events.Tick now) = BesideRouters (λ a old new. (a ≡ Done) × Ticks old now new)
@@ -52,7 +52,7 @@ IsOwed (Events.Dial host socket to buffers) = (0 < buffers) × (buffers ≤ most
 IsOwed (Events.Send who message) = Unit {0}
 IsOwed (Events.Take who) = Unit {0}
 IsOwed (Events.Close who) = Unit {0}
-IsOwed (Events.Pace who window by_hand) = Unit {0}
+IsOwed (Events.Pace who window manual) = Unit {0}
 IsOwed (Events.Again who place) = Unit {0}
 IsOwed (Events.Release who) = Unit {0}
 IsOwed (Events.Tick now) = Unit {0}
@@ -61,7 +61,7 @@ IsOwed (Events.Deliver parcel place) = Unit {0}
 IsOwed (Events.Inject segment next bytes) = Unit {0}
 
 -- what a packet from outside adds to the book
-abbrev pub injected : Network → Node → List ℕ → ℕ → GrowthView
+abbrev pub injected : Network → Node → List ℕ → ℕ → StepResultView
 injected segment next bytes first =
     record {
       parcels = record { segment = segment; next = next; bytes = bytes; sent_by = None } ∷ [];

@@ -1,8 +1,8 @@
 -- What is always so of a network: while it goes on, its scene is one that is reached; once memory
 -- was refused, its log and its parcels are those of one, and the addresses of its hosts.
 use Rattle.std.specs.Prelude.{◌≡◌, Bool, true, false, map}
-use Rattle.theory_log.specs.Deeds.{Reached}
-use Rattle.theory_log.specs.Scene.{Scene}
+use Rattle.spx_theory.specs.Deeds.{Reached}
+use Rattle.spx_theory.specs.Scene.{Scene}
 use Rattle.theory_steps.specs.World.{InOrder, World, bytes_of, home_at, scene_of, segment_of}
 
 pub record GoesOn (w : World) : Type 0 where

@@ -1,7 +1,7 @@
 -- A network as its contracts see it: hosts, ends, parcels, log and moment, its routers, and whether
 -- it gave up.
 use Rattle.std.specs.Prelude.{ℕ, Bool, List}
-use Rattle.theory_log.specs.Note.{Note}
+use Rattle.spx_theory.specs.Note.{Note}
 use Rattle.theory_steps.specs.World.{ParcelView, World}
 use Rattle.ipx_net_hosts.specs.Hosts.{HostsView, world_of}
 use Rattle.ipx_net.specs.declared.routers.RouterNow.{RouterNow}

@@ -8,11 +8,11 @@ use Rattle.ipx_router.specs.OutcomeView.{OutcomeView, replies_of}
 use Rattle.ipx_router.specs.OutcomeView as Outcomes
 use Rattle.ipx_router.specs.RouterPackets.{AreOwn, SendingView}
 use Rattle.ipx_router.specs.declared.port.Port.{Port}
-use Rattle.theory_log.specs.Note as Notes
+use Rattle.spx_theory.specs.Note as Notes
 use Rattle.theory_steps.specs.Routers.{CarriesOn, GivesOwnLetters, told_notes}
 use Rattle.theory_steps.specs.World.{ParcelView, World}
 use Rattle.ipx_net.specs.AnswerView.{AnswerView, Dropped, Heard, Parcels}
-use Rattle.ipx_net.specs.GrowthView.{GrowthView}
+use Rattle.ipx_net.specs.StepResultView.{StepResultView}
 use Rattle.ipx_net.specs.NetView.{NetNow}
 use Rattle.ipx_net.specs.RouterMembers.{IsPolled, letter_of, letters_of, network_of, port_at}
 use Rattle.ipx_net.specs.declared.routers.RouterNow.{RouterNow}
@@ -23,7 +23,7 @@ numbers first sent = map (λ k. first + k) (range_with_len 0 (length sent))
 
 -- ---- what a router's packets add to the book
 
-abbrev pub told_growth : ℕ → List Port → ℕ → List SendingView → GrowthView
+abbrev pub told_growth : ℕ → List Port → ℕ → List SendingView → StepResultView
 told_growth router ports first sent =
     record {
       parcels = letters_of router ports sent;
@@ -31,7 +31,7 @@ told_growth router ports first sent =
       answer = Parcels (numbers first sent);
     }
 
-abbrev pub routed_growth : ℕ → List Port → ℕ → ℕ → OutcomeView → GrowthView
+abbrev pub routed_growth : ℕ → List Port → ℕ → ℕ → OutcomeView → StepResultView
 routed_growth router ports parcel first (Outcomes.Forward port next bytes) =
     record {
       parcels = letter_of router ports (record { port = port; next = next; bytes = bytes }) ∷ [];
@@ -46,7 +46,7 @@ routed_growth router ports parcel first (Outcomes.Dropped reason) =
     record { parcels = []; notes = []; answer = Dropped reason }
 
 -- a router of a list was polled, and the others stay
-pub record MemberPolled (old : List RouterNow) (router first now : ℕ) (g : GrowthView)
+pub record MemberPolled (old : List RouterNow) (router first now : ℕ) (g : StepResultView)
     (new : List RouterNow) : Type 0 where
   pub before : RouterNow
   pub there : slice_get old router ≡ Some before
@@ -59,7 +59,7 @@ pub record MemberPolled (old : List RouterNow) (router first now : ℕ) (g : Gro
 
 -- bytes came to a port of a router of a list, and the others stay
 pub record MemberReached (old : List RouterNow) (router port parcel : ℕ) (bytes : List ℕ)
-    (first now : ℕ) (g : GrowthView) (new : List RouterNow) : Type 0 where
+    (first now : ℕ) (g : StepResultView) (new : List RouterNow) : Type 0 where
   pub before : RouterNow
   pub there : slice_get old router ≡ Some before
   pub after : RouterNow

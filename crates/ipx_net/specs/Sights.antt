@@ -1,13 +1,13 @@
 -- What is read off a log, as the code keeps it.
 use Rattle.std.specs.Prelude.{ℕ, ◌≤◌, ◌+◌, map, vec_len, vec_capacity}
-use Rattle.theory_log.specs.Scan.{Scan}
+use Rattle.spx_theory.specs.Scan.{Scan}
 use Rattle.ipx_net.specs.declared.parcel_origin.Maker.{Maker}
 use Rattle.ipx_net.specs.declared.parcel_origin.ParcelOrigin.{ParcelOrigin}
 use Rattle.ipx_net.specs.declared.reading.Reading.{Reading}
 use Rattle.ipx_net.specs.declared.role.Role.{Role}
-use Rattle.ipx_net.specs.declared.scanned.Scanned.{Scanned}
+use Rattle.ipx_net.specs.declared.log_index.LogIndex.{LogIndex}
 use Rattle.ipx_net.specs.declared.parcel_origin.Maker.TheVariants as Makers
-use Rattle.theory_log.specs.Scan as Scans
+use Rattle.spx_theory.specs.Scan as Scans
 
 abbrev pub maker_view : Maker → Scans.Maker
 maker_view (Makers.ByUnit who) = Scans.ByUnit who
@@ -27,7 +27,7 @@ abbrev pub role_view : Role → Scans.Role
 role_view r =
     record { buffers = r.buffers; called = r.called; joined = r.joined; partner = r.partner }
 
-abbrev pub scan_of : Scanned → Scan
+abbrev pub scan_of : LogIndex → Scan
 scan_of s =
     record {
       marks = map mark_view s.marks.items;
@@ -38,7 +38,7 @@ scan_of s =
     }
 
 -- room for so many more of each
-pub record HasRoom (more : ℕ) (s : Scanned) : Type 0 where
+pub record HasRoom (more : ℕ) (s : LogIndex) : Type 0 where
   pub marks : vec_len s.marks + more ≤ vec_capacity s.marks
   pub sent : vec_len s.sent + more ≤ vec_capacity s.sent
   pub readings : vec_len s.readings + more ≤ vec_capacity s.readings

@@ -1,8 +1,8 @@
 -- The entries of a packet that a host gave, by the end that gave it: words of private functions.
 use Rattle.std.specs.Prelude.{ℕ, List, [], ◌∷◌, Option, Some, None}
 use Rattle.spx_link.specs.declared.outgoing.Sent.{Sent}
-use Rattle.theory_log.specs.Note.{Note}
-use Rattle.theory_log.specs.PacketsOnWay.{note_of}
+use Rattle.spx_theory.specs.Note.{Note}
+use Rattle.spx_theory.specs.PacketsOnWay.{note_of}
 
 abbrev pub spoken_notes : Option (ℕ × Sent) → ℕ → List Note
 spoken_notes None parcel = []

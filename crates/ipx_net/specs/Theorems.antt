@@ -1,23 +1,23 @@
 -- What is so of every network: one list of its theorems, each a field. They are read off its log and
 -- its parcels alone, or, while no memory was refused, off its links too.
 use Rattle.std.specs.Prelude.{ℕ, ◌≡◌, ◌↔◌, true, false, List, [], ◌∷◌, ◌++◌, Some, Contains, slice_get}
-use Rattle.theory_log.specs.Addresses.{AddressesTellPeers}
-use Rattle.theory_log.specs.Allocation.{AloneReadsNothing, HasNoPeer, WithinAllocation}
-use Rattle.theory_log.specs.Carried.{RoutersAlterHopsAlone}
-use Rattle.theory_log.specs.Close.{AcknowledgedIsRead, ConfirmedIsRead, EndTakenIsWhole}
-use Rattle.theory_log.specs.EndsTold.{EndsAreTold}
-use Rattle.theory_log.specs.EntriesOfEnds.{QueuedWereAsked}
-use Rattle.theory_log.specs.Handed.{IsBeginning, handed_in, handed_out, taken_of}
-use Rattle.theory_log.specs.HandedOut.{HandsOutWhatItTook}
-use Rattle.theory_log.specs.InStep.{PeersAreInStep}
-use Rattle.theory_log.specs.InSteps.{PairsTakeSteps}
-use Rattle.theory_log.specs.Note.{Note, Opened, Released}
-use Rattle.theory_log.specs.Numbered.{IsNumbered, NumbersAreInOrder}
-use Rattle.theory_log.specs.Peers.{AreJoined, Premises}
-use Rattle.theory_log.specs.Scan.{scan}
-use Rattle.theory_log.specs.Scene.{Scene}
-use Rattle.theory_log.specs.SentUnits.{LinksSendInOrder, UnitsAreSentInOrder}
-use Rattle.theory_log.specs.UnitsOfEnds.{UnitsAreCuts}
+use Rattle.spx_theory.specs.Addresses.{AddressesTellPeers}
+use Rattle.spx_theory.specs.Allocation.{AloneReadsNothing, HasNoPeer, WithinAllocation}
+use Rattle.spx_theory.specs.Carried.{RoutersAlterHopsAlone}
+use Rattle.spx_theory.specs.Close.{AcknowledgedIsRead, ConfirmedIsRead, EndTakenIsWhole}
+use Rattle.spx_theory.specs.EndsTold.{EndsAreTold}
+use Rattle.spx_theory.specs.EntriesOfEnds.{QueuedWereAsked}
+use Rattle.spx_theory.specs.Handed.{IsBeginning, handed_in, handed_out, taken_of}
+use Rattle.spx_theory.specs.HandedOut.{HandsOutWhatItTook}
+use Rattle.spx_theory.specs.InStep.{PeersAreInStep}
+use Rattle.spx_theory.specs.InSteps.{PairsTakeSteps}
+use Rattle.spx_theory.specs.Note.{Note, Opened, Released}
+use Rattle.spx_theory.specs.Numbered.{IsNumbered, NumbersAreInOrder}
+use Rattle.spx_theory.specs.Peers.{AreJoined, Premises}
+use Rattle.spx_theory.specs.Scan.{scan}
+use Rattle.spx_theory.specs.Scene.{Scene}
+use Rattle.spx_theory.specs.SentUnits.{LinksSendInOrder, UnitsAreSentInOrder}
+use Rattle.spx_theory.specs.UnitsOfEnds.{UnitsAreCuts}
 use Rattle.ipx_recovery.specs.Stuck.{NoPairIsStuck, NoStateIsStuck, NothingIsStuckByAddresses}
 use Rattle.theory_steps.specs.World.{EndNow, InOrder, World, scene_of}
 use Rattle.ipx_net.specs.NetView.{NetView}

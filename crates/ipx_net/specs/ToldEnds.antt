@@ -2,11 +2,11 @@
 use Rattle.std.specs.Prelude.{ℕ, ◌≡◌, ◌≢◌, ◌<◌, ◌+◌, Bool, true, false, List, [], ◌∷◌, ◌++◌, Option, Some, None, length, option_map, set, slice_get}
 use Rattle.spx_link.specs.declared.state.State.{State}
 use Rattle.spx_link.specs.SequenceMarks.{mark}
-use Rattle.theory_log.specs.EndsTold.{peer_of}
-use Rattle.theory_log.specs.Handed.{handed_in, handed_out}
-use Rattle.theory_log.specs.Note.{Note, Opened, Accepted, Joined, HandsIn, HandsOut, SendsUnit}
-use Rattle.theory_log.specs.Scan.{scan}
-use Rattle.theory_log.specs.SentUnits.{sent_by}
+use Rattle.spx_theory.specs.EndsTold.{peer_of}
+use Rattle.spx_theory.specs.Handed.{handed_in, handed_out}
+use Rattle.spx_theory.specs.Note.{Note, Opened, Accepted, Joined, HandsIn, HandsOut, SendsUnit}
+use Rattle.spx_theory.specs.Scan.{scan}
+use Rattle.spx_theory.specs.SentUnits.{sent_by}
 use Rattle.theory_steps.specs.World.{World, end_at}
 use Rattle.ipx_net_hosts.specs.Hosts.{HostsView}
 use Rattle.ipx_net_hosts.specs.EndTelling.{here_at, state_on_host}
@@ -163,7 +163,7 @@ touched_by w (Events.Dial host socket to buffers) = Some host
 touched_by w (Events.Send who message) = host_there w who
 touched_by w (Events.Take who) = host_there w who
 touched_by w (Events.Close who) = host_there w who
-touched_by w (Events.Pace who window by_hand) = host_there w who
+touched_by w (Events.Pace who window manual) = host_there w who
 touched_by w (Events.Again who place) = host_there w who
 touched_by w (Events.Release who) = host_there w who
 touched_by w (Events.Tick now) = None

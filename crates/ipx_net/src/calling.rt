@@ -9,13 +9,13 @@ ghost use Rattle.ipx_net_hosts.specs.Refusing.{close_fault, dial_fault, end_held
 ghost use Rattle.theory_steps.specs.HostSteps.{unit_notes, whole_notes};
 ghost use Rattle.ipx_net.specs.AnswerView as views;
 ghost use Rattle.ipx_net.specs.LogEntries.{taken_unit};
-ghost use Rattle.ipx_net.specs.GrowthView.{GrowsWorld, growth_view};
+ghost use Rattle.ipx_net.specs.StepResultView.{GrowsWorld, step_result_view};
 ghost use Rattle.ipx_net.specs.HostEvents.{AskingAgain, Closing, Dialling, Pacing, Releasing, Sending, TakingFrom};
 ghost use Rattle.ipx_net.specs.EventWants.{IsMade, TakeIsTold};
 
 use crate::answer::Answer;
 use crate::entry::{Entry, TakenUnit};
-use crate::growth::{Growth, noted, quiet};
+use crate::step_result::{StepResult, noted, quiet};
 use ipx_net_hosts::{Hosts, Refusal};
 use ipx_wire::{Address, OutOfMemory, Socket};
 use spx_link::Unit;
@@ -32,10 +32,10 @@ pub fn dial(
     buffers: u16,
     first: usize,
     now: u64,
-) -> Result<Growth, OutOfMemory>
+) -> Result<StepResult, OutOfMemory>
     requires there { host < length hosts.old.stations }
     requires range { (0 < buffers) × (buffers ≤ most_units) }
-    ensures grows { IfOk result (λ g. GrowsWorld hosts.old hosts.new first now (growth_view g)
+    ensures grows { IfOk result (λ g. GrowsWorld hosts.old hosts.new first now (step_result_view g)
         (Dialling host socket to buffers)) }
     ensures memory { IsMade result → dial_fault (slice_get hosts.old.stations host) ≡ None }
     ensures homes { SameHomes hosts.old hosts.new }
@@ -59,10 +59,10 @@ pub fn send(
     message: Message,
     first: usize,
     now: u64,
-) -> Result<Growth, OutOfMemory>
+) -> Result<StepResult, OutOfMemory>
     requires order { FitTogether hosts.old }
     requires stands { stands hosts.old who ≡ true }
-    ensures grows { IfOk result (λ g. GrowsWorld hosts.old hosts.new first now (growth_view g)
+    ensures grows { IfOk result (λ g. GrowsWorld hosts.old hosts.new first now (step_result_view g)
         (Sending who (message_view message))) }
     ensures memory { IsMade result → send_fault
         (end_held hosts.old.stations hosts.old.ends who) (message_view message) ≡ None }
@@ -81,11 +81,11 @@ pub fn close(
     who: usize,
     first: usize,
     now: u64,
-) -> Result<Growth, OutOfMemory>
+) -> Result<StepResult, OutOfMemory>
     requires order { FitTogether hosts.old }
     requires stands { stands hosts.old who ≡ true }
     ensures grows { IfOk result
-        (λ g. GrowsWorld hosts.old hosts.new first now (growth_view g) (Closing who)) }
+        (λ g. GrowsWorld hosts.old hosts.new first now (step_result_view g) (Closing who)) }
     ensures memory { IsMade result
         → close_fault (end_held hosts.old.stations hosts.old.ends who) ≡ None }
     ensures homes { SameHomes hosts.old hosts.new }
@@ -102,18 +102,18 @@ pub fn pace(
     hosts: &mut Hosts,
     who: usize,
     window: u16,
-    by_hand: bool,
+    manual: bool,
     first: usize,
     now: u64,
-) -> Growth
+) -> StepResult
     requires order { FitTogether hosts.old }
     requires stands { stands hosts.old who ≡ true }
-    ensures grows { GrowsWorld hosts.old hosts.new first now (growth_view result)
-        (Pacing who window by_hand) }
-    ensures quiet { growth_view result ≡ record { parcels = []; notes = []; answer = views.Done } }
+    ensures grows { GrowsWorld hosts.old hosts.new first now (step_result_view result)
+        (Pacing who window manual) }
+    ensures quiet { step_result_view result ≡ record { parcels = []; notes = []; answer = views.Done } }
     ensures homes { SameHomes hosts.old hosts.new }
 {
-    hosts.pace(who, window, by_hand, now).unwrap();
+    hosts.pace(who, window, manual, now).unwrap();
     quiet(alloc, Answer::Done)
 }
 
@@ -126,12 +126,12 @@ pub fn again(
     place: u16,
     first: usize,
     now: u64,
-) -> Growth
+) -> StepResult
     requires order { FitTogether hosts.old }
     requires stands { stands hosts.old who ≡ true }
-    ensures grows { GrowsWorld hosts.old hosts.new first now (growth_view result)
+    ensures grows { GrowsWorld hosts.old hosts.new first now (step_result_view result)
         (AskingAgain who place) }
-    ensures quiet { growth_view result ≡ record { parcels = []; notes = []; answer = views.Done } }
+    ensures quiet { step_result_view result ≡ record { parcels = []; notes = []; answer = views.Done } }
     ensures homes { SameHomes hosts.old hosts.new }
 {
     hosts.again(who, place, now).unwrap();
@@ -145,11 +145,11 @@ pub fn release(
     who: usize,
     first: usize,
     now: u64,
-) -> Result<Growth, OutOfMemory>
+) -> Result<StepResult, OutOfMemory>
     requires order { FitTogether hosts.old }
     requires stands { stands hosts.old who ≡ true }
     ensures grows { IfOk result
-        (λ g. GrowsWorld hosts.old hosts.new first now (growth_view g) (Releasing who)) }
+        (λ g. GrowsWorld hosts.old hosts.new first now (step_result_view g) (Releasing who)) }
     ensures homes { SameHomes hosts.old hosts.new }
 {
     hosts.release(who, now).unwrap();
@@ -181,8 +181,8 @@ fn kept(alloc: Global, unit: &Unit) -> Result<TakenUnit, OutOfMemory>
 
 /// What is told of a take that was not refused: the unit that was held, and the message that it
 /// ended.
-fn taken(alloc: Global, who: usize, unit: Option<Unit>, taken: Taken) -> Result<Growth, OutOfMemory>
-    ensures grows { IfOk result (λ g. growth_view g ≡ record {
+fn taken(alloc: Global, who: usize, unit: Option<Unit>, taken: Taken) -> Result<StepResult, OutOfMemory>
+    ensures grows { IfOk result (λ g. step_result_view g ≡ record {
       parcels = [];
       notes = unit_notes (Ok (taken_view taken)) unit who
           ++ whole_notes (Ok (taken_view taken)) who;
@@ -200,7 +200,7 @@ fn taken(alloc: Global, who: usize, unit: Option<Unit>, taken: Taken) -> Result<
         let message = copy_of(alloc, message)?;
         entries.push(Entry::HandOut { who, message })?;
     }
-    Ok(Growth {
+    Ok(StepResult {
         parcels: Vec::new(alloc),
         entries,
         answer: Answer::Taken(taken),
@@ -214,11 +214,11 @@ pub fn take(
     who: usize,
     first: usize,
     now: u64,
-) -> Result<Growth, OutOfMemory>
+) -> Result<StepResult, OutOfMemory>
     requires order { FitTogether hosts.old }
     requires stands { stands hosts.old who ≡ true }
     ensures grows { IfOk result
-        (λ g. GrowsWorld hosts.old hosts.new first now (growth_view g) (TakingFrom who)) }
+        (λ g. GrowsWorld hosts.old hosts.new first now (step_result_view g) (TakingFrom who)) }
     ensures memory { IsMade result
         → TakeIsTold (end_held hosts.old.stations hosts.old.ends who) who }
     ensures homes { SameHomes hosts.old hosts.new }

@@ -1,18 +1,18 @@
 //! A parcel is delivered to a host.
 
 ghost use Rattle.std.specs.Prelude.{◌≡◌, ◌<◌, ◌≤◌, ◌∷◌, [], IfOk, IfSome, OnErr, Some, length, slice_get};
-ghost use Rattle.theory_log.specs.Note as Notes;
-ghost use Rattle.theory_log.specs.PacketsOnWay.{notes_of};
+ghost use Rattle.spx_theory.specs.Note as Notes;
+ghost use Rattle.spx_theory.specs.PacketsOnWay.{notes_of};
 ghost use Rattle.theory_steps.specs.HostSteps.{arrival_notes, read_notes};
 ghost use Rattle.ipx_net_hosts.specs.Hosts.{SameHomes};
 ghost use Rattle.ipx_net.specs.LogEntries.{entry_notes};
-ghost use Rattle.ipx_net.specs.GrowthView.{growth_view};
+ghost use Rattle.ipx_net.specs.StepResultView.{step_result_view};
 ghost use Rattle.ipx_net.specs.HostEvents.{DeliversSo, end_for};
 ghost use Rattle.ipx_net.specs.EventWants.{HostWantsMemory, IsMade};
 
 use crate::answer::Answer;
 use crate::entry::Entry;
-use crate::growth::Growth;
+use crate::step_result::StepResult;
 use ipx_net_hosts::Hosts;
 use ipx_wire::OutOfMemory;
 use spx_link::Received;
@@ -120,17 +120,17 @@ pub fn deliver_host(
     parcel: usize,
     bytes: &[u8],
     now: u64,
-) -> Result<Growth, OutOfMemory>
+) -> Result<StepResult, OutOfMemory>
     requires { host < length hosts.old.stations }
     ensures delivers { IfOk result (λ g.
-        DeliversSo hosts.old host parcel bytes.now now (growth_view g) hosts.new) }
+        DeliversSo hosts.old host parcel bytes.now now (step_result_view g) hosts.new) }
     ensures memory { IsMade result → HostWantsMemory hosts.old host parcel bytes.now now }
     ensures homes { SameHomes hosts.old hosts.new }
 {
     let count = hosts.ends();
     let arrived = hosts.deliver(alloc, host, bytes, now)?;
     let (who, entries) = told_of(alloc, hosts, host, arrived, count, parcel)?;
-    Ok(Growth {
+    Ok(StepResult {
         parcels: Vec::new(alloc),
         entries,
         answer: Answer::Arrived(who, arrived),

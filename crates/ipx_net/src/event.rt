@@ -41,7 +41,7 @@ pub enum Event {
     Pace {
         who: usize,
         window: u16,
-        by_hand: bool,
+        manual: bool,
     },
     /// A place of the link of an end is asked for again. No end refuses it.
     Again {

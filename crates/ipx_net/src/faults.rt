@@ -3,11 +3,11 @@
 ghost use Rattle.std.specs.Prelude.{◌≡◌, ◌<◌, ℕ, length, nat_lt, option_map, slice_get};
 ghost use Rattle.ipx_net_hosts.specs.Hosts.{stands};
 ghost use Rattle.ipx_net.specs.NetFaults.{end_fault, fault_before, member_fault, network_at, place_fault, poll_fault};
-ghost use Rattle.ipx_net.specs.BookView.{BookView};
+ghost use Rattle.ipx_net.specs.IndexedLogView.{IndexedLogView};
 ghost use Rattle.ipx_net.specs.NetView.{net_of};
 ghost use Rattle.ipx_net.specs.Parcels.{parcel_views};
 
-use crate::book::Book;
+use crate::indexed_log::IndexedLog;
 use crate::event::{Event, Member};
 use crate::fault::NetFault;
 use crate::parcel::Parcel;
@@ -40,9 +40,9 @@ fn member_fault(count: usize, number: usize) -> Option<NetFault>
 
 /// The network of a place, if that is there.
 fn network_of(hosts: &Hosts, routers: &[RouterNow], place: &Place) -> Option<Network>
-    ensures { (book : BookView) (moment : ℕ)
+    ensures { (indexed_log : IndexedLogView) (moment : ℕ)
         → result
-        ≡ network_at (net_of hosts.now routers.now book.parcels book.log moment) place.now }
+        ≡ network_at (net_of hosts.now routers.now indexed_log.parcels indexed_log.log moment) place.now }
 {
     match place {
         Place::Host(host) => hosts.network(*host),
@@ -73,11 +73,11 @@ fn place_fault(parcels: &[Parcel], parcel: usize, network: Option<Network>) -> O
 pub fn fault_of(
     hosts: &Hosts,
     routers: &[RouterNow],
-    book: &Book,
+    indexed_log: &IndexedLog,
     event: &Event,
 ) -> Option<NetFault>
     ensures { (moment : ℕ) → result ≡ fault_before
-        (net_of hosts.now routers.now book.now.parcels book.now.log moment) event.now }
+        (net_of hosts.now routers.now indexed_log.now.parcels indexed_log.now.log moment) event.now }
 {
     match event {
         Event::Dial { host, .. } => member_fault(hosts.count(), *host),
@@ -95,7 +95,7 @@ pub fn fault_of(
         } => member_fault(routers.len(), *router),
         Event::Deliver { parcel, place } => {
             let network = network_of(hosts, routers, place);
-            place_fault(book.parcels(), *parcel, network)
+            place_fault(indexed_log.parcels(), *parcel, network)
         }
         Event::Tick { .. } => None,
         Event::Inject { .. } => None,

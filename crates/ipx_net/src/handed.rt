@@ -1,7 +1,7 @@
 //! What ends handed in and out, in a log.
 
 ghost use Rattle.std.specs.Prelude.{◌≡◌, ◌≤◌, ◌↔◌, [], ◌∷◌, IsTrue, MatchOption, drop, length};
-ghost use Rattle.theory_log.specs.Handed.{IsBeginning, handed_in, handed_out, in_by, out_by};
+ghost use Rattle.spx_theory.specs.Handed.{IsBeginning, handed_in, handed_out, in_by, out_by};
 ghost use Rattle.ipx_net.specs.LogEntries.{entry_note, entry_notes};
 ghost use Rattle.spx_units.specs.Message.{message_view};
 

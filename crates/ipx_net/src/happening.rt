@@ -2,7 +2,7 @@
 
 ghost use Rattle.std.specs.Prelude.{◌≡◌, ◌++◌, None, IfOk, slice_get};
 ghost use Rattle.ipx_net_hosts.specs.Hosts.{FitTogether, SameHomes};
-ghost use Rattle.ipx_net.specs.GrowthView.{growth_view};
+ghost use Rattle.ipx_net.specs.StepResultView.{step_result_view};
 ghost use Rattle.ipx_net.specs.NetEvents.{DeliversTo, Happens, IsOwed, PollsOf, injected};
 ghost use Rattle.ipx_net.specs.NetFaults.{fault_before, network_at, place_fault, poll_fault};
 ghost use Rattle.ipx_net.specs.NetView.{net_of};
@@ -10,12 +10,12 @@ ghost use Rattle.ipx_net.specs.EventWants.{EventWantsMemory, IsMade, PollWantsMe
 ghost use Rattle.ipx_net.specs.declared.event.Event.TheVariants as Events;
 
 use crate::answer::Answer;
-use crate::book::Book;
+use crate::indexed_log::IndexedLog;
 use crate::calling::{again, close, dial, pace, release, send, take};
 use crate::delivering::deliver_host;
 use crate::entry::Entry;
 use crate::event::{Event, Member};
-use crate::growth::{Growth, quiet};
+use crate::step_result::{StepResult, quiet};
 use crate::parcel::Parcel;
 use crate::place::Place;
 use crate::polling::poll_host;
@@ -32,8 +32,8 @@ fn inject(
     next: Node,
     bytes: Vec<u8>,
     first: usize,
-) -> Result<Growth, OutOfMemory>
-    ensures { IfOk result (λ g. growth_view g ≡ injected segment next bytes.items first) }
+) -> Result<StepResult, OutOfMemory>
+    ensures { IfOk result (λ g. step_result_view g ≡ injected segment next bytes.items first) }
 {
     let mut numbers = Vec::new(alloc);
     numbers.push(first)?;
@@ -46,7 +46,7 @@ fn inject(
         bytes,
         sent_by: None,
     })?;
-    Ok(Growth {
+    Ok(StepResult {
         parcels,
         entries,
         answer: Answer::Parcels(numbers),
@@ -58,21 +58,21 @@ fn poll(
     alloc: Global,
     hosts: &mut Hosts,
     routers: &mut [RouterNow],
-    book: &Book,
+    indexed_log: &IndexedLog,
     member: Member,
     now: u64,
-) -> Result<Growth, OutOfMemory>
-    requires { poll_fault (net_of hosts.old routers.old book.now.parcels book.now.log now) member
+) -> Result<StepResult, OutOfMemory>
+    requires { poll_fault (net_of hosts.old routers.old indexed_log.now.parcels indexed_log.now.log now) member
         ≡ None }
-    ensures polls { IfOk result (λ g. PollsOf member (growth_view g).answer
-        (net_of hosts.old routers.old book.now.parcels book.now.log now)
-        (net_of hosts.new routers.new (book.now.parcels ++ (growth_view g).parcels)
-        (book.now.log ++ (growth_view g).notes) now)) }
+    ensures polls { IfOk result (λ g. PollsOf member (step_result_view g).answer
+        (net_of hosts.old routers.old indexed_log.now.parcels indexed_log.now.log now)
+        (net_of hosts.new routers.new (indexed_log.now.parcels ++ (step_result_view g).parcels)
+        (indexed_log.now.log ++ (step_result_view g).notes) now)) }
     ensures memory { IsMade result → PollWantsMemory
-        (net_of hosts.old routers.old book.now.parcels book.now.log now) member }
+        (net_of hosts.old routers.old indexed_log.now.parcels indexed_log.now.log now) member }
     ensures homes { SameHomes hosts.old hosts.new }
 {
-    let first = book.parcels().len();
+    let first = indexed_log.parcels().len();
     match member {
         Member::Host(host) => poll_host(alloc, hosts, host, first, now),
         Member::Router(router) => poll_member(alloc, routers, router, first, now),
@@ -84,23 +84,23 @@ fn deliver(
     alloc: Global,
     hosts: &mut Hosts,
     routers: &mut [RouterNow],
-    book: &Book,
+    indexed_log: &IndexedLog,
     parcel: usize,
     place: Place,
     now: u64,
-) -> Result<Growth, OutOfMemory>
-    requires { place_fault (slice_get book.now.parcels parcel)
-        (network_at (net_of hosts.old routers.old book.now.parcels book.now.log now) place) ≡ None }
-    ensures delivers { IfOk result (λ g. DeliversTo parcel place (growth_view g).answer
-        (net_of hosts.old routers.old book.now.parcels book.now.log now)
-        (net_of hosts.new routers.new (book.now.parcels ++ (growth_view g).parcels)
-        (book.now.log ++ (growth_view g).notes) now)) }
+) -> Result<StepResult, OutOfMemory>
+    requires { place_fault (slice_get indexed_log.now.parcels parcel)
+        (network_at (net_of hosts.old routers.old indexed_log.now.parcels indexed_log.now.log now) place) ≡ None }
+    ensures delivers { IfOk result (λ g. DeliversTo parcel place (step_result_view g).answer
+        (net_of hosts.old routers.old indexed_log.now.parcels indexed_log.now.log now)
+        (net_of hosts.new routers.new (indexed_log.now.parcels ++ (step_result_view g).parcels)
+        (indexed_log.now.log ++ (step_result_view g).notes) now)) }
     ensures memory { IsMade result → EventWantsMemory
-        (net_of hosts.old routers.old book.now.parcels book.now.log now)
+        (net_of hosts.old routers.old indexed_log.now.parcels indexed_log.now.log now)
         (Events.Deliver parcel place) }
     ensures homes { SameHomes hosts.old hosts.new }
 {
-    let parcels = book.parcels();
+    let parcels = indexed_log.parcels();
     let bytes = &parcels[parcel].bytes;
     match place {
         Place::Host(host) => deliver_host(alloc, hosts, host, parcel, bytes, now),
@@ -124,24 +124,24 @@ pub fn happen(
     alloc: Global,
     hosts: &mut Hosts,
     routers: &mut [RouterNow],
-    book: &Book,
+    indexed_log: &IndexedLog,
     moment: &mut u64,
     event: Event,
-) -> Result<Growth, OutOfMemory>
+) -> Result<StepResult, OutOfMemory>
     requires order { FitTogether hosts.old }
     requires owed { IsOwed event }
     requires sound { fault_before
-        (net_of hosts.old routers.old book.now.parcels book.now.log moment.old) event ≡ None }
-    ensures happens { IfOk result (λ g. Happens event (growth_view g).answer
-        (net_of hosts.old routers.old book.now.parcels book.now.log moment.old)
-        (net_of hosts.new routers.new (book.now.parcels ++ (growth_view g).parcels)
-        (book.now.log ++ (growth_view g).notes) moment.new)) }
+        (net_of hosts.old routers.old indexed_log.now.parcels indexed_log.now.log moment.old) event ≡ None }
+    ensures happens { IfOk result (λ g. Happens event (step_result_view g).answer
+        (net_of hosts.old routers.old indexed_log.now.parcels indexed_log.now.log moment.old)
+        (net_of hosts.new routers.new (indexed_log.now.parcels ++ (step_result_view g).parcels)
+        (indexed_log.now.log ++ (step_result_view g).notes) moment.new)) }
     ensures memory { IsMade result → EventWantsMemory
-        (net_of hosts.old routers.old book.now.parcels book.now.log moment.old) event }
+        (net_of hosts.old routers.old indexed_log.now.parcels indexed_log.now.log moment.old) event }
     ensures homes { SameHomes hosts.old hosts.new }
 {
     let now = *moment;
-    let first = book.parcels().len();
+    let first = indexed_log.parcels().len();
     match event {
         Event::Dial {
             host,
@@ -155,17 +155,17 @@ pub fn happen(
         Event::Pace {
             who,
             window,
-            by_hand,
-        } => Ok(pace(alloc, hosts, who, window, by_hand, first, now)),
+            manual,
+        } => Ok(pace(alloc, hosts, who, window, manual, first, now)),
         Event::Again { who, place } => Ok(again(alloc, hosts, who, place, first, now)),
         Event::Release { who } => release(alloc, hosts, who, first, now),
         Event::Tick { now } => {
             *moment = now;
             Ok(quiet(alloc, Answer::Done))
         }
-        Event::Poll { member } => poll(alloc, hosts, routers, book, member, now),
+        Event::Poll { member } => poll(alloc, hosts, routers, indexed_log, member, now),
         Event::Deliver { parcel, place } => deliver(
-            alloc, hosts, routers, book, parcel, place, now,
+            alloc, hosts, routers, indexed_log, parcel, place, now,
         ),
         Event::Inject {
             segment,

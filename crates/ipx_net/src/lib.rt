@@ -4,21 +4,21 @@
 //! by [`Net::step`], and reads `log`, `parcels` and `ends`. No packet goes on by itself, and no
 //! time passes.
 //!
-//! A [`Book`] holds the log and the parcels. What is read off the log, as which packets an end read
+//! A [`IndexedLog`] holds the log and the parcels. What is read off the log, as which packets an end read
 //! and who sent them, is kept beside it as it grows.
 #![tactic(auto)]
 
 mod answer;
-mod book;
+mod indexed_log;
 mod calling;
-mod course;
+mod net_state;
 mod delivering;
 mod endinfo;
 mod entry;
 mod event;
 mod fault;
 mod faults;
-mod growth;
+mod step_result;
 mod handed;
 mod happening;
 mod host;
@@ -34,11 +34,11 @@ mod recent;
 mod role;
 mod routers;
 mod routing;
-mod scanned;
+mod log_index;
 mod told;
 
 pub use answer::Answer;
-pub use book::Book;
+pub use indexed_log::IndexedLog;
 pub use endinfo::EndInfo;
 pub use entry::{Entry, TakenUnit};
 pub use event::{Event, Member};

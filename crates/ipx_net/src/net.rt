@@ -1,8 +1,8 @@
 //! A network in memory, step by step.
 
 ghost use Rattle.std.specs.Prelude.{◌≡◌, ◌≢◌, ◌<◌, ◌↔◌, All, Err, IfErr, IfOk, IsTrue, None, OnOk, Some, false, length, true, unwrap_or};
-ghost use Rattle.theory_log.specs.Peers.{IsFresh, Premises};
-ghost use Rattle.theory_log.specs.Scan.{scan};
+ghost use Rattle.spx_theory.specs.Peers.{IsFresh, Premises};
+ghost use Rattle.spx_theory.specs.Scan.{scan};
 ghost use Rattle.ipx_router.specs.declared.fault.NewFault.TheVariants as NewFaults;
 ghost use Rattle.ipx_net.specs.AnswerView.{answer_view};
 ghost use Rattle.ipx_net.specs.NetBeginnings.{ArePortsOwed, IsHostOwed, IsNewNet, first_refusal};
@@ -17,25 +17,25 @@ ghost use Rattle.ipx_net.specs.Theorems.{Theorems};
 ghost use Rattle.ipx_net.specs.declared.fault.NetFault.TheVariants as NetFaults;
 
 use crate::answer::Answer;
-use crate::course::Course;
+use crate::net_state::NetState;
 use crate::endinfo::EndInfo;
 use crate::entry::Entry;
 use crate::event::Event;
 use crate::fault::NetFault;
 use crate::host::Host;
 use crate::parcel::Parcel;
-use crate::told::EndsTold;
+use crate::told::EndSummaries;
 use ipx_router::{NewFault, Port};
 use std::alloc::Global;
 use std::marker::Model;
-use theory_log::peer_is_found;
+use spx_theory::peer_is_found;
 
 /// A network in memory: its hosts and routers, the packets on their way, and the log; and what is
 /// told of its ends.
 #[derive(Drop)]
 pub struct Net {
-    course: Course,
-    told: EndsTold,
+    course: NetState,
+    told: EndSummaries,
 }
 
 impl Model for Net {
@@ -51,8 +51,8 @@ impl Model for Net {
 
 /// What an event does that meets no fault before, and what is told of the ends after it.
 fn go_on(
-    course: &mut Course,
-    told: &mut EndsTold,
+    course: &mut NetState,
+    told: &mut EndSummaries,
     alloc: Global,
     event: Event,
 ) -> Result<Answer, NetFault>
@@ -86,8 +86,8 @@ fn go_on(
 
 /// Takes one event, and answers what became of it.
 fn take_in(
-    course: &mut Course,
-    told: &mut EndsTold,
+    course: &mut NetState,
+    told: &mut EndSummaries,
     alloc: Global,
     event: Event,
 ) -> Result<Answer, NetFault>
@@ -129,12 +129,12 @@ impl Net {
             (λ f. f ≡ unwrap_or (first_refusal routers.items) NewFaults.OutOfMemory) }
         ensures theorems { IfOk result (λ n. Theorems n) }
     {
-        match Course::new(alloc, hosts, routers) {
+        match NetState::new(alloc, hosts, routers) {
             Ok(course) => {
                 course.holds();
                 Ok(Net {
                     course,
-                    told: EndsTold::new(alloc),
+                    told: EndSummaries::new(alloc),
                 })
             }
             Err(fault) => Err(fault),
@@ -174,7 +174,7 @@ impl Net {
     pub fn holds(&self)
         ensures { Theorems self.now }
     {
-        Course::holds(&self.course);
+        NetState::holds(&self.course);
     }
 
     /// The log: what happened, from the beginning on.

@@ -1,8 +1,8 @@
 //! Where a parcel comes from.
 
 ghost use Rattle.std.specs.Prelude.{◌≡◌, ◌≤◌, All, ℕ, map, slice_index_or};
-ghost use Rattle.theory_log.specs.Peers.{end_of};
-ghost use Rattle.theory_log.specs.Scan.{asker, nowhere};
+ghost use Rattle.spx_theory.specs.Peers.{end_of};
+ghost use Rattle.spx_theory.specs.Scan.{asker, nowhere};
 ghost use Rattle.ipx_net.specs.Sights.{maker_view, mark_view};
 
 /// Who made a parcel that no router carried.

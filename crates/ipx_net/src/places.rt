@@ -1,7 +1,7 @@
 //! Where the units of each end stand among all units sent.
 
 ghost use Rattle.std.specs.Prelude.{◌≡◌, ◌<◌, ◌==◌, ◌++◌, ℕ, List, [], ◌∷◌, OnErr, count_by, drop, length, map, take};
-ghost use Rattle.theory_log.specs.Scan.{times};
+ghost use Rattle.spx_theory.specs.Scan.{times};
 ghost use Rattle.ipx_net.specs.Places.{AreListed, list_of, places_from};
 
 use crate::entry::Entry;

@@ -1,12 +1,12 @@
 //! A host is polled.
 
 ghost use Rattle.std.specs.Prelude.{◌≡◌, ◌<◌, ◌∷◌, [], IfOk, Some, length};
-ghost use Rattle.theory_log.specs.PacketsOnWay.{note_of};
+ghost use Rattle.spx_theory.specs.PacketsOnWay.{note_of};
 ghost use Rattle.theory_steps.specs.World.{AtHost};
 ghost use Rattle.ipx_net_hosts.specs.Hosts.{SameHomes};
 ghost use Rattle.ipx_net.specs.AnswerView as views;
 ghost use Rattle.ipx_net.specs.LogEntries.{entry_note, entry_notes};
-ghost use Rattle.ipx_net.specs.GrowthView.{GrowsWorld, growth_view};
+ghost use Rattle.ipx_net.specs.StepResultView.{GrowsWorld, step_result_view};
 ghost use Rattle.ipx_net.specs.HostEvents.{PollingHost};
 ghost use Rattle.ipx_net.specs.Parcels.{parcel_view};
 ghost use Rattle.ipx_net.specs.Speaking.{spoken_notes};
@@ -14,7 +14,7 @@ ghost use Rattle.ipx_net.specs.EventWants.{IsMade, PollIsSent};
 
 use crate::answer::Answer;
 use crate::entry::Entry;
-use crate::growth::{Growth, quiet};
+use crate::step_result::{StepResult, quiet};
 use crate::parcel::Parcel;
 use crate::place::Place;
 use ipx_net_hosts::Hosts;
@@ -54,8 +54,8 @@ fn posted(
     parcel: Parcel,
     entries: Vec<Entry>,
     number: usize,
-) -> Result<Growth, OutOfMemory>
-    ensures { IfOk result (λ g. growth_view g ≡ record {
+) -> Result<StepResult, OutOfMemory>
+    ensures { IfOk result (λ g. step_result_view g ≡ record {
       parcels = parcel_view parcel ∷ [];
       notes = entry_notes entries.items;
       answer = views.Parcels (number ∷ []);
@@ -65,7 +65,7 @@ fn posted(
     numbers.push(number)?;
     let mut parcels = Vec::new(alloc);
     parcels.push(parcel)?;
-    Ok(Growth {
+    Ok(StepResult {
         parcels,
         entries,
         answer: Answer::Parcels(numbers),
@@ -103,9 +103,9 @@ pub fn poll_host(
     host: usize,
     first: usize,
     now: u64,
-) -> Result<Growth, OutOfMemory>
+) -> Result<StepResult, OutOfMemory>
     requires { host < length hosts.old.stations }
-    ensures grows { IfOk result (λ g. GrowsWorld hosts.old hosts.new first now (growth_view g)
+    ensures grows { IfOk result (λ g. GrowsWorld hosts.old hosts.new first now (step_result_view g)
         (PollingHost host)) }
     ensures memory { IsMade result → PollIsSent hosts.old host now }
     ensures homes { SameHomes hosts.old hosts.new }

@@ -2,17 +2,17 @@
 
 use crate::reading::Reading;
 use crate::role::Role;
-use crate::scanned::Scanned;
-use theory_log::peer_is_found;
+use crate::log_index::LogIndex;
+use spx_theory::peer_is_found;
 
 /// So many units an end may have sent between the sending of a packet and its reading, less one:
 /// half of all sequence numbers.
 const TOO_MANY: usize = 32_768;
 
-impl Scanned {
+impl LogIndex {
     ghost use Rattle.std.specs.Prelude.{◌≡◌, ◌<◌, ◌↔◌, All, IsTrue, map, option_map, slice_get};
-    ghost use Rattle.theory_log.specs.EndsTold.{peer_in};
-    ghost use Rattle.theory_log.specs.Peers.{IsRecent, units_between};
+    ghost use Rattle.spx_theory.specs.EndsTold.{peer_in};
+    ghost use Rattle.spx_theory.specs.Peers.{IsRecent, units_between};
     ghost use Rattle.ipx_net.specs.Sights.{reading_view, role_view, scan_of};
 
     /// The role of an end, by its number.

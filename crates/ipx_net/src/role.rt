@@ -1,7 +1,7 @@
 //! An end, as the log tells of it.
 
 ghost use Rattle.std.specs.Prelude.{◌≡◌, false, true, None, map, set, slice_index_or};
-ghost use Rattle.theory_log.specs.Scan.{asker, joined_by, no_role};
+ghost use Rattle.spx_theory.specs.Scan.{asker, joined_by, no_role};
 ghost use Rattle.ipx_net.specs.Sights.{maker_view, role_view};
 
 use crate::parcel_origin::Maker;

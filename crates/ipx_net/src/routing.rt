@@ -5,13 +5,13 @@ ghost use Rattle.std.specs.List.{range_with_len};
 ghost use Rattle.ipx_router.specs.OutcomeView.{router_outcome};
 ghost use Rattle.ipx_router.specs.declared.outcome.Outcome.TheVariants as Outcomes;
 ghost use Rattle.ipx_router.specs.RouterPackets.{sending_of, sendings};
-ghost use Rattle.ipx_net.specs.GrowthView.{growth_view};
+ghost use Rattle.ipx_net.specs.StepResultView.{step_result_view};
 ghost use Rattle.ipx_net.specs.RouterEvents.{MemberPolled, MemberReached, routed_growth, told_growth};
 ghost use Rattle.ipx_net.specs.EventWants.{IsMade, IsSent, RouterPollWantsMemory, RouterWantsMemory};
 
 use crate::answer::Answer;
 use crate::entry::Entry;
-use crate::growth::{Growth, quiet};
+use crate::step_result::{StepResult, quiet};
 use crate::parcel::Parcel;
 use crate::routers::{RouterNow, poll_router, post, post_all, told_entries};
 use ipx_router::{Outcome, Port, Reply};
@@ -39,9 +39,9 @@ fn told(
     ports: &[Port],
     replies: Vec<Reply>,
     first: usize,
-) -> Result<Growth, OutOfMemory>
+) -> Result<StepResult, OutOfMemory>
     ensures grows { IfOk result
-        (λ g. growth_view g ≡ told_growth router ports.now first (sendings replies.items)) }
+        (λ g. step_result_view g ≡ told_growth router ports.now first (sendings replies.items)) }
     ensures refused { OnErr result (0 < length replies.items) }
 {
     let count = replies.len();
@@ -51,7 +51,7 @@ fn told(
     let numbers = numbers(alloc, first, count)?;
     let parcels = post_all(alloc, router, ports, replies)?;
     let entries = told_entries(alloc, router, first, &parcels)?;
-    Ok(Growth {
+    Ok(StepResult {
         parcels,
         entries,
         answer: Answer::Parcels(numbers),
@@ -66,9 +66,9 @@ fn carried(
     parcel: usize,
     reply: Reply,
     first: usize,
-) -> Result<Growth, OutOfMemory>
+) -> Result<StepResult, OutOfMemory>
     ensures { IfOk result (λ g.
-        growth_view g
+        step_result_view g
         ≡ routed_growth router ports.now parcel first (router_outcome (Outcomes.Forward reply))) }
 {
     let mut numbers = Vec::new(alloc);
@@ -80,7 +80,7 @@ fn carried(
     })?;
     let mut parcels = Vec::new(alloc);
     parcels.push(post(router, ports, reply))?;
-    Ok(Growth {
+    Ok(StepResult {
         parcels,
         entries,
         answer: Answer::Parcels(numbers),
@@ -95,10 +95,10 @@ pub fn poll_member(
     router: usize,
     first: usize,
     now: u64,
-) -> Result<Growth, OutOfMemory>
+) -> Result<StepResult, OutOfMemory>
     requires { router < length routers.old }
     ensures polled { IfOk result
-        (λ g. MemberPolled routers.old router first now (growth_view g) routers.new) }
+        (λ g. MemberPolled routers.old router first now (step_result_view g) routers.new) }
     ensures memory { IsMade result
         → IfSome (slice_get routers.old router) (λ r. RouterPollWantsMemory r now) }
 {
@@ -116,9 +116,9 @@ fn routed(
     parcel: usize,
     outcome: Outcome,
     first: usize,
-) -> Result<Growth, OutOfMemory>
+) -> Result<StepResult, OutOfMemory>
     ensures grows { IfOk result
-        (λ g. growth_view g ≡ routed_growth router ports.now parcel first (router_outcome outcome)) }
+        (λ g. step_result_view g ≡ routed_growth router ports.now parcel first (router_outcome outcome)) }
     ensures memory { IsMade result → IsSent (router_outcome outcome) }
 {
     match outcome {
@@ -139,13 +139,13 @@ pub fn deliver_member(
     bytes: &[u8],
     first: usize,
     now: u64,
-) -> Result<Growth, OutOfMemory>
+) -> Result<StepResult, OutOfMemory>
     requires there { router < length routers.old }
     requires port { IfSome (slice_get routers.old router)
         (λ r. (1 ≤ port) × (port ≤ length r.router.ports)) }
     ensures reached { IfOk result (λ g.
         MemberReached routers.old router port parcel bytes.now first now
-        (growth_view g) routers.new) }
+        (step_result_view g) routers.new) }
     ensures memory { IsMade result → RouterWantsMemory routers.old router port bytes.now now }
 {
     let member = &mut routers[router];

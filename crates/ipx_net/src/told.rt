@@ -3,25 +3,25 @@
 ghost use Rattle.std.specs.Prelude.{◌≡◌, ◌≢◌, ◌<◌, ◌≤◌, ◌+◌, ◌-◌, ◌^◌, ℕ, [], OnErr, OnOk, Some, length, set, slice_get, take, vec_capacity, vec_len};
 ghost use Rattle.ipx_net_hosts.specs.Hosts.{FitTogether};
 ghost use Rattle.ipx_net_hosts.specs.EndTelling.{here_at, state_on_host};
-ghost use Rattle.theory_log.specs.EndsTold.{peer_of};
-ghost use Rattle.theory_log.specs.Scan.{scan};
+ghost use Rattle.spx_theory.specs.EndsTold.{peer_of};
+ghost use Rattle.spx_theory.specs.Scan.{scan};
 ghost use Rattle.theory_steps.specs.World.{end_at};
 ghost use Rattle.ipx_net.specs.Ends.{nobody, told_of};
 ghost use Rattle.ipx_net.specs.LogEntries.{entry_note, entry_notes};
 ghost use Rattle.ipx_net.specs.Theorems.{AreNumbered};
 ghost use Rattle.ipx_net.specs.ToldEnds.{AreCounted, StandsSo, StayAlone, StayAs, change, joins, logged, one_given, one_out, one_sent, made_peers, paired_by, settled, standing, state_by, stood, told_with, with_peer};
 
-use crate::book::Book;
+use crate::indexed_log::IndexedLog;
 use crate::endinfo::EndInfo;
 use crate::entry::Entry;
 use ipx_net_hosts::Hosts;
 use spx_link::State;
 use std::alloc::{AllocError, Global};
-use theory_log::peer_is_found;
+use spx_theory::peer_is_found;
 
 /// What is told of each end, by its number.
 #[derive(Drop)]
-pub struct EndsTold {
+pub struct EndSummaries {
     pub infos: Vec<EndInfo>,
 }
 
@@ -151,12 +151,12 @@ fn joining(entry: &Entry) -> Option<usize>
     }
 }
 
-impl EndsTold {
+impl EndSummaries {
     /// Of no end yet.
-    pub fn new(alloc: Global) -> EndsTold
+    pub fn new(alloc: Global) -> EndSummaries
         ensures { result.infos.items ≡ [] }
     {
-        EndsTold {
+        EndSummaries {
             infos: Vec::new(alloc),
         }
     }
@@ -226,30 +226,30 @@ impl EndsTold {
     }
 
     /// The peer of the end that an entry of a book made or joined.
-    fn pair_by(&mut self, entry: &Entry, book: &Book)
+    fn pair_by(&mut self, entry: &Entry, indexed_log: &IndexedLog)
         ensures { self.new.infos.items
-            ≡ paired_by (joins (entry_note entry.now)) book.now.log self.old.infos.items }
+            ≡ paired_by (joins (entry_note entry.now)) indexed_log.now.log self.old.infos.items }
     {
         if let Some(who) = joining(entry) {
-            self.pair(who, book.peer(who));
+            self.pair(who, indexed_log.peer(who));
         }
     }
 
     /// The peers of the ends that the entries of a book from a place on made or joined.
-    pub fn pair_from(&mut self, book: &Book, from: usize)
-        requires range { from ≤ length book.now.log }
-        requires numbered { AreNumbered book.now.log }
-        requires made { length self.old.infos.items ≡ length (scan book.now.log).roles }
+    pub fn pair_from(&mut self, indexed_log: &IndexedLog, from: usize)
+        requires range { from ≤ length indexed_log.now.log }
+        requires numbered { AreNumbered indexed_log.now.log }
+        requires made { length self.old.infos.items ≡ length (scan indexed_log.now.log).roles }
         requires before { (e : ℕ) → (told_of self.old.infos.items e).peer
-            ≡ peer_of (take from book.now.log) e }
-        ensures peers { (e : ℕ) → (told_of self.new.infos.items e).peer ≡ peer_of book.now.log e }
+            ≡ peer_of (take from indexed_log.now.log) e }
+        ensures peers { (e : ℕ) → (told_of self.new.infos.items e).peer ≡ peer_of indexed_log.now.log e }
         ensures alone { StayAlone self.old.infos.items self.new.infos.items }
         ensures count { length self.new.infos.items ≡ length self.old.infos.items }
     {
         peer_is_found();
-        let log = book.log();
+        let log = indexed_log.log();
         for at in from..log.len() {
-            self.pair_by(&log[at], book);
+            self.pair_by(&log[at], indexed_log);
         }
     }
 

@@ -9,7 +9,7 @@ use Rattle.spx_messages.specs.declared.fault.EndFault.{EndFault}
 use Rattle.spx_messages.specs.declared.fault.EndFault.TheVariants as EndFaults
 use Rattle.spx_units.specs.declared.fault.MessageFault.TheVariants as MessageFaults
 use Rattle.spx_messages.specs.EndpointView.{Held, held_at}
-use Rattle.theory_log.specs.Note.{Note}
+use Rattle.spx_theory.specs.Note.{Note}
 use Rattle.theory_steps.specs.EndCalls.{RefusesAt}
 use Rattle.theory_steps.specs.HostSteps.{ends_after, here_after}
 use Rattle.ipx_net_hosts.specs.declared.refusal.Refusal.{Refusal}

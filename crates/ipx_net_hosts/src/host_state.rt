@@ -177,14 +177,14 @@ impl HostState {
     }
 
     /// A link gets a window, by the clock or by hand. It is refused where no link has the id.
-    pub fn pace(&mut self, id: u16, window: u16, by_hand: bool) -> Result<(), EndFault>
+    pub fn pace(&mut self, id: u16, window: u16, manual: bool) -> Result<(), EndFault>
         ensures ok { IfSome (held_at self.old.endpoint id) (λ h. OnOk result (ChangesAt self.old id
-            (record h { link = pace_link h.link window by_hand }) self.new)) }
+            (record h { link = pace_link h.link window manual }) self.new)) }
         ensures done { IfSome (held_at self.old.endpoint id) (λ _. IsOk result) }
         ensures refused { OnErr result (StaysAt self.old self.new) }
         ensures home { home_of self.new.endpoint ≡ home_of self.old.endpoint }
     {
-        if let Err(fault) = self.endpoint.pace(id, window, by_hand) {
+        if let Err(fault) = self.endpoint.pace(id, window, manual) {
             return Err(fault);
         }
         Ok(())

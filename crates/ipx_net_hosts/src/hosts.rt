@@ -4,7 +4,7 @@ ghost use Rattle.std.specs.Prelude.{◌≡◌, ◌≢◌, ◌<◌, ◌≤◌, �
 ghost use Rattle.ipx_wire.specs.Assigned.{spx_max_packet_size};
 ghost use Rattle.spx_link.specs.Limits.{most_units};
 ghost use Rattle.spx_units.specs.Message.{message_view};
-ghost use Rattle.theory_log.specs.Note.{AsksEnd, HandsIn, Opened, Released};
+ghost use Rattle.spx_theory.specs.Note.{AsksEnd, HandsIn, Opened, Released};
 ghost use Rattle.theory_steps.specs.EndCalls.{AsksAgainOf, Closes, DialsFrom, PacesOf, ReleasesOf, SendsTo};
 ghost use Rattle.theory_steps.specs.HostSteps.{TakesOf, buffers_of, unit_notes, whole_notes};
 ghost use Rattle.theory_steps.specs.World.{end_at};
@@ -173,16 +173,16 @@ impl Hosts {
     }
 
     /// The link of an end that stands gets a window, by the clock or by hand. It is not refused.
-    pub fn pace(&mut self, who: usize, window: u16, by_hand: bool, now: u64) -> Result<(), EndFault>
+    pub fn pace(&mut self, who: usize, window: u16, manual: bool, now: u64) -> Result<(), EndFault>
         requires order { FitTogether self.old }
         requires stands { stands self.old who ≡ true }
         ensures ok { OnOk result (Noting self.old self.new now []
-            (λ w w'. PacesOf w who window by_hand w')) }
+            (λ w w'. PacesOf w who window manual w')) }
         ensures done { IsOk result }
         ensures homes { SameHomes self.old self.new }
     {
         let (host, id) = self.place(who);
-        self.stations[host].pace(id, window, by_hand)
+        self.stations[host].pace(id, window, manual)
     }
 
     /// A place of the link of an end that stands is asked for again. It is not refused.

@@ -1,15 +1,15 @@
 //! A book: what it tells of small logs, written by hand.
 
-use ipx_net::{Book, Entry, NetFault, Parcel};
+use ipx_net::{IndexedLog, Entry, NetFault, Parcel};
 use ipx_wire::{Network, Node};
 use spx_units::Message;
 use std::alloc::{AllocError, Global};
 use std::test::Fail;
 
 /// One entry more.
-pub fn note(alloc: Global, book: &mut Book, entry: Entry) -> Result<(), Fail> {
+pub fn note(alloc: Global, indexed_log: &mut IndexedLog, entry: Entry) -> Result<(), Fail> {
     let entries = vec![in alloc; entry]?;
-    book.append(Vec::new(alloc), entries)?;
+    indexed_log.append(Vec::new(alloc), entries)?;
     Ok(())
 }
 
@@ -52,29 +52,29 @@ pub fn joining(alloc: Global) -> Result<Vec<Entry>, AllocError> {
 }
 
 /// A book of two peers.
-fn joined(alloc: Global) -> Result<Book, Fail> {
-    let mut book = Book::new(alloc);
-    book.append(Vec::new(alloc), joining(alloc)?)?;
-    Ok(book)
+fn joined(alloc: Global) -> Result<IndexedLog, Fail> {
+    let mut indexed_log = IndexedLog::new(alloc);
+    indexed_log.append(Vec::new(alloc), joining(alloc)?)?;
+    Ok(indexed_log)
 }
 
 #[test]
 fn peers(rt: HostRuntime) -> Result<(), Fail> {
-    let mut book = joined(rt.alloc())?;
+    let mut indexed_log = joined(rt.alloc())?;
     note(
         rt.alloc(),
-        &mut book,
+        &mut indexed_log,
         Entry::Opened {
             who: 2,
             host: 1,
             buffers: 8,
         },
     )?;
-    assert_eq!(rt; book.log().len(), 8);
-    assert_eq!(rt; book.peer(0), Some(1));
-    assert_eq!(rt; book.peer(1), Some(0));
-    assert_eq!(rt; book.peer(2), None);
-    assert_eq!(rt; book.peer(3), None);
+    assert_eq!(rt; indexed_log.log().len(), 8);
+    assert_eq!(rt; indexed_log.peer(0), Some(1));
+    assert_eq!(rt; indexed_log.peer(1), Some(0));
+    assert_eq!(rt; indexed_log.peer(2), None);
+    assert_eq!(rt; indexed_log.peer(3), None);
     Ok(())
 }
 
@@ -82,11 +82,11 @@ fn peers(rt: HostRuntime) -> Result<(), Fail> {
 #[test]
 fn parcels(rt: HostRuntime) -> Result<(), Fail> {
     let alloc = rt.alloc();
-    let mut book = Book::new(alloc);
-    book.append(vec![in alloc; parcel(alloc, 7)?]?, Vec::new(alloc))?;
-    book.append(vec![in alloc; parcel(alloc, 8)?]?, Vec::new(alloc))?;
-    assert_eq!(rt; book.parcels().len(), 2);
-    let last = book
+    let mut indexed_log = IndexedLog::new(alloc);
+    indexed_log.append(vec![in alloc; parcel(alloc, 7)?]?, Vec::new(alloc))?;
+    indexed_log.append(vec![in alloc; parcel(alloc, 8)?]?, Vec::new(alloc))?;
+    assert_eq!(rt; indexed_log.parcels().len(), 2);
+    let last = indexed_log
         .parcels()
         .last()
         .map_or(0, |p| p.bytes.first().copied().unwrap_or(0));
@@ -95,11 +95,11 @@ fn parcels(rt: HostRuntime) -> Result<(), Fail> {
 }
 
 /// End 0 hands in 7 and 8, end 1 hands out 7 and then another byte.
-fn handed(alloc: Global, byte: u8) -> Result<Book, Fail> {
-    let mut book = joined(alloc)?;
+fn handed(alloc: Global, byte: u8) -> Result<IndexedLog, Fail> {
+    let mut indexed_log = joined(alloc)?;
     note(
         alloc,
-        &mut book,
+        &mut indexed_log,
         Entry::HandIn {
             who: 0,
             message: message(alloc, 7)?,
@@ -107,7 +107,7 @@ fn handed(alloc: Global, byte: u8) -> Result<Book, Fail> {
     )?;
     note(
         alloc,
-        &mut book,
+        &mut indexed_log,
         Entry::HandIn {
             who: 0,
             message: message(alloc, 8)?,
@@ -115,7 +115,7 @@ fn handed(alloc: Global, byte: u8) -> Result<Book, Fail> {
     )?;
     note(
         alloc,
-        &mut book,
+        &mut indexed_log,
         Entry::HandOut {
             who: 1,
             message: message(alloc, 7)?,
@@ -123,13 +123,13 @@ fn handed(alloc: Global, byte: u8) -> Result<Book, Fail> {
     )?;
     note(
         alloc,
-        &mut book,
+        &mut indexed_log,
         Entry::HandOut {
             who: 1,
             message: message(alloc, byte)?,
         },
     )?;
-    Ok(book)
+    Ok(indexed_log)
 }
 
 #[test]
@@ -144,45 +144,45 @@ fn begins_rows(rt: HostRuntime) -> Result<(), Fail> {
 /// An end that has no peer hands out something.
 #[test]
 fn alone(rt: HostRuntime) -> Result<(), Fail> {
-    let mut book = joined(rt.alloc())?;
+    let mut indexed_log = joined(rt.alloc())?;
     note(
         rt.alloc(),
-        &mut book,
+        &mut indexed_log,
         Entry::Opened {
             who: 2,
             host: 1,
             buffers: 8,
         },
     )?;
-    assert!(rt; book.begins(2));
+    assert!(rt; indexed_log.begins(2));
     note(
         rt.alloc(),
-        &mut book,
+        &mut indexed_log,
         Entry::HandOut {
             who: 2,
             message: message(rt.alloc(), 7)?,
         },
     )?;
-    assert!(rt; !book.begins(2));
+    assert!(rt; !indexed_log.begins(2));
     Ok(())
 }
 
 /// End 1 reads parcel 2 of its peer, which sent so many units after it.
-fn behind(alloc: Global, units: usize) -> Result<Book, Fail> {
-    let mut book = joined(alloc)?;
-    note(alloc, &mut book, Entry::System { who: 0, parcel: 2 })?;
+fn behind(alloc: Global, units: usize) -> Result<IndexedLog, Fail> {
+    let mut indexed_log = joined(alloc)?;
+    note(alloc, &mut indexed_log, Entry::System { who: 0, parcel: 2 })?;
     for k in 0..units {
         note(
             alloc,
-            &mut book,
+            &mut indexed_log,
             Entry::Unit {
                 who: 0,
                 parcel: k.wrapping_add(3),
             },
         )?;
     }
-    note(alloc, &mut book, Entry::Got { who: 1, parcel: 2 })?;
-    Ok(book)
+    note(alloc, &mut indexed_log, Entry::Got { who: 1, parcel: 2 })?;
+    Ok(indexed_log)
 }
 
 #[test]
@@ -197,20 +197,20 @@ fn fresh_rows(rt: HostRuntime) -> Result<(), Fail> {
 #[test]
 fn units_of_no_end(rt: HostRuntime) -> Result<(), Fail> {
     let alloc = rt.alloc();
-    let mut book = joined(alloc)?;
-    note(alloc, &mut book, Entry::System { who: 0, parcel: 2 })?;
+    let mut indexed_log = joined(alloc)?;
+    note(alloc, &mut indexed_log, Entry::System { who: 0, parcel: 2 })?;
     for k in 0..40_000usize {
         note(
             alloc,
-            &mut book,
+            &mut indexed_log,
             Entry::Unit {
                 who: 9,
                 parcel: k.wrapping_add(3),
             },
         )?;
     }
-    note(alloc, &mut book, Entry::Got { who: 1, parcel: 2 })?;
-    assert!(rt; book.fresh());
+    note(alloc, &mut indexed_log, Entry::Got { who: 1, parcel: 2 })?;
+    assert!(rt; indexed_log.fresh());
     Ok(())
 }
 

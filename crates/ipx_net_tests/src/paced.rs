@@ -40,14 +40,14 @@ fn send(alloc: Global, net: &mut Net) -> Result<Answer, Fail> {
 }
 
 fn pace(rt: &impl Abort, alloc: Global, net: &mut Net, window: u16) -> Result<(), NetFault> {
-    let by_hand = true;
+    let manual = true;
     let who = 0;
     let paced = net.step(
         alloc,
         Event::Pace {
             who,
             window,
-            by_hand,
+            manual,
         },
     )?;
     assert!(rt; matches!(paced, Answer::Done));
@@ -95,13 +95,13 @@ fn paced_no_such_end(rt: HostRuntime) -> Result<(), Fail> {
     dial(alloc, &mut net)?;
     pace(&rt, alloc, &mut net, 3)?;
     net.step(alloc, Event::Release { who: 0 })?;
-    let (who, window, by_hand) = (0, 3, false);
+    let (who, window, manual) = (0, 3, false);
     let released = net.step(
         alloc,
         Event::Pace {
             who,
             window,
-            by_hand,
+            manual,
         },
     );
     assert!(rt; matches!(released, Err(NetFault::NoSuchEnd)));

@@ -1,7 +1,7 @@
 //! A book where memory is refused. Run these with each request for memory refused.
 
 use crate::book::{joining, parcel};
-use ipx_net::{Book, Entry, Parcel};
+use ipx_net::{IndexedLog, Entry, Parcel};
 use std::alloc::{AllocError, Global};
 use std::process::Abort;
 use std::test::Fail;
@@ -29,24 +29,24 @@ fn parcel_at_last(alloc: Global) -> Result<Vec<Parcel>, AllocError> {
 }
 
 /// Appends, and once more where memory was refused: the book is then as it was.
-fn append_at_last(rt: &impl Abort, alloc: Global, book: &mut Book) -> Result<(), Fail> {
+fn append_at_last(rt: &impl Abort, alloc: Global, indexed_log: &mut IndexedLog) -> Result<(), Fail> {
     let parcels = parcel_at_last(alloc)?;
     let entries = entries_at_last(alloc)?;
-    if book.append(parcels, entries).is_err() {
-        assert_eq!(rt; book.log().len(), 0);
-        assert_eq!(rt; book.parcels().len(), 0);
-        book.append(one_parcel(alloc)?, joining(alloc)?)?;
+    if indexed_log.append(parcels, entries).is_err() {
+        assert_eq!(rt; indexed_log.log().len(), 0);
+        assert_eq!(rt; indexed_log.parcels().len(), 0);
+        indexed_log.append(one_parcel(alloc)?, joining(alloc)?)?;
     }
     Ok(())
 }
 
 #[test]
 fn refused_append(rt: HostRuntime) -> Result<(), Fail> {
-    let mut book = Book::new(rt.alloc());
-    append_at_last(&rt, rt.alloc(), &mut book)?;
-    assert_eq!(rt; book.log().len(), 7);
-    assert_eq!(rt; book.parcels().len(), 1);
-    assert_eq!(rt; book.peer(1), Some(0));
-    assert!(rt; book.fresh());
+    let mut indexed_log = IndexedLog::new(rt.alloc());
+    append_at_last(&rt, rt.alloc(), &mut indexed_log)?;
+    assert_eq!(rt; indexed_log.log().len(), 7);
+    assert_eq!(rt; indexed_log.parcels().len(), 1);
+    assert_eq!(rt; indexed_log.peer(1), Some(0));
+    assert!(rt; indexed_log.fresh());
     Ok(())
 }

@@ -7,10 +7,10 @@ use Rattle.std.proofs.lemmas.List.{length-map}
 use Rattle.spx_link.specs.declared.state.State.{State}
 use Rattle.spx_link.specs.declared.state.State.TheVariants.{Confirmed}
 use Rattle.spx_messages.specs.EndpointView.{Held}
-use Rattle.theory_log.specs.Close.{HoldsAll}
-use Rattle.theory_log.specs.Peers.{ArePeers, Premises}
-use Rattle.theory_log.specs.Scan.{scan}
-use Rattle.theory_log.specs.Scene.{Stand}
+use Rattle.spx_theory.specs.Close.{HoldsAll}
+use Rattle.spx_theory.specs.Peers.{ArePeers, Premises}
+use Rattle.spx_theory.specs.Scan.{scan}
+use Rattle.spx_theory.specs.Scene.{Stand}
 use Rattle.theory_steps.specs.World.{EndNow, World, held_of, scene_of, stand_of, stand_with}
 use Rattle.ipx_net_hosts.specs.EndTelling.{state_of}
 use Rattle.ipx_net.specs.Ends.{TellsClosed, TellsEnds, nobody, told_of}

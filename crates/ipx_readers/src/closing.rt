@@ -1,8 +1,8 @@
 //! The close of a connection, as one reads it off a network.
 
 ghost use Rattle.std.specs.Prelude.{◌≡◌, IfSome, false};
-ghost use Rattle.theory_log.specs.Close.{HoldsAll};
-ghost use Rattle.theory_log.specs.Peers.{Premises};
+ghost use Rattle.spx_theory.specs.Close.{HoldsAll};
+ghost use Rattle.spx_theory.specs.Peers.{Premises};
 ghost use Rattle.theory_steps.specs.World.{scene_of};
 ghost use Rattle.ipx_readers.specs.ConfirmedEnds.{ConfirmedHavePeers, IsFoundWhereConfirmed};
 

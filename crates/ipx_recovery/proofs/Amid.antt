@@ -26,7 +26,7 @@ use Rattle.ipx_recovery.proofs.Giving.{Gave, KindOf, Owed}
 use Rattle.ipx_recovery.proofs.Entries.{Entry, IsMet, Told, carries_unit, entry, owes_on, position_low}
 use Rattle.ipx_recovery.proofs.Hearers.{Fed, HeardBy, fed_got, heard_on}
 use Rattle.ipx_recovery.proofs.Lists.{slice_get-behind, slice_get-drop, slice_get-take}
-use Rattle.theory_log.specs.Named.{AreNamed}
+use Rattle.spx_theory.specs.Named.{AreNamed}
 
 -- unless the peer ended, no unit that was read is its end
 abbrev pub Unread : LinkView → End → End → Type 0
@@ -62,7 +62,7 @@ pub record Mid (now : ℕ) (a0 b0 : LinkView) (c0 d0 : End) (a b : LinkView) (c 
 
 -- a link that is as another, in window and by hand
 pub unpaced_as : (l k : LinkView) → pace_of k ≡ pace_of l → IsUnpaced l → IsUnpaced k
-unpaced_as l k same u = record { window = ap (λ (p : ℕ × Bool). p.0) same ∙ u.window; by_hand = ap (λ (p : ℕ × Bool). p.1) same ∙ u.by_hand }
+unpaced_as l k same u = record { window = ap (λ (p : ℕ × Bool). p.0) same ∙ u.window; manual = ap (λ (p : ℕ × Bool). p.1) same ∙ u.manual }
 
 probes_on : (what : Sent) (now : ℕ) (a m b b' : LinkView) (g : OutgoingView) → Gave a now g m → KindOf what a now g m → (Owes b → Owes b') → (g.header.wants_ack ≡ true → is_system g.header ≡ true → Owes b')
     → (a.probes < most_sends) ⊎ ((a.spoke ≡ now) × Owes b) → (m.probes < most_sends) ⊎ ((m.spoke ≡ now) × Owes b')

@@ -25,7 +25,7 @@ use Rattle.ipx_recovery.proofs.Giving.{Gave, KindsBy, GivesUp, Owed, poll_kinds}
 use Rattle.ipx_recovery.proofs.Amid.{Mid, outstanding_there, step}
 use Rattle.ipx_recovery.proofs.Entries.{Told}
 use Rattle.ipx_recovery.proofs.Lists.{and_both, no_place, slice_get-take}
-use Rattle.theory_log.specs.Named.{AreNamed}
+use Rattle.spx_theory.specs.Named.{AreNamed}
 
 pub record Crossed (now : ℕ) (a0 b0 : LinkView) (c0 d0 : End) (a b : LinkView) : Type 0 where
   pub one : End
@@ -39,7 +39,7 @@ never_gives_up now a0 b0 c0 d0 a b c d mid g =
     elim g.why [
       | inl late' ↦ elim (mid.met works late'.place late'.unit late'.below late'.there) [
         | inl few ↦ absurd (omega (arith, few.1, leb-true most_sends late'.unit.count late'.often))
-        | inr now' ↦ absurd (cc (sym (ap (λ t. due t now) now'.0 ∙ not_yet now) ∙ late'.due' mid.pace.by_hand))
+        | inr now' ↦ absurd (cc (sym (ap (λ t. due t now) now'.0 ∙ not_yet now) ∙ late'.due' mid.pace.manual))
       ]
       | inr probe ↦ elim (mid.probes works) [
         | inl few ↦ absurd (omega (arith, few, leb-true most_sends a.probes probe.often))
@@ -66,9 +66,9 @@ cross laws now a0 b0 c0 d0 names joined a b a' b' (goes {a1 = a1} {b1 = b1} g r 
 -- ---- what has crossed
 
 -- a link that rests has nothing outstanding that is due
-not_late : (l : LinkView) (now k : ℕ) (q : Queued) → l.by_hand ≡ false → is_working l.state ≡ true → late_if_working l now ≡ None → k < l.out → slice_get l.queue k ≡ Some q → due q.at now ≡ false
+not_late : (l : LinkView) (now k : ℕ) (q : Queued) → l.manual ≡ false → is_working l.state ≡ true → late_if_working l now ≡ None → k < l.out → slice_get l.queue k ≡ Some q → due q.at now ≡ false
 not_late l now k q clock works none below is =
-    let found : late l now ≡ None = sym (cond-false l.by_hand (asked_again l) (late l now) clock) ∙ (sym (cond-true (is_working l.state) (wanted l now) None works) ∙ none) in
+    let found : late l now ≡ None = sym (cond-false l.manual (asked_again l) (late l now) clock) ∙ (sym (cond-true (is_working l.state) (wanted l now) None works) ∙ none) in
     let front : slice_get (take l.out l.queue) k ≡ Some q = slice_get-take l.out l.queue k below ∙ is in
     no_place (λ (x : Queued). due x.at now) (take l.out l.queue) k q found front
 
@@ -81,7 +81,7 @@ all_met now a0 b0 c0 d0 a b x works k below =
     let q : Queued = get_or a.queue k (queued the_end) in
     let is : slice_get a.queue k ≡ Some q = slice_get-get_or a.queue k (queued the_end) within in
     elim (mid.met works k q below is) [
-      | inl late' ↦ absurd (cc (sym late'.0 ∙ not_late a now k q mid.pace.by_hand (ap is_working mid.state ∙ works) x.rests.late below is))
+      | inl late' ↦ absurd (cc (sym late'.0 ∙ not_late a now k q mid.pace.manual (ap is_working mid.state ∙ works) x.rests.late below is))
       | inr met ↦ (met.1, met.2)
     ]
 

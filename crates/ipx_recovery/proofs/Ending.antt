@@ -80,11 +80,11 @@ wanted_working l now k is =
     (cases_Bool (is_working l.state))
 
 -- by the clock, the first that is late is due
-pub late_due : (l : LinkView) (now k : ℕ) (q : Queued) → l.by_hand ≡ false → late_if_working l now ≡ Some k → slice_get l.queue k ≡ Some q → due q.at now ≡ true
+pub late_due : (l : LinkView) (now k : ℕ) (q : Queued) → l.manual ≡ false → late_if_working l now ≡ Some k → slice_get l.queue k ≡ Some q → due q.at now ≡ true
 late_due l now k q clock late' is =
     ⊎_elim
     (λ (works : is_working l.state ≡ true).
-    let found : late l now ≡ Some k = sym (cond-false l.by_hand (asked_again l) (late l now) clock) ∙ (wanted_working l now k late').1 in
+    let found : late l now ≡ Some k = sym (cond-false l.manual (asked_again l) (late l now) clock) ∙ (wanted_working l now k late').1 in
     let at = position-Some (λ (x : Queued). due x.at now) (take l.out l.queue) k q found in
     let below : k < l.out = omega (arith, at.0, length-take l.out l.queue) in
     let here = get_or-take l.out l.queue k q below ∙ get_or_from_slice_get l.queue k q q is in
@@ -98,13 +98,13 @@ again_fewer l now k q late' is =
     let spoke : one_if (due now now) ≡ 0 = ap one_if (not_yet now) in
     let y : Queued = record { unit = q.unit; at = now; count = q.count + 1 } in
     ⊎_elim
-    (λ (hand : l.by_hand ≡ true).
-    let found : asked_again l ≡ Some k = sym (cond-true l.by_hand (asked_again l) (late l now) hand) ∙ (wanted_working l now k late').1 in
+    (λ (hand : l.manual ≡ true).
+    let found : asked_again l ≡ Some k = sym (cond-true l.manual (asked_again l) (late l now) hand) ∙ (wanted_working l now k late').1 in
     let asked : is_some l.again ≡ true = place_some (length (take l.out l.queue)) k l.again found in
     omega (arith, spoke, lates_kept now l.queue k y (not_yet now), length-set l.queue k y, ap one_if asked))
-    (λ (clock : l.by_hand ≡ false).
+    (λ (clock : l.manual ≡ false).
     omega (arith, spoke, lates_fewer now l.queue k q y is (late_due l now k q clock late' is) (not_yet now), length-set l.queue k y))
-    (cases_Bool l.by_hand)
+    (cases_Bool l.manual)
 
 joined_fewer : (l : LinkView) (now : ℕ) → FewerBy l now (poll_reply l now)
 joined_fewer l now =

@@ -87,7 +87,7 @@ pub record LateTooOften (l : LinkView) (now : ℕ) : Type 0 where
   pub unit : Queued
   pub below : place < l.out
   pub there : slice_get l.queue place ≡ Some unit
-  pub due' : l.by_hand ≡ false → due unit.at now ≡ true
+  pub due' : l.manual ≡ false → due unit.at now ≡ true
   pub often : nat_le most_sends unit.count ≡ true
 
 pub record ProbedTooOften (l : LinkView) (now : ℕ) : Type 0 where
@@ -113,10 +113,10 @@ pub record IsLate (l : LinkView) (now k : ℕ) : Type 0 where
 wanted_below : (l : LinkView) (now k : ℕ) → wanted l now ≡ Some k → k < length (take l.out l.queue)
 wanted_below l now k is =
     ⊎_elim
-    (λ (hand : l.by_hand ≡ true). place_under (length (take l.out l.queue)) k l.again (sym (cond-true l.by_hand (asked_again l) (late l now) hand) ∙ is))
-    (λ (clock : l.by_hand ≡ false).
-    (position-Some (λ (x : Queued). due x.at now) (take l.out l.queue) k (queued the_end) (sym (cond-false l.by_hand (asked_again l) (late l now) clock) ∙ is)).0)
-    (cases_Bool l.by_hand)
+    (λ (hand : l.manual ≡ true). place_under (length (take l.out l.queue)) k l.again (sym (cond-true l.manual (asked_again l) (late l now) hand) ∙ is))
+    (λ (clock : l.manual ≡ false).
+    (position-Some (λ (x : Queued). due x.at now) (take l.out l.queue) k (queued the_end) (sym (cond-false l.manual (asked_again l) (late l now) clock) ∙ is)).0)
+    (cases_Bool l.manual)
 
 is_late : (l : LinkView) (now k : ℕ) → late_if_working l now ≡ Some k → IsLate l now k
 is_late l now k is =

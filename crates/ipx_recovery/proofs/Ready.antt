@@ -19,7 +19,7 @@ use Rattle.ipx_recovery.proofs.Taking.{TookAll}
 use Rattle.ipx_recovery.proofs.Amid.{Mid}
 use Rattle.ipx_recovery.proofs.Entries.{owes_on}
 use Rattle.ipx_recovery.proofs.Hearers.{Course, HeardBy, heard_same}
-use Rattle.theory_log.specs.Named.{AreNamed}
+use Rattle.spx_theory.specs.Named.{AreNamed}
 
 -- no unit outstanding and no probe was sent ten times
 abbrev pub Able : LinkView → Type 0

@@ -7,16 +7,16 @@ use Rattle.ipx_recovery.specs.LinkLaws.{LinkLaws}
 use Rattle.spx_link.specs.LinkView.{LinkView}
 use Rattle.spx_link.specs.Machine.{End, AreSound}
 use Rattle.theory_pairs.specs.Tracks.{Follows}
-use Rattle.theory_log.specs.Deeds.{Reached}
-use Rattle.theory_log.specs.Handed.{taken_of, units_of}
-use Rattle.theory_log.specs.InStep.{PeersAreInStep, PeersFollow, pair_in}
-use Rattle.theory_log.specs.Peers.{ArePeersIn, Premises}
-use Rattle.theory_log.specs.Scan.{scan}
-use Rattle.theory_log.specs.Scene.{Scene, Stand, Stands}
+use Rattle.spx_theory.specs.Deeds.{Reached}
+use Rattle.spx_theory.specs.Handed.{taken_of, units_of}
+use Rattle.spx_theory.specs.InStep.{PeersAreInStep, PeersFollow, pair_in}
+use Rattle.spx_theory.specs.Peers.{ArePeersIn, Premises}
+use Rattle.spx_theory.specs.Scan.{scan}
+use Rattle.spx_theory.specs.Scene.{Scene, Stand, Stands}
 use Rattle.ipx_recovery.specs.RoundsDeliver.{CanDeliver, IsDelivered, RoundsDeliver, RoundsDeliverBothWays}
 use Rattle.ipx_recovery.specs.Stuck.{CanGoOn, NoPairIsStuck, NoStateIsStuck, NothingIsStuckByAddresses}
-use Rattle.theory_log.specs.Named.{AreNamed, PeersAreNamed}
-use Rattle.theory_log.specs.Addresses.{AddressesTellPeers}
+use Rattle.spx_theory.specs.Named.{AreNamed, PeersAreNamed}
+use Rattle.spx_theory.specs.Addresses.{AddressesTellPeers}
 use Rattle.ipx_recovery.proofs.Speaking.{swapped}
 use Rattle.ipx_recovery.proofs.Lists.{slice_get-take}
 use Rattle.ipx_recovery.proofs.Well.{WellAt, none_is_end, wells}

@@ -18,11 +18,11 @@ use Rattle.spx_link.specs.Receive.{any_end, after_end, is_own, is_reply, joined_
 use Rattle.spx_units.specs.Message.{MessageView}
 use Rattle.spx_units.specs.Cut.{cut_of}
 use Rattle.theory_pairs.specs.Tracks.{may_end}
-use Rattle.theory_log.specs.Note.{Note, Opened, Accepted, Got, HandsIn, AsksEnd, TakesUnit, Released, Told, Carried, Injected}
-use Rattle.theory_log.specs.Handed.{taken_by, taken_of}
-use Rattle.theory_log.specs.Scene.{Scene, Stand, Stands, linked}
-use Rattle.theory_log.specs.PacketsOnWay.{note_of, notes_of, out_notes}
-use Rattle.theory_log.specs.Deeds.{Deed, DoesDeed, Dials, Accepts, Reads, OwesReply, Paces, AsksAgain, Gives, Rests, Sends, Takes, Overruns, Closes, Releases, Carries, Tells, Injects, Reached, begun, happened}
+use Rattle.spx_theory.specs.Note.{Note, Opened, Accepted, Got, HandsIn, AsksEnd, TakesUnit, Released, Told, Carried, Injected}
+use Rattle.spx_theory.specs.Handed.{taken_by, taken_of}
+use Rattle.spx_theory.specs.Scene.{Scene, Stand, Stands, linked}
+use Rattle.spx_theory.specs.PacketsOnWay.{note_of, notes_of, out_notes}
+use Rattle.spx_theory.specs.Deeds.{Deed, DoesDeed, Dials, Accepts, Reads, OwesReply, Paces, AsksAgain, Gives, Rests, Sends, Takes, Overruns, Closes, Releases, Carries, Tells, Injects, Reached, begun, happened}
 use Rattle.ipx_recovery.specs.LinkLaws.{LinkLaws}
 use Rattle.ipx_recovery.proofs.Hearing as Hearing
 use Rattle.ipx_recovery.proofs.Lists.{get_last, get_set, or_false, or_first, or_second}
@@ -248,8 +248,8 @@ next_well laws s s' (Reads who parcel) does f =
 next_well laws s s' (OwesReply who) does f =
     link_well s s' who does.stand does.link (owe_reply_link does.link) [] (silent s s' (ap log_of does.after)) (ap ends_of does.after) (λ j. refl) does.stands
     (record { well = λ w. record { buffers = w.buffers; open' = w.open'; held = w.held }; before = λ e. e }) f
-next_well laws s s' (Paces who window by_hand) does f =
-    link_well s s' who does.stand does.link (pace_link does.link window by_hand) [] (silent s s' (ap log_of does.after)) (ap ends_of does.after) (λ j. refl) does.stands
+next_well laws s s' (Paces who window manual) does f =
+    link_well s s' who does.stand does.link (pace_link does.link window manual) [] (silent s s' (ap log_of does.after)) (ap ends_of does.after) (λ j. refl) does.stands
     (record { well = λ w. record { buffers = w.buffers; open' = w.open'; held = w.held }; before = λ e. e }) f
 next_well laws s s' (AsksAgain who place) does f =
     link_well s s' who does.stand does.link (again_link does.link place) [] (silent s s' (ap log_of does.after)) (ap ends_of does.after) (λ j. refl) does.stands

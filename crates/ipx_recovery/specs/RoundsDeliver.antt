@@ -9,7 +9,7 @@ use Rattle.spx_link.specs.ByClock.{IsUnpaced}
 use Rattle.spx_link.specs.LinkView.{LinkView}
 use Rattle.spx_link.specs.Machine.{End, AreSound}
 use Rattle.theory_pairs.specs.Tracks.{Follows}
-use Rattle.theory_log.specs.Named.{AreNamed}
+use Rattle.spx_theory.specs.Named.{AreNamed}
 use Rattle.ipx_recovery.specs.LosslessRounds.{LosslessRounds, rounds_for}
 
 -- two links are the two ends of one machine, and each is called what the other calls its peer

@@ -5,11 +5,11 @@ use Rattle.spx_link.specs.declared.unit.Unit.{Unit}
 use Rattle.spx_link.specs.declared.state.State.TheVariants as States
 use Rattle.spx_link.specs.ByClock.{IsUnpaced}
 use Rattle.spx_link.specs.LinkView.{LinkView}
-use Rattle.theory_log.specs.Addresses.{AddressesDiffer, NothingReleased}
-use Rattle.theory_log.specs.Handed.{taken_of, units_of}
-use Rattle.theory_log.specs.Note.{Note}
-use Rattle.theory_log.specs.Peers.{ArePeers, IsFresh, NothingInjected, Premises}
-use Rattle.theory_log.specs.Scene.{Scene, Stand, Stands}
+use Rattle.spx_theory.specs.Addresses.{AddressesDiffer, NothingReleased}
+use Rattle.spx_theory.specs.Handed.{taken_of, units_of}
+use Rattle.spx_theory.specs.Note.{Note}
+use Rattle.spx_theory.specs.Peers.{ArePeers, IsFresh, NothingInjected, Premises}
+use Rattle.spx_theory.specs.Scene.{Scene, Stand, Stands}
 use Rattle.ipx_recovery.specs.RoundsDeliver.{HasNotGivenUp, IsDelivered, IsSending}
 use Rattle.ipx_recovery.specs.LosslessRounds.{LosslessRounds, rounds_for}
 
@@ -48,7 +48,7 @@ NoPairIsStuck s =
     → IsDelivered a b a' b' (untaken c d s.log) units_b
     × IsDelivered b a b' a' (untaken d c s.log) units_a
 
--- where addresses tell ends apart, as `theory_log`'s law has it, none is needed of whose packets are read
+-- where addresses tell ends apart, as `spx_theory`'s law has it, none is needed of whose packets are read
 abbrev pub NothingIsStuckByAddresses : Scene → Type 0
 NothingIsStuckByAddresses s =
     AddressesDiffer s → NothingReleased s.log → NothingInjected s.log → IsFresh s.log → PeersGoOn s

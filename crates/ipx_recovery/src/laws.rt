@@ -1,8 +1,8 @@
 //! The laws of rounds.
 
 ghost use Rattle.std.specs.Prelude.{ℕ, List};
-ghost use Rattle.theory_log.specs.Deeds.{Reached};
-ghost use Rattle.theory_log.specs.Scene.{Scene};
+ghost use Rattle.spx_theory.specs.Deeds.{Reached};
+ghost use Rattle.spx_theory.specs.Scene.{Scene};
 ghost use Rattle.ipx_recovery.specs.LinkLaws.{LinkLaws};
 ghost use Rattle.ipx_recovery.specs.RoundsDeliver.{RoundsDeliver, RoundsDeliverBothWays};
 ghost use Rattle.ipx_recovery.specs.LosslessRounds.{RoundIsOne, RoundsExist};
@@ -10,7 +10,7 @@ ghost use Rattle.ipx_recovery.specs.Stuck.{NoPairIsStuck, NoStateIsStuck, Nothin
 ghost use Rattle.spx_link.specs.LinkView.{LinkView};
 
 use spx_link::{poll_keeps_units, soundness, unpaced_links_go_by_the_clock};
-use theory_log::{addresses_tell_peers, peers_are_in_step, peers_are_named, peers_follow};
+use spx_theory::{addresses_tell_peers, peers_are_in_step, peers_are_named, peers_follow};
 use theory_pairs::{calls_are_steps, packets_allow_what_was_taken};
 
 /// The laws of the machine and of one link, on which the theorems stand.

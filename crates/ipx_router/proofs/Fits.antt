@@ -23,7 +23,7 @@ use Rattle.ipx_tables.specs.Content.{Table}
 use Rattle.ipx_router.specs.declared.classify.Concern.{Concern}
 use Rattle.ipx_router.specs.declared.classify.Concern.TheVariants as concerns
 use Rattle.ipx_router.specs.declared.forwarding.Forwarding.{Forwarding}
-use Rattle.ipx_router.specs.declared.forwarding.Forwarding.TheVariants as fates
+use Rattle.ipx_router.specs.declared.forwarding.Forwarding.TheVariants as outcomes
 use Rattle.ipx_router.specs.declared.outcome.Outcome.{Outcome}
 use Rattle.ipx_router.specs.declared.port.Port.{Port}
 use Rattle.ipx_router.specs.declared.port.PortNow.{PortNow}
@@ -106,8 +106,8 @@ abbrev RepliesOwn : OutcomeView → Type 0
 RepliesOwn a = AreOwn (replies_of a)
 
 fate_own : (arrived : Port) (d : PacketView) (f : Forwarding) (a : OutcomeView) → IsForwardingAnswer arrived d f a → RepliesOwn a
-fate_own arrived d (fates.Dropped reason) a h = subst RepliesOwn (sym h) (All-nil IsOwn)
-fate_own arrived d (fates.Forward port next) a h = subst RepliesOwn (sym h.1) (All-nil IsOwn)
+fate_own arrived d (outcomes.Dropped reason) a h = subst RepliesOwn (sym h) (All-nil IsOwn)
+fate_own arrived d (outcomes.Forward port next) a h = subst RepliesOwn (sym h.1) (All-nil IsOwn)
 
 module _ (k : Known) (at : PortNow) (a : OutcomeView) (new : Tables) where
   concern_own : (d : PacketView) (c : Concern) → AnswersByConcern k at d a new c → RepliesOwn a

@@ -29,7 +29,7 @@ use Rattle.ipx_tables.specs.Service.{service_dead, service_key_cmp}
 use Rattle.ipx_router.specs.declared.classify.Concern.{Concern}
 use Rattle.ipx_router.specs.declared.classify.Concern.TheVariants as concerns
 use Rattle.ipx_router.specs.declared.forwarding.Forwarding.{Forwarding}
-use Rattle.ipx_router.specs.declared.forwarding.Forwarding.TheVariants as fates
+use Rattle.ipx_router.specs.declared.forwarding.Forwarding.TheVariants as outcomes
 use Rattle.ipx_router.specs.declared.packets.Recipient.{Recipient}
 use Rattle.ipx_router.specs.declared.port.Port.{Port}
 use Rattle.ipx_router.specs.declared.port.PortNow.{PortNow}
@@ -94,8 +94,8 @@ route_or_none_one f ports routes now network (Some r) None x y = absurd (none_or
 route_or_none_one f ports routes now network (Some r) (Some s) x y = ap Some (route_to_one f ports routes now network r s x y)
 
 fate_one : Facts → (arrived : Port) (d : PacketView) (fate : Forwarding) (a b : OutcomeView) → IsForwardingAnswer arrived d fate a → IsForwardingAnswer arrived d fate b → a ≡ b
-fate_one f arrived d (fates.Dropped reason) a b x y = x ∙ sym y
-fate_one f arrived d (fates.Forward port next) a b x y =
+fate_one f arrived d (outcomes.Dropped reason) a b x y = x ∙ sym y
+fate_one f arrived d (outcomes.Forward port next) a b x y =
     x.1 ∙ ap (Forward port next) (bytes_one f.ipx_bytes (record d { header = forward_header arrived d.header }) x.0 y.0 x.2 y.2) ∙ sym y.1
 
 forwards_one : Facts → (ports : List Port) (routes : Routes) (at : PortNow) (d : PacketView) (a b : OutcomeView) → Forwards ports routes at d a → Forwards ports routes at d b → a ≡ b

@@ -8,7 +8,7 @@ use Rattle.ipx_router.specs.declared.port.Port.{Port}
 use Rattle.ipx_router.specs.declared.port.PortNow.{PortNow}
 use Rattle.ipx_router.specs.declared.reason.Reason.TheVariants.{NoRoute, HopLimit}
 use Rattle.ipx_router.specs.declared.forwarding.Forwarding.{Forwarding}
-use Rattle.ipx_router.specs.declared.forwarding.Forwarding.TheVariants as fates
+use Rattle.ipx_router.specs.declared.forwarding.Forwarding.TheVariants as outcomes
 use Rattle.ipx_router.specs.declared.route.Route.{Route}
 use Rattle.ipx_router.specs.Knowledge.{Routes}
 use Rattle.ipx_router.specs.RouteChoice.{IsRouteOrNone}
@@ -18,10 +18,10 @@ use Rattle.ipx_router.specs.OutcomeView.{OutcomeView, Forward, Dropped}
 -- a packet that fifteen routers forwarded is dropped; the next node is the neighbour, or on a
 -- port's own network the destination
 abbrev pub by_route : IpxHeader → Option Route → Forwarding
-by_route h None = fates.Dropped (NoRoute h.to.network)
+by_route h None = outcomes.Dropped (NoRoute h.to.network)
 by_route h (Some route) =
-    if nat_le 15 h.hops then fates.Dropped HopLimit
-    else fates.Forward route.port (unwrap_or route.neighbour h.to.node)
+    if nat_le 15 h.hops then outcomes.Dropped HopLimit
+    else outcomes.Forward route.port (unwrap_or route.neighbour h.to.node)
 
 -- the header of a packet that is forwarded: one hop more, and the network that it came from
 abbrev pub forward_header : Port → IpxHeader → IpxHeader
@@ -42,8 +42,8 @@ IsForwarded arrived d = AreBytesOf (forward_packet arrived d)
 
 -- the answer is what the fate says
 abbrev pub IsForwardingAnswer : Port → PacketView → Forwarding → OutcomeView → Type 0
-IsForwardingAnswer arrived d (fates.Dropped reason) a = a ≡ Dropped reason
-IsForwardingAnswer arrived d (fates.Forward port next) a =
+IsForwardingAnswer arrived d (outcomes.Dropped reason) a = a ≡ Dropped reason
+IsForwardingAnswer arrived d (outcomes.Forward port next) a =
     (bytes : List ℕ) × (a ≡ Forward port next bytes) × IsForwarded arrived d bytes
 
 -- a packet for another network is answered by its route
@@ -54,5 +54,5 @@ Forwards ports routes at d a = (route : Option Route)
 
 -- a fact of the port that a fate forwards by
 abbrev pub IfForward : Forwarding → (ℕ → Type 0) → Type 0
-IfForward (fates.Forward port next) Fact = Fact port
-IfForward (fates.Dropped reason) Fact = Unit {0}
+IfForward (outcomes.Forward port next) Fact = Fact port
+IfForward (outcomes.Dropped reason) Fact = Unit {0}

@@ -8,7 +8,7 @@ ghost use Rattle.ipx_router.specs.RouterPackets.{IsSapPacket, sending_of};
 ghost use Rattle.ipx_router.specs.Adding.{AddsBodies, AreBodiesOf};
 
 use crate::outcome::Reply;
-use crate::packets::{MOST_SERVICES_A_PACKET, Recipient, services_body, services_packet_with};
+use crate::packets::{MAX_SERVICES_PER_PACKET, Recipient, services_body, services_packet_with};
 use ipx_control::ServiceEntry;
 use ipx_wire::OutOfMemory;
 use std::alloc::Global;
@@ -20,7 +20,7 @@ pub fn service_bodies(alloc: Global, services: &[ServiceEntry]) -> Result<Vec<Ve
     let mut bodies = Vec::new(alloc);
     let mut rest = services;
     while !rest.is_empty() {
-        let (part, later) = rest.split_at(rest.len().min(MOST_SERVICES_A_PACKET));
+        let (part, later) = rest.split_at(rest.len().min(MAX_SERVICES_PER_PACKET));
         bodies.push(services_body(alloc, part)?)?;
         rest = later;
     }

@@ -21,9 +21,9 @@ use ipx_wire::{
 use std::alloc::Global;
 
 /// How many entries a packet holds at most.
-pub const MOST_ROUTES_A_PACKET: usize = 50;
+pub const MAX_ROUTES_PER_PACKET: usize = 50;
 
-pub const MOST_SERVICES_A_PACKET: usize = 7;
+pub const MAX_SERVICES_PER_PACKET: usize = 7;
 
 /// The bytes of an operation, of a route and of a service.
 const OPERATION_SIZE: usize = 2;
@@ -239,7 +239,7 @@ pub fn add_route_packets(
 {
     let mut rest = entries;
     while !rest.is_empty() {
-        let (part, later) = rest.split_at(rest.len().min(MOST_ROUTES_A_PACKET));
+        let (part, later) = rest.split_at(rest.len().min(MAX_ROUTES_PER_PACKET));
         replies.push(routes_packet(alloc, to, part)?)?;
         rest = later;
     }
@@ -260,7 +260,7 @@ pub fn add_service_packets(
 {
     let mut rest = entries;
     while !rest.is_empty() {
-        let (part, later) = rest.split_at(rest.len().min(MOST_SERVICES_A_PACKET));
+        let (part, later) = rest.split_at(rest.len().min(MAX_SERVICES_PER_PACKET));
         replies.push(services_packet(alloc, to, nearest, part)?)?;
         rest = later;
     }

@@ -10,7 +10,7 @@ ghost use Rattle.ipx_router.specs.Placing.{is_below};
 
 use crate::outcome::Reply;
 use crate::packets::{
-    MOST_ROUTES_A_PACKET, MOST_SERVICES_A_PACKET, Recipient, add_route_packets,
+    MAX_ROUTES_PER_PACKET, MAX_SERVICES_PER_PACKET, Recipient, add_route_packets,
     add_service_packets, routes_packet, services_packet,
 };
 use ipx_control::{RipEntry, ServiceEntry};
@@ -65,7 +65,7 @@ impl RoutePackets {
             → ArePacked (AreRoutePackets self.old.to) (routes ++ route ∷ [])
             self.new.sent.items self.new.hand.items) }
     {
-        if self.hand.len() == MOST_ROUTES_A_PACKET {
+        if self.hand.len() == MAX_ROUTES_PER_PACKET {
             self.close(alloc)?;
         }
         self.hand.push(route)?;
@@ -188,7 +188,7 @@ impl ServicePackets {
             → ArePacked (AreServicePackets self.old.to false) (services ++ service ∷ [])
             self.new.sent.items self.new.hand.items) }
     {
-        if self.hand.len() == MOST_SERVICES_A_PACKET {
+        if self.hand.len() == MAX_SERVICES_PER_PACKET {
             self.close(alloc)?;
         }
         self.hand.push(service)?;

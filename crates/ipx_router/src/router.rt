@@ -243,7 +243,7 @@ impl Router {
     /// gives nothing. None where no clock can show that moment.
     ///
     /// Whoever waits for datagrams wakes by then, and calls `tell`.
-    pub fn next_telling(&self) -> Option<u64>
+    pub fn next_advertisement(&self) -> Option<u64>
         ensures { IsNextTelling self.now.told result }
     {
         next_time(self.told)

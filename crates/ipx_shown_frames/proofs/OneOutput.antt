@@ -5,13 +5,13 @@ use Rattle.std.specs.List.{AllZip, enumerate_from, flat_map}
 use Rattle.std.specs.Result.{result_ok}
 use Rattle.hex.specs.Hex.{decode_of}
 use Rattle.ipx_wire.specs.declared.address.Node.{Node}
-use Rattle.ipx_frames.specs.declared.encapsulation.Encapsulation.{Encapsulation}
-use Rattle.ipx_frames.specs.declared.fault.FrameFault.{FrameFault}
-use Rattle.ipx_frames.specs.Frame.{FrameView, IsFrame}
-use Rattle.ipx_frames.specs.FrameFault.{frame_fault}
-use Rattle.ipx_commands.specs.Decoded.{DecodedView, IsDecoded}
-use Rattle.ipx_commands.specs.Show.{Shows}
-use Rattle.ipx_commands.specs.ShowLine.{reading_lines, reading_status}
+use Rattle.ipx_ethernet.specs.declared.encapsulation.Encapsulation.{Encapsulation}
+use Rattle.ipx_ethernet.specs.declared.fault.FrameFault.{FrameFault}
+use Rattle.ipx_ethernet.specs.Frame.{FrameView, IsFrame}
+use Rattle.ipx_ethernet.specs.FrameFault.{frame_fault}
+use Rattle.ipx_inspect.specs.Decoded.{DecodedView, IsDecoded}
+use Rattle.ipx_inspect.specs.Show.{Shows}
+use Rattle.ipx_inspect.specs.ShowLine.{reading_lines, reading_status}
 use Rattle.ipx_shown_frames.specs.FrameLine.{frame_line, no_frame_line}
 use Rattle.ipx_shown_frames.specs.ShownFrame.{IsShown, ShownFrame, ShowsFrame, ShowsFrames, ShowsTexts, bad_text_line, frame_texts, long_line, worst_of}
 

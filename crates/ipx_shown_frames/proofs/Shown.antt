@@ -7,8 +7,8 @@ use Rattle.std.specs.Result.{result_ok}
 use Rattle.hex.specs.Hex.{IsBytes, decode_of, encode_lower}
 use Rattle.hex.proofs.HexLemmas.{decode_of-encode_lower}
 use Rattle.ipx_wire.specs.declared.address.Node.{Node}
-use Rattle.ipx_commands.specs.Output.{AppendsFront, LeavesWritten, no_memory_line}
-use Rattle.ipx_commands.specs.Show.{Shows, ShowWrites}
+use Rattle.ipx_inspect.specs.Output.{AppendsFront, LeavesWritten, no_memory_line}
+use Rattle.ipx_inspect.specs.Show.{Shows, ShowWrites}
 use Rattle.ipx_shown_frames.specs.ShownFrame.{IsShown, LeavesBehind, LeavesFrame, LeavesShown, ShownFrame, ShowsFrame, bad_text_line}
 
 pub on_err : {T E : Type 0} (r : Result T E) (P : Type 0) → P → OnErr r P

@@ -11,9 +11,9 @@ use Rattle.std.proofs.lemmas.List.Splits.{length-slice_split}
 use Rattle.std.proofs.lemmas.List.Sums.{count_by-le-length, fold_push}
 use Rattle.std.proofs.lemmas.Slice.Zip.{all_zipped_more}
 use Rattle.ipx_wire.specs.declared.address.Node.{Node}
-use Rattle.ipx_commands.specs.CheckLine.{input_lines}
-use Rattle.ipx_commands.specs.Output.{AppendsFront, no_memory_line}
-use Rattle.ipx_commands.specs.Text.{IsInput}
+use Rattle.ipx_inspect.specs.CheckLine.{input_lines}
+use Rattle.ipx_inspect.specs.Output.{AppendsFront, no_memory_line}
+use Rattle.ipx_inspect.specs.Text.{IsInput}
 use Rattle.ipx_shown_frames.specs.ShownFrame.{IsShown, LeavesFrames, LeavesShown, LeavesTexts, ShownFrame, ShowsFrames, ShowsTexts, frame_texts}
 
 enumerate_from-push : {X : Type 0} (n : ℕ) (xs : List X) (x : X) → enumerate_from n (xs ++ x ∷ []) ≡ enumerate_from n xs ++ (n + length xs, x) ∷ []

@@ -3,13 +3,13 @@ use Rattle.std.specs.Prelude.{ℕ, List, [], ◌∷◌, ◌++◌, codes}
 use Rattle.std.specs.Fmt.{decimal}
 use Rattle.std.specs.Int.{w16, to_be_bytes}
 use Rattle.hex.specs.Hex.{encode_lower}
-use Rattle.ipx_commands.specs.Line.{fault_text, numbered}
-use Rattle.ipx_frames.specs.declared.encapsulation.Encapsulation.{Encapsulation}
-use Rattle.ipx_frames.specs.declared.encapsulation.Encapsulation.TheVariants.{Raw, Llc, Snap, EthernetII}
-use Rattle.ipx_frames.specs.declared.fault.FrameFault.{FrameFault}
-use Rattle.ipx_frames.specs.declared.fault.FrameFault.TheVariants.{FrameShort, FrameLong, SourceGroup, SourceZero, OwnSource, OtherStation, Tagged, OtherType, FrameTruncated, OtherLlc, NoPacket, PacketLong, NoRoom}
-use Rattle.ipx_frames.specs.Frame.{FrameView}
-use Rattle.ipx_frames.specs.FrameFault.{frame_fault_number}
+use Rattle.ipx_inspect.specs.Line.{fault_text, numbered}
+use Rattle.ipx_ethernet.specs.declared.encapsulation.Encapsulation.{Encapsulation}
+use Rattle.ipx_ethernet.specs.declared.encapsulation.Encapsulation.TheVariants.{Raw, Llc, Snap, EthernetII}
+use Rattle.ipx_ethernet.specs.declared.fault.FrameFault.{FrameFault}
+use Rattle.ipx_ethernet.specs.declared.fault.FrameFault.TheVariants.{FrameShort, FrameLong, SourceGroup, SourceZero, OwnSource, OtherStation, Tagged, OtherType, FrameTruncated, OtherLlc, NoPacket, PacketLong, NoRoom}
+use Rattle.ipx_ethernet.specs.Frame.{FrameView}
+use Rattle.ipx_ethernet.specs.FrameFault.{frame_fault_number}
 
 abbrev pub encapsulation_text : Encapsulation → List ℕ
 encapsulation_text Raw = codes "802.3"

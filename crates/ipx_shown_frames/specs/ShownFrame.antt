@@ -6,13 +6,13 @@ use Rattle.std.specs.Io.KnownBytes.{Appends}
 use Rattle.std.specs.Result.{result_ok}
 use Rattle.hex.specs.Hex.{decode_of}
 use Rattle.ipx_wire.specs.declared.address.Node.{Node}
-use Rattle.ipx_frames.specs.declared.encapsulation.Encapsulation.{Encapsulation}
-use Rattle.ipx_frames.specs.Frame.{FrameView, IsFrame}
-use Rattle.ipx_frames.specs.FrameFault.{frame_fault}
-use Rattle.ipx_commands.specs.CheckLine.{input_lines}
-use Rattle.ipx_commands.specs.Output.{AppendsFront, LeavesWritten, no_memory_line}
-use Rattle.ipx_commands.specs.Show.{Shows}
-use Rattle.ipx_commands.specs.Text.{most_input, without_line_end}
+use Rattle.ipx_ethernet.specs.declared.encapsulation.Encapsulation.{Encapsulation}
+use Rattle.ipx_ethernet.specs.Frame.{FrameView, IsFrame}
+use Rattle.ipx_ethernet.specs.FrameFault.{frame_fault}
+use Rattle.ipx_inspect.specs.CheckLine.{input_lines}
+use Rattle.ipx_inspect.specs.Output.{AppendsFront, LeavesWritten, no_memory_line}
+use Rattle.ipx_inspect.specs.Show.{Shows}
+use Rattle.ipx_inspect.specs.Text.{max_input, without_line_end}
 use Rattle.ipx_shown_frames.specs.FrameLine.{frame_line, no_frame_line}
 
 -- the lines of what the station hears of the bytes: those of the frame, and behind them what `show`
@@ -57,7 +57,7 @@ long_line = codes "line 0 bad\n"
 
 -- what is written for an input: a bad line 0 where it is over 1,000,000 bytes
 abbrev pub ShowsFrames : Node → List ℕ → List ℕ → ℕ → Type 0
-ShowsFrames own input lines status = MatchBool (nat_lt most_input (length input))
+ShowsFrames own input lines status = MatchBool (nat_lt max_input (length input))
     ((lines ≡ long_line) × (status ≡ 2))
     (ShowsTexts own (frame_texts input) lines status)
 
@@ -92,6 +92,6 @@ LeavesTexts own texts before after = (n : ℕ) × (lines : List ℕ) × (status 
 
 -- of an input
 abbrev pub LeavesFrames : Node → List ℕ → Option (List ℕ) → Option (List ℕ) → Type 0
-LeavesFrames own input before after = MatchBool (nat_lt most_input (length input))
+LeavesFrames own input before after = MatchBool (nat_lt max_input (length input))
     (LeavesWritten before after (λ lines. lines ≡ long_line))
     (LeavesTexts own (frame_texts input) before after)

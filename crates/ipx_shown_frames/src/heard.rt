@@ -2,15 +2,15 @@
 
 ghost use Rattle.std.specs.Prelude.{◌≡◌, ◌++◌, IfErr, IfOk, OnErr, ℕ, List};
 ghost use Rattle.std.specs.Io.KnownBytes.{Appends};
-ghost use Rattle.ipx_commands.specs.Output.{LeavesWritten};
-ghost use Rattle.ipx_commands.specs.Show.{Shows};
-ghost use Rattle.ipx_frames.specs.Frame.{frame_view};
+ghost use Rattle.ipx_inspect.specs.Output.{LeavesWritten};
+ghost use Rattle.ipx_inspect.specs.Show.{Shows};
+ghost use Rattle.ipx_ethernet.specs.Frame.{frame_view};
 ghost use Rattle.ipx_shown_frames.specs.FrameLine.{frame_line};
 ghost use Rattle.ipx_shown_frames.specs.ShownFrame.{LeavesBehind, LeavesFrame, ShowsFrame};
 
 use crate::frame_line::{frame_lines, refused_lines};
-use ipx_commands::{do_show, tell_no_memory, write_lines};
-use ipx_frames::{Encapsulation, Frame, decode_frame};
+use ipx_inspect::{do_show, tell_no_memory, write_lines};
+use ipx_ethernet::{Encapsulation, Frame, decode_frame};
 use ipx_wire::Node;
 use std::alloc::Global;
 use std::io::Write;

@@ -5,14 +5,14 @@ ghost use Rattle.std.specs.Io.KnownBytes.{Appends};
 ghost use Rattle.std.specs.Option.{option_map};
 ghost use Rattle.std.specs.Result.{result_ok};
 ghost use Rattle.hex.specs.Hex.{decode_of};
-ghost use Rattle.ipx_commands.specs.CheckLine.{input_lines};
-ghost use Rattle.ipx_commands.specs.Output.{AppendsFront, no_memory_line};
-ghost use Rattle.ipx_commands.specs.Text.{IsInput, without_line_end};
+ghost use Rattle.ipx_inspect.specs.CheckLine.{input_lines};
+ghost use Rattle.ipx_inspect.specs.Output.{AppendsFront, no_memory_line};
+ghost use Rattle.ipx_inspect.specs.Text.{IsInput, without_line_end};
 ghost use Rattle.ipx_shown_frames.specs.ShownFrame.{IsShown, LeavesFrames, LeavesShown, LeavesTexts, ShownFrame, ShowsFrames, ShowsTexts, bad_text_line, long_line};
 
 use crate::heard::show_frame;
 use hex::FromHexError;
-use ipx_commands::{InputFault, MOST_INPUT, read_up_to, tell_no_memory, write_lines};
+use ipx_inspect::{InputFault, MAX_INPUT, read_up_to, tell_no_memory, write_lines};
 use ipx_wire::{Node, OutOfMemory};
 use std::alloc::{AllocError, Global};
 use std::io::{Read, Write};
@@ -107,7 +107,7 @@ fn show_input<W: Write>(alloc: Global, own: Node, input: &[u8], writer: &mut W) 
     ensures left { OnErr result
         (LeavesFrames own input.now (W.contents writer.old) (W.contents writer.new)) }
 {
-    if input.len() > MOST_INPUT {
+    if input.len() > MAX_INPUT {
         return write_lines(writer, too_long(alloc));
     }
     let Ok(texts) = texts_of(alloc, cut_line_end(input)) else {
@@ -140,7 +140,7 @@ pub fn do_show_frames<R: Read, W: Write>(
         ⊎ ((input : List ℕ) × IsInput (R.remaining reader.old) input
         × LeavesFrames own input (W.contents writer.old) (W.contents writer.new))) }
 {
-    let input = match read_up_to(alloc, reader, MOST_INPUT + 1) {
+    let input = match read_up_to(alloc, reader, MAX_INPUT + 1) {
         Ok(input) => input,
         Err(InputFault::Read) => return Err(1),
         Err(InputFault::Memory) => return Err(tell_no_memory(writer)),

@@ -4,7 +4,7 @@ use Rattle.std.specs.Prelude.{◌↔◌, IsTrue, OnOk}
 use Rattle.std.specs.Io.KnownBytes.{Appends}
 use Rattle.std.proofs.lemmas.List.{length-take, take_more}
 use Rattle.std.proofs.KnownBytes.{Appends-trans}
-use Rattle.theory_log.specs.Peers.{IsFresh}
+use Rattle.spx_theory.specs.Peers.{IsFresh}
 use Rattle.ipx_net.specs.Ends.{TellsEnds}
 use Rattle.ipx_net.specs.Begins.{Begins}
 use Rattle.ipx_net.specs.NetView.{NetView}

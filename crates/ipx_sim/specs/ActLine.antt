@@ -8,7 +8,7 @@ use Rattle.spx_messages.specs.declared.arrived.Arrived.{Arrived}
 use Rattle.spx_messages.specs.declared.arrived.Arrived.TheVariants as Arriveds
 use Rattle.spx_messages.specs.declared.fault.EndFault.{EndFault}
 use Rattle.spx_messages.specs.EndpointFaults.{end_fault_number}
-use Rattle.ipx_commands.specs.Line.{fault_text, numbered, reason_text, spx_fault_text}
+use Rattle.ipx_inspect.specs.Line.{fault_text, numbered, reason_text, spx_fault_text}
 use Rattle.theory_steps.specs.World.{ParcelView}
 use Rattle.ipx_net.specs.AnswerView.{AnswerView, ArrivedAt, Done, Dropped, End, Heard, Parcels, Refused, Taken}
 use Rattle.ipx_net.specs.NetFaultNumbers.{net_fault_number}
@@ -78,7 +78,7 @@ moment_of (Events.Dial host socket to buffers) = None
 moment_of (Events.Send who message) = None
 moment_of (Events.Take who) = None
 moment_of (Events.Close who) = None
-moment_of (Events.Pace who window by_hand) = None
+moment_of (Events.Pace who window manual) = None
 moment_of (Events.Again who place) = None
 moment_of (Events.Release who) = None
 moment_of (Events.Tick now) = Some now

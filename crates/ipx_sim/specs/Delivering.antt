@@ -13,7 +13,7 @@ use Rattle.ipx_net.specs.declared.place.Place.{Place}
 use Rattle.ipx_net.specs.declared.place.Place.TheVariants as Places
 use Rattle.ipx_net.specs.declared.fault.NetFault.{NetFault}
 use Rattle.ipx_sim.specs.ScriptDoing.{DoesEach, DoesNothing, TakesEvent}
-use Rattle.ipx_sim.specs.declared.map.Spot.{Spot}
+use Rattle.ipx_sim.specs.declared.names.ScriptTarget.{ScriptTarget}
 use Rattle.ipx_sim.specs.declared.delivering.Delivered.{Delivered}
 use Rattle.ipx_sim.specs.declared.stop.LineFault.{LineFault}
 use Rattle.ipx_sim.specs.declared.stop.LineFault.TheVariants as Stops
@@ -27,18 +27,18 @@ is_sender (Some (AtPort router port)) (Places.Port r p) = (router == r) && (port
 
 -- whether a parcel comes to a place of its network: that of the node that is next, or, by
 -- broadcast, each but its sender's
-abbrev pub comes_to : ParcelView → Spot → Bool
+abbrev pub comes_to : ParcelView → ScriptTarget → Bool
 comes_to p spot =
     (p.segment.0 == spot.network.0)
     && (if bytes_eq p.next.0 broadcast_node then not (is_sender p.sent_by spot.place)
     else bytes_eq p.next.0 spot.node.0)
 
-abbrev pub comes_from : Option ParcelView → Spot → Bool
+abbrev pub comes_from : Option ParcelView → ScriptTarget → Bool
 comes_from None spot = false
 comes_from (Some p) spot = comes_to p spot
 
 -- whether the parcel of this number comes there
-abbrev pub is_due_parcel : NetView → ℕ → Spot → Bool
+abbrev pub is_due_parcel : NetView → ℕ → ScriptTarget → Bool
 is_due_parcel n parcel spot = comes_from (slice_get n.now.world.parcels parcel) spot
 
 abbrev pub reached_of : Result AnswerView NetFault → Result Bool LineFault
@@ -46,7 +46,7 @@ reached_of (Ok a) = Ok true
 reached_of (Err f) = Err (Stops.Fault f)
 
 -- where it comes there
-abbrev pub DeliversParcelTo : ℕ → Spot → NetView → Result Bool LineFault → NetView → Type 0
+abbrev pub DeliversParcelTo : ℕ → ScriptTarget → NetView → Result Bool LineFault → NetView → Type 0
 DeliversParcelTo parcel spot old result new =
     MatchBool (is_due_parcel old parcel spot)
     (TakesEvent reached_of (Events.Deliver parcel spot.place) old result new)
@@ -72,7 +72,7 @@ pub record Marks (parcel : ℕ) (old new : DeliveredView) : Type 0 where
   pub marked : (k : ℕ) → was_delivered new k ≡ (was_delivered old k || (k == parcel))
 
 -- to each place to which it comes, where it was never delivered
-abbrev pub DeliversNew : DeliveredView → List Spot → ℕ
+abbrev pub DeliversNew : DeliveredView → List ScriptTarget → ℕ
     → NetView → Result Bool LineFault → NetView → Type 0
 DeliversNew d spots parcel old result new =
     MatchBool (is_delivered d parcel) (DoesNothing old result new)
@@ -85,7 +85,7 @@ pub record Stage : Type 0 where
 
 -- all parcels from that number on, in their order, also those that arise meanwhile: none is left,
 -- and all count as delivered
-abbrev pub DeliversAll : List Spot → Stage → Result Bool LineFault → Stage → Type 0
+abbrev pub DeliversAll : List ScriptTarget → Stage → Result Bool LineFault → Stage → Type 0
 DeliversAll spots old result new =
     (count : ℕ)
     × DoesEach (DeliversNew old.delivered spots) (range_with_len old.delivered.below count)

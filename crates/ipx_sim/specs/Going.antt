@@ -14,7 +14,7 @@ use Rattle.ipx_net.specs.declared.event.Member.{Member}
 use Rattle.ipx_net.specs.declared.fault.NetFault.{NetFault}
 use Rattle.ipx_sim.specs.Delivering.{DeliversAll, Stage}
 use Rattle.ipx_sim.specs.ScriptDoing.{DoesEach, Repeats, DoesNothing, TakesEvent, Then}
-use Rattle.ipx_sim.specs.declared.map.Spot.{Spot}
+use Rattle.ipx_sim.specs.declared.names.ScriptTarget.{ScriptTarget}
 use Rattle.ipx_sim.specs.declared.stop.LineFault.{LineFault}
 use Rattle.ipx_sim.specs.declared.stop.LineFault.TheVariants as Stops
 
@@ -130,11 +130,11 @@ abbrev pub OnNet : (NetView → Result Bool LineFault → NetView → Type 0)
 OnNet Does old result new = Does old.net result new.net × (new.delivered ≡ old.delivered)
 
 -- each member is polled out, all is delivered, and, where it takes, each end is taken from
-abbrev pub RunRound : List Member → List Spot → Bool → Stage → Result Bool LineFault → Stage → Type 0
+abbrev pub RunRound : List Member → List ScriptTarget → Bool → Stage → Result Bool LineFault → Stage → Type 0
 RunRound members spots takes =
     Then (Then (OnNet (DoesEach PollsOut members)) (DeliversAll spots)) (OnNet (DrainsIf takes))
 
 -- so many at most: one of which nothing comes is the last
-abbrev pub RunRounds : ℕ → List Member → List Spot → Bool
+abbrev pub RunRounds : ℕ → List Member → List ScriptTarget → Bool
     → Stage → Result Bool LineFault → Stage → Type 0
 RunRounds count members spots takes = Repeats count (RunRound members spots takes)

@@ -1,6 +1,6 @@
 -- What a line of a script owes the network, and an input that is too long for one.
 use Rattle.std.specs.Prelude.{ℕ, ◌<◌, List, length, codes}
-use Rattle.ipx_commands.specs.Text.{most_input}
+use Rattle.ipx_inspect.specs.Text.{max_input}
 use Rattle.ipx_sim.specs.Act.{IsActOwed}
 use Rattle.ipx_sim.specs.declared.line.ScriptLine.{ScriptLine}
 use Rattle.ipx_sim.specs.declared.line.ScriptLine.TheVariants as Lines
@@ -16,7 +16,7 @@ IsLineOwed (Lines.Pump rounds) = Unit {0}
 
 -- an input of over 1,000,000 bytes is no script: its line 0 is bad, and nothing runs
 abbrev pub IsTooLong : List ℕ → Type 0
-IsTooLong input = most_input < length input
+IsTooLong input = max_input < length input
 
 abbrev pub too_long_line : List ℕ
 too_long_line = codes "line 0 bad\n"

@@ -7,17 +7,17 @@ use Rattle.ipx_net.specs.declared.event.Member.TheVariants as Members
 use Rattle.ipx_net.specs.declared.place.Place.{Place}
 use Rattle.ipx_net.specs.declared.place.Place.TheVariants as Places
 use Rattle.ipx_sim.specs.ScriptFields.{number_in, within}
-use Rattle.ipx_sim.specs.declared.map.Map.{Map}
-use Rattle.ipx_sim.specs.declared.map.Spot.{Spot}
+use Rattle.ipx_sim.specs.declared.names.Names.{Names}
+use Rattle.ipx_sim.specs.declared.names.ScriptTarget.{ScriptTarget}
 
 -- the names of hosts and of routers, and all members and places, without where they lie in memory
-pub record MapView : Type 0 where
+pub record NamesView : Type 0 where
   pub hosts : List (List ℕ)
   pub routers : List (List ℕ)
   pub members : List Member
-  pub spots : List Spot
+  pub spots : List ScriptTarget
 
-abbrev pub map_view : Map → MapView
+abbrev pub map_view : Names → NamesView
 map_view m =
     record {
       hosts = map string_bytes m.hosts.items;
@@ -30,10 +30,10 @@ map_view m =
 unfoldable pub place_among : List (List ℕ) → List ℕ → Option ℕ
 place_among names name = position (λ known. bytes_eq known name) names
 
-abbrev pub host_in : MapView → List ℕ → Option ℕ
+abbrev pub host_in : NamesView → List ℕ → Option ℕ
 host_in m name = place_among m.hosts name
 
-abbrev pub router_in : MapView → List ℕ → Option ℕ
+abbrev pub router_in : NamesView → List ℕ → Option ℕ
 router_in m name = place_among m.routers name
 
 -- a host or a router of that name
@@ -41,7 +41,7 @@ abbrev pub member_of : Option ℕ → Option ℕ → Option Member
 member_of (Some host) router = Some (Members.Host host)
 member_of None router = option_map Members.Router router
 
-abbrev pub member_in : MapView → List ℕ → Option Member
+abbrev pub member_in : NamesView → List ℕ → Option Member
 member_in m name = member_of (host_in m name) (router_in m name)
 
 -- whether two places are one
@@ -52,20 +52,20 @@ same_place (Places.Port router port) (Places.Host b) = false
 same_place (Places.Port router port) (Places.Port r p) = (router == r) && (port == p)
 
 -- a port of a router, where the router has it
-abbrev pub port_spot : List Spot → Option ℕ → Option ℕ → Option Place
-port_spot spots (Some router) (Some port) =
+abbrev pub port_target : List ScriptTarget → Option ℕ → Option ℕ → Option Place
+port_target spots (Some router) (Some port) =
     if list_any (λ s. same_place s.place (Places.Port router port)) spots
     then Some (Places.Port router port) else None
-port_spot spots (Some router) None = None
-port_spot spots None port = None
+port_target spots (Some router) None = None
+port_target spots None port = None
 
-abbrev pub port_in : MapView → List ℕ → List ℕ → Option Place
-port_in m router port = port_spot m.spots (router_in m router) (within 0 255 (number_in port))
+abbrev pub port_in : NamesView → List ℕ → List ℕ → Option Place
+port_in m router port = port_target m.spots (router_in m router) (within 0 255 (number_in port))
 
 -- a host, or a router and its port with a dot between them
-abbrev pub place_at : MapView → List ℕ → Option ℕ → Option Place
+abbrev pub place_at : NamesView → List ℕ → Option ℕ → Option Place
 place_at m field None = option_map Places.Host (host_in m field)
 place_at m field (Some dot) = port_in m (take dot field) (drop (dot + 1) field)
 
-abbrev pub place_in : MapView → List ℕ → Option Place
+abbrev pub place_in : NamesView → List ℕ → Option Place
 place_in m field = place_at m field (position (λ b. b == 46) field)

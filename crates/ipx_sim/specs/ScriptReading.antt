@@ -12,9 +12,9 @@ use Rattle.ipx_net.specs.declared.event.Event.TheVariants as Events
 use Rattle.ipx_net.specs.declared.event.Member.{Member}
 use Rattle.ipx_net.specs.declared.place.Place.{Place}
 use Rattle.ipx_sim.specs.ScriptFields.{address_in, buffers_field, bytes_in, network_in, number_in, stream_in}
-use Rattle.ipx_sim.specs.ScriptPlaces.{MapView, host_in, member_in, place_in}
-use Rattle.ipx_sim.specs.declared.halt.ScriptFault.{ScriptFault}
-use Rattle.ipx_sim.specs.declared.halt.ScriptFault.TheVariants as Halts
+use Rattle.ipx_sim.specs.ScriptPlaces.{NamesView, host_in, member_in, place_in}
+use Rattle.ipx_sim.specs.declared.script_fault.ScriptFault.{ScriptFault}
+use Rattle.ipx_sim.specs.declared.script_fault.ScriptFault.TheVariants as Halts
 use Rattle.ipx_sim.specs.declared.line.ScriptLine.{ScriptLine}
 use Rattle.ipx_sim.specs.declared.line.ScriptLine.TheVariants as Lines
 
@@ -37,7 +37,7 @@ event_view (Events.Dial host socket to buffers) = Dial host socket to buffers
 event_view (Events.Send who message) = Send who (message_view message)
 event_view (Events.Take who) = TakeOne who
 event_view (Events.Close who) = Close who
-event_view (Events.Pace who window by_hand) = Pace who window by_hand
+event_view (Events.Pace who window manual) = Pace who window manual
 event_view (Events.Again who place) = Again who place
 event_view (Events.Release who) = Release who
 event_view (Events.Tick now) = Now now
@@ -83,7 +83,7 @@ only_in args = option_map (λ fields. arg fields 0) (exactly 1 args)
 -- ---- events
 
 -- `dial HOST SOCKET NET NODE SOCKET BUFFERS`
-abbrev pub dial_in : MapView → List (List ℕ) → Option EventView
+abbrev pub dial_in : NamesView → List (List ℕ) → Option EventView
 dial_in m args = do
   fields ← exactly 6 args
   host ← host_in m (arg fields 0)
@@ -98,13 +98,13 @@ end_in event args = do
   field ← only_in args
   option_map event (number_in field)
 
-abbrev pub poll_in : MapView → List (List ℕ) → Option EventView
+abbrev pub poll_in : NamesView → List (List ℕ) → Option EventView
 poll_in m args = do
   field ← only_in args
   option_map Poll (member_in m field)
 
 -- `deliver N PLACE`
-abbrev pub deliver_in : MapView → List (List ℕ) → Option EventView
+abbrev pub deliver_in : NamesView → List (List ℕ) → Option EventView
 deliver_in m args = do
   fields ← exactly 2 args
   parcel ← number_in (arg fields 0)
@@ -112,7 +112,7 @@ deliver_in m args = do
   Some (Deliver parcel place)
 
 -- by its word, an event whose reading wants no memory
-abbrev pub event_in : MapView → List ℕ → List (List ℕ) → Option EventView
+abbrev pub event_in : NamesView → List ℕ → List (List ℕ) → Option EventView
 event_in m word args =
     if bytes_eq word (codes "dial") then dial_in m args
     else if bytes_eq word (codes "close") then end_in Close args
@@ -156,7 +156,7 @@ counted_in line args = do
   option_map line (number_in field)
 
 -- by its word, a line whose reading wants no memory
-abbrev pub plain_in : MapView → List ℕ → List (List ℕ) → Option ScriptLineView
+abbrev pub plain_in : NamesView → List ℕ → List (List ℕ) → Option ScriptLineView
 plain_in m word args =
     if bytes_eq word (codes "fill") then fill_in args
     else if bytes_eq word (codes "take") then counted_in Take args
@@ -166,7 +166,7 @@ plain_in m word args =
     else option_map Act (event_in m word args)
 
 -- a line by its fields, of which the first one is its word
-abbrev pub line_in : MapView → List (List ℕ) → Option ScriptLineView
+abbrev pub line_in : NamesView → List (List ℕ) → Option ScriptLineView
 line_in m [] = None
 line_in m (word ∷ args) =
     if bytes_eq word (codes "send") then send_in args
@@ -185,5 +185,5 @@ ReadsScriptLine named wants (Err Halts.Bad) = named ≡ None
 ReadsScriptLine named wants (Err Halts.Memory) = wants ≡ true
 ReadsScriptLine named wants (Err Halts.Ended) = ⊥
 
-abbrev pub ReadsLine : MapView → List (List ℕ) → Result ScriptLine ScriptFault → Type 0
+abbrev pub ReadsLine : NamesView → List (List ℕ) → Result ScriptLine ScriptFault → Type 0
 ReadsLine m fields result = ReadsScriptLine (line_in m fields) (brings_bytes fields) result

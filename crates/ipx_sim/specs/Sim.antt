@@ -12,7 +12,7 @@ use Rattle.ipx_sim.specs.Act.{Stepped}
 use Rattle.ipx_sim.specs.ActLine.{bytes_text, fault_line, refused_line}
 use Rattle.ipx_sim.specs.Delivering.{DeliveredView, Marks, delivered_view}
 use Rattle.ipx_sim.specs.Going.{take_result, is_unit_taken}
-use Rattle.ipx_sim.specs.ScriptPlaces.{MapView, map_view}
+use Rattle.ipx_sim.specs.ScriptPlaces.{NamesView, map_view}
 use Rattle.ipx_sim.specs.ScriptReading.{EventView, Again, Close, Deliver, Dial, Inject, Now, Pace, Poll, Release, Send, TakeOne}
 use Rattle.ipx_sim.specs.declared.simulation.Simulation.{Simulation}
 use Rattle.ipx_sim.specs.declared.stop.LineFault.{LineFault}
@@ -21,7 +21,7 @@ use Rattle.ipx_sim.specs.declared.stop.LineFault.TheVariants as Stops
 -- a network, the names in it, the moment in milliseconds, and which parcels were delivered
 pub record SimView : Type 0 where
   pub net : NetView
-  pub map : MapView
+  pub map : NamesView
   pub moment : ℕ
   pub delivered : DeliveredView
 
@@ -43,7 +43,7 @@ parcel_of (Dial host socket to buffers) = None
 parcel_of (Send who message) = None
 parcel_of (TakeOne who) = None
 parcel_of (Close who) = None
-parcel_of (Pace who window by_hand) = None
+parcel_of (Pace who window manual) = None
 parcel_of (Again who place) = None
 parcel_of (Release who) = None
 parcel_of (Now now) = None

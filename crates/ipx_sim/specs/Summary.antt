@@ -4,7 +4,7 @@ use Rattle.std.specs.Prelude.{ℕ, ◌≡◌, ◌+◌, ◌↔◌, Bool, IsTrue, 
 use Rattle.std.specs.Fmt.{decimal}
 use Rattle.std.specs.Int.{w16, to_be_bytes}
 use Rattle.hex.specs.Hex.{encode_lower}
-use Rattle.theory_log.specs.Peers.{IsFresh}
+use Rattle.spx_theory.specs.Peers.{IsFresh}
 use Rattle.ipx_net.specs.Begins.{Begins}
 use Rattle.ipx_net.specs.Ends.{TellsEnds}
 use Rattle.ipx_net.specs.NetView.{NetView}

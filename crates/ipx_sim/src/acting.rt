@@ -9,7 +9,7 @@ ghost use Rattle.ipx_sim.specs.Act.{IsActOwed, Stepped, outcome_view};
 ghost use Rattle.ipx_sim.specs.ActLine.{act_lines, act_status, moment_of};
 
 use crate::lines::outcome_to_lines;
-use ipx_commands::write_lines;
+use ipx_inspect::write_lines;
 use ipx_net::{Answer, Event, Net, NetFault};
 use std::alloc::Global;
 use std::io::Write;

@@ -7,7 +7,7 @@ ghost use Rattle.ipx_sim.specs.ScriptDoing.{DoesEach};
 ghost use Rattle.ipx_sim.specs.Delivering.{DeliversAll, DeliversNew, DeliversParcelTo, Marks, comes_to, delivered_view, is_due_parcel, is_delivered, is_sender, reached_of};
 
 use crate::acting::step;
-use crate::map::Spot;
+use crate::names::ScriptTarget;
 use crate::stop::LineFault;
 use ipx_net::{Answer, Event, Net, NetFault, Parcel, Place};
 use ipx_wire::Node;
@@ -78,7 +78,7 @@ fn is_sender(sent_by: Option<Place>, place: Place) -> bool
 
 /// Whether a parcel comes to a place of its network: that whose node is next, or by broadcast all
 /// but its sender's.
-fn comes_to(parcel: &Parcel, spot: &Spot) -> bool
+fn comes_to(parcel: &Parcel, spot: &ScriptTarget) -> bool
     ensures { result ≡ comes_to (parcel_view parcel.now) spot.now }
 {
     if parcel.segment != spot.network {
@@ -91,7 +91,7 @@ fn comes_to(parcel: &Parcel, spot: &Spot) -> bool
 }
 
 /// Whether the parcel of a number comes to a place.
-fn is_due_parcel(net: &Net, parcel: usize, spot: &Spot) -> bool
+fn is_due_parcel(net: &Net, parcel: usize, spot: &ScriptTarget) -> bool
     ensures { result ≡ is_due_parcel net.now parcel spot.now }
 {
     match net.parcels().get(parcel) {
@@ -109,7 +109,7 @@ fn reached(outcome: Result<Answer, NetFault>) -> Result<bool, LineFault>
 }
 
 /// Delivers a parcel to a place where it comes there, and answers whether it does.
-fn deliver_to(alloc: Global, net: &mut Net, spot: &Spot, parcel: usize) -> Result<bool, LineFault>
+fn deliver_to(alloc: Global, net: &mut Net, spot: &ScriptTarget, parcel: usize) -> Result<bool, LineFault>
     ensures { DeliversParcelTo parcel spot.now net.old result net.new }
 {
     if !is_due_parcel(net, parcel, spot) {
@@ -123,7 +123,7 @@ fn deliver_to(alloc: Global, net: &mut Net, spot: &Spot, parcel: usize) -> Resul
 fn deliver_one(
     alloc: Global,
     net: &mut Net,
-    spots: &[Spot],
+    spots: &[ScriptTarget],
     parcel: usize,
 ) -> Result<bool, LineFault>
     ensures { DoesEach (DeliversParcelTo parcel) spots.now net.old result net.new }
@@ -139,7 +139,7 @@ fn deliver_one(
 fn deliver_unless(
     alloc: Global,
     net: &mut Net,
-    spots: &[Spot],
+    spots: &[ScriptTarget],
     parcel: usize,
     delivered: &Delivered,
 ) -> Result<bool, LineFault>
@@ -156,7 +156,7 @@ fn deliver_unless(
 pub fn deliver_all(
     alloc: Global,
     net: &mut Net,
-    spots: &[Spot],
+    spots: &[ScriptTarget],
     delivered: &mut Delivered,
 ) -> Result<bool, LineFault>
     ensures { DeliversAll spots.now

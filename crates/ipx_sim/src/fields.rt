@@ -12,11 +12,11 @@ ghost use Rattle.ipx_sim.specs.ScriptFields.{address_in, buffers_field, bytes_in
 
 use hex::FromHexError;
 use ipx_wire::{Address, Network, Node, OutOfMemory, Socket};
-use spx_link::MOST_UNITS;
+use spx_link::MAX_UNITS;
 use std::alloc::{AllocError, Global};
 
 /// The greatest number of a script.
-const MOST_NUMBER: u32 = 1_000_000_000;
+const MAX_NUMBER: u32 = 1_000_000_000;
 
 /// Whether a line holds nothing but blanks.
 pub fn is_blank(line: &[u8]) -> bool
@@ -82,7 +82,7 @@ pub fn number_of(field: &[u8]) -> Option<u32>
     if field.is_empty() {
         return None;
     }
-    numeral_of(field, 10, MOST_NUMBER)
+    numeral_of(field, 10, MAX_NUMBER)
 }
 
 /// Such a number, of an end or a parcel.
@@ -113,7 +113,7 @@ pub fn parse_buffers(field: &[u8]) -> Option<u16>
     ensures owed { IfSome result (λ b. (0 < b) × (b ≤ most_units)) }
 {
     let buffers = short_of(field)?;
-    if buffers == 0 || buffers > MOST_UNITS {
+    if buffers == 0 || buffers > MAX_UNITS {
         return None;
     }
     Some(buffers)

@@ -6,8 +6,8 @@ ghost use Rattle.ipx_net.specs.NetBeginnings.{ArePortsOwed, IsHostOwed};
 ghost use Rattle.ipx_router.specs.NewRouter.{IsOwnNetwork};
 
 use crate::fields::{fields_of, is_blank, is_name, own_network_of, parse_buffers, short_of};
-use crate::halt::ScriptFault;
-use crate::map::{Map, Spot};
+use crate::script_fault::ScriptFault;
+use crate::names::{Names, ScriptTarget};
 use crate::simulation::Simulation;
 use ipx_net::{Host, Member, Net, Place};
 use ipx_router::{Port, Router};
@@ -16,14 +16,14 @@ use std::alloc::Global;
 use std::marker::Model;
 
 /// How many hosts there are at most, and how many routers.
-const MOST_MEMBERS: usize = 16;
+const MAX_MEMBERS: usize = 16;
 
 /// What the lines of a layout gave so far.
 #[derive(Drop)]
 pub struct Layout {
     hosts: Vec<Host>,
     routers: Vec<Vec<Port>>,
-    map: Map,
+    map: Names,
 }
 
 impl Model for Layout {
@@ -105,7 +105,7 @@ fn try_router(alloc: Global, ports: &[Port]) -> Result<(), ScriptFault>
 }
 
 /// A name that no member has yet.
-fn new_name(alloc: Global, map: &Map, name: &[u8]) -> Result<String, ScriptFault> {
+fn new_name(alloc: Global, map: &Names, name: &[u8]) -> Result<String, ScriptFault> {
     if !is_name(name) || map.member(name).is_some() {
         return Err(ScriptFault::Bad);
     }
@@ -116,11 +116,11 @@ fn new_name(alloc: Global, map: &Map, name: &[u8]) -> Result<String, ScriptFault
 }
 
 /// A host comes into the map.
-fn map_host(map: &mut Map, name: String, host: Host) -> Result<(), ScriptFault> {
+fn map_host(map: &mut Names, name: String, host: Host) -> Result<(), ScriptFault> {
     let number = map.hosts.len();
     map.hosts.push(name)?;
     map.members.push(Member::Host(number))?;
-    map.spots.push(Spot {
+    map.spots.push(ScriptTarget {
         place: Place::Host(number),
         network: host.network,
         node: host.node,
@@ -129,9 +129,9 @@ fn map_host(map: &mut Map, name: String, host: Host) -> Result<(), ScriptFault> 
 }
 
 /// The ports of a router come into the map.
-fn map_ports(map: &mut Map, router: usize, ports: &[Port]) -> Result<(), ScriptFault> {
+fn map_ports(map: &mut Names, router: usize, ports: &[Port]) -> Result<(), ScriptFault> {
     for (port, number) in ports.iter().zip(1..17) {
-        map.spots.push(Spot {
+        map.spots.push(ScriptTarget {
             place: Place::Port(router, number),
             network: port.network,
             node: port.node,
@@ -141,7 +141,7 @@ fn map_ports(map: &mut Map, router: usize, ports: &[Port]) -> Result<(), ScriptF
 }
 
 /// A router comes into the map.
-fn map_router(map: &mut Map, name: String, ports: &[Port]) -> Result<(), ScriptFault> {
+fn map_router(map: &mut Names, name: String, ports: &[Port]) -> Result<(), ScriptFault> {
     let number = map.routers.len();
     map.routers.push(name)?;
     map.members.push(Member::Router(number))?;
@@ -154,7 +154,7 @@ impl Layout {
         Layout {
             hosts: Vec::new(alloc),
             routers: Vec::new(alloc),
-            map: Map::new(alloc),
+            map: Names::new(alloc),
         }
     }
 
@@ -166,7 +166,7 @@ impl Layout {
         let Some(host) = host_of(rest) else {
             return Err(ScriptFault::Bad);
         };
-        if self.hosts.len() >= MOST_MEMBERS {
+        if self.hosts.len() >= MAX_MEMBERS {
             return Err(ScriptFault::Bad);
         }
         let name = new_name(alloc, &self.map, name)?;
@@ -179,7 +179,7 @@ impl Layout {
         let Some((name, rest)) = args.split_first() else {
             return Err(ScriptFault::Bad);
         };
-        if self.routers.len() >= MOST_MEMBERS {
+        if self.routers.len() >= MAX_MEMBERS {
             return Err(ScriptFault::Bad);
         }
         let name = new_name(alloc, &self.map, name)?;
@@ -223,7 +223,7 @@ impl Layout {
     }
 
     /// The names and places that were laid out.
-    pub fn map(&self) -> &Map {
+    pub fn map(&self) -> &Names {
         &self.map
     }
 

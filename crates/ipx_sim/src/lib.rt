@@ -6,11 +6,11 @@
 mod acting;
 mod delivering;
 mod fields;
-mod halt;
+mod script_fault;
 mod layout;
 mod line;
 mod lines;
-mod map;
+mod names;
 mod reading;
 mod rounds;
 mod sim;
@@ -22,11 +22,11 @@ mod words;
 
 pub use acting::act;
 pub use fields::{fields_of, is_blank};
-pub use halt::ScriptFault;
+pub use script_fault::ScriptFault;
 pub use layout::Layout;
 pub use line::ScriptLine;
 pub use lines::refused_to_line;
-pub use map::{Map, Spot};
+pub use names::{Names, ScriptTarget};
 pub use reading::read_line;
 pub use sim::{do_sim, tell_too_long};
 pub use summing::{summary, write_counts, write_standing};

@@ -1,7 +1,7 @@
 //! The lines that tell of an event.
 
 ghost use Rattle.std.specs.Prelude.{◌≡◌, ◌++◌, ◌∷◌, [], IfOk, codes, string_bytes};
-ghost use Rattle.ipx_commands.specs.Line.{fault_text, reason_text, spx_fault_text};
+ghost use Rattle.ipx_inspect.specs.Line.{fault_text, reason_text, spx_fault_text};
 ghost use Rattle.std.specs.List.{flat_map};
 ghost use Rattle.ipx_net.specs.AnswerView.{answer_view};
 ghost use Rattle.ipx_net.specs.Parcels.{parcel_view, parcel_views};
@@ -9,7 +9,7 @@ ghost use Rattle.ipx_sim.specs.Act.{outcome_view};
 ghost use Rattle.ipx_sim.specs.ActLine.{act_lines, act_status, answer_lines, answer_status, arrived_text, bytes_text, done_line, end_text, fault_line, line_at, made_lines, parcel_line, refused_line};
 
 use crate::words::{end_fault_to_name, net_fault_name, received_word};
-use ipx_commands::{fault_to_text, numbered_text, reason_to_text, spx_fault_to_text};
+use ipx_inspect::{fault_to_text, numbered_text, reason_to_text, spx_fault_to_text};
 use ipx_net::{Answer, NetFault, Parcel};
 use ipx_router::Reason;
 use ipx_wire::{IpxFault, OutOfMemory, SpxFault};

@@ -12,9 +12,9 @@ ghost use Rattle.ipx_sim.specs.Script.{IsLineOwed};
 use crate::fields::{
     bytes_of, index_of, number_of, parse_address, parse_buffers, parse_network, stream_of,
 };
-use crate::halt::ScriptFault;
+use crate::script_fault::ScriptFault;
 use crate::line::ScriptLine;
-use crate::map::Map;
+use crate::names::Names;
 use ipx_net::Event;
 use ipx_wire::{Node, Socket};
 use spx_units::Message;
@@ -38,7 +38,7 @@ fn only<'a>(args: &[&'a [u8]]) -> Option<&'a [u8]>
 }
 
 /// `HOST SOCKET NET NODE SOCKET BUFFERS`.
-fn dial_of(map: &Map, args: &[&[u8]]) -> Option<Event>
+fn dial_of(map: &Names, args: &[&[u8]]) -> Option<Event>
     ensures value { option_map event_view result
         ≡ dial_in (map_view map.now) (fields_view args.now) }
     ensures owed { IfSome result IsActOwed }
@@ -72,7 +72,7 @@ fn release_of(args: &[&[u8]]) -> Option<Event>
     Some(Event::Release { who })
 }
 
-fn poll_of(map: &Map, args: &[&[u8]]) -> Option<Event>
+fn poll_of(map: &Names, args: &[&[u8]]) -> Option<Event>
     ensures value { option_map event_view result
         ≡ poll_in (map_view map.now) (fields_view args.now) }
     ensures owed { IfSome result IsActOwed }
@@ -82,7 +82,7 @@ fn poll_of(map: &Map, args: &[&[u8]]) -> Option<Event>
 }
 
 /// `N PLACE`.
-fn deliver_of(map: &Map, args: &[&[u8]]) -> Option<Event>
+fn deliver_of(map: &Names, args: &[&[u8]]) -> Option<Event>
     ensures value { option_map event_view result
         ≡ deliver_in (map_view map.now) (fields_view args.now) }
     ensures owed { IfSome result IsActOwed }
@@ -97,7 +97,7 @@ fn deliver_of(map: &Map, args: &[&[u8]]) -> Option<Event>
 }
 
 /// An event that takes no memory to be read.
-fn event_of(map: &Map, command: &[u8], args: &[&[u8]]) -> Option<Event>
+fn event_of(map: &Names, command: &[u8], args: &[&[u8]]) -> Option<Event>
     ensures value { option_map event_view result
         ≡ event_in (map_view map.now) command.now (fields_view args.now) }
     ensures owed { IfSome result IsActOwed }
@@ -175,7 +175,7 @@ fn act_of(event: Option<Event>) -> Option<ScriptLine>
 }
 
 /// A line that takes no memory to be read.
-fn plain_of(map: &Map, command: &[u8], args: &[&[u8]]) -> Option<ScriptLine>
+fn plain_of(map: &Names, command: &[u8], args: &[&[u8]]) -> Option<ScriptLine>
     ensures value { option_map script_line_view result
         ≡ plain_in (map_view map.now) command.now (fields_view args.now) }
     ensures owed { IfSome result IsLineOwed }
@@ -238,7 +238,7 @@ fn inject_of(alloc: Global, args: &[&[u8]]) -> Result<ScriptLine, ScriptFault>
 }
 
 /// Reads the fields of a line that is not blank, behind the layout. What it names is there.
-pub fn read_line(alloc: Global, map: &Map, fields: &[&[u8]]) -> Result<ScriptLine, ScriptFault>
+pub fn read_line(alloc: Global, map: &Names, fields: &[&[u8]]) -> Result<ScriptLine, ScriptFault>
     ensures read { ReadsLine (map_view map.now) (fields_view fields.now) result }
     ensures owed { IfOk result IsLineOwed }
 {

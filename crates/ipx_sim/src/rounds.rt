@@ -9,7 +9,7 @@ ghost use Rattle.ipx_sim.specs.Going.{FillsEnd, PollsOnce, PollsOut, RunRound, R
 
 use crate::acting::step;
 use crate::delivering::{Delivered, deliver_all};
-use crate::map::Map;
+use crate::names::Names;
 use crate::stop::LineFault;
 use crate::taking::drain_if;
 use ipx_net::{Answer, Event, Member, Net, NetFault};
@@ -94,7 +94,7 @@ fn poll_all(alloc: Global, net: &mut Net, members: &[Member]) -> Result<bool, Li
 fn run_round(
     alloc: Global,
     net: &mut Net,
-    map: &Map,
+    map: &Names,
     delivered: &mut Delivered,
     takes: bool,
 ) -> Result<bool, LineFault>
@@ -113,7 +113,7 @@ fn run_round(
 pub fn run_rounds(
     alloc: Global,
     net: &mut Net,
-    map: &Map,
+    map: &Names,
     delivered: &mut Delivered,
     rounds: u32,
     takes: bool,

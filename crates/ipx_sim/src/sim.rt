@@ -4,10 +4,10 @@ ghost use Rattle.std.specs.Prelude.{◌≡◌, IfErr, IfOk, IfSome, string_bytes
 ghost use Rattle.std.specs.Io.KnownBytes.{Appends};
 ghost use Rattle.ipx_sim.specs.Script.{IsTooLong, too_long_line};
 
-use crate::halt::ScriptFault;
+use crate::script_fault::ScriptFault;
 use crate::layout::Layout;
 use crate::simulation::Simulation;
-use ipx_commands::{InputFault, MOST_INPUT, read_up_to, tell_no_memory, write_lines};
+use ipx_inspect::{InputFault, MAX_INPUT, read_up_to, tell_no_memory, write_lines};
 use ipx_wire::OutOfMemory;
 use std::alloc::Global;
 use std::io::{Read, Write};
@@ -130,12 +130,12 @@ pub fn do_sim<R: Read, W: Write>(alloc: Global, reader: &mut R, writer: &mut W) 
         → (status ≡ 2) × Appends (W.contents writer.old) (W.contents writer.new) too_long_line)) }
     ensures fault { IfErr result (λ status. status ≡ 1) }
 {
-    let input = match read_up_to(alloc, reader, MOST_INPUT + 1) {
+    let input = match read_up_to(alloc, reader, MAX_INPUT + 1) {
         Ok(input) => input,
         Err(InputFault::Read) => return Err(1),
         Err(InputFault::Memory) => return Err(tell_no_memory(writer)),
     };
-    if input.len() > MOST_INPUT {
+    if input.len() > MAX_INPUT {
         return tell_too_long(alloc, writer);
     }
     run_script(alloc, &input, writer)

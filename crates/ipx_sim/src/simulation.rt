@@ -10,15 +10,15 @@ ghost use Rattle.ipx_sim.specs.ScriptReading.{event_view};
 ghost use Rattle.ipx_sim.specs.Script.{IsLineOwed};
 ghost use Rattle.ipx_sim.specs.Sim.{MarksWhere, TellsTake, last_text, parcel_of, sim_view, line_fault_status, stop_text, taken_line};
 ghost use Rattle.ipx_sim.specs.Summary.{Summarizes};
-ghost use Rattle.ipx_sim.specs.declared.halt.ScriptFault.TheVariants as Halts;
+ghost use Rattle.ipx_sim.specs.declared.script_fault.ScriptFault.TheVariants as Halts;
 
 use crate::acting::act;
 use crate::delivering::Delivered;
 use crate::fields::{fields_of, is_blank};
-use crate::halt::ScriptFault;
+use crate::script_fault::ScriptFault;
 use crate::line::ScriptLine;
 use crate::lines::{bytes_to_text, fault_to_line, refused_to_line};
-use crate::map::Map;
+use crate::names::Names;
 use crate::reading::read_line;
 use crate::rounds::{fill, run_rounds};
 use crate::stop::LineFault;
@@ -33,7 +33,7 @@ use std::io::Write;
 /// delivered.
 pub struct Simulation {
     net: Net,
-    map: Map,
+    map: Names,
     moment: u64,
     delivered: Delivered,
 }
@@ -170,7 +170,7 @@ fn parcel_of(event: &Event) -> Option<usize>
 
 impl Simulation {
     /// A network in which nothing happened yet.
-    pub fn new(alloc: Global, net: Net, map: Map) -> Simulation
+    pub fn new(alloc: Global, net: Net, map: Names) -> Simulation
         ensures { sim_view result ≡ record {
           net = net;
           map = map_view map;

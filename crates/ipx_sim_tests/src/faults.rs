@@ -1,6 +1,6 @@
 //! A read or write fault is status 1, and after it nothing more is written.
 
-use failing_io::Failing;
+use faulty_io::Failing;
 use ipx_sim::do_sim;
 use std::alloc::Global;
 

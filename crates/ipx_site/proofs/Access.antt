@@ -2,14 +2,14 @@
 use Rattle.std.proofs.Common.{Vec, ◌≡◌, ℕ, List, Option, inl, inr}
 use Rattle.std.specs.Global.{Global}
 use Rattle.toml.specs.Data.{Members}
-use Rattle.ipx_site.specs.declared.fault.FileFault.{FileFault}
+use Rattle.ipx_site.specs.declared.fault.ConfigError.{ConfigError}
 use Rattle.ipx_site.specs.declared.key.Key.TheVariants as Key
 use Rattle.ipx_site.specs.Fields.{Holds, HoldsIf, IsWrong}
 use Rattle.ipx_site.specs.Port.{IsAccessFault}
 use Rattle.ipx_site.specs.Values.{AreAddressesOf, AreRouterPeers, IsAccept}
 use Rattle.ipx_site.proofs.Faults.{right_if}
 
-module _ (seen : List (List ℕ)) (peers : Vec (List ℕ) Global) (same : seen ≡ peers.items) (ms : Members) (table : ℕ) (f : FileFault)
+module _ (seen : List (List ℕ)) (peers : Vec (List ℕ) Global) (same : seen ≡ peers.items) (ms : Members) (table : ℕ) (f : ConfigError)
     (there : Holds AreAddressesOf Key.Peers ms peers) where
   pub routers_fault : IsWrong (AreRouterPeers seen) Key.Routers ms table f → IsAccessFault ms table f
   routers_fault wrong = let now = rw same at wrong in (peers, there, inl now)

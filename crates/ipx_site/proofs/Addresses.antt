@@ -6,7 +6,7 @@ use Rattle.std.specs.Global.{Global}
 use Rattle.std.specs.List.{list_all}
 use Rattle.std.specs.Net.Grammar.{IsDotted}
 use Rattle.toml.specs.Data.{Data, Items, no_items, item}
-use Rattle.ipx_site.specs.SitePeers.{is_peer}
+use Rattle.ipx_site.specs.SourceFilter.{is_peer}
 use Rattle.ipx_site.specs.Values.{AreEach, AreAddressesOf, AreRouterPeers, IsIpAddress}
 
 dotted_once : (text a b : List ℕ) → IsDotted text a → IsDotted text b → a ≡ b

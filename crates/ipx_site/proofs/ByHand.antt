@@ -7,56 +7,56 @@ use Rattle.std.proofs.lemmas.List.Elements.{All-append, All-cons, All-head, All-
 use Rattle.toml.specs.Data.{Data, Items, Members, no_items, item}
 use Rattle.ipx_tables.specs.declared.source.Source.{Source}
 use Rattle.ipx_router.specs.Ports.{IsPortNumber}
-use Rattle.ipx_by_hand.specs.declared.neighbour.SilentNeighbour.{SilentNeighbour}
-use Rattle.ipx_by_hand.specs.HandOffers.{source_by_hand}
-use Rattle.ipx_site.specs.declared.fault.FileFault.{FileFault}
-use Rattle.ipx_site.specs.declared.hand.HandEntry.{HandEntry}
-use Rattle.ipx_site.specs.declared.hand.HandKind.{HandKind}
-use Rattle.ipx_site.specs.declared.hand.HandKind.TheVariants as Of
-use Rattle.ipx_site.specs.declared.hand_fields.NearNode.{NearNode}
-use Rattle.ipx_site.specs.declared.site.PortOfKind.{PortOfKind}
-use Rattle.ipx_site.specs.HandFields.{IsNear, numbered_port}
-use Rattle.ipx_site.specs.HandLists.{AreByHand, AreEntriesOf, AreHandEntries, IsAgain, IsEntryItem, IsEntryItemFault, IsFirstEntryFault, again_place, entry_number, is_one_source}
-use Rattle.ipx_site.specs.HandTables.{IsEntryTable}
-use Rattle.ipx_site.specs.SilentSite.{IsSilent, named_sources, with_source}
+use Rattle.ipx_static.specs.declared.neighbour.StaticNeighbour.{StaticNeighbour}
+use Rattle.ipx_static.specs.StaticOffers.{static_source}
+use Rattle.ipx_site.specs.declared.fault.ConfigError.{ConfigError}
+use Rattle.ipx_site.specs.declared.statics.StaticEntry.{StaticEntry}
+use Rattle.ipx_site.specs.declared.statics.StaticKind.{StaticKind}
+use Rattle.ipx_site.specs.declared.statics.StaticKind.TheVariants as Of
+use Rattle.ipx_site.specs.declared.static_fields.NextHop.{NextHop}
+use Rattle.ipx_site.specs.declared.site.PortConfig.{PortConfig}
+use Rattle.ipx_site.specs.StaticFields.{IsNear, numbered_port}
+use Rattle.ipx_site.specs.StaticLists.{AreStatics, AreEntriesOf, AreStaticEntries, IsAgain, IsEntryItem, IsEntryItemFault, IsFirstEntryFault, again_place, entry_number, is_one_source}
+use Rattle.ipx_site.specs.StaticTables.{IsEntryTable}
+use Rattle.ipx_site.specs.StaticNeighbours.{IsSilent, named_sources, with_source}
 
-module _ (kind : HandKind) (ports : List PortOfKind) where
+module _ (kind : StaticKind) (ports : List PortConfig) where
   -- Of the items that are left the first is at fault. The entries so far are those before it.
-  pub entry_fault : (earlier : List HandEntry) (number : ℕ) → number ≡ entry_number kind earlier
+  pub entry_fault : (earlier : List StaticEntry) (number : ℕ) → number ≡ entry_number kind earlier
       → (ds : Items) (d : Data) (left : Items) → ds ≡ item d left
-      → (f : FileFault) → IsEntryItemFault kind ports number d f → IsFirstEntryFault kind ports earlier ds f
+      → (f : ConfigError) → IsEntryItemFault kind ports number d f → IsFirstEntryFault kind ports earlier ds f
   entry_fault earlier number counted ds d left is f fault =
       rw is (inl (subst (λ (n : ℕ). IsEntryItemFault kind ports n d f) counted fault))
 
-  pub again_fault : (earlier seen : List HandEntry) → seen ≡ earlier → (ds : Items) (d : Data) (left : Items)
-      → ds ≡ item d left → (e : HandEntry) → IsEntryItem kind ports d e → (f : FileFault) → IsAgain kind seen e f
+  pub again_fault : (earlier seen : List StaticEntry) → seen ≡ earlier → (ds : Items) (d : Data) (left : Items)
+      → ds ≡ item d left → (e : StaticEntry) → IsEntryItem kind ports d e → (f : ConfigError) → IsAgain kind seen e f
       → IsFirstEntryFault kind ports earlier ds f
   again_fault earlier seen same ds d left is e entry f again =
-      rw is (inr (e, entry, inl (subst (λ (l : List HandEntry). IsAgain kind l e f) same again)))
+      rw is (inr (e, entry, inl (subst (λ (l : List StaticEntry). IsAgain kind l e f) same again)))
 
   -- or one behind it is
-  pub later_entry_fault : (earlier seen new : List HandEntry) → seen ≡ earlier → (e : HandEntry) → new ≡ earlier ++ e ∷ []
+  pub later_entry_fault : (earlier seen new : List StaticEntry) → seen ≡ earlier → (e : StaticEntry) → new ≡ earlier ++ e ∷ []
       → (ds : Items) (d : Data) (left : Items) → ds ≡ item d left → IsEntryItem kind ports d e
-      → again_place seen e ≡ None → (f : FileFault) → IsFirstEntryFault kind ports new left f
+      → again_place seen e ≡ None → (f : ConfigError) → IsFirstEntryFault kind ports new left f
       → IsFirstEntryFault kind ports earlier ds f
   later_entry_fault earlier seen new same e more ds d left is entry alone f fault =
-      let behind = subst (λ (l : List HandEntry). IsFirstEntryFault kind ports l left f) more fault in
-      let first = subst (λ (l : List HandEntry). again_place l e ≡ None) same alone in
+      let behind = subst (λ (l : List StaticEntry). IsFirstEntryFault kind ports l left f) more fault in
+      let first = subst (λ (l : List StaticEntry). again_place l e ≡ None) same alone in
       rw is (inr (e, entry, inr (first, behind)))
 
   -- an entry, and those behind it
-  pub one_more_entry : (earlier seen new : List HandEntry) → seen ≡ earlier → (e : HandEntry) → new ≡ earlier ++ e ∷ []
+  pub one_more_entry : (earlier seen new : List StaticEntry) → seen ≡ earlier → (e : StaticEntry) → new ≡ earlier ++ e ∷ []
       → (ds : Items) (d : Data) (left : Items) → ds ≡ item d left → IsEntryItem kind ports d e
-      → again_place seen e ≡ None → (rest : List HandEntry) → AreHandEntries kind ports new left rest
-      → AreHandEntries kind ports earlier ds (e ∷ rest)
+      → again_place seen e ≡ None → (rest : List StaticEntry) → AreStaticEntries kind ports new left rest
+      → AreStaticEntries kind ports earlier ds (e ∷ rest)
   one_more_entry earlier seen new same e more ds d left is entry alone rest are =
-      let behind = subst (λ (l : List HandEntry). AreHandEntries kind ports l left rest) more are in
-      let first = subst (λ (l : List HandEntry). again_place l e ≡ None) same alone in
+      let behind = subst (λ (l : List StaticEntry). AreStaticEntries kind ports l left rest) more are in
+      let first = subst (λ (l : List StaticEntry). again_place l e ≡ None) same alone in
       rw is (e, rest, refl, entry, first, behind)
 
 -- ---- where they are heard
 
-abbrev pub IsHeardAt : List PortOfKind → HandEntry → Type 0
+abbrev pub IsHeardAt : List PortConfig → StaticEntry → Type 0
 IsHeardAt ports e = IsPortNumber (length ports) e.by.port
 
 -- a port that has a number is there
@@ -65,14 +65,14 @@ got [] i x is = absurd (cc)
 got (y ∷ ys) zero x is = omega arith
 got (y ∷ ys) (suc i) x is = let ih = got ys i x is in omega arith
 
-numbered : (ports : List PortOfKind) (n : ℕ) (p : PortOfKind) → numbered_port ports n ≡ Some p → IsPortNumber (length ports) n
+numbered : (ports : List PortConfig) (n : ℕ) (p : PortConfig) → numbered_port ports n ≡ Some p → IsPortNumber (length ports) n
 numbered ports zero p is = absurd (cc)
 numbered ports (suc i) p is = let there = got ports i p is in (omega arith, omega arith)
 
-near_there : (ports : List PortOfKind) (ms : Members) (near : NearNode) → IsNear ports ms near → IsPortNumber (length ports) near.by.port
+near_there : (ports : List PortConfig) (ms : Members) (near : NextHop) → IsNear ports ms near → IsPortNumber (length ports) near.by.port
 near_there ports ms near (holds, (p, there, node, cost)) = numbered ports near.by.port p there
 
-entry_there : (kind : HandKind) (ports : List PortOfKind) (ms : Members) (e : HandEntry) → IsEntryTable kind ports ms e → IsHeardAt ports e
+entry_there : (kind : StaticKind) (ports : List PortConfig) (ms : Members) (e : StaticEntry) → IsEntryTable kind ports ms e → IsHeardAt ports e
 entry_there Of.Route ports ms e table =
     let (near, route, is_near, path, is) = table.says in
     subst (IsHeardAt ports) (sym is) (near_there ports ms near is_near)
@@ -80,21 +80,21 @@ entry_there Of.Service ports ms e table =
     let (near, service, is_near, offered, is) = table.says in
     subst (IsHeardAt ports) (sym is) (near_there ports ms near is_near)
 
-each_there : (kind : HandKind) (ports : List PortOfKind) (earlier : List HandEntry) (ds : Items) (es : List HandEntry)
-    → AreHandEntries kind ports earlier ds es → All (IsHeardAt ports) es
+each_there : (kind : StaticKind) (ports : List PortConfig) (earlier : List StaticEntry) (ds : Items) (es : List StaticEntry)
+    → AreStaticEntries kind ports earlier ds es → All (IsHeardAt ports) es
 each_there kind ports earlier no_items es h = subst (All (IsHeardAt ports)) (sym h) (All-nil (IsHeardAt ports))
 each_there kind ports earlier (item d ds) es h =
     let (ms, is, table) = h.3 in
     subst (All (IsHeardAt ports)) (sym h.2)
     (All-cons (IsHeardAt ports) h.0 h.1 (entry_there kind ports ms h.0 table) (each_there kind ports (earlier ++ h.0 ∷ []) ds h.1 h.5))
 
-of_kind_there : (kind : HandKind) (ports : List PortOfKind) (ms : Members) (es : List HandEntry)
+of_kind_there : (kind : StaticKind) (ports : List PortConfig) (ms : Members) (es : List StaticEntry)
     → AreEntriesOf kind ports ms es → All (IsHeardAt ports) es
 of_kind_there kind ports ms es (inl none) = subst (All (IsHeardAt ports)) (sym none.1) (All-nil (IsHeardAt ports))
 of_kind_there kind ports ms es (inr some) = each_there kind ports [] some.0 es some.2
 
-pub by_hand_there : (ports : List PortOfKind) (ms : Members) (es : List HandEntry) → AreByHand ports ms es → All (IsHeardAt ports) es
-by_hand_there ports ms es (routes, services, is, of_routes, of_services) =
+pub statics_there : (ports : List PortConfig) (ms : Members) (es : List StaticEntry) → AreStatics ports ms es → All (IsHeardAt ports) es
+statics_there ports ms es (routes, services, is, of_routes, of_services) =
     subst (All (IsHeardAt ports)) (sym is)
     (All-append (IsHeardAt ports) routes services (of_kind_there Of.Route ports ms routes of_routes) (of_kind_there Of.Service ports ms services of_services))
 
@@ -109,19 +109,19 @@ module _ (P : Source → Type 0) where
       ] in
       go (list_any (λ k. is_one_source k s) known) refl
 
-  pub sources_have : (known : List Source) (es : List HandEntry) → All P known → All (λ e. P e.by) es → All P (named_sources known es)
+  pub sources_have : (known : List Source) (es : List StaticEntry) → All P known → All (λ e. P e.by) es → All P (named_sources known es)
   sources_have known [] h all = h
   sources_have known (e ∷ es) h all =
-      sources_have (with_source known e.by) es (with_has known e.by h (All-head (λ (x : HandEntry). P x.by) e es all))
-      (All-tail (λ (x : HandEntry). P x.by) e es all)
+      sources_have (with_source known e.by) es (with_has known e.by h (All-head (λ (x : StaticEntry). P x.by) e es all))
+      (All-tail (λ (x : StaticEntry). P x.by) e es all)
 
-  pub neighbours_have : (es : List HandEntry) (ss : List Source) (ns : List SilentNeighbour) → AllZip (IsSilent es) ss ns → All P ss
-      → All (λ n. P (source_by_hand n)) ns
-  neighbours_have es [] [] z h = All-nil (λ (n : SilentNeighbour). P (source_by_hand n))
+  pub neighbours_have : (es : List StaticEntry) (ss : List Source) (ns : List StaticNeighbour) → AllZip (IsSilent es) ss ns → All P ss
+      → All (λ n. P (static_source n)) ns
+  neighbours_have es [] [] z h = All-nil (λ (n : StaticNeighbour). P (static_source n))
   neighbours_have es [] (n ∷ ns) z h = absurd z
   neighbours_have es (s ∷ ss) [] z h = absurd z
   neighbours_have es (s ∷ ss) (n ∷ ns) z h =
-      All-cons (λ (m : SilentNeighbour). P (source_by_hand m)) n ns
+      All-cons (λ (m : StaticNeighbour). P (static_source m)) n ns
       (subst P (sym z.0.source) (All-head P s ss h))
       (neighbours_have es ss ns z.1 (All-tail P s ss h))
 
@@ -133,11 +133,11 @@ zip_push R [] (b ∷ ys) x y z r = absurd z
 zip_push R (a ∷ xs) [] x y z r = absurd z
 zip_push R (a ∷ xs) (b ∷ ys) x y z r = (z.0, zip_push R xs ys x y z.1 r)
 
-pub one_more_silent : (es : List HandEntry) (ss : List Source) (i : ℕ) (d : Source) → i < length ss
-    → (ns new : List SilentNeighbour) (n : SilentNeighbour) → new ≡ ns ++ n ∷ [] → AllZip (IsSilent es) (take i ss) ns
+pub one_more_silent : (es : List StaticEntry) (ss : List Source) (i : ℕ) (d : Source) → i < length ss
+    → (ns new : List StaticNeighbour) (n : StaticNeighbour) → new ≡ ns ++ n ∷ [] → AllZip (IsSilent es) (take i ss) ns
     → IsSilent es (get_or ss i d) n → AllZip (IsSilent es) (take (i + 1) ss) new
 one_more_silent es ss i d there ns new n more z silent =
     let s = get_or ss i d in
     let zipped = zip_push (IsSilent es) (take i ss) ns s n z silent in
-    let grown = subst (λ (l : List SilentNeighbour). AllZip (IsSilent es) (take i ss ++ s ∷ []) l) (sym more) zipped in
+    let grown = subst (λ (l : List StaticNeighbour). AllZip (IsSilent es) (take i ss ++ s ∷ []) l) (sym more) zipped in
     subst (λ (l : List Source). AllZip (IsSilent es) l new) (sym (take_more ss i d there)) grown

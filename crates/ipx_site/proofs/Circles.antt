@@ -8,7 +8,7 @@ use Rattle.toml.specs.Data.{Data, Items, as_array}
 use Rattle.toml.specs.View.{items_view}
 use Rattle.toml.specs.declared.value.Value.{Value}
 use Rattle.ipx_site.specs.Neighbours.{AreAmong, AreNeighbours, ReadsList}
-use Rattle.ipx_site.specs.SitePeers.{is_peer}
+use Rattle.ipx_site.specs.SourceFilter.{is_peer}
 use Rattle.ipx_site.specs.Values.{AreEach, IsIpAddress, ReadsAddresses}
 use Rattle.ipx_site.proofs.Addresses.{addresses_once}
 use Rattle.ipx_site.proofs.Each.{as_many}

@@ -3,10 +3,10 @@ use Rattle.std.proofs.Common.{◌≡◌, ◌⊎◌, ℕ, suc, ◌+◌, List, [],
 use Rattle.toml.specs.Data.{Data, Items, item, Members}
 use Rattle.toml.specs.View.{items_view}
 use Rattle.toml.specs.declared.value.Value.{Value}
-use Rattle.ipx_site.specs.declared.fault.FileFault.{FileFault}
-use Rattle.ipx_site.specs.declared.fault.FileFault.TheVariants.{Again, Missing, NotToml, OtherKind, OutOfMemory, Twin, Unknown, Wrong}
+use Rattle.ipx_site.specs.declared.fault.ConfigError.{ConfigError}
+use Rattle.ipx_site.specs.declared.fault.ConfigError.TheVariants.{Again, Missing, NotToml, OtherKind, OutOfMemory, Twin, Unknown, Wrong}
 use Rattle.ipx_site.specs.declared.key.Key.{Key}
-use Rattle.ipx_site.specs.declared.site.PortOfKind.{PortOfKind}
+use Rattle.ipx_site.specs.declared.site.PortConfig.{PortConfig}
 use Rattle.ipx_site.specs.declared.key.Key.{Key}
 use Rattle.ipx_site.specs.Values.{item_count}
 use Rattle.ipx_site.specs.Loading.{IsStatus, fault_status}
@@ -14,7 +14,7 @@ use Rattle.ipx_site.specs.Fields.{HoldsIf, HoldsOr, IsRightOr}
 use Rattle.ipx_site.specs.Site.{ArePorts, IsFirstFault, IsPortItem, IsPortItemFault, IsTwin, twin_place}
 
 -- a fault of the whole comes of one of a part, or of want of memory
-pub or_memory : {A B : Type 0} (f : FileFault) → (A → B) → (f ≡ OutOfMemory) ⊎ A → (f ≡ OutOfMemory) ⊎ B
+pub or_memory : {A B : Type 0} (f : ConfigError) → (A → B) → (f ≡ OutOfMemory) ⊎ A → (f ≡ OutOfMemory) ⊎ B
 or_memory f to (inl memory) = inl memory
 or_memory f to (inr a) = inr (to a)
 
@@ -30,32 +30,32 @@ right_if Means key ms (Some a) holds = inr (a, holds)
 
 -- Of the items that are left the first is at fault. The ports seen so far are those before it, and
 -- they are counted.
-pub item_fault : (earlier : List PortOfKind) (i n : ℕ) → n ≡ i → (ds : Items) (d : Data) (left : Items)
-    → ds ≡ item d left → (f : FileFault) → IsPortItemFault (n + 1) d f → IsFirstFault earlier (i + 1) ds f
+pub item_fault : (earlier : List PortConfig) (i n : ℕ) → n ≡ i → (ds : Items) (d : Data) (left : Items)
+    → ds ≡ item d left → (f : ConfigError) → IsPortItemFault (n + 1) d f → IsFirstFault earlier (i + 1) ds f
 item_fault earlier i n counted ds d left is f fault = rw (is, ← counted) (inl fault)
 
-pub twin_fault : (earlier seen : List PortOfKind) → seen ≡ earlier → (i n : ℕ) → n ≡ i
+pub twin_fault : (earlier seen : List PortConfig) → seen ≡ earlier → (i n : ℕ) → n ≡ i
     → (ds : Items) (d : Data) (left : Items) → ds ≡ item d left
-    → (p : PortOfKind) → IsPortItem d p → (f : FileFault) → IsTwin seen (n + 1) p f
+    → (p : PortConfig) → IsPortItem d p → (f : ConfigError) → IsTwin seen (n + 1) p f
     → IsFirstFault earlier (i + 1) ds f
 twin_fault earlier seen same i n counted ds d left is p port f twin =
     rw (is, ← counted, ← same) (inr (p, port, inl twin))
 
 -- or one behind it is
-pub later_fault : (earlier seen new : List PortOfKind) → seen ≡ earlier → (p : PortOfKind) → new ≡ earlier ++ p ∷ []
+pub later_fault : (earlier seen new : List PortConfig) → seen ≡ earlier → (p : PortConfig) → new ≡ earlier ++ p ∷ []
     → (i : ℕ) (ds : Items) (d : Data) (left : Items) → ds ≡ item d left
     → IsPortItem d p → twin_place seen p ≡ None
-    → (f : FileFault) → IsFirstFault new (i + 1 + 1) left f → IsFirstFault earlier (i + 1) ds f
+    → (f : ConfigError) → IsFirstFault new (i + 1 + 1) left f → IsFirstFault earlier (i + 1) ds f
 later_fault earlier seen new same p more i ds d left is port alone f fault =
     let behind = rw more at fault in
     let first = rw same at alone in
     rw is (inr (p, port, inr (first, behind)))
 
 -- a port, and those behind it
-pub one_more_port : (earlier seen new : List PortOfKind) → seen ≡ earlier → (p : PortOfKind) → new ≡ earlier ++ p ∷ []
+pub one_more_port : (earlier seen new : List PortConfig) → seen ≡ earlier → (p : PortConfig) → new ≡ earlier ++ p ∷ []
     → (ds : Items) (d : Data) (left : Items) → ds ≡ item d left
     → IsPortItem d p → twin_place seen p ≡ None
-    → (rest : List PortOfKind) → ArePorts new left rest → ArePorts earlier ds (p ∷ rest)
+    → (rest : List PortConfig) → ArePorts new left rest → ArePorts earlier ds (p ∷ rest)
 one_more_port earlier seen new same p more ds d left is port alone rest are =
     let behind = rw more at are in
     let first = rw same at alone in
@@ -66,7 +66,7 @@ count_is [] = refl
 count_is (v ∷ vs) = ap (λ n. suc n) (count_is vs)
 
 -- the status of a fault of a text says what it is of
-fault_is : (IsFault : FileFault → Type 0) (bytes : List ℕ) (f : FileFault) (status : ℕ) → IsFault f
+fault_is : (IsFault : ConfigError → Type 0) (bytes : List ℕ) (f : ConfigError) (status : ℕ) → IsFault f
     → status ≡ fault_status f → IsStatus IsFault bytes status
 fault_is IsFault bytes OutOfMemory status fault is = inl is
 fault_is IsFault bytes (NotToml line error) status fault is = inr (is, inr (NotToml line error, fault))
@@ -77,7 +77,7 @@ fault_is IsFault bytes (Wrong table key) status fault is = inr (is, inr (Wrong t
 fault_is IsFault bytes (Twin table network earlier) status fault is = inr (is, inr (Twin table network earlier, fault))
 fault_is IsFault bytes (Again table earlier) status fault is = inr (is, inr (Again table earlier, fault))
 
-pub status_is : (F : List ℕ → FileFault → Type 0) (bytes text : List ℕ) (f : FileFault) (status : ℕ) → text ≡ bytes
+pub status_is : (F : List ℕ → ConfigError → Type 0) (bytes text : List ℕ) (f : ConfigError) (status : ℕ) → text ≡ bytes
     → (f ≡ OutOfMemory) ⊎ F text f → status ≡ fault_status f → IsStatus (F bytes) bytes status
 status_is F bytes text f status same (inl memory) is = inl (is ∙ ap fault_status memory)
 status_is F bytes text f status same (inr fault) is =

@@ -3,8 +3,8 @@ use Rattle.std.proofs.Common.{◌≡◌, ◌∙◌, ◌<◌, ◌+◌, ◌^◌, �
 use Rattle.std.specs.List.{sum_by}
 use Rattle.std.proofs.lemmas.List.Sums.{get_or-le-sum_by, sum_by-set}
 use Rattle.ipx_carrier.specs.Counting.{raised}
-use Rattle.ipx_site.specs.declared.kept_at_ports.KeptAtPort.{KeptAtPort}
-use Rattle.ipx_site.specs.KeptAtPorts.{RefusedAddUp, StrangersAddUp, nothing_at_port, one_refused, one_stranger, strangers_over}
+use Rattle.ipx_site.specs.declared.port_filter_drops.PortFilterDrops.{PortFilterDrops}
+use Rattle.ipx_site.specs.PortFilterDrops.{RefusedAddUp, UnknownSendersAddUp, nothing_at_port, one_refused, one_unknown_sender, unknown_senders_over}
 
 -- where one term of a sum is raised, so is the sum
 raised_sum : {X : Type 0} (f : X → ℕ) (xs : List X) (i : ℕ) (y d : X) (before : ℕ) → i < length xs → before + 1 < 2 ^ 64 → before ≡ sum_by f xs
@@ -14,12 +14,12 @@ raised_sum f xs i y d before lt few is rose =
     let set = sum_by-set f xs i y d lt in
     omega arith
 
-pub strangers_add_up : StrangersAddUp
-strangers_add_up port before after old new lt few is (inl (same, kept)) = same ∙ is ∙ ap strangers_over (sym kept)
-strangers_add_up port before after old new lt few is (inr (rose, kept)) =
-    rose ∙ raised_sum (λ (k : KeptAtPort). k.strangers) old port (one_stranger (get_or old port nothing_at_port)) nothing_at_port before lt few is refl
-    ∙ ap strangers_over (sym kept)
+pub unknown_senders_add_up : UnknownSendersAddUp
+unknown_senders_add_up port before after old new lt few is (inl (same, kept)) = same ∙ is ∙ ap unknown_senders_over (sym kept)
+unknown_senders_add_up port before after old new lt few is (inr (rose, kept)) =
+    rose ∙ raised_sum (λ (k : PortFilterDrops). k.unknown_senders) old port (one_unknown_sender (get_or old port nothing_at_port)) nothing_at_port before lt few is refl
+    ∙ ap unknown_senders_over (sym kept)
 
 pub refused_add_up : RefusedAddUp
 refused_add_up port before ports lt few is =
-    raised_sum (λ (k : KeptAtPort). k.refused) ports port (one_refused (get_or ports port nothing_at_port)) nothing_at_port before lt few is refl
+    raised_sum (λ (k : PortFilterDrops). k.refused) ports port (one_refused (get_or ports port nothing_at_port)) nothing_at_port before lt few is refl

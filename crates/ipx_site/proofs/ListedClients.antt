@@ -2,8 +2,8 @@
 use Rattle.std.proofs.Common.{◌≡◌, ◌&&◌, ◌||◌, ◌==◌, List, [], ◌∷◌, Bool, true, false, map, refl, ap}
 use Rattle.std.specs.List.{list_any}
 use Rattle.std.specs.Str.{bytes_eq}
-use Rattle.ipx_site.specs.ClientLines.{client_key, is_listed_client, is_one_client, is_same_key}
-use Rattle.ipx_site.specs.declared.client_lines.PortClient.{PortClient}
+use Rattle.ipx_site.specs.ClientLog.{client_key, is_listed_client, is_one_client, is_same_key}
+use Rattle.ipx_site.specs.declared.client_log.PortClient.{PortClient}
 
 regrouped : (a b c : Bool) → (a && (b && c)) ≡ ((a && b) && c)
 regrouped true b c = refl

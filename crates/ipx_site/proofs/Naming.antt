@@ -12,9 +12,9 @@ use Rattle.ipx_wire.specs.AddressText.{spelled_network, spelled_node}
 use Rattle.ipx_wire.specs.declared.address.Network.{Network}
 use Rattle.ipx_wire.specs.declared.address.Node.{Node}
 use Rattle.ipx_site.specs.Fields.{Reads}
-use Rattle.ipx_site.specs.Origins.{AreOrigins, IsOrigin, ReadsOrigins, WritesOrigin}
+use Rattle.ipx_site.specs.AllowedPeers.{AreOrigins, IsOrigin, ReadsOrigins, WritesOrigin}
 use Rattle.ipx_site.specs.Values.{AreEach, WritesNetwork}
-use Rattle.ipx_site.specs.declared.origin.Origin.{Origin}
+use Rattle.ipx_site.specs.declared.allowed_peer.AllowedPeer.{AllowedPeer}
 use Rattle.ipx_site.proofs.Each.{as_many}
 
 -- a network is spelled by eight digits
@@ -53,7 +53,7 @@ alone text network None short none w = none w
 alone text network (Some node) short none w = let at = places text network node w in absurd (omega (arith, short, at.0))
 
 -- eight digits that write no network name nothing
-pub no_network : (text : List ℕ) → length text ≡ 8 → ((n : Network) → WritesNetwork text n → ⊥) → (o : Origin) → WritesOrigin text o → ⊥
+pub no_network : (text : List ℕ) → length text ≡ 8 → ((n : Network) → WritesNetwork text n → ⊥) → (o : AllowedPeer) → WritesOrigin text o → ⊥
 no_network text short none o w = alone text o.network o.node short (none o.network) w
 
 both : (text : List ℕ) (network : Network) (node : Option Node) → (length text ≡ 8 → ⊥) → ((n : Node) → WritesBoth text network n → ⊥) → WritesAs text network node → ⊥
@@ -61,19 +61,19 @@ both text network None long none w = long (eight text network w.0)
 both text network (Some node) long none w = none node w
 
 -- what is no network alone names nothing, where no network and a node stand there
-pub no_node : (text : List ℕ) → (length text ≡ 8 → ⊥) → ((network : Network) (n : Node) → WritesBoth text network n → ⊥) → (o : Origin) → WritesOrigin text o → ⊥
+pub no_node : (text : List ℕ) → (length text ≡ 8 → ⊥) → ((network : Network) (n : Node) → WritesBoth text network n → ⊥) → (o : AllowedPeer) → WritesOrigin text o → ⊥
 no_node text long none o w = both text o.network o.node long (none o.network) w
 
 -- a list of texts names what each of them names, where there are 256 at most
 pub too_many : (d : Data) (values : List Value) → as_array d ≡ Some (items_view values) → 256 < length values
-    → (os : Vec Origin Global) → AreOrigins d os → ⊥
+    → (os : Vec AllowedPeer Global) → AreOrigins d os → ⊥
 too_many d values is many os are =
     let same : are.0 ≡ items_view values = same_Some are.0 (items_view values) (sym are.1 ∙ is) in
     let all = as_many IsOrigin values os.items (subst (λ (ds : Items). AreEach IsOrigin ds os.items) same are.2) in
     absurd (omega (arith, all, many, are.3))
 
 pub listed : {E : Type 0} (d : Data) (values : List Value) → as_array d ≡ Some (items_view values) → length values ≤ 256
-    → (r : Result (Option (Vec Origin Global)) E) → IfOk r (ReadsOrigins (items_view values)) → IfOk r (Reads AreOrigins d)
+    → (r : Result (Option (Vec AllowedPeer Global)) E) → IfOk r (ReadsOrigins (items_view values)) → IfOk r (Reads AreOrigins d)
 listed d values is few (Err e) reads = tt
 listed d values is few (Ok None) reads = λ os are.
     let same : are.0 ≡ items_view values = same_Some are.0 (items_view values) (sym are.1 ∙ is) in

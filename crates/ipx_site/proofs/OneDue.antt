@@ -2,12 +2,12 @@
 use Rattle.std.proofs.Common.{◌≡◌, ◌⊎◌, ◌↔◌, ◌+◌, ℕ, List, get_or, inl, inr, subst, arith}
 use Rattle.std.proofs.lemmas.Bool.{cases_lt}
 use Rattle.ipx_site.specs.Moments.{IsDue, IsOneDueOf, untold}
-use Rattle.ipx_site.specs.declared.causes.Cause.{Cause}
+use Rattle.ipx_site.specs.declared.throttled_log.ThrottledLog.{ThrottledLog}
 
-more : (causes : List Cause) (happened : List ℕ) (i t : ℕ) → IsOneDueOf i causes happened t → IsOneDueOf (i + 1) causes happened t
+more : (causes : List ThrottledLog) (happened : List ℕ) (i t : ℕ) → IsOneDueOf i causes happened t → IsOneDueOf (i + 1) causes happened t
 more causes happened i t (place, lt, due) = (place, omega (arith, lt), due)
 
-less : (causes : List Cause) (happened : List ℕ) (i t : ℕ) → IsOneDueOf (i + 1) causes happened t
+less : (causes : List ThrottledLog) (happened : List ℕ) (i t : ℕ) → IsOneDueOf (i + 1) causes happened t
     → IsOneDueOf i causes happened t ⊎ IsDue (get_or causes i untold) (get_or happened i 0) t
 less causes happened i t (place, lt, due) = elim (cases_lt place i) [
   | inl below ↦ inl (place, below, due)
@@ -24,7 +24,7 @@ over : {A B C D : Type 0} → (A → C) → (B → D) → A ⊎ B → C ⊎ D
 over f g (inl a) = inl (f a)
 over f g (inr b) = inr (g b)
 
-pub one_more : {E A N : Type 0} (causes : List Cause) (happened : List ℕ) (i t : ℕ) → (E ↔ (A ⊎ N)) → (A ↔ IsOneDueOf i causes happened t)
+pub one_more : {E A N : Type 0} (causes : List ThrottledLog) (happened : List ℕ) (i t : ℕ) → (E ↔ (A ⊎ N)) → (A ↔ IsOneDueOf i causes happened t)
     → (N ↔ IsDue (get_or causes i untold) (get_or happened i 0) t) → E ↔ IsOneDueOf (i + 1) causes happened t
 one_more causes happened i t e a n = (
   λ h. forth (λ x. more causes happened i t (a.0 x)) (λ x. (i, omega arith, n.0 x)) (e.0 h),

@@ -2,7 +2,7 @@
 use Rattle.std.proofs.Common.{◌≡◌, ◌⊎◌, ◌↔◌, ◌<◌, ◌≤◌, ◌+◌, ◌^◌, ◌∙◌, ℕ, true, Option, Some, None, inl, inr, refl, sym, subst}
 use Rattle.std.proofs.lemmas.Bool.{le-leb, leb-true}
 use Rattle.ipx_router.specs.Telling.{IsNextTelling, is_due}
-use Rattle.ipx_site.specs.Leisure.{IsLeisure}
+use Rattle.ipx_site.specs.IdleTime.{IsTimeUntilDue}
 use Rattle.ipx_site.specs.Moments.{IsReached}
 
 forth : {A B C D : Type 0} → (A → C) → (B → D) → A ⊎ B → C ⊎ D
@@ -47,7 +47,7 @@ telling last None t h less = (λ k. absurd k, λ e. absurd (cc (sym e ∙ h t le
 telling last (Some m) t h less = (λ k. h t ∙ le-leb m t k, λ e. leb-true m t (sym (h t) ∙ e))
 
 -- nothing to do of what is the same at each moment that a clock can show
-pub as_long : (P Q : ℕ → Type 0) (now time : ℕ) → ((t : ℕ) → t < 2 ^ 64 → P t ↔ Q t) → IsLeisure P now time → IsLeisure Q now time
+pub as_long : (P Q : ℕ → Type 0) (now time : ℕ) → ((t : ℕ) → t < 2 ^ 64 → P t ↔ Q t) → IsTimeUntilDue P now time → IsTimeUntilDue Q now time
 as_long P Q now time e l = record {
   most = l.most;
   nothing = λ t a b h q. l.nothing t a b h ((e t h).1 q);

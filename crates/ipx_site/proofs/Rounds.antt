@@ -2,10 +2,10 @@
 use Rattle.std.proofs.Common.{◌≡◌, ◌∙◌, ℕ, length, min, Bool, true, false, if◌then◌else◌, Option, Some, None, is_some, sym, ap, subst, inl, inr}
 use Rattle.ipx_carrier.specs.declared.fault.RunFault.{RunFault}
 use Rattle.ipx_carrier.specs.Turns.{Ways}
-use Rattle.ipx_carrier.specs.declared.report.Burst.{Burst}
+use Rattle.ipx_carrier.specs.declared.report.Batch.{Batch}
 use Rattle.ipx_carrier.specs.Driving.{BurstsBy}
-use Rattle.ipx_site.specs.Leisure.{Agenda, Happened, IsLeisure, IsToDo, agenda}
-use Rattle.ipx_site.specs.declared.troubles.Troubles.{Troubles}
+use Rattle.ipx_site.specs.IdleTime.{Deadlines, EventCounts, IsTimeUntilDue, IsDue, deadlines}
+use Rattle.ipx_site.specs.declared.warnings.Warnings.{Warnings}
 use Rattle.ipx_site.specs.SiteCore.{SiteCore, SiteGives, SiteHears, SiteMisses, SiteWithholds}
 use Rattle.ipx_site.specs.RouterRounds.{AsksAgain, IsRound, SleepsBehind}
 
@@ -15,16 +15,16 @@ pub same_ports : (now times times_after : ℕ) (old mid : SiteCore) → AsksAgai
 same_ports now times times_after old mid (inl h) = ap (λ (v : SiteCore). length v.core.core.router.ports) h.2
 same_ports now times times_after old mid (inr h) = ap (λ (v : SiteCore). length v.core.core.router.ports) h.2
 
-pub is_round : {K A : Type 0} (stops tells : K → ℕ → K → Type 0) (clock told tick clock_after : K) (ways here : Ways A)
-    (i j n : ℕ) (now moment times times_after : ℕ) (old mid new : SiteCore) (b : Burst) → stops clock now told → tick ≡ told → moment ≡ now
-    → AsksAgain now times times_after old mid → here ≡ ways → j ≡ i
+pub is_round : {K A : Type 0} (stops tells : K → ℕ → K → Type 0) (clock told tick clock_after : K) (transmissions here : Ways A)
+    (i j n : ℕ) (now moment times times_after : ℕ) (old mid new : SiteCore) (b : Batch) → stops clock now told → tick ≡ told → moment ≡ now
+    → AsksAgain now times times_after old mid → here ≡ transmissions → j ≡ i
     → BurstsBy SiteHears SiteMisses SiteGives SiteWithholds tells (length mid.core.core.router.ports) here 32 b j n tick clock_after mid new
-    → IsRound clock clock_after stops tells ways i n times times_after old new moment b
-is_round {A = A} stops tells clock told tick clock_after ways here i j n now moment times times_after old mid new b h e m asks f g bursts =
+    → IsRound clock clock_after stops tells transmissions i n times times_after old new moment b
+is_round {A = A} stops tells clock told tick clock_after transmissions here i j n now moment times times_after old mid new b h e m asks f g bursts =
     let at = subst (λ ports. BurstsBy SiteHears SiteMisses SiteGives SiteWithholds tells ports here 32 b j n tick clock_after mid new)
     (same_ports now times times_after old mid asks) bursts in
     let by = subst (λ (it : Ways A). BurstsBy SiteHears SiteMisses SiteGives SiteWithholds tells (length old.core.core.router.ports) it 32 b j n tick clock_after mid new) f at in
-    let kept = subst (λ it. BurstsBy SiteHears SiteMisses SiteGives SiteWithholds tells (length old.core.core.router.ports) ways 32 b it n tick clock_after mid new) g by in
+    let kept = subst (λ it. BurstsBy SiteHears SiteMisses SiteGives SiteWithholds tells (length old.core.core.router.ports) transmissions 32 b it n tick clock_after mid new) g by in
     (now, tick, mid, subst (λ it. stops clock now it) (sym e) h, m, asks, kept)
 
 -- how long a router waits, by how its burst ended
@@ -36,10 +36,10 @@ rests todo marked clock clock' stops asked None quiet e at same = absurd (cc)
 
 pub sleeps : {K : Type 0} (todo : ℕ → Type 0) (marked : Bool) (clock clock' : K) (stops : K → ℕ → K → Type 0) (asked : Option ℕ)
     (fault : Option RunFault) (quiet : Bool) → is_some fault ≡ false → quiet ≡ true → (now time : ℕ) → stops clock now clock'
-    → IsLeisure todo now time → asked ≡ Some (if marked then min time 100 else time) → SleepsBehind todo marked clock clock' stops asked fault quiet
-sleeps todo marked clock clock' stops asked (Some f) quiet e q now time told leisure at = absurd (cc)
-sleeps todo marked clock clock' stops asked None true e q now time told leisure at = (now, time, told, leisure, at)
-sleeps todo marked clock clock' stops asked None false e q now time told leisure at = absurd (cc)
+    → IsTimeUntilDue todo now time → asked ≡ Some (if marked then min time 100 else time) → SleepsBehind todo marked clock clock' stops asked fault quiet
+sleeps todo marked clock clock' stops asked (Some f) quiet e q now time told time_until_due at = absurd (cc)
+sleeps todo marked clock clock' stops asked None true e q now time told time_until_due at = (now, time, told, time_until_due, at)
+sleeps todo marked clock clock' stops asked None false e q now time told time_until_due at = absurd (cc)
 
 pub goes_on : {K : Type 0} (todo : ℕ → Type 0) (marked : Bool) (clock clock' : K) (stops : K → ℕ → K → Type 0) (asked : Option ℕ)
     (fault : Option RunFault) (quiet : Bool) → is_some fault ≡ false → quiet ≡ false → asked ≡ Some 0 → clock' ≡ clock
@@ -49,32 +49,32 @@ goes_on todo marked clock clock' stops asked None true e q at same = absurd (cc)
 goes_on todo marked clock clock' stops asked None false e q at same = (at, same)
 
 -- what a round and the wait behind it say does not hang on what is the same behind them
-pub round_then : {K A : Type 0} (stops tells : K → ℕ → K → Type 0) (clock clock' : K) (ways : Ways A) (kept kept' kept'' asked asked' asked'' : ℕ)
-    (old new new' : SiteCore) (moment moment' : ℕ) (b : Burst) → kept'' ≡ kept' → asked'' ≡ asked' → new' ≡ new → moment' ≡ moment
-    → IsRound clock clock' stops tells ways kept kept' asked asked' old new moment b → IsRound clock clock' stops tells ways kept kept'' asked asked'' old new' moment' b
-round_then stops tells clock clock' ways kept kept' kept'' asked asked' asked'' old new new' moment moment' b e f g h round =
-    let one = subst (λ it. IsRound clock clock' stops tells ways kept it asked asked' old new moment b) (sym e) round in
-    let two = subst (λ it. IsRound clock clock' stops tells ways kept kept'' asked it old new moment b) (sym f) one in
-    let three = subst (λ it. IsRound clock clock' stops tells ways kept kept'' asked asked'' old it moment b) (sym g) two in
-    subst (λ it. IsRound clock clock' stops tells ways kept kept'' asked asked'' old new' it b) (sym h) three
+pub round_then : {K A : Type 0} (stops tells : K → ℕ → K → Type 0) (clock clock' : K) (transmissions : Ways A) (kept kept' kept'' asked asked' asked'' : ℕ)
+    (old new new' : SiteCore) (moment moment' : ℕ) (b : Batch) → kept'' ≡ kept' → asked'' ≡ asked' → new' ≡ new → moment' ≡ moment
+    → IsRound clock clock' stops tells transmissions kept kept' asked asked' old new moment b → IsRound clock clock' stops tells transmissions kept kept'' asked asked'' old new' moment' b
+round_then stops tells clock clock' transmissions kept kept' kept'' asked asked' asked'' old new new' moment moment' b e f g h round =
+    let one = subst (λ it. IsRound clock clock' stops tells transmissions kept it asked asked' old new moment b) (sym e) round in
+    let two = subst (λ it. IsRound clock clock' stops tells transmissions kept kept'' asked it old new moment b) (sym f) one in
+    let three = subst (λ it. IsRound clock clock' stops tells transmissions kept kept'' asked asked'' old it moment b) (sym g) two in
+    subst (λ it. IsRound clock clock' stops tells transmissions kept kept'' asked asked'' old new' it b) (sym h) three
 
-pub sleeps_then : {K : Type 0} (a b : Agenda) (marked : Bool) (clock clock' : K) (stops : K → ℕ → K → Type 0) (asked asked' : Option ℕ)
-    (fault : Option RunFault) (quiet : Bool) → b ≡ a → asked' ≡ asked → SleepsBehind (IsToDo a) marked clock clock' stops asked fault quiet
-    → SleepsBehind (IsToDo b) marked clock clock' stops asked' fault quiet
+pub sleeps_then : {K : Type 0} (a b : Deadlines) (marked : Bool) (clock clock' : K) (stops : K → ℕ → K → Type 0) (asked asked' : Option ℕ)
+    (fault : Option RunFault) (quiet : Bool) → b ≡ a → asked' ≡ asked → SleepsBehind (IsDue a) marked clock clock' stops asked fault quiet
+    → SleepsBehind (IsDue b) marked clock clock' stops asked' fault quiet
 sleeps_then a b marked clock clock' stops asked asked' fault quiet e f h =
-    let one = subst (λ it. SleepsBehind (IsToDo it) marked clock clock' stops asked fault quiet) (sym e) h in
-    subst (λ it. SleepsBehind (IsToDo b) marked clock clock' stops it fault quiet) (sym f) one
+    let one = subst (λ it. SleepsBehind (IsDue it) marked clock clock' stops asked fault quiet) (sym e) h in
+    subst (λ it. SleepsBehind (IsDue b) marked clock clock' stops it fault quiet) (sym f) one
 
 -- an agenda, part by part
-pub same_agenda : (asked asked' : ℕ) (looked looked' : Option ℕ) (responses responses' : ℕ) (written written' : Option ℕ)
-    (core core' : SiteCore) (troubles troubles' : Troubles) (count count' : Happened)
-    → asked' ≡ asked → looked' ≡ looked → responses' ≡ responses → written' ≡ written → core' ≡ core → troubles' ≡ troubles → count' ≡ count
-    → agenda asked' looked' responses' written' core' troubles' count' ≡ agenda asked looked responses written core troubles count
-same_agenda asked asked' looked looked' responses responses' written written' core core' troubles troubles' count count' a l r w c t n =
-    ap (λ it. agenda it looked' responses' written' core' troubles' count') a
-    ∙ ap (λ it. agenda asked it responses' written' core' troubles' count') l
-    ∙ ap (λ it. agenda asked looked it written' core' troubles' count') r
-    ∙ ap (λ it. agenda asked looked responses it core' troubles' count') w
-    ∙ ap (λ it. agenda asked looked responses written it troubles' count') c
-    ∙ ap (λ it. agenda asked looked responses written core it count') t
-    ∙ ap (λ it. agenda asked looked responses written core troubles it) n
+pub same_deadlines : (asked asked' : ℕ) (looked looked' : Option ℕ) (responses responses' : ℕ) (written written' : Option ℕ)
+    (core core' : SiteCore) (warnings warnings' : Warnings) (count count' : EventCounts)
+    → asked' ≡ asked → looked' ≡ looked → responses' ≡ responses → written' ≡ written → core' ≡ core → warnings' ≡ warnings → count' ≡ count
+    → deadlines asked' looked' responses' written' core' warnings' count' ≡ deadlines asked looked responses written core warnings count
+same_deadlines asked asked' looked looked' responses responses' written written' core core' warnings warnings' count count' a l r w c t n =
+    ap (λ it. deadlines it looked' responses' written' core' warnings' count') a
+    ∙ ap (λ it. deadlines asked it responses' written' core' warnings' count') l
+    ∙ ap (λ it. deadlines asked looked it written' core' warnings' count') r
+    ∙ ap (λ it. deadlines asked looked responses it core' warnings' count') w
+    ∙ ap (λ it. deadlines asked looked responses written it warnings' count') c
+    ∙ ap (λ it. deadlines asked looked responses written core it count') t
+    ∙ ap (λ it. deadlines asked looked responses written core warnings it) n

@@ -21,24 +21,24 @@ use Rattle.ipx_router.specs.Classify.{is_node}
 use Rattle.ipx_router.specs.Hearing.{is_heard, route_metric, service_metric}
 use Rattle.ipx_router.specs.Ports.{IsPort}
 use Rattle.ipx_router.specs.Told.{key_of_service, route_key}
-use Rattle.ipx_by_hand.specs.declared.neighbour.SilentNeighbour.{SilentNeighbour}
-use Rattle.ipx_by_hand.specs.HandOffers.{IsAnotherNode, source_by_hand}
-use Rattle.ipx_site.specs.declared.hand.HandEntry.{HandEntry}
-use Rattle.ipx_site.specs.declared.hand.HandKind.{HandKind}
-use Rattle.ipx_site.specs.declared.hand.HandKind.TheVariants as Of
-use Rattle.ipx_site.specs.declared.hand.HandWord.{HandWord}
-use Rattle.ipx_site.specs.declared.hand.HandWord.TheVariants as Says
-use Rattle.ipx_site.specs.declared.hand_fields.NearNode.{NearNode}
+use Rattle.ipx_static.specs.declared.neighbour.StaticNeighbour.{StaticNeighbour}
+use Rattle.ipx_static.specs.StaticOffers.{IsAnotherNode, static_source}
+use Rattle.ipx_site.specs.declared.statics.StaticEntry.{StaticEntry}
+use Rattle.ipx_site.specs.declared.statics.StaticKind.{StaticKind}
+use Rattle.ipx_site.specs.declared.statics.StaticKind.TheVariants as Of
+use Rattle.ipx_site.specs.declared.statics.StaticItem.{StaticItem}
+use Rattle.ipx_site.specs.declared.statics.StaticItem.TheVariants as Says
+use Rattle.ipx_site.specs.declared.static_fields.NextHop.{NextHop}
 use Rattle.ipx_site.specs.declared.key.Key.TheVariants as Key
-use Rattle.ipx_site.specs.declared.site.PortOfKind.{PortOfKind}
-use Rattle.ipx_site.specs.declared.site.PortOfKind.TheVariants.{Rfc1234, Frames, Ipxnet}
+use Rattle.ipx_site.specs.declared.site.PortConfig.{PortConfig}
+use Rattle.ipx_site.specs.declared.site.PortConfig.TheVariants.{Rfc1234, Frames, Ipxnet}
 use Rattle.ipx_site.specs.Fields.{HoldsOr}
-use Rattle.ipx_site.specs.HandFields.{IsNear, numbered_port, own_place}
-use Rattle.ipx_site.specs.HandLists.{AreByHand, AreEntriesOf, AreHandEntries, again_place, is_one_source, is_same_word, says_again}
-use Rattle.ipx_site.specs.HandStands.{FilesMayStand, IsToStand, MayStand}
-use Rattle.ipx_site.specs.HandTables.{IsEntryTable, IsPath}
+use Rattle.ipx_site.specs.StaticFields.{IsNear, numbered_port, own_place}
+use Rattle.ipx_site.specs.StaticLists.{AreStatics, AreEntriesOf, AreStaticEntries, again_place, is_one_source, is_same_word, says_again}
+use Rattle.ipx_site.specs.StaticStands.{FilesMayStand, IsToStand, MayStand}
+use Rattle.ipx_site.specs.StaticTables.{IsEntryTable, IsPath}
 use Rattle.ipx_site.specs.PortKinds.{network_of_kind}
-use Rattle.ipx_site.specs.SilentSite.{AreSilent, IsSilent, named_sources, route_in_word, service_in_word, with_source}
+use Rattle.ipx_site.specs.StaticNeighbours.{AreSilent, IsSilent, named_sources, route_in_word, service_in_word, with_source}
 use Rattle.ipx_site.specs.SitePorts.{router_port_of_kind, router_ports}
 use Rattle.ipx_site.specs.Values.{IsCount}
 use Rattle.ipx_site.proofs.Among.{each_fails, later, made_of, makes, none_among, of_left, of_right, one_or_later, or_parts}
@@ -52,14 +52,14 @@ IsElsewhere ports s = (at : Port) × IsPort ports s.port at × (s.neighbour ≢ 
 other_node : (a b : Node) → is_node a b ≡ false → a ≢ b
 other_node a b apart same = other_text a.0 b.0 (sym apart) (ap (λ (n : Node). n.0) same)
 
-port_there : (ports : List PortOfKind) (n : ℕ) (p : PortOfKind) → numbered_port ports n ≡ Some p → IsPort (router_ports ports) n (router_port_of_kind p)
+port_there : (ports : List PortConfig) (n : ℕ) (p : PortConfig) → numbered_port ports n ≡ Some p → IsPort (router_ports ports) n (router_port_of_kind p)
 port_there ports zero p is = absurd (cc)
 port_there ports (suc i) p is =
     let back : suc i - 1 ≡ i = omega arith in
     let found = slice_get-map router_port_of_kind ports i ∙ ap (λ o. option_map router_port_of_kind o) is in
     (omega arith, subst (λ (k : ℕ). slice_get (router_ports ports) k ≡ Some (router_port_of_kind p)) (sym back) found)
 
-near_elsewhere : (ports : List PortOfKind) (ms : Members) (near : NearNode) → IsNear ports ms near → IsElsewhere (router_ports ports) near.by
+near_elsewhere : (ports : List PortConfig) (ms : Members) (near : NextHop) → IsNear ports ms near → IsElsewhere (router_ports ports) near.by
 near_elsewhere ports ms near (holds, (p, there, next, cost)) =
     let at = router_port_of_kind p in
     (at, port_there ports near.by.port p there, other_node near.by.neighbour at.node next.1)
@@ -69,29 +69,29 @@ near_elsewhere ports ms near (holds, (p, there, next, cost)) =
 not_three : (a b c : Bool) → a ≡ false → b ≡ false → c ≡ false → not (a || b || c) ≡ true
 not_three a b c x y z = rw (x, y, z) refl
 
-network_kept : (p : PortOfKind) → network_of_kind p ≡ (router_port_of_kind p).network
+network_kept : (p : PortConfig) → network_of_kind p ≡ (router_port_of_kind p).network
 network_kept (Rfc1234 p) = refl
 network_kept (Frames p) = refl
 network_kept (Ipxnet p) = refl
 
-none_own : (ports : List PortOfKind) (n : Network) → own_place ports n ≡ None → list_any (λ (p : Port). p.network.0 == n.0) (router_ports ports) ≡ false
+none_own : (ports : List PortConfig) (n : Network) → own_place ports n ≡ None → list_any (λ (p : Port). p.network.0 == n.0) (router_ports ports) ≡ false
 none_own ports n none =
     let IsOff : Port → Type 0 = λ p. (p.network.0 == n.0) ≡ false in
     list_any_none (λ (p : Port). p.network.0 == n.0) (router_ports ports)
     (All-map IsOff router_port_of_kind ports (λ k d within.
     let q = get_or ports k d in
-    let off = each_fails (λ (p : PortOfKind). (network_of_kind p).0 == n.0) ports none q (Contains-get_or ports k d within) in
+    let off = each_fails (λ (p : PortConfig). (network_of_kind p).0 == n.0) ports none q (Contains-get_or ports k d within) in
     subst (λ (w : Network). (w.0 == n.0) ≡ false) (network_kept q) off))
 
 hops_low : (ms : Members) (hops : ℕ) → HoldsOr (IsCount 14) Key.Hops ms 1 hops → hops < 16
 hops_low ms hops (inl none) = omega (arith, none.1)
 hops_low ms hops (inr some) = omega (arith, some.2.2)
 
-abbrev IsTold : List Port → HandWord → Type 0
+abbrev IsTold : List Port → StaticItem → Type 0
 IsTold ports (Says.Route r) = (is_heard ports r ≡ true) × (r.hops < 16)
 IsTold ports (Says.Service s) = s.hops < 16
 
-path_told : (ports : List PortOfKind) (ms : Members) (cost : ℕ) (r : RipEntry) → IsPath ports ms cost r → IsTold (router_ports ports) (Says.Route r)
+path_told : (ports : List PortConfig) (ms : Members) (cost : ℕ) (r : RipEntry) → IsPath ports ms cost r → IsTold (router_ports ports) (Says.Route r)
 path_told ports ms cost r path =
     let far = path.network in
     let written = far.0.2.2 in
@@ -100,13 +100,13 @@ path_told ports ms cost r path =
     (ne_eqb r.network.0 local_network written.1) (ne_eqb r.network.0 all_networks written.2) (none_own ports r.network far.2) in
     (heard, hops_low ms r.hops path.hops)
 
-abbrev IsGood : List PortOfKind → HandKind → HandEntry → Type 0
+abbrev IsGood : List PortConfig → StaticKind → StaticEntry → Type 0
 IsGood ports Of.Route e = IsElsewhere (router_ports ports) e.by × IsTold (router_ports ports) e.word
     × ((r : RipEntry) × (e.word ≡ Says.Route r))
 IsGood ports Of.Service e = IsElsewhere (router_ports ports) e.by × IsTold (router_ports ports) e.word
     × ((s : ServiceEntry) × (e.word ≡ Says.Service s))
 
-good : (kind : HandKind) (ports : List PortOfKind) (ms : Members) (e : HandEntry) → IsEntryTable kind ports ms e → IsGood ports kind e
+good : (kind : StaticKind) (ports : List PortConfig) (ms : Members) (e : StaticEntry) → IsEntryTable kind ports ms e → IsGood ports kind e
 good Of.Route ports ms e table =
     let (near, route, is_near, path, is) = table.says in
     subst (IsGood ports Of.Route) (sym is) (near_elsewhere ports ms near is_near, path_told ports ms near.cost route path, (route, refl))
@@ -131,19 +131,19 @@ source_is a b same =
     (eq-eqb a.port b.port (ap (λ (s : Source). s.port) same))
     ((bytes_eq-Decides a.neighbour.0 b.neighbour.0).1 (ap (λ (s : Source). s.neighbour.0) same))
 
-abbrev SayTheSame : HandWord → HandWord → Type 0
+abbrev SayTheSame : StaticItem → StaticItem → Type 0
 SayTheSame (Says.Route a) (Says.Route b) = a.network ≡ b.network
 SayTheSame (Says.Service a) (Says.Service b) = key_of_service a ≡ key_of_service b
 SayTheSame (Says.Route a) (Says.Service b) = ⊥
 SayTheSame (Says.Service a) (Says.Route b) = ⊥
 
-other_way : (a b : HandWord) → SayTheSame a b → SayTheSame b a
+other_way : (a b : StaticItem) → SayTheSame a b → SayTheSame b a
 other_way (Says.Route a) (Says.Route b) h = sym h
 other_way (Says.Service a) (Says.Service b) h = sym h
 other_way (Says.Route a) (Says.Service b) h = h
 other_way (Says.Service a) (Says.Route b) h = h
 
-word_is : (a b : HandWord) → SayTheSame a b → is_same_word a b ≡ true
+word_is : (a b : StaticItem) → SayTheSame a b → is_same_word a b ≡ true
 word_is (Says.Route a) (Says.Route b) h = eq-eqb a.network.0 b.network.0 (ap (λ (n : Network). n.0) h)
 word_is (Says.Service a) (Says.Service b) h =
     and_from (a.kind == b.kind) (bytes_eq a.name b.name)
@@ -152,41 +152,41 @@ word_is (Says.Service a) (Says.Service b) h =
 word_is (Says.Route a) (Says.Service b) h = absurd h
 word_is (Says.Service a) (Says.Route b) h = absurd h
 
-abbrev AreAlike : HandEntry → HandEntry → Type 0
+abbrev AreAlike : StaticEntry → StaticEntry → Type 0
 AreAlike x y = (x.by ≡ y.by) × SayTheSame x.word y.word
 
-turned : (x y : HandEntry) → AreAlike x y → AreAlike y x
+turned : (x y : StaticEntry) → AreAlike x y → AreAlike y x
 turned x y alike = (sym alike.0, other_way x.word y.word alike.1)
 
-again_is : (x y : HandEntry) → AreAlike x y → says_again x y ≡ true
+again_is : (x y : StaticEntry) → AreAlike x y → says_again x y ≡ true
 again_is x y alike =
     and_from (is_one_source x.by y.by) (is_same_word x.word y.word) (source_is x.by y.by alike.0) (word_is x.word y.word alike.1)
 
-no_first : (earlier : List HandEntry) (e : HandEntry) → again_place earlier e ≡ None → (x y : HandEntry) → Contains earlier x
+no_first : (earlier : List StaticEntry) (e : StaticEntry) → again_place earlier e ≡ None → (x y : StaticEntry) → Contains earlier x
     → e ≡ y → AreAlike x y → ⊥
 no_first earlier e alone x y before same alike =
-    let fails = each_fails (λ (other : HandEntry). says_again other e) earlier alone x before in
-    let passes = subst (λ (z : HandEntry). says_again x z ≡ true) (sym same) (again_is x y alike) in
+    let fails = each_fails (λ (other : StaticEntry). says_again other e) earlier alone x before in
+    let passes = subst (λ (z : StaticEntry). says_again x z ≡ true) (sym same) (again_is x y alike) in
     true≢false (sym passes ∙ fails)
 
-module _ (kind : HandKind) (ports : List PortOfKind) where
-  no_earlier : (earlier : List HandEntry) (ds : Items) (es : List HandEntry) → AreHandEntries kind ports earlier ds es
-      → (x y : HandEntry) → Contains earlier x → Contains es y → AreAlike x y → ⊥
-  no_earlier earlier no_items es h x y before at alike = none_among y (subst (λ (l : List HandEntry). Contains l y) h at)
+module _ (kind : StaticKind) (ports : List PortConfig) where
+  no_earlier : (earlier : List StaticEntry) (ds : Items) (es : List StaticEntry) → AreStaticEntries kind ports earlier ds es
+      → (x y : StaticEntry) → Contains earlier x → Contains es y → AreAlike x y → ⊥
+  no_earlier earlier no_items es h x y before at alike = none_among y (subst (λ (l : List StaticEntry). Contains l y) h at)
   no_earlier earlier (item d ds) es h x y before at alike =
-      elim (one_or_later h.0 y h.1 (subst (λ (l : List HandEntry). Contains l y) h.2 at)) [
+      elim (one_or_later h.0 y h.1 (subst (λ (l : List StaticEntry). Contains l y) h.2 at)) [
         | inl same ↦ no_first earlier h.0 h.4 x y before same alike
         | inr behind ↦ no_earlier (earlier ++ h.0 ∷ []) ds h.1 h.5 x y (Contains-append_left earlier (h.0 ∷ []) x before) behind alike
       ]
 
-  same_entry : (earlier : List HandEntry) (ds : Items) (es : List HandEntry) → AreHandEntries kind ports earlier ds es
-      → (x y : HandEntry) → Contains es x → Contains es y → AreAlike x y → x ≡ y
-  same_entry earlier no_items es h x y one other alike = absurd (none_among x (subst (λ (l : List HandEntry). Contains l x) h one))
+  same_entry : (earlier : List StaticEntry) (ds : Items) (es : List StaticEntry) → AreStaticEntries kind ports earlier ds es
+      → (x y : StaticEntry) → Contains es x → Contains es y → AreAlike x y → x ≡ y
+  same_entry earlier no_items es h x y one other alike = absurd (none_among x (subst (λ (l : List StaticEntry). Contains l x) h one))
   same_entry earlier (item d ds) es h x y one other alike =
       let more = earlier ++ h.0 ∷ [] in
-      let last : (z : HandEntry) → h.0 ≡ z → Contains more z = λ z same. subst (Contains more) same (Contains-push earlier h.0) in
-      let of_x = one_or_later h.0 x h.1 (subst (λ (l : List HandEntry). Contains l x) h.2 one) in
-      let of_y = one_or_later h.0 y h.1 (subst (λ (l : List HandEntry). Contains l y) h.2 other) in
+      let last : (z : StaticEntry) → h.0 ≡ z → Contains more z = λ z same. subst (Contains more) same (Contains-push earlier h.0) in
+      let of_x = one_or_later h.0 x h.1 (subst (λ (l : List StaticEntry). Contains l x) h.2 one) in
+      let of_y = one_or_later h.0 y h.1 (subst (λ (l : List StaticEntry). Contains l y) h.2 other) in
       elim of_x [
         | inl here ↦ elim of_y [
           | inl too ↦ sym here ∙ too
@@ -198,48 +198,48 @@ module _ (kind : HandKind) (ports : List PortOfKind) where
         ]
       ]
 
-  each_good : (earlier : List HandEntry) (ds : Items) (es : List HandEntry) → AreHandEntries kind ports earlier ds es → All (IsGood ports kind) es
+  each_good : (earlier : List StaticEntry) (ds : Items) (es : List StaticEntry) → AreStaticEntries kind ports earlier ds es → All (IsGood ports kind) es
   each_good earlier no_items es h = subst (All (IsGood ports kind)) (sym h) (All-nil (IsGood ports kind))
   each_good earlier (item d ds) es h =
       let (ms, is, table) = h.3 in
       subst (All (IsGood ports kind)) (sym h.2)
       (All-cons (IsGood ports kind) h.0 h.1 (good kind ports ms h.0 table) (each_good (earlier ++ h.0 ∷ []) ds h.1 h.5))
 
-  kind_same : (ms : Members) (es : List HandEntry) → AreEntriesOf kind ports ms es → (x y : HandEntry) → Contains es x → Contains es y → AreAlike x y → x ≡ y
-  kind_same ms es (inl none) x y one other alike = absurd (none_among x (subst (λ (l : List HandEntry). Contains l x) none.1 one))
+  kind_same : (ms : Members) (es : List StaticEntry) → AreEntriesOf kind ports ms es → (x y : StaticEntry) → Contains es x → Contains es y → AreAlike x y → x ≡ y
+  kind_same ms es (inl none) x y one other alike = absurd (none_among x (subst (λ (l : List StaticEntry). Contains l x) none.1 one))
   kind_same ms es (inr some) x y one other alike = same_entry [] some.0 es some.2 x y one other alike
 
-  kind_good : (ms : Members) (es : List HandEntry) → AreEntriesOf kind ports ms es → All (IsGood ports kind) es
+  kind_good : (ms : Members) (es : List StaticEntry) → AreEntriesOf kind ports ms es → All (IsGood ports kind) es
   kind_good ms es (inl none) = subst (All (IsGood ports kind)) (sym none.1) (All-nil (IsGood ports kind))
   kind_good ms es (inr some) = each_good [] some.0 es some.2
 
-abbrev IsRight : List PortOfKind → HandEntry → Type 0
+abbrev IsRight : List PortConfig → StaticEntry → Type 0
 IsRight ports e = IsElsewhere (router_ports ports) e.by × IsTold (router_ports ports) e.word
 
-unlike : (ports : List PortOfKind) (x y : HandEntry) → IsGood ports Of.Route x → IsGood ports Of.Service y → SayTheSame x.word y.word → ⊥
+unlike : (ports : List PortConfig) (x y : StaticEntry) → IsGood ports Of.Route x → IsGood ports Of.Service y → SayTheSame x.word y.word → ⊥
 unlike ports x y of_x of_y same =
     let (r, is) = of_x.2 in
     let (s, so) = of_y.2 in
-    subst (λ (w : HandWord). SayTheSame (Says.Route r) w) so (subst (λ (w : HandWord). SayTheSame w y.word) is same)
+    subst (λ (w : StaticItem). SayTheSame (Says.Route r) w) so (subst (λ (w : StaticItem). SayTheSame w y.word) is same)
 
-module _ (ports : List PortOfKind) (ms : Members) (es : List HandEntry) (h : AreByHand ports ms es) where
-  of_two : (x : HandEntry) → Contains es x → Contains h.0 x ⊎ Contains h.1 x
-  of_two x at = Contains-append_cases h.0 h.1 x (subst (λ (l : List HandEntry). Contains l x) h.2 at)
+module _ (ports : List PortConfig) (ms : Members) (es : List StaticEntry) (h : AreStatics ports ms es) where
+  of_two : (x : StaticEntry) → Contains es x → Contains h.0 x ⊎ Contains h.1 x
+  of_two x at = Contains-append_cases h.0 h.1 x (subst (λ (l : List StaticEntry). Contains l x) h.2 at)
 
-  route_good : (x : HandEntry) → Contains h.0 x → IsGood ports Of.Route x
+  route_good : (x : StaticEntry) → Contains h.0 x → IsGood ports Of.Route x
   route_good x at = All-contains (IsGood ports Of.Route) h.0 x (kind_good Of.Route ports ms h.0 h.3) at
 
-  service_good : (x : HandEntry) → Contains h.1 x → IsGood ports Of.Service x
+  service_good : (x : StaticEntry) → Contains h.1 x → IsGood ports Of.Service x
   service_good x at = All-contains (IsGood ports Of.Service) h.1 x (kind_good Of.Service ports ms h.1 h.4) at
 
-  right : (x : HandEntry) → Contains es x → IsRight ports x
+  right : (x : StaticEntry) → Contains es x → IsRight ports x
   right x at = elim (of_two x at) [
     | inl route ↦ (let g = route_good x route in (g.0, g.1))
     | inr service ↦ (let g = service_good x service in (g.0, g.1))
   ]
 
-  same_by_hand : (x y : HandEntry) → Contains es x → Contains es y → AreAlike x y → x ≡ y
-  same_by_hand x y one other alike = elim (of_two x one) [
+  same_by_static : (x y : StaticEntry) → Contains es x → Contains es y → AreAlike x y → x ≡ y
+  same_by_static x y one other alike = elim (of_two x one) [
     | inl route ↦ elim (of_two y other) [
       | inl too ↦ kind_same Of.Route ports ms h.0 h.3 x y route too alike
       | inr service ↦ absurd (unlike ports x y (route_good x route) (service_good y service) alike.1)
@@ -268,60 +268,60 @@ kept_known : (known : List Source) (by s : Source) (b : Bool) → Contains known
 kept_known known by s true at = at
 kept_known known by s false at = Contains-append_left known (by ∷ []) s at
 
-named_keeps : (known : List Source) (es : List HandEntry) (s : Source) → Contains known s → Contains (named_sources known es) s
+named_keeps : (known : List Source) (es : List StaticEntry) (s : Source) → Contains known s → Contains (named_sources known es) s
 named_keeps known [] s at = at
 named_keeps known (e ∷ es) s at =
     named_keeps (with_source known e.by) es s (kept_known known e.by s (list_any (λ t. is_one_source t e.by) known) at)
 
-named_has : (known : List Source) (es : List HandEntry) (e : HandEntry) → Contains es e → Contains (named_sources known es) e.by
+named_has : (known : List Source) (es : List StaticEntry) (e : StaticEntry) → Contains es e → Contains (named_sources known es) e.by
 named_has known [] e at = absurd (none_among e at)
 named_has known (x ∷ es) e at =
     let here = when_known known x.by (list_any (λ t. is_one_source t x.by) known) refl in
     elim (one_or_later x e es at) [
-      | inl same ↦ named_keeps (with_source known x.by) es e.by (subst (λ (z : HandEntry). Contains (with_source known x.by) z.by) same here)
+      | inl same ↦ named_keeps (with_source known x.by) es e.by (subst (λ (z : StaticEntry). Contains (with_source known x.by) z.by) same here)
       | inr behind ↦ named_has (with_source known x.by) es e behind
     ]
 
 -- ---- what it says of each
 
-is_route : (w : HandWord) (r : RipEntry) → route_in_word w ≡ Some r → w ≡ Says.Route r
+is_route : (w : StaticItem) (r : RipEntry) → route_in_word w ≡ Some r → w ≡ Says.Route r
 is_route (Says.Route a) r is = ap (λ (x : RipEntry). Says.Route x) (same_Some a r is)
 is_route (Says.Service s) r is = absurd (cc)
 
-is_service : (w : HandWord) (s : ServiceEntry) → service_in_word w ≡ Some s → w ≡ Says.Service s
+is_service : (w : StaticItem) (s : ServiceEntry) → service_in_word w ≡ Some s → w ≡ Says.Service s
 is_service (Says.Service a) s is = ap (λ (x : ServiceEntry). Says.Service x) (same_Some a s is)
 is_service (Says.Route r) s is = absurd (cc)
 
 -- a word that is found where a source is that of the entry
-abbrev Finds : {E : Type 0} → (HandWord → Option E) → Source → HandEntry → Option E
+abbrev Finds : {E : Type 0} → (StaticItem → Option E) → Source → StaticEntry → Option E
 Finds in_word s e = if is_one_source e.by s then in_word e.word else None
 
-found_if : {E : Type 0} (in_word : HandWord → Option E) (s : Source) (e : HandEntry) (x : E) (b : Bool) → is_one_source e.by s ≡ b
+found_if : {E : Type 0} (in_word : StaticItem → Option E) (s : Source) (e : StaticEntry) (x : E) (b : Bool) → is_one_source e.by s ≡ b
     → (if b then in_word e.word else None) ≡ Some x → (e.by ≡ s) × (in_word e.word ≡ Some x)
 found_if in_word s e x true same is = (one_source e.by s same, is)
 found_if in_word s e x false same is = absurd (cc)
 
-found_in : {E : Type 0} (in_word : HandWord → Option E) (s : Source) (e : HandEntry) (x : E) → Finds in_word s e ≡ Some x
+found_in : {E : Type 0} (in_word : StaticItem → Option E) (s : Source) (e : StaticEntry) (x : E) → Finds in_word s e ≡ Some x
     → (e.by ≡ s) × (in_word e.word ≡ Some x)
 found_in in_word s e x is = found_if in_word s e x (is_one_source e.by s) refl is
 
 finds_when : {E : Type 0} (b : Bool) (o : Option E) (x : E) → b ≡ true → o ≡ Some x → (if b then o else None) ≡ Some x
 finds_when b o x passes is = rw (passes, is) refl
 
-module _ {E K M : Type 0} (in_word : HandWord → Option E) (word_of : E → HandWord) (key_of : E → K) (metric_of : E → M) (said_by : SilentNeighbour → List E)
-    (reads : (w : HandWord) (x : E) → in_word w ≡ Some x → w ≡ word_of x) (in_own : (x : E) → in_word (word_of x) ≡ Some x)
+module _ {E K M : Type 0} (in_word : StaticItem → Option E) (word_of : E → StaticItem) (key_of : E → K) (metric_of : E → M) (said_by : StaticNeighbour → List E)
+    (reads : (w : StaticItem) (x : E) → in_word w ≡ Some x → w ≡ word_of x) (in_own : (x : E) → in_word (word_of x) ≡ Some x)
     (alike : (x y : E) → key_of x ≡ key_of y → SayTheSame (word_of x) (word_of y))
-    (es : List HandEntry) (same : (x y : HandEntry) → Contains es x → Contains es y → AreAlike x y → x ≡ y)
-    (ns : List SilentNeighbour) (silent : AreSilent es ns)
-    (said : (s : Source) (n : SilentNeighbour) → IsSilent es s n → said_by n ≡ filter_map (Finds in_word s) es) where
+    (es : List StaticEntry) (same : (x y : StaticEntry) → Contains es x → Contains es y → AreAlike x y → x ≡ y)
+    (ns : List StaticNeighbour) (silent : AreSilent es ns)
+    (said : (s : Source) (n : StaticNeighbour) → IsSilent es s n → said_by n ≡ filter_map (Finds in_word s) es) where
   -- an entry stands among what the neighbour says
-  says_it : (s : Source) (n : SilentNeighbour) → IsSilent es s n → (e : HandEntry) → Contains es e → e.by ≡ s → (x : E) → e.word ≡ word_of x → Contains (said_by n) x
+  says_it : (s : Source) (n : StaticNeighbour) → IsSilent es s n → (e : StaticEntry) → Contains es e → e.by ≡ s → (x : E) → e.word ≡ word_of x → Contains (said_by n) x
   says_it s n is e at by x word =
       let found : Finds in_word s e ≡ Some x = finds_when (is_one_source e.by s) (in_word e.word) x (source_is e.by s by) (ap in_word word ∙ in_own x) in
       subst (λ (l : List E). Contains l x) (sym (said s n is)) (makes (Finds in_word s) es e x at found)
 
   -- and nothing else is said of its key there
-  says_no_other : (e : HandEntry) → Contains es e → (x : E) → e.word ≡ word_of x → (m : SilentNeighbour) → Contains ns m → source_by_hand m ≡ e.by
+  says_no_other : (e : StaticEntry) → Contains es e → (x : E) → e.word ≡ word_of x → (m : StaticNeighbour) → Contains ns m → static_source m ≡ e.by
       → (y : E) → Contains (said_by m) y → key_of y ≡ key_of x → metric_of y ≡ metric_of x
   says_no_other e at x word m among by y there key =
       let (s, is) = of_right (IsSilent es) (named_sources [] es) ns silent m among in
@@ -329,32 +329,32 @@ module _ {E K M : Type 0} (in_word : HandWord → Option E) (word_of : E → Han
       let (from, reading) = found_in in_word s f y found in
       let says = reads f.word y reading in
       let source : f.by ≡ e.by = from ∙ sym is.source ∙ by in
-      let words : SayTheSame f.word e.word = subst (λ (w : HandWord). SayTheSame w e.word) (sym says)
-      (subst (λ (w : HandWord). SayTheSame (word_of y) w) (sym word) (alike y x key)) in
+      let words : SayTheSame f.word e.word = subst (λ (w : StaticItem). SayTheSame w e.word) (sym says)
+      (subst (λ (w : StaticItem). SayTheSame (word_of y) w) (sym word) (alike y x key)) in
       let one : f ≡ e = same f e inside at (source, words) in
-      let equal : Some y ≡ Some x = sym reading ∙ ap (λ (z : HandEntry). in_word z.word) one ∙ ap in_word word ∙ in_own x in
+      let equal : Some y ≡ Some x = sym reading ∙ ap (λ (z : StaticEntry). in_word z.word) one ∙ ap in_word word ∙ in_own x in
       ap metric_of (same_Some y x equal)
 
-module _ (ports : List PortOfKind) (ms : Members) (es : List HandEntry) (h : AreByHand ports ms es) (ns : List SilentNeighbour) (silent : AreSilent es ns) where
-  word_stands : (e : HandEntry) → Contains es e → (n : SilentNeighbour) → IsSilent es e.by n → (w : HandWord) → e.word ≡ w → IsTold (router_ports ports) w
+module _ (ports : List PortConfig) (ms : Members) (es : List StaticEntry) (h : AreStatics ports ms es) (ns : List StaticNeighbour) (silent : AreSilent es ns) where
+  word_stands : (e : StaticEntry) → Contains es e → (n : StaticNeighbour) → IsSilent es e.by n → (w : StaticItem) → e.word ≡ w → IsTold (router_ports ports) w
       → MayStand (router_ports ports) ns n w
   word_stands e at n is (Says.Route r) word told = (
-    says_it route_in_word (λ (x : RipEntry). Says.Route x) route_key route_metric (λ (m : SilentNeighbour). m.routes.items) is_route (λ x. refl) (λ x y key. key)
-        es (same_by_hand ports ms es h) ns silent (λ s m of. of.routes) e.by n is e at refl r word,
-    λ m among by. says_no_other route_in_word (λ (x : RipEntry). Says.Route x) route_key route_metric (λ (m : SilentNeighbour). m.routes.items) is_route (λ x. refl) (λ x y key. key)
-        es (same_by_hand ports ms es h) ns silent (λ s m of. of.routes) e at r word m among (by ∙ is.source),
+    says_it route_in_word (λ (x : RipEntry). Says.Route x) route_key route_metric (λ (m : StaticNeighbour). m.routes.items) is_route (λ x. refl) (λ x y key. key)
+        es (same_by_static ports ms es h) ns silent (λ s m of. of.routes) e.by n is e at refl r word,
+    λ m among by. says_no_other route_in_word (λ (x : RipEntry). Says.Route x) route_key route_metric (λ (m : StaticNeighbour). m.routes.items) is_route (λ x. refl) (λ x y key. key)
+        es (same_by_static ports ms es h) ns silent (λ s m of. of.routes) e at r word m among (by ∙ is.source),
     told.0,
     told.1,
   )
   word_stands e at n is (Says.Service v) word told = (
-    says_it service_in_word (λ (x : ServiceEntry). Says.Service x) key_of_service service_metric (λ (m : SilentNeighbour). m.services.items) is_service (λ x. refl) (λ x y key. key)
-        es (same_by_hand ports ms es h) ns silent (λ s m of. of.services) e.by n is e at refl v word,
-    λ m among by. says_no_other service_in_word (λ (x : ServiceEntry). Says.Service x) key_of_service service_metric (λ (m : SilentNeighbour). m.services.items) is_service (λ x. refl) (λ x y key. key)
-        es (same_by_hand ports ms es h) ns silent (λ s m of. of.services) e at v word m among (by ∙ is.source),
+    says_it service_in_word (λ (x : ServiceEntry). Says.Service x) key_of_service service_metric (λ (m : StaticNeighbour). m.services.items) is_service (λ x. refl) (λ x y key. key)
+        es (same_by_static ports ms es h) ns silent (λ s m of. of.services) e.by n is e at refl v word,
+    λ m among by. says_no_other service_in_word (λ (x : ServiceEntry). Says.Service x) key_of_service service_metric (λ (m : StaticNeighbour). m.services.items) is_service (λ x. refl) (λ x y key. key)
+        es (same_by_static ports ms es h) ns silent (λ s m of. of.services) e at v word m among (by ∙ is.source),
     told,
   )
 
-  entry_stands : (e : HandEntry) → Contains es e → IsToStand (router_ports ports) ns e
+  entry_stands : (e : StaticEntry) → Contains es e → IsToStand (router_ports ports) ns e
   entry_stands e at =
       let (n, among, is) = of_left (IsSilent es) (named_sources [] es) ns silent e.by (named_has [] es e at) in
       (n, among, is.source, word_stands e at n is e.word refl (right ports ms es h e at).1)
@@ -367,7 +367,7 @@ module _ (ports : List PortOfKind) (ms : Members) (es : List HandEntry) (h : Are
 
 pub files_stand : FilesMayStand
 files_stand text s (ms, parsed, site) ns silent =
-    let es = s.by_hand.items in (
-      all_elsewhere s.ports.items ms es site.by_hand ns silent,
-      λ k d within. entry_stands s.ports.items ms es site.by_hand ns silent (get_or es k d) (Contains-get_or es k d within),
+    let es = s.statics.items in (
+      all_elsewhere s.ports.items ms es site.statics ns silent,
+      λ k d within. entry_stands s.ports.items ms es site.statics ns silent (get_or es k d) (Contains-get_or es k d within),
     )

@@ -1,7 +1,7 @@
 -- What is wrong with a file that may be a router's or a host's.
 use Rattle.std.proofs.Common.{◌≡◌, ℕ, List, Bool, true, false, true≢false, inl, inr, sym}
 use Rattle.ipx_site.specs.Loading.{IsFileText, IsStatus}
-use Rattle.ipx_site.specs.Stations.{IsFaultOfStation}
+use Rattle.ipx_site.specs.ConfigFile.{IsFaultOfStation}
 
 -- what a file that is a text is read as, and what that text is to be read as, are the same: so is the status
 pub status_of_kind : (bytes : List ℕ) (kind has : Bool) (status : ℕ) → (IsFileText bytes → kind ≡ has)

@@ -9,30 +9,30 @@ use Rattle.std.specs.declared.net.socket_addr.SocketAddrV4.{SocketAddrV4}
 use Rattle.toml.specs.Data.{Data, Items, as_array}
 use Rattle.toml.specs.View.{items_view}
 use Rattle.toml.specs.declared.value.Value.{Value}
-use Rattle.ipx_wires.specs.declared.sockets.Place.{Place}
+use Rattle.ipx_ethernet_ports.specs.declared.sockets.Place.{Place}
 use Rattle.ipx_site.specs.Fields.{Reads}
 use Rattle.ipx_site.specs.Values.{AreEach}
-use Rattle.ipx_site.specs.WireValues.{AreWireEnds, IsWireEnd, ReadsWireEnds, WritesPlace, is_somewhere, socket_at}
+use Rattle.ipx_site.specs.EthernetValues.{AreEthernetEnds, IsEthernetEnd, ReadsEthernetEnds, WritesPlace, is_somewhere, socket_at}
 use Rattle.ipx_site.proofs.Each.{as_many}
 
 -- an array of none, or of more than 256, lists no ends
 pub not_so_many : (d : Data) (values : List Value) → as_array d ≡ Some (items_view values) → (1 ≤ length values → length values ≤ 256 → ⊥)
-    → (ends : Vec Place Global) → AreWireEnds d ends → ⊥
+    → (ends : Vec Place Global) → AreEthernetEnds d ends → ⊥
 not_so_many d values is none ends are =
     let same : are.0 ≡ items_view values = same_Some are.0 (items_view values) (sym are.1 ∙ is) in
-    let all = as_many IsWireEnd values ends.items (subst (λ (ds : Items). AreEach IsWireEnd ds ends.items) same are.2) in
+    let all = as_many IsEthernetEnd values ends.items (subst (λ (ds : Items). AreEach IsEthernetEnd ds ends.items) same are.2) in
     none (omega (arith, all, are.3)) (omega (arith, all, are.4))
 
 -- any other lists what each of its values means
 pub listed_ends : {E : Type 0} (d : Data) (values : List Value) → as_array d ≡ Some (items_view values) → 1 ≤ length values
-    → length values ≤ 256 → (r : Result (Option (Vec Place Global)) E) → IfOk r (ReadsWireEnds (items_view values))
-    → IfOk r (Reads AreWireEnds d)
+    → length values ≤ 256 → (r : Result (Option (Vec Place Global)) E) → IfOk r (ReadsEthernetEnds (items_view values))
+    → IfOk r (Reads AreEthernetEnds d)
 listed_ends d values is some few (Err e) reads = tt
 listed_ends d values is some few (Ok None) reads = λ ends are.
     let same : are.0 ≡ items_view values = same_Some are.0 (items_view values) (sym are.1 ∙ is) in
-    reads ends.items (subst (λ (ds : Items). AreEach IsWireEnd ds ends.items) same are.2)
+    reads ends.items (subst (λ (ds : Items). AreEach IsEthernetEnd ds ends.items) same are.2)
 listed_ends d values is some few (Ok (Some v)) reads =
-    let all = as_many IsWireEnd values v.items reads in
+    let all = as_many IsEthernetEnd values v.items reads in
     (items_view values, is, reads, omega (arith, all, some), omega (arith, all, few))
 
 -- a text writes one place: where that is none for an end, it writes none

@@ -5,7 +5,7 @@ use Rattle.std.specs.Prelude.{MatchOption}
 use Rattle.toml.specs.Data.{Data, as_str}
 use Rattle.ipx_wire.specs.AddressText.{spelled_node}
 use Rattle.ipx_wire.specs.declared.address.Node.{Node}
-use Rattle.ipx_site.specs.WireValues.{WritesStation, is_station, with_colons}
+use Rattle.ipx_site.specs.EthernetValues.{WritesStation, is_station, with_colons}
 
 -- the digits without the colons
 abbrev without_colons : List ℕ → List ℕ

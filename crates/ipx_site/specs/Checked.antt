@@ -10,25 +10,25 @@ use Rattle.ipx_carrier.specs.Mapping.{node_at}
 use Rattle.ipx_control.specs.declared.rip.packet.RipEntry.{RipEntry}
 use Rattle.ipx_control.specs.declared.sap.packet.ServiceEntry.{ServiceEntry}
 use Rattle.ipx_tables.specs.declared.source.Source.{Source}
-use Rattle.ipx_commands.specs.ShowLine.{address_text, word_text}
-use Rattle.ipx_known.specs.TableText.{by_text, network_word}
-use Rattle.ipx_site.specs.declared.hand.HandEntry.{HandEntry}
-use Rattle.ipx_site.specs.declared.hand.HandWord.{HandWord}
-use Rattle.ipx_site.specs.declared.hand.HandWord.TheVariants.{Route, Service}
+use Rattle.ipx_inspect.specs.ShowLine.{address_text, word_text}
+use Rattle.ipx_table_dump.specs.TableText.{by_text, network_word}
+use Rattle.ipx_site.specs.declared.statics.StaticEntry.{StaticEntry}
+use Rattle.ipx_site.specs.declared.statics.StaticItem.{StaticItem}
+use Rattle.ipx_site.specs.declared.statics.StaticItem.TheVariants.{Route, Service}
 use Rattle.ipx_site.specs.declared.site.Accept.{Accept}
 use Rattle.ipx_site.specs.declared.site.Accept.TheVariants.{Any, Peers}
-use Rattle.ipx_site.specs.declared.site.FramesPort.{FramesPort}
-use Rattle.ipx_site.specs.declared.ipxnet_port.IpxnetPort.{IpxnetPort}
-use Rattle.ipx_site.specs.declared.site.PortOfKind.{PortOfKind}
-use Rattle.ipx_site.specs.declared.site.PortOfKind.TheVariants.{Rfc1234, Frames, Ipxnet}
-use Rattle.ipx_site.specs.declared.site.SiteFile.{SiteFile}
-use Rattle.ipx_site.specs.declared.site.SitePort.{SitePort}
+use Rattle.ipx_site.specs.declared.site.EthernetPortConfig.{EthernetPortConfig}
+use Rattle.ipx_site.specs.declared.ipxnet_port.IpxnetPortConfig.{IpxnetPortConfig}
+use Rattle.ipx_site.specs.declared.site.PortConfig.{PortConfig}
+use Rattle.ipx_site.specs.declared.site.PortConfig.TheVariants.{Rfc1234, Frames, Ipxnet}
+use Rattle.ipx_site.specs.declared.site.RouterConfig.{RouterConfig}
+use Rattle.ipx_site.specs.declared.site.Rfc1234PortConfig.{Rfc1234PortConfig}
 use Rattle.ipx_site.specs.PortKinds.{place_of_kind}
-use Rattle.ipx_site.specs.SitePeers.{is_peer}
-use Rattle.ipx_site.specs.WireValues.{frame_word, is_same_place}
+use Rattle.ipx_site.specs.SourceFilter.{is_peer}
+use Rattle.ipx_site.specs.EthernetValues.{frame_word, is_same_place}
 use Rattle.ipx_wire.specs.declared.address.Network.{Network}
 use Rattle.ipx_wire.specs.declared.address.Node.{Node}
-use Rattle.ipx_wires.specs.declared.sockets.Place.{Place}
+use Rattle.ipx_ethernet_ports.specs.declared.sockets.Place.{Place}
 
 -- a byte of a text from elsewhere: itself where it is printable ASCII, else a dot
 abbrev pub shown_byte : ℕ → List ℕ
@@ -65,64 +65,64 @@ routers_text None = []
 routers_text (Some routers) = codes " routers " ++ decimal (length routers.items)
 
 -- what it costs, to how many it sends, how many of them are routers, and who is heard
-abbrev pub dealings_text : SitePort → List ℕ
+abbrev pub dealings_text : Rfc1234PortConfig → List ℕ
 dealings_text p =
     codes "cost " ++ (decimal p.cost ++ (codes " peers " ++ (decimal (length p.peers.items)
     ++ (routers_text p.routers ++ others_text p.accept))))
 
 -- a port of RFC 1234 with its number
-abbrev pub rfc1234_text : ℕ → SitePort → List ℕ
+abbrev pub rfc1234_text : ℕ → Rfc1234PortConfig → List ℕ
 rfc1234_text number p =
     codes "port " ++ (decimal number ++ (codes " " ++ (place_text p.network (node_at p.address)
     ++ (codes " udp " ++ (reached_text p.address p.udp_port ++ (codes " " ++ dealings_text p))))))
 
 -- where an end of a wire is
-abbrev pub wire_end_text : Place → List ℕ
-wire_end_text end = codes " " ++ reached_text end.ip end.udp_port
+abbrev pub ethernet_end_text : Place → List ℕ
+ethernet_end_text end = codes " " ++ reached_text end.ip end.udp_port
 
 -- that a port is no hub of its ends
 abbrev pub joined_text : Bool → List ℕ
 joined_text joined = if joined then [] else codes " apart"
 
 -- what it costs, where the ends of its wire are, and whether it is their hub
-abbrev pub wire_text : FramesPort → List ℕ
-wire_text p =
-    codes "cost " ++ (decimal p.cost ++ (codes " ends" ++ (flat_map wire_end_text p.ends.items
+abbrev pub ethernet_text : EthernetPortConfig → List ℕ
+ethernet_text p =
+    codes "cost " ++ (decimal p.cost ++ (codes " ends" ++ (flat_map ethernet_end_text p.ends.items
     ++ joined_text p.joined)))
 
 -- a port on a wire with its number
-abbrev pub frames_text : ℕ → FramesPort → List ℕ
+abbrev pub frames_text : ℕ → EthernetPortConfig → List ℕ
 frames_text number p =
     codes "port " ++ (decimal number ++ (codes " " ++ (place_text p.network p.node
     ++ (codes " frames " ++ (frame_word p.encapsulation ++ (codes " udp "
-    ++ (reached_text p.address p.udp_port ++ (codes " " ++ wire_text p))))))))
+    ++ (reached_text p.address p.udp_port ++ (codes " " ++ ethernet_text p))))))))
 
 -- where the routers are that a port is joined to, if it is
 abbrev pub join_text : List Place → List ℕ
 join_text routers =
-    if length routers == 0 then [] else codes " joined" ++ flat_map wire_end_text routers
+    if length routers == 0 then [] else codes " joined" ++ flat_map ethernet_end_text routers
 
 -- what it costs, how many clients it may have, who may register, and what it is joined to
-abbrev pub clients_text : IpxnetPort → List ℕ
+abbrev pub clients_text : IpxnetPortConfig → List ℕ
 clients_text p =
     codes "cost " ++ (decimal p.cost ++ (codes " clients " ++ (decimal p.clients
     ++ (codes " peers " ++ (decimal (length p.peers.items)
     ++ (others_text p.accept ++ join_text p.join.items))))))
 
 -- a port for clients of ipxnet with its number
-abbrev pub ipxnet_text : ℕ → IpxnetPort → List ℕ
+abbrev pub ipxnet_text : ℕ → IpxnetPortConfig → List ℕ
 ipxnet_text number p =
     codes "port " ++ (decimal number ++ (codes " " ++ (place_text p.network p.node
     ++ (codes " ipxnet udp " ++ (reached_text p.address p.udp_port ++ (codes " " ++ clients_text p))))))
 
 -- a port with its number, as a router says it when it starts
-abbrev pub port_text : ℕ → PortOfKind → List ℕ
+abbrev pub port_text : ℕ → PortConfig → List ℕ
 port_text number (Rfc1234 p) = rfc1234_text number p
 port_text number (Frames p) = frames_text number p
 port_text number (Ipxnet p) = ipxnet_text number p
 
 -- the lines of its ports, of which the first has this number
-abbrev pub port_texts : ℕ → List PortOfKind → List (List ℕ)
+abbrev pub port_texts : ℕ → List PortConfig → List (List ℕ)
 port_texts number [] = []
 port_texts number (p ∷ ps) = port_text number p ∷ port_texts (number + 1) ps
 
@@ -155,23 +155,23 @@ peer_remark whose address earlier peer =
     else []))
 
 -- the ends of a wire are elsewhere than the port, and none of them stands twice
-abbrev pub wire_end_remark : List ℕ → Place → List Place → Place → List ℕ
-wire_end_remark whose own earlier end =
+abbrev pub ethernet_end_remark : List ℕ → Place → List Place → Place → List ℕ
+ethernet_end_remark whose own earlier end =
     if is_same_place own end
-    then whose ++ (wire_end_text end ++ codes " is its own place\n")
+    then whose ++ (ethernet_end_text end ++ codes " is its own place\n")
     else (if list_any (is_same_place end) earlier
-    then whose ++ (wire_end_text end ++ codes " stands twice\n")
+    then whose ++ (ethernet_end_text end ++ codes " stands twice\n")
     else [])
 
 -- a joined router is elsewhere too
 abbrev pub joined_remark : List ℕ → Place → Place → List ℕ
 joined_remark whose own router =
     if is_same_place own router
-    then whose ++ (codes "joined" ++ (wire_end_text router ++ codes " is its own place\n"))
+    then whose ++ (codes "joined" ++ (ethernet_end_text router ++ codes " is its own place\n"))
     else []
 
 -- two ports are bound at one place
-abbrev pub is_one_place : PortOfKind → PortOfKind → Bool
+abbrev pub is_one_place : PortConfig → PortConfig → Bool
 is_one_place p other = is_same_place (place_of_kind p) (place_of_kind other)
 
 -- no earlier port is bound where this one is
@@ -180,7 +180,7 @@ sharing_text number None = []
 sharing_text number (Some k) =
     remark number (codes "address and udp_port are those of port " ++ decimal (k + 1))
 
-abbrev pub place_remark : ℕ → List PortOfKind → PortOfKind → List ℕ
+abbrev pub place_remark : ℕ → List PortConfig → PortConfig → List ℕ
 place_remark number earlier p = sharing_text number (position (is_one_place p) earlier)
 
 -- ---- all that is printed
@@ -193,14 +193,14 @@ each_behind printed earlier (x ∷ xs) =
 
 -- what is to be remarked on those whom a port sends to, behind the words that say whose they are: of
 -- those who may register nothing
-abbrev pub reached_remarks : List ℕ → PortOfKind → List ℕ
+abbrev pub reached_remarks : List ℕ → PortConfig → List ℕ
 reached_remarks whose (Rfc1234 p) = each_behind (peer_remark whose p.address) [] p.peers.items
 reached_remarks whose (Frames p) =
-    each_behind (wire_end_remark (whose ++ codes "end") (place_of_kind (Frames p))) [] p.ends.items
+    each_behind (ethernet_end_remark (whose ++ codes "end") (place_of_kind (Frames p))) [] p.ends.items
 reached_remarks whose (Ipxnet p) = flat_map (joined_remark whose (place_of_kind (Ipxnet p))) p.join.items
 
 -- the line of a port behind earlier ones, and what is to be remarked
-abbrev pub port_lines : List PortOfKind → PortOfKind → List ℕ
+abbrev pub port_lines : List PortConfig → PortConfig → List ℕ
 port_lines earlier p =
     let number = length earlier + 1 in
     port_text number p ++ (10 ∷ (place_remark number earlier p
@@ -219,35 +219,35 @@ tables_place_text None = []
 tables_place_text (Some text) = codes ", tables " ++ shown_text (string_bytes text)
 
 -- the line of the file itself
-abbrev pub file_line : List ℕ → SiteFile → List ℕ
+abbrev pub file_line : List ℕ → RouterConfig → List ℕ
 file_line path s =
     path ++ (codes ": " ++ (count_text (length s.ports.items)
     ++ (codes ", " ++ (status_text s.status ++ (tables_place_text s.tables ++ 10 ∷ [])))))
 
 -- ---- routes and services by hand, as the file of tables has offers
 
-abbrev pub route_hand_line : Source → RipEntry → List ℕ
-route_hand_line by r =
+abbrev pub static_route_line : Source → RipEntry → List ℕ
+static_route_line by r =
     codes "route " ++ (network_word r.network ++ (by_text by ++ (codes " hops "
     ++ (decimal r.hops ++ (codes " ticks " ++ (decimal r.ticks ++ codes "\n"))))))
 
 abbrev pub service_words : ServiceEntry → List ℕ
 service_words s = word_text s.kind ++ (codes " " ++ shown_text s.name)
 
-abbrev pub service_hand_line : Source → ServiceEntry → List ℕ
-service_hand_line by s =
+abbrev pub static_service_line : Source → ServiceEntry → List ℕ
+static_service_line by s =
     codes "service " ++ (service_words s ++ (codes " at " ++ (address_text s.at ++ (by_text by
     ++ (codes " hops " ++ (decimal s.hops ++ codes "\n"))))))
 
-abbrev pub word_line : Source → HandWord → List ℕ
-word_line by (Route r) = route_hand_line by r
-word_line by (Service s) = service_hand_line by s
+abbrev pub word_line : Source → StaticItem → List ℕ
+word_line by (Route r) = static_route_line by r
+word_line by (Service s) = static_service_line by s
 
-abbrev pub hand_line : HandEntry → List ℕ
-hand_line e = word_line e.by e.word
+abbrev pub static_line : StaticEntry → List ℕ
+static_line e = word_line e.by e.word
 
 -- all that is printed of a router's file: its ports, what it is to hear by hand, and itself
-abbrev pub site_lines : List ℕ → SiteFile → List ℕ
+abbrev pub site_lines : List ℕ → RouterConfig → List ℕ
 site_lines path s =
     each_behind port_lines [] s.ports.items
-    ++ (flat_map hand_line s.by_hand.items ++ file_line path s)
+    ++ (flat_map static_line s.statics.items ++ file_line path s)

@@ -6,8 +6,8 @@ use Rattle.toml.specs.Errors.{IsMemory, IsWithin, span_start}
 use Rattle.toml.specs.Parse.{parse_document}
 use Rattle.toml.specs.declared.de.error.Error.{Error}
 use Rattle.ipx_site.specs.declared.key.Key.{Key}
-use Rattle.ipx_site.specs.declared.fault.FileFault.{FileFault}
-use Rattle.ipx_site.specs.declared.fault.FileFault.TheVariants.{Missing, NotToml, OtherKind, OutOfMemory, Unknown, Wrong}
+use Rattle.ipx_site.specs.declared.fault.ConfigError.{ConfigError}
+use Rattle.ipx_site.specs.declared.fault.ConfigError.TheVariants.{Missing, NotToml, OtherKind, OutOfMemory, Unknown, Wrong}
 use Rattle.ipx_site.specs.declared.site.Kind.{Kind}
 use Rattle.ipx_site.specs.Keys.{first_unknown, is_text_of, key_text, keys_of_kind, keys_of_other_kinds}
 
@@ -17,31 +17,31 @@ line_number text place = count_by (λ b. b == 10) (take place text) + 1
 
 -- a text is no TOML, and the fault has the error of its reader, which lies within the text and is
 -- none of memory, and the line where that shows
-abbrev pub IsNoToml : List ℕ → FileFault → Type 0
+abbrev pub IsNoToml : List ℕ → ConfigError → Type 0
 IsNoToml text f = (e : Error) × (f ≡ NotToml (line_number text (span_start e)) e)
     × IsWithin text e × ¬ IsMemory e
     × (parse_document text ≡ None)
 
 -- a table has a name that is no key: the first one is told. A table has a number, for the line of
 -- the fault
-abbrev pub IsUnknown : List Key → Members → ℕ → FileFault → Type 0
+abbrev pub IsUnknown : List Key → Members → ℕ → ConfigError → Type 0
 IsUnknown keys ms table f = (name : String Global) × (f ≡ Unknown table name)
     × (first_unknown keys ms ≡ Some (string_bytes name))
 
 -- what is told of a name in the table of a port that is no key of its kind: it is one of another kind, or
 -- none at all
-abbrev pub IsStrayName : Kind → List ℕ → ℕ → FileFault → Type 0
+abbrev pub IsStrayName : Kind → List ℕ → ℕ → ConfigError → Type 0
 IsStrayName kind name table f = MatchOption (find (is_text_of name) (keys_of_other_kinds kind))
     ((copy : String Global) × (f ≡ Unknown table copy) × (string_bytes copy ≡ name))
     (λ key. f ≡ OtherKind table key kind)
 
 -- the table of a port has such a name: the first one is told
-abbrev pub IsStray : Kind → Members → ℕ → FileFault → Type 0
+abbrev pub IsStray : Kind → Members → ℕ → ConfigError → Type 0
 IsStray kind ms table f =
     (name : List ℕ) × (first_unknown (keys_of_kind kind) ms ≡ Some name) × IsStrayName kind name table f
 
 -- a key is not there
-abbrev pub IsMissing : Key → Members → ℕ → FileFault → Type 0
+abbrev pub IsMissing : Key → Members → ℕ → ConfigError → Type 0
 IsMissing key ms table f = (f ≡ Missing table key) × (get_member (key_text key) ms ≡ None)
 
 module _ {A : Type 0} (Means : Data → A → Type 0) where
@@ -70,22 +70,22 @@ module _ {A : Type 0} (Means : Data → A → Type 0) where
     IsRightOr = (get_member (key_text key) ms ≡ None) ⊎ IsRight
 
     -- the key is there, and its value means nothing
-    abbrev pub IsWrong : ℕ → FileFault → Type 0
+    abbrev pub IsWrong : ℕ → ConfigError → Type 0
     IsWrong table f = (f ≡ Wrong table key)
         × ((d : Data) × (get_member (key_text key) ms ≡ Some d) × ((a : A) → Means d a → ⊥))
 
     -- the fault of a key that must be there
-    abbrev pub IsFault : ℕ → FileFault → Type 0
+    abbrev pub IsFault : ℕ → ConfigError → Type 0
     IsFault table f = IsMissing key ms table f ⊎ IsWrong table f
 
     -- what reading the key gives: of one that must be there, and of one with a default
-    abbrev pub Gives : ℕ → Result A FileFault → Type 0
+    abbrev pub Gives : ℕ → Result A ConfigError → Type 0
     Gives table r = MatchResult r Holds (λ f. (f ≡ OutOfMemory) ⊎ IsFault table f)
 
-    abbrev pub GivesOr : ℕ → A → Result A FileFault → Type 0
+    abbrev pub GivesOr : ℕ → A → Result A ConfigError → Type 0
     GivesOr table default r =
         MatchResult r (HoldsOr default) (λ f. (f ≡ OutOfMemory) ⊎ IsWrong table f)
 
     -- and of one that may be left out
-    abbrev pub GivesIf : ℕ → Result (Option A) FileFault → Type 0
+    abbrev pub GivesIf : ℕ → Result (Option A) ConfigError → Type 0
     GivesIf table r = MatchResult r HoldsIf (λ f. (f ≡ OutOfMemory) ⊎ IsWrong table f)

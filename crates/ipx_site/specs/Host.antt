@@ -3,18 +3,18 @@ use Rattle.std.specs.Prelude.{◌≡◌, ◌⊎◌, ℕ, List, [], None, Some}
 use Rattle.toml.specs.Data.{Members}
 use Rattle.toml.specs.Parse.{parse_document}
 use Rattle.ipx_carrier.specs.Mapping.{usual_port}
-use Rattle.ipx_site.specs.declared.fault.FileFault.{FileFault}
+use Rattle.ipx_site.specs.declared.fault.ConfigError.{ConfigError}
 use Rattle.ipx_site.specs.declared.key.Key.TheVariants as Key
-use Rattle.ipx_site.specs.declared.host.HostFile.{HostFile}
+use Rattle.ipx_site.specs.declared.host.HostConfig.{HostConfig}
 use Rattle.ipx_site.specs.declared.site.Accept.TheVariants as Accept
 use Rattle.ipx_site.specs.Keys.{first_unknown, host_keys}
 use Rattle.ipx_site.specs.Neighbours.{AreAmong, AreNeighbours}
-use Rattle.ipx_site.specs.Origins.{AreOrigins}
+use Rattle.ipx_site.specs.AllowedPeers.{AreOrigins}
 use Rattle.ipx_site.specs.Values.{IsAccept, IsIpAddress, IsCount, IsNetwork, IsSocket}
 use Rattle.ipx_site.specs.Fields.{Holds, HoldsIf, HoldsOr, IsFault, IsNoToml, IsRight, IsRightOr, IsUnknown, IsWrong}
 
 -- a table is that of a host
-pub record IsHost (ms : Members) (h : HostFile) : Type 0 where
+pub record IsHost (ms : Members) (h : HostConfig) : Type 0 where
   pub known : first_unknown host_keys ms ≡ None
   pub network : Holds IsNetwork Key.Network ms h.network
   pub address : Holds IsIpAddress Key.Address ms h.address
@@ -28,7 +28,7 @@ pub record IsHost (ms : Members) (h : HostFile) : Type 0 where
   pub accept : HoldsOr IsAccept Key.Accept ms Accept.Peers h.accept
 
 -- the first fault of the keys that say who is heard and who may connect, in order
-abbrev pub IsCircleFault : Members → FileFault → Type 0
+abbrev pub IsCircleFault : Members → ConfigError → Type 0
 IsCircleFault ms f = IsWrong AreNeighbours Key.Peers ms 0 f
     ⊎ ((peers : List (List ℕ)) × HoldsOr AreNeighbours Key.Peers ms [] peers
     × (IsWrong (AreAmong peers) Key.Routers ms 0 f
@@ -36,7 +36,7 @@ IsCircleFault ms f = IsWrong AreNeighbours Key.Peers ms 0 f
     ⊎ (IsRightOr AreOrigins Key.From ms × IsWrong IsAccept Key.Accept ms 0 f)))))
 
 -- its first fault: a name that is no key, and then the keys in order
-abbrev pub IsHostFault : Members → FileFault → Type 0
+abbrev pub IsHostFault : Members → ConfigError → Type 0
 IsHostFault ms f =
     IsUnknown host_keys ms 0 f
     ⊎ ((first_unknown host_keys ms ≡ None) × (IsFault IsNetwork Key.Network ms 0 f
@@ -48,10 +48,10 @@ IsHostFault ms f =
     ⊎ (IsRightOr (IsCount 8192) Key.Buffers ms × IsCircleFault ms f)))))))))))))
 
 -- a text is the file of a host
-abbrev pub IsHostText : List ℕ → HostFile → Type 0
+abbrev pub IsHostText : List ℕ → HostConfig → Type 0
 IsHostText text h = (ms : Members) × (parse_document text ≡ Some ms) × IsHost ms h
 
 -- the first fault of a text that is not
-abbrev pub IsHostTextFault : List ℕ → FileFault → Type 0
+abbrev pub IsHostTextFault : List ℕ → ConfigError → Type 0
 IsHostTextFault text f = IsNoToml text f
     ⊎ ((ms : Members) × (parse_document text ≡ Some ms) × IsHostFault ms f)

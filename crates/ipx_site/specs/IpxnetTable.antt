@@ -2,26 +2,26 @@
 use Rattle.std.specs.Prelude.{Vec, ◌≡◌, ◌⊎◌, ℕ, List, [], None, true, false}
 use Rattle.std.specs.Global.{Global}
 use Rattle.toml.specs.Data.{Members, get_member}
-use Rattle.ipx_lobby.specs.LobbyClients.{most_lobby_clients}
-use Rattle.ipx_wires.specs.declared.sockets.Place.{Place}
-use Rattle.ipx_site.specs.declared.fault.FileFault.{FileFault}
-use Rattle.ipx_site.specs.declared.fault.FileFault.TheVariants.{Wrong}
+use Rattle.ipxnet_server.specs.ServerClients.{max_server_clients}
+use Rattle.ipx_ethernet_ports.specs.declared.sockets.Place.{Place}
+use Rattle.ipx_site.specs.declared.fault.ConfigError.{ConfigError}
+use Rattle.ipx_site.specs.declared.fault.ConfigError.TheVariants.{Wrong}
 use Rattle.ipx_site.specs.declared.key.Key.TheVariants as Key
 use Rattle.ipx_site.specs.declared.site.Accept.{Accept}
 use Rattle.ipx_site.specs.declared.site.Accept.TheVariants as Who
-use Rattle.ipx_site.specs.declared.ipxnet_port.IpxnetPort.{IpxnetPort}
+use Rattle.ipx_site.specs.declared.ipxnet_port.IpxnetPortConfig.{IpxnetPortConfig}
 use Rattle.ipx_site.specs.declared.site.Kind.TheVariants as Of
 use Rattle.ipx_site.specs.Fields.{Holds, HoldsOr, IsFault, IsMissing, IsRight, IsRightOr, IsStray, IsWrong}
 use Rattle.ipx_site.specs.Keys.{first_unknown, ipxnet_keys, key_text}
 use Rattle.ipx_site.specs.Values.{AreAddressesOf, IsAccept, IsCount, IsIpAddress, IsNetwork}
-use Rattle.ipx_site.specs.WireValues.{AreWireEnds, IsStation, are_places_apart, made_station}
+use Rattle.ipx_site.specs.EthernetValues.{AreEthernetEnds, IsStation, are_places_apart, made_station}
 
 -- who may register: the peers that are named, which must be where not everybody may
 abbrev pub ArePeersFor : Accept → Members → Vec (List ℕ) Global → Type 0
 ArePeersFor accept ms peers = ((accept ≡ Who.Any) × (get_member (key_text Key.Peers) ms ≡ None) × (peers.items ≡ []))
     ⊎ Holds AreAddressesOf Key.Peers ms peers
 
-abbrev pub IsPeersFault : Accept → Members → ℕ → FileFault → Type 0
+abbrev pub IsPeersFault : Accept → Members → ℕ → ConfigError → Type 0
 IsPeersFault accept ms table f = ((accept ≡ Who.Peers) × IsMissing Key.Peers ms table f)
     ⊎ IsWrong AreAddressesOf Key.Peers ms table f
 
@@ -29,36 +29,36 @@ IsPeersFault accept ms table f = ((accept ≡ Who.Peers) × IsMissing Key.Peers 
 -- none
 abbrev pub AreJoinedRouters : Members → Vec Place Global → Type 0
 AreJoinedRouters ms join = ((get_member (key_text Key.Join) ms ≡ None) × (join.items ≡ []))
-    ⊎ (Holds AreWireEnds Key.Join ms join × (are_places_apart join.items ≡ true))
+    ⊎ (Holds AreEthernetEnds Key.Join ms join × (are_places_apart join.items ≡ true))
 
 -- what names them names no places, or one of them twice
-abbrev pub IsJoinFault : Members → ℕ → FileFault → Type 0
-IsJoinFault ms table f = IsWrong AreWireEnds Key.Join ms table f
-    ⊎ ((f ≡ Wrong table Key.Join) × ((join : Vec Place Global) × Holds AreWireEnds Key.Join ms join
+abbrev pub IsJoinFault : Members → ℕ → ConfigError → Type 0
+IsJoinFault ms table f = IsWrong AreEthernetEnds Key.Join ms table f
+    ⊎ ((f ≡ Wrong table Key.Join) × ((join : Vec Place Global) × Holds AreEthernetEnds Key.Join ms join
     × (are_places_apart join.items ≡ false)))
 
 -- a table is that of such a port, if its kind is that
-pub record IsIpxnetTable (ms : Members) (p : IpxnetPort) : Type 0 where
+pub record IsIpxnetTable (ms : Members) (p : IpxnetPortConfig) : Type 0 where
   pub known : first_unknown ipxnet_keys ms ≡ None
   pub network : Holds IsNetwork Key.Network ms p.network
   pub address : Holds IsIpAddress Key.Address ms p.address
   pub udp_port : Holds (IsCount 65535) Key.UdpPort ms p.udp_port
   pub cost : HoldsOr (IsCount 65535) Key.Cost ms 1 p.cost
   pub node : HoldsOr IsStation Key.Node ms (made_station p.address p.udp_port) p.node
-  pub clients : HoldsOr (IsCount most_lobby_clients) Key.Clients ms 64 p.clients
+  pub clients : HoldsOr (IsCount max_server_clients) Key.Clients ms 64 p.clients
   pub accept : HoldsOr IsAccept Key.Accept ms Who.Peers p.accept
   pub peers : ArePeersFor p.accept ms p.peers
   pub join : AreJoinedRouters ms p.join
 
 -- the first fault of the keys that say who its clients may be, behind its node
-abbrev pub IsClientsFault : Members → ℕ → FileFault → Type 0
-IsClientsFault ms table f = IsWrong (IsCount most_lobby_clients) Key.Clients ms table f
-    ⊎ (IsRightOr (IsCount most_lobby_clients) Key.Clients ms × (IsWrong IsAccept Key.Accept ms table f
+abbrev pub IsClientsFault : Members → ℕ → ConfigError → Type 0
+IsClientsFault ms table f = IsWrong (IsCount max_server_clients) Key.Clients ms table f
+    ⊎ (IsRightOr (IsCount max_server_clients) Key.Clients ms × (IsWrong IsAccept Key.Accept ms table f
     ⊎ ((accept : Accept) × HoldsOr IsAccept Key.Accept ms Who.Peers accept × (IsPeersFault accept ms table f
     ⊎ ((peers : Vec (List ℕ) Global) × ArePeersFor accept ms peers × IsJoinFault ms table f)))))
 
 -- the first fault of the table: a name that is no key of this kind, and then the keys in order
-abbrev pub IsIpxnetFault : ℕ → Members → FileFault → Type 0
+abbrev pub IsIpxnetFault : ℕ → Members → ConfigError → Type 0
 IsIpxnetFault table ms f =
     IsStray Of.Ipxnet ms table f
     ⊎ ((first_unknown ipxnet_keys ms ≡ None) × (IsFault IsNetwork Key.Network ms table f

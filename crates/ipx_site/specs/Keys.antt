@@ -4,7 +4,7 @@ use Rattle.std.specs.List.{list_any}
 use Rattle.std.specs.Cmp.Lexicographic.{pointwise}
 use Rattle.toml.specs.Data.{Members, no_members, member}
 use Rattle.ipx_site.specs.declared.key.Key.{Key}
-use Rattle.ipx_site.specs.declared.key.Key.TheVariants.{Status, Tables, Port, Network, Address, UdpPort, Cost, Peers, Routers, Accept, Router, Socket, Buffers, From, Kind, Frame, Ends, Node, Hub, Clients, Join, Route, Service, Next, Hops, Ticks, ServiceType, Name, At}
+use Rattle.ipx_site.specs.declared.key.Key.TheVariants.{Status, Tables, Port, Network, Address, UdpPort, Cost, Peers, Routers, Accept, Router, Socket, Buffers, From, Kind, Frame, Ends, Node, Switch, Clients, Join, Route, Service, Next, Hops, Ticks, ServiceType, Name, At}
 use Rattle.ipx_site.specs.declared.site.Kind.{Kind as PortKind}
 use Rattle.ipx_site.specs.declared.site.Kind.TheVariants as Of
 
@@ -28,7 +28,7 @@ key_text Kind = codes "kind"
 key_text Frame = codes "frame"
 key_text Ends = codes "ends"
 key_text Node = codes "node"
-key_text Hub = codes "hub"
+key_text Switch = codes "hub"
 key_text Clients = codes "clients"
 key_text Join = codes "join"
 key_text Route = codes "route"
@@ -60,7 +60,7 @@ port_keys = Kind ∷ Network ∷ Address ∷ UdpPort ∷ Cost ∷ Peers ∷ Rout
 
 abbrev pub frames_keys : List Key
 frames_keys =
-    Kind ∷ Network ∷ Frame ∷ Address ∷ UdpPort ∷ Cost ∷ Ends ∷ Node ∷ Hub ∷ []
+    Kind ∷ Network ∷ Frame ∷ Address ∷ UdpPort ∷ Cost ∷ Ends ∷ Node ∷ Switch ∷ []
 
 abbrev pub ipxnet_keys : List Key
 ipxnet_keys =
@@ -73,9 +73,9 @@ keys_of_kind Of.Frames = frames_keys
 keys_of_kind Of.Ipxnet = ipxnet_keys
 
 abbrev pub keys_of_other_kinds : PortKind → List Key
-keys_of_other_kinds Of.Rfc1234 = Frame ∷ Ends ∷ Node ∷ Hub ∷ Clients ∷ Join ∷ []
+keys_of_other_kinds Of.Rfc1234 = Frame ∷ Ends ∷ Node ∷ Switch ∷ Clients ∷ Join ∷ []
 keys_of_other_kinds Of.Frames = Peers ∷ Routers ∷ Accept ∷ Clients ∷ Join ∷ []
-keys_of_other_kinds Of.Ipxnet = Routers ∷ Frame ∷ Ends ∷ Hub ∷ []
+keys_of_other_kinds Of.Ipxnet = Routers ∷ Frame ∷ Ends ∷ Switch ∷ []
 
 abbrev pub site_keys : List Key
 site_keys = Status ∷ Tables ∷ Port ∷ Route ∷ Service ∷ []

@@ -1,7 +1,7 @@
 -- What a router writes into its file of tables.
 use Rattle.std.specs.Prelude.{ℕ, List}
 use Rattle.ipx_router.specs.RouterView.{RouterView}
-use Rattle.ipx_known.specs.TableText.{IsTables}
+use Rattle.ipx_table_dump.specs.TableText.{IsTables}
 
 -- a text says what this router knows at a moment
 abbrev pub TellsKnown : RouterView → ℕ → List ℕ → Type 0

@@ -1,14 +1,14 @@
 -- What the bytes of a file are to be, and the status that says what is wrong. All of it is own.
 use Rattle.std.specs.Prelude.{◌≡◌, ◌≤◌, ◌⊎◌, ℕ, List, IsUtf8, length}
-use Rattle.ipx_site.specs.declared.fault.FileFault.{FileFault}
-use Rattle.ipx_site.specs.declared.fault.FileFault.TheVariants.{Again, Missing, NotToml, OtherKind, OutOfMemory, Twin, Unknown, Wrong}
+use Rattle.ipx_site.specs.declared.fault.ConfigError.{ConfigError}
+use Rattle.ipx_site.specs.declared.fault.ConfigError.TheVariants.{Again, Missing, NotToml, OtherKind, OutOfMemory, Twin, Unknown, Wrong}
 
 -- the bytes of a file are a text: at most 65,536 of them, in UTF-8
 abbrev pub IsFileText : List ℕ → Type 0
 IsFileText bytes = (length bytes ≤ 65536) × IsUtf8 bytes
 
 -- the status of a fault: 1 for want of memory, and else 2
-abbrev pub fault_status : FileFault → ℕ
+abbrev pub fault_status : ConfigError → ℕ
 fault_status OutOfMemory = 1
 fault_status (NotToml line error) = 2
 fault_status (Unknown table name) = 2
@@ -20,6 +20,6 @@ fault_status (Again table earlier) = 2
 
 -- why bytes describe nothing, where a text may have these faults: for want of memory, since they are no
 -- text, or for a fault
-abbrev pub IsStatus : (FileFault → Type 0) → List ℕ → ℕ → Type 0
+abbrev pub IsStatus : (ConfigError → Type 0) → List ℕ → ℕ → Type 0
 IsStatus IsFault bytes status = (status ≡ 1)
-    ⊎ ((status ≡ 2) × ((IsFileText bytes → ⊥) ⊎ ((f : FileFault) × IsFault f)))
+    ⊎ ((status ≡ 2) × ((IsFileText bytes → ⊥) ⊎ ((f : ConfigError) × IsFault f)))

@@ -3,7 +3,7 @@ use Rattle.std.specs.Prelude.{Vec, ◌≡◌, ◌≤◌, ℕ, List, length, true
 use Rattle.std.specs.Global.{Global}
 use Rattle.std.specs.List.{list_all}
 use Rattle.toml.specs.Data.{Data, Items, as_array}
-use Rattle.ipx_site.specs.SitePeers.{is_peer}
+use Rattle.ipx_site.specs.SourceFilter.{is_peer}
 use Rattle.ipx_site.specs.Values.{AreAddresses}
 
 -- an array of strings that are IP addresses, 256 at most

@@ -3,17 +3,17 @@ use Rattle.std.specs.Prelude.{Vec, ◌≡◌, ◌⊎◌, ℕ, List, None}
 use Rattle.std.specs.Global.{Global}
 use Rattle.toml.specs.Data.{Members}
 use Rattle.ipx_carrier.specs.Mapping.{usual_port}
-use Rattle.ipx_site.specs.declared.fault.FileFault.{FileFault}
+use Rattle.ipx_site.specs.declared.fault.ConfigError.{ConfigError}
 use Rattle.ipx_site.specs.declared.key.Key.TheVariants as Key
 use Rattle.ipx_site.specs.declared.site.Accept.TheVariants as Accept
 use Rattle.ipx_site.specs.declared.site.Kind.TheVariants as Kind
-use Rattle.ipx_site.specs.declared.site.SitePort.{SitePort}
+use Rattle.ipx_site.specs.declared.site.Rfc1234PortConfig.{Rfc1234PortConfig}
 use Rattle.ipx_site.specs.Keys.{first_unknown, port_keys}
 use Rattle.ipx_site.specs.Values.{AreAddressesOf, AreRouterPeers, IsAccept, IsIpAddress, IsCount, IsNetwork}
 use Rattle.ipx_site.specs.Fields.{Holds, HoldsIf, HoldsOr, IsFault, IsRight, IsRightOr, IsStray, IsWrong}
 
 -- a table is that of such a port, if its kind is that
-pub record IsPortTable (ms : Members) (p : SitePort) : Type 0 where
+pub record IsPortTable (ms : Members) (p : Rfc1234PortConfig) : Type 0 where
   pub known : first_unknown port_keys ms ≡ None
   pub network : Holds IsNetwork Key.Network ms p.network
   pub address : Holds IsIpAddress Key.Address ms p.address
@@ -24,13 +24,13 @@ pub record IsPortTable (ms : Members) (p : SitePort) : Type 0 where
   pub accept : HoldsOr IsAccept Key.Accept ms Accept.Peers p.accept
 
 -- the first fault of the keys behind its peers, which say who of them is a router and who is heard
-abbrev pub IsAccessFault : Members → ℕ → FileFault → Type 0
+abbrev pub IsAccessFault : Members → ℕ → ConfigError → Type 0
 IsAccessFault ms table f = (peers : Vec (List ℕ) Global) × Holds AreAddressesOf Key.Peers ms peers
     × (IsWrong (AreRouterPeers peers.items) Key.Routers ms table f
     ⊎ (IsRightOr (AreRouterPeers peers.items) Key.Routers ms × IsWrong IsAccept Key.Accept ms table f))
 
 -- the first fault of the table of a port: a name that is no key, and then the keys in order
-abbrev pub IsPortFault : ℕ → Members → FileFault → Type 0
+abbrev pub IsPortFault : ℕ → Members → ConfigError → Type 0
 IsPortFault table ms f =
     IsStray Kind.Rfc1234 ms table f
     ⊎ ((first_unknown port_keys ms ≡ None) × (IsFault IsNetwork Key.Network ms table f

@@ -3,9 +3,9 @@
 use Rattle.std.specs.Prelude.{◌≡◌, ◌⊎◌, ℕ, ◌+◌, length, min, Bool, false, true, if◌then◌else◌, Option, Some, None}
 use Rattle.ipx_carrier.specs.declared.fault.RunFault.{RunFault}
 use Rattle.ipx_carrier.specs.Turns.{Ways}
-use Rattle.ipx_carrier.specs.declared.report.Burst.{Burst}
+use Rattle.ipx_carrier.specs.declared.report.Batch.{Batch}
 use Rattle.ipx_carrier.specs.Driving.{BurstsBy}
-use Rattle.ipx_site.specs.Leisure.{IsLeisure}
+use Rattle.ipx_site.specs.IdleTime.{IsTimeUntilDue}
 use Rattle.ipx_site.specs.Moments.{IsToAskAgain}
 use Rattle.ipx_site.specs.SiteCore.{SiteAsksAgain, SiteCore, SiteGives, SiteHears, SiteMisses, SiteWithholds}
 
@@ -19,12 +19,12 @@ AsksAgain now times times_after old new =
 -- at most 32 turns, this one, of a clock so stopped, in which packets are sent these ways, and its ports keep
 -- back from the one count to the other; what comes and goes on its wires does so at that moment. Its core hears
 -- by hand where that is due, and lets those who ask for all that it knows do so in turn
-abbrev pub IsRound : {K A : Type 0} → K → K → (K → ℕ → K → Type 0) → (K → ℕ → K → Type 0) → Ways A → ℕ → ℕ → ℕ → ℕ → SiteCore → SiteCore → ℕ → Burst → Type 0
-IsRound {K} clock clock_after stops tells ways kept kept_after times times_after old new moment b = (now : ℕ) × (tick : K)
+abbrev pub IsRound : {K A : Type 0} → K → K → (K → ℕ → K → Type 0) → (K → ℕ → K → Type 0) → Ways A → ℕ → ℕ → ℕ → ℕ → SiteCore → SiteCore → ℕ → Batch → Type 0
+IsRound {K} clock clock_after stops tells transmissions kept kept_after times times_after old new moment b = (now : ℕ) × (tick : K)
     × (mid : SiteCore) × stops clock now tick
     × (moment ≡ now) × AsksAgain now times times_after old mid
     × BurstsBy SiteHears SiteMisses SiteGives SiteWithholds tells
-    (length old.core.core.router.ports) ways 32 b kept kept_after tick clock_after mid new
+    (length old.core.core.router.ports) transmissions 32 b kept kept_after tick clock_after mid new
 
 -- how long it waits then, and when: 100 ms behind a fault; not at all behind a burst that was not quiet, in
 -- which it is told where something came; and behind a quiet one, at the moment at which the clock is stopped, as
@@ -35,5 +35,5 @@ SleepsBehind todo marked clock clock_after stops asked (Some f) quiet =
 SleepsBehind todo marked clock clock_after stops asked None false =
     (asked ≡ Some 0) × (clock_after ≡ clock)
 SleepsBehind todo marked clock clock_after stops asked None true = (now time : ℕ)
-    × stops clock now clock_after × IsLeisure todo now time
+    × stops clock now clock_after × IsTimeUntilDue todo now time
     × (asked ≡ Some (if marked then min time 100 else time))

@@ -3,15 +3,15 @@ use Rattle.std.specs.Prelude.{◌≡◌, ◌⊎◌, String, ℕ, ◌+◌, ◌==�
 use Rattle.std.specs.Global.{Global}
 use Rattle.toml.specs.Data.{Data, Items, no_items, item, Members, as_array, as_table}
 use Rattle.toml.specs.Parse.{parse_document}
-use Rattle.ipx_site.specs.declared.fault.FileFault.{FileFault}
-use Rattle.ipx_site.specs.declared.fault.FileFault.TheVariants.{Twin, Wrong}
+use Rattle.ipx_site.specs.declared.fault.ConfigError.{ConfigError}
+use Rattle.ipx_site.specs.declared.fault.ConfigError.TheVariants.{Twin, Wrong}
 use Rattle.ipx_site.specs.declared.key.Key.TheVariants as Key
-use Rattle.ipx_site.specs.declared.site.SiteFile.{SiteFile}
-use Rattle.ipx_site.specs.declared.site.PortOfKind.{PortOfKind}
-use Rattle.ipx_site.specs.HandLists.{AreByHand, IsByHandFault}
+use Rattle.ipx_site.specs.declared.site.RouterConfig.{RouterConfig}
+use Rattle.ipx_site.specs.declared.site.PortConfig.{PortConfig}
+use Rattle.ipx_site.specs.StaticLists.{AreStatics, IsStaticFault}
 use Rattle.ipx_site.specs.Keys.{first_unknown, site_keys}
 use Rattle.ipx_site.specs.Values.{IsFileName, IsOtherFileName, item_count}
-use Rattle.ipx_site.specs.FramesTable.{IsKindFault, IsPortOfKind}
+use Rattle.ipx_site.specs.EthernetTable.{IsKindFault, IsPortOfKind}
 use Rattle.ipx_site.specs.PortKinds.{network_of_kind}
 use Rattle.ipx_site.specs.Fields.{Holds, HoldsIf, IsFault, IsNoToml, IsRightOr, IsUnknown, IsWrong}
 
@@ -24,46 +24,46 @@ abbrev pub IsPortList : Data → Items → Type 0
 IsPortList d ds = (as_array d ≡ Some ds) × (is_few ds ≡ true)
 
 -- the place among earlier ports of the first one on the same network
-abbrev pub twin_place : List PortOfKind → PortOfKind → Option ℕ
+abbrev pub twin_place : List PortConfig → PortConfig → Option ℕ
 twin_place earlier p = position (λ q. (network_of_kind q).0 == (network_of_kind p).0) earlier
 
 -- a port, by what stands in the array
-abbrev pub IsPortItem : Data → PortOfKind → Type 0
+abbrev pub IsPortItem : Data → PortConfig → Type 0
 IsPortItem d p = (ms : Members) × (as_table d ≡ Some ms) × IsPortOfKind ms p
 
-abbrev pub IsPortItemFault : ℕ → Data → FileFault → Type 0
+abbrev pub IsPortItemFault : ℕ → Data → ConfigError → Type 0
 IsPortItemFault table d f = ((f ≡ Wrong table Key.Port) × (as_table d ≡ None))
     ⊎ ((ms : Members) × (as_table d ≡ Some ms) × IsKindFault table ms f)
 
 -- a port's network is that of an earlier one: the fault names the first such port
-abbrev pub IsTwin : List PortOfKind → ℕ → PortOfKind → FileFault → Type 0
+abbrev pub IsTwin : List PortConfig → ℕ → PortConfig → ConfigError → Type 0
 IsTwin earlier table p f = (k : ℕ) × (twin_place earlier p ≡ Some k)
     × (f ≡ Twin table (network_of_kind p) (k + 1))
 
 -- item by item, these ports, none on the network of an earlier one
-abbrev pub ArePorts : List PortOfKind → Items → List PortOfKind → Type 0
+abbrev pub ArePorts : List PortConfig → Items → List PortConfig → Type 0
 ArePorts earlier no_items ps = ps ≡ []
-ArePorts earlier (item d ds) ps = (p : PortOfKind) × (rest : List PortOfKind) × (ps ≡ p ∷ rest)
+ArePorts earlier (item d ds) ps = (p : PortConfig) × (rest : List PortConfig) × (ps ≡ p ∷ rest)
     × IsPortItem d p × (twin_place earlier p ≡ None) × ArePorts (earlier ++ p ∷ []) ds rest
 
 -- the first fault of the items, which are numbered: each before it is a port
-abbrev pub IsFirstFault : List PortOfKind → ℕ → Items → FileFault → Type 0
+abbrev pub IsFirstFault : List PortConfig → ℕ → Items → ConfigError → Type 0
 IsFirstFault earlier table no_items f = ⊥
 IsFirstFault earlier table (item d ds) f = IsPortItemFault table d f
-    ⊎ ((p : PortOfKind) × IsPortItem d p × (IsTwin earlier table p f
+    ⊎ ((p : PortConfig) × IsPortItem d p × (IsTwin earlier table p f
     ⊎ ((twin_place earlier p ≡ None) × IsFirstFault (earlier ++ p ∷ []) (table + 1) ds f)))
 
 -- a table is that of a router
-pub record IsSite (ms : Members) (s : SiteFile) : Type 0 where
+pub record IsSite (ms : Members) (s : RouterConfig) : Type 0 where
   pub known : first_unknown site_keys ms ≡ None
   pub status : HoldsIf IsFileName Key.Status ms s.status
   pub tables : HoldsIf (IsOtherFileName s.status) Key.Tables ms s.tables
   pub ports : (ds : Items) × Holds IsPortList Key.Port ms ds × ArePorts [] ds s.ports.items
-  pub by_hand : AreByHand s.ports.items ms s.by_hand.items
+  pub statics : AreStatics s.ports.items ms s.statics.items
 
 -- its first fault: a name that is no key, the status file, the file of tables, which is another one, the ports in
 -- order, and then what it is to hear by hand
-abbrev pub IsSiteFault : Members → FileFault → Type 0
+abbrev pub IsSiteFault : Members → ConfigError → Type 0
 IsSiteFault ms f =
     IsUnknown site_keys ms 0 f
     ⊎ ((first_unknown site_keys ms ≡ None) × (IsWrong IsFileName Key.Status ms 0 f
@@ -71,13 +71,13 @@ IsSiteFault ms f =
     × (IsWrong (IsOtherFileName status) Key.Tables ms 0 f
     ⊎ (IsRightOr (IsOtherFileName status) Key.Tables ms × (IsFault IsPortList Key.Port ms 0 f
     ⊎ ((ds : Items) × Holds IsPortList Key.Port ms ds × (IsFirstFault [] 1 ds f
-    ⊎ ((ps : List PortOfKind) × ArePorts [] ds ps × IsByHandFault ps ms f)))))))))
+    ⊎ ((ps : List PortConfig) × ArePorts [] ds ps × IsStaticFault ps ms f)))))))))
 
 -- a text is the file of a router
-abbrev pub IsSiteText : List ℕ → SiteFile → Type 0
+abbrev pub IsSiteText : List ℕ → RouterConfig → Type 0
 IsSiteText text s = (ms : Members) × (parse_document text ≡ Some ms) × IsSite ms s
 
 -- the first fault of a text that is not
-abbrev pub IsSiteTextFault : List ℕ → FileFault → Type 0
+abbrev pub IsSiteTextFault : List ℕ → ConfigError → Type 0
 IsSiteTextFault text f = IsNoToml text f
     ⊎ ((ms : Members) × (parse_document text ≡ Some ms) × IsSiteFault ms f)

@@ -2,12 +2,12 @@
 -- who ask for all that it knows. All of it is own.
 use Rattle.std.specs.Prelude.{◌≡◌, ℕ, false, List, Option}
 use Rattle.ipx_carrier.specs.Turns.{Given}
-use Rattle.ipx_figures.specs.CountedRouter.{CountedView, CountsAsItGives, CountsHeard, CountsMissed, CountsWithheld}
-use Rattle.ipx_by_hand.specs.ByHand.{ByHandView, GivesByHand, HearsUnder, MissesUnder, WithholdsByHand}
-use Rattle.ipx_site.specs.Sparing.{GivesBelow, HearsSparingly, MissesBelow, SparingView, WithholdsBelow}
+use Rattle.ipx_metrics.specs.MeteredRouter.{CountedView, CountsAsItGives, CountsHeard, CountsMissed, CountsWithheld}
+use Rattle.ipx_static.specs.WithStatics.{WithStaticsView, GivesWithStatics, HearsUnder, MissesUnder, WithholdsWithStatics}
+use Rattle.ipx_site.specs.QueryLimiter.{GivesBelow, HearsSparingly, MissesBelow, QueryLimiterView, WithholdsBelow}
 
 abbrev pub SiteCore : Type 0
-SiteCore = SparingView (ByHandView CountedView)
+SiteCore = QueryLimiterView (WithStaticsView CountedView)
 
 -- what comes in it hears, or misses where memory is refused
 abbrev pub SiteHears : SiteCore → ℕ → List ℕ → ℕ → SiteCore → Type 0
@@ -23,7 +23,7 @@ SiteAsksAgain old new =
 
 -- asked for a packet it gives one or none, or withholds it where memory is refused
 abbrev pub SiteGives : SiteCore → ℕ → Option Given → SiteCore → Type 0
-SiteGives = GivesBelow (GivesByHand CountsHeard CountsAsItGives)
+SiteGives = GivesBelow (GivesWithStatics CountsHeard CountsAsItGives)
 
 abbrev pub SiteWithholds : SiteCore → ℕ → SiteCore → Type 0
-SiteWithholds = WithholdsBelow (WithholdsByHand CountsHeard CountsMissed CountsWithheld)
+SiteWithholds = WithholdsBelow (WithholdsWithStatics CountsHeard CountsMissed CountsWithheld)

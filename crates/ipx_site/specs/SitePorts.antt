@@ -5,33 +5,33 @@ use Rattle.std.specs.Option.{option_map}
 use Rattle.ipx_router.specs.declared.port.Port.{Port}
 use Rattle.ipx_carrier.specs.Device.{Access}
 use Rattle.ipx_carrier.specs.Mapping.{node_at}
-use Rattle.ipx_site.specs.declared.peers.Guard.{Guard}
+use Rattle.ipx_site.specs.declared.source_filter.AccessList.{AccessList}
 use Rattle.ipx_site.specs.declared.site.Accept.{Accept}
 use Rattle.ipx_site.specs.declared.site.Accept.TheVariants.{Any, Peers}
-use Rattle.ipx_site.specs.declared.site.PortOfKind.{PortOfKind}
-use Rattle.ipx_site.specs.declared.site.PortOfKind.TheVariants.{Rfc1234, Frames, Ipxnet}
-use Rattle.ipx_site.specs.declared.site.SitePort.{SitePort}
+use Rattle.ipx_site.specs.declared.site.PortConfig.{PortConfig}
+use Rattle.ipx_site.specs.declared.site.PortConfig.TheVariants.{Rfc1234, Frames, Ipxnet}
+use Rattle.ipx_site.specs.declared.site.Rfc1234PortConfig.{Rfc1234PortConfig}
 
 -- a port of a file as one of the router: its node is two zero bytes and the IP address
-abbrev pub router_port_of : SitePort → Port
+abbrev pub router_port_of : Rfc1234PortConfig → Port
 router_port_of p = record { network = p.network; node = node_at p.address; cost = p.cost }
 
 -- so a port of any kind: on a wire its node is its own address there, and for clients of ipxnet what its
 -- file says
-abbrev pub router_port_of_kind : PortOfKind → Port
+abbrev pub router_port_of_kind : PortConfig → Port
 router_port_of_kind (Rfc1234 p) = router_port_of p
 router_port_of_kind (Frames p) = record { network = p.network; node = p.node; cost = p.cost }
 router_port_of_kind (Ipxnet p) = record { network = p.network; node = p.node; cost = p.cost }
 
-abbrev pub router_ports : List PortOfKind → List Port
+abbrev pub router_ports : List PortConfig → List Port
 router_ports ports = map router_port_of_kind ports
 
 -- the port of UDP of each port, at which its peers are reached too
-abbrev pub udp_ports : List SitePort → List ℕ
+abbrev pub udp_ports : List Rfc1234PortConfig → List ℕ
 udp_ports ports = map (λ p. p.udp_port) ports
 
 -- the peers of each port
-abbrev pub site_peers : List SitePort → List (List (List ℕ))
+abbrev pub site_peers : List Rfc1234PortConfig → List (List (List ℕ))
 site_peers ports = map (λ p. p.peers.items) ports
 
 -- the IP addresses that a list names
@@ -45,7 +45,7 @@ heard_at_port Peers peers = Some peers
 
 -- on which network a port is, whom it sends to, who is heard there, and who is a router: as its file says
 -- it, and as its guard does
-abbrev pub access_of : SitePort → Access
+abbrev pub access_of : Rfc1234PortConfig → Access
 access_of p = record {
   network = p.network;
   sends = Some p.peers.items;
@@ -53,7 +53,7 @@ access_of p = record {
   routers = named p.routers;
 }
 
-abbrev pub access_by : Guard → Access
+abbrev pub access_by : AccessList → Access
 access_by g = record {
   network = g.network;
   sends = named g.sends;
@@ -62,5 +62,5 @@ access_by g = record {
 }
 
 -- the guards are those of the ports, in order
-abbrev pub GuardPorts : List SitePort → List Guard → Type 0
-GuardPorts ports guards = map access_by guards ≡ map access_of ports
+abbrev pub AccessListPorts : List Rfc1234PortConfig → List AccessList → Type 0
+AccessListPorts ports access_lists = map access_by access_lists ≡ map access_of ports

@@ -8,7 +8,7 @@ use Rattle.ipx_wire.specs.declared.address.Network.{Network}
 use Rattle.ipx_wire.specs.declared.address.Socket.{Socket}
 use Rattle.ipx_wire.specs.AddressText.{spelled_network, spelled_socket}
 use Rattle.ipx_wire.specs.Assigned.{all_networks, local_network}
-use Rattle.ipx_site.specs.SitePeers.{is_peer}
+use Rattle.ipx_site.specs.SourceFilter.{is_peer}
 use Rattle.ipx_site.specs.declared.site.Accept.{Accept}
 use Rattle.ipx_site.specs.declared.site.Accept.TheVariants.{Any, Peers}
 use Rattle.ipx_site.specs.declared.site.Kind.{Kind}

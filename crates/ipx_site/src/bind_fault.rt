@@ -6,7 +6,7 @@ use thiserror::Error;
 
 /// Why a socket can't be had.
 #[derive(Clone, Copy, Debug, PartialEq, Eq)]
-pub enum Obstacle {
+pub enum BindErrorKind {
     /// Another socket has the address and the port.
     InUse,
     /// The address is none of this machine's.
@@ -23,26 +23,26 @@ pub enum BindFault {
     OutOfMemory,
     /// The number of the port whose socket can't be had. The first is port 1.
     #[error("port {0}: {1}")]
-    Port(usize, Obstacle),
+    Port(usize, BindErrorKind),
 }
 
 /// The obstacle that the system tells.
-pub fn obstacle_of(kind: ErrorKind) -> Obstacle {
+pub fn bind_error_kind(kind: ErrorKind) -> BindErrorKind {
     match kind {
-        ErrorKind::AddrInUse => Obstacle::InUse,
-        ErrorKind::AddrNotAvailable => Obstacle::NotHere,
-        ErrorKind::PermissionDenied => Obstacle::NotAllowed,
-        _ => Obstacle::Other,
+        ErrorKind::AddrInUse => BindErrorKind::InUse,
+        ErrorKind::AddrNotAvailable => BindErrorKind::NotHere,
+        ErrorKind::PermissionDenied => BindErrorKind::NotAllowed,
+        _ => BindErrorKind::Other,
     }
 }
 
-impl fmt::Display for Obstacle {
+impl fmt::Display for BindErrorKind {
     fn fmt<W: fmt::Write>(&self, f: &mut fmt::Formatter<W>) -> fmt::Result {
         f.write_str(match self {
-            Obstacle::InUse => "address and udp_port are in use: end what has them, or take others",
-            Obstacle::NotHere => "address is to be an IP address of this machine",
-            Obstacle::NotAllowed => "udp_port wants a right (below 1024: CAP_NET_BIND_SERVICE)",
-            Obstacle::Other => "address and udp_port can't be had from the system",
+            BindErrorKind::InUse => "address and udp_port are in use: end what has them, or take others",
+            BindErrorKind::NotHere => "address is to be an IP address of this machine",
+            BindErrorKind::NotAllowed => "udp_port wants a right (below 1024: CAP_NET_BIND_SERVICE)",
+            BindErrorKind::Other => "address and udp_port can't be had from the system",
         })
     }
 }

@@ -3,17 +3,17 @@
 ghost use Rattle.std.specs.Prelude.{◌≡◌, ◌<◌, ◌≤◌, ℕ, List, [], IfOk, IfSome, IsOkAnd, length, position, string_bytes};
 ghost use Rattle.std.specs.Io.KnownBytes.{Appends};
 ghost use Rattle.std.specs.List.{flat_map};
-ghost use Rattle.ipx_site.specs.Checked.{count_text, each_behind, file_line, is_of_no_machine, is_one_place, joined_remark, peer_remark, place_remark, port_lines, reached_remarks, remark, site_lines, status_text, tables_place_text, wire_end_remark};
+ghost use Rattle.ipx_site.specs.Checked.{count_text, each_behind, file_line, is_of_no_machine, is_one_place, joined_remark, peer_remark, place_remark, port_lines, reached_remarks, remark, site_lines, status_text, tables_place_text, ethernet_end_remark};
 ghost use Rattle.ipx_site.specs.Loading.{IsFileText};
 ghost use Rattle.ipx_site.specs.Site.{IsSiteText};
-ghost use Rattle.ipx_site.specs.declared.site.SiteFile.{SiteFile as ASiteFile};
+ghost use Rattle.ipx_site.specs.declared.site.RouterConfig.{RouterConfig as ASiteFile};
 
 use crate::files::load_site;
-use crate::hand_lines::entries_to_lines;
-use crate::shown::Shown;
-use crate::site::{PortOfKind, SiteFile};
+use crate::static_lines::entries_to_lines;
+use crate::escaped::Escaped;
+use crate::site::{PortConfig, RouterConfig};
 use crate::start_lines::{dotted, end_to_text, port_to_text};
-use ipx_wires::Place;
+use ipx_ethernet_ports::Place;
 use std::alloc::{AllocError, Global};
 use std::io::Write;
 use std::rt::Files;
@@ -83,7 +83,7 @@ fn end_to_remark(
     earlier: &[Place],
     end: Place,
 ) -> Result<String, AllocError>
-    ensures { IfOk result (λ t. string_bytes t ≡ wire_end_remark whose.now own earlier.now end) }
+    ensures { IfOk result (λ t. string_bytes t ≡ ethernet_end_remark whose.now own earlier.now end) }
 {
     let reached = end_to_text(alloc, end)?;
     if end == own {
@@ -104,7 +104,7 @@ fn ends_to_remarks(
     ends: &[Place],
 ) -> Result<String, AllocError>
     ensures { IfOk result (λ t. string_bytes t
-        ≡ each_behind (wire_end_remark whose.now own) [] ends.now) }
+        ≡ each_behind (ethernet_end_remark whose.now own) [] ends.now) }
 {
     let mut remarks = String::new(alloc);
     for (place, end) in ends.iter().enumerate() {
@@ -149,22 +149,22 @@ fn join_to_remarks(
 }
 
 /// What is remarked on those whom a port sends to.
-fn reached_to_remarks(alloc: Global, whose: &str, port: &PortOfKind) -> Result<String, AllocError>
+fn reached_to_remarks(alloc: Global, whose: &str, port: &PortConfig) -> Result<String, AllocError>
     ensures { IfOk result (λ t. string_bytes t ≡ reached_remarks whose.now port.now) }
 {
     let own = port.place();
     match port {
-        PortOfKind::Rfc1234(port) => peers_to_remarks(alloc, whose, port.address, &port.peers),
-        PortOfKind::Frames(port) => {
+        PortConfig::Rfc1234(port) => peers_to_remarks(alloc, whose, port.address, &port.peers),
+        PortConfig::Frames(port) => {
             let end = format!(in alloc; "{whose}end")?;
             ends_to_remarks(alloc, &end, own, &port.ends)
         }
-        PortOfKind::Ipxnet(port) => join_to_remarks(alloc, whose, own, &port.join),
+        PortConfig::Ipxnet(port) => join_to_remarks(alloc, whose, own, &port.join),
     }
 }
 
 /// The place of the first of these ports that is bound where another one is.
-fn place_of_same(earlier: &[PortOfKind], port: &PortOfKind) -> Option<usize>
+fn place_of_same(earlier: &[PortConfig], port: &PortConfig) -> Option<usize>
     ensures place { result ≡ position (is_one_place port.now) earlier.now }
     ensures within { IfSome result (λ k. k < length earlier.now) }
 {
@@ -176,8 +176,8 @@ fn place_of_same(earlier: &[PortOfKind], port: &PortOfKind) -> Option<usize>
 fn place_to_remark(
     alloc: Global,
     number: usize,
-    earlier: &[PortOfKind],
-    port: &PortOfKind,
+    earlier: &[PortConfig],
+    port: &PortConfig,
 ) -> Result<String, AllocError>
     ensures { IfOk result (λ t. string_bytes t ≡ place_remark number earlier.now port.now) }
 {
@@ -194,8 +194,8 @@ fn place_to_remark(
 /// The line of a port behind earlier ones, and what is remarked on it.
 fn port_to_lines(
     alloc: Global,
-    earlier: &[PortOfKind],
-    port: &PortOfKind,
+    earlier: &[PortConfig],
+    port: &PortConfig,
 ) -> Result<String, AllocError>
     ensures { IfOk result (λ t. string_bytes t ≡ port_lines earlier.now port.now) }
 {
@@ -207,7 +207,7 @@ fn port_to_lines(
     format!(in alloc; "{line}\n{place}{reached}")
 }
 
-fn ports_to_lines(alloc: Global, ports: &[PortOfKind]) -> Result<String, AllocError>
+fn ports_to_lines(alloc: Global, ports: &[PortConfig]) -> Result<String, AllocError>
     ensures { IfOk result (λ t. string_bytes t ≡ each_behind port_lines [] ports.now) }
 {
     let mut lines = String::new(alloc);
@@ -232,7 +232,7 @@ fn status_to_text(alloc: Global, status: &Option<String>) -> Result<String, Allo
 {
     match status {
         Some(path) => {
-            let path = Shown(path.as_bytes());
+            let path = Escaped(path.as_bytes());
             format!(in alloc; "status {path}")
         }
         None => String::from_str(alloc, "no status file"),
@@ -244,7 +244,7 @@ fn tables_to_text(alloc: Global, tables: &Option<String>) -> Result<String, Allo
 {
     match tables {
         Some(path) => {
-            let path = Shown(path.as_bytes());
+            let path = Escaped(path.as_bytes());
             format!(in alloc; ", tables {path}")
         }
         None => Ok(String::new(alloc)),
@@ -252,7 +252,7 @@ fn tables_to_text(alloc: Global, tables: &Option<String>) -> Result<String, Allo
 }
 
 /// The line of the file itself.
-fn file_to_line(alloc: Global, path: &str, site: &SiteFile) -> Result<String, AllocError>
+fn file_to_line(alloc: Global, path: &str, site: &RouterConfig) -> Result<String, AllocError>
     ensures { IfOk result (λ t. string_bytes t ≡ file_line path.now site.now) }
 {
     let count = count_to_text(alloc, site.ports.len())?;
@@ -261,13 +261,13 @@ fn file_to_line(alloc: Global, path: &str, site: &SiteFile) -> Result<String, Al
     format!(in alloc; "{path}: {count}, {status}{tables}\n")
 }
 
-fn site_to_lines(alloc: Global, path: &str, site: &SiteFile) -> Result<String, AllocError>
+fn site_to_lines(alloc: Global, path: &str, site: &RouterConfig) -> Result<String, AllocError>
     ensures { IfOk result (λ t. string_bytes t ≡ site_lines path.now site.now) }
 {
     let ports = ports_to_lines(alloc, &site.ports)?;
-    let by_hand = entries_to_lines(alloc, &site.by_hand)?;
+    let statics = entries_to_lines(alloc, &site.statics)?;
     let file = file_to_line(alloc, path, site)?;
-    format!(in alloc; "{ports}{by_hand}{file}")
+    format!(in alloc; "{ports}{statics}{file}")
 }
 
 /// Writes what is said of a file that is checked, and answers the status: 0 where all is written.

@@ -1,7 +1,7 @@
 //! A family of figures, in the text form of Prometheus.
 
 ghost use Rattle.std.specs.Prelude.{◌≡◌, ◌++◌, OnOk, string_bytes};
-ghost use Rattle.ipx_site.specs.GuardFigures.{family_text, port_figure};
+ghost use Rattle.ipx_site.specs.AccessListMetrics.{family_text, port_figure};
 
 use std::alloc::AllocError;
 
@@ -35,11 +35,11 @@ pub fn put_each(
     text: &mut String,
     family: &Family,
     label: &str,
-    figures: &[(&'static str, u64)],
+    metrics: &[(&'static str, u64)],
 ) -> Result<(), AllocError> {
     put_family(text, family)?;
     let name = family.name;
-    for (word, value) in figures {
+    for (word, value) in metrics {
         write!(text, "{name}{{{label}=\"{word}\"}} {value}\n")?;
     }
     Ok(())

@@ -12,7 +12,7 @@ use std::alloc::AllocFailed;
 /// `table` is 0 for the file itself, and else the number of a table: the first `[[port]]` is 1, the
 /// first `[[route]]` 17, and the first `[[service]]` 273.
 #[derive(Debug, Drop)]
-pub enum FileFault {
+pub enum ConfigError {
     OutOfMemory,
     /// The text is no TOML, from this line on. The first line is 1.
     NotToml(usize, toml::de::Error),
@@ -30,24 +30,24 @@ pub enum FileFault {
     Again(usize, usize),
 }
 
-impl From<OutOfMemory> for FileFault {
+impl From<OutOfMemory> for ConfigError {
     ghost use Rattle.std.specs.Prelude.{◌≡◌};
-    ghost use Rattle.ipx_site.specs.declared.fault.FileFault.TheVariants as faults;
+    ghost use Rattle.ipx_site.specs.declared.fault.ConfigError.TheVariants as faults;
 
     ghost from_gives = { λ _ f. f ≡ faults.OutOfMemory };
 
-    fn from(_error: OutOfMemory) -> FileFault {
-        FileFault::OutOfMemory
+    fn from(_error: OutOfMemory) -> ConfigError {
+        ConfigError::OutOfMemory
     }
 }
 
-impl<T: Drop> From<AllocFailed<T>> for FileFault {
+impl<T: Drop> From<AllocFailed<T>> for ConfigError {
     ghost use Rattle.std.specs.Prelude.{◌≡◌};
-    ghost use Rattle.ipx_site.specs.declared.fault.FileFault.TheVariants as faults;
+    ghost use Rattle.ipx_site.specs.declared.fault.ConfigError.TheVariants as faults;
 
     ghost from_gives = { λ _ f. f ≡ faults.OutOfMemory };
 
-    fn from(_error: AllocFailed<T>) -> FileFault {
-        FileFault::OutOfMemory
+    fn from(_error: AllocFailed<T>) -> ConfigError {
+        ConfigError::OutOfMemory
     }
 }

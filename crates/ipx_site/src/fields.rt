@@ -6,14 +6,14 @@ ghost use Rattle.toml.specs.Data.{get_member};
 ghost use Rattle.toml.specs.View.{table_view, view};
 ghost use Rattle.ipx_site.specs.Keys.{first_unknown, key_text, keys_of_kind};
 ghost use Rattle.ipx_site.specs.Neighbours.{AreAmong, AreNeighbours};
-ghost use Rattle.ipx_site.specs.Origins.{AreOrigins};
+ghost use Rattle.ipx_site.specs.AllowedPeers.{AreOrigins};
 ghost use Rattle.ipx_site.specs.Values.{AreAddressesOf, AreRouterPeers, IsAccept, IsIpAddress, IsCount, IsKind, IsNetwork, IsSocket, IsFileName, IsOtherFileName};
 ghost use Rattle.ipx_site.specs.Fields.{Gives, GivesIf, GivesOr, Holds, HoldsOr, IsMissing, IsStray, IsStrayName, IsUnknown, IsWrong};
 
-use crate::fault::FileFault;
+use crate::fault::ConfigError;
 use crate::key::{Key, is_key, key_in, keys_of_kind, keys_of_other_kinds};
 use crate::neighbours::{among, neighbours_of};
-use crate::origin::{Origin, origins_of};
+use crate::allowed_peer::{AllowedPeer, origins_of};
 use crate::site::{Accept, Kind};
 use crate::values::{
     accept_of, count_of, file_name_of, kind_of, parse_address, parse_network, parse_peers,
@@ -24,11 +24,11 @@ use std::alloc::Global;
 use toml::{Table, Value};
 
 /// That a name in a table is no key of it.
-fn unknown(alloc: Global, number: usize, name: &str) -> Result<FileFault, OutOfMemory>
-    ensures { IfOk result (λ f. (copy : String Global) × (f ≡ FileFault.Unknown number copy)
+fn unknown(alloc: Global, number: usize, name: &str) -> Result<ConfigError, OutOfMemory>
+    ensures { IfOk result (λ f. (copy : String Global) × (f ≡ ConfigError.Unknown number copy)
         × (string_bytes copy ≡ name.now)) }
 {
-    Ok(FileFault::Unknown(number, String::from_str(alloc, name)?))
+    Ok(ConfigError::Unknown(number, String::from_str(alloc, name)?))
 }
 
 /// The first name in a table that is none of these keys.
@@ -49,9 +49,9 @@ pub fn refuse_unknown(
     table: &Table,
     number: usize,
     keys: &[Key],
-) -> Result<(), FileFault>
+) -> Result<(), ConfigError>
     ensures known { OnOk result (first_unknown keys.now (table_view table.now) ≡ None) }
-    ensures unknown { IfErr result (λ f. (f ≡ FileFault.OutOfMemory)
+    ensures unknown { IfErr result (λ f. (f ≡ ConfigError.OutOfMemory)
         ⊎ IsUnknown keys.now (table_view table.now) number f) }
 {
     match unknown_in(table, keys) {
@@ -61,11 +61,11 @@ pub fn refuse_unknown(
 }
 
 /// What is wrong with a name that is no key of a port of this kind.
-fn stray(alloc: Global, number: usize, kind: Kind, name: &str) -> Result<FileFault, OutOfMemory>
+fn stray(alloc: Global, number: usize, kind: Kind, name: &str) -> Result<ConfigError, OutOfMemory>
     ensures { IfOk result (IsStrayName kind name.now number) }
 {
     match key_in(keys_of_other_kinds(kind), name) {
-        Some(key) => Ok(FileFault::OtherKind(number, *key, kind)),
+        Some(key) => Ok(ConfigError::OtherKind(number, *key, kind)),
         None => unknown(alloc, number, name),
     }
 }
@@ -76,9 +76,9 @@ pub fn refuse_stray(
     table: &Table,
     number: usize,
     kind: Kind,
-) -> Result<(), FileFault>
+) -> Result<(), ConfigError>
     ensures known { OnOk result (first_unknown (keys_of_kind kind) (table_view table.now) ≡ None) }
-    ensures stray { IfErr result (λ f. (f ≡ FileFault.OutOfMemory)
+    ensures stray { IfErr result (λ f. (f ≡ ConfigError.OutOfMemory)
         ⊎ IsStray kind (table_view table.now) number f) }
 {
     match unknown_in(table, keys_of_kind(kind)) {
@@ -96,34 +96,34 @@ pub fn held(table: &Table, key: Key) -> Option<&Value>
 }
 
 /// The value of a key that must be there.
-pub fn required(table: &Table, number: usize, key: Key) -> Result<&Value, FileFault>
+pub fn required(table: &Table, number: usize, key: Key) -> Result<&Value, ConfigError>
     ensures { MatchResult result
         (λ v. get_member (key_text key) (table_view table.now) ≡ Some (view v.now))
         (IsMissing key (table_view table.now) number) }
 {
     match held(table, key) {
         Some(value) => Ok(value),
-        None => Err(FileFault::Missing(number, key)),
+        None => Err(ConfigError::Missing(number, key)),
     }
 }
 
 /// The network of a port or a host.
-pub fn network_in(table: &Table, number: usize) -> Result<Network, FileFault>
+pub fn network_in(table: &Table, number: usize) -> Result<Network, ConfigError>
     ensures { Gives IsNetwork Key.Network (table_view table.now) number result }
 {
     match parse_network(required(table, number, Key::Network)?) {
         Some(network) => Ok(network),
-        None => Err(FileFault::Wrong(number, Key::Network)),
+        None => Err(ConfigError::Wrong(number, Key::Network)),
     }
 }
 
 /// An IP address.
-pub fn address_in(table: &Table, number: usize, key: Key) -> Result<[u8; 4], FileFault>
+pub fn address_in(table: &Table, number: usize, key: Key) -> Result<[u8; 4], ConfigError>
     ensures { Gives IsIpAddress key (table_view table.now) number result }
 {
     match parse_address(required(table, number, key)?) {
         Some(ip) => Ok(ip),
-        None => Err(FileFault::Wrong(number, key)),
+        None => Err(ConfigError::Wrong(number, key)),
     }
 }
 
@@ -134,7 +134,7 @@ pub fn count_in(
     key: Key,
     most: u16,
     default: u16,
-) -> Result<u16, FileFault>
+) -> Result<u16, ConfigError>
     ensures { GivesOr (IsCount most) key (table_view table.now) number default result }
 {
     let Some(value) = held(table, key) else {
@@ -142,17 +142,17 @@ pub fn count_in(
     };
     match count_of(value, most) {
         Some(count) => Ok(count),
-        None => Err(FileFault::Wrong(number, key)),
+        None => Err(ConfigError::Wrong(number, key)),
     }
 }
 
 /// The peers of a port.
-pub fn peers_in(alloc: Global, table: &Table, number: usize) -> Result<Vec<[u8; 4]>, FileFault>
+pub fn peers_in(alloc: Global, table: &Table, number: usize) -> Result<Vec<[u8; 4]>, ConfigError>
     ensures { Gives AreAddressesOf Key.Peers (table_view table.now) number result }
 {
     match parse_peers(alloc, required(table, number, Key::Peers)?)? {
         Some(peers) => Ok(peers),
-        None => Err(FileFault::Wrong(number, Key::Peers)),
+        None => Err(ConfigError::Wrong(number, Key::Peers)),
     }
 }
 
@@ -162,7 +162,7 @@ pub fn port_routers_in(
     table: &Table,
     number: usize,
     peers: &[[u8; 4]],
-) -> Result<Option<Vec<[u8; 4]>>, FileFault>
+) -> Result<Option<Vec<[u8; 4]>>, ConfigError>
     ensures { GivesIf (AreRouterPeers peers.now) Key.Routers (table_view table.now) number result }
 {
     let Some(value) = held(table, Key::Routers) else {
@@ -170,12 +170,12 @@ pub fn port_routers_in(
     };
     match routers_of(alloc, value, peers)? {
         Some(routers) => Ok(Some(routers)),
-        None => Err(FileFault::Wrong(number, Key::Routers)),
+        None => Err(ConfigError::Wrong(number, Key::Routers)),
     }
 }
 
 /// Who is heard.
-pub fn accept_in(table: &Table, number: usize) -> Result<Accept, FileFault>
+pub fn accept_in(table: &Table, number: usize) -> Result<Accept, ConfigError>
     ensures { GivesOr IsAccept Key.Accept (table_view table.now) number Accept.Peers result }
 {
     let Some(value) = held(table, Key::Accept) else {
@@ -183,12 +183,12 @@ pub fn accept_in(table: &Table, number: usize) -> Result<Accept, FileFault>
     };
     match accept_of(value) {
         Some(accept) => Ok(accept),
-        None => Err(FileFault::Wrong(number, Key::Accept)),
+        None => Err(ConfigError::Wrong(number, Key::Accept)),
     }
 }
 
 /// The kind of a port.
-pub fn kind_in(table: &Table, number: usize) -> Result<Kind, FileFault>
+pub fn kind_in(table: &Table, number: usize) -> Result<Kind, ConfigError>
     ensures { GivesOr IsKind Key.Kind (table_view table.now) number Kind.Rfc1234 result }
 {
     let Some(value) = held(table, Key::Kind) else {
@@ -196,22 +196,22 @@ pub fn kind_in(table: &Table, number: usize) -> Result<Kind, FileFault>
     };
     match kind_of(value) {
         Some(kind) => Ok(kind),
-        None => Err(FileFault::Wrong(number, Key::Kind)),
+        None => Err(ConfigError::Wrong(number, Key::Kind)),
     }
 }
 
 /// The socket of a host.
-pub fn socket_in(table: &Table, number: usize) -> Result<Socket, FileFault>
+pub fn socket_in(table: &Table, number: usize) -> Result<Socket, ConfigError>
     ensures { Gives IsSocket Key.Socket (table_view table.now) number result }
 {
     match parse_socket(required(table, number, Key::Socket)?) {
         Some(socket) => Ok(socket),
-        None => Err(FileFault::Wrong(number, Key::Socket)),
+        None => Err(ConfigError::Wrong(number, Key::Socket)),
     }
 }
 
 /// The name of a file of a key, if it is there.
-pub fn file_name_in(alloc: Global, table: &Table, key: Key) -> Result<Option<String>, FileFault>
+pub fn file_name_in(alloc: Global, table: &Table, key: Key) -> Result<Option<String>, ConfigError>
     ensures { GivesIf IsFileName key (table_view table.now) 0 result }
 {
     let Some(value) = held(table, key) else {
@@ -219,7 +219,7 @@ pub fn file_name_in(alloc: Global, table: &Table, key: Key) -> Result<Option<Str
     };
     match file_name_of(alloc, value)? {
         Some(name) => Ok(Some(name)),
-        None => Err(FileFault::Wrong(0, key)),
+        None => Err(ConfigError::Wrong(0, key)),
     }
 }
 
@@ -229,21 +229,21 @@ pub fn other_file_name_in(
     table: &Table,
     key: Key,
     other: &Option<String>,
-) -> Result<Option<String>, FileFault>
+) -> Result<Option<String>, ConfigError>
     ensures { GivesIf (IsOtherFileName other.now) key (table_view table.now) 0 result }
 {
     let name = file_name_in(alloc, table, key)?;
     match (&name, other) {
-        (Some(one), Some(two)) if one.as_str() == two.as_str() => Err(FileFault::Wrong(0, key)),
+        (Some(one), Some(two)) if one.as_str() == two.as_str() => Err(ConfigError::Wrong(0, key)),
         _ => Ok(name),
     }
 }
 
 /// The IP addresses that a host hears besides its router's; none where they are left out.
-pub fn neighbours_in(alloc: Global, table: &Table, number: usize) -> Result<Vec<[u8; 4]>, FileFault>
+pub fn neighbours_in(alloc: Global, table: &Table, number: usize) -> Result<Vec<[u8; 4]>, ConfigError>
     ensures { MatchResult result
         (λ ips. HoldsOr AreNeighbours Key.Peers (table_view table.now) [] ips.items)
-        (λ f. (f ≡ FileFault.OutOfMemory)
+        (λ f. (f ≡ ConfigError.OutOfMemory)
         ⊎ IsWrong AreNeighbours Key.Peers (table_view table.now) number f) }
 {
     let Some(value) = held(table, Key::Peers) else {
@@ -251,7 +251,7 @@ pub fn neighbours_in(alloc: Global, table: &Table, number: usize) -> Result<Vec<
     };
     match neighbours_of(alloc, value)? {
         Some(ips) => Ok(ips),
-        None => Err(FileFault::Wrong(number, Key::Peers)),
+        None => Err(ConfigError::Wrong(number, Key::Peers)),
     }
 }
 
@@ -261,10 +261,10 @@ pub fn routers_in(
     table: &Table,
     number: usize,
     peers: &[[u8; 4]],
-) -> Result<Vec<[u8; 4]>, FileFault>
+) -> Result<Vec<[u8; 4]>, ConfigError>
     ensures { MatchResult result
         (λ ips. HoldsOr (AreAmong peers.now) Key.Routers (table_view table.now) [] ips.items)
-        (λ f. (f ≡ FileFault.OutOfMemory)
+        (λ f. (f ≡ ConfigError.OutOfMemory)
         ⊎ IsWrong (AreAmong peers.now) Key.Routers (table_view table.now) number f) }
 {
     let Some(value) = held(table, Key::Routers) else {
@@ -272,7 +272,7 @@ pub fn routers_in(
     };
     match among(alloc, value, peers)? {
         Some(ips) => Ok(ips),
-        None => Err(FileFault::Wrong(number, Key::Routers)),
+        None => Err(ConfigError::Wrong(number, Key::Routers)),
     }
 }
 
@@ -282,7 +282,7 @@ pub fn origins_in(
     table: &Table,
     number: usize,
     key: Key,
-) -> Result<Option<Vec<Origin>>, FileFault>
+) -> Result<Option<Vec<AllowedPeer>>, ConfigError>
     ensures { GivesIf AreOrigins key (table_view table.now) number result }
 {
     let Some(value) = held(table, key) else {
@@ -290,6 +290,6 @@ pub fn origins_in(
     };
     match origins_of(alloc, value)? {
         Some(origins) => Ok(Some(origins)),
-        None => Err(FileFault::Wrong(number, key)),
+        None => Err(ConfigError::Wrong(number, key)),
     }
 }

@@ -2,24 +2,24 @@
 
 ghost use Rattle.std.specs.Prelude.{◌≡◌, ◌⊎◌, ℕ, List, All, Err, IfErr, IfOk};
 ghost use Rattle.ipx_router.specs.NewRouter.{IsOwnNetwork};
-ghost use Rattle.ipx_site.specs.HandLists.{HearsAtPorts};
+ghost use Rattle.ipx_site.specs.StaticLists.{HearsAtPorts};
 ghost use Rattle.ipx_site.specs.Host.{IsHostText, IsHostTextFault};
 ghost use Rattle.ipx_site.specs.Loading.{IsFileText, IsStatus, fault_status};
 ghost use Rattle.ipx_site.specs.SitePorts.{router_ports};
 ghost use Rattle.ipx_site.specs.Site.{IsSiteText, IsSiteTextFault};
 
-use crate::fault::FileFault;
-use crate::host::{HostFile, read_host};
+use crate::fault::ConfigError;
+use crate::host::{HostConfig, read_host};
 use crate::reading::read_site;
-use crate::site::SiteFile;
-use ipx_commands::{InputFault, read_up_to};
+use crate::site::RouterConfig;
+use ipx_inspect::{InputFault, read_up_to};
 use std::alloc::Global;
 use std::fs::File;
 use std::rt::Files;
 use std::{io, str};
 
 /// The longest file, in bytes.
-pub(crate) const MOST: usize = 65_536;
+pub(crate) const MAX: usize = 65_536;
 
 /// Tells what is wrong with a file, and answers the status that goes with it.
 pub(crate) fn tell<R: Eprint>(rt: &R, path: &str, what: &str) -> u8
@@ -37,10 +37,10 @@ pub(crate) fn tell_no_memory<R: Eprint>(rt: &R, path: &str) -> u8
 }
 
 /// Tells the fault of a file's text, and answers its status.
-fn tell_fault<R: Eprint>(rt: &R, path: &str, fault: &FileFault) -> u8
+fn tell_fault<R: Eprint>(rt: &R, path: &str, fault: &ConfigError) -> u8
     ensures { result ≡ fault_status fault.now }
 {
-    if let FileFault::OutOfMemory = fault {
+    if let ConfigError::OutOfMemory = fault {
         return tell_no_memory(rt, path);
     }
     let _ = eprintln!(rt; "{path}: {fault}");
@@ -84,7 +84,7 @@ fn text_of<'a, R: Eprint>(rt: &R, path: &str, bytes: &'a [u8]) -> Result<&'a str
     ensures text { IfOk result (λ s. (s.now ≡ bytes.now) × IsFileText bytes.now) }
     ensures fault { IfErr result (λ status. (status ≡ 2) × (IsFileText bytes.now → ⊥)) }
 {
-    if bytes.len() > MOST {
+    if bytes.len() > MAX {
         return Err(tell(rt, path, "the file is to have 65536 bytes at most"));
     }
     match str::from_utf8(bytes) {
@@ -99,7 +99,7 @@ pub(crate) fn site_in<R: Eprint>(
     alloc: Global,
     path: &str,
     bytes: &[u8],
-) -> Result<SiteFile, u8>
+) -> Result<RouterConfig, u8>
     ensures site { IfOk result (λ s. IsFileText bytes.now × IsSiteText bytes.now s) }
     ensures own { IfOk result (λ s. All IsOwnNetwork (router_ports s.ports.items)) }
     ensures there { IfOk result HearsAtPorts }
@@ -119,7 +119,7 @@ pub(crate) fn host_in<R: Eprint>(
     alloc: Global,
     path: &str,
     bytes: &[u8],
-) -> Result<HostFile, u8>
+) -> Result<HostConfig, u8>
     ensures host { IfOk result (λ h. IsFileText bytes.now × IsHostText bytes.now h) }
     ensures no_text { (IsFileText bytes.now → ⊥) → result ≡ Err 2 }
     ensures fault { IfErr result (IsStatus (IsHostTextFault bytes.now) bytes.now) }
@@ -133,22 +133,22 @@ pub(crate) fn host_in<R: Eprint>(
 
 /// Reads the file of a router. What is wrong is told in one line on standard error that begins with
 /// the path; the error is the status then: 2, or 1 for want of memory.
-pub fn load_site<R: Files + Eprint>(rt: &R, alloc: Global, path: &str) -> Result<SiteFile, u8>
+pub fn load_site<R: Files + Eprint>(rt: &R, alloc: Global, path: &str) -> Result<RouterConfig, u8>
     // What it answers some text describes.
     ensures site { IfOk result (λ s. (text : List ℕ) × IsFileText text × IsSiteText text s) }
     ensures own { IfOk result (λ s. All IsOwnNetwork (router_ports s.ports.items)) }
     ensures there { IfOk result HearsAtPorts }
     ensures fault { IfErr result (λ status. (status ≡ 1) ⊎ (status ≡ 2)) }
 {
-    let bytes = read_bytes(rt, alloc, path, MOST + 1)?;
+    let bytes = read_bytes(rt, alloc, path, MAX + 1)?;
     site_in(rt, alloc, path, &bytes)
 }
 
 /// Reads the file of a host, likewise.
-pub fn load_host<R: Files + Eprint>(rt: &R, alloc: Global, path: &str) -> Result<HostFile, u8>
+pub fn load_host<R: Files + Eprint>(rt: &R, alloc: Global, path: &str) -> Result<HostConfig, u8>
     ensures host { IfOk result (λ h. (text : List ℕ) × IsFileText text × IsHostText text h) }
     ensures fault { IfErr result (λ status. (status ≡ 1) ⊎ (status ≡ 2)) }
 {
-    let bytes = read_bytes(rt, alloc, path, MOST + 1)?;
+    let bytes = read_bytes(rt, alloc, path, MAX + 1)?;
     host_in(rt, alloc, path, &bytes)
 }

@@ -5,16 +5,16 @@ ghost use Rattle.toml.specs.View.{table_view};
 ghost use Rattle.ipx_site.specs.Fields.{HoldsIf, HoldsOr};
 ghost use Rattle.ipx_site.specs.Host.{IsCircleFault, IsHost, IsHostFault, IsHostText, IsHostTextFault};
 ghost use Rattle.ipx_site.specs.Neighbours.{AreAmong, AreNeighbours};
-ghost use Rattle.ipx_site.specs.Origins.{AreOrigins};
+ghost use Rattle.ipx_site.specs.AllowedPeers.{AreOrigins};
 ghost use Rattle.ipx_site.specs.Values.{IsAccept};
 
-use crate::fault::FileFault;
+use crate::fault::ConfigError;
 use crate::fields::{
     accept_in, address_in, count_in, neighbours_in, network_in, origins_in, refuse_unknown,
     routers_in, socket_in,
 };
 use crate::key::Key;
-use crate::origin::Origin;
+use crate::allowed_peer::AllowedPeer;
 use crate::site::Accept;
 use crate::toml_text::table_of;
 use ipx_carrier::UDP_PORT;
@@ -24,7 +24,7 @@ use toml::Table;
 
 /// The file of a host.
 #[derive(Drop)]
-pub struct HostFile {
+pub struct HostConfig {
     /// The network that it is on.
     pub network: Network,
     /// Its local IP address.
@@ -42,7 +42,7 @@ pub struct HostFile {
     /// Those of its peers that are routers too, 256 at most.
     pub routers: Vec<[u8; 4]>,
     /// Who may ask for a connection, 256 entries at most. None stands for everybody.
-    pub from: Option<Vec<Origin>>,
+    pub from: Option<Vec<AllowedPeer>>,
     /// Whether the router and the peers alone are heard.
     pub accept: Accept,
 }
@@ -52,7 +52,7 @@ pub struct HostFile {
 struct Circle {
     peers: Vec<[u8; 4]>,
     routers: Vec<[u8; 4]>,
-    from: Option<Vec<Origin>>,
+    from: Option<Vec<AllowedPeer>>,
     accept: Accept,
 }
 
@@ -70,7 +70,7 @@ const KEYS: [Key; 10] = [
     Key::Accept,
 ];
 
-fn circle_of(alloc: Global, table: &Table) -> Result<Circle, FileFault>
+fn circle_of(alloc: Global, table: &Table) -> Result<Circle, ConfigError>
     ensures peers { IfOk result (λ c.
         HoldsOr AreNeighbours Key.Peers (table_view table.now) [] c.peers.items) }
     ensures routers { IfOk result (λ c.
@@ -79,7 +79,7 @@ fn circle_of(alloc: Global, table: &Table) -> Result<Circle, FileFault>
     ensures accept { IfOk result (λ c.
         HoldsOr IsAccept Key.Accept (table_view table.now) Accept.Peers c.accept) }
     ensures fault { IfErr result (λ f.
-        (f ≡ FileFault.OutOfMemory) ⊎ IsCircleFault (table_view table.now) f) }
+        (f ≡ ConfigError.OutOfMemory) ⊎ IsCircleFault (table_view table.now) f) }
 {
     let peers = neighbours_in(alloc, table, 0)?;
     let routers = routers_in(alloc, table, 0, &peers)?;
@@ -93,10 +93,10 @@ fn circle_of(alloc: Global, table: &Table) -> Result<Circle, FileFault>
     })
 }
 
-fn host_of(alloc: Global, table: &Table) -> Result<HostFile, FileFault>
+fn host_of(alloc: Global, table: &Table) -> Result<HostConfig, ConfigError>
     ensures host { IfOk result (IsHost (table_view table.now)) }
     ensures fault { IfErr result (λ f.
-        (f ≡ FileFault.OutOfMemory) ⊎ IsHostFault (table_view table.now) f) }
+        (f ≡ ConfigError.OutOfMemory) ⊎ IsHostFault (table_view table.now) f) }
 {
     refuse_unknown(alloc, table, 0, &KEYS)?;
     let network = network_in(table, 0)?;
@@ -106,7 +106,7 @@ fn host_of(alloc: Global, table: &Table) -> Result<HostFile, FileFault>
     let socket = socket_in(table, 0)?;
     let buffers = count_in(table, 0, Key::Buffers, 8192, 1024)?;
     let circle = circle_of(alloc, table)?;
-    Ok(HostFile {
+    Ok(HostConfig {
         network,
         address,
         router,
@@ -121,10 +121,10 @@ fn host_of(alloc: Global, table: &Table) -> Result<HostFile, FileFault>
 }
 
 /// Reads the text of a host's file, or answers its first fault.
-pub fn read_host(alloc: Global, text: &str) -> Result<HostFile, FileFault>
+pub fn read_host(alloc: Global, text: &str) -> Result<HostConfig, ConfigError>
     ensures host { IfOk result (IsHostText text.now) }
     ensures fault { IfErr result (λ f.
-        (f ≡ FileFault.OutOfMemory) ⊎ IsHostTextFault text.now f) }
+        (f ≡ ConfigError.OutOfMemory) ⊎ IsHostTextFault text.now f) }
 {
     let table = table_of(alloc, text)?;
     host_of(alloc, &table)

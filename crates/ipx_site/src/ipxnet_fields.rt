@@ -3,22 +3,22 @@
 ghost use Rattle.std.specs.Prelude.{◌≡◌, ◌⊎◌, IfErr, IfOk};
 ghost use Rattle.toml.specs.View.{table_view};
 ghost use Rattle.ipx_site.specs.IpxnetTable.{AreJoinedRouters, ArePeersFor, IsIpxnetFault, IsIpxnetTable, IsJoinFault, IsPeersFault};
-ghost use Rattle.ipx_site.specs.WireValues.{are_places_apart};
+ghost use Rattle.ipx_site.specs.EthernetValues.{are_places_apart};
 
-use crate::fault::FileFault;
+use crate::fault::ConfigError;
 use crate::fields::{accept_in, address_in, count_in, held, network_in, refuse_stray};
-use crate::ipxnet_port::IpxnetPort;
+use crate::ipxnet_port::IpxnetPortConfig;
 use crate::key::Key;
 use crate::site::{Accept, Kind};
 use crate::values::parse_peers;
-use crate::wire_fields::{required_count_in, station_in};
-use crate::wire_values::{ends_of, station_at};
-use ipx_wires::Place;
+use crate::ethernet_fields::{required_count_in, station_in};
+use crate::ethernet_values::{ends_of, station_at};
+use ipx_ethernet_ports::Place;
 use std::alloc::Global;
 use toml::Table;
 
 /// How many clients a port for those may have, as a file may say, and where it says nothing.
-const MOST_CLIENTS: u16 = 150;
+const MAX_CLIENTS: u16 = 150;
 
 const USUAL_CLIENTS: u16 = 64;
 
@@ -28,20 +28,20 @@ fn registering_in(
     table: &Table,
     number: usize,
     accept: Accept,
-) -> Result<Vec<[u8; 4]>, FileFault>
+) -> Result<Vec<[u8; 4]>, ConfigError>
     ensures peers { IfOk result (ArePeersFor accept (table_view table.now)) }
-    ensures fault { IfErr result (λ f. (f ≡ FileFault.OutOfMemory)
+    ensures fault { IfErr result (λ f. (f ≡ ConfigError.OutOfMemory)
         ⊎ IsPeersFault accept (table_view table.now) number f) }
 {
     let Some(value) = held(table, Key::Peers) else {
         return match accept {
             Accept::Any => Ok(Vec::new(alloc)),
-            Accept::Peers => Err(FileFault::Missing(number, Key::Peers)),
+            Accept::Peers => Err(ConfigError::Missing(number, Key::Peers)),
         };
     };
     match parse_peers(alloc, value)? {
         Some(peers) => Ok(peers),
-        None => Err(FileFault::Wrong(number, Key::Peers)),
+        None => Err(ConfigError::Wrong(number, Key::Peers)),
     }
 }
 
@@ -59,29 +59,29 @@ fn are_apart(places: &[Place]) -> bool
 
 /// Where the routers are whose lobbies are joined with that of a port, each once: none, where nothing
 /// is said.
-fn joined_routers_in(alloc: Global, table: &Table, number: usize) -> Result<Vec<Place>, FileFault>
+fn joined_routers_in(alloc: Global, table: &Table, number: usize) -> Result<Vec<Place>, ConfigError>
     ensures join { IfOk result (AreJoinedRouters (table_view table.now)) }
     ensures fault { IfErr result (λ f.
-        (f ≡ FileFault.OutOfMemory) ⊎ IsJoinFault (table_view table.now) number f) }
+        (f ≡ ConfigError.OutOfMemory) ⊎ IsJoinFault (table_view table.now) number f) }
 {
     let Some(value) = held(table, Key::Join) else {
         return Ok(Vec::new(alloc));
     };
     let Some(routers) = ends_of(alloc, value)? else {
-        return Err(FileFault::Wrong(number, Key::Join));
+        return Err(ConfigError::Wrong(number, Key::Join));
     };
     if are_apart(&routers) {
         Ok(routers)
     } else {
-        Err(FileFault::Wrong(number, Key::Join))
+        Err(ConfigError::Wrong(number, Key::Join))
     }
 }
 
 /// The port for clients of ipxnet of a table with this number.
-pub fn ipxnet_port_in(alloc: Global, table: &Table, number: usize) -> Result<IpxnetPort, FileFault>
+pub fn ipxnet_port_in(alloc: Global, table: &Table, number: usize) -> Result<IpxnetPortConfig, ConfigError>
     ensures port { IfOk result (IsIpxnetTable (table_view table.now)) }
     ensures fault { IfErr result (λ f.
-        (f ≡ FileFault.OutOfMemory) ⊎ IsIpxnetFault number (table_view table.now) f) }
+        (f ≡ ConfigError.OutOfMemory) ⊎ IsIpxnetFault number (table_view table.now) f) }
 {
     refuse_stray(alloc, table, number, Kind::Ipxnet)?;
     let network = network_in(table, number)?;
@@ -93,11 +93,11 @@ pub fn ipxnet_port_in(alloc: Global, table: &Table, number: usize) -> Result<Ipx
         udp_port,
     });
     let node = station_in(table, number, made)?;
-    let clients = count_in(table, number, Key::Clients, MOST_CLIENTS, USUAL_CLIENTS)?;
+    let clients = count_in(table, number, Key::Clients, MAX_CLIENTS, USUAL_CLIENTS)?;
     let accept = accept_in(table, number)?;
     let peers = registering_in(alloc, table, number, accept)?;
     let join = joined_routers_in(alloc, table, number)?;
-    Ok(IpxnetPort {
+    Ok(IpxnetPortConfig {
         network,
         address,
         udp_port,

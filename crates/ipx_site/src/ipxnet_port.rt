@@ -1,15 +1,15 @@
 //! A port of a router for clients of ipxnet, as its file has it.
 
 ghost use Rattle.std.specs.Prelude.{◌≤◌};
-ghost use Rattle.ipx_lobby.specs.LobbyClients.{most_lobby_clients};
+ghost use Rattle.ipxnet_server.specs.ServerClients.{max_server_clients};
 
 use crate::site::Accept;
 use ipx_wire::{Network, Node};
-use ipx_wires::Place;
+use ipx_ethernet_ports::Place;
 
 /// A port of a router for clients of ipxnet, as its file has it.
 #[derive(Drop)]
-pub struct IpxnetPort {
+pub struct IpxnetPortConfig {
     /// The network that it is on, which its clients are told.
     pub network: Network,
     /// The local IP address.
@@ -29,5 +29,5 @@ pub struct IpxnetPort {
     /// Where the routers are whose lobbies are one network with this one.
     pub join: Vec<Place>,
     // So a lobby may have as many.
-    ghost few: { (1 ≤ clients) × (clients ≤ most_lobby_clients) },
+    ghost few: { (1 ≤ clients) × (clients ≤ max_server_clients) },
 }

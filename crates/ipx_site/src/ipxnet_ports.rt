@@ -1,24 +1,24 @@
 //! The ports of a router for clients of ipxnet: their sockets and their lobbies.
 
 ghost use Rattle.std.specs.Prelude.{◌≡◌, ◌++◌, ◌∷◌, [], IfOk, OnOk, map};
-ghost use Rattle.ipx_lobbies.specs.LobbyAddresses.{ips_heard, listed_ips};
-ghost use Rattle.ipx_site.specs.KindPorts.{client_port_of, ipxnet_ports, lobby_of_port, lobby_place, registering_at};
+ghost use Rattle.ipx_ipxnet_ports.specs.ServerAddresses.{ips_heard, listed_ips};
+ghost use Rattle.ipx_site.specs.KindPorts.{client_port_of, ipxnet_ports, server_of_port, server_place, registering_at};
 
-use crate::bind_fault::{BindFault, obstacle_of};
-use crate::ipxnet_port::IpxnetPort;
-use crate::site::{Accept, PortOfKind};
-use ipx_lobbies::{Lobbies, LobbySockets};
-use ipx_lobby::{Lobby, LobbyPort, Place};
-use ipx_wires::Place as EndPlace;
+use crate::bind_fault::{BindFault, bind_error_kind};
+use crate::ipxnet_port::IpxnetPortConfig;
+use crate::site::{Accept, PortConfig};
+use ipx_ipxnet_ports::{Servers, ServerSockets};
+use ipxnet_server::{IpxnetServer, ServerPort, Place};
+use ipx_ethernet_ports::Place as EndPlace;
 use std::alloc::{AllocError, Global};
 use std::io::ErrorKind;
 use std::net::Net;
 
 /// A port of a file as one for clients.
-fn client_port(port: &IpxnetPort) -> LobbyPort
+fn client_port(port: &IpxnetPortConfig) -> ServerPort
     ensures { result ≡ client_port_of port.now }
 {
-    LobbyPort {
+    ServerPort {
         network: port.network,
         own: port.node,
     }
@@ -26,7 +26,7 @@ fn client_port(port: &IpxnetPort) -> LobbyPort
 
 /// Where the joined routers of a port are.
 fn routers_of(alloc: Global, join: &[EndPlace]) -> Result<Vec<Place>, AllocError>
-    ensures { IfOk result (λ v. v.items ≡ map lobby_place join.now) }
+    ensures { IfOk result (λ v. v.items ≡ map server_place join.now) }
 {
     let mut routers = Vec::new(alloc);
     for router in join {
@@ -39,29 +39,29 @@ fn routers_of(alloc: Global, join: &[EndPlace]) -> Result<Vec<Place>, AllocError
 }
 
 /// The lobby of a port, before anybody registered.
-fn lobby_of(alloc: Global, port: &IpxnetPort) -> Result<Lobby, AllocError>
-    ensures { IfOk result (λ l. l ≡ lobby_of_port port.now) }
+fn server_of(alloc: Global, port: &IpxnetPortConfig) -> Result<IpxnetServer, AllocError>
+    ensures { IfOk result (λ l. l ≡ server_of_port port.now) }
 {
     let routers = routers_of(alloc, &port.join)?;
-    Lobby::joined_to(alloc, client_port(port), usize::from(port.clients), routers)
+    IpxnetServer::joined_to(alloc, client_port(port), usize::from(port.clients), routers)
 }
 
 /// The lobby of each port for clients of ipxnet.
-fn lobbies_of_ports(alloc: Global, ports: &[PortOfKind]) -> Result<Vec<Lobby>, AllocError>
-    ensures { IfOk result (λ v. v.items ≡ map lobby_of_port (ipxnet_ports ports.now)) }
+fn servers_of_ports(alloc: Global, ports: &[PortConfig]) -> Result<Vec<IpxnetServer>, AllocError>
+    ensures { IfOk result (λ v. v.items ≡ map server_of_port (ipxnet_ports ports.now)) }
 {
-    let mut lobbies = Vec::new(alloc);
+    let mut servers = Vec::new(alloc);
     for port in ports {
-        if let PortOfKind::Ipxnet(port) = port {
-            let lobby = lobby_of(alloc, port)?;
-            lobbies.push(lobby)?;
+        if let PortConfig::Ipxnet(port) = port {
+            let server = server_of(alloc, port)?;
+            servers.push(server)?;
         }
     }
-    Ok(lobbies)
+    Ok(servers)
 }
 
 /// The IP addresses that are named at a port: of those who may register, and of joined routers.
-fn named_ips(alloc: Global, port: &IpxnetPort) -> Result<Vec<[u8; 4]>, AllocError>
+fn named_ips(alloc: Global, port: &IpxnetPortConfig) -> Result<Vec<[u8; 4]>, AllocError>
     ensures { IfOk result (λ v. v.items ≡ port.now.peers.items ++ map (λ r. r.ip) port.now.join.items) }
 {
     let mut ips = Vec::from_slice(alloc, &port.peers)?;
@@ -72,7 +72,7 @@ fn named_ips(alloc: Global, port: &IpxnetPort) -> Result<Vec<[u8; 4]>, AllocErro
 }
 
 /// From which IP addresses one may register at a port. None stands for each.
-fn registering(alloc: Global, port: &IpxnetPort) -> Result<Option<Vec<[u8; 4]>>, AllocError>
+fn registering(alloc: Global, port: &IpxnetPortConfig) -> Result<Option<Vec<[u8; 4]>>, AllocError>
     ensures { IfOk result (λ ips. listed_ips ips ≡ registering_at port.now) }
 {
     match port.accept {
@@ -82,12 +82,12 @@ fn registering(alloc: Global, port: &IpxnetPort) -> Result<Option<Vec<[u8; 4]>>,
 }
 
 /// Binds the socket of the port with this number behind those of earlier ones.
-fn bind_lobby<R: Net>(
+fn bind_server<R: Net>(
     rt: &R,
     alloc: Global,
-    sockets: &mut LobbySockets,
+    sockets: &mut ServerSockets,
     number: usize,
-    port: &IpxnetPort,
+    port: &IpxnetPortConfig,
 ) -> Result<(), BindFault>
     ensures { OnOk result (map ips_heard sockets.new.sockets.items
         ≡ map ips_heard sockets.old.sockets.items ++ registering_at port.now ∷ []) }
@@ -102,43 +102,43 @@ fn bind_lobby<R: Net>(
     match sockets.bind(rt, at, hears) {
         Ok(()) => Ok(()),
         Err(error) if error.kind() == ErrorKind::OutOfMemory => Err(BindFault::OutOfMemory),
-        Err(error) => Err(BindFault::Port(number, obstacle_of(error.kind()))),
+        Err(error) => Err(BindFault::Port(number, bind_error_kind(error.kind()))),
     }
 }
 
 /// The sockets of the ports for clients of ipxnet. At the first that can't be had it answers that
 /// port, and nothing stays bound.
-fn bind_lobbies<R: Net>(
+fn bind_servers<R: Net>(
     rt: &R,
     alloc: Global,
-    ports: &[PortOfKind],
-) -> Result<LobbySockets, BindFault>
+    ports: &[PortConfig],
+) -> Result<ServerSockets, BindFault>
     ensures { IfOk result (λ s. map ips_heard s.sockets.items
         ≡ map registering_at (ipxnet_ports ports.now)) }
 {
-    let mut sockets = LobbySockets::new(alloc);
+    let mut sockets = ServerSockets::new(alloc);
     for (place, port) in ports.iter().enumerate() {
-        if let PortOfKind::Ipxnet(port) = port {
-            bind_lobby(rt, alloc, &mut sockets, place + 1, port)?;
+        if let PortConfig::Ipxnet(port) = port {
+            bind_server(rt, alloc, &mut sockets, place + 1, port)?;
         }
     }
     Ok(sockets)
 }
 
 /// The ports for clients of ipxnet among these, with their sockets bound and their lobbies.
-pub fn lobbies_of<R: Net>(
+pub fn servers_of<R: Net>(
     rt: &R,
     alloc: Global,
-    ports: &[PortOfKind],
-) -> Result<Lobbies<LobbySockets>, BindFault>
-    ensures lobbies { IfOk result (λ l. l.lobbies.items
-        ≡ map lobby_of_port (ipxnet_ports ports.now)) }
+    ports: &[PortConfig],
+) -> Result<Servers<ServerSockets>, BindFault>
+    ensures servers { IfOk result (λ l. l.servers.items
+        ≡ map server_of_port (ipxnet_ports ports.now)) }
     ensures registering { IfOk result (λ l. map ips_heard l.sockets.sockets.items
         ≡ map registering_at (ipxnet_ports ports.now)) }
 {
-    let Ok(lobbies) = lobbies_of_ports(alloc, ports) else {
+    let Ok(servers) = servers_of_ports(alloc, ports) else {
         return Err(BindFault::OutOfMemory);
     };
-    let sockets = bind_lobbies(rt, alloc, ports)?;
-    Ok(Lobbies::new(sockets, lobbies))
+    let sockets = bind_servers(rt, alloc, ports)?;
+    Ok(Servers::new(sockets, servers))
 }

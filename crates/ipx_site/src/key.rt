@@ -26,7 +26,7 @@ pub enum Key {
     Frame,
     Ends,
     Node,
-    Hub,
+    Switch,
     Clients,
     Join,
     Route,
@@ -63,7 +63,7 @@ impl Key {
             Key::Frame => "frame",
             Key::Ends => "ends",
             Key::Node => "node",
-            Key::Hub => "hub",
+            Key::Switch => "hub",
             Key::Clients => "clients",
             Key::Join => "join",
             Key::Route => "route",
@@ -101,7 +101,7 @@ impl Key {
             Key::Frame => "\"802.3\", \"802.2\", \"snap\" or \"ethernet-ii\"",
             Key::Ends => "a list of 1 to 256 places, as [\"127.0.0.1:24001\"]",
             Key::Node => "the address of one station, as \"02:00:00:00:00:22\"",
-            Key::Hub => "true or false",
+            Key::Switch => "true or false",
             Key::Clients => "a number from 1 to 150, as 64",
             Key::Join => "a list of 1 to 256 places, each once, as [\"198.51.100.7:2130\"]",
             Key::Route => "at most 256 tables, each begun by [[route]]",
@@ -148,7 +148,7 @@ const FRAMES_KEYS: [Key; 9] = [
     Key::Cost,
     Key::Ends,
     Key::Node,
-    Key::Hub,
+    Key::Switch,
 ];
 
 /// And those of a port for clients of ipxnet.
@@ -171,7 +171,7 @@ const NOT_RFC1234_KEYS: [Key; 6] = [
     Key::Frame,
     Key::Ends,
     Key::Node,
-    Key::Hub,
+    Key::Switch,
     Key::Clients,
     Key::Join,
 ];
@@ -184,7 +184,7 @@ const NOT_FRAMES_KEYS: [Key; 5] = [
     Key::Join,
 ];
 
-const NOT_IPXNET_KEYS: [Key; 4] = [Key::Routers, Key::Frame, Key::Ends, Key::Hub];
+const NOT_IPXNET_KEYS: [Key; 4] = [Key::Routers, Key::Frame, Key::Ends, Key::Switch];
 
 /// The keys of a port of this kind.
 pub fn keys_of_kind(kind: Kind) -> &'static [Key]

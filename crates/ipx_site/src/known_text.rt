@@ -3,7 +3,7 @@
 ghost use Rattle.std.specs.Prelude.{IfOk, string_bytes};
 ghost use Rattle.ipx_site.specs.KnownFile.{TellsKnown};
 
-use ipx_known::tables_to_text;
+use ipx_table_dump::tables_to_text;
 use ipx_router::Router;
 use std::alloc::{AllocError, Global};
 

@@ -1,7 +1,7 @@
 //! Moments at which something is to be done, and how long it is to them.
 
 ghost use Rattle.std.specs.Prelude.{◌↔◌, ◌<◌, ◌^◌, ◌⊎◌, ℕ, IsTrue};
-ghost use Rattle.ipx_site.specs.Leisure.{IsLeisure};
+ghost use Rattle.ipx_site.specs.IdleTime.{IsTimeUntilDue};
 ghost use Rattle.ipx_site.specs.Moments.{HasPassed, IsReached};
 
 /// How long a router waits at most, in milliseconds.
@@ -41,7 +41,7 @@ pub fn sooner(a: Option<u64>, b: Option<u64>) -> Option<u64>
 
 /// How long it is from now to a moment, where there is one; the longest wait at most.
 pub fn time_to(moment: Option<u64>, now: u64) -> u64
-    ensures { IsLeisure (IsReached moment) now result }
+    ensures { IsTimeUntilDue (IsReached moment) now result }
 {
     match moment {
         None => LONGEST,

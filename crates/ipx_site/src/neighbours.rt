@@ -4,7 +4,7 @@ ghost use Rattle.std.specs.Prelude.{IfOk};
 ghost use Rattle.toml.specs.View.{view};
 ghost use Rattle.ipx_site.specs.Neighbours.{AreAmong, AreNeighbours, ReadsList};
 
-use crate::origin::MOST_ENTRIES;
+use crate::allowed_peer::MAX_ENTRIES;
 use crate::values::{addresses_of, are_among};
 use ipx_wire::OutOfMemory;
 use std::alloc::Global;
@@ -17,7 +17,7 @@ pub fn neighbours_of(alloc: Global, value: &Value) -> Result<Option<Vec<[u8; 4]>
     let Some(values) = value.as_array() else {
         return Ok(None);
     };
-    if values.len() > MOST_ENTRIES {
+    if values.len() > MAX_ENTRIES {
         return Ok(None);
     }
     addresses_of(alloc, values)

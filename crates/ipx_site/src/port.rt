@@ -2,28 +2,28 @@
 
 ghost use Rattle.std.specs.Prelude.{◌≡◌, ◌⊎◌, IfErr, IfOk};
 ghost use Rattle.toml.specs.View.{table_view};
-ghost use Rattle.ipx_site.specs.FramesTable.{IsFramesFault, IsFramesTable, IsKindFault, IsPortOfKind};
+ghost use Rattle.ipx_site.specs.EthernetTable.{IsFramesFault, IsFramesTable, IsKindFault, IsPortOfKind};
 ghost use Rattle.ipx_site.specs.Port.{IsPortTable, IsPortFault};
 
-use crate::fault::FileFault;
+use crate::fault::ConfigError;
 use crate::fields::{
     accept_in, address_in, count_in, kind_in, network_in, peers_in, port_routers_in, refuse_stray,
 };
 use crate::ipxnet_fields::ipxnet_port_in;
 use crate::key::Key;
-use crate::site::{FramesPort, Kind, PortOfKind, SitePort};
-use crate::wire_fields::{encapsulation_in, ends_in, joined_in, required_count_in, station_in};
-use crate::wire_values::station_at;
+use crate::site::{EthernetPortConfig, Kind, PortConfig, Rfc1234PortConfig};
+use crate::ethernet_fields::{encapsulation_in, ends_in, joined_in, required_count_in, station_in};
+use crate::ethernet_values::station_at;
 use ipx_carrier::UDP_PORT;
-use ipx_wires::Place;
+use ipx_ethernet_ports::Place;
 use std::alloc::Global;
 use toml::Table;
 
 /// The port of RFC 1234 of a table with this number.
-fn rfc1234_port(alloc: Global, table: &Table, number: usize) -> Result<SitePort, FileFault>
+fn rfc1234_port(alloc: Global, table: &Table, number: usize) -> Result<Rfc1234PortConfig, ConfigError>
     ensures port { IfOk result (IsPortTable (table_view table.now)) }
     ensures fault { IfErr result (λ f.
-        (f ≡ FileFault.OutOfMemory) ⊎ IsPortFault number (table_view table.now) f) }
+        (f ≡ ConfigError.OutOfMemory) ⊎ IsPortFault number (table_view table.now) f) }
 {
     refuse_stray(alloc, table, number, Kind::Rfc1234)?;
     let network = network_in(table, number)?;
@@ -33,7 +33,7 @@ fn rfc1234_port(alloc: Global, table: &Table, number: usize) -> Result<SitePort,
     let peers = peers_in(alloc, table, number)?;
     let routers = port_routers_in(alloc, table, number, &peers)?;
     let accept = accept_in(table, number)?;
-    Ok(SitePort {
+    Ok(Rfc1234PortConfig {
         network,
         address,
         udp_port,
@@ -45,10 +45,10 @@ fn rfc1234_port(alloc: Global, table: &Table, number: usize) -> Result<SitePort,
 }
 
 /// The port on a wire of a table with this number.
-fn frames_port(alloc: Global, table: &Table, number: usize) -> Result<FramesPort, FileFault>
+fn frames_port(alloc: Global, table: &Table, number: usize) -> Result<EthernetPortConfig, ConfigError>
     ensures port { IfOk result (IsFramesTable (table_view table.now)) }
     ensures fault { IfErr result (λ f.
-        (f ≡ FileFault.OutOfMemory) ⊎ IsFramesFault number (table_view table.now) f) }
+        (f ≡ ConfigError.OutOfMemory) ⊎ IsFramesFault number (table_view table.now) f) }
 {
     refuse_stray(alloc, table, number, Kind::Frames)?;
     let network = network_in(table, number)?;
@@ -63,7 +63,7 @@ fn frames_port(alloc: Global, table: &Table, number: usize) -> Result<FramesPort
     });
     let node = station_in(table, number, made)?;
     let joined = joined_in(table, number)?;
-    Ok(FramesPort {
+    Ok(EthernetPortConfig {
         network,
         encapsulation,
         address,
@@ -76,14 +76,14 @@ fn frames_port(alloc: Global, table: &Table, number: usize) -> Result<FramesPort
 }
 
 /// The port of a table with this number.
-pub fn port_of(alloc: Global, table: &Table, number: usize) -> Result<PortOfKind, FileFault>
+pub fn port_of(alloc: Global, table: &Table, number: usize) -> Result<PortConfig, ConfigError>
     ensures port { IfOk result (IsPortOfKind (table_view table.now)) }
     ensures fault { IfErr result (λ f.
-        (f ≡ FileFault.OutOfMemory) ⊎ IsKindFault number (table_view table.now) f) }
+        (f ≡ ConfigError.OutOfMemory) ⊎ IsKindFault number (table_view table.now) f) }
 {
     match kind_in(table, number)? {
-        Kind::Rfc1234 => Ok(PortOfKind::Rfc1234(rfc1234_port(alloc, table, number)?)),
-        Kind::Frames => Ok(PortOfKind::Frames(frames_port(alloc, table, number)?)),
-        Kind::Ipxnet => Ok(PortOfKind::Ipxnet(ipxnet_port_in(alloc, table, number)?)),
+        Kind::Rfc1234 => Ok(PortConfig::Rfc1234(rfc1234_port(alloc, table, number)?)),
+        Kind::Frames => Ok(PortConfig::Frames(frames_port(alloc, table, number)?)),
+        Kind::Ipxnet => Ok(PortConfig::Ipxnet(ipxnet_port_in(alloc, table, number)?)),
     }
 }

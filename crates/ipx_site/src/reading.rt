@@ -5,16 +5,16 @@ ghost use Rattle.toml.specs.Data.{Data, Items};
 ghost use Rattle.toml.specs.View.{items_view, table_view, view};
 ghost use Rattle.ipx_router.specs.NewRouter.{IsOwnNetwork};
 ghost use Rattle.ipx_site.specs.Fields.{Holds, IsFault, Reads};
-ghost use Rattle.ipx_site.specs.HandLists.{HearsAtPorts};
+ghost use Rattle.ipx_site.specs.StaticLists.{HearsAtPorts};
 ghost use Rattle.ipx_site.specs.SitePorts.{router_ports};
 ghost use Rattle.ipx_site.specs.Site.{ArePorts, IsFirstFault, IsPortItem, IsPortItemFault, IsPortList, IsSite, IsSiteFault, IsSiteText, IsSiteTextFault, IsTwin, is_few, twin_place};
 
-use crate::fault::FileFault;
+use crate::fault::ConfigError;
 use crate::fields::{file_name_in, other_file_name_in, refuse_unknown, required};
-use crate::hand_lists::by_hand_in;
+use crate::static_lists::statics_in;
 use crate::key::Key;
 use crate::port::port_of;
-use crate::site::{PortOfKind, SiteFile};
+use crate::site::{PortConfig, RouterConfig};
 use crate::toml_text::table_of;
 use std::alloc::Global;
 use toml::{Table, Value};
@@ -29,19 +29,19 @@ const KEYS: [Key; 5] = [
 ];
 
 /// The port that a value describes.
-fn item_of(alloc: Global, value: &Value, number: usize) -> Result<PortOfKind, FileFault>
+fn item_of(alloc: Global, value: &Value, number: usize) -> Result<PortConfig, ConfigError>
     ensures port { IfOk result (IsPortItem (view value.now)) }
     ensures fault { IfErr result (λ f.
-        (f ≡ FileFault.OutOfMemory) ⊎ IsPortItemFault number (view value.now) f) }
+        (f ≡ ConfigError.OutOfMemory) ⊎ IsPortItemFault number (view value.now) f) }
 {
     match value.as_table() {
         Some(table) => port_of(alloc, table, number),
-        None => Err(FileFault::Wrong(number, Key::Port)),
+        None => Err(ConfigError::Wrong(number, Key::Port)),
     }
 }
 
 /// The place of the first of these ports that is on the network of another.
-fn place_of_twin(earlier: &[PortOfKind], port: &PortOfKind) -> Option<usize>
+fn place_of_twin(earlier: &[PortConfig], port: &PortConfig) -> Option<usize>
     ensures { result ≡ twin_place earlier.now port.now }
 {
     let network = port.network();
@@ -49,22 +49,22 @@ fn place_of_twin(earlier: &[PortOfKind], port: &PortOfKind) -> Option<usize>
 }
 
 /// Refuses a port on the network of an earlier one.
-fn refuse_twin(earlier: &[PortOfKind], port: &PortOfKind, number: usize) -> Result<(), FileFault>
+fn refuse_twin(earlier: &[PortConfig], port: &PortConfig, number: usize) -> Result<(), ConfigError>
     requires { length earlier.now < 2 ^ 63 }
     ensures alone { OnOk result (twin_place earlier.now port.now ≡ None) }
     ensures twin { IfErr result (IsTwin earlier.now number port.now) }
 {
     match place_of_twin(earlier, port) {
-        Some(place) => Err(FileFault::Twin(number, port.network(), place + 1)),
+        Some(place) => Err(ConfigError::Twin(number, port.network(), place + 1)),
         None => Ok(()),
     }
 }
 
 /// The ports that values describe, in order.
-fn ports_of(alloc: Global, values: &[Value]) -> Result<Vec<PortOfKind>, FileFault>
+fn ports_of(alloc: Global, values: &[Value]) -> Result<Vec<PortConfig>, ConfigError>
     ensures ports { IfOk result (λ v. ArePorts [] (items_view values.now) v.items) }
     ensures fault { IfErr result (λ f.
-        (f ≡ FileFault.OutOfMemory) ⊎ IsFirstFault [] 1 (items_view values.now) f) }
+        (f ≡ ConfigError.OutOfMemory) ⊎ IsFirstFault [] 1 (items_view values.now) f) }
 {
     let mut ports = Vec::new(alloc);
     for value in values {
@@ -96,49 +96,49 @@ fn listed(value: &Value) -> Option<&[Value]>
 }
 
 /// The values that describe ports.
-fn port_values(table: &Table) -> Result<&[Value], FileFault>
+fn port_values(table: &Table) -> Result<&[Value], ConfigError>
     ensures { MatchResult result
         (λ vs. Holds IsPortList Key.Port (table_view table.now) (items_view vs.now))
         (IsFault IsPortList Key.Port (table_view table.now) 0) }
 {
     match listed(required(table, 0, Key::Port)?) {
         Some(values) => Ok(values),
-        None => Err(FileFault::Wrong(0, Key::Port)),
+        None => Err(ConfigError::Wrong(0, Key::Port)),
     }
 }
 
-fn site_of(alloc: Global, table: &Table) -> Result<SiteFile, FileFault>
+fn site_of(alloc: Global, table: &Table) -> Result<RouterConfig, ConfigError>
     ensures site { IfOk result (IsSite (table_view table.now)) }
     ensures own { IfOk result (λ s. All IsOwnNetwork (router_ports s.ports.items)) }
     ensures there { IfOk result HearsAtPorts }
     ensures fault { IfErr result (λ f.
-        (f ≡ FileFault.OutOfMemory) ⊎ IsSiteFault (table_view table.now) f) }
+        (f ≡ ConfigError.OutOfMemory) ⊎ IsSiteFault (table_view table.now) f) }
 {
     refuse_unknown(alloc, table, 0, &KEYS)?;
     let status = file_name_in(alloc, table, Key::Status)?;
     let tables = other_file_name_in(alloc, table, Key::Tables, &status)?;
     let values = port_values(table)?;
     let ports = ports_of(alloc, values)?;
-    let by_hand = by_hand_in(alloc, table, &ports)?;
-    Ok(SiteFile {
+    let statics = statics_in(alloc, table, &ports)?;
+    Ok(RouterConfig {
         status,
         tables,
         ports,
-        by_hand,
+        statics,
     })
 }
 
 /// Reads the text of a router's file, or answers its first fault: ports are read in the order of
 /// the file, and of each table first its `kind` is told, then a name that is no key of that kind, and
 /// then its keys in the order of the documents. Behind them come routes, and then services.
-pub fn read_site(alloc: Global, text: &str) -> Result<SiteFile, FileFault>
+pub fn read_site(alloc: Global, text: &str) -> Result<RouterConfig, ConfigError>
     ensures site { IfOk result (IsSiteText text.now) }
     // What `Router::new` is owed of its ports.
     ensures own { IfOk result (λ s. All IsOwnNetwork (router_ports s.ports.items)) }
-    // What `ByHand::new` is owed.
+    // What `WithStatics::new` is owed.
     ensures there { IfOk result HearsAtPorts }
     ensures fault { IfErr result (λ f.
-        (f ≡ FileFault.OutOfMemory) ⊎ IsSiteTextFault text.now f) }
+        (f ≡ ConfigError.OutOfMemory) ⊎ IsSiteTextFault text.now f) }
 {
     let table = table_of(alloc, text)?;
     site_of(alloc, &table)

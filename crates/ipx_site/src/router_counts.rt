@@ -2,20 +2,20 @@
 
 ghost use Rattle.std.specs.Prelude.{◌≡◌};
 ghost use Rattle.ipx_carrier.specs.Counting.{counted, raised};
-ghost use Rattle.ipx_carrier.specs.OutcomeCounts.{outcomes_in};
-ghost use Rattle.ipx_site.specs.Leisure.{happened, happened_in, lost_in};
-ghost use Rattle.ipx_site.specs.RouterFigures.{AreFigures, no_counts, with_burst, with_memory_fault};
+ghost use Rattle.ipx_carrier.specs.OutcomeCounters.{outcomes_in};
+ghost use Rattle.ipx_site.specs.IdleTime.{happened, happened_in, lost_in};
+ghost use Rattle.ipx_site.specs.RouterMetrics.{AreMetrics, no_counts, with_batch, with_memory_fault};
 
-use crate::figures::Figures;
-use crate::router_ports::SiteRouterPorts;
-use crate::sparing::Sparing;
-use crate::watch::Known;
-use crate::wire_totals::{in_other_encapsulations, unframed};
-use ipx_by_hand::ByHand;
-use ipx_carrier::{Burst, OutcomeCounts, RunFault, raise};
-use ipx_figures::CountedRouter;
-use ipx_lobbies::PlaceSockets;
-use ipx_wires::EndSockets;
+use crate::metrics::Metrics;
+use crate::router_ports::UdpRouterPorts;
+use crate::query_limiter::QueryLimiter;
+use crate::route_change_log::RouteChangeLog;
+use crate::ethernet_totals::{in_other_encapsulations, unframed};
+use ipx_static::WithStatics;
+use ipx_carrier::{Batch, OutcomeCounters, RunFault, saturating_increment};
+use ipx_metrics::MeteredRouter;
+use ipx_ipxnet_ports::PlaceSockets;
+use ipx_ethernet_ports::EndSockets;
 
 /// What a router that runs counts itself. Each count stays at the greatest u64.
 #[derive(Clone, Copy, Debug, PartialEq, Eq)]
@@ -27,25 +27,25 @@ pub struct RouterCounts {
 }
 
 /// How many datagrams were heard: each became something.
-fn heard_in(fates: &OutcomeCounts) -> u64
-    ensures { result ≡ counted (outcomes_in fates.now) }
+fn heard_in(outcomes: &OutcomeCounters) -> u64
+    ensures { result ≡ counted (outcomes_in outcomes.now) }
 {
-    u64::try_from(fates.total()).unwrap_or(u64::MAX)
+    u64::try_from(outcomes.total()).unwrap_or(u64::MAX)
 }
 
 /// How often the system refused a datagram or a frame.
-fn faults_of(ports: &SiteRouterPorts) -> u64
+fn faults_of(ports: &UdpRouterPorts) -> u64
     ensures { result ≡ counted (lost_in ports.now) }
 {
-    let wires = ports.wires().sockets();
-    let lobbies = ports.lobbies().sockets();
+    let ethernet = ports.ethernet().sockets();
+    let servers = ports.servers().sockets();
     let device = ports.device().device();
     device
         .faults()
-        .saturating_add(wires.failures())
-        .saturating_add(wires.faults())
-        .saturating_add(lobbies.failures())
-        .saturating_add(lobbies.faults())
+        .saturating_add(ethernet.failures())
+        .saturating_add(ethernet.faults())
+        .saturating_add(servers.failures())
+        .saturating_add(servers.faults())
 }
 
 impl RouterCounts {
@@ -61,12 +61,12 @@ impl RouterCounts {
     }
 
     /// Counts what a burst did not send, and what ended it.
-    pub fn add(&mut self, burst: Burst)
-        ensures { self.new ≡ with_burst burst self.old }
+    pub fn add(&mut self, batch: Batch)
+        ensures { self.new ≡ with_batch batch self.old }
     {
-        self.unmapped = self.unmapped.saturating_add(burst.unmapped);
-        match burst.fault {
-            Some(RunFault::Device) => raise(&mut self.device_faults),
+        self.unmapped = self.unmapped.saturating_add(batch.unmapped);
+        match batch.fault {
+            Some(RunFault::Device) => saturating_increment(&mut self.device_faults),
             Some(RunFault::OutOfMemory) => self.want_memory(),
             None => {}
         }
@@ -75,41 +75,41 @@ impl RouterCounts {
     pub fn want_memory(&mut self)
         ensures { self.new ≡ with_memory_fault self.old }
     {
-        raise(&mut self.memory_faults);
+        saturating_increment(&mut self.memory_faults);
     }
 
     pub fn fail_file(&mut self)
         ensures { self.new ≡ record self.old { file_faults = raised self.old.file_faults } }
     {
-        raise(&mut self.file_faults);
+        saturating_increment(&mut self.file_faults);
     }
 
     /// All figures of a router, at a moment in milliseconds since its start.
-    pub fn figures(
+    pub fn metrics(
         &self,
-        core: &Sparing<ByHand<CountedRouter>>,
-        ports: &SiteRouterPorts,
-        known: &Known,
+        core: &QueryLimiter<WithStatics<MeteredRouter>>,
+        ports: &UdpRouterPorts,
+        known: &RouteChangeLog,
         now: u64,
-    ) -> Figures
+    ) -> Metrics
         ensures happened { happened_in result ≡ happened self.now core.now ports.now }
-        ensures figures { AreFigures self.now core.now ports.now known.now now result }
+        ensures metrics { AreMetrics self.now core.now ports.now known.now now result }
     {
-        let fates = core.core().core().fates();
+        let outcomes = core.core().core().outcomes();
         let device = ports.device();
-        let hubs = ports.wires().hubs();
-        Figures {
-            heard: heard_in(&fates),
+        let switches = ports.ethernet().switches();
+        Metrics {
+            heard: heard_in(&outcomes),
             sent: device.device().sent(),
-            fates,
+            outcomes,
             queue_full: core.core().core().dropped(),
             unmapped: self.unmapped,
             kept: device.kept(),
-            too_often: core.kept(),
+            rate_limited: core.kept(),
             refused: device.refused(),
-            frame_strangers: ports.wires().sockets().strangers(),
-            unframed: unframed(hubs),
-            other_encapsulation: in_other_encapsulations(hubs),
+            frame_unknown_senders: ports.ethernet().sockets().unknown_senders(),
+            unframed: unframed(switches),
+            other_encapsulation: in_other_encapsulations(switches),
             device_faults: self.device_faults.saturating_add(faults_of(ports)),
             memory_faults: self.memory_faults,
             file_faults: self.file_faults,

@@ -3,32 +3,32 @@
 ghost use Rattle.std.specs.Prelude.{◌≡◌, ◌≤◌, ◌+◌, [], None, All, IfErr, IfOk, OnOk, is_ok, if◌then◌else◌, length, map};
 ghost use Rattle.ipx_router.specs.NewRouter.{IsOwnNetwork};
 ghost use Rattle.ipx_router.specs.Ports.{IsPortNumber};
-ghost use Rattle.ipx_by_hand.specs.HandWords.{AreWordsOf};
+ghost use Rattle.ipx_static.specs.StaticAdvertisements.{AreWordsOf};
 ghost use Rattle.ipx_carrier.specs.Turns.{peers_of};
 ghost use Rattle.ipx_carrier.specs.Counting.{counted};
-ghost use Rattle.ipx_site.specs.KindPorts.{ArePortsBound, datagram_ports, spots_of};
-ghost use Rattle.ipx_site.specs.HandLists.{HearsAtPorts};
-ghost use Rattle.ipx_site.specs.SilentSite.{IsToHear};
-ghost use Rattle.ipx_site.specs.SitePorts.{GuardPorts, access_by, access_of, heard_at_port, named, router_ports, site_peers, udp_ports};
+ghost use Rattle.ipx_site.specs.KindPorts.{ArePortsBound, datagram_ports, port_indices_of};
+ghost use Rattle.ipx_site.specs.StaticLists.{HearsAtPorts};
+ghost use Rattle.ipx_site.specs.StaticNeighbours.{IsToHear};
+ghost use Rattle.ipx_site.specs.SitePorts.{AccessListPorts, access_by, access_of, heard_at_port, named, router_ports, site_peers, udp_ports};
 
 use crate::bind_fault::BindFault;
 use crate::clock::SteadyClock;
 use crate::files::load_site;
-use crate::ipxnet_ports::lobbies_of;
-use crate::peers::{Guard, PeersOnly};
-use crate::readiness::{Readiness, WaitFault};
-use crate::room::{SOCKET_ROOM, ask_room};
-use crate::router_ports::{RouterPorts, SiteRouterPorts, Spot};
+use crate::ipxnet_ports::servers_of;
+use crate::source_filter::{AccessList, SourceFilter};
+use crate::poller::{Poller, WaitFault};
+use crate::rcvbuf::{RCVBUF_SIZE, set_rcvbuf};
+use crate::router_ports::{RouterPorts, UdpRouterPorts, PortIndex};
 use crate::running_router::{Parts, RunningRouter};
-use crate::silent::silent_of;
-use crate::site::{Accept, PortOfKind, SiteFile, SitePort};
-use crate::sockets::SiteSockets;
-use crate::sparing::Sparing;
+use crate::static_neighbours::silent_of;
+use crate::site::{Accept, PortConfig, RouterConfig, Rfc1234PortConfig};
+use crate::sockets::UdpSockets;
+use crate::query_limiter::QueryLimiter;
 use crate::start_lines::ports_to_texts;
-use crate::wire_ports::wires_of;
-use ipx_by_hand::{ByHand, SilentNeighbour};
+use crate::ethernet_ports::ethernet_ports_of;
+use ipx_static::{WithStatics, StaticNeighbour};
 use ipx_carrier::OnPeers;
-use ipx_figures::CountedRouter;
+use ipx_metrics::MeteredRouter;
 use ipx_router::{NewFault, Port, Router};
 use log::{Log, info, warn};
 use std::alloc::{AllocError, Global};
@@ -50,13 +50,13 @@ enum RouteFault {
     New(#[from] NewFault),
 }
 
-fn own_ports(alloc: Global, ports: &[PortOfKind]) -> Result<Vec<Port>, AllocError>
+fn own_ports(alloc: Global, ports: &[PortConfig]) -> Result<Vec<Port>, AllocError>
     ensures { IfOk result (λ v. v.items ≡ router_ports ports.now) }
 {
-    ports.iter().map(PortOfKind::router_port).collect(alloc)
+    ports.iter().map(PortConfig::router_port).collect(alloc)
 }
 
-fn router_of(alloc: Global, ports: &[PortOfKind]) -> Result<Router, RouteFault>
+fn router_of(alloc: Global, ports: &[PortConfig]) -> Result<Router, RouteFault>
     requires { All IsOwnNetwork (router_ports ports.now) }
     ensures { IfOk result (λ r. r.ports ≡ router_ports ports.now) }
 {
@@ -67,17 +67,17 @@ fn router_of(alloc: Global, ports: &[PortOfKind]) -> Result<Router, RouteFault>
 
 /// A router as a core, which counts by port, and is to hear by hand what these neighbours are to have
 /// said.
-fn hearing_by_hand(
+fn hearing_statics(
     alloc: Global,
     router: Router,
-    silent: &[SilentNeighbour],
-) -> Result<ByHand<CountedRouter>, AllocError>
+    silent: &[StaticNeighbour],
+) -> Result<WithStatics<MeteredRouter>, AllocError>
     requires { All (λ n. IsPortNumber (length router.ports) n.port) silent.now }
     ensures router { IfOk result (λ c. c.core.router ≡ router) }
-    ensures by_hand { IfOk result (λ c. AreWordsOf silent.now c.words × (c.said ≡ None)) }
+    ensures statics { IfOk result (λ c. AreWordsOf silent.now c.words × (c.said ≡ None)) }
 {
-    let counted = CountedRouter::new(alloc, router)?;
-    let Ok(core) = ByHand::new(alloc, counted, silent) else {
+    let counted = MeteredRouter::new(alloc, router)?;
+    let Ok(core) = WithStatics::new(alloc, counted, silent) else {
         return Err(AllocError);
     };
     Ok(core)
@@ -86,56 +86,56 @@ fn hearing_by_hand(
 /// The core of a router, which answers in turn who asks for all that it knows, and hears by hand.
 fn core_of(
     alloc: Global,
-    ports: &[PortOfKind],
-    silent: &[SilentNeighbour],
-) -> Result<Sparing<ByHand<CountedRouter>>, RouteFault>
+    ports: &[PortConfig],
+    silent: &[StaticNeighbour],
+) -> Result<QueryLimiter<WithStatics<MeteredRouter>>, RouteFault>
     requires own { All IsOwnNetwork (router_ports ports.now) }
     requires there { All (λ n. IsPortNumber (length ports.now) n.port) silent.now }
     ensures router { IfOk result (λ c. c.core.core.router.ports ≡ router_ports ports.now) }
-    ensures by_hand { IfOk result (λ c. AreWordsOf silent.now c.core.words
+    ensures statics { IfOk result (λ c. AreWordsOf silent.now c.core.words
         × (c.core.said ≡ None)) }
     ensures ports { IfOk result (λ c. c.ports ≡ router_ports ports.now) }
-    ensures fresh { IfOk result (λ c. (c.askers.askers ≡ []) × (c.askers.back ≡ 0)) }
+    ensures fresh { IfOk result (λ c. (c.queriers.queriers ≡ []) × (c.queriers.back ≡ 0)) }
 {
     let own = own_ports(alloc, ports)?;
     let router = router_of(alloc, ports)?;
-    let core = hearing_by_hand(alloc, router, silent)?;
-    let core = Sparing::new(alloc, core, own)?;
+    let core = hearing_statics(alloc, router, silent)?;
+    let core = QueryLimiter::new(alloc, core, own)?;
     Ok(core)
 }
 
 /// The core of the router of a file.
 fn core_of_file(
     alloc: Global,
-    site: &SiteFile,
-) -> Result<Sparing<ByHand<CountedRouter>>, RouteFault>
+    site: &RouterConfig,
+) -> Result<QueryLimiter<WithStatics<MeteredRouter>>, RouteFault>
     requires own { All IsOwnNetwork (router_ports site.now.ports.items) }
     requires there { HearsAtPorts site.now }
     ensures router { IfOk result (λ c.
         c.core.core.router.ports ≡ router_ports site.now.ports.items) }
-    ensures by_hand { IfOk result (λ c. IsToHear site.now.by_hand.items c.core) }
+    ensures statics { IfOk result (λ c. IsToHear site.now.statics.items c.core) }
     ensures ports { IfOk result (λ c. c.ports ≡ router_ports site.now.ports.items) }
-    ensures fresh { IfOk result (λ c. (c.askers.askers ≡ []) × (c.askers.back ≡ 0)) }
+    ensures fresh { IfOk result (λ c. (c.queriers.queriers ≡ []) × (c.queriers.back ≡ 0)) }
 {
-    let silent = silent_of(alloc, &site.by_hand)?;
+    let silent = silent_of(alloc, &site.statics)?;
     let core = core_of(alloc, &site.ports, &silent)?;
     Ok(core)
 }
 
 /// The peers of a port.
-fn port_peers(alloc: Global, port: &SitePort) -> Result<Vec<[u8; 4]>, AllocError>
+fn port_peers(alloc: Global, port: &Rfc1234PortConfig) -> Result<Vec<[u8; 4]>, AllocError>
     ensures { IfOk result (λ v. v.items ≡ port.now.peers.items) }
 {
     Vec::from_slice(alloc, &port.peers)
 }
 
 /// The peers of each port of RFC 1234.
-fn peers_by_port(alloc: Global, ports: &[PortOfKind]) -> Result<Vec<Vec<[u8; 4]>>, AllocError>
+fn peers_by_port(alloc: Global, ports: &[PortConfig]) -> Result<Vec<Vec<[u8; 4]>>, AllocError>
     ensures { IfOk result (λ v. peers_of v.items ≡ site_peers (datagram_ports ports.now)) }
 {
     let mut lists = Vec::new(alloc);
     for port in ports {
-        if let PortOfKind::Rfc1234(port) = port {
+        if let PortConfig::Rfc1234(port) = port {
             let peers = port_peers(alloc, port)?;
             lists.push(peers)?;
         }
@@ -144,7 +144,7 @@ fn peers_by_port(alloc: Global, ports: &[PortOfKind]) -> Result<Vec<Vec<[u8; 4]>
 }
 
 /// Who is heard at a port.
-fn port_hears(alloc: Global, port: &SitePort) -> Result<Option<Vec<[u8; 4]>>, AllocError>
+fn port_hears(alloc: Global, port: &Rfc1234PortConfig) -> Result<Option<Vec<[u8; 4]>>, AllocError>
     ensures { IfOk result (λ ips. named ips ≡ heard_at_port port.now.accept port.now.peers.items) }
 {
     match port.accept {
@@ -154,7 +154,7 @@ fn port_hears(alloc: Global, port: &SitePort) -> Result<Option<Vec<[u8; 4]>>, Al
 }
 
 /// Who of the peers of a port is a router, where they are named.
-fn port_routers(alloc: Global, port: &SitePort) -> Result<Option<Vec<[u8; 4]>>, AllocError>
+fn port_routers(alloc: Global, port: &Rfc1234PortConfig) -> Result<Option<Vec<[u8; 4]>>, AllocError>
     ensures { IfOk result (λ ips. named ips ≡ named port.now.routers) }
 {
     match &port.routers {
@@ -164,13 +164,13 @@ fn port_routers(alloc: Global, port: &SitePort) -> Result<Option<Vec<[u8; 4]>>, 
 }
 
 /// The guard of a port.
-fn guard_of(alloc: Global, port: &SitePort) -> Result<Guard, AllocError>
+fn access_list_of(alloc: Global, port: &Rfc1234PortConfig) -> Result<AccessList, AllocError>
     ensures { IfOk result (λ g. access_by g ≡ access_of port.now) }
 {
     let sends = Some(port_peers(alloc, port)?);
     let hears = port_hears(alloc, port)?;
     let routers = port_routers(alloc, port)?;
-    Ok(Guard {
+    Ok(AccessList {
         network: port.network,
         sends,
         hears,
@@ -179,53 +179,53 @@ fn guard_of(alloc: Global, port: &SitePort) -> Result<Guard, AllocError>
 }
 
 /// The guard of each port of RFC 1234.
-fn guards_of(alloc: Global, ports: &[PortOfKind]) -> Result<Vec<Guard>, AllocError>
-    ensures { IfOk result (λ v. GuardPorts (datagram_ports ports.now) v.items) }
+fn access_lists_of(alloc: Global, ports: &[PortConfig]) -> Result<Vec<AccessList>, AllocError>
+    ensures { IfOk result (λ v. AccessListPorts (datagram_ports ports.now) v.items) }
 {
-    let mut guards = Vec::new(alloc);
+    let mut access_lists = Vec::new(alloc);
     for port in ports {
-        if let PortOfKind::Rfc1234(port) = port {
-            let guard = guard_of(alloc, port)?;
-            guards.push(guard)?;
+        if let PortConfig::Rfc1234(port) = port {
+            let access_list = access_list_of(alloc, port)?;
+            access_lists.push(access_list)?;
         }
     }
-    Ok(guards)
+    Ok(access_lists)
 }
 
 /// Where each port is among those of its kind.
-fn spots_of(alloc: Global, ports: &[PortOfKind]) -> Result<Vec<Spot>, AllocError>
-    ensures { IfOk result (λ v. v.items ≡ spots_of ports.now) }
+fn port_indices_of(alloc: Global, ports: &[PortConfig]) -> Result<Vec<PortIndex>, AllocError>
+    ensures { IfOk result (λ v. v.items ≡ port_indices_of ports.now) }
 {
-    let mut spots = Vec::new(alloc);
+    let mut port_indices = Vec::new(alloc);
     let mut datagrams = 0;
-    let mut wires = 0;
-    let mut lobbies = 0;
+    let mut ethernet = 0;
+    let mut servers = 0;
     for port in ports {
         match port {
-            PortOfKind::Rfc1234(_) => {
-                spots.push(Spot::Datagrams(datagrams))?;
+            PortConfig::Rfc1234(_) => {
+                port_indices.push(PortIndex::Datagrams(datagrams))?;
                 datagrams += 1;
             }
-            PortOfKind::Frames(_) => {
-                spots.push(Spot::Wire(wires))?;
-                wires += 1;
+            PortConfig::Frames(_) => {
+                port_indices.push(PortIndex::Ethernet(ethernet))?;
+                ethernet += 1;
             }
-            PortOfKind::Ipxnet(_) => {
-                spots.push(Spot::Lobby(lobbies))?;
-                lobbies += 1;
+            PortConfig::Ipxnet(_) => {
+                port_indices.push(PortIndex::IpxnetServer(servers))?;
+                servers += 1;
             }
         }
     }
-    Ok(spots)
+    Ok(port_indices)
 }
 
 /// Tells the line of a port, as the router starts, and the room of its socket.
 fn tell_port<R: Log>(rt: &R, number: usize, line: &str, room: u32) {
     info!(rt; target: "ipx", "{line} room {room}");
-    if room < SOCKET_ROOM {
+    if room < RCVBUF_SIZE {
         warn!(rt; target: "ipx",
             "port {number}: its socket holds {room} bytes: \
-             net.core.rmem_max = {SOCKET_ROOM} gives it what it asks for");
+             net.core.rmem_max = {RCVBUF_SIZE} gives it what it asks for");
     }
 }
 
@@ -233,25 +233,25 @@ fn tell_port<R: Log>(rt: &R, number: usize, line: &str, room: u32) {
 /// 0 where it does not say.
 fn room_of(descriptor: Option<RawFd>) -> u32 {
     match descriptor {
-        Some(descriptor) => ask_room(descriptor),
+        Some(descriptor) => set_rcvbuf(descriptor),
         None => 0,
     }
 }
 
 /// How many bytes the socket of a port holds, as the system said; 0 where it did not say. That of a wire
 /// or of a lobby is asked to hold more now.
-fn room_at(ports: &SiteRouterPorts, spot: Spot) -> u32 {
-    match spot {
-        Spot::Datagrams(place) => ports.device().device().room(place).unwrap_or(0),
-        Spot::Wire(place) => room_of(ports.wires().sockets().descriptor(place)),
-        Spot::Lobby(place) => room_of(ports.lobbies().sockets().descriptor(place)),
+fn room_at(ports: &UdpRouterPorts, port_index: PortIndex) -> u32 {
+    match port_index {
+        PortIndex::Datagrams(place) => ports.device().device().room(place).unwrap_or(0),
+        PortIndex::Ethernet(place) => room_of(ports.ethernet().sockets().descriptor(place)),
+        PortIndex::IpxnetServer(place) => room_of(ports.servers().sockets().descriptor(place)),
     }
 }
 
-fn tell_ports<R: Log>(rt: &R, lines: &[String], ports: &SiteRouterPorts) {
+fn tell_ports<R: Log>(rt: &R, lines: &[String], ports: &UdpRouterPorts) {
     for (place, line) in lines.iter().enumerate() {
-        if let Some(spot) = ports.spots().get(place) {
-            tell_port(rt, place + 1, line, room_at(ports, *spot));
+        if let Some(port_index) = ports.port_indices().get(place) {
+            tell_port(rt, place + 1, line, room_at(ports, *port_index));
         }
     }
 }
@@ -260,50 +260,50 @@ fn tell_ports<R: Log>(rt: &R, lines: &[String], ports: &SiteRouterPorts) {
 fn datagrams_of<R: Net>(
     rt: &R,
     alloc: Global,
-    ports: &[PortOfKind],
-) -> Result<OnPeers<PeersOnly<SiteSockets>>, RouteFault>
-    ensures guards { IfOk result (λ d. GuardPorts (datagram_ports ports.now) d.device.guards.items) }
+    ports: &[PortConfig],
+) -> Result<OnPeers<SourceFilter<UdpSockets>>, RouteFault>
+    ensures access_lists { IfOk result (λ d. AccessListPorts (datagram_ports ports.now) d.device.access_lists.items) }
     ensures peers { IfOk result (λ d.
         peers_of d.peers.items ≡ site_peers (datagram_ports ports.now)) }
     // Each has a socket, with the port of UDP of its peers.
     ensures sockets { IfOk result (λ d. map (λ p. p.udp_port) d.device.device.sockets.items
         ≡ udp_ports (datagram_ports ports.now)) }
 {
-    let guards = guards_of(alloc, ports)?;
+    let access_lists = access_lists_of(alloc, ports)?;
     let peers = peers_by_port(alloc, ports)?;
-    let sockets = SiteSockets::bind(rt, alloc, ports)?;
-    Ok(OnPeers::new(PeersOnly::new(sockets, guards), peers))
+    let sockets = UdpSockets::bind(rt, alloc, ports)?;
+    Ok(OnPeers::new(SourceFilter::new(sockets, access_lists), peers))
 }
 
 /// The ports of a file, with their sockets bound.
 fn bound_ports<R: Net>(
     rt: &R,
     alloc: Global,
-    ports: &[PortOfKind],
-) -> Result<SiteRouterPorts, RouteFault>
+    ports: &[PortConfig],
+) -> Result<UdpRouterPorts, RouteFault>
     ensures { IfOk result (ArePortsBound ports.now) }
 {
-    let spots = spots_of(alloc, ports)?;
+    let port_indices = port_indices_of(alloc, ports)?;
     let datagrams = datagrams_of(rt, alloc, ports)?;
-    let wires = wires_of(rt, alloc, ports)?;
-    let lobbies = lobbies_of(rt, alloc, ports)?;
-    Ok(RouterPorts::new(datagrams, wires, lobbies, spots))
+    let ethernet = ethernet_ports_of(rt, alloc, ports)?;
+    let servers = servers_of(rt, alloc, ports)?;
+    Ok(RouterPorts::new(datagrams, ethernet, servers, port_indices))
 }
 
 /// What waits for the sockets of ports.
 fn ready_for<R: Net>(
     rt: &R,
     alloc: Global,
-    ports: &SiteRouterPorts,
-) -> Result<Readiness, RouteFault>
+    ports: &UdpRouterPorts,
+) -> Result<Poller, RouteFault>
     ensures { IfOk result (λ r. r.watched
         ≡ counted (length ports.now.datagrams.device.device.sockets.items
-        + length ports.now.wires.sockets.wires.items
-        + length ports.now.lobbies.sockets.sockets.items)) }
+        + length ports.now.ethernet.sockets.ethernet.items
+        + length ports.now.servers.sockets.sockets.items)) }
 {
-    let mut ready = Readiness::new(rt, alloc, ports.device().device())?;
-    ready.watch_wires(ports.wires().sockets())?;
-    ready.watch_lobbies(ports.lobbies().sockets())?;
+    let mut ready = Poller::new(rt, alloc, ports.device().device())?;
+    ready.watch_ethernet(ports.ethernet().sockets())?;
+    ready.watch_servers(ports.servers().sockets())?;
     Ok(ready)
 }
 
@@ -311,17 +311,17 @@ fn ready_for<R: Net>(
 fn start<'a, R: Net + Log + SystemClock>(
     rt: &'a R,
     alloc: Global,
-    site: SiteFile,
+    site: RouterConfig,
 ) -> Result<RunningRouter<'a, R>, RouteFault>
     requires own { All IsOwnNetwork (router_ports site.ports.items) }
     requires there { HearsAtPorts site }
     // The router has the ports of the file.
     ensures ports { IfOk result (λ s. s.core.core.core.router.ports ≡ router_ports site.ports.items) }
     // It is to hear what the file says by hand, and has not yet.
-    ensures by_hand { IfOk result (λ s. IsToHear site.by_hand.items s.core.core) }
+    ensures statics { IfOk result (λ s. IsToHear site.statics.items s.core.core) }
     // So those who ask at these have their turns, and nobody has asked yet.
-    ensures askers { IfOk result (λ s. (s.core.ports ≡ router_ports site.ports.items)
-        × (s.core.askers.askers ≡ []) × (s.core.askers.back ≡ 0)) }
+    ensures queriers { IfOk result (λ s. (s.core.ports ≡ router_ports site.ports.items)
+        × (s.core.queriers.queriers ≡ []) × (s.core.queriers.back ≡ 0)) }
     // Each of them has its socket: one of RFC 1234 its peers and its guard, one on a wire its hub, and
     // one for clients of ipxnet its lobby.
     ensures bound { IfOk result (λ s. ArePortsBound site.ports.items s.ports) }
@@ -349,7 +349,7 @@ fn start<'a, R: Net + Log + SystemClock>(
 fn route<R: Net + Log + Files + SystemClock>(
     rt: &R,
     alloc: Global,
-    site: SiteFile,
+    site: RouterConfig,
 ) -> Result<(), RouteFault>
     requires own { All IsOwnNetwork (router_ports site.ports.items) }
     requires there { HearsAtPorts site }
@@ -379,7 +379,7 @@ fn route_loaded<R: Net + Log + Files + SystemClock + Eprint>(
     rt: &R,
     alloc: Global,
     path: &str,
-    loaded: Result<SiteFile, u8>,
+    loaded: Result<RouterConfig, u8>,
 ) -> u8
     requires own { IfOk loaded (λ s. All IsOwnNetwork (router_ports s.ports.items)) }
     requires there { IfOk loaded HearsAtPorts }

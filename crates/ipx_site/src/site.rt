@@ -4,13 +4,13 @@ ghost use Rattle.std.specs.Prelude.{◌≡◌};
 ghost use Rattle.ipx_site.specs.PortKinds.{kind_of_port, network_of_kind, place_of_kind};
 ghost use Rattle.ipx_site.specs.SitePorts.{router_port_of, router_port_of_kind};
 
-use crate::hand::HandEntry;
-use crate::ipxnet_port::IpxnetPort;
+use crate::statics::StaticEntry;
+use crate::ipxnet_port::IpxnetPortConfig;
 use ipx_carrier::node_of;
-use ipx_frames::Encapsulation;
+use ipx_ethernet::Encapsulation;
 use ipx_router::Port;
 use ipx_wire::{Network, Node};
-use ipx_wires::Place;
+use ipx_ethernet_ports::Place;
 
 /// What a port of a router is.
 #[derive(Clone, Copy, Debug, PartialEq, Eq)]
@@ -34,7 +34,7 @@ pub enum Accept {
 
 /// A port of RFC 1234 of a router, as its file has it.
 #[derive(Drop)]
-pub struct SitePort {
+pub struct Rfc1234PortConfig {
     /// The network that it is on.
     pub network: Network,
     /// The local IP address.
@@ -53,7 +53,7 @@ pub struct SitePort {
 
 /// A port of a router on a wire, as its file has it.
 #[derive(Drop)]
-pub struct FramesPort {
+pub struct EthernetPortConfig {
     /// The network that it is on.
     pub network: Network,
     /// How a packet stands in a frame there.
@@ -74,14 +74,14 @@ pub struct FramesPort {
 
 /// A port of a router, by its kind.
 #[derive(Drop)]
-pub enum PortOfKind {
-    Rfc1234(SitePort),
-    Frames(FramesPort),
-    Ipxnet(IpxnetPort),
+pub enum PortConfig {
+    Rfc1234(Rfc1234PortConfig),
+    Frames(EthernetPortConfig),
+    Ipxnet(IpxnetPortConfig),
 }
 
 /// The router's port of a port of RFC 1234.
-fn router_port(port: &SitePort) -> Port
+fn router_port(port: &Rfc1234PortConfig) -> Port
     ensures { result ≡ router_port_of port.now }
 {
     Port {
@@ -102,15 +102,15 @@ fn port_at(network: Network, node: Node, cost: u16) -> Port
     }
 }
 
-impl PortOfKind {
+impl PortConfig {
     /// The network that it is on.
     pub fn network(&self) -> Network
         ensures { result ≡ network_of_kind self.now }
     {
         match self {
-            PortOfKind::Rfc1234(port) => port.network,
-            PortOfKind::Frames(port) => port.network,
-            PortOfKind::Ipxnet(port) => port.network,
+            PortConfig::Rfc1234(port) => port.network,
+            PortConfig::Frames(port) => port.network,
+            PortConfig::Ipxnet(port) => port.network,
         }
     }
 
@@ -119,9 +119,9 @@ impl PortOfKind {
         ensures { result ≡ place_of_kind self.now }
     {
         let (ip, udp_port) = match self {
-            PortOfKind::Rfc1234(port) => (port.address, port.udp_port),
-            PortOfKind::Frames(port) => (port.address, port.udp_port),
-            PortOfKind::Ipxnet(port) => (port.address, port.udp_port),
+            PortConfig::Rfc1234(port) => (port.address, port.udp_port),
+            PortConfig::Frames(port) => (port.address, port.udp_port),
+            PortConfig::Ipxnet(port) => (port.address, port.udp_port),
         };
         Place { ip, udp_port }
     }
@@ -131,9 +131,9 @@ impl PortOfKind {
         ensures { result ≡ router_port_of_kind self.now }
     {
         match self {
-            PortOfKind::Rfc1234(port) => router_port(port),
-            PortOfKind::Frames(port) => port_at(port.network, port.node, port.cost),
-            PortOfKind::Ipxnet(port) => port_at(port.network, port.node, port.cost),
+            PortConfig::Rfc1234(port) => router_port(port),
+            PortConfig::Frames(port) => port_at(port.network, port.node, port.cost),
+            PortConfig::Ipxnet(port) => port_at(port.network, port.node, port.cost),
         }
     }
 
@@ -141,22 +141,22 @@ impl PortOfKind {
         ensures { result ≡ kind_of_port self.now }
     {
         match self {
-            PortOfKind::Rfc1234(_) => Kind::Rfc1234,
-            PortOfKind::Frames(_) => Kind::Frames,
-            PortOfKind::Ipxnet(_) => Kind::Ipxnet,
+            PortConfig::Rfc1234(_) => Kind::Rfc1234,
+            PortConfig::Frames(_) => Kind::Frames,
+            PortConfig::Ipxnet(_) => Kind::Ipxnet,
         }
     }
 }
 
 /// The file of a router.
 #[derive(Drop)]
-pub struct SiteFile {
+pub struct RouterConfig {
     /// Where its figures are written, if anywhere.
     pub status: Option<String>,
     /// Where what it knows is written, if anywhere.
     pub tables: Option<String>,
     /// Its ports, 1 to 16. The first is port 1.
-    pub ports: Vec<PortOfKind>,
+    pub ports: Vec<PortConfig>,
     /// What it is to hear by hand: at most 256 routes, and behind them at most 256 services.
-    pub by_hand: Vec<HandEntry>,
+    pub statics: Vec<StaticEntry>,
 }

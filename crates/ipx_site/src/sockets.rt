@@ -2,16 +2,16 @@
 
 ghost use Rattle.std.specs.Prelude.{◌≡◌, ◌⊎◌, ◌<◌, ◌≤◌, ◌↔◌, ◌∷◌, [], IfOk, IfSome, IsSome, None, Ok, OnErr, Some, false, is_some, length, map, replicate, slice_get, slice_set, true};
 ghost use Rattle.ipx_carrier.specs.Counting.{raised};
-ghost use Rattle.ipx_carrier.specs.PortMarks.{AsksMarked, is_port_marked};
+ghost use Rattle.ipx_carrier.specs.ReadySet.{AsksMarked, is_port_marked};
 ghost use Rattle.ipx_site.specs.Senders.{ipv4_of_place};
 ghost use Rattle.ipx_site.specs.KindPorts.{datagram_ports};
 ghost use Rattle.ipx_site.specs.SitePorts.{udp_ports};
 
-use crate::bind_fault::{BindFault, obstacle_of};
-use crate::room::ask_room;
-use crate::senders::Senders;
-use crate::site::PortOfKind;
-use ipx_carrier::{Datagrams, DeviceFault, PortMarks, bound_socket, place_of, raise};
+use crate::bind_fault::{BindFault, bind_error_kind};
+use crate::rcvbuf::set_rcvbuf;
+use crate::last_sender::Senders;
+use crate::site::PortConfig;
+use ipx_carrier::{Datagrams, DeviceFault, ReadySet, bind_nonblocking, socket_addr, saturating_increment};
 use std::alloc::{AllocError, Global};
 use std::io;
 use std::io::ErrorKind;
@@ -35,9 +35,9 @@ struct PortSocket {
 /// It has a mark for each port, at which something may wait, and asks the system at those alone. All
 /// are set at the start. Whoever waits for the sockets marks those at which something came, or all.
 #[derive(Drop)]
-pub struct SiteSockets {
+pub struct UdpSockets {
     sockets: Vec<PortSocket>,
-    marks: PortMarks,
+    marks: ReadySet,
     sent: u64,
     faults: u64,
     sender: Option<[u8; 4]>,
@@ -64,8 +64,8 @@ fn port_socket<R: Net>(rt: &R, ip: [u8; 4], udp_port: u16) -> io::Result<PortSoc
     if ip == [0; 4] {
         return Err(io::Error::from(ErrorKind::AddrNotAvailable));
     }
-    let socket = bound_socket(rt, ip, udp_port)?;
-    let room = ask_room(socket.as_raw_fd());
+    let socket = bind_nonblocking(rt, ip, udp_port)?;
+    let room = set_rcvbuf(socket.as_raw_fd());
     Ok(PortSocket {
         socket,
         udp_port,
@@ -84,18 +84,18 @@ fn bound_port<R: Net>(
 {
     match port_socket(rt, ip, udp_port) {
         Ok(socket) => Ok(socket),
-        Err(error) => Err(BindFault::Port(number, obstacle_of(error.kind()))),
+        Err(error) => Err(BindFault::Port(number, bind_error_kind(error.kind()))),
     }
 }
 
 /// A device with these sockets, each of which is marked.
-fn device_of(alloc: Global, sockets: Vec<PortSocket>) -> Result<SiteSockets, AllocError>
+fn device_of(alloc: Global, sockets: Vec<PortSocket>) -> Result<UdpSockets, AllocError>
     ensures ports { IfOk result (λ d. d.sockets.items ≡ sockets.items) }
     ensures marks { IfOk result (λ d. d.marks ≡ replicate (length sockets.items) true) }
     ensures fresh { IfOk result (λ d. (d.sent ≡ 0) × (d.faults ≡ 0) × (d.sender ≡ None)) }
 {
-    let marks = PortMarks::all(alloc, sockets.len())?;
-    Ok(SiteSockets {
+    let marks = ReadySet::all(alloc, sockets.len())?;
+    Ok(UdpSockets {
         sockets,
         marks,
         sent: 0,
@@ -105,7 +105,7 @@ fn device_of(alloc: Global, sockets: Vec<PortSocket>) -> Result<SiteSockets, All
 }
 
 /// The same, or that memory was refused.
-fn bound_device(alloc: Global, sockets: Vec<PortSocket>) -> Result<SiteSockets, BindFault>
+fn bound_device(alloc: Global, sockets: Vec<PortSocket>) -> Result<UdpSockets, BindFault>
     ensures ports { IfOk result (λ d. d.sockets.items ≡ sockets.items) }
     ensures marks { IfOk result (λ d. d.marks ≡ replicate (length sockets.items) true) }
 {
@@ -115,21 +115,21 @@ fn bound_device(alloc: Global, sockets: Vec<PortSocket>) -> Result<SiteSockets, 
     }
 }
 
-impl SiteSockets {
+impl UdpSockets {
     /// A device with those of these ports that are of RFC 1234, in their order. At the first socket
     /// that can't be had it answers that port, and nothing stays bound.
     pub fn bind<R: Net>(
         rt: &R,
         alloc: Global,
-        ports: &[PortOfKind],
-    ) -> Result<SiteSockets, BindFault>
+        ports: &[PortConfig],
+    ) -> Result<UdpSockets, BindFault>
         ensures ports { IfOk result (λ d. map (λ s. s.udp_port) d.sockets.items
             ≡ udp_ports (datagram_ports ports.now)) }
         ensures marks { IfOk result (λ d. d.marks ≡ replicate (length d.sockets.items) true) }
     {
         let mut sockets = Vec::new(alloc);
         for (place, port) in ports.iter().enumerate() {
-            if let PortOfKind::Rfc1234(port) = port {
+            if let PortConfig::Rfc1234(port) = port {
                 let socket = bound_port(rt, place + 1, port.address, port.udp_port)?;
                 if sockets.push(socket).is_err() {
                     return Err(BindFault::OutOfMemory);
@@ -145,7 +145,7 @@ impl SiteSockets {
         alloc: Global,
         address: [u8; 4],
         udp_port: u16,
-    ) -> Result<SiteSockets, BindFault>
+    ) -> Result<UdpSockets, BindFault>
         ensures ports { IfOk result (λ d. map (λ s. s.udp_port) d.sockets.items ≡ udp_port ∷ []) }
         ensures marks { IfOk result (λ d. d.marks ≡ true ∷ []) }
     {
@@ -189,7 +189,7 @@ impl SiteSockets {
     }
 
     /// The marks of the ports, in order.
-    pub fn marks(&self) -> &PortMarks
+    pub fn marks(&self) -> &ReadySet
         ensures { result.now ≡ self.now.marks }
     {
         &self.marks
@@ -219,11 +219,11 @@ impl SiteSockets {
         ensures sender { self.new.sender ≡ self.old.sender }
         ensures sent { self.new.sent ≡ self.old.sent }
     {
-        raise(&mut self.faults);
+        saturating_increment(&mut self.faults);
     }
 }
 
-impl Datagrams for SiteSockets {
+impl Datagrams for UdpSockets {
     ghost port_count = { λ d. length d.sockets.items };
 
     ghost failed = { λ d. 0 };
@@ -238,7 +238,7 @@ impl Datagrams for SiteSockets {
     // Whoever reaches them is heard.
     ghost access = { λ d. [] };
 
-    ghost kept_back = { λ d. 0 };
+    ghost filtered = { λ d. 0 };
 
     fn ports(&self) -> usize {
         self.sockets.len()
@@ -258,9 +258,9 @@ impl Datagrams for SiteSockets {
         ensures marks { self.new.marks ≡ self.old.marks }
         ensures goes_on { OnErr result ⊥ }
     {
-        let place = place_of(to, self.sockets[port].udp_port);
+        let place = socket_addr(to, self.sockets[port].udp_port);
         match self.sockets[port].socket.send_to(bytes, place) {
-            Ok(count) if count == bytes.len() => raise(&mut self.sent),
+            Ok(count) if count == bytes.len() => saturating_increment(&mut self.sent),
             _ => self.count_fault(),
         }
         Ok(())
@@ -294,7 +294,7 @@ impl Datagrams for SiteSockets {
                     return Ok(Some(count));
                 }
                 Err(error) if error.kind() == ErrorKind::WouldBlock => {
-                    self.marks.unmark(port);
+                    self.marks.clear_ready(port);
                     return Ok(None);
                 }
                 Err(_) => self.count_fault(),
@@ -304,7 +304,7 @@ impl Datagrams for SiteSockets {
     }
 }
 
-impl Senders for SiteSockets {
+impl Senders for UdpSockets {
     ghost last_sender = { λ d. d.sender };
 
     fn sender(&self) -> Option<[u8; 4]> {

@@ -2,14 +2,14 @@
 
 ghost use Rattle.std.specs.Prelude.{◌≡◌, IfOk, map, string_bytes};
 ghost use Rattle.std.specs.List.{flat_map};
-ghost use Rattle.ipx_site.specs.Checked.{clients_text, dealings_text, dotted_text, frames_text, ipxnet_text, join_text, joined_text, others_text, place_text, port_text, port_texts, reached_text, rfc1234_text, routers_text, wire_end_text, wire_text};
+ghost use Rattle.ipx_site.specs.Checked.{clients_text, dealings_text, dotted_text, frames_text, ipxnet_text, join_text, joined_text, others_text, place_text, port_text, port_texts, reached_text, rfc1234_text, routers_text, ethernet_end_text, ethernet_text};
 
-use crate::ipxnet_port::IpxnetPort;
-use crate::site::{Accept, FramesPort, PortOfKind, SitePort};
-use crate::wire_values::word_of;
+use crate::ipxnet_port::IpxnetPortConfig;
+use crate::site::{Accept, EthernetPortConfig, PortConfig, Rfc1234PortConfig};
+use crate::ethernet_values::word_of;
 use ipx_carrier::node_of;
 use ipx_wire::{Network, Node};
-use ipx_wires::Place;
+use ipx_ethernet_ports::Place;
 use std::alloc::{AllocError, Global};
 
 /// An IP address with dots between its four numbers.
@@ -47,7 +47,7 @@ pub fn others(accept: Accept) -> &'static str
 }
 
 /// Those of its peers that are routers, where the file says.
-fn routers_to_text(alloc: Global, port: &SitePort) -> Result<String, AllocError>
+fn routers_to_text(alloc: Global, port: &Rfc1234PortConfig) -> Result<String, AllocError>
     ensures { IfOk result (λ t. string_bytes t ≡ routers_text port.now.routers) }
 {
     match &port.routers {
@@ -59,7 +59,7 @@ fn routers_to_text(alloc: Global, port: &SitePort) -> Result<String, AllocError>
     }
 }
 
-fn dealings_to_text(alloc: Global, port: &SitePort) -> Result<String, AllocError>
+fn dealings_to_text(alloc: Global, port: &Rfc1234PortConfig) -> Result<String, AllocError>
     ensures { IfOk result (λ t. string_bytes t ≡ dealings_text port.now) }
 {
     let cost = port.cost;
@@ -70,7 +70,7 @@ fn dealings_to_text(alloc: Global, port: &SitePort) -> Result<String, AllocError
 }
 
 /// A port of RFC 1234 with its number: `port 1 network .. node .. udp .. cost .. peers ..`.
-fn rfc1234_to_text(alloc: Global, number: usize, port: &SitePort) -> Result<String, AllocError>
+fn rfc1234_to_text(alloc: Global, number: usize, port: &Rfc1234PortConfig) -> Result<String, AllocError>
     ensures { IfOk result (λ t. string_bytes t ≡ rfc1234_text number port.now) }
 {
     let place = place_to_text(alloc, port.network, node_of(port.address))?;
@@ -81,7 +81,7 @@ fn rfc1234_to_text(alloc: Global, number: usize, port: &SitePort) -> Result<Stri
 
 /// The place of an end of a wire, behind a space.
 pub fn end_to_text(alloc: Global, end: Place) -> Result<String, AllocError>
-    ensures { IfOk result (λ t. string_bytes t ≡ wire_end_text end) }
+    ensures { IfOk result (λ t. string_bytes t ≡ ethernet_end_text end) }
 {
     let reached = reached_to_text(alloc, end.ip, end.udp_port)?;
     format!(in alloc; " {reached}")
@@ -89,7 +89,7 @@ pub fn end_to_text(alloc: Global, end: Place) -> Result<String, AllocError>
 
 /// The places of the ends of a wire.
 fn ends_to_text(alloc: Global, ends: &[Place]) -> Result<String, AllocError>
-    ensures { IfOk result (λ t. string_bytes t ≡ flat_map wire_end_text ends.now) }
+    ensures { IfOk result (λ t. string_bytes t ≡ flat_map ethernet_end_text ends.now) }
 {
     let mut text = String::new(alloc);
     for end in ends {
@@ -106,8 +106,8 @@ fn apart(joined: bool) -> &'static str
     if joined { "" } else { " apart" }
 }
 
-fn wire_to_text(alloc: Global, port: &FramesPort) -> Result<String, AllocError>
-    ensures { IfOk result (λ t. string_bytes t ≡ wire_text port.now) }
+fn ethernet_to_text(alloc: Global, port: &EthernetPortConfig) -> Result<String, AllocError>
+    ensures { IfOk result (λ t. string_bytes t ≡ ethernet_text port.now) }
 {
     let cost = port.cost;
     let ends = ends_to_text(alloc, &port.ends)?;
@@ -116,13 +116,13 @@ fn wire_to_text(alloc: Global, port: &FramesPort) -> Result<String, AllocError>
 }
 
 /// A port on a wire with its number: `port 2 network .. node .. frames .. udp .. cost .. ends ..`.
-fn frames_to_text(alloc: Global, number: usize, port: &FramesPort) -> Result<String, AllocError>
+fn frames_to_text(alloc: Global, number: usize, port: &EthernetPortConfig) -> Result<String, AllocError>
     ensures { IfOk result (λ t. string_bytes t ≡ frames_text number port.now) }
 {
     let place = place_to_text(alloc, port.network, port.node)?;
     let word = word_of(port.encapsulation);
     let reached = reached_to_text(alloc, port.address, port.udp_port)?;
-    let wire = wire_to_text(alloc, port)?;
+    let wire = ethernet_to_text(alloc, port)?;
     format!(in alloc; "port {number} {place} frames {word} udp {reached} {wire}")
 }
 
@@ -137,7 +137,7 @@ fn join_to_text(alloc: Global, routers: &[Place]) -> Result<String, AllocError>
     format!(in alloc; " joined{places}")
 }
 
-fn clients_to_text(alloc: Global, port: &IpxnetPort) -> Result<String, AllocError>
+fn clients_to_text(alloc: Global, port: &IpxnetPortConfig) -> Result<String, AllocError>
     ensures { IfOk result (λ t. string_bytes t ≡ clients_text port.now) }
 {
     let cost = port.cost;
@@ -149,7 +149,7 @@ fn clients_to_text(alloc: Global, port: &IpxnetPort) -> Result<String, AllocErro
 }
 
 /// A port for clients with its number: `port 3 network .. node .. ipxnet udp .. cost .. clients ..`.
-fn ipxnet_to_text(alloc: Global, number: usize, port: &IpxnetPort) -> Result<String, AllocError>
+fn ipxnet_to_text(alloc: Global, number: usize, port: &IpxnetPortConfig) -> Result<String, AllocError>
     ensures { IfOk result (λ t. string_bytes t ≡ ipxnet_text number port.now) }
 {
     let place = place_to_text(alloc, port.network, port.node)?;
@@ -159,18 +159,18 @@ fn ipxnet_to_text(alloc: Global, number: usize, port: &IpxnetPort) -> Result<Str
 }
 
 /// A port with its number, as its kind has it.
-pub fn port_to_text(alloc: Global, number: usize, port: &PortOfKind) -> Result<String, AllocError>
+pub fn port_to_text(alloc: Global, number: usize, port: &PortConfig) -> Result<String, AllocError>
     ensures { IfOk result (λ t. string_bytes t ≡ port_text number port.now) }
 {
     match port {
-        PortOfKind::Rfc1234(port) => rfc1234_to_text(alloc, number, port),
-        PortOfKind::Frames(port) => frames_to_text(alloc, number, port),
-        PortOfKind::Ipxnet(port) => ipxnet_to_text(alloc, number, port),
+        PortConfig::Rfc1234(port) => rfc1234_to_text(alloc, number, port),
+        PortConfig::Frames(port) => frames_to_text(alloc, number, port),
+        PortConfig::Ipxnet(port) => ipxnet_to_text(alloc, number, port),
     }
 }
 
 /// What a router says of its ports as it starts, in their order, which their numbers follow from 1.
-pub fn ports_to_texts(alloc: Global, ports: &[PortOfKind]) -> Result<Vec<String>, AllocError>
+pub fn ports_to_texts(alloc: Global, ports: &[PortConfig]) -> Result<Vec<String>, AllocError>
     ensures { IfOk result (λ texts. map string_bytes texts.items ≡ port_texts 1 ports.now) }
 {
     let mut texts = Vec::new(alloc);

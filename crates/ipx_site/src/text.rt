@@ -1,8 +1,8 @@
 //! The lines of faults.
 
-use crate::fault::FileFault;
+use crate::fault::ConfigError;
 use crate::key::Key;
-use crate::shown::Shown;
+use crate::escaped::Escaped;
 use crate::site::Kind;
 use std::fmt;
 
@@ -51,7 +51,7 @@ fn keys_of_port(kind: Kind) -> &'static str {
 }
 
 /// What the value of a key of a route or a service is to be: those name a port, and no own network.
-fn right_by_hand(key: Key) -> &'static str {
+fn valid_statics(key: Key) -> &'static str {
     match key {
         Key::Port => "the number of a port here of kind \"rfc1234\" or \"frames\", as 1",
         Key::Network => "eight hex digits from 00000001 to fffffffd, as \"000000aa\"",
@@ -62,7 +62,7 @@ fn right_by_hand(key: Key) -> &'static str {
 /// What the value of a key of a table is to be: a host names 256 others at most.
 fn right_in(table: usize, key: Key) -> &'static str {
     if table > LAST_PORT {
-        return right_by_hand(key);
+        return valid_statics(key);
     }
     match (table, key) {
         (0, Key::Peers) => {
@@ -111,35 +111,35 @@ impl fmt::Display for Key {
 }
 
 /// One line without its end. The caller names the file before it.
-impl fmt::Display for FileFault {
+impl fmt::Display for ConfigError {
     fn fmt<W: fmt::Write>(&self, f: &mut fmt::Formatter<W>) -> fmt::Result {
         match self {
-            FileFault::OutOfMemory => f.write_str("out of memory"),
-            FileFault::NotToml(line, error) => { write!(f, "line {line}: {}", error.message()) }
-            FileFault::Unknown(table, name) => {
+            ConfigError::OutOfMemory => f.write_str("out of memory"),
+            ConfigError::NotToml(line, error) => { write!(f, "line {line}: {}", error.message()) }
+            ConfigError::Unknown(table, name) => {
                 write_place(f, *table)?;
-                let name = Shown(name.as_bytes());
+                let name = Escaped(name.as_bytes());
                 write!(f, "{name} is no key here: {}", keys_of(*table))
             }
-            FileFault::OtherKind(table, key, kind) => {
+            ConfigError::OtherKind(table, key, kind) => {
                 write_place(f, *table)?;
                 let (word, keys) = (word_of_kind(*kind), keys_of_port(*kind));
                 write!(f, "{key} is no key of kind \"{word}\": its keys are {keys}")
             }
-            FileFault::Missing(table, key) => {
+            ConfigError::Missing(table, key) => {
                 write_place(f, *table)?;
                 let right = right_in(*table, *key);
                 write!(f, "{key} is missing: it is to be {right}")
             }
-            FileFault::Wrong(table, key) => {
+            ConfigError::Wrong(table, key) => {
                 write_place(f, *table)?;
                 write!(f, "{key} is to be {}", right_in(*table, *key))
             }
-            FileFault::Twin(table, network, earlier) => {
+            ConfigError::Twin(table, network, earlier) => {
                 write_place(f, *table)?;
                 write!(f, "network {network} is already that of port {earlier}")
             }
-            FileFault::Again(table, earlier) => {
+            ConfigError::Again(table, earlier) => {
                 write_place(f, *table)?;
                 write!(f, "{} are those of ", alike(*table))?;
                 write_table(f, *earlier)

@@ -5,7 +5,7 @@ ghost use Rattle.toml.specs.Parse.{parse_document};
 ghost use Rattle.toml.specs.View.{table_view};
 ghost use Rattle.ipx_site.specs.Fields.{IsNoToml, line_number};
 
-use crate::fault::FileFault;
+use crate::fault::ConfigError;
 use std::alloc::Global;
 use toml::Table;
 
@@ -19,15 +19,15 @@ fn line_at(text: &str, place: usize) -> usize
 }
 
 /// The table of a text in TOML.
-pub fn table_of(alloc: Global, text: &str) -> Result<Table, FileFault>
+pub fn table_of(alloc: Global, text: &str) -> Result<Table, ConfigError>
     ensures table { IfOk result (λ t. parse_document text.now ≡ Some (table_view t)) }
-    ensures fault { IfErr result (λ f. (f ≡ FileFault.OutOfMemory) ⊎ IsNoToml text.now f) }
+    ensures fault { IfErr result (λ f. (f ≡ ConfigError.OutOfMemory) ⊎ IsNoToml text.now f) }
 {
     match toml::table_from_str(alloc, text) {
         Ok(table) => Ok(table),
         Err(error) => match error.span() {
-            Some(range) => Err(FileFault::NotToml(line_at(text, range.start), error)),
-            None => Err(FileFault::OutOfMemory),
+            Some(range) => Err(ConfigError::NotToml(line_at(text, range.start), error)),
+            None => Err(ConfigError::OutOfMemory),
         },
     }
 }

@@ -5,7 +5,7 @@ ghost use Rattle.std.specs.List.{list_all};
 ghost use Rattle.toml.specs.View.{items_view, view};
 ghost use Rattle.ipx_site.specs.Values.{AreAddresses, AreAddressesOf, AreRouterPeers, IsAccept, IsIpAddress, IsCount, IsKind, IsNetwork, IsSocket, IsFileName, ReadsAddresses, ReadsNetwork, can_name_file};
 ghost use Rattle.ipx_site.specs.Fields.{Reads};
-ghost use Rattle.ipx_site.specs.SitePeers.{is_peer};
+ghost use Rattle.ipx_site.specs.SourceFilter.{is_peer};
 
 use crate::site::{Accept, Kind};
 use ipx_wire::{Network, OutOfMemory, Socket};

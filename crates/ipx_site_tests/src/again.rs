@@ -1,10 +1,10 @@
-//! Routers below `Sparing` that ask their neighbours once more.
+//! Routers below `QueryLimiter` that ask their neighbours once more.
 
-use ipx_by_hand::{AskAgain, ByHand};
+use ipx_static::{RestartDiscovery, WithStatics};
 use ipx_carrier::{Core, RouterCore};
-use ipx_figures::CountedRouter;
+use ipx_metrics::MeteredRouter;
 use ipx_router::{Port, Router};
-use ipx_site::Sparing;
+use ipx_site::QueryLimiter;
 use ipx_wire::{Network, Node, OutOfMemory};
 use std::alloc::{AllocError, Global};
 use std::test::Fail;
@@ -25,8 +25,8 @@ fn router(alloc: Global) -> Result<Router, Fail> {
     Ok(Router::new(alloc, ports(alloc)?)?)
 }
 
-fn counted(alloc: Global) -> Result<CountedRouter, Fail> {
-    Ok(CountedRouter::new(alloc, router(alloc)?)?)
+fn counted(alloc: Global) -> Result<MeteredRouter, Fail> {
+    Ok(MeteredRouter::new(alloc, router(alloc)?)?)
 }
 
 /// How many packets a core gives at the moment 0.
@@ -44,12 +44,12 @@ fn given<C: Core>(alloc: Global, core: &mut C) -> Result<u32, OutOfMemory> {
 
 /// Whether a router of two ports gives its six first packets, then none, and the four of them that
 /// ask once more as it is asked to.
-fn asks_again<C: AskAgain + Drop>(alloc: Global, core: C) -> Result<bool, Fail> {
-    let mut sparing = Sparing::new(alloc, core, ports(alloc)?)?;
-    let first = given(alloc, &mut sparing)?;
-    let none = given(alloc, &mut sparing)?;
-    sparing.ask_again();
-    Ok((first, none, given(alloc, &mut sparing)?) == (6, 0, 4))
+fn asks_again<C: RestartDiscovery + Drop>(alloc: Global, core: C) -> Result<bool, Fail> {
+    let mut query_limiter = QueryLimiter::new(alloc, core, ports(alloc)?)?;
+    let first = given(alloc, &mut query_limiter)?;
+    let none = given(alloc, &mut query_limiter)?;
+    query_limiter.restart_discovery();
+    Ok((first, none, given(alloc, &mut query_limiter)?) == (6, 0, 4))
 }
 
 #[test]
@@ -57,9 +57,9 @@ fn asks_again_below_turns(rt: HostRuntime) -> Result<(), Fail> {
     let alloc = rt.alloc();
     assert!(rt; asks_again(alloc, RouterCore::new(alloc, router(alloc)?))?);
     assert!(rt; asks_again(alloc, counted(alloc)?)?);
-    let by_hand = ByHand::new(alloc, counted(alloc)?, &[])?;
-    assert!(rt; asks_again(alloc, by_hand)?);
-    let by_hand = ByHand::new(alloc, RouterCore::new(alloc, router(alloc)?), &[])?;
-    assert!(rt; asks_again(alloc, by_hand)?);
+    let statics = WithStatics::new(alloc, counted(alloc)?, &[])?;
+    assert!(rt; asks_again(alloc, statics)?);
+    let statics = WithStatics::new(alloc, RouterCore::new(alloc, router(alloc)?), &[])?;
+    assert!(rt; asks_again(alloc, statics)?);
     Ok(())
 }

@@ -1,7 +1,7 @@
 //! Who comes to ports for clients and who is gone: what is told at a look, and what waits.
 
-use ipx_lobby::Place;
-use ipx_site::{PortClient, ToldClients};
+use ipxnet_server::Place;
+use ipx_site::{PortClient, ClientLog};
 use ipx_wire::Node;
 use std::alloc::{AllocError, Global};
 use std::test::Fail;
@@ -31,7 +31,7 @@ fn clients(alloc: Global, port: usize, udp_ports: &[u16]) -> Result<Vec<PortClie
 /// How many clients are told to be gone, and to have come, at looks at which these are there.
 fn counts(
     alloc: Global,
-    told: &mut ToldClients,
+    told: &mut ClientLog,
     there: &[PortClient],
 ) -> Result<(usize, usize), AllocError> {
     let news = told.look(alloc, there)?;
@@ -41,7 +41,7 @@ fn counts(
 #[test]
 fn comes_and_goes(rt: HostRuntime) -> Result<(), Fail> {
     let alloc = rt.alloc();
-    let mut told = ToldClients::new(alloc);
+    let mut told = ClientLog::new(alloc);
     assert_eq!(rt; counts(alloc, &mut told, &[])?, (0, 0));
     let both = clients(alloc, 2, &[48199, 48200])?;
     let news = told.look(alloc, &both)?;
@@ -74,7 +74,7 @@ fn ten_at_a_look(rt: HostRuntime) -> Result<(), Fail> {
     for place in 0..25_u16 {
         many.push(client(1, 1000 + place))?;
     }
-    let mut told = ToldClients::new(alloc);
+    let mut told = ClientLog::new(alloc);
     let first = told.look(alloc, &many)?;
     assert!(rt; first.gone.is_empty() && first.came.as_slice() == &many[..10]);
     let second = told.look(alloc, &many)?;
@@ -98,7 +98,7 @@ fn refused_client_lines(rt: HostRuntime) -> Result<(), Fail> {
         Ok(both) => both,
         Err(_) => clients(alloc, 2, &[48199, 48200])?,
     };
-    let mut told = ToldClients::new(alloc);
+    let mut told = ClientLog::new(alloc);
     let news = match told.look(alloc, &both) {
         Ok(news) => news,
         Err(_) => told.look(alloc, &both)?,

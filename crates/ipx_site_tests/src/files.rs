@@ -1,7 +1,7 @@
 //! Files without a fault: what is read of them.
 
 use crate::fixture::{host, site};
-use ipx_site::{Accept, Origin, PortOfKind, SiteFile, SitePort};
+use ipx_site::{Accept, AllowedPeer, PortConfig, RouterConfig, Rfc1234PortConfig};
 use ipx_wire::{Address, Network, Node, Socket};
 
 const SITE: &str = "\
@@ -52,14 +52,14 @@ accept = \"any\"
 ";
 
 /// The port of RFC 1234 with this index.
-fn plain(site: &SiteFile, index: usize) -> Option<&SitePort> {
+fn plain(site: &RouterConfig, index: usize) -> Option<&Rfc1234PortConfig> {
     match site.ports.get(index)? {
-        PortOfKind::Rfc1234(port) => Some(port),
-        PortOfKind::Frames(_) | PortOfKind::Ipxnet(_) => None,
+        PortConfig::Rfc1234(port) => Some(port),
+        PortConfig::Frames(_) | PortConfig::Ipxnet(_) => None,
     }
 }
 
-fn is_first(port: &SitePort) -> bool {
+fn is_first(port: &Rfc1234PortConfig) -> bool {
     port.network == Network(1)
         && port.address == [192, 0, 2, 10]
         && port.udp_port == 2130
@@ -67,7 +67,7 @@ fn is_first(port: &SitePort) -> bool {
         && port.accept == Accept::Any
 }
 
-fn is_second(port: &SitePort) -> bool {
+fn is_second(port: &Rfc1234PortConfig) -> bool {
     port.network == Network(0xab)
         && port.address == [10, 1, 0, 1]
         && port.udp_port == 213
@@ -171,11 +171,11 @@ fn tells_who_is_named(rt: HostRuntime) {
         Node([0, 0, 0x0a, 2, 0, 0x1e]),
         Node([0, 0, 0x0a, 2, 0, 0x1f]),
     );
-    let one = Origin {
+    let one = AllowedPeer {
         network: Network(0x22),
         node: Some(this),
     };
-    let all = Origin {
+    let all = AllowedPeer {
         network: Network(0x11),
         node: None,
     };

@@ -1,6 +1,6 @@
 //! What several tests make.
 
-use ipx_site::{FileFault, HostFile, SiteFile, read_host, read_site};
+use ipx_site::{ConfigError, HostConfig, RouterConfig, read_host, read_site};
 use std::alloc::{AllocError, Global};
 
 /// The line of the fault of a router's file, or `none`.
@@ -19,16 +19,16 @@ pub fn host_line(alloc: Global, text: &str) -> Result<String, AllocError> {
     }
 }
 
-fn line_of(alloc: Global, fault: &FileFault) -> Result<String, AllocError> {
+fn line_of(alloc: Global, fault: &ConfigError) -> Result<String, AllocError> {
     format!(in alloc; "{fault}")
 }
 
 /// The file of a router that has no fault.
-pub fn site(alloc: Global, text: &str) -> Option<SiteFile> {
+pub fn site(alloc: Global, text: &str) -> Option<RouterConfig> {
     read_site(alloc, text).ok()
 }
 
 /// The file of a host that has no fault.
-pub fn host(alloc: Global, text: &str) -> Option<HostFile> {
+pub fn host(alloc: Global, text: &str) -> Option<HostConfig> {
     read_host(alloc, text).ok()
 }

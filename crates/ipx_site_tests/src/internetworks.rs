@@ -1,9 +1,9 @@
 //! Random internetworks in memory, drawn from a seed: several routers on one network, and hosts that
 //! name any of theirs. Each guard names the routers. Nobody forges there, and nothing is kept back.
 
-use ipx_carrier::{Datagrams, DeviceFault, RouterCore, SteppedClock, burst, node_of};
+use ipx_carrier::{Datagrams, DeviceFault, RouterCore, SteppedClock, batch, node_of};
 use ipx_router::{Port, Router};
-use ipx_site::{Guard, PeersOnly, Senders};
+use ipx_site::{AccessList, SourceFilter, Senders};
 use ipx_wire::{Address, IpxHeader, Network, Node, Packet, Socket, decode, encode_into};
 use std::alloc::Global;
 use std::collections::VecDeque;
@@ -66,7 +66,7 @@ impl Datagrams for Post {
 
     ghost access = { λ d. [] };
 
-    ghost kept_back = { λ d. 0 };
+    ghost filtered = { λ d. 0 };
 
     fn ports(&self) -> usize {
         self.ports
@@ -136,9 +136,9 @@ struct Internetwork {
     stands: Vec<Stand>,
     carried: u64,
     handed_on: u64,
-    strangers: u64,
-    forged: u64,
-    no_router: u64,
+    unknown_senders: u64,
+    spoofed: u64,
+    not_a_router: u64,
 }
 
 /// The number of a network.
@@ -161,9 +161,9 @@ impl Internetwork {
             stands: Vec::new(alloc),
             carried: 0,
             handed_on: 0,
-            strangers: 0,
-            forged: 0,
-            no_router: 0,
+            unknown_senders: 0,
+            spoofed: 0,
+            not_a_router: 0,
         };
         let routers = 2 + dice.below(4);
         for number in 0..routers {
@@ -275,12 +275,12 @@ impl Internetwork {
     }
 
     /// A device with what came to one of them, whose peers are all others on its networks.
-    fn device_of(&mut self, me: usize) -> Result<(PeersOnly<Post>, Vec<Vec<[u8; 4]>>), Fail> {
-        let mut guards = Vec::new(self.alloc);
+    fn device_of(&mut self, me: usize) -> Result<(SourceFilter<Post>, Vec<Vec<[u8; 4]>>), Fail> {
+        let mut access_lists = Vec::new(self.alloc);
         let mut lists = Vec::new(self.alloc);
         for port in 0..self.stands[me].networks.len() {
             let network = self.stands[me].networks[port];
-            guards.push(Guard {
+            access_lists.push(AccessList {
                 network: network_of(network),
                 sends: Some(self.others_on(network, me)?),
                 hears: Some(self.others_on(network, me)?),
@@ -292,19 +292,19 @@ impl Internetwork {
         std::mem::swap(&mut came, &mut self.stands[me].came);
         let post = Post {
             alloc: self.alloc,
-            ports: guards.len(),
+            ports: access_lists.len(),
             came,
             sent: Vec::new(self.alloc),
             sender: None,
         };
-        Ok((PeersOnly::new(post, guards), lists))
+        Ok((SourceFilter::new(post, access_lists), lists))
     }
 
-    fn count(&mut self, device: &PeersOnly<Post>) {
+    fn count(&mut self, device: &SourceFilter<Post>) {
         let kept = device.kept();
-        self.strangers += kept.strangers.count;
-        self.forged += kept.forged.count;
-        self.no_router += kept.no_router.count;
+        self.unknown_senders += kept.unknown_senders.count;
+        self.spoofed += kept.spoofed.count;
+        self.not_a_router += kept.not_a_router.count;
     }
 
     /// A router hears what came, and sends what it has to.
@@ -315,7 +315,7 @@ impl Internetwork {
             return Ok(());
         };
         let mut clock = SteppedClock::new(now, 0);
-        let _burst = burst(alloc, core, &mut device, &peers, &mut clock, 10_000);
+        let _batch = batch(alloc, core, &mut device, &peers, &mut clock, 10_000);
         self.count(&device);
         for letter in &device.device().sent {
             let network = self.stands[me].networks[letter.port];
@@ -421,11 +421,11 @@ fn no_true_packet_is_kept_back(rt: HostRuntime) -> Result<(), Fail> {
             net.round(&mut dice, round * 5000)?;
         }
         assert!(rt;
-            net.forged == 0 && net.strangers == 0 && net.no_router == 0,
+            net.spoofed == 0 && net.unknown_senders == 0 && net.not_a_router == 0,
             "internetwork {number} of seed {SEED}: {} forged, {} of strangers, {} no router's",
-            net.forged,
-            net.strangers,
-            net.no_router
+            net.spoofed,
+            net.unknown_senders,
+            net.not_a_router
         );
         carried += net.carried;
         handed_on += net.handed_on;
@@ -473,7 +473,7 @@ fn what_waits_behind_forged_datagrams_is_heard(rt: HostRuntime) -> Result<(), Fa
         came.push_back(letter_from(alloc, [10, 0, 0, 2])?)?;
     }
     came.push_back(letter_from(alloc, [10, 0, 0, 1])?)?;
-    let guard = Guard {
+    let access_list = AccessList {
         network: network_of(0),
         sends: Some(Vec::new(alloc)),
         hears: None,
@@ -486,7 +486,7 @@ fn what_waits_behind_forged_datagrams_is_heard(rt: HostRuntime) -> Result<(), Fa
         sent: Vec::new(alloc),
         sender: None,
     };
-    let mut device = PeersOnly::new(post, vec![in alloc; guard]?);
+    let mut device = SourceFilter::new(post, vec![in alloc; access_list]?);
     let port = Port {
         network: network_of(0),
         node: node_of([10, 0, 0, 8]),
@@ -495,9 +495,9 @@ fn what_waits_behind_forged_datagrams_is_heard(rt: HostRuntime) -> Result<(), Fa
     let mut core = RouterCore::new(alloc, Router::new(alloc, vec![in alloc; port]?)?);
     let peers = vec![in alloc; Vec::new(alloc)]?;
     let mut clock = SteppedClock::new(0, 0);
-    let burst = burst(alloc, &mut core, &mut device, &peers, &mut clock, 20_000);
-    assert!(rt; burst.quiet);
-    assert_eq!(rt; burst.heard, 1);
-    assert_eq!(rt; device.kept().forged.count, FORGED as u64);
+    let batch = batch(alloc, &mut core, &mut device, &peers, &mut clock, 20_000);
+    assert!(rt; batch.quiet);
+    assert_eq!(rt; batch.heard, 1);
+    assert_eq!(rt; device.kept().spoofed.count, FORGED as u64);
     Ok(())
 }

@@ -5,23 +5,23 @@
 #[cfg(test)]
 mod again;
 #[cfg(test)]
-mod by_hand;
+mod statics;
 #[cfg(test)]
 mod client_lines;
 #[cfg(test)]
 mod faults;
 #[cfg(test)]
-mod figures;
+mod metrics;
 #[cfg(test)]
 mod files;
 #[cfg(test)]
 mod fixture;
 #[cfg(test)]
-mod guard_figures;
+mod access_list_metrics;
 #[cfg(test)]
 mod internetworks;
 #[cfg(test)]
-mod lobby_figures;
+mod ipxnet_metrics;
 #[cfg(test)]
 mod moments;
 #[cfg(test)]
@@ -29,7 +29,7 @@ mod peers;
 #[cfg(test)]
 mod players;
 #[cfg(test)]
-mod port_figures;
+mod port_metrics;
 #[cfg(test)]
 mod refused;
 #[cfg(test)]
@@ -37,7 +37,7 @@ mod refused_device;
 #[cfg(test)]
 mod sockets;
 #[cfg(test)]
-mod sparing;
+mod query_limiter;
 #[cfg(test)]
 mod waiting;
 #[cfg(test)]

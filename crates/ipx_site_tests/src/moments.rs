@@ -1,17 +1,17 @@
 //! When a young router asks again, and when a cause is told.
 
-use ipx_site::{Cause, asking_moment};
+use ipx_site::{ThrottledLog, discovery_retry};
 
 #[test]
 fn asks_six_times(rt: HostRuntime) {
-    assert_eq!(rt; asking_moment(0), Some(1000));
-    assert_eq!(rt; asking_moment(5), Some(32_000));
-    assert_eq!(rt; asking_moment(6), None);
+    assert_eq!(rt; discovery_retry(0), Some(1000));
+    assert_eq!(rt; discovery_retry(5), Some(32_000));
+    assert_eq!(rt; discovery_retry(6), None);
 }
 
 #[test]
 fn tells_a_cause_once_a_minute(rt: HostRuntime) {
-    let mut cause = Cause::new();
+    let mut cause = ThrottledLog::new();
     assert_eq!(rt; cause.tell(0, 5), None);
     assert_eq!(rt; cause.tell(3, 5), Some(3));
     assert_eq!(rt; cause.tell(4, 60_004), None);

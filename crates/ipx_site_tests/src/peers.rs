@@ -1,7 +1,7 @@
 //! Who is heard, in whose name, and whom is sent to.
 
 use ipx_carrier::{Datagrams, DeviceFault};
-use ipx_site::{Guard, KeptAtPort, PeersOnly, Senders};
+use ipx_site::{AccessList, PortFilterDrops, SourceFilter, Senders};
 use ipx_wire::{Address, IpxHeader, Network, Node, Packet, Socket, encode_into};
 use std::alloc::{AllocError, Global};
 use std::process::Abort;
@@ -29,7 +29,7 @@ impl Datagrams for Fountain {
 
     ghost access = { λ d. [] };
 
-    ghost kept_back = { λ d. 0 };
+    ghost filtered = { λ d. 0 };
 
     fn ports(&self) -> usize {
         1
@@ -63,9 +63,9 @@ fn guarded(
     alloc: Global,
     from: [u8; 4],
     everybody: bool,
-) -> Result<PeersOnly<Fountain>, AllocError> {
+) -> Result<SourceFilter<Fountain>, AllocError> {
     let peer = vec![in alloc; [10, 0, 0, 1]]?;
-    let guard = Guard {
+    let access_list = AccessList {
         network: HERE,
         sends: Some(vec![in alloc; [10, 0, 0, 1]]?),
         hears: if everybody { None } else { Some(peer) },
@@ -76,7 +76,7 @@ fn guarded(
         bytes: [0; 32],
         count: 30,
     };
-    Ok(PeersOnly::new(fountain, vec![in alloc; guard]?))
+    Ok(SourceFilter::new(fountain, vec![in alloc; access_list]?))
 }
 
 /// The networks that packets of these tests name: that of the port, and another one.
@@ -115,7 +115,7 @@ fn is_heard(
     };
     let mut bytes = [0; 32];
     let _all = encode_into(&Packet { header, body: &[] }, &mut bytes);
-    let guard = Guard {
+    let access_list = AccessList {
         network: HERE,
         sends: None,
         hears: None,
@@ -126,13 +126,13 @@ fn is_heard(
         bytes,
         count: 30,
     };
-    let mut device = PeersOnly::new(fountain, vec![in alloc; guard]?);
+    let mut device = SourceFilter::new(fountain, vec![in alloc; access_list]?);
     let mut room = [0; 64];
     let heard = matches!(device.receive(0, &mut room), Ok(Some(30)));
     let kept = device.kept();
-    assert_eq!(rt; kept.forged.count, u64::from(!heard));
-    assert!(rt; heard || kept.forged.last == ip);
-    assert_eq!(rt; kept.strangers.count, 0);
+    assert_eq!(rt; kept.spoofed.count, u64::from(!heard));
+    assert!(rt; heard || kept.spoofed.last == ip);
+    assert_eq!(rt; kept.unknown_senders.count, 0);
     Ok(heard)
 }
 
@@ -193,18 +193,18 @@ fn hears_a_peer(rt: HostRuntime) -> Result<(), AllocError> {
 }
 
 #[test]
-fn hears_no_stranger(rt: HostRuntime) -> Result<(), AllocError> {
+fn hears_no_unknown_sender(rt: HostRuntime) -> Result<(), AllocError> {
     let mut device = guarded(rt.alloc(), [10, 0, 0, 2], false)?;
     let mut room = [0; 4];
     assert!(rt; matches!(device.receive(0, &mut room), Ok(None)));
-    assert_eq!(rt; device.kept().strangers.count, 1);
-    assert_eq!(rt; device.kept().strangers.last, Some([10, 0, 0, 2]));
+    assert_eq!(rt; device.kept().unknown_senders.count, 1);
+    assert_eq!(rt; device.kept().unknown_senders.last, Some([10, 0, 0, 2]));
     assert_eq!(rt; device.kept().total(), 1);
-    let at_port = KeptAtPort {
-        strangers: 1,
+    let at_port = PortFilterDrops {
+        unknown_senders: 1,
         refused: 0,
     };
-    assert_eq!(rt; device.by_port().first().copied(), Some(at_port));
+    assert_eq!(rt; device.port_counters().first().copied(), Some(at_port));
     Ok(())
 }
 
@@ -224,11 +224,11 @@ fn sends_to_peers_alone(rt: HostRuntime) -> Result<(), AllocError> {
     assert_eq!(rt; device.refused(), 0);
     assert!(rt; device.send(0, [10, 0, 0, 2], &[1]).is_ok());
     assert_eq!(rt; device.refused(), 1);
-    let at_port = KeptAtPort {
-        strangers: 0,
+    let at_port = PortFilterDrops {
+        unknown_senders: 0,
         refused: 1,
     };
-    assert_eq!(rt; device.by_port().first().copied(), Some(at_port));
+    assert_eq!(rt; device.port_counters().first().copied(), Some(at_port));
     Ok(())
 }
 
@@ -265,7 +265,7 @@ fn is_let(
         body: &[0, operation],
     };
     let _all = encode_into(&packet, &mut bytes);
-    let guard = Guard {
+    let access_list = AccessList {
         network: HERE,
         sends: None,
         hears: None,
@@ -277,12 +277,12 @@ fn is_let(
         bytes,
         count: 32,
     };
-    let mut device = PeersOnly::new(fountain, vec![in alloc; guard]?);
+    let mut device = SourceFilter::new(fountain, vec![in alloc; access_list]?);
     let mut room = [0; 64];
     let heard = matches!(device.receive(0, &mut room), Ok(Some(32)));
     let kept = device.kept();
-    assert_eq!(rt; kept.no_router.count, u64::from(!heard));
-    assert!(rt; heard || kept.no_router.last == Some(ip));
+    assert_eq!(rt; kept.not_a_router.count, u64::from(!heard));
+    assert!(rt; heard || kept.not_a_router.last == Some(ip));
     assert_eq!(rt; kept.total(), u128::from(!heard));
     Ok(heard)
 }

@@ -1,7 +1,7 @@
 //! Files with ports for clients of ipxnet: what is read of them, and each fault with its line.
 
 use crate::fixture::{site, site_line};
-use ipx_site::{Accept, IpxnetPort, Kind, PortOfKind, SiteFile};
+use ipx_site::{Accept, IpxnetPortConfig, Kind, PortConfig, RouterConfig};
 use ipx_wire::{Network, Node};
 use std::alloc::AllocError;
 
@@ -31,14 +31,14 @@ accept = \"any\"
 ";
 
 /// The port for clients with this index.
-fn players(site: &SiteFile, index: usize) -> Option<&IpxnetPort> {
+fn players(site: &RouterConfig, index: usize) -> Option<&IpxnetPortConfig> {
     match site.ports.get(index)? {
-        PortOfKind::Ipxnet(port) => Some(port),
-        PortOfKind::Rfc1234(_) | PortOfKind::Frames(_) => None,
+        PortConfig::Ipxnet(port) => Some(port),
+        PortConfig::Rfc1234(_) | PortConfig::Frames(_) => None,
     }
 }
 
-fn is_first(port: &IpxnetPort) -> bool {
+fn is_first(port: &IpxnetPortConfig) -> bool {
     port.network == Network(0xd05b)
         && port.address == [192, 0, 2, 10]
         && port.udp_port == 2130
@@ -48,7 +48,7 @@ fn is_first(port: &IpxnetPort) -> bool {
         && port.peers.as_slice() == [[198, 51, 100, 7], [203, 0, 113, 9]].as_slice()
 }
 
-fn is_second(port: &IpxnetPort) -> bool {
+fn is_second(port: &IpxnetPortConfig) -> bool {
     port.network == Network(0xd05c)
         && port.address == [127, 0, 0, 1]
         && port.udp_port == 24002

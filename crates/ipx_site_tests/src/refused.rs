@@ -1,7 +1,7 @@
 //! The files of a site where memory is refused: a file is read as it stands, or memory is wanted.
 //! Run these with each request refused.
 
-use ipx_site::{FileFault, PortOfKind, read_host, read_site, silent_of};
+use ipx_site::{ConfigError, PortConfig, read_host, read_site, silent_of};
 
 /// A router with two ports, one on a wire and one for clients of ipxnet, and what it hears by hand.
 const SITE: &str = "\
@@ -66,11 +66,11 @@ const COST_OF_A_HOST: &str = "network = \"00000011\"\ncost = 1\n";
 const CUT: &str = "network = ";
 
 /// To how many places a port sends.
-fn reached(port: &PortOfKind) -> usize {
+fn reached(port: &PortConfig) -> usize {
     match port {
-        PortOfKind::Rfc1234(port) => port.peers.len(),
-        PortOfKind::Frames(port) => port.ends.len(),
-        PortOfKind::Ipxnet(port) => port.peers.len(),
+        PortConfig::Rfc1234(port) => port.peers.len(),
+        PortConfig::Frames(port) => port.ends.len(),
+        PortConfig::Ipxnet(port) => port.peers.len(),
     }
 }
 
@@ -81,12 +81,12 @@ fn refused_site(rt: HostRuntime) {
             assert!(rt; site.ports.len() == 4 && site.status.is_some() && site.tables.is_some());
             assert!(rt; site.ports.first().is_some_and(|port| reached(port) == 2));
             assert!(rt; site.ports.last().is_some_and(|port| reached(port) == 2));
-            assert!(rt; site.by_hand.len() == 2);
-            if let Ok(silent) = silent_of(rt.alloc(), &site.by_hand) {
+            assert!(rt; site.statics.len() == 2);
+            if let Ok(silent) = silent_of(rt.alloc(), &site.statics) {
                 assert!(rt; silent.len() == 2 && silent[1].services.len() == 1);
             }
         }
-        Err(fault) => assert!(rt; matches!(fault, FileFault::OutOfMemory)),
+        Err(fault) => assert!(rt; matches!(fault, ConfigError::OutOfMemory)),
     }
 }
 
@@ -98,7 +98,7 @@ fn refused_host(rt: HostRuntime) {
             assert!(rt; host.from.as_ref().is_some_and(|from| from.len() == 2));
             assert!(rt; host.peers.len() == 2 && host.routers.len() == 1);
         }
-        Err(fault) => assert!(rt; matches!(fault, FileFault::OutOfMemory)),
+        Err(fault) => assert!(rt; matches!(fault, ConfigError::OutOfMemory)),
     }
 }
 
@@ -108,11 +108,11 @@ fn refused_faults_of_files(rt: HostRuntime) {
     match read_host(rt.alloc(), COST_OF_A_HOST) {
         Ok(_) => assert!(rt; false),
         Err(fault) => {
-            assert!(rt; matches!(fault, FileFault::Unknown(0, _) | FileFault::OutOfMemory));
+            assert!(rt; matches!(fault, ConfigError::Unknown(0, _) | ConfigError::OutOfMemory));
         }
     }
     match read_site(rt.alloc(), CUT) {
         Ok(_) => assert!(rt; false),
-        Err(fault) => assert!(rt; matches!(fault, FileFault::NotToml(..) | FileFault::OutOfMemory)),
+        Err(fault) => assert!(rt; matches!(fault, ConfigError::NotToml(..) | ConfigError::OutOfMemory)),
     }
 }

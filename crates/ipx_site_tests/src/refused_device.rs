@@ -1,9 +1,9 @@
 //! Sockets, waiting, bursts and figures where memory is refused: each does what it does, or memory
 //! is wanted. Run these with each request refused.
 
-use crate::figures::FIGURES;
-use ipx_carrier::{Burst, Core, Datagrams, RunFault, burst};
-use ipx_site::{BindFault, Guard, PeersOnly, Readiness, SiteSockets, SteadyClock, WaitFault};
+use crate::metrics::METRICS;
+use ipx_carrier::{Batch, Core, Datagrams, RunFault, batch};
+use ipx_site::{BindFault, AccessList, SourceFilter, Poller, UdpSockets, SteadyClock, WaitFault};
 use ipx_wire::{Network, Node, OutOfMemory};
 use std::alloc::Global;
 
@@ -22,9 +22,9 @@ impl Core for Greedy {
 
     ghost gives = { λ old now given new. new ≡ old };
 
-    ghost misses = { λ old port bytes now new. ⊥ };
+    ghost hear_out_of_memory = { λ old port bytes now new. ⊥ };
 
-    ghost withholds = { λ old now new. new ≡ old };
+    ghost next_out_of_memory = { λ old now new. new ≡ old };
 
     fn ports(&self) -> usize {
         1
@@ -51,12 +51,12 @@ impl Core for Greedy {
     }
 }
 
-fn socket(rt: &HostRuntime, last: u8) -> Result<SiteSockets, BindFault> {
-    SiteSockets::bind_one(rt, rt.alloc(), [127, 0, 93, last], UDP_PORT)
+fn socket(rt: &HostRuntime, last: u8) -> Result<UdpSockets, BindFault> {
+    UdpSockets::bind_one(rt, rt.alloc(), [127, 0, 93, last], UDP_PORT)
 }
 
 /// A socket, bound once more where memory was refused.
-fn socket_at_last(rt: &HostRuntime, last: u8) -> Result<SiteSockets, BindFault> {
+fn socket_at_last(rt: &HostRuntime, last: u8) -> Result<UdpSockets, BindFault> {
     match socket(rt, last) {
         Ok(sockets) => Ok(sockets),
         Err(_) => socket(rt, last),
@@ -64,27 +64,27 @@ fn socket_at_last(rt: &HostRuntime, last: u8) -> Result<SiteSockets, BindFault> 
 }
 
 /// These sockets with a guard that hears everybody, which takes no memory.
-fn guarded(alloc: Global, sockets: SiteSockets) -> PeersOnly<SiteSockets> {
-    let mut guards = Vec::new(alloc);
-    let guard = Guard {
+fn guarded(alloc: Global, sockets: UdpSockets) -> SourceFilter<UdpSockets> {
+    let mut access_lists = Vec::new(alloc);
+    let access_list = AccessList {
         network: Network(1),
         sends: Some(Vec::new(alloc)),
         hears: None,
         routers: None,
     };
-    let _full = guards.push(guard);
-    PeersOnly::new(sockets, guards)
+    let _full = access_lists.push(access_list);
+    SourceFilter::new(sockets, access_lists)
 }
 
 /// A burst over this device, with the peers of one port.
-fn burst_of(rt: &HostRuntime, device: &mut PeersOnly<SiteSockets>) -> Burst {
+fn batch_of(rt: &HostRuntime, device: &mut SourceFilter<UdpSockets>) -> Batch {
     let alloc = rt.alloc();
     let mut peers = Vec::new(alloc);
     if peers.push(Vec::new(alloc)).is_err() {
         let _again = peers.push(Vec::new(alloc));
     }
     let mut clock = SteadyClock::new(rt);
-    burst(alloc, &mut Greedy, device, &peers, &mut clock, 4)
+    batch(alloc, &mut Greedy, device, &peers, &mut clock, 4)
 }
 
 #[test]
@@ -101,29 +101,29 @@ fn refused_readiness(rt: HostRuntime) {
         assert!(rt; false);
         return;
     };
-    match Readiness::new(&rt, rt.alloc(), &sockets) {
+    match Poller::new(&rt, rt.alloc(), &sockets) {
         Ok(mut ready) => assert!(rt; ready.wait(0) == Ok(false)),
         Err(fault) => assert!(rt; fault == WaitFault::OutOfMemory),
     }
 }
 
 #[test]
-fn refused_burst(rt: HostRuntime) {
+fn refused_batch(rt: HostRuntime) {
     let Ok(sockets) = socket_at_last(&rt, 3) else {
         assert!(rt; false);
         return;
     };
     let mut device = guarded(rt.alloc(), sockets);
-    let first = burst_of(&rt, &mut device);
-    let second = burst_of(&rt, &mut device);
+    let first = batch_of(&rt, &mut device);
+    let second = batch_of(&rt, &mut device);
     assert!(rt; first.quiet || first.fault == Some(RunFault::OutOfMemory));
     assert!(rt; second.quiet || second.fault == Some(RunFault::OutOfMemory));
     assert!(rt; first.quiet || second.quiet);
 }
 
 #[test]
-fn refused_figures(rt: HostRuntime) {
-    if let Ok(text) = FIGURES.text(rt.alloc()) {
+fn refused_metrics(rt: HostRuntime) {
+    if let Ok(text) = METRICS.text(rt.alloc()) {
         assert!(rt; text.as_str().ends_with("ipx_seconds 22\n"));
     }
 }

@@ -2,7 +2,7 @@
 
 use crate::fixture::site;
 use ipx_carrier::{Datagrams, DeviceFault};
-use ipx_site::{BindFault, Obstacle, Senders, SiteSockets};
+use ipx_site::{BindFault, BindErrorKind, Senders, UdpSockets};
 use std::test::Fail;
 
 const HERE: &str = "\
@@ -51,7 +51,7 @@ peers = [\"127.0.91.4\"]
 ";
 
 /// Asks port 1 until a datagram came, some thousand times.
-fn wait_for(device: &mut SiteSockets, room: &mut [u8]) -> Result<Option<usize>, DeviceFault> {
+fn wait_for(device: &mut UdpSockets, room: &mut [u8]) -> Result<Option<usize>, DeviceFault> {
     for _turn in 0..100000u32 {
         if device.ports() == 0 || device.failures() > 1000 {
             return Err(DeviceFault);
@@ -65,25 +65,25 @@ fn wait_for(device: &mut SiteSockets, room: &mut [u8]) -> Result<Option<usize>, 
 }
 
 /// Asks port 1 once.
-fn receive(device: &mut SiteSockets, room: &mut [u8]) -> Result<Option<usize>, DeviceFault> {
+fn receive(device: &mut UdpSockets, room: &mut [u8]) -> Result<Option<usize>, DeviceFault> {
     if device.ports() == 0 || device.failures() > 1000 {
         return Err(DeviceFault);
     }
     device.receive(0, room)
 }
 
-fn send(device: &mut SiteSockets, to: [u8; 4], bytes: &[u8]) -> Result<(), DeviceFault> {
+fn send(device: &mut UdpSockets, to: [u8; 4], bytes: &[u8]) -> Result<(), DeviceFault> {
     if device.ports() == 0 || device.failures() > 1000 {
         return Err(DeviceFault);
     }
     device.send(0, to, bytes)
 }
 
-fn bound(rt: &HostRuntime, text: &str) -> Result<SiteSockets, BindFault> {
+fn bound(rt: &HostRuntime, text: &str) -> Result<UdpSockets, BindFault> {
     let Some(site) = site(rt.alloc(), text) else {
         return Err(BindFault::OutOfMemory);
     };
-    SiteSockets::bind(rt, rt.alloc(), &site.ports)
+    UdpSockets::bind(rt, rt.alloc(), &site.ports)
 }
 
 #[test]
@@ -118,5 +118,5 @@ fn a_port_without_a_mark_is_not_asked(rt: HostRuntime) -> Result<(), Fail> {
 
 #[test]
 fn names_the_port_that_is_in_use(rt: HostRuntime) {
-    assert!(rt; matches!(bound(&rt, IN_USE), Err(BindFault::Port(2, Obstacle::InUse))));
+    assert!(rt; matches!(bound(&rt, IN_USE), Err(BindFault::Port(2, BindErrorKind::InUse))));
 }

@@ -1,7 +1,7 @@
 //! Waiting for sockets of the loopback, and bursts of turns over them.
 
-use ipx_carrier::{Clock, Core, Datagrams, DeviceFault, burst};
-use ipx_site::{BindFault, Guard, PeersOnly, Readiness, SiteSockets, SteadyClock};
+use ipx_carrier::{Clock, Core, Datagrams, DeviceFault, batch};
+use ipx_site::{BindFault, AccessList, SourceFilter, Poller, UdpSockets, SteadyClock};
 use ipx_wire::{Network, Node, OutOfMemory};
 use std::alloc::{AllocError, Global};
 use std::test::Fail;
@@ -21,9 +21,9 @@ impl Core for Mute {
 
     ghost gives = { λ old now given new. new ≡ old };
 
-    ghost misses = { λ old port bytes now new. ⊥ };
+    ghost hear_out_of_memory = { λ old port bytes now new. ⊥ };
 
-    ghost withholds = { λ old now new. ⊥ };
+    ghost next_out_of_memory = { λ old now new. ⊥ };
 
     fn ports(&self) -> usize {
         1
@@ -49,11 +49,11 @@ impl Core for Mute {
     }
 }
 
-fn socket(rt: &HostRuntime, last: u8) -> Result<SiteSockets, BindFault> {
-    SiteSockets::bind_one(rt, rt.alloc(), [127, 0, 92, last], UDP_PORT)
+fn socket(rt: &HostRuntime, last: u8) -> Result<UdpSockets, BindFault> {
+    UdpSockets::bind_one(rt, rt.alloc(), [127, 0, 92, last], UDP_PORT)
 }
 
-fn send(device: &mut SiteSockets, last: u8) -> Result<(), DeviceFault> {
+fn send(device: &mut UdpSockets, last: u8) -> Result<(), DeviceFault> {
     if device.ports() == 0 || device.failures() > 1000 {
         return Err(DeviceFault);
     }
@@ -61,21 +61,21 @@ fn send(device: &mut SiteSockets, last: u8) -> Result<(), DeviceFault> {
 }
 
 /// These sockets behind the peer 127.0.92.4.
-fn guarded(alloc: Global, sockets: SiteSockets) -> Result<PeersOnly<SiteSockets>, AllocError> {
-    let guard = Guard {
+fn guarded(alloc: Global, sockets: UdpSockets) -> Result<SourceFilter<UdpSockets>, AllocError> {
+    let access_list = AccessList {
         network: Network(1),
         sends: Some(vec![in alloc; [127, 0, 92, 4]]?),
         hears: Some(vec![in alloc; [127, 0, 92, 4]]?),
         routers: None,
     };
-    Ok(PeersOnly::new(sockets, vec![in alloc; guard]?))
+    Ok(SourceFilter::new(sockets, vec![in alloc; access_list]?))
 }
 
 #[test]
 fn tells_that_something_came(rt: HostRuntime) -> Result<(), Fail> {
     let here = socket(&rt, 1)?;
     let mut there = socket(&rt, 2)?;
-    let mut ready = Readiness::new(&rt, rt.alloc(), &here)?;
+    let mut ready = Poller::new(&rt, rt.alloc(), &here)?;
     assert!(rt; !ready.wait(0)?);
     assert_eq!(rt; ready.events().iter().count(), 0);
     send(&mut there, 1)?;
@@ -88,7 +88,7 @@ fn tells_that_something_came(rt: HostRuntime) -> Result<(), Fail> {
 }
 
 #[test]
-fn a_burst_ends_quietly(rt: HostRuntime) -> Result<(), Fail> {
+fn a_batch_ends_quietly(rt: HostRuntime) -> Result<(), Fail> {
     let alloc = rt.alloc();
     let mut peer = socket(&rt, 4)?;
     let mut stranger = socket(&rt, 5)?;
@@ -97,17 +97,17 @@ fn a_burst_ends_quietly(rt: HostRuntime) -> Result<(), Fail> {
     send(&mut peer, 3)?;
     let peers = vec![in alloc; Vec::new(alloc)]?;
     let mut clock = SteadyClock::new(&rt);
-    let burst = burst(alloc, &mut Mute, &mut device, &peers, &mut clock, 8);
-    assert!(rt; burst.quiet && burst.fault.is_none());
-    assert_eq!(rt; (burst.heard, burst.sent), (1, 0));
-    assert_eq!(rt; device.kept().strangers.count, 1);
+    let batch = batch(alloc, &mut Mute, &mut device, &peers, &mut clock, 8);
+    assert!(rt; batch.quiet && batch.fault.is_none());
+    assert_eq!(rt; (batch.heard, batch.sent), (1, 0));
+    assert_eq!(rt; device.kept().unknown_senders.count, 1);
     Ok(())
 }
 
 #[test]
 fn a_clock_stands_until_it_is_stopped_again(rt: HostRuntime) -> Result<(), Fail> {
     let quiet = socket(&rt, 6)?;
-    let mut ready = Readiness::new(&rt, rt.alloc(), &quiet)?;
+    let mut ready = Poller::new(&rt, rt.alloc(), &quiet)?;
     let mut clock = SteadyClock::new(&rt);
     let stopped = clock.stop();
     assert!(rt; !ready.wait(20)?);

@@ -1,10 +1,10 @@
 //! Files with ports on wires: what is read of them, and each fault with its line.
 
 use crate::fixture::{site, site_line};
-use ipx_frames::Encapsulation;
-use ipx_site::{FramesPort, Kind, PortOfKind, SiteFile};
+use ipx_ethernet::Encapsulation;
+use ipx_site::{EthernetPortConfig, Kind, PortConfig, RouterConfig};
 use ipx_wire::{Network, Node};
-use ipx_wires::Place;
+use ipx_ethernet_ports::Place;
 use std::alloc::AllocError;
 
 /// A router with a port of RFC 1234 and two on wires.
@@ -35,14 +35,14 @@ hub = false
 ";
 
 /// The port on a wire with this index.
-fn wire(site: &SiteFile, index: usize) -> Option<&FramesPort> {
+fn wire(site: &RouterConfig, index: usize) -> Option<&EthernetPortConfig> {
     match site.ports.get(index)? {
-        PortOfKind::Frames(port) => Some(port),
-        PortOfKind::Rfc1234(_) | PortOfKind::Ipxnet(_) => None,
+        PortConfig::Frames(port) => Some(port),
+        PortConfig::Rfc1234(_) | PortConfig::Ipxnet(_) => None,
     }
 }
 
-fn is_first(port: &FramesPort) -> bool {
+fn is_first(port: &EthernetPortConfig) -> bool {
     let near = [
         Place {
             ip: [127, 0, 0, 1],
@@ -62,7 +62,7 @@ fn is_first(port: &FramesPort) -> bool {
         && port.joined
 }
 
-fn is_second(port: &FramesPort) -> bool {
+fn is_second(port: &EthernetPortConfig) -> bool {
     let far = [Place {
         ip: [198, 51, 100, 7],
         udp_port: 65535,
@@ -77,7 +77,7 @@ fn is_second(port: &FramesPort) -> bool {
 }
 
 #[test]
-fn reads_wires(rt: HostRuntime) {
+fn reads_ethernet(rt: HostRuntime) {
     let Some(site) = site(rt.alloc(), SITE) else {
         panic!(rt; "the file has a fault");
     };
@@ -89,7 +89,7 @@ fn reads_wires(rt: HostRuntime) {
 
 /// 127 is 0111_1111, whose two low bits become 10; 24002 is 0x5dc2.
 #[test]
-fn reads_addresses_on_wires(rt: HostRuntime) {
+fn reads_addresses_on_ethernet(rt: HostRuntime) {
     let Some(site) = site(rt.alloc(), SITE) else {
         panic!(rt; "the file has a fault");
     };
@@ -117,7 +117,7 @@ address = \"127.0.0.1\"
 udp_port = 24002
 ";
 
-const WIRES: [(&str, &str); 17] = [
+const ETHERNET: [(&str, &str); 17] = [
     ("ends = [\"127.0.0.1:24001\"]", "none"),
     (
         "",
@@ -186,8 +186,8 @@ const WIRES: [(&str, &str); 17] = [
 ];
 
 #[test]
-fn lines_of_wires(rt: HostRuntime) -> Result<(), AllocError> {
-    for (rest, line) in WIRES {
+fn lines_of_ethernet(rt: HostRuntime) -> Result<(), AllocError> {
+    for (rest, line) in ETHERNET {
         let text = format!(in rt.alloc(); "{START}{rest}")?;
         assert_eq!(rt; site_line(rt.alloc(), text.as_str())?.as_str(), line);
     }
@@ -250,7 +250,7 @@ fn lines_of_many_ends(rt: HostRuntime) -> Result<(), AllocError> {
     let most = ends(&rt, 256)?;
     assert_eq!(rt; site_line(rt.alloc(), most.as_str())?.as_str(), "none");
     let more = ends(&rt, 257)?;
-    assert_eq!(rt; site_line(rt.alloc(), more.as_str())?.as_str(), WIRES[2].1);
+    assert_eq!(rt; site_line(rt.alloc(), more.as_str())?.as_str(), ETHERNET[2].1);
     Ok(())
 }
 

@@ -12,7 +12,7 @@ use Rattle.std.proofs.lemmas.Option.{slice_get-get_or}
 use Rattle.ipx_tables.specs.declared.marks.Mark.{Mark}
 use Rattle.ipx_tables.specs.Content.{is_young}
 use Rattle.ipx_tables.specs.Marks.{AreByMoment, HaveOwnPlaces, IsNoLater, IsRightMark, is_late_for, is_late_mark, places_of, right_for, right_mark}
-use Rattle.ipx_tables.specs.Tray.{is_some_young, is_young_in}
+use Rattle.ipx_tables.specs.SlotOrder.{is_some_young, is_young_in}
 use Rattle.ipx_tables.proofs.Trays.{filter_map_alike}
 
 pub not_true : (b : Bool) → not b ≡ true → b ≡ false

@@ -11,7 +11,7 @@ use Rattle.std.proofs.lemmas.List.Elements.{All-cons, All-filter}
 use Rattle.std.proofs.lemmas.List.Sorted.{All-permutation, IsPermutation-cons, IsPermutation-insert, IsPermutation-map, IsPermutation-refl, IsPermutation-remove, IsPermutation-sym, IsPermutation-trans, length_permutation}
 use Rattle.ipx_tables.specs.declared.marks.Mark.{Mark}
 use Rattle.ipx_tables.specs.Marks.{AreByMoment, AreMarked, HaveOwnPlaces, IsEarliest, IsNoLater, IsRightMark, places_of}
-use Rattle.ipx_tables.specs.Tray.{is_young_in, lying_in}
+use Rattle.ipx_tables.specs.SlotOrder.{is_young_in, lying_in}
 use Rattle.ipx_tables.proofs.Marked.{all_passed, all_places, by_moment_filter, filter_remove, not_true, places_all}
 use Rattle.ipx_tables.proofs.Permuted.{permuted_filter}
 use Rattle.ipx_tables.proofs.Trays.{AreReal, filter_map_alike, lying_is, many_lying}

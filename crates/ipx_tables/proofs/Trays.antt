@@ -11,7 +11,7 @@ use Rattle.std.proofs.lemmas.List.Sorted.{All-permutation, IsPermutation-append_
 use Rattle.std.proofs.lemmas.Map.Keys.{IsDistinct-from_apart, IsDistinct-IsPermutation, IsDistinct-push, apart_from_distinct}
 use Rattle.std.proofs.lemmas.Option.{slice_get-get_or}
 use Rattle.ipx_tables.specs.Content.{is_young}
-use Rattle.ipx_tables.specs.Tray.{AreSlots, is_some_young, is_young_in, lying_in}
+use Rattle.ipx_tables.specs.SlotOrder.{AreSlots, is_some_young, is_young_in, lying_in}
 
 map_remove : {X Y : Type 0} (f : X → Y) (xs : List X) (i : ℕ) → map f (remove xs i) ≡ remove (map f xs) i
 map_remove f xs i = grind (arith, map-append f (take i xs) (drop (suc i) xs), take-map f i xs, drop-map f (suc i) xs)

@@ -12,5 +12,5 @@ pub mod OfferScan
 pub mod Walk
 pub mod Expiry
 pub mod Marks
-pub mod Tray
+pub mod SlotOrder
 pub mod Spelled

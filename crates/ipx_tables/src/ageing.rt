@@ -6,7 +6,7 @@ ghost use Rattle.ipx_tables.specs.Content.{is_young};
 ghost use Rattle.ipx_tables.specs.Expiry.{NoneOldBefore};
 
 use crate::moments::{counts, expiry};
-use crate::shelf::Shelf;
+use crate::offer_store::OfferStore;
 
 /// How many offers are taken out one by one, before all others that are old go together.
 const FEW: u32 = 16;
@@ -14,50 +14,50 @@ const FEW: u32 = 16;
 /// Takes out each offer that counts no more, a few one by one and all others together. The result is
 /// the moment until which all that stay do.
 #[inline(never)] // so that whoever ages a table has only the comparison in line
-pub fn keep_young<K: Ord + Copy, M: Copy>(shelf: &mut Shelf<K, M>, now: u64) -> u64
-    ensures young { shelf.new ≡ filter (λ o. is_young now o.heard) shelf.old }
-    ensures until { NoneOldBefore result shelf.new }
-    ensures no_later { (moment : ℕ) → moment < 2 ^ 64 → NoneOldBefore moment shelf.new
+pub fn expire<K: Ord + Copy, M: Copy>(offer_store: &mut OfferStore<K, M>, now: u64) -> u64
+    ensures young { offer_store.new ≡ filter (λ o. is_young now o.heard) offer_store.old }
+    ensures until { NoneOldBefore result offer_store.new }
+    ensures no_later { (moment : ℕ) → moment < 2 ^ 64 → NoneOldBefore moment offer_store.new
         → moment ≤ result }
 {
     for _ in 0..FEW {
-        if let Some(until) = take_old(shelf, now) {
+        if let Some(until) = take_old(offer_store, now) {
             return until;
         }
     }
-    keep_all_young(shelf, now)
+    keep_all_young(offer_store, now)
 }
 
 /// Takes out one offer that counts no more. Where there is none, the result is the moment until
 /// which all count.
-fn take_old<K: Ord + Copy, M: Copy>(shelf: &mut Shelf<K, M>, now: u64) -> Option<u64>
-    ensures same { filter (λ o. is_young now o.heard) shelf.new
-        ≡ filter (λ o. is_young now o.heard) shelf.old }
-    ensures fewer { IfNone result (length shelf.new + 1 ≡ length shelf.old) }
-    ensures young { OnSome result (shelf.new ≡ filter (λ o. is_young now o.heard) shelf.new) }
-    ensures until { IfSome result (λ until. NoneOldBefore until shelf.new) }
+fn take_old<K: Ord + Copy, M: Copy>(offer_store: &mut OfferStore<K, M>, now: u64) -> Option<u64>
+    ensures same { filter (λ o. is_young now o.heard) offer_store.new
+        ≡ filter (λ o. is_young now o.heard) offer_store.old }
+    ensures fewer { IfNone result (length offer_store.new + 1 ≡ length offer_store.old) }
+    ensures young { OnSome result (offer_store.new ≡ filter (λ o. is_young now o.heard) offer_store.new) }
+    ensures until { IfSome result (λ until. NoneOldBefore until offer_store.new) }
     ensures no_later { IfSome result (λ until. (moment : ℕ) → moment < 2 ^ 64
-        → NoneOldBefore moment shelf.new → moment ≤ until) }
+        → NoneOldBefore moment offer_store.new → moment ≤ until) }
 {
-    let Some((at, moment)) = shelf.oldest() else {
+    let Some((at, moment)) = offer_store.oldest() else {
         return Some(u64::MAX);
     };
     if counts(now, moment) {
         return Some(expiry(moment));
     }
-    shelf.take_out(at);
+    offer_store.take_out(at);
     None
 }
 
 /// Takes out all that counts no more together, and says until when all others count.
-fn keep_all_young<K: Ord + Copy, M: Copy>(shelf: &mut Shelf<K, M>, now: u64) -> u64
-    ensures young { shelf.new ≡ filter (λ o. is_young now o.heard) shelf.old }
-    ensures until { NoneOldBefore result shelf.new }
-    ensures no_later { (moment : ℕ) → moment < 2 ^ 64 → NoneOldBefore moment shelf.new
+fn keep_all_young<K: Ord + Copy, M: Copy>(offer_store: &mut OfferStore<K, M>, now: u64) -> u64
+    ensures young { offer_store.new ≡ filter (λ o. is_young now o.heard) offer_store.old }
+    ensures until { NoneOldBefore result offer_store.new }
+    ensures no_later { (moment : ℕ) → moment < 2 ^ 64 → NoneOldBefore moment offer_store.new
         → moment ≤ result }
 {
-    shelf.keep_young(now);
-    match shelf.oldest() {
+    offer_store.expire(now);
+    match offer_store.oldest() {
         None => u64::MAX,
         Some((_, moment)) => expiry(moment),
     }

@@ -8,7 +8,7 @@ ghost use Rattle.ipx_tables.specs.OfferScan.{best_from, better_of, is_candidate,
 use crate::metric::Metric;
 use crate::moments::counts;
 use crate::offer::Offer;
-use crate::shelf::Shelf;
+use crate::offer_store::OfferStore;
 use crate::source::Source;
 use std::cmp::Ordering;
 
@@ -51,20 +51,20 @@ pub fn better_one<'a, K: Copy, M: Metric + Copy>(
 }
 
 /// The first place whose key is not below this one. Each offer that is read halves what is left.
-fn first_of<K: Ord + Copy, M: Copy>(shelf: &Shelf<K, M>, key: K, steps: &mut usize) -> usize
+fn first_of<K: Ord + Copy, M: Copy>(offer_store: &OfferStore<K, M>, key: K, steps: &mut usize) -> usize
     requires { steps.old + 65 < 2 ^ 64 }
-    ensures within { result ≤ length shelf.now }
+    ensures within { result ≤ length offer_store.now }
     ensures below { (j : ℕ) (o : Offer K M) → j < result
-        → is_lt (K.cmp (slice_index_or shelf.now j o).key key) ≡ true }
-    ensures above { (j : ℕ) (o : Offer K M) → result ≤ j → j < length shelf.now
-        → is_lt (K.cmp (slice_index_or shelf.now j o).key key) ≡ false }
-    ensures cost { (digits : ℕ) → length shelf.now < 2 ^ digits → steps.new ≤ steps.old + digits }
+        → is_lt (K.cmp (slice_index_or offer_store.now j o).key key) ≡ true }
+    ensures above { (j : ℕ) (o : Offer K M) → result ≤ j → j < length offer_store.now
+        → is_lt (K.cmp (slice_index_or offer_store.now j o).key key) ≡ false }
+    ensures cost { (digits : ℕ) → length offer_store.now < 2 ^ digits → steps.new ≤ steps.old + digits }
 {
     let mut low = 0;
-    let mut high = shelf.len();
+    let mut high = offer_store.len();
     while low < high {
         let mid = low + (high - low) / 2;
-        let offer = shelf.read(mid, steps);
+        let offer = offer_store.read(mid, steps);
         if offer.key.cmp(&key).is_lt() {
             low = mid + 1;
         } else {
@@ -76,22 +76,22 @@ fn first_of<K: Ord + Copy, M: Copy>(shelf: &Shelf<K, M>, key: K, steps: &mut usi
 
 /// The best of the offers of a key that count, and how many offers were read.
 pub fn best_in<K: Ord + Copy, M: Metric + Copy>(
-    shelf: &Shelf<K, M>,
+    offer_store: &OfferStore<K, M>,
     key: K,
     now: u64,
 ) -> (Option<Offer<K, M>>, usize)
     ensures best { result.0
-        ≡ best_from (is_candidate K.cmp key now) (offer_beats M.before) None shelf.now }
-    ensures cost { (digits : ℕ) → length shelf.now < 2 ^ digits
-        → result.1 ≤ count_by (λ o. is_eq (K.cmp o.key key)) shelf.now + 1 + digits }
-    ensures all_read { count_by (λ o. is_eq (K.cmp o.key key)) shelf.now ≤ result.1 }
+        ≡ best_from (is_candidate K.cmp key now) (offer_beats M.before) None offer_store.now }
+    ensures cost { (digits : ℕ) → length offer_store.now < 2 ^ digits
+        → result.1 ≤ count_by (λ o. is_eq (K.cmp o.key key)) offer_store.now + 1 + digits }
+    ensures all_read { count_by (λ o. is_eq (K.cmp o.key key)) offer_store.now ≤ result.1 }
 {
     let mut steps = 0;
-    let mut at = first_of(shelf, key, &mut steps);
+    let mut at = first_of(offer_store, key, &mut steps);
     let mut best: Option<&Offer<K, M>> = None;
-    let end = shelf.len();
+    let end = offer_store.len();
     while at < end {
-        let offer = shelf.read(at, &mut steps);
+        let offer = offer_store.read(at, &mut steps);
         if !offer.key.cmp(&key).is_eq() {
             return (best.copied(), steps);
         }

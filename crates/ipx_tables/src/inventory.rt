@@ -3,13 +3,13 @@
 ghost use Rattle.std.specs.Prelude.{◌≡◌};
 
 use crate::offer::Offer;
-use crate::shelf::Shelf;
+use crate::offer_store::OfferStore;
 use std::marker::Model;
 
 /// Each offer of a table, old ones too, by key, and those of a key by source. It takes no memory.
 #[derive(Drop)]
 pub struct Inventory<'a, K: Ord + Copy, M: Copy> {
-    shelf: &'a Shelf<K, M>,
+    offer_store: &'a OfferStore<K, M>,
     at: usize,
 }
 
@@ -19,14 +19,14 @@ impl<'a, K: Ord + Copy, M: Copy> Model for Inventory<'a, K, M> {
 
     ghost Value = { List (Offer K M) };
 
-    ghost view = { λ i. drop i.at i.shelf.now };
+    ghost view = { λ i. drop i.at i.offer_store.now };
 }
 
 /// Each offer of the shelf.
-pub fn offers_on<K: Ord + Copy, M: Copy>(shelf: &Shelf<K, M>) -> Inventory<'_, K, M>
-    ensures { result ≡ shelf.now }
+pub fn offers_on<K: Ord + Copy, M: Copy>(offer_store: &OfferStore<K, M>) -> Inventory<'_, K, M>
+    ensures { result ≡ offer_store.now }
 {
-    Inventory { shelf, at: 0 }
+    Inventory { offer_store, at: 0 }
 }
 
 impl<'a, K: Ord + Copy, M: Copy> Iterator for Inventory<'a, K, M> {
@@ -39,10 +39,10 @@ impl<'a, K: Ord + Copy, M: Copy> Iterator for Inventory<'a, K, M> {
     ghost remaining = { item_count (λ items. items) };
 
     fn next(&mut self) -> Option<Offer<K, M>> {
-        if self.at >= self.shelf.len() {
+        if self.at >= self.offer_store.len() {
             return None;
         }
-        let offer = *self.shelf.get(self.at);
+        let offer = *self.offer_store.get(self.at);
         self.at += 1;
         Some(offer)
     }

@@ -20,9 +20,9 @@ mod offer;
 mod offers;
 mod route;
 mod service;
-mod shelf;
+mod offer_store;
 mod source;
-mod tray;
+mod slot_order;
 mod walk;
 
 pub use fault::TableFault;
@@ -34,7 +34,7 @@ pub use laws::{
 pub use metric::Metric;
 pub use offer::Offer;
 pub use offers::Offers;
-pub use route::{MOST_ROUTES, RouteMetric, RouteTable, route_table};
-pub use service::{MOST_SERVICES, ServiceKey, ServiceMetric, ServiceTable, service_table};
+pub use route::{MAX_ROUTES, RouteMetric, RouteTable, route_table};
+pub use service::{MAX_SERVICES, ServiceKey, ServiceMetric, ServiceTable, service_table};
 pub use source::Source;
 pub use walk::Bests;

@@ -6,7 +6,7 @@ ghost use Rattle.std.specs.List.Sorted.{IsPermutation};
 ghost use Rattle.std.specs.VecDeque.{deque_capacity, deque_len};
 ghost use Rattle.ipx_tables.specs.Content.{is_young};
 ghost use Rattle.ipx_tables.specs.Marks.{AreByMoment, HaveOwnPlaces, IsNoLater, IsRightMark, is_late_mark, places_of, right_mark};
-ghost use Rattle.ipx_tables.specs.Tray.{is_young_in};
+ghost use Rattle.ipx_tables.specs.SlotOrder.{is_young_in};
 
 use crate::moments::{Timed, counts};
 use std::collections::VecDeque;
@@ -58,7 +58,7 @@ fn place_of_mark(marks: &VecDeque<Mark>, place: u32) -> Option<usize>
 }
 
 /// Takes the mark of a place out.
-pub fn unmark(marks: &mut VecDeque<Mark>, place: u32)
+pub fn remove_expiry(marks: &mut VecDeque<Mark>, place: u32)
     requires { HaveOwnPlaces marks.old.items }
     ensures items { marks.new.items ≡ filter (λ m. not (m.place == place)) marks.old.items }
     ensures capacity { deque_capacity marks.new ≡ deque_capacity marks.old }
@@ -190,7 +190,7 @@ fn settle_old<T: Timed + Copy>(marks: &mut VecDeque<Mark>, slots: &[T], now: u64
 }
 
 /// Takes out the marks of what counts no more: those at the front, once none of them is late.
-pub fn unmark_old<T: Timed + Copy>(marks: &mut VecDeque<Mark>, slots: &[T], now: u64)
+pub fn remove_expired<T: Timed + Copy>(marks: &mut VecDeque<Mark>, slots: &[T], now: u64)
     requires real { All (λ m. m.place < length slots.now) marks.old.items }
     requires by_moment { AreByMoment marks.old.items }
     requires no_later { All (IsNoLater T.moment slots.now) marks.old.items }

@@ -8,14 +8,14 @@ ghost use Rattle.ipx_tables.specs.Best.{IsBest, NoneCounts};
 ghost use Rattle.ipx_tables.specs.Inventory.{IsInventory};
 ghost use Rattle.ipx_tables.specs.Listing.{IsListing};
 
-use crate::ageing::keep_young;
+use crate::ageing::expire;
 use crate::fault::TableFault;
 use crate::finding::best_in;
 use crate::inventory::{Inventory, offers_on};
 use crate::metric::Metric;
 use crate::moments::expiry;
 use crate::offer::Offer;
-use crate::shelf::Shelf;
+use crate::offer_store::OfferStore;
 use crate::source::Source;
 use crate::walk::{Bests, bests_on};
 use std::alloc::Global;
@@ -29,7 +29,7 @@ pub struct Offers<K: Ord + Copy, M: Metric + Copy> {
     most: usize,
     /// No offer is old before this moment. It may be too early, which costs a search for the oldest.
     none_old_before: u64,
-    shelf: Shelf<K, M>,
+    offer_store: OfferStore<K, M>,
 }
 
 impl<K: Ord + Copy, M: Metric + Copy> Model for Offers<K, M> {
@@ -38,10 +38,10 @@ impl<K: Ord + Copy, M: Metric + Copy> Model for Offers<K, M> {
 
     ghost Value = { Table K M };
 
-    ghost view = { λ o. record { most = o.most; offers = o.shelf } };
+    ghost view = { λ o. record { most = o.most; offers = o.offer_store } };
 
-    ghost invariant = { λ o. IsTable K.cmp (record { most = o.most; offers = o.shelf })
-        × NoneOldBefore o.none_old_before o.shelf };
+    ghost invariant = { λ o. IsTable K.cmp (record { most = o.most; offers = o.offer_store })
+        × NoneOldBefore o.none_old_before o.offer_store };
 }
 
 impl<K: Ord + Copy, M: Metric + Copy> Offers<K, M> {
@@ -53,7 +53,7 @@ impl<K: Ord + Copy, M: Metric + Copy> Offers<K, M> {
         Offers {
             most,
             none_old_before: u64::MAX,
-            shelf: Shelf::new(alloc),
+            offer_store: OfferStore::new(alloc),
         }
     }
 
@@ -96,10 +96,10 @@ impl<K: Ord + Copy, M: Metric + Copy> Offers<K, M> {
             + (if is_some (content K.cmp self.old.offers (key, source)) then 1 else 0)
             ≡ length self.old.offers + (if M.dead metric then 0 else 1)) }
     {
-        let place = self.shelf.place_of(key, source);
+        let place = self.offer_store.place_of(key, source);
         if metric.dead() {
             if let Ok(at) = place {
-                self.shelf.take_out(at);
+                self.offer_store.take_out(at);
             }
             return Ok(());
         }
@@ -112,12 +112,12 @@ impl<K: Ord + Copy, M: Metric + Copy> Offers<K, M> {
         };
         match place {
             Ok(at) => {
-                self.shelf.replace(at, offer);
+                self.offer_store.replace(at, offer);
                 Ok(())
             }
-            Err(_) if self.shelf.len() >= self.most => Err(TableFault::Full),
+            Err(_) if self.offer_store.len() >= self.most => Err(TableFault::Full),
             Err(at) => {
-                self.shelf.add(at, offer)?;
+                self.offer_store.add(at, offer)?;
                 Ok(())
             }
         }
@@ -142,7 +142,7 @@ impl<K: Ord + Copy, M: Metric + Copy> Offers<K, M> {
         if now < self.none_old_before {
             return;
         }
-        self.none_old_before = keep_young(&mut self.shelf, now);
+        self.none_old_before = expire(&mut self.offer_store, now);
     }
 
     /// The best of the offers of this key that count: those heard less than three minutes ago.
@@ -167,7 +167,7 @@ impl<K: Ord + Copy, M: Metric + Copy> Offers<K, M> {
         ensures all_read { count_by (λ o. is_eq (K.cmp o.key key.now)) self.now.offers ≤ result.1 }
         ensures valid { IsTable K.cmp self.now }
     {
-        let (best, steps) = best_in(&self.shelf, *key, now);
+        let (best, steps) = best_in(&self.offer_store, *key, now);
         match best {
             None => (None, steps),
             Some(best) => (Some((best.source, best.metric)), steps),
@@ -183,8 +183,8 @@ impl<K: Ord + Copy, M: Metric + Copy> Offers<K, M> {
             → result ≡ [] }
         ensures valid { IsTable K.cmp self.now }
     {
-        let _offers = self.shelf.len();
-        bests_on(&self.shelf, now)
+        let _offers = self.offer_store.len();
+        bests_on(&self.offer_store, now)
     }
 
     /// Walks over each offer, old ones too, by key, and those of a key by source: what was heard, of
@@ -194,8 +194,8 @@ impl<K: Ord + Copy, M: Metric + Copy> Offers<K, M> {
         ensures keys { All (λ o. heard_key K.cmp self.now.offers (pair_of o) ≡ Some o.key) result }
         ensures valid { IsTable K.cmp self.now }
     {
-        let _offers = self.shelf.len();
-        offers_on(&self.shelf)
+        let _offers = self.offer_store.len();
+        offers_on(&self.offer_store)
     }
 
     /// Each key that has a best, with its best, by key. Its only fault is `OutOfMemory`.
@@ -211,7 +211,7 @@ impl<K: Ord + Copy, M: Metric + Copy> Offers<K, M> {
             → NoneCounts (content K.cmp self.now.offers) key now) → IsOk result }
         ensures valid { IsTable K.cmp self.now }
     {
-        let mut listed = with_room(alloc, self.shelf.len());
+        let mut listed = with_room(alloc, self.offer_store.len());
         for item in self.bests(now) {
             listed.push(item)?;
         }

@@ -46,12 +46,12 @@ impl Metric for RouteMetric {
 pub type RouteTable = Offers<Network, RouteMetric>;
 
 /// How many offers of routes a router holds.
-pub const MOST_ROUTES: usize = 1024;
+pub const MAX_ROUTES: usize = 1024;
 
-/// No routes yet, and room for `MOST_ROUTES` offers.
+/// No routes yet, and room for `MAX_ROUTES` offers.
 pub fn route_table(alloc: Global) -> RouteTable
     ensures most { result.most ≡ 1024 }
     ensures empty { result.offers ≡ [] }
 {
-    Offers::new(alloc, MOST_ROUTES)
+    Offers::new(alloc, MAX_ROUTES)
 }

@@ -89,12 +89,12 @@ impl Metric for ServiceMetric {
 pub type ServiceTable = Offers<ServiceKey, ServiceMetric>;
 
 /// How many offers of services a router holds.
-pub const MOST_SERVICES: usize = 4096;
+pub const MAX_SERVICES: usize = 4096;
 
-/// No services yet, and room for `MOST_SERVICES` offers.
+/// No services yet, and room for `MAX_SERVICES` offers.
 pub fn service_table(alloc: Global) -> ServiceTable
     ensures most { result.most ≡ 4096 }
     ensures empty { result.offers ≡ [] }
 {
-    Offers::new(alloc, MOST_SERVICES)
+    Offers::new(alloc, MAX_SERVICES)
 }

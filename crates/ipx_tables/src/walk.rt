@@ -8,14 +8,14 @@ use crate::finding::better_one;
 use crate::metric::Metric;
 use crate::moments::counts;
 use crate::offer::Offer;
-use crate::shelf::Shelf;
+use crate::offer_store::OfferStore;
 use crate::source::Source;
 use std::marker::Model;
 
 /// Each key that has a best, with its best, by key. It takes no memory.
 #[derive(Drop)]
 pub struct Bests<'a, K: Ord + Copy, M: Metric + Copy> {
-    shelf: &'a Shelf<K, M>,
+    offer_store: &'a OfferStore<K, M>,
     at: usize,
     now: u64,
 }
@@ -27,14 +27,14 @@ impl<'a, K: Ord + Copy, M: Metric + Copy> Model for Bests<'a, K, M> {
 
     ghost Value = { List (K × Source × M) };
 
-    ghost view = { λ b. bests_of K.cmp M.before b.now (drop b.at b.shelf.now) };
+    ghost view = { λ b. bests_of K.cmp M.before b.now (drop b.at b.offer_store.now) };
 }
 
 /// The best of each key of the shelf.
-pub fn bests_on<K: Ord + Copy, M: Metric + Copy>(shelf: &Shelf<K, M>, now: u64) -> Bests<'_, K, M>
-    ensures { result ≡ bests_of K.cmp M.before now shelf.now }
+pub fn bests_on<K: Ord + Copy, M: Metric + Copy>(offer_store: &OfferStore<K, M>, now: u64) -> Bests<'_, K, M>
+    ensures { result ≡ bests_of K.cmp M.before now offer_store.now }
 {
-    Bests { shelf, at: 0, now }
+    Bests { offer_store, at: 0, now }
 }
 
 impl<'a, K: Ord + Copy, M: Metric + Copy> Iterator for Bests<'a, K, M> {
@@ -47,11 +47,11 @@ impl<'a, K: Ord + Copy, M: Metric + Copy> Iterator for Bests<'a, K, M> {
     ghost remaining = { item_count (λ items. items) };
 
     fn next(&mut self) -> Option<(K, Source, M)> {
-        if let Some(lone) = lone_at(self.shelf, self.at, self.now) {
+        if let Some(lone) = lone_at(self.offer_store, self.at, self.now) {
             self.at += 1;
             return Some((lone.key, lone.source, lone.metric));
         }
-        let (best, at) = next_best(self.shelf, self.at, self.now);
+        let (best, at) = next_best(self.offer_store, self.at, self.now);
         self.at = at;
         let best = best?;
         Some((best.key, best.source, best.metric))
@@ -60,31 +60,31 @@ impl<'a, K: Ord + Copy, M: Metric + Copy> Iterator for Bests<'a, K, M> {
 
 /// Whether the offer at a place counts, and the next one is of another key.
 #[inline]
-fn is_lone<K: Ord + Copy, M: Copy>(shelf: &Shelf<K, M>, at: usize, now: u64) -> bool
-    ensures { result ≡ true → IsLone K.cmp now shelf.now at }
+fn is_lone<K: Ord + Copy, M: Copy>(offer_store: &OfferStore<K, M>, at: usize, now: u64) -> bool
+    ensures { result ≡ true → IsLone K.cmp now offer_store.now at }
 {
-    let end = shelf.len();
-    if at >= end || !counts(now, shelf.get(at).heard) {
+    let end = offer_store.len();
+    if at >= end || !counts(now, offer_store.get(at).heard) {
         return false;
     }
-    at + 1 == end || !shelf.tie(at, at + 1)
+    at + 1 == end || !offer_store.tie(at, at + 1)
 }
 
 /// The offer at a place, if it counts and the next one is of another key: mostly a key has one
 /// offer, and then nothing else is looked at.
 #[inline]
 fn lone_at<K: Ord + Copy, M: Metric + Copy>(
-    shelf: &Shelf<K, M>,
+    offer_store: &OfferStore<K, M>,
     at: usize,
     now: u64,
 ) -> Option<Offer<K, M>>
     ensures within { OnSome result (at < 2 ^ 63) }
-    ensures found { IfSome result (λ o. bests_of K.cmp M.before now (drop at shelf.now)
-        ≡ item_of o ∷ bests_of K.cmp M.before now (drop (at + 1) shelf.now)) }
+    ensures found { IfSome result (λ o. bests_of K.cmp M.before now (drop at offer_store.now)
+        ≡ item_of o ∷ bests_of K.cmp M.before now (drop (at + 1) offer_store.now)) }
 {
-    let _offers = shelf.len();
-    if is_lone(shelf, at, now) {
-        return Some(*shelf.get(at));
+    let _offers = offer_store.len();
+    if is_lone(offer_store, at, now) {
+        return Some(*offer_store.get(at));
     }
     None
 }
@@ -103,20 +103,20 @@ fn is_past<K: Ord + Copy, M: Copy>(held: Option<&Offer<K, M>>, key: K) -> bool
 /// that key.
 #[inline(never)] // so that a walk over lone offers has only these in line
 fn next_best<K: Ord + Copy, M: Metric + Copy>(
-    shelf: &Shelf<K, M>,
+    offer_store: &OfferStore<K, M>,
     from: usize,
     now: u64,
 ) -> (Option<Offer<K, M>>, usize)
-    ensures found { IfSome result.0 (λ o. bests_of K.cmp M.before now (drop from shelf.now)
-        ≡ item_of o ∷ bests_of K.cmp M.before now (drop result.1 shelf.now)) }
-    ensures none { IfNone result.0 ((bests_of K.cmp M.before now (drop from shelf.now) ≡ [])
-        × (bests_of K.cmp M.before now (drop result.1 shelf.now) ≡ [])) }
+    ensures found { IfSome result.0 (λ o. bests_of K.cmp M.before now (drop from offer_store.now)
+        ≡ item_of o ∷ bests_of K.cmp M.before now (drop result.1 offer_store.now)) }
+    ensures none { IfNone result.0 ((bests_of K.cmp M.before now (drop from offer_store.now) ≡ [])
+        × (bests_of K.cmp M.before now (drop result.1 offer_store.now) ≡ [])) }
 {
     let mut held: Option<&Offer<K, M>> = None;
     let mut at = from;
-    let end = shelf.len();
+    let end = offer_store.len();
     while at < end {
-        let offer = shelf.get(at);
+        let offer = offer_store.get(at);
         if is_past(held, offer.key) {
             return (held.copied(), at);
         }

@@ -138,9 +138,9 @@ below_out count (Some k) place e = by_bool (nat_lt k count) refl e
     by_bool false less same = absurd (cc)
 
 wanted_out : (l : LinkView) (now place : ℕ) (q : Queued) → P.wanted l now ≡ Some place → place < l.out
-wanted_out l now place q e = by_bool l.by_hand refl e
+wanted_out l now place q e = by_bool l.manual refl e
   where
-    by_bool : (b : Bool) → l.by_hand ≡ b → (if b then P.asked_again l else P.late l now) ≡ Some place → place < l.out
+    by_bool : (b : Bool) → l.manual ≡ b → (if b then P.asked_again l else P.late l now) ≡ Some place → place < l.out
     by_bool true hand same = let less = below_out (length (take l.out l.queue)) l.again place same in omega (arith, less, length-take l.out l.queue)
     by_bool false hand same = late_out l now place q same
 

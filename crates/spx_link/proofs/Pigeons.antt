@@ -9,18 +9,18 @@ is_hit f zero m = false
 is_hit f (suc n) m = is_hit f n m || (m == f n)
 
 -- how many pass
-abbrev tally : (ℕ → Bool) → List ℕ → ℕ
-tally p [] = 0
-tally p (n ∷ ns) = cond (p n) 1 0 + tally p ns
+abbrev totals : (ℕ → Bool) → List ℕ → ℕ
+totals p [] = 0
+totals p (n ∷ ns) = cond (p n) 1 0 + totals p ns
 
 tally_step : (b : Bool) (x y : ℕ) → x ≤ y → cond b 1 0 + x ≤ y + 1
 tally_step true x y h = omega (arith, h)
 tally_step false x y h = omega (arith, h)
 
-tally_within : (p : ℕ → Bool) (ns : List ℕ) → tally p ns ≤ length ns
+tally_within : (p : ℕ → Bool) (ns : List ℕ) → totals p ns ≤ length ns
 tally_within p [] = omega arith
 tally_within p (n ∷ ns) =
-    let here = tally_step (p n) (tally p ns) (length ns) (tally_within p ns) in
+    let here = tally_step (p n) (totals p ns) (length ns) (tally_within p ns) in
     omega (arith, here)
 
 no_less_step : (b c : Bool) (x y : ℕ) → x ≤ y → cond b 1 0 + x ≤ cond (b || c) 1 0 + y
@@ -28,9 +28,9 @@ no_less_step true c x y h = omega (arith, h)
 no_less_step false true x y h = omega (arith, h)
 no_less_step false false x y h = omega (arith, h)
 
-no_less : (p q : ℕ → Bool) (ns : List ℕ) → tally p ns ≤ tally (λ m. p m || q m) ns
+no_less : (p q : ℕ → Bool) (ns : List ℕ) → totals p ns ≤ totals (λ m. p m || q m) ns
 no_less p q [] = omega arith
-no_less p q (n ∷ ns) = no_less_step (p n) (q n) (tally p ns) (tally (λ m. p m || q m) ns) (no_less p q ns)
+no_less p q (n ∷ ns) = no_less_step (p n) (q n) (totals p ns) (totals (λ m. p m || q m) ns) (no_less p q ns)
 
 more_step : (b c : Bool) (x y : ℕ) → (c ≡ true → b ≡ false) → x ≤ y → (c ≡ false → x + 1 ≤ y) → cond b 1 0 + x + 1 ≤ cond (b || c) 1 0 + y
 more_step true true x y new all more = absurd (cc (new refl))
@@ -43,10 +43,10 @@ or_second true c h e = cc
 or_second false c h e = h
 
 -- one number more that is there, and did not pass
-one_more : (p : ℕ → Bool) (a : ℕ) (ns : List ℕ) → p a ≡ false → is_among ns a ≡ true → tally p ns + 1 ≤ tally (λ m. p m || (m == a)) ns
+one_more : (p : ℕ → Bool) (a : ℕ) (ns : List ℕ) → p a ≡ false → is_among ns a ≡ true → totals p ns + 1 ≤ totals (λ m. p m || (m == a)) ns
 one_more p a [] new among = absurd (cc (among))
 one_more p a (n ∷ ns) new among =
-    more_step (p n) (n == a) (tally p ns) (tally (λ m. p m || (m == a)) ns)
+    more_step (p n) (n == a) (totals p ns) (totals (λ m. p m || (m == a)) ns)
     (λ e. ap p (eq_from n a e) ∙ new)
     (no_less p (λ m. m == a) ns)
     (λ e. one_more p a ns new (or_second (n == a) (is_among ns a) among e))
@@ -60,11 +60,11 @@ no_hit f zero m other = refl
 no_hit f (suc n) m other =
     neither (is_hit f n m) (m == f n) (no_hit f n m (λ i h. other i (omega arith))) (eq_false m (f n) (other n (omega arith)))
 
-all_hit : (f : ℕ → ℕ) (n : ℕ) (ns : List ℕ) → ((i j : ℕ) → i < j → j < n → f j ≢ f i) → ((k : ℕ) → k < n → is_among ns (f k) ≡ true) → n ≤ tally (is_hit f n) ns
+all_hit : (f : ℕ → ℕ) (n : ℕ) (ns : List ℕ) → ((i j : ℕ) → i < j → j < n → f j ≢ f i) → ((k : ℕ) → k < n → is_among ns (f k) ≡ true) → n ≤ totals (is_hit f n) ns
 all_hit f zero ns apart among = omega arith
 all_hit f (suc n) ns apart among =
-    let below : n ≤ tally (is_hit f n) ns = all_hit f n ns (λ i j h k. apart i j h (omega arith)) (λ k h. among k (omega arith)) in
-    let here : tally (is_hit f n) ns + 1 ≤ tally (is_hit f (suc n)) ns = one_more (is_hit f n) (f n) ns (no_hit f n (f n) (λ i h. apart i n h (omega arith))) (among n (omega arith)) in
+    let below : n ≤ totals (is_hit f n) ns = all_hit f n ns (λ i j h k. apart i j h (omega arith)) (λ k h. among k (omega arith)) in
+    let here : totals (is_hit f n) ns + 1 ≤ totals (is_hit f (suc n)) ns = one_more (is_hit f n) (f n) ns (no_hit f n (f n) (λ i h. apart i n h (omega arith))) (among n (omega arith)) in
     omega (arith, below, here)
 
 pub as_many_places : (f : ℕ → ℕ) (n : ℕ) (ns : List ℕ) → ((i j : ℕ) → i < j → j < n → f j ≢ f i) → ((k : ℕ) → k < n → is_among ns (f k) ≡ true) → n ≤ length ns

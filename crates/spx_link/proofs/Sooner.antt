@@ -56,7 +56,7 @@ asked_shown l (Some place) = zero_shown
 asked_shown l None = by_test Shown (l.out == 0) (probe_due l) None (λ _. probe_shown l) (λ _. tt)
 
 again_due_shown : (l : LinkView) → Shown (again_due l)
-again_due_shown l = by_test Shown l.by_hand (asked_due l (P.asked_again l)) (sent_due l (earliest (take l.out l.queue))) (λ _. asked_shown l (P.asked_again l)) (λ _. sent_shown l (earliest (take l.out l.queue)))
+again_due_shown l = by_test Shown l.manual (asked_due l (P.asked_again l)) (sent_due l (earliest (take l.out l.queue))) (λ _. asked_shown l (P.asked_again l)) (λ _. sent_shown l (earliest (take l.out l.queue)))
 
 joined_shown : (l : LinkView) → Shown (joined_due l)
 joined_shown l =

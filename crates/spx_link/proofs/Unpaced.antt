@@ -25,7 +25,7 @@ sends_so l u =
 late_so : (l : LinkView) (now : ℕ) → C.IsUnpaced l → P.late_if_working l now ≡ C.late_by_clock l now
 late_so l now u =
     let working : Option ℕ → Option ℕ = λ o. if is_working l.state then o else None in
-    ap working (cond-false l.by_hand (P.asked_again l) (P.late l now) u.by_hand)
+    ap working (cond-false l.manual (P.asked_again l) (P.late l now) u.manual)
 
 unit_so : (l : LinkView) (now : ℕ) → C.IsUnpaced l → P.poll_unit l now ≡ C.unit_by_clock l now
 unit_so l now u =
@@ -50,9 +50,9 @@ poll_so l now u = poll_at_so l.state l now u
 
 -- ---- a place that is asked for
 
-pub place_unasked : (l : LinkView) (place now : ℕ) → l.by_hand ≡ false → P.wanted (again_link l place) now ≡ P.wanted l now
+pub place_unasked : (l : LinkView) (place now : ℕ) → l.manual ≡ false → P.wanted (again_link l place) now ≡ P.wanted l now
 place_unasked l place now clock =
-    cond-false l.by_hand (P.asked_again (again_link l place)) (P.late l now) clock ∙ sym (cond-false l.by_hand (P.asked_again l) (P.late l now) clock)
+    cond-false l.manual (P.asked_again (again_link l place)) (P.late l now) clock ∙ sym (cond-false l.manual (P.asked_again l) (P.late l now) clock)
 
 pub place_outside : (l : LinkView) (place : ℕ) → l.out ≤ place → P.asked_again (again_link l place) ≡ None
 place_outside l place out = by_bool (nat_lt place (length (take l.out l.queue))) refl

@@ -184,14 +184,14 @@ may_waits l may =
     let more = (and_parts (is_working l.state) (P.is_waiting l && (nat_lt 0 l.room && (nat_lt l.out 8192 && nat_lt l.out l.window))) may).1 in
     (and_parts (P.is_waiting l) (nat_lt 0 l.room && (nat_lt l.out 8192 && nat_lt l.out l.window)) more).0
 
-hand_wanted : (l : LinkView) (now : ℕ) → l.by_hand ≡ true → P.wanted l now ≡ P.asked_again l
-hand_wanted l now hand = cond-true l.by_hand (P.asked_again l) (P.late l now) hand
+hand_wanted : (l : LinkView) (now : ℕ) → l.manual ≡ true → P.wanted l now ≡ P.asked_again l
+hand_wanted l now hand = cond-true l.manual (P.asked_again l) (P.late l now) hand
 
-clock_wanted : (l : LinkView) (now : ℕ) → l.by_hand ≡ false → P.wanted l now ≡ P.late l now
-clock_wanted l now clock = cond-false l.by_hand (P.asked_again l) (P.late l now) clock
+clock_wanted : (l : LinkView) (now : ℕ) → l.manual ≡ false → P.wanted l now ≡ P.late l now
+clock_wanted l now clock = cond-false l.manual (P.asked_again l) (P.late l now) clock
 
 wanted_within : (l : LinkView) (now place : ℕ) → P.wanted l now ≡ Some place → place < length (take l.out l.queue)
-wanted_within l now place e = by_bool l.by_hand e
+wanted_within l now place e = by_bool l.manual e
   where
     by_bool : (b : Bool) → (if b then P.asked_again l else P.late l now) ≡ Some place → place < length (take l.out l.queue)
     by_bool true same = below_out (length (take l.out l.queue)) l.again place same
@@ -279,7 +279,7 @@ none_by : (l : LinkView) (now : ℕ) (b : Bool) → P.wanted l now ≡ None → 
 none_by l now true e = e
 none_by l now false e = refl
 
-none_late_now : (l : LinkView) (now : ℕ) → l.by_hand ≡ false → earliest (take l.out l.queue) ≡ None → P.late_if_working l now ≡ None
+none_late_now : (l : LinkView) (now : ℕ) → l.manual ≡ false → earliest (take l.out l.queue) ≡ None → P.late_if_working l now ≡ None
 none_late_now l now clock none = none_by l now (is_working l.state) (clock_wanted l now clock ∙ none_late now (take l.out l.queue) none)
 
 no_first : (a b : Bool) → a ≡ false → (a && b) ≡ false
@@ -385,7 +385,7 @@ probe_says l live owes working none quiet =
     (λ now past. probe_acts l now live owes (quiet now) (late_probe l now working none waits past)))
     (λ no now _. reply_waits l now owes (quiet now) (no_probe l now no))
 
-working_says : (l : LinkView) → (l.state ≡ States.Lost → ⊥) → owes_now l ≡ false → is_working l.state ≡ true → l.by_hand ≡ false → (o : Option ℕ) → earliest (take l.out l.queue) ≡ o → Says l (P.poll_reply l) (sent_due l o)
+working_says : (l : LinkView) → (l.state ≡ States.Lost → ⊥) → owes_now l ≡ false → is_working l.state ≡ true → l.manual ≡ false → (o : Option ℕ) → earliest (take l.out l.queue) ≡ o → Says l (P.poll_reply l) (sent_due l o)
 working_says l live owes working clock None e = probe_says l live owes working e (λ now. none_late_now l now clock e)
 working_says l live owes working clock (Some at) e =
     from_then l (P.poll_reply l) at
@@ -401,7 +401,7 @@ none_sent (suc n) qs e =
     let no : (suc n == 0) ≡ false = grind (arith, nat_tests) in
     absurd (unlike (suc n == 0) no e)
 
-hand_says : (l : LinkView) → (l.state ≡ States.Lost → ⊥) → owes_now l ≡ false → is_working l.state ≡ true → l.by_hand ≡ true → (o : Option ℕ) → P.asked_again l ≡ o → Says l (P.poll_reply l) (asked_due l o)
+hand_says : (l : LinkView) → (l.state ≡ States.Lost → ⊥) → owes_now l ≡ false → is_working l.state ≡ true → l.manual ≡ true → (o : Option ℕ) → P.asked_again l ≡ o → Says l (P.poll_reply l) (asked_due l o)
 hand_says l live owes working hand (Some place) e =
     at_once l (P.poll_reply l) (λ now. late_alone l now place live owes (working_wanted l now working ∙ (hand_wanted l now hand ∙ e)) (hand_wanted l now hand ∙ e))
 hand_says l live owes working hand None e =
@@ -412,7 +412,7 @@ hand_says l live owes working hand None e =
 
 again_says : (l : LinkView) → (l.state ≡ States.Lost → ⊥) → owes_now l ≡ false → is_working l.state ≡ true → Says l (P.poll_reply l) (again_due l)
 again_says l live owes working =
-    by_test (Says l (P.poll_reply l)) l.by_hand (asked_due l (P.asked_again l)) (sent_due l (earliest (take l.out l.queue)))
+    by_test (Says l (P.poll_reply l)) l.manual (asked_due l (P.asked_again l)) (sent_due l (earliest (take l.out l.queue)))
     (λ hand. hand_says l live owes working hand (P.asked_again l) refl)
     (λ clock. working_says l live owes working clock (earliest (take l.out l.queue)) refl)
 

@@ -12,12 +12,12 @@ use Rattle.spx_link.specs.Poll.{replies, sends}
 
 -- the window, and whether units go again by hand
 abbrev pub pace_of : LinkView → ℕ × Bool
-pace_of l = (l.window, l.by_hand)
+pace_of l = (l.window, l.manual)
 
 -- both are those of a new link
 pub record IsUnpaced (l : LinkView) : Type 0 where
   pub window : l.window ≡ most_units
-  pub by_hand : l.by_hand ≡ false
+  pub manual : l.manual ≡ false
 
 -- the first outstanding unit that is due
 abbrev pub late_by_clock : LinkView → ℕ → Option ℕ

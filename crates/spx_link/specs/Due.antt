@@ -70,7 +70,7 @@ asked_due l None = if l.out == 0 then probe_due l else None
 
 abbrev pub again_due : LinkView → Option ℕ
 again_due l =
-    if l.by_hand
+    if l.manual
     then asked_due l (asked_again l)
     else sent_due l (earliest (take l.out l.queue))
 

@@ -41,7 +41,7 @@ pub record LinkView : Type 0 where
   -- how many units may be outstanding; whether units go again by the clock or where they are asked
   -- for; and the place that was asked for, counted from the first outstanding unit
   pub window : ℕ
-  pub by_hand : Bool
+  pub manual : Bool
   pub again : Option ℕ
 
 -- how many more units it can hold
@@ -112,6 +112,6 @@ made_link state own peer local remote buffers now accepted =
       end_queued = false;
       peer_ended = false;
       window = most_units;
-      by_hand = false;
+      manual = false;
       again = None;
     }

@@ -33,8 +33,8 @@ pub fn unpaced_links_go_by_the_clock()
 
 /// A place that is asked for is nothing to a link that goes by the clock, and where no unit is
 /// outstanding at it none is asked for.
-pub fn places_are_asked_by_hand_alone()
-    ensures by_clock { (l : LinkView) (place now : ℕ) → l.by_hand ≡ false
+pub fn places_are_manual_only()
+    ensures by_clock { (l : LinkView) (place now : ℕ) → l.manual ≡ false
         → wanted (again_link l place) now ≡ wanted l now }
     ensures outside { (l : LinkView) (place : ℕ) → l.out ≤ place
         → asked_again (again_link l place) ≡ None }

@@ -34,8 +34,8 @@ pub fn open_links_queue_no_end()
     ensures owe_reply { (l : LinkView) → HasNoEndWhileOpen l
         → HasNoEndWhileOpen (owe_reply_link l) }
     ensures lose { (l : LinkView) → HasNoEndWhileOpen (lose_link l) }
-    ensures pace { (l : LinkView) (window : ℕ) (by_hand : Bool) → HasNoEndWhileOpen l
-        → HasNoEndWhileOpen (pace_link l window by_hand) }
+    ensures pace { (l : LinkView) (window : ℕ) (manual : Bool) → HasNoEndWhileOpen l
+        → HasNoEndWhileOpen (pace_link l window manual) }
     ensures again { (l : LinkView) (place : ℕ) → HasNoEndWhileOpen l
         → HasNoEndWhileOpen (again_link l place) }
 {}
@@ -58,8 +58,8 @@ pub fn confirmed_links_are_whole()
     ensures owe_reply { (l : LinkView) → IsWholeOnceConfirmed l
         → IsWholeOnceConfirmed (owe_reply_link l) }
     ensures lose { (l : LinkView) → IsWholeOnceConfirmed (lose_link l) }
-    ensures pace { (l : LinkView) (window : ℕ) (by_hand : Bool) → IsWholeOnceConfirmed l
-        → IsWholeOnceConfirmed (pace_link l window by_hand) }
+    ensures pace { (l : LinkView) (window : ℕ) (manual : Bool) → IsWholeOnceConfirmed l
+        → IsWholeOnceConfirmed (pace_link l window manual) }
     ensures again { (l : LinkView) (place : ℕ) → IsWholeOnceConfirmed l
         → IsWholeOnceConfirmed (again_link l place) }
 {}
@@ -84,8 +84,8 @@ pub fn taken_and_held_are_expected()
     ensures owe_reply { (l : LinkView) (taken : ℕ) → HasTaken taken l
         → HasTaken taken (owe_reply_link l) }
     ensures lose { (l : LinkView) (taken : ℕ) → HasTaken taken l → HasTaken taken (lose_link l) }
-    ensures pace { (l : LinkView) (window : ℕ) (by_hand : Bool) (taken : ℕ) → HasTaken taken l
-        → HasTaken taken (pace_link l window by_hand) }
+    ensures pace { (l : LinkView) (window : ℕ) (manual : Bool) (taken : ℕ) → HasTaken taken l
+        → HasTaken taken (pace_link l window manual) }
     ensures again { (l : LinkView) (place taken : ℕ) → HasTaken taken l
         → HasTaken taken (again_link l place) }
 {}

@@ -56,7 +56,7 @@ impl Link {
         if !self.is_working() {
             return None;
         }
-        if self.by_hand {
+        if self.manual {
             return self.asked_due();
         }
         match self.queue.first_sent(usize::from(self.out)) {

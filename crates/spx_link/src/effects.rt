@@ -178,9 +178,9 @@ pub fn others_keep_units()
         × ((owe_reply_link l).state ≡ l.state) }
     ensures lose { (l : LinkView)
         → SameUnits l (lose_link l) × SameEndings l (lose_link l) × ((lose_link l).state ≡ Lost) }
-    ensures pace { (l : LinkView) (window : ℕ) (by_hand : Bool)
-        → SameUnits l (pace_link l window by_hand) × SameEndings l (pace_link l window by_hand)
-        × ((pace_link l window by_hand).state ≡ l.state) }
+    ensures pace { (l : LinkView) (window : ℕ) (manual : Bool)
+        → SameUnits l (pace_link l window manual) × SameEndings l (pace_link l window manual)
+        × ((pace_link l window manual).state ≡ l.state) }
     ensures again { (l : LinkView) (place : ℕ)
         → SameUnits l (again_link l place) × SameEndings l (again_link l place)
         × ((again_link l place).state ≡ l.state) }
@@ -217,9 +217,9 @@ pub fn others_change_no_number()
         → (numbers_of (owe_reply_link l) ≡ numbers_of l) × SamePeer l (owe_reply_link l) }
     ensures lose { (l : LinkView)
         → (numbers_of (lose_link l) ≡ numbers_of l) × SamePeer l (lose_link l) }
-    ensures pace { (l : LinkView) (window : ℕ) (by_hand : Bool)
-        → (numbers_of (pace_link l window by_hand) ≡ numbers_of l)
-        × SamePeer l (pace_link l window by_hand) }
+    ensures pace { (l : LinkView) (window : ℕ) (manual : Bool)
+        → (numbers_of (pace_link l window manual) ≡ numbers_of l)
+        × SamePeer l (pace_link l window manual) }
     ensures again { (l : LinkView) (place : ℕ)
         → (numbers_of (again_link l place) ≡ numbers_of l) × SamePeer l (again_link l place) }
 {}

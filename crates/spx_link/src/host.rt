@@ -4,7 +4,7 @@ ghost use Rattle.std.specs.Prelude.{◌≡◌, IfOk};
 ghost use Rattle.spx_link.specs.Offer as spec;
 
 use crate::buffers::Buffers;
-use crate::limits::{MOST_UNITS, NO_ID};
+use crate::limits::{MAX_UNITS, NO_ID};
 use crate::link::Link;
 use crate::queue::Queue;
 use crate::state::State;
@@ -50,8 +50,8 @@ impl Link {
             accepted: false,
             end_queued: false,
             peer_ended: false,
-            window: MOST_UNITS,
-            by_hand: false,
+            window: MAX_UNITS,
+            manual: false,
             again: None,
         })
     }
@@ -90,11 +90,11 @@ impl Link {
 
     /// So many units may be outstanding from now on, at most, and at most 8,192. By hand, units
     /// go again where `again` asks for them, and not 500 milliseconds after they were sent.
-    pub fn pace(&mut self, window: u16, by_hand: bool)
-        ensures { self.new ≡ spec.pace_link self.old window by_hand }
+    pub fn pace(&mut self, window: u16, manual: bool)
+        ensures { self.new ≡ spec.pace_link self.old window manual }
     {
         self.window = window;
-        self.by_hand = by_hand;
+        self.manual = manual;
         self.again = None;
     }
 

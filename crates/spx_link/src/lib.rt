@@ -31,7 +31,7 @@ mod state;
 mod text;
 mod unit;
 
-pub use by_clock::{places_are_asked_by_hand_alone, unpaced_links_go_by_the_clock};
+pub use by_clock::{places_are_manual_only, unpaced_links_go_by_the_clock};
 pub use courses::{
     confirmed_links_are_whole, links_apart_send_nothing, open_links_queue_no_end,
     opening_links_join_or_stay, taken_and_held_are_expected,
@@ -45,7 +45,7 @@ pub use effects::{
 };
 pub use fault::{LinksFault, OfferFault};
 pub use laws::{acknowledgement, allocation, marks, sequence, windows};
-pub use limits::{MOST_LINKS, MOST_UNITS};
+pub use limits::{MAX_LINKS, MAX_UNITS};
 pub use link::Link;
 pub use links::Links;
 pub use machine::{allowances, chain, fresh_packets, growth, packets, soundness, within};

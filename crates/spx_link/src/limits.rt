@@ -1,19 +1,19 @@
 //! The numbers of a link: those of Novell SPX, and the limits of this project.
 
 /// How many units may be outstanding, and how many buffers an end may have.
-pub const MOST_UNITS: u16 = 8192;
+pub const MAX_UNITS: u16 = 8192;
 
 /// How many links a host may hold.
-pub const MOST_LINKS: usize = 16;
+pub const MAX_LINKS: usize = 16;
 
 /// How often a unit, a request or a probe is sent.
-pub const MOST_SENDS: u8 = 10;
+pub const MAX_SENDS: u8 = 10;
 
 /// After how many milliseconds it is sent again.
 pub const RESEND_AFTER: u64 = 500;
 
 /// How far ahead of the next unit an allocation may lie.
-pub const MOST_ROOM: u16 = 16383;
+pub const MAX_WINDOW: u16 = 16383;
 
 /// The datastream type of the end of a connection.
 pub const END_STREAM: u8 = 0xfe;

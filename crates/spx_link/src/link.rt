@@ -40,7 +40,7 @@ pub struct Link {
     pub(crate) end_queued: bool,
     pub(crate) peer_ended: bool,
     pub(crate) window: u16,
-    pub(crate) by_hand: bool,
+    pub(crate) manual: bool,
     pub(crate) again: Option<u16>,
 }
 
@@ -72,7 +72,7 @@ impl Model for Link {
       end_queued = l.end_queued;
       peer_ended = l.peer_ended;
       window = l.window;
-      by_hand = l.by_hand;
+      manual = l.manual;
       again = l.again;
     } };
 }
@@ -101,7 +101,7 @@ impl Link {
     }
 
     /// Whether its end is queued and the peer has acknowledged all that was queued, the end too.
-    pub fn is_whole(&self) -> bool
+    pub fn is_all_acked(&self) -> bool
         ensures { IsTrue result ↔ IsWhole self.now }
     {
         self.end_queued && self.queue.is_empty()

@@ -16,7 +16,7 @@ mod lookup;
 
 use crate::due::soonest;
 use crate::fault::LinksFault;
-use crate::limits::MOST_LINKS;
+use crate::limits::MAX_LINKS;
 use crate::link::Link;
 use crate::links::lookup::{is_live, least_above, least_accepted, link_in, next_free, remove_link};
 use ipx_wire::{Address, Socket, SpxHeader};
@@ -69,7 +69,7 @@ impl Links {
         ensures too_many { (result ≡ Err LinksFaults.TooMany) ↔ (count_of self.old ≡ most_links) }
         ensures unchanged { OnErr result (self.new ≡ self.old) }
     {
-        if self.links.len() >= MOST_LINKS {
+        if self.links.len() >= MAX_LINKS {
             return Err(LinksFault::TooMany);
         }
         let id = next_free(&self.links, self.last);
@@ -98,7 +98,7 @@ impl Links {
         ensures too_many { (result ≡ Err LinksFaults.TooMany) ↔ (count_of self.old ≡ most_links) }
         ensures unchanged { OnErr result (self.new ≡ self.old) }
     {
-        if self.links.len() >= MOST_LINKS {
+        if self.links.len() >= MAX_LINKS {
             return Err(LinksFault::TooMany);
         }
         let id = next_free(&self.links, self.last);

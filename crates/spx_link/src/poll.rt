@@ -8,7 +8,7 @@ ghost use Rattle.spx_link.specs.Lending.{LoanEndsAs};
 ghost use Rattle.spx_link.specs.Poll as spec;
 ghost use Rattle.spx_link.specs.Chosen.{carried};
 
-use crate::limits::{CONFIRM_STREAM, END_STREAM, MOST_SENDS, MOST_UNITS, NO_ID};
+use crate::limits::{CONFIRM_STREAM, END_STREAM, MAX_SENDS, MAX_UNITS, NO_ID};
 use crate::link::Link;
 use crate::outgoing::{Chosen, Outgoing, Sent};
 use crate::queue::due;
@@ -66,7 +66,7 @@ impl Link {
         if self.asked_count != 0 && !due(self.asked_at, now) {
             return None;
         }
-        if self.asked_count >= MOST_SENDS {
+        if self.asked_count >= MAX_SENDS {
             self.state = State::Lost;
             return None;
         }
@@ -146,7 +146,7 @@ impl Link {
         let at = usize::from(place);
         let (unit, stamp) = self.queue.at_place(at);
         let count = stamp.count;
-        if count >= MOST_SENDS {
+        if count >= MAX_SENDS {
             self.state = State::Lost;
             return None;
         }
@@ -179,7 +179,7 @@ impl Link {
         if !self.may_probe(now) {
             return None;
         }
-        if self.probes >= MOST_SENDS {
+        if self.probes >= MAX_SENDS {
             self.state = State::Lost;
             return None;
         }
@@ -201,7 +201,7 @@ impl Link {
         self.is_working()
             && self.is_waiting()
             && 0 < self.room
-            && self.out < MOST_UNITS
+            && self.out < MAX_UNITS
             && self.out < self.window
     }
 
@@ -224,7 +224,7 @@ impl Link {
         if !self.is_working() {
             return None;
         }
-        if self.by_hand {
+        if self.manual {
             return self.asked_again();
         }
         let place = self.queue.first_due(usize::from(self.out), now)?;

@@ -5,7 +5,7 @@ ghost use Rattle.spx_link.specs.LinkView as view;
 ghost use Rattle.spx_link.specs.SequenceMarks.{acknowledged};
 ghost use Rattle.spx_link.specs.Receive as spec;
 
-use crate::limits::{CONFIRM_STREAM, END_STREAM, MOST_ROOM, NO_ID};
+use crate::limits::{CONFIRM_STREAM, END_STREAM, MAX_WINDOW, NO_ID};
 use crate::link::Link;
 use crate::received::Received;
 use crate::state::State;
@@ -114,7 +114,7 @@ impl Link {
         ensures { self.new ≡ spec.read_limit limit self.old }
     {
         let beyond = limit.wrapping_add(1).wrapping_sub(self.next);
-        if self.room < beyond && beyond <= MOST_ROOM {
+        if self.room < beyond && beyond <= MAX_WINDOW {
             self.room = beyond;
         }
     }

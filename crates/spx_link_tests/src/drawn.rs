@@ -143,7 +143,7 @@ fn is_through(a: &Side, b: &Side, both: bool) -> bool {
 }
 
 /// As many rounds as are said to be enough, and one more: then all is through.
-fn go_through(rt: &impl Abort, tally: &mut Tally, a: &mut Side, b: &mut Side, now: u64) {
+fn go_through(rt: &impl Abort, totals: &mut Tally, a: &mut Side, b: &mut Side, now: u64) {
     let both = can_go_on(b, a);
     let back = if both { rounds_for(b, a) } else { 0 };
     let enough = rounds_for(a, b).max(back);
@@ -154,7 +154,7 @@ fn go_through(rt: &impl Abort, tally: &mut Tally, a: &mut Side, b: &mut Side, no
         }
         round(rt, a, b, now + 500 * u64::from(turn));
     }
-    let pair = tally.pairs;
+    let pair = totals.pairs;
     assert!(rt;
         needed <= enough,
         "pair {pair} of seed {SEED}: {needed} rounds of {enough}"
@@ -163,35 +163,35 @@ fn go_through(rt: &impl Abort, tally: &mut Tally, a: &mut Side, b: &mut Side, no
         is_through(a, b, both),
         "pair {pair} of seed {SEED}: after {enough} rounds"
     );
-    tally.pairs += 1;
-    tally.most = tally.most.max(needed);
+    totals.pairs += 1;
+    totals.most = totals.most.max(needed);
     if needed == enough {
-        tally.needed_all += 1;
+        totals.needed_all += 1;
     }
 }
 
 #[test]
 fn drawn_pairs_come_through(rt: HostRuntime) -> Result<(), Fail> {
     let mut dice = Dice { state: SEED };
-    let mut tally = Tally {
+    let mut totals = Tally {
         pairs: 0,
         most: 0,
         needed_all: 0,
     };
-    while tally.pairs < PAIRS {
+    while totals.pairs < PAIRS {
         let mut course = drawn(&rt, rt.alloc(), &mut dice)?;
         let now = course.now;
         if can_go_on(&course.a, &course.b) {
-            go_through(&rt, &mut tally, &mut course.a, &mut course.b, now);
+            go_through(&rt, &mut totals, &mut course.a, &mut course.b, now);
         } else if can_go_on(&course.b, &course.a) {
-            go_through(&rt, &mut tally, &mut course.b, &mut course.a, now);
+            go_through(&rt, &mut totals, &mut course.b, &mut course.a, now);
         }
     }
     let Tally {
         pairs,
         most,
         needed_all,
-    } = tally;
+    } = totals;
     println!(rt;
         "seed {SEED}: {pairs} pairs, {most} rounds at most, {needed_all} needed all that are enough"
     )?;

@@ -157,9 +157,9 @@ impl End {
     }
 
     /// Sets the window, and whether units go by hand.
-    pub fn pace(&mut self, window: u16, by_hand: bool) {
+    pub fn pace(&mut self, window: u16, manual: bool) {
         if self.links.get(1).is_some() {
-            self.links.pace(1, window, by_hand);
+            self.links.pace(1, window, manual);
         }
     }
 

@@ -7,7 +7,7 @@ use std::process::Abort;
 use std::test::Fail;
 
 /// An end by hand, of which so many units are outstanding, sent at 0, and none waits.
-fn by_hand(rt: &impl Abort, alloc: Global, count: u8) -> Result<End, Fail> {
+fn manual(rt: &impl Abort, alloc: Global, count: u8) -> Result<End, Fail> {
     let mut end = joined(rt, alloc, 7)?;
     end.pace(8192, true);
     for byte in 0..count {
@@ -58,7 +58,7 @@ fn window_of_none(rt: HostRuntime) -> Result<(), Fail> {
 /// By hand nothing goes again by itself.
 #[test]
 fn nothing_by_itself(rt: HostRuntime) -> Result<(), Fail> {
-    let mut end = by_hand(&rt, rt.alloc(), 2)?;
+    let mut end = manual(&rt, rt.alloc(), 2)?;
     assert_eq!(rt; end.next_due(), None);
     assert_eq!(rt; end.sent(500), None);
     assert_eq!(rt; end.sent(5000), None);
@@ -68,7 +68,7 @@ fn nothing_by_itself(rt: HostRuntime) -> Result<(), Fail> {
 /// The unit that is asked for goes under its own number, once.
 #[test]
 fn the_second_again(rt: HostRuntime) -> Result<(), Fail> {
-    let mut end = by_hand(&rt, rt.alloc(), 3)?;
+    let mut end = manual(&rt, rt.alloc(), 3)?;
     end.again(1);
     assert_eq!(rt; end.next_due(), Some(0));
     assert_eq!(rt; numbered(&mut end, 20), Some((Sent::Again, 1)));
@@ -80,7 +80,7 @@ fn the_second_again(rt: HostRuntime) -> Result<(), Fail> {
 /// A place at which no unit is outstanding gives nothing, nor does one before the window is set anew.
 #[test]
 fn no_such_place(rt: HostRuntime) -> Result<(), Fail> {
-    let mut end = by_hand(&rt, rt.alloc(), 3)?;
+    let mut end = manual(&rt, rt.alloc(), 3)?;
     end.again(3);
     assert_eq!(rt; end.next_due(), None);
     assert_eq!(rt; end.sent(20), None);
@@ -94,7 +94,7 @@ fn no_such_place(rt: HostRuntime) -> Result<(), Fail> {
 /// An acknowledgement between the call and the poll: the place counts from the new first unit.
 #[test]
 fn acknowledged_between(rt: HostRuntime) -> Result<(), Fail> {
-    let mut end = by_hand(&rt, rt.alloc(), 3)?;
+    let mut end = manual(&rt, rt.alloc(), 3)?;
     end.again(1);
     end.receive(&system(1, 8), &[], 10)?;
     assert_eq!(rt; numbered(&mut end, 20), Some((Sent::Again, 2)));
@@ -107,8 +107,8 @@ fn acknowledged_between(rt: HostRuntime) -> Result<(), Fail> {
 
 /// Ten sends of one unit by hand, and where the eleventh is asked for the link is lost.
 #[test]
-fn ten_by_hand(rt: HostRuntime) -> Result<(), Fail> {
-    let mut end = by_hand(&rt, rt.alloc(), 1)?;
+fn ten_manual(rt: HostRuntime) -> Result<(), Fail> {
+    let mut end = manual(&rt, rt.alloc(), 1)?;
     for now in 1..10 {
         end.again(0);
         assert_eq!(rt; numbered(&mut end, now), Some((Sent::Again, 0)));
@@ -123,7 +123,7 @@ fn ten_by_hand(rt: HostRuntime) -> Result<(), Fail> {
 /// Back to the clock, a unit that was sent over 500 ms ago goes at once.
 #[test]
 fn back_to_the_clock(rt: HostRuntime) -> Result<(), Fail> {
-    let mut end = by_hand(&rt, rt.alloc(), 1)?;
+    let mut end = manual(&rt, rt.alloc(), 1)?;
     assert_eq!(rt; end.sent(600), None);
     end.pace(8192, false);
     assert_eq!(rt; end.next_due(), Some(500));

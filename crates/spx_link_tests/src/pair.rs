@@ -9,7 +9,7 @@ use std::process::Abort;
 use std::test::Fail;
 
 /// How often a link sends a unit or a probe before it gives up.
-const MOST_SENDS: u8 = 10;
+const MAX_SENDS: u8 = 10;
 
 /// A packet on its way. A unit's body is one byte.
 #[derive(Clone, Copy)]
@@ -129,8 +129,8 @@ impl Side {
     fn has_given_up(&self) -> bool {
         let numbers = self.link.numbers();
         let mut outstanding = numbers.next - numbers.out..numbers.next;
-        self.probes >= MOST_SENDS
-            || outstanding.any(|number| self.sends[usize::from(number)] >= MOST_SENDS)
+        self.probes >= MAX_SENDS
+            || outstanding.any(|number| self.sends[usize::from(number)] >= MAX_SENDS)
     }
 }
 

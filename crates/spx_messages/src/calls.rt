@@ -131,17 +131,17 @@ impl Endpoint {
     /// acts as 8,192. Whoever has them go by hand owes the asking: else a lost unit stays lost.
     ///
     /// It is refused only where no link has the id.
-    pub fn pace(&mut self, id: u16, window: u16, by_hand: bool) -> Result<(), EndFault>
+    pub fn pace(&mut self, id: u16, window: u16, manual: bool) -> Result<(), EndFault>
         ensures unknown { (result ≡ Err EndFaults.NoSuchEnd) ↔ (held_at self.old id ≡ None) }
         ensures fault { IfErr result (λ f. f ≡ EndFaults.NoSuchEnd) }
         ensures ok { IfSome (held_at self.old id) (λ h. OnOk result (ChangesEnd self.old self.new id
-            (record h { link = pace_link h.link window by_hand }))) }
+            (record h { link = pace_link h.link window manual }))) }
         ensures unchanged { OnErr result (SameBut self.old self.new) }
         ensures said { self.new.said ≡ self.old.said }
         ensures heard { self.new.heard ≡ self.old.heard }
     {
         link_of(&self.links, id)?;
-        self.links.pace(id, window, by_hand);
+        self.links.pace(id, window, manual);
         Ok(())
     }
 

@@ -24,5 +24,5 @@ pub use arrived::Arrived;
 pub use endpoint::Endpoint;
 pub use fault::EndFault;
 pub use laws::datagram_does_one_thing;
-pub use spx_units::{Inbox, MOST_BYTES, Message, MessageFault, cut};
+pub use spx_units::{Inbox, MAX_BYTES, Message, MessageFault, cut};
 pub use taken::Taken;

@@ -15,7 +15,7 @@ use spx_link::{Numbers, Sent, State, Unit};
 
 impl Endpoint {
     /// The state of the link of an id. It is refused where no link has the id, as are `numbers`,
-    /// `is_whole` and `peek`. Ask it before `send`, which needs Live, and to see that a connection
+    /// `is_all_acked` and `peek`. Ask it before `send`, which needs Live, and to see that a connection
     /// is done or lost.
     pub fn state(&self, id: u16) -> Result<State, EndFault>
         ensures unknown { (result ≡ Err EndFaults.NoSuchEnd) ↔ (held_at self.now id ≡ None) }
@@ -36,14 +36,14 @@ impl Endpoint {
 
     /// Whether the end of the link of an id is queued, and the peer has acknowledged all that was
     /// queued, the end too. Ask it to see that a connection is done: then the peer has read all.
-    pub fn is_whole(&self, id: u16) -> Result<bool, EndFault>
+    pub fn is_all_acked(&self, id: u16) -> Result<bool, EndFault>
         ensures unknown { (result ≡ Err EndFaults.NoSuchEnd) ↔ (held_at self.now id ≡ None) }
         ensures known { IfSome (held_at self.now id) (λ h.
             IfOk result (λ whole. IsTrue whole ↔ IsWhole h.link)) }
         ensures fault { IfErr result (λ f. f ≡ EndFaults.NoSuchEnd) }
     {
         let link = link_of(&self.links, id)?;
-        Ok(link.is_whole())
+        Ok(link.is_all_acked())
     }
 
     /// The unit that a take of the link of an id takes next, if one is held.

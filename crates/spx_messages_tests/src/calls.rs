@@ -19,7 +19,7 @@ fn no_such_end(rt: HostRuntime) -> Result<(), Fail> {
     assert_eq!(rt; near.again(9, 0), Err(EndFault::NoSuchEnd));
     assert_eq!(rt; near.release(9), Err(EndFault::NoSuchEnd));
     assert_eq!(rt; near.state(9), Err(EndFault::NoSuchEnd));
-    assert_eq!(rt; near.is_whole(9), Err(EndFault::NoSuchEnd));
+    assert_eq!(rt; near.is_all_acked(9), Err(EndFault::NoSuchEnd));
     Ok(())
 }
 
@@ -69,7 +69,7 @@ fn ends(rt: HostRuntime) -> Result<(), Fail> {
     joins(&rt, &mut near, &mut far)?;
     near.send(&message(rt.alloc(), 0, 1)?)?;
     near.close()?;
-    assert!(rt; !near.is_whole(1)?);
+    assert!(rt; !near.is_all_acked(1)?);
     passes(&mut near, &mut far)?;
     let ended = passes(&mut near, &mut far)?;
     assert_eq!(rt; ended, Some(Arrived::Link(1, Received::PeerEnded)));
@@ -77,8 +77,8 @@ fn ends(rt: HostRuntime) -> Result<(), Fail> {
     let confirmed = passes(&mut far, &mut near)?;
     assert_eq!(rt; confirmed, Some(Arrived::Link(1, Received::Confirmed)));
     assert_eq!(rt; near.state(1)?, State::Confirmed);
-    assert!(rt; near.is_whole(1)?);
-    assert!(rt; !far.is_whole(1)?);
+    assert!(rt; near.is_all_acked(1)?);
+    assert!(rt; !far.is_all_acked(1)?);
     Ok(())
 }
 

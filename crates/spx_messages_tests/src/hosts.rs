@@ -83,8 +83,8 @@ impl Host {
     }
 
     /// Sets the window of a link, and whether its units go by hand.
-    pub fn pace(&mut self, id: u16, window: u16, by_hand: bool) -> Result<(), EndFault> {
-        self.endpoint.pace(id, window, by_hand)
+    pub fn pace(&mut self, id: u16, window: u16, manual: bool) -> Result<(), EndFault> {
+        self.endpoint.pace(id, window, manual)
     }
 
     /// Asks for a place of a link again.
@@ -101,8 +101,8 @@ impl Host {
     }
 
     /// Whether all is acknowledged, the end too.
-    pub fn is_whole(&self, id: u16) -> Result<bool, EndFault> {
-        self.endpoint.is_whole(id)
+    pub fn is_all_acked(&self, id: u16) -> Result<bool, EndFault> {
+        self.endpoint.is_all_acked(id)
     }
 
     /// How many units are held.

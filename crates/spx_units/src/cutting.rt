@@ -8,7 +8,7 @@ ghost use Rattle.spx_units.specs.declared.fault.MessageFault.{MessageFault};
 ghost use Rattle.spx_units.specs.declared.fault.MessageFault.TheVariants as MessageFaults;
 
 use crate::fault::MessageFault;
-use crate::message::{MOST_BYTES, Message};
+use crate::message::{MAX_BYTES, Message};
 use ipx_wire::{Fragment, SPX_MAX_DATA_SIZE};
 use spx_link::Unit;
 use std::alloc::{AllocError, Global};
@@ -72,7 +72,7 @@ pub fn cut(alloc: Global, message: &Message) -> Result<Vec<Unit>, MessageFault>
     ensures memory { cut_fault (message_view message.now) ≡ None
         → IsOkUnless result MessageFaults.OutOfMemory }
 {
-    if message.body.len() > MOST_BYTES {
+    if message.body.len() > MAX_BYTES {
         return Err(MessageFault::TooLong(message.body.len()));
     }
     if message.stream >= END_STREAM {

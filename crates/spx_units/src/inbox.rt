@@ -8,7 +8,7 @@ ghost use Rattle.spx_units.specs.Message.{length_of, message_view};
 ghost use Rattle.spx_units.specs.declared.fault.MessageFault.TheVariants as MessageFaults;
 
 use crate::fault::MessageFault;
-use crate::message::{MOST_BYTES, Message};
+use crate::message::{MAX_BYTES, Message};
 use spx_link::Unit;
 use std::alloc::{AllocError, Global};
 use std::marker::Model;
@@ -60,7 +60,7 @@ impl Inbox {
             → IsOkUnless result MessageFaults.OutOfMemory }
         ensures unchanged { result ≡ Err MessageFaults.OutOfMemory → self.new ≡ self.old }
     {
-        if self.len() + unit.body.len() > MOST_BYTES {
+        if self.len() + unit.body.len() > MAX_BYTES {
             self.rest = None;
             return Err(MessageFault::Overlong);
         }

@@ -13,4 +13,4 @@ mod message;
 pub use cutting::cut;
 pub use fault::MessageFault;
 pub use inbox::Inbox;
-pub use message::{MOST_BYTES, Message};
+pub use message::{MAX_BYTES, Message};

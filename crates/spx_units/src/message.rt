@@ -1,7 +1,7 @@
 //! What a user of a connection sends and gets.
 
 /// The most bytes that a message may have.
-pub const MOST_BYTES: usize = 65_535;
+pub const MAX_BYTES: usize = 65_535;
 
 /// A message: bytes with a datastream type, which is under FE.
 ///

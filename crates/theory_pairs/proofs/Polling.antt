@@ -138,7 +138,7 @@ below_count count k (Some j) is = by_bool (nat_lt j count) refl is
     by_bool false less same = absurd (cc)
 
 wanted_below : (l : LinkView) (now k : ℕ) → wanted l now ≡ Some k → k < l.out
-wanted_below l now k is = by_bool l.by_hand is
+wanted_below l now k is = by_bool l.manual is
   where
     by_bool : (b : Bool) → (if b then asked_again l else late l now) ≡ Some k → k < l.out
     by_bool true same =

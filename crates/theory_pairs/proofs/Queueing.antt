@@ -274,8 +274,8 @@ owes_from l units n s = record { from = from_same l (owe_reply_link l) units n r
 pub loses_from : (l : LinkView) (units : List Unit) (n : ℕ) → Queues l units n → Queues (lose_link l) units n
 loses_from l units n s = record { from = from_same l (lose_link l) units n refl refl refl s.from; formed = s.formed; open' = λ e. absurd (cc e) }
 
-pub paces_from : (l : LinkView) (window : ℕ) (by_hand : Bool) (units : List Unit) (n : ℕ) → Queues l units n → Queues (pace_link l window by_hand) units n
-paces_from l window by_hand units n s = record { from = from_same l (pace_link l window by_hand) units n refl refl refl s.from; formed = s.formed; open' = s.open' }
+pub paces_from : (l : LinkView) (window : ℕ) (manual : Bool) (units : List Unit) (n : ℕ) → Queues l units n → Queues (pace_link l window manual) units n
+paces_from l window manual units n s = record { from = from_same l (pace_link l window manual) units n refl refl refl s.from; formed = s.formed; open' = s.open' }
 
 pub asks_from : (l : LinkView) (place : ℕ) (units : List Unit) (n : ℕ) → Queues l units n → Queues (again_link l place) units n
 asks_from l place units n s = record { from = from_same l (again_link l place) units n refl refl refl s.from; formed = s.formed; open' = s.open' }

@@ -17,5 +17,5 @@ pub record SameButPace (l k : LinkView) : Type 0 where
   pub end_queued : k.end_queued ≡ l.end_queued
 
 pub record PaceLaws : Type 0 where
-  pub paces : (l : LinkView) (window : ℕ) (by_hand : Bool) → SameButPace l (pace_link l window by_hand)
+  pub paces : (l : LinkView) (window : ℕ) (manual : Bool) → SameButPace l (pace_link l window manual)
   pub asks : (l : LinkView) (place : ℕ) → SameButPace l (again_link l place)

@@ -72,8 +72,8 @@ pub record QueueLaws : Type 0 where
       → Queues l units n → Queues (owe_reply_link l) units n
   pub loses : (l : LinkView) (units : List Unit) (n : ℕ)
       → Queues l units n → Queues (lose_link l) units n
-  pub paces : (l : LinkView) (window : ℕ) (by_hand : Bool) (units : List Unit) (n : ℕ)
-      → Queues l units n → Queues (pace_link l window by_hand) units n
+  pub paces : (l : LinkView) (window : ℕ) (manual : Bool) (units : List Unit) (n : ℕ)
+      → Queues l units n → Queues (pace_link l window manual) units n
   pub asks : (l : LinkView) (place : ℕ) (units : List Unit) (n : ℕ)
       → Queues l units n → Queues (again_link l place) units n
   pub offers : (l : LinkView) (us units : List Unit) (n : ℕ) → refusal l.state ≡ None

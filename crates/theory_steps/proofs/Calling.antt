@@ -10,9 +10,9 @@ use Rattle.spx_link.specs.LinkView.{LinkView}
 use Rattle.spx_link.specs.Offer.{offer_link, end_link, pace_link, again_link, dialed}
 use Rattle.spx_units.specs.Message.{MessageView}
 use Rattle.spx_units.specs.Cut.{cut_of}
-use Rattle.theory_log.specs.Note.{Note}
-use Rattle.theory_log.specs.Scene.{Stand, Stands, linked, with_entries, put_end}
-use Rattle.theory_log.specs.Deeds.{Deed, DoesDeed}
+use Rattle.spx_theory.specs.Note.{Note}
+use Rattle.spx_theory.specs.Scene.{Stand, Stands, linked, with_entries, put_end}
+use Rattle.spx_theory.specs.Deeds.{Deed, DoesDeed}
 use Rattle.spx_messages.specs.EndpointView.{Held, held_at}
 use Rattle.theory_steps.specs.World.{World, HostState, EndNow, ParcelView, stand_with, stand_of, home_at, bytes_of, segment_of, scene_of, InOrder, StandsAt, IsHostInOrder}
 use Rattle.theory_steps.specs.EndCalls.{DialsFrom, ChangesLink, ChangesQuietly, SendsTo, Closes, PacesOf, AsksAgainOf, InjectsInto, Ticks}
@@ -23,8 +23,8 @@ use Rattle.theory_steps.proofs.Standing.{none_held, held_same, held_stands, held
 use Rattle.theory_steps.proofs.Finding.{free_id}
 use Rattle.theory_steps.proofs.Keeping.{same_ends, ids_kept, id_comes}
 use Rattle.theory_steps.proofs.KeptBy.{ids_changed}
-use Rattle.theory_log.specs.Note as Notes
-use Rattle.theory_log.specs.Deeds as Scenes
+use Rattle.spx_theory.specs.Note as Notes
+use Rattle.spx_theory.specs.Deeds as Scenes
 
 -- ---- an end is opened
 
@@ -128,10 +128,10 @@ quiet_kept old new who f o c =
     ids_kept old new o c.end'.host c.before c.after c.there c.hosts c.changes.self c.here
     (ids_changed c.before.endpoint c.after.endpoint c.end'.id c.held (record c.held { link = f c.held.link }) c.holds c.changes) (same_ends old.ends new.ends c.ends)
 
-pub paces_deeds : (old new : World) (who window : ℕ) (by_hand : Bool) → InOrder old → PacesOf old who window by_hand new → Deeds (scene_of old) (scene_of new)
-paces_deeds old new who window by_hand o c =
-    let f : LinkView → LinkView = λ l. pace_link l window by_hand in
-    one_deed (Scenes.Paces who window by_hand) (scene_of old) (scene_of new)
+pub paces_deeds : (old new : World) (who window : ℕ) (manual : Bool) → InOrder old → PacesOf old who window manual new → Deeds (scene_of old) (scene_of new)
+paces_deeds old new who window manual o c =
+    let f : LinkView → LinkView = λ l. pace_link l window manual in
+    one_deed (Scenes.Paces who window manual) (scene_of old) (scene_of new)
     (record { stand = stand_with c.end' (Some c.held); link = c.held.link; stands = quiet_stands old new who f c; after = quiet_scene old new who f o c })
 
 pub asks_deeds : (old new : World) (who place : ℕ) → InOrder old → AsksAgainOf old who place new → Deeds (scene_of old) (scene_of new)

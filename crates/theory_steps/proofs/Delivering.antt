@@ -9,10 +9,10 @@ use Rattle.spx_link.specs.declared.received.Received.{Received}
 use Rattle.spx_link.specs.LinkView.{LinkView}
 use Rattle.spx_link.specs.Receive.{receive_link}
 use Rattle.spx_link.specs.Offer.{owe_reply_link, accepted_from}
-use Rattle.theory_log.specs.Note.{Note}
+use Rattle.spx_theory.specs.Note.{Note}
 use Rattle.spx_units.specs.WrittenPackets.{Home}
-use Rattle.theory_log.specs.Deeds.{Accepts, Reads, OwesReply}
-use Rattle.theory_log.specs.PacketsOnWay.{IsFor, notes_of}
+use Rattle.spx_theory.specs.Deeds.{Accepts, Reads, OwesReply}
+use Rattle.spx_theory.specs.PacketsOnWay.{IsFor, notes_of}
 use Rattle.spx_messages.specs.Changes.{SameBut}
 use Rattle.spx_messages.specs.EndpointView.{Held, EndpointView, held_at}
 use Rattle.spx_messages.specs.declared.arrived.Arrived.{Arrived}
@@ -24,7 +24,7 @@ use Rattle.theory_steps.proofs.Places.{get_map, get_set_here, map_more, map_same
 use Rattle.theory_steps.proofs.Doing.{no_deed, one_deed}
 use Rattle.theory_steps.proofs.Standing.{none_held, held_same, held_stands, held_there, ends_same, made, scene_after}
 use Rattle.theory_steps.proofs.Finding.{Found, found, found_changed, home_there, free_id}
-use Rattle.theory_log.specs.Note as Notes
+use Rattle.spx_theory.specs.Note as Notes
 use Rattle.spx_messages.specs.declared.arrived.Arrived.TheVariants as Arriveds
 
 -- nothing changes that a scene shows

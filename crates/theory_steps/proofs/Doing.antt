@@ -3,8 +3,8 @@ use Rattle.std.proofs.Common.{◌≡◌, ◌⊎◌, ℕ, zero, suc, List, [], �
 use Rattle.std.specs.Prelude.{slice_get}
 use Rattle.spx_link.specs.LinkView.{LinkView}
 use Rattle.spx_link.specs.Poll.{poll_link}
-use Rattle.theory_log.specs.Scene.{Scene, Stand, linked}
-use Rattle.theory_log.specs.Deeds.{Deed, DoesDeed, Rests, Reached, happened}
+use Rattle.spx_theory.specs.Scene.{Scene, Stand, linked}
+use Rattle.spx_theory.specs.Deeds.{Deed, DoesDeed, Rests, Reached, happened}
 use Rattle.theory_steps.specs.DeedRuns.{DoesAll, Deeds}
 use Rattle.theory_steps.proofs.Places.{get_past, set_past}
 

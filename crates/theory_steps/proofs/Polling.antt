@@ -5,9 +5,9 @@ use Rattle.std.proofs.lemmas.List.{append-nil}
 use Rattle.std.proofs.lemmas.Bool.{cases_eq, cases_lt, cases_Bool}
 use Rattle.ipx_wire.specs.declared.address.Node.{Node}
 use Rattle.spx_link.specs.Poll.{poll_link}
-use Rattle.theory_log.specs.Scene.{Stand, linked, sent_off, put_end}
-use Rattle.theory_log.specs.Deeds.{Gives}
-use Rattle.theory_log.specs.PacketsOnWay.{note_of}
+use Rattle.spx_theory.specs.Scene.{Stand, linked, sent_off, put_end}
+use Rattle.spx_theory.specs.Deeds.{Gives}
+use Rattle.spx_theory.specs.PacketsOnWay.{note_of}
 use Rattle.spx_messages.specs.EndpointView.{Held, held_at}
 use Rattle.spx_messages.specs.Polls.{RestsAt, polled_held, GivesNothing, Polls, home_of}
 use Rattle.theory_steps.specs.World.{World, HostState, EndNow, stand_with, stand_of, home_at, bytes_of, segment_of, scene_of, InOrder}

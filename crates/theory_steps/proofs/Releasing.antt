@@ -12,8 +12,8 @@ use Rattle.theory_steps.proofs.Places.{one_of_it, get_set_here, get_set_other, m
 use Rattle.theory_steps.proofs.Doing.{one_deed}
 use Rattle.theory_steps.proofs.Standing.{held_same, held_there, stands_there, the_only, scene_after}
 use Rattle.theory_steps.proofs.Taking.{set_twice}
-use Rattle.theory_log.specs.Note as Notes
-use Rattle.theory_log.specs.Deeds as Scenes
+use Rattle.spx_theory.specs.Note as Notes
+use Rattle.spx_theory.specs.Deeds as Scenes
 
 module _ (old new : World) (who : ℕ) (o : InOrder old) (d : ReleasesOf old who new) where
   abbrev e : EndNow

@@ -3,17 +3,17 @@ use Rattle.std.proofs.Common.{◌≡◌, ℕ, zero, suc, List, [], ◌∷◌, �
 use Rattle.std.proofs.lemmas.List.{append-nil}
 use Rattle.ipx_wire.specs.declared.address.Network.{Network}
 use Rattle.ipx_wire.specs.declared.address.Node.{Node}
-use Rattle.theory_log.specs.Note.{Note}
-use Rattle.theory_log.specs.Scan.{Each}
-use Rattle.theory_log.specs.Scene.{Scene, sent_off}
+use Rattle.spx_theory.specs.Note.{Note}
+use Rattle.spx_theory.specs.Scan.{Each}
+use Rattle.spx_theory.specs.Scene.{Scene, sent_off}
 use Rattle.theory_steps.specs.World.{World, ParcelView, AtPort, stand_of, home_at, bytes_of, segment_of, scene_of}
 use Rattle.theory_steps.specs.Routers.{IsOwnLetter, told_notes, GivesOwnLetters, CarriesOn}
 use Rattle.theory_steps.specs.DeedRuns.{Deeds}
 use Rattle.theory_steps.proofs.Places.{get_map, map_more, map_length}
 use Rattle.theory_steps.proofs.Doing.{no_deed, one_deed, then}
 use Rattle.theory_steps.proofs.Standing.{made, made_same}
-use Rattle.theory_log.specs.Note as Notes
-use Rattle.theory_log.specs.Deeds as Scenes
+use Rattle.spx_theory.specs.Note as Notes
+use Rattle.spx_theory.specs.Deeds as Scenes
 
 abbrev all_told : Scene → ℕ → List ParcelView → Scene
 all_told s router letters =

@@ -1,7 +1,7 @@
 -- Each step is a list of deeds, and leaves a world in order.
 use Rattle.std.proofs.Common.{sym, ◌∙◌}
 use Rattle.std.proofs.lemmas.List.{append-nil}
-use Rattle.theory_log.specs.Deeds.{Reached}
+use Rattle.spx_theory.specs.Deeds.{Reached}
 use Rattle.theory_steps.specs.World.{World, scene_of, InOrder}
 use Rattle.theory_steps.specs.DeedRuns.{Deeds}
 use Rattle.theory_steps.specs.WorldStep.{WorldStep, Delivered, Polled, Taken, Dialled, Sent, Closed, Released, Paced, AskedAgain, Refused, Injected, Ticked, Told, Carried}
@@ -22,7 +22,7 @@ step_deeds old new o (Dialled host socket to buffers id d) = dials_deeds old new
 step_deeds old new o (Sent who m d) = sends_deeds old new who m o d
 step_deeds old new o (Closed who d) = closes_deeds old new who o d
 step_deeds old new o (Released who d) = releases_deeds old new who o d
-step_deeds old new o (Paced who window by_hand d) = paces_deeds old new who window by_hand o d
+step_deeds old new o (Paced who window manual d) = paces_deeds old new who window manual o d
 step_deeds old new o (AskedAgain who place d) = asks_deeds old new who place o d
 step_deeds old new o (Refused host d) = left_alone old new host d.before d.after d.there d.hosts d.same d.ends d.parcels (d.log ∙ sym (append-nil old.log))
 step_deeds old new o (Injected segment next bytes d) = injects_deeds old new segment next bytes d
@@ -38,7 +38,7 @@ step_kept old new o (Dialled host socket to buffers id d) = dials_kept old new h
 step_kept old new o (Sent who m d) = sends_kept old new who m o d
 step_kept old new o (Closed who d) = closes_kept old new who o d
 step_kept old new o (Released who d) = releases_kept old new who o d
-step_kept old new o (Paced who window by_hand d) = quiet_kept old new who _ o d
+step_kept old new o (Paced who window manual d) = quiet_kept old new who _ o d
 step_kept old new o (AskedAgain who place d) = quiet_kept old new who _ o d
 step_kept old new o (Refused host d) = left_kept old new host d.before d.after o d.there d.hosts d.same d.here d.ends
 step_kept old new o (Injected segment next bytes d) = order_of_same old new d.hosts d.ends o

@@ -10,9 +10,9 @@ use Rattle.spx_link.specs.Limits.{end_stream}
 use Rattle.spx_link.specs.LinkView.{LinkView, is_end}
 use Rattle.spx_link.specs.Offer.{take_link, take_held, first_of}
 use Rattle.spx_units.specs.Joining.{Joining, added, is_overlong}
-use Rattle.theory_log.specs.Note.{Note}
-use Rattle.theory_log.specs.Scene.{Scene, Stands, with_entries, put_end}
-use Rattle.theory_log.specs.Deeds.{Takes, Overruns}
+use Rattle.spx_theory.specs.Note.{Note}
+use Rattle.spx_theory.specs.Scene.{Scene, Stands, with_entries, put_end}
+use Rattle.spx_theory.specs.Deeds.{Takes, Overruns}
 use Rattle.spx_messages.specs.EndpointView.{Held, held_at}
 use Rattle.spx_messages.specs.declared.fault.EndFault.{EndFault}
 use Rattle.spx_messages.specs.Taking.{TakenView, Nothing, Part, Whole, PeerEnd, overlong, taken_held, overrun, joins_on, takes_data, takes_first, take_end}

@@ -1,7 +1,7 @@
 -- Deeds one after another.
 use Rattle.std.specs.Prelude.{◌≡◌, List, [], ◌∷◌}
-use Rattle.theory_log.specs.Scene.{Scene}
-use Rattle.theory_log.specs.Deeds.{Deed, DoesDeed}
+use Rattle.spx_theory.specs.Scene.{Scene}
+use Rattle.spx_theory.specs.Deeds.{Deed, DoesDeed}
 
 abbrev pub DoesAll : List Deed → Scene → Scene → Type 0
 DoesAll [] old new = new ≡ old

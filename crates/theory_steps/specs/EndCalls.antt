@@ -10,11 +10,11 @@ use Rattle.spx_link.specs.Links.{count_of, IsNextFree}
 use Rattle.spx_link.specs.Offer.{refusal, offer_link, end_link, pace_link, again_link, dialed}
 use Rattle.spx_units.specs.Message.{MessageView}
 use Rattle.spx_units.specs.Cut.{cut_of}
-use Rattle.theory_log.specs.Note.{Note}
+use Rattle.spx_theory.specs.Note.{Note}
 use Rattle.spx_messages.specs.Changes.{AddsEnd, ChangesEnd, ReleasesEnd, SameBut}
 use Rattle.spx_messages.specs.EndpointView.{Held, held_at}
 use Rattle.theory_steps.specs.World.{World, HostState, EndNow, end_at}
-use Rattle.theory_log.specs.Note as Notes
+use Rattle.spx_theory.specs.Note as Notes
 
 pub record DialsFrom (old : World) (host : ℕ) (socket : Socket) (to : Address) (buffers id : ℕ)
     (new : World) : Type 0 where
@@ -84,7 +84,7 @@ pub record ChangesQuietly (old : World) (who : ℕ) (f : LinkView → LinkView)
   pub moment : new.moment ≡ old.moment
 
 abbrev pub PacesOf : World → ℕ → ℕ → Bool → World → Type 0
-PacesOf old who window by_hand new = ChangesQuietly old who (λ l. pace_link l window by_hand) new
+PacesOf old who window manual new = ChangesQuietly old who (λ l. pace_link l window manual) new
 
 abbrev pub AsksAgainOf : World → ℕ → ℕ → World → Type 0
 AsksAgainOf old who place new = ChangesQuietly old who (λ l. again_link l place) new

@@ -5,8 +5,8 @@ use Rattle.spx_link.specs.declared.unit.Unit.{Unit}
 use Rattle.spx_link.specs.declared.outgoing.Sent.{Sent}
 use Rattle.spx_link.specs.declared.received.Received.{Received}
 use Rattle.spx_link.specs.Offer.{first_of}
-use Rattle.theory_log.specs.Note.{Note}
-use Rattle.theory_log.specs.PacketsOnWay.{note_of, notes_of}
+use Rattle.spx_theory.specs.Note.{Note}
+use Rattle.spx_theory.specs.PacketsOnWay.{note_of, notes_of}
 use Rattle.spx_messages.specs.Changes.{ChangesEnd}
 use Rattle.spx_messages.specs.EndpointView.{Held, held_at}
 use Rattle.spx_messages.specs.declared.arrived.Arrived.{Arrived}
@@ -15,7 +15,7 @@ use Rattle.spx_messages.specs.Polls.{Polls}
 use Rattle.spx_messages.specs.declared.fault.EndFault.{EndFault}
 use Rattle.spx_messages.specs.Taking.{TakenView, take_end, Nothing, Part, Whole, PeerEnd}
 use Rattle.theory_steps.specs.World.{World, HostState, EndNow, ParcelView, AtHost, end_at}
-use Rattle.theory_log.specs.Note as Notes
+use Rattle.spx_theory.specs.Note as Notes
 use Rattle.spx_messages.specs.declared.arrived.Arrived.TheVariants as Arriveds
 
 -- ---- a parcel is delivered to a host

@@ -4,11 +4,11 @@ use Rattle.std.specs.Prelude.{ℕ, ◌≡◌, ◌≢◌, ◌+◌, List, [], ◌�
 use Rattle.ipx_wire.specs.declared.address.Network.{Network}
 use Rattle.ipx_wire.specs.declared.address.Node.{Node}
 use Rattle.ipx_wire.specs.Ipx.{PacketView, IsIpx}
-use Rattle.theory_log.specs.Note.{Note}
-use Rattle.theory_log.specs.Scan.{Each}
-use Rattle.theory_log.specs.PacketsOnWay.{IsOneOn}
+use Rattle.spx_theory.specs.Note.{Note}
+use Rattle.spx_theory.specs.Scan.{Each}
+use Rattle.spx_theory.specs.PacketsOnWay.{IsOneOn}
 use Rattle.theory_steps.specs.World.{World, ParcelView, AtPort}
-use Rattle.theory_log.specs.Note as Notes
+use Rattle.spx_theory.specs.Note as Notes
 
 -- a packet of a router's own, which is of no connection
 pub record IsOwnLetter (l : ParcelView) : Type 0 where

@@ -23,7 +23,7 @@ pub data WorldStep (old new : World) : Type 0 where
   Sent : (who : ℕ) (m : MessageView) → SendsTo old who m new → WorldStep old new
   Closed : (who : ℕ) → Closes old who new → WorldStep old new
   Released : (who : ℕ) → ReleasesOf old who new → WorldStep old new
-  Paced : (who window : ℕ) (by_hand : Bool) → PacesOf old who window by_hand new → WorldStep old new
+  Paced : (who window : ℕ) (manual : Bool) → PacesOf old who window manual new → WorldStep old new
   AskedAgain : (who place : ℕ) → AsksAgainOf old who place new → WorldStep old new
   Refused : (host : ℕ) → RefusesAt old host new → WorldStep old new
   Injected : (segment : Network) (next : Node) (bytes : List ℕ)

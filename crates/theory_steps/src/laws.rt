@@ -1,13 +1,13 @@
 //! What an event does to a world, it does to its scene by deeds, and leaves the world in order.
 
-ghost use Rattle.theory_log.specs.Deeds.{Reached};
+ghost use Rattle.spx_theory.specs.Deeds.{Reached};
 ghost use Rattle.theory_steps.specs.World.{World, InOrder, scene_of};
 ghost use Rattle.theory_steps.specs.WorldStep.{WorldStep};
 ghost use Rattle.theory_steps.specs.DeedRuns.{Deeds};
 ghost use Rattle.theory_steps.specs.Reach.{CameTo};
-ghost use Rattle.theory_log.specs.InStep.{PeersAreInStep};
+ghost use Rattle.spx_theory.specs.InStep.{PeersAreInStep};
 
-use theory_log::peers_are_in_step;
+use spx_theory::peers_are_in_step;
 
 /// Each step of a network makes of its scene another one by deeds, and leaves the world in order;
 /// so its scene stays one that is reached.

@@ -2,7 +2,7 @@
 //!
 //! `specs/` says what a network of hosts holds (`World`) and, in the words of the contracts of
 //! `spx_messages`, what each event does to it (`Steps`, `Calls`, `Routers`, `Step`). Each step is a
-//! list of deeds, so the theorems of `theory_log` hold of every world that steps come to. What
+//! list of deeds, so the theorems of `spx_theory` hold of every world that steps come to. What
 //! routers hold, faults and want of memory are no part of a world here.
 #![tactic(auto)]
 

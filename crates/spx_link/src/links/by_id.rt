@@ -74,13 +74,13 @@ impl Links {
         self.links[place].next_due()
     }
 
-    /// What `Link::is_whole` answers, by a live id.
-    pub fn is_whole(&self, id: u16) -> bool
+    /// What `Link::is_all_acked` answers, by a live id.
+    pub fn is_all_acked(&self, id: u16) -> bool
         requires { IsLive self.now id }
         ensures { IfSome (link_at self.now id) (λ l. IsTrue result ↔ IsWhole l) }
     {
         let place = place_of(&self.links, id);
-        self.links[place].is_whole()
+        self.links[place].is_all_acked()
     }
 
     /// What `Link::receive` does, by a live id. It takes no memory. The caller owes a body of at
@@ -162,13 +162,13 @@ impl Links {
     }
 
     /// What `Link::pace` does, by a live id.
-    pub fn pace(&mut self, id: u16, window: u16, by_hand: bool)
+    pub fn pace(&mut self, id: u16, window: u16, manual: bool)
         requires { IsLive self.old id }
         ensures { IfSome (link_at self.old id)
-            (λ l. ChangesOnly self.old self.new id (O.pace_link l window by_hand)) }
+            (λ l. ChangesOnly self.old self.new id (O.pace_link l window manual)) }
     {
         let place = place_of(&self.links, id);
-        self.links[place].pace(window, by_hand);
+        self.links[place].pace(window, manual);
     }
 
     /// What `Link::again` does, by a live id.

@@ -7,7 +7,7 @@ ghost use Rattle.spx_link.specs.Limits.{most_links};
 ghost use Rattle.spx_link.specs.Links as spec;
 ghost use Rattle.spx_link.specs.Links.{IsNextFree, link_of};
 
-use crate::limits::MOST_LINKS;
+use crate::limits::MAX_LINKS;
 use crate::link::Link;
 use ipx_wire::Address;
 
@@ -60,7 +60,7 @@ pub fn next_free(links: &[Link], last: u16) -> u16
     requires { length links.now < most_links }
     ensures { IsNextFree (record { last = last; links = links.now }) result }
 {
-    for steps in 0..MOST_LINKS as u16 {
+    for steps in 0..MAX_LINKS as u16 {
         let id = id_after(last, steps);
         if !is_live(links, id) {
             return id;

@@ -11,5 +11,5 @@ invariant-loop-to g l =
       failures : g.D.Datagrams.failed l.datagrams ≡ g.D.Datagrams.failed l.fn.datagrams;
       ports : g.D.Datagrams.port_count l.datagrams ≡ g.D.Datagrams.port_count l.fn.datagrams;
       access : g.D.Datagrams.access l.datagrams ≡ g.D.Datagrams.access l.fn.datagrams;
-      kept_back : g.D.Datagrams.kept_back l.fn.datagrams ≤ g.D.Datagrams.kept_back l.datagrams;
+      filtered : g.D.Datagrams.filtered l.fn.datagrams ≤ g.D.Datagrams.filtered l.datagrams;
     }

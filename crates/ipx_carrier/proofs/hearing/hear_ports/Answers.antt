@@ -9,7 +9,7 @@ pub returns-in_err-hear_port-clause-fault : goal.returns-in_err-hear_port-clause
 returns-in_err-hear_port-clause-fault g c =
     let p = err_from_is_err_and c.from_residual.result c.from_residual.ensures.1 in
     rw (p.1, p.2)
-    (asked_some g.C.Core.hears g.C.Core.misses c.args.now c.loop-port.port _ _ _ _ _ _ _ c.loop-port.heard _ c.loop-port.invariant.asked c.in_err-hear_port.ensures.fault (omega arith))
+    (asked_some g.C.Core.hears g.C.Core.hear_out_of_memory c.args.now c.loop-port.port _ _ _ _ _ _ _ c.loop-port.heard _ c.loop-port.invariant.asked c.in_err-hear_port.ensures.fault (omega arith))
 
 pub returns-in_err-hear_port-clause-waiting : goal.returns-in_err-hear_port-clause-waiting
 returns-in_err-hear_port-clause-waiting g c =
@@ -17,16 +17,16 @@ returns-in_err-hear_port-clause-waiting g c =
 
 pub loop-port-init : goal.loop-port-init
 loop-port-init g c = record {
-  asked = asked_none g.C.Core.hears c.args.now (g.S.Segments.traffic c.args.segments.now) c.args.core.now;
+  asked = asked_none g.C.Core.hears c.args.now (g.S.PortDriver.traffic c.args.segments.now) c.args.core.now;
   few = lit≤ tt;
   room = refl;
   waiting = takes_nothing _ _ _ _ _ refl refl;
   failures = refl;
   core_ports = refl;
   segment_ports = refl;
-  ways = refl;
+  transmissions = refl;
   access = refl;
-  kept_back = omega arith;
+  filtered = omega arith;
   kept = refl;
 }
 
@@ -44,8 +44,8 @@ loop-port-preserved g c =
       failures = search rules;
       core_ports = search rules;
       segment_ports = search rules;
-      ways = search rules;
+      transmissions = search rules;
       access = search rules;
-      kept_back = omega arith;
+      filtered = omega arith;
       kept = search rules;
     }

@@ -6,11 +6,11 @@ use Rattle.ipx_carrier.proofs.queue.take_next.Goals as goal
 pub returns-in_default : goal.returns-in_default
 returns-in_default c =
     let left = c.pop_front.new.self.items in
-    behind_none c.args.forwarded.now.items left c.args.own.now.items c.take_own.new.own.items c.args.in_a_row.now c.take_own.new.in_a_row _
+    behind_none c.args.forwarded.now.items left c.args.own.now.items c.take_own.new.own.items c.args.originated_run.now c.take_own.new.originated_run _
     (c.pop_front.ensures.items ∙ ap (λ o. option_to_list o ++ left) c.in_default.is) c.pop_front.ensures.rest c.take_own.ensures
 
 pub returns : goal.returns
 returns c =
     let left = c.pop_front.new.self.items in
-    forwarded_leaves c.args.forwarded.now.items left c.args.own.now.items c.args.in_a_row.now c.row_behind.result c.in-Some.reply
+    forwarded_leaves c.args.forwarded.now.items left c.args.own.now.items c.args.originated_run.now c.row_behind.result c.in-Some.reply
     (c.pop_front.ensures.items ∙ ap (λ o. option_to_list o ++ left) c.in-Some.is) c.row_behind.ensures

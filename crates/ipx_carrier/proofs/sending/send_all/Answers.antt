@@ -3,7 +3,7 @@ use Rattle.std.proofs.lemmas.Result.{err_from_is_err_and}
 use Rattle.ipx_carrier.specs.declared.segments.PacketSent.{PacketSent}
 use Rattle.ipx_carrier.specs.Parts.{SendsNext}
 use Rattle.ipx_carrier.specs.SendingView.{copies_view}
-use Rattle.ipx_carrier.specs.Segments.{count_in}
+use Rattle.ipx_carrier.specs.PortDrivers.{count_in}
 use Rattle.ipx_carrier.proofs.Sends.{sends_in_part_there, sends_more_there}
 use Rattle.ipx_carrier.proofs.sending.send_all.Goals as goal
 
@@ -11,26 +11,26 @@ pub returns-in_err-sent-clause-fault : goal.returns-in_err-sent-clause-fault
 returns-in_err-sent-clause-fault g c =
     let p = err_from_is_err_and c.from_residual.result c.from_residual.ensures.1 in
     rw (p.1, p.2)
-    (sends_in_part_there g.C.Core.gives g.C.Core.withholds c.loop-asked._asked 64 c.args.now (g.S.Segments.ways c.args.segments.now) (g.S.Segments.ways c.loop-asked.segments) _ _ _ _ _ _ c.loop-asked.tally _ c.loop-asked.invariant.ways c.loop-asked.invariant.sent (omega arith) c.in_err-sent.ensures.fault)
+    (sends_in_part_there g.C.Core.gives g.C.Core.next_out_of_memory c.loop-asked._asked 64 c.args.now (g.S.PortDriver.transmissions c.args.segments.now) (g.S.PortDriver.transmissions c.loop-asked.segments) _ _ _ _ _ _ c.loop-asked.totals _ c.loop-asked.invariant.transmissions c.loop-asked.invariant.sent (omega arith) c.in_err-sent.ensures.fault)
 
 pub loop-asked-preserved : goal.loop-asked-preserved
 loop-asked-preserved g c =
-    let ways = g.S.Segments.ways c.args.segments.now in
-    let there = g.S.Segments.ways c.loop-asked.segments in
-    let t = g.S.Segments.traffic c.loop-asked.segments in
-    let u = g.S.Segments.traffic c.send_next.new.segments in
+    let transmissions = g.S.PortDriver.transmissions c.args.segments.now in
+    let there = g.S.PortDriver.transmissions c.loop-asked.segments in
+    let t = g.S.PortDriver.traffic c.loop-asked.segments in
+    let u = g.S.PortDriver.traffic c.send_next.new.segments in
     let next : SendsNext g.C.Core.gives c.args.now there t u c.loop-asked.core c.send_next.new.core (Some (count_in c.in-Some.sent)) =
     subst (λ (o : Option PacketSent). SendsNext g.C.Core.gives c.args.now there t u c.loop-asked.core c.send_next.new.core (copies_view o)) c.in-Some.is c.in_ok-sent.ensures.sent in
     record {
-      sent = sends_more_there g.C.Core.gives c.loop-asked._asked c.args.now ways there _ t u _ c.loop-asked.core c.send_next.new.core c.loop-asked.tally c.with_packet-tally.result (count_in c.in-Some.sent) c.loop-asked.invariant.ways c.loop-asked.invariant.sent next c.with_packet-tally.ensures.added;
+      sent = sends_more_there g.C.Core.gives c.loop-asked._asked c.args.now transmissions there _ t u _ c.loop-asked.core c.send_next.new.core c.loop-asked.totals c.with_packet-totals.result (count_in c.in-Some.sent) c.loop-asked.invariant.transmissions c.loop-asked.invariant.sent next c.with_packet-totals.ensures.added;
       few = omega arith;
       few_unmapped = omega arith;
       waiting = search rules;
       failures = search rules;
       core_ports = search rules;
       segment_ports = search rules;
-      ways = search rules;
+      transmissions = search rules;
       access = search rules;
-      kept_back = omega arith;
+      filtered = omega arith;
       kept = search rules;
     }

@@ -4,15 +4,15 @@ use Rattle.ipx_carrier.proofs.sending.send_all.Given as goal
 
 abbrev pub invariant-loop-asked : goal.invariant-loop-asked
 invariant-loop-asked g l = record {
-  sent : SendsEach g.C.Core.gives l._asked l.now (g.S.Segments.ways l.fn.segments) (g.S.Segments.traffic l.fn.segments) (g.S.Segments.traffic l.segments) l.fn.core l.core l.tally;
-  few : l.tally.sent ≤ l._asked * 2 ^ 64;
-  few_unmapped : l.tally.unmapped ≤ l._asked;
-  waiting : g.S.Segments.waiting l.segments ≡ g.S.Segments.waiting l.fn.segments;
-  failures : g.S.Segments.failed l.segments ≡ g.S.Segments.failed l.fn.segments;
+  sent : SendsEach g.C.Core.gives l._asked l.now (g.S.PortDriver.transmissions l.fn.segments) (g.S.PortDriver.traffic l.fn.segments) (g.S.PortDriver.traffic l.segments) l.fn.core l.core l.totals;
+  few : l.totals.sent ≤ l._asked * 2 ^ 64;
+  few_unmapped : l.totals.unmapped ≤ l._asked;
+  waiting : g.S.PortDriver.waiting l.segments ≡ g.S.PortDriver.waiting l.fn.segments;
+  failures : g.S.PortDriver.failed l.segments ≡ g.S.PortDriver.failed l.fn.segments;
   core_ports : g.C.Core.port_count l.core ≡ g.C.Core.port_count l.fn.core;
-  segment_ports : g.S.Segments.port_count l.segments ≡ g.S.Segments.port_count l.fn.segments;
-  ways : g.S.Segments.ways l.segments ≡ g.S.Segments.ways l.fn.segments;
-  access : g.S.Segments.access l.segments ≡ g.S.Segments.access l.fn.segments;
-  kept_back : g.S.Segments.kept_back l.fn.segments ≤ g.S.Segments.kept_back l.segments;
-  kept : g.S.Segments.kept l.segments ≡ g.S.Segments.kept l.fn.segments;
+  segment_ports : g.S.PortDriver.port_count l.segments ≡ g.S.PortDriver.port_count l.fn.segments;
+  transmissions : g.S.PortDriver.transmissions l.segments ≡ g.S.PortDriver.transmissions l.fn.segments;
+  access : g.S.PortDriver.access l.segments ≡ g.S.PortDriver.access l.fn.segments;
+  filtered : g.S.PortDriver.filtered l.fn.segments ≤ g.S.PortDriver.filtered l.segments;
+  kept : g.S.PortDriver.kept l.segments ≡ g.S.PortDriver.kept l.fn.segments;
 }

@@ -1,6 +1,6 @@
 use Rattle.std.proofs.Common.{◌∷◌, [], refl, drop}
 use Rattle.spx_units.specs.Message.{message_view}
-use Rattle.theory_log.specs.Handed.{out_by, handed_in, handed_out, IsBeginning}
+use Rattle.spx_theory.specs.Handed.{out_by, handed_in, handed_out, IsBeginning}
 use Rattle.ipx_net.specs.LogEntries.{entry_notes}
 use Rattle.ipx_net.proofs.Walking.{here, none_left, another, one_more, refuse, all_held}
 use Rattle.ipx_net.proofs.handed.is_beginning.Goals as goal

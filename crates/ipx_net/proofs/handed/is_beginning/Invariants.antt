@@ -1,5 +1,5 @@
 use Rattle.std.proofs.Common.{◌≤◌, ◌↔◌, length, drop}
-use Rattle.theory_log.specs.Handed.{handed_in, handed_out, IsBeginning}
+use Rattle.spx_theory.specs.Handed.{handed_in, handed_out, IsBeginning}
 use Rattle.ipx_net.specs.LogEntries.{entry_notes}
 use Rattle.ipx_net.proofs.handed.is_beginning.Given as goal
 

@@ -1,5 +1,5 @@
 use Rattle.std.proofs.Common.{◌≡◌, drop}
-use Rattle.theory_log.specs.Handed.{handed_out}
+use Rattle.spx_theory.specs.Handed.{handed_out}
 use Rattle.ipx_net.specs.LogEntries.{entry_notes}
 use Rattle.ipx_net.proofs.handed.is_silent.Given as goal
 

@@ -1,6 +1,6 @@
 use Rattle.std.proofs.Common.{arith, ◌∙◌, [], ◌∷◌}
 use Rattle.spx_units.specs.Message.{message_view}
-use Rattle.theory_log.specs.Handed.{in_by}
+use Rattle.spx_theory.specs.Handed.{in_by}
 use Rattle.ipx_net.proofs.Walking.{here}
 use Rattle.ipx_net.proofs.handed.next_in.Goals as goal
 

@@ -1,5 +1,5 @@
 use Rattle.std.proofs.Common.{◌≡◌, ◌≤◌, ◌-◌, length, drop}
-use Rattle.theory_log.specs.Handed.{handed_in}
+use Rattle.spx_theory.specs.Handed.{handed_in}
 use Rattle.ipx_net.specs.LogEntries.{entry_notes}
 use Rattle.ipx_net.proofs.handed.next_in.Given as goal
 

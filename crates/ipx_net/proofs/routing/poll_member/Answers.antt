@@ -2,7 +2,7 @@ use Rattle.std.proofs.Common.{inr, length, refl}
 use Rattle.std.proofs.lemmas.List.{length-map}
 use Rattle.std.proofs.lemmas.Option.{slice_get_read}
 use Rattle.ipx_router.specs.RouterPackets.{sending_of, sendings}
-use Rattle.ipx_net.specs.GrowthView.{growth_view}
+use Rattle.ipx_net.specs.StepResultView.{step_result_view}
 use Rattle.ipx_net.specs.EventWants.{RouterPollWantsMemory}
 use Rattle.ipx_net.proofs.Wanting.{of_list, told_of_some}
 use Rattle.ipx_net.proofs.routing.poll_member.Goals as goal
@@ -12,7 +12,7 @@ returns-clause-memory c =
     let r = c.index-routers-router.result in
     let sent = sendings c.in_ok-replies.replies.items in
     λ made. of_list (λ x. RouterPollWantsMemory x c.args.now) c.args.routers.now c.args.router r (slice_get_read c.args.routers.now (length c.args.routers.now) c.args.router r refl c.requires c.index-routers-router.is)
-    (inr (inr (_, sent, rw (← c.index-routers-router.is) at c.in_ok-replies.ensures.polled, told_of_some (growth_view c.in_ok-growth.growth) c.args.router _ c.args.first sent c.in_ok-growth.ensures.grows made)))
+    (inr (inr (_, sent, rw (← c.index-routers-router.is) at c.in_ok-replies.ensures.polled, told_of_some (step_result_view c.in_ok-growth.growth) c.args.router _ c.args.first sent c.in_ok-growth.ensures.grows made)))
 
 pub returns-clause-polled : goal.returns-clause-polled
 returns-clause-polled c =

@@ -1,6 +1,6 @@
 use Rattle.std.proofs.Common.{List, ℕ, string_bytes}
-use Rattle.ipx_commands.specs.Show.{Shows}
-use Rattle.ipx_frames.specs.Frame.{frame_view}
+use Rattle.ipx_inspect.specs.Show.{Shows}
+use Rattle.ipx_ethernet.specs.Frame.{frame_view}
 use Rattle.ipx_shown_frames.specs.FrameLine.{frame_line}
 use Rattle.ipx_shown_frames.proofs.Shown.{head_left, head_written, heard_left, heard_written, on_err}
 use Rattle.ipx_shown_frames.proofs.heard.show_heard.Goals as goal

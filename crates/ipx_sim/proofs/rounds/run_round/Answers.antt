@@ -5,7 +5,7 @@ use Rattle.ipx_net.specs.declared.event.Member.{Member}
 use Rattle.ipx_sim.specs.Delivering.{DeliversAll, Stage, delivered_view}
 use Rattle.ipx_sim.specs.ScriptDoing.{DoesEach}
 use Rattle.ipx_sim.specs.Going.{PollsOut}
-use Rattle.ipx_sim.specs.declared.map.Spot.{Spot}
+use Rattle.ipx_sim.specs.declared.names.ScriptTarget.{ScriptTarget}
 use Rattle.ipx_sim.proofs.rounds.run_round.Goals as goal
 
 pub returns-in_err-polled : goal.returns-in_err-polled
@@ -20,7 +20,7 @@ returns-in_err-reached c =
     let reached : Stage = record { net = c.deliver_all.new.net; delivered = delivered_view c.deliver_all.new.delivered } in
     let p = err_from_is_err_and c.from_residual-in_err-reached.result c.from_residual-in_err-reached.ensures.1 in
     rw (p.1, p.2)
-    (inl (inr (polled, c.in_ok-polled.polled, ((subst (λ (l : List Member). DoesEach PollsOut l c.args.net.now (Ok c.in_ok-polled.polled) c.poll_all.new.net) c.deref.ensures.value c.in_ok-polled.ensures), refl), (subst (λ (l : List Spot). DeliversAll l polled (Err c.in_err-reached.field-0.0) reached) c.deref-2.ensures.value c.in_err-reached.ensures))))
+    (inl (inr (polled, c.in_ok-polled.polled, ((subst (λ (l : List Member). DoesEach PollsOut l c.args.net.now (Ok c.in_ok-polled.polled) c.poll_all.new.net) c.deref.ensures.value c.in_ok-polled.ensures), refl), (subst (λ (l : List ScriptTarget). DeliversAll l polled (Err c.in_err-reached.field-0.0) reached) c.deref-2.ensures.value c.in_err-reached.ensures))))
 
 pub returns-in_err-taken : goal.returns-in_err-taken
 returns-in_err-taken c =
@@ -28,7 +28,7 @@ returns-in_err-taken c =
     let reached : Stage = record { net = c.deliver_all.new.net; delivered = delivered_view c.deliver_all.new.delivered } in
     let p = err_from_is_err_and c.from_residual-in_err-taken.result c.from_residual-in_err-taken.ensures.1 in
     rw (p.1, p.2)
-    (inr (reached, (c.in_ok-polled.polled || c.in_ok-reached.reached), (polled, c.in_ok-polled.polled, c.in_ok-reached.reached, ((subst (λ (l : List Member). DoesEach PollsOut l c.args.net.now (Ok c.in_ok-polled.polled) c.poll_all.new.net) c.deref.ensures.value c.in_ok-polled.ensures), refl), (subst (λ (l : List Spot). DeliversAll l polled (Ok c.in_ok-reached.reached) reached) c.deref-2.ensures.value c.in_ok-reached.ensures), refl), (c.in_err-taken.ensures, refl)))
+    (inr (reached, (c.in_ok-polled.polled || c.in_ok-reached.reached), (polled, c.in_ok-polled.polled, c.in_ok-reached.reached, ((subst (λ (l : List Member). DoesEach PollsOut l c.args.net.now (Ok c.in_ok-polled.polled) c.poll_all.new.net) c.deref.ensures.value c.in_ok-polled.ensures), refl), (subst (λ (l : List ScriptTarget). DeliversAll l polled (Ok c.in_ok-reached.reached) reached) c.deref-2.ensures.value c.in_ok-reached.ensures), refl), (c.in_err-taken.ensures, refl)))
 
 pub returns : goal.returns
 returns c =
@@ -37,7 +37,7 @@ returns c =
       reached,
       c.in_ok-polled.polled || c.in_ok-reached.reached,
       c.in_ok-taken.taken,
-      (polled, c.in_ok-polled.polled, c.in_ok-reached.reached, ((subst (λ (l : List Member). DoesEach PollsOut l c.args.net.now (Ok c.in_ok-polled.polled) c.poll_all.new.net) c.deref.ensures.value c.in_ok-polled.ensures), refl), (subst (λ (l : List Spot). DeliversAll l polled (Ok c.in_ok-reached.reached) reached) c.deref-2.ensures.value c.in_ok-reached.ensures), refl),
+      (polled, c.in_ok-polled.polled, c.in_ok-reached.reached, ((subst (λ (l : List Member). DoesEach PollsOut l c.args.net.now (Ok c.in_ok-polled.polled) c.poll_all.new.net) c.deref.ensures.value c.in_ok-polled.ensures), refl), (subst (λ (l : List ScriptTarget). DeliversAll l polled (Ok c.in_ok-reached.reached) reached) c.deref-2.ensures.value c.in_ok-reached.ensures), refl),
       (c.in_ok-taken.ensures, refl),
       refl,
     )

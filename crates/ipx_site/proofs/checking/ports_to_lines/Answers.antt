@@ -1,5 +1,5 @@
 use Rattle.std.proofs.Common.{◌∙◌, ap, take}
-use Rattle.ipx_site.specs.declared.site.PortOfKind.{PortOfKind}
+use Rattle.ipx_site.specs.declared.site.PortConfig.{PortConfig}
 use Rattle.ipx_site.specs.Checked.{port_lines}
 use Rattle.ipx_site.proofs.Printed.{behind_more}
 use Rattle.ipx_site.proofs.checking.ports_to_lines.Goals as goal
@@ -10,4 +10,4 @@ loop-place-preserved c =
     let i = c.loop-place.place in
     c.in_ok-push_str.ensures.bytes
     ∙ behind_more port_lines ports i c.index-ports-place.result _ _ c.loop-place-test.true c.loop-place.invariant
-    (c.deref.ensures ∙ c.in_ok-of_port.ensures ∙ ap (λ (p : PortOfKind). port_lines (take i ports) p) c.index-ports-place.is)
+    (c.deref.ensures ∙ c.in_ok-of_port.ensures ∙ ap (λ (p : PortConfig). port_lines (take i ports) p) c.index-ports-place.is)

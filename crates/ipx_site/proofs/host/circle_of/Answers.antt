@@ -4,7 +4,7 @@ use Rattle.toml.specs.View.{table_view}
 use Rattle.ipx_site.specs.declared.key.Key.TheVariants as Key
 use Rattle.ipx_site.specs.Fields.{HoldsOr}
 use Rattle.ipx_site.specs.Neighbours.{AreAmong, AreNeighbours}
-use Rattle.ipx_site.specs.Origins.{AreOrigins}
+use Rattle.ipx_site.specs.AllowedPeers.{AreOrigins}
 use Rattle.ipx_site.proofs.Faults.{or_memory, right_if, right_or}
 use Rattle.ipx_site.proofs.host.circle_of.Goals as goal
 

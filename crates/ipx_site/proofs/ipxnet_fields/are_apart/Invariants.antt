@@ -1,5 +1,5 @@
 use Rattle.std.proofs.Common.{◌≡◌, drop}
-use Rattle.ipx_site.specs.WireValues.{are_places_apart}
+use Rattle.ipx_site.specs.EthernetValues.{are_places_apart}
 use Rattle.ipx_site.proofs.ipxnet_fields.are_apart.Given as goal
 
 -- one stands twice where one does of those that are left

@@ -4,7 +4,7 @@ use Rattle.toml.specs.View.{table_view}
 use Rattle.ipx_site.specs.declared.key.Key.TheVariants as Key
 use Rattle.ipx_site.specs.IpxnetTable.{IsIpxnetFault}
 use Rattle.ipx_site.specs.Values.{IsCount}
-use Rattle.ipx_site.specs.WireValues.{IsStation}
+use Rattle.ipx_site.specs.EthernetValues.{IsStation}
 use Rattle.ipx_site.proofs.Faults.{or_memory, right_or}
 use Rattle.ipx_site.proofs.ipxnet_fields.ipxnet_port_in.Goals as goal
 

@@ -3,7 +3,7 @@ use Rattle.std.specs.Global.{Global}
 use Rattle.std.specs.List.{list_all}
 use Rattle.toml.specs.View.{view}
 use Rattle.ipx_site.specs.Neighbours.{AreNeighbours, ReadsList}
-use Rattle.ipx_site.specs.SitePeers.{is_peer}
+use Rattle.ipx_site.specs.SourceFilter.{is_peer}
 use Rattle.ipx_site.proofs.Circles.{not_among}
 use Rattle.ipx_site.proofs.neighbours.among.Goals as goal
 

@@ -7,8 +7,8 @@ use Rattle.ipx_site.specs.Values.{ReadsAddresses}
 use Rattle.ipx_site.proofs.Circles.{listed, too_many}
 use Rattle.ipx_site.proofs.neighbours.neighbours_of.Goals as goal
 
-pub returns-then-len-gt-MOST_ENTRIES : goal.returns-then-len-gt-MOST_ENTRIES
-returns-then-len-gt-MOST_ENTRIES c = too_many (view c.args.value.now) c.in-Some.values.now.items (sym c.as_array.ensures ∙ ap (option_map (λ v. array_view v.now)) c.in-Some.is) (omega arith)
+pub returns-then-len-gt-MAX_ENTRIES : goal.returns-then-len-gt-MAX_ENTRIES
+returns-then-len-gt-MAX_ENTRIES c = too_many (view c.args.value.now) c.in-Some.values.now.items (sym c.as_array.ensures ∙ ap (option_map (λ v. array_view v.now)) c.in-Some.is) (omega arith)
 
 pub returns : goal.returns
 returns c = listed (view c.args.value.now) c.in-Some.values.now.items (sym c.as_array.ensures ∙ ap (option_map (λ v. array_view v.now)) c.in-Some.is) (omega arith) c.addresses_of.result

@@ -2,9 +2,9 @@ use Rattle.std.proofs.Common.{inl, inr}
 use Rattle.std.proofs.lemmas.Result.{err_from_is_err_and}
 use Rattle.toml.specs.View.{table_view}
 use Rattle.ipx_site.specs.declared.key.Key.TheVariants as Key
-use Rattle.ipx_site.specs.FramesTable.{IsFramesFault}
+use Rattle.ipx_site.specs.EthernetTable.{IsFramesFault}
 use Rattle.ipx_site.specs.Values.{IsCount}
-use Rattle.ipx_site.specs.WireValues.{IsStation}
+use Rattle.ipx_site.specs.EthernetValues.{IsStation}
 use Rattle.ipx_site.proofs.Faults.{or_memory, right_or}
 use Rattle.ipx_site.proofs.port.frames_port.Goals as goal
 

@@ -1,8 +1,8 @@
 use Rattle.std.proofs.Common.{◌≡◌, ◌+◌, List, [], ◌++◌, drop}
 use Rattle.std.specs.Prelude.{vec_len}
 use Rattle.toml.specs.View.{items_view}
-use Rattle.ipx_site.specs.declared.fault.FileFault.{FileFault}
-use Rattle.ipx_site.specs.declared.site.PortOfKind.{PortOfKind}
+use Rattle.ipx_site.specs.declared.fault.ConfigError.{ConfigError}
+use Rattle.ipx_site.specs.declared.site.PortConfig.{PortConfig}
 use Rattle.ipx_site.specs.Site.{ArePorts, IsFirstFault}
 use Rattle.ipx_site.proofs.reading.ports_of.Given as goal
 
@@ -10,7 +10,7 @@ use Rattle.ipx_site.proofs.reading.ports_of.Given as goal
 abbrev pub invariant-loop-value : goal.invariant-loop-value
 invariant-loop-value l =
     (vec_len l.ports ≡ l.value-index)
-    × ((rest : List PortOfKind) → ArePorts l.ports.items (items_view (drop l.value-index l.values)) rest
+    × ((rest : List PortConfig) → ArePorts l.ports.items (items_view (drop l.value-index l.values)) rest
     → ArePorts [] (items_view l.values) (l.ports.items ++ rest))
-    × ((f : FileFault) → IsFirstFault l.ports.items (l.value-index + 1) (items_view (drop l.value-index l.values)) f
+    × ((f : ConfigError) → IsFirstFault l.ports.items (l.value-index + 1) (items_view (drop l.value-index l.values)) f
     → IsFirstFault [] 1 (items_view l.values) f)

@@ -2,7 +2,7 @@ use Rattle.std.proofs.Common.{inl, inr, [], List, sym, subst}
 use Rattle.std.proofs.lemmas.Result.{err_from_is_err_and}
 use Rattle.toml.specs.View.{items_view, table_view}
 use Rattle.ipx_site.specs.declared.key.Key.TheVariants as Key
-use Rattle.ipx_site.specs.declared.site.PortOfKind.{PortOfKind}
+use Rattle.ipx_site.specs.declared.site.PortConfig.{PortConfig}
 use Rattle.ipx_site.specs.Site.{ArePorts}
 use Rattle.ipx_site.specs.Values.{IsOtherFileName}
 use Rattle.ipx_site.proofs.Faults.{or_memory, right_if}
@@ -49,11 +49,11 @@ pub returns-clause-own : goal.returns-clause-own
 returns-clause-own c =
     own_of [] (items_view c.in_ok-values.values.now) c.in_ok-ports.ports.items c.in_ok-ports.ensures.ports
 
-pub returns-in_err-by_hand-clause-fault : goal.returns-in_err-by_hand-clause-fault
-returns-in_err-by_hand-clause-fault c =
-    let p = err_from_is_err_and c.from_residual-in_err-by_hand.result c.from_residual-in_err-by_hand.ensures.1 in
+pub returns-in_err-statics-clause-fault : goal.returns-in_err-statics-clause-fault
+returns-in_err-statics-clause-fault c =
+    let p = err_from_is_err_and c.from_residual-in_err-statics.result c.from_residual-in_err-statics.ensures.1 in
     let ms = table_view c.args.table.now in
-    let ports = subst (λ (ps : List PortOfKind). ArePorts [] (items_view c.in_ok-values.values.now) ps) (sym c.deref.ensures.value) c.in_ok-ports.ensures.ports in
+    let ports = subst (λ (ps : List PortConfig). ArePorts [] (items_view c.in_ok-values.values.now) ps) (sym c.deref.ensures.value) c.in_ok-ports.ensures.ports in
     rw (p.1, p.2)
     (or_memory _ (λ fault. inr (
       c.in_ok-refuse_unknown.ensures.known,
@@ -63,4 +63,4 @@ returns-in_err-by_hand-clause-fault c =
         inr (right_if (IsOtherFileName c.in_ok-status.status) Key.Tables ms c.in_ok-tables.tables c.in_ok-tables.ensures, inr (items_view c.in_ok-values.values.now, c.in_ok-values.ensures, inr (c.deref.result.now, ports, fault))),
       ),
     ))
-    c.in_err-by_hand.ensures.fault)
+    c.in_err-statics.ensures.fault)

@@ -13,18 +13,18 @@ returns-clause-same g c =
     let old = sym c.counts.ensures ∙ c.if-counts.false in
     ap (filter p) c.take_out.ensures.items
     ∙ ap (λ l. filter p (remove l c.in-Some.at)) c.in-Some.ensures.same
-    ∙ old_removed c.args.shelf.now c.in-Some.at c.in-Some.moment c.args.now c.in-Some.ensures.oldest old
+    ∙ old_removed c.args.offer_store.now c.in-Some.at c.in-Some.moment c.args.now c.in-Some.ensures.oldest old
 
 pub returns-clause-fewer : goal.returns-clause-fewer
 returns-clause-fewer g c =
     let at = c.in-Some.at in
-    omega (arith, ap length c.take_out.ensures.items, ap (λ l. length (remove l at)) c.in-Some.ensures.same, length-remove c.args.shelf.now at c.in-Some.ensures.oldest.in_range)
+    omega (arith, ap length c.take_out.ensures.items, ap (λ l. length (remove l at)) c.in-Some.ensures.same, length-remove c.args.offer_store.now at c.in-Some.ensures.oldest.in_range)
 
 pub returns-then-counts-clause-young : goal.returns-then-counts-clause-young
 returns-then-counts-clause-young g c =
     let young = sym c.counts.ensures ∙ c.if-counts.true in
-    rw c.in-Some.ensures.same (all_count c.args.shelf.now c.in-Some.at c.in-Some.moment c.args.now c.in-Some.ensures.oldest young)
+    rw c.in-Some.ensures.same (all_count c.args.offer_store.now c.in-Some.at c.in-Some.moment c.args.now c.in-Some.ensures.oldest young)
 
 pub returns-then-counts-clause-no_later : goal.returns-then-counts-clause-no_later
 returns-then-counts-clause-no_later g c = λ moment fits none.
-    no_later_than_oldest c.args.shelf.now c.in-Some.at c.in-Some.moment c.in-Some.ensures.oldest c.expiry.result moment c.expiry.ensures fits (subst (NoneOldBefore moment) c.in-Some.ensures.same none)
+    no_later_than_oldest c.args.offer_store.now c.in-Some.at c.in-Some.moment c.in-Some.ensures.oldest c.expiry.result moment c.expiry.ensures fits (subst (NoneOldBefore moment) c.in-Some.ensures.same none)

@@ -14,26 +14,26 @@ loop-at-init g c =
     record {
       within = f.within;
       above = f.above;
-      best = best_skips (is_candidate g.K.Ord.cmp c.args.key c.args.now) (offer_beats g.M.Metric.before) _ _ _ (λ j d lt within. no_candidate g.K.Ord.cmp c.args.key c.args.now (get_or c.args.shelf.now j d) (less_not_equal _ (f.below j d lt)));
+      best = best_skips (is_candidate g.K.Ord.cmp c.args.key c.args.now) (offer_beats g.M.Metric.before) _ _ _ (λ j d lt within. no_candidate g.K.Ord.cmp c.args.key c.args.now (get_or c.args.offer_store.now j d) (less_not_equal _ (f.below j d lt)));
       cost = λ digits long. omega (arith, f.cost digits long);
       all_read =
-          let none = count_back (λ (o : Offer g.row.K.Denot g.row.M.Denot). is_eq (g.K.Ord.cmp o.key c.args.key)) c.args.shelf.now c.first_of-at.result (λ j d lt within. less_not_equal _ (f.below j d lt)) in
+          let none = count_back (λ (o : Offer g.row.K.Denot g.row.M.Denot). is_eq (g.K.Ord.cmp o.key c.args.key)) c.args.offer_store.now c.first_of-at.result (λ j d lt within. less_not_equal _ (f.below j d lt)) in
           omega (arith, none);
     }
 
 pub read-offer-requires-clause-few : goal.read-offer-requires-clause-few
 read-offer-requires-clause-few g c =
-    let few : length c.args.shelf.now < 2 ^ 63 = omega (arith, c.len-end.ensures.len, c.len-end.ensures.few) in
+    let few : length c.args.offer_store.now < 2 ^ 63 = omega (arith, c.len-end.ensures.len, c.len-end.ensures.few) in
     let cost = c.loop-at.invariant.cost 63 few in
     let p = λ (o : Offer g.row.K.Denot g.row.M.Denot). is_eq (g.K.Ord.cmp o.key c.args.key) in
-    let short : count_by p (take c.loop-at.at c.args.shelf.now) ≤ length (take c.loop-at.at c.args.shelf.now) = count_by-le-length p _ in
-    let front : length (take c.loop-at.at c.args.shelf.now) ≤ length c.args.shelf.now = grind (arith, common_steps) in
+    let short : count_by p (take c.loop-at.at c.args.offer_store.now) ≤ length (take c.loop-at.at c.args.offer_store.now) = count_by-le-length p _ in
+    let front : length (take c.loop-at.at c.args.offer_store.now) ≤ length c.args.offer_store.now = grind (arith, common_steps) in
     omega (arith, cost, short, front, few)
 
 pub returns-then-not-is_eq-clause-best : goal.returns-then-not-is_eq-clause-best
 returns-then-not-is_eq-clause-best g c =
     let i = c.loop-at.invariant in
-    let os = c.args.shelf.now in
+    let os = c.args.offer_store.now in
     let within : c.loop-at.at < length os = omega (arith, c.loop-at-test.true, c.len-end.ensures.len) in
     let test : is_eq (g.K.Ord.cmp c.read-offer.result.now.key c.args.key) ≡ false = ap is_eq (sym c.cmp.ensures) ∙ sym c.is_eq.ensures ∙ c.if-not-is_eq.true in
     let other : (o : Offer g.row.K.Denot g.row.M.Denot) → is_eq (g.K.Ord.cmp (get_or os c.loop-at.at o).key c.args.key) ≡ false = λ o.
@@ -45,7 +45,7 @@ returns-then-not-is_eq-clause-best g c =
 pub returns-then-not-is_eq-clause-all_read : goal.returns-then-not-is_eq-clause-all_read
 returns-then-not-is_eq-clause-all_read g c =
     let i = c.loop-at.invariant in
-    let os = c.args.shelf.now in
+    let os = c.args.offer_store.now in
     let within : c.loop-at.at < length os = omega (arith, c.loop-at-test.true, c.len-end.ensures.len) in
     let test : is_eq (g.K.Ord.cmp c.read-offer.result.now.key c.args.key) ≡ false = ap is_eq (sym c.cmp.ensures) ∙ sym c.is_eq.ensures ∙ c.if-not-is_eq.true in
     let other : (o : Offer g.row.K.Denot g.row.M.Denot) → is_eq (g.K.Ord.cmp (get_or os c.loop-at.at o).key c.args.key) ≡ false = λ o.

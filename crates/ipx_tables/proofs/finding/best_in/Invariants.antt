@@ -9,12 +9,12 @@ abbrev pub invariant-loop-at : goal.invariant-loop-at
 invariant-loop-at g l =
     let best = best_from (is_candidate g.K.Ord.cmp l.key l.now) (offer_beats g.M.Metric.before) in
     record {
-      within : l.at ≤ length l.shelf;
-      above : (j : ℕ) (o : Offer g.row.K.Denot g.row.M.Denot) → l.at ≤ j → j < length l.shelf → is_lt (g.K.Ord.cmp (get_or l.shelf j o).key l.key) ≡ false;
-      best : best (option_copied l.best) (drop l.at l.shelf) ≡ best None l.shelf;
-      cost : (digits : ℕ) → length l.shelf < 2 ^ digits → l.steps ≤ count_by (λ o. is_eq (g.K.Ord.cmp o.key l.key)) (take l.at l.shelf) + digits;
-      all_read : count_by (λ o. is_eq (g.K.Ord.cmp o.key l.key)) (take l.at l.shelf) ≤ l.steps;
+      within : l.at ≤ length l.offer_store;
+      above : (j : ℕ) (o : Offer g.row.K.Denot g.row.M.Denot) → l.at ≤ j → j < length l.offer_store → is_lt (g.K.Ord.cmp (get_or l.offer_store j o).key l.key) ≡ false;
+      best : best (option_copied l.best) (drop l.at l.offer_store) ≡ best None l.offer_store;
+      cost : (digits : ℕ) → length l.offer_store < 2 ^ digits → l.steps ≤ count_by (λ o. is_eq (g.K.Ord.cmp o.key l.key)) (take l.at l.offer_store) + digits;
+      all_read : count_by (λ o. is_eq (g.K.Ord.cmp o.key l.key)) (take l.at l.offer_store) ≤ l.steps;
     }
 
 abbrev pub decreases-loop-at : goal.decreases-loop-at
-decreases-loop-at g l = length l.shelf - l.at
+decreases-loop-at g l = length l.offer_store - l.at

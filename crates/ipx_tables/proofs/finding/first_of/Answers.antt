@@ -7,13 +7,13 @@ use Rattle.ipx_tables.proofs.finding.first_of.Goals as goal
 
 pub read-offer-requires-clause-few : goal.read-offer-requires-clause-few
 read-offer-requires-clause-few g c =
-    let few : length c.args.shelf.now < 2 ^ 64 = omega (arith, c.len-high.ensures.len, c.len-high.ensures.few) in
+    let few : length c.args.offer_store.now < 2 ^ 64 = omega (arith, c.len-high.ensures.len, c.len-high.ensures.few) in
     omega (arith, (c.loop-low.invariant.cost 64 few).0, c.requires)
 
 pub loop-low-preserved-then-is_lt : goal.loop-low-preserved-then-is_lt
 loop-low-preserved-then-is_lt g c =
     let i = c.loop-low.invariant in
-    let os = c.args.shelf.now in
+    let os = c.args.offer_store.now in
     let mid : ℕ = c.loop-low.low + (c.loop-low.high - c.loop-low.low) / 2 in
     let test : c.loop-low.low < c.loop-low.high = c.loop-low-test.true in
     let within : mid < length os = omega (arith, i.within) in
@@ -31,7 +31,7 @@ loop-low-preserved-then-is_lt g c =
 pub loop-low-preserved : goal.loop-low-preserved
 loop-low-preserved g c =
     let i = c.loop-low.invariant in
-    let os = c.args.shelf.now in
+    let os = c.args.offer_store.now in
     let mid : ℕ = c.loop-low.low + (c.loop-low.high - c.loop-low.low) / 2 in
     let test : c.loop-low.low < c.loop-low.high = c.loop-low-test.true in
     let within : mid < length os = omega (arith, i.within) in

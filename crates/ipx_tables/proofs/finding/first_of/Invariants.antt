@@ -7,11 +7,11 @@ use Rattle.ipx_tables.proofs.finding.first_of.Given as goal
 abbrev pub invariant-loop-low : goal.invariant-loop-low
 invariant-loop-low g l = record {
   ordered : l.low ≤ l.high;
-  within : l.high ≤ length l.shelf;
-  below : (j : ℕ) (o : Offer g.row.K.Denot g.row.M.Denot) → j < l.low → is_lt (g.K.Ord.cmp (get_or l.shelf j o).key l.key) ≡ true;
-  above : (j : ℕ) (o : Offer g.row.K.Denot g.row.M.Denot) → l.high ≤ j → j < length l.shelf → is_lt (g.K.Ord.cmp (get_or l.shelf j o).key l.key) ≡ false;
+  within : l.high ≤ length l.offer_store;
+  below : (j : ℕ) (o : Offer g.row.K.Denot g.row.M.Denot) → j < l.low → is_lt (g.K.Ord.cmp (get_or l.offer_store j o).key l.key) ≡ true;
+  above : (j : ℕ) (o : Offer g.row.K.Denot g.row.M.Denot) → l.high ≤ j → j < length l.offer_store → is_lt (g.K.Ord.cmp (get_or l.offer_store j o).key l.key) ≡ false;
   more : l.initial.steps ≤ l.steps;
-  cost : (digits : ℕ) → length l.shelf < 2 ^ digits → (l.steps ≤ l.initial.steps + digits) × (l.high - l.low < 2 ^ (l.initial.steps + digits - l.steps));
+  cost : (digits : ℕ) → length l.offer_store < 2 ^ digits → (l.steps ≤ l.initial.steps + digits) × (l.high - l.low < 2 ^ (l.initial.steps + digits - l.steps));
 }
 
 abbrev pub decreases-loop-low : goal.decreases-loop-low

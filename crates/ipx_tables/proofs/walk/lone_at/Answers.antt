@@ -9,4 +9,4 @@ returns-then-is_lone-clause-within g c =
 
 pub returns-then-is_lone-clause-found : goal.returns-then-is_lone-clause-found
 returns-then-is_lone-clause-found g c =
-    lone_walk g.met.K.Ord.total g.met.M.Metric.strict c.args.now c.args.shelf.now c.len-offers.ensures.rising c.args.at c.get.result.now c.get.ensures (c.is_lone.ensures c.if-is_lone.true)
+    lone_walk g.met.K.Ord.total g.met.M.Metric.strict c.args.now c.args.offer_store.now c.len-offers.ensures.rising c.args.at c.get.result.now c.get.ensures (c.is_lone.ensures c.if-is_lone.true)

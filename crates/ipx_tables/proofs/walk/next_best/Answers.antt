@@ -5,13 +5,13 @@ use Rattle.ipx_tables.proofs.walk.next_best.Goals as goal
 
 pub returns-then-is_past-clause-found : goal.returns-then-is_past-clause-found
 returns-then-is_past-clause-found g c =
-    let os = c.args.shelf.now in
+    let os = c.args.offer_store.now in
     let within : c.loop-at.at < length os = omega (arith, c.loop-at-test.true, c.len-end.ensures.len) in
     rw c.copied.ensures (walk_stops g.met.K.Ord.total g.met.M.Metric.strict c.args.now os c.len-end.ensures.rising c.loop-at.at c.get-offer.result.now within c.get-offer.ensures (option_copied c.loop-at.held) c.is_past.result _ c.if-is_past.true c.is_past.ensures c.loop-at.invariant.low c.loop-at.invariant.left)
 
 pub loop-at-preserved : goal.loop-at-preserved
 loop-at-preserved g c =
-    let os = c.args.shelf.now in
+    let os = c.args.offer_store.now in
     let T = g.met.K.Ord.total in
     let S = g.met.M.Metric.strict in
     let x = c.get-offer.result.now in

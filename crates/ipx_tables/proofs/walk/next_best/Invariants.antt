@@ -8,9 +8,9 @@ abbrev pub invariant-loop-at : goal.invariant-loop-at
 invariant-loop-at g l =
     let bests = bests_of g.K.Ord.cmp g.M.Metric.before l.now in
     record {
-      left : put_held g.K.Ord.cmp g.M.Metric.before (option_copied l.held) (bests (drop l.at l.shelf)) ≡ bests (drop l.from l.shelf);
-      low : IsLow g.K.Ord.cmp l.shelf l.at (option_copied l.held);
+      left : put_held g.K.Ord.cmp g.M.Metric.before (option_copied l.held) (bests (drop l.at l.offer_store)) ≡ bests (drop l.from l.offer_store);
+      low : IsLow g.K.Ord.cmp l.offer_store l.at (option_copied l.held);
     }
 
 abbrev pub decreases-loop-at : goal.decreases-loop-at
-decreases-loop-at g l = length l.shelf - l.at
+decreases-loop-at g l = length l.offer_store - l.at

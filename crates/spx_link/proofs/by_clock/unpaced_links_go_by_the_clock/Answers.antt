@@ -7,8 +7,8 @@ pub returns : goal.returns
 returns c =
     record {
       poll = λ l now u. poll_so l now u;
-      dialed = λ own s a buffers now. record { window = refl; by_hand = refl };
-      accepted = λ own s a h buffers now. record { window = refl; by_hand = refl };
+      dialed = λ own s a buffers now. record { window = refl; manual = refl };
+      accepted = λ own s a h buffers now. record { window = refl; manual = refl };
       polled = λ l now. (poll_keeps l now).pace;
       receive = λ l h body. (receive_keeps l h body).pace;
       offer = λ l us. refl;

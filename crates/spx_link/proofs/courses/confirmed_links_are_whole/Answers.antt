@@ -15,6 +15,6 @@ returns c =
       take = λ l has. whole_taken l has;
       owe_reply = λ l has is. record { end_queued = (has is).end_queued; queue = (has is).queue };
       lose = λ l is. absurd (cc);
-      pace = λ l window by_hand has is. record { end_queued = (has is).end_queued; queue = (has is).queue };
+      pace = λ l window manual has is. record { end_queued = (has is).end_queued; queue = (has is).queue };
       again = λ l place has is. record { end_queued = (has is).end_queued; queue = (has is).queue };
     }

@@ -14,6 +14,6 @@ returns c =
       take = λ l has. no_end_taken l has;
       owe_reply = λ l has. has;
       lose = λ l early. absurd (cc);
-      pace = λ l window by_hand has. has;
+      pace = λ l window manual has. has;
       again = λ l place has. has;
     }

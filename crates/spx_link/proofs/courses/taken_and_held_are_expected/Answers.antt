@@ -15,6 +15,6 @@ returns c =
       no_take = λ l none. no_take l none;
       owe_reply = λ l taken has. has;
       lose = λ l taken has. has;
-      pace = λ l window by_hand taken has. has;
+      pace = λ l window manual taken has. has;
       again = λ l place taken has. has;
     }

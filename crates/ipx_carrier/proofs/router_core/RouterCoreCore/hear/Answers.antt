@@ -36,22 +36,22 @@ returns-clause-heard c =
     let w' = sendings put.forwarded.items in
     let q = sendings i.own.items in
     let q' = sendings put.own.items in
-    let before = core_queues i.forwarded.items i.own.items i.in_a_row in
-    let seen : CoreView = core_of i.fates i.router before i.started i.dropped in
-    let after : CoreView = core_of c.count.new.self c.receive.new.self (core_queues put.forwarded.items put.own.items i.in_a_row) i.started put.dropped in
-    let fated_is = ap (λ f. put_answer a (core_of f c.receive.new.self before i.started i.dropped)) c.count.ensures in
+    let before = core_queues i.forwarded.items i.own.items i.originated_run in
+    let seen : CoreView = core_of i.outcomes i.router before i.started i.dropped in
+    let after : CoreView = core_of c.count.new.self c.receive.new.self (core_queues put.forwarded.items put.own.items i.originated_run) i.started put.dropped in
+    let outcome_counted_is = ap (λ f. put_answer a (core_of f c.receive.new.self before i.started i.dropped)) c.count.ensures in
     let heard : OnOk c.put_outcome.result (RouterHears seen c.args.port c.args.bytes.now c.args.now after) =
-    on_ok_weaker c.put_outcome.result (λ (p : PutsAnswer a w q i.dropped w' q' put.dropped). (a, c.receive.new.self, c.in_ok-outcome.ensures.answer, put_answer_is c.count.new.self a w w' q q' i.in_a_row i.dropped put.dropped c.receive.new.self i.started p ∙ fated_is)) c.put_outcome.ensures.put in
+    on_ok_weaker c.put_outcome.result (λ (p : PutsAnswer a w q i.dropped w' q' put.dropped). (a, c.receive.new.self, c.in_ok-outcome.ensures.answer, put_answer_is c.count.new.self a w w' q q' i.originated_run i.dropped put.dropped c.receive.new.self i.started p ∙ outcome_counted_is)) c.put_outcome.ensures.put in
     subst (λ (v : CoreView). OnOk c.put_outcome.result (RouterHears v c.args.port c.args.bytes.now c.args.now after)) c.self.view_is heard
 
 pub returns-in_err-outcome-clause-refused : goal.returns-in_err-outcome-clause-refused
 returns-in_err-outcome-clause-refused c =
     let p = err_from_is_err_and c.from_residual.result c.from_residual.ensures.1 in
     let i = c.self.inside in
-    let before = core_queues i.forwarded.items i.own.items i.in_a_row in
+    let before = core_queues i.forwarded.items i.own.items i.originated_run in
     let e = c.in_err-outcome.ensures in
-    let after : CoreView = core_of i.fates c.receive.new.self before i.started i.dropped in
-    let missed : Misses (core_of i.fates i.router before i.started i.dropped) c.args.port c.args.bytes.now c.args.now after =
+    let after : CoreView = core_of i.outcomes c.receive.new.self before i.started i.dropped in
+    let missed : Misses (core_of i.outcomes i.router before i.started i.dropped) c.args.port c.args.bytes.now c.args.now after =
     (c.receive.new.self, inl (refl, (e.refused, e.rest, e.told))) in
     rw p.1
     (subst (λ (v : CoreView). Misses v c.args.port c.args.bytes.now c.args.now after) c.self.view_is missed)
@@ -65,11 +65,11 @@ returns-clause-refused c =
     let w' = put.forwarded.items in
     let q = i.own.items in
     let q' = put.own.items in
-    let before = core_queues w q i.in_a_row in
-    let seen : CoreView = core_of i.fates i.router before i.started i.dropped in
-    let after : CoreView = core_of c.count.new.self c.receive.new.self (core_queues w' q' i.in_a_row) i.started put.dropped in
-    let fated_is = ap (λ f. core_of f c.receive.new.self before i.started i.dropped) c.count.ensures in
+    let before = core_queues w q i.originated_run in
+    let seen : CoreView = core_of i.outcomes i.router before i.started i.dropped in
+    let after : CoreView = core_of c.count.new.self c.receive.new.self (core_queues w' q' i.originated_run) i.started put.dropped in
+    let outcome_counted_is = ap (λ f. core_of f c.receive.new.self before i.started i.dropped) c.count.ensures in
     let missed : OnErr c.put_outcome.result (Misses seen c.args.port c.args.bytes.now c.args.now after) =
-    on_err_weaker c.put_outcome.result (λ (p : ((w' ≡ w) × (q' ≡ q) × (put.dropped ≡ i.dropped)) × IsRoomForAnswer (sendings w) (sendings q) a). (c.receive.new.self, inr (a, same_queues c.count.new.self c.receive.new.self w w' q q' i.in_a_row i.started i.dropped put.dropped p.0 ∙ fated_is, c.in_ok-outcome.ensures.answer, p.1)))
+    on_err_weaker c.put_outcome.result (λ (p : ((w' ≡ w) × (q' ≡ q) × (put.dropped ≡ i.dropped)) × IsRoomForAnswer (sendings w) (sendings q) a). (c.receive.new.self, inr (a, same_queues c.count.new.self c.receive.new.self w w' q q' i.originated_run i.started i.dropped put.dropped p.0 ∙ outcome_counted_is, c.in_ok-outcome.ensures.answer, p.1)))
     (err_both c.put_outcome.result _ _ c.put_outcome.ensures.refused c.put_outcome.ensures.lost) in
     subst (λ (v : CoreView). OnErr c.put_outcome.result (Misses v c.args.port c.args.bytes.now c.args.now after)) c.self.view_is missed

@@ -1,7 +1,7 @@
 use Rattle.std.proofs.Common.{◌↔◌, ◌<◌, length, subst}
 use Rattle.std.specs.Prelude.{IsTrue}
-use Rattle.theory_log.specs.Peers.{Premises}
-use Rattle.theory_log.specs.Scan.{scan}
+use Rattle.spx_theory.specs.Peers.{Premises}
+use Rattle.spx_theory.specs.Scan.{scan}
 use Rattle.theory_steps.specs.World.{scene_of}
 use Rattle.ipx_net.specs.Begins.{Begins}
 use Rattle.ipx_net.specs.NetView.{NetView}

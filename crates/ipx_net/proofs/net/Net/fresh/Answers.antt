@@ -1,6 +1,6 @@
 use Rattle.std.proofs.Common.{◌↔◌, subst}
 use Rattle.std.specs.Prelude.{IsTrue}
-use Rattle.theory_log.specs.Peers.{IsFresh}
+use Rattle.spx_theory.specs.Peers.{IsFresh}
 use Rattle.ipx_net.specs.NetView.{NetView}
 use Rattle.ipx_net.specs.Theorems.{Theorems}
 use Rattle.ipx_net.proofs.net.Net.fresh.Goals as goal

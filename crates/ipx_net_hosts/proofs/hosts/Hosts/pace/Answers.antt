@@ -7,7 +7,7 @@ use Rattle.ipx_net_hosts.proofs.hosts.Hosts.pace.Goals as goal
 pub returns-clause-ok : goal.returns-clause-ok
 returns-clause-ok c =
     quietly_ok c.pace.result c.args.self.now c.self.inside.stations.items c.self.inside.ends.items c.args.who c.place-host.result.0 c.place-host.result.1 c.index_mut.result.now c.pace.new.self c.args.now
-    (λ (l : LinkView). pace_link l c.args.window c.args.by_hand) c.self.view_is c.index_mut.ensures.value c.place-host.ensures c.pace.ensures.ok
+    (λ (l : LinkView). pace_link l c.args.window c.args.manual) c.self.view_is c.index_mut.ensures.value c.place-host.ensures c.pace.ensures.ok
 
 pub returns-clause-done : goal.returns-clause-done
 returns-clause-done c =

@@ -19,25 +19,25 @@ returns-then-now-self-clause-many g c =
 
 pub invariant_of-self : goal.invariant_of-self
 invariant_of-self g c =
-    rw c.keep_young-self-inside.ensures.young (record { apart = apart_filter (same_equiv g.met.K.Ord.total) _ _ c.self.invariant.0.apart; within = omega (arith, c.self.invariant.0.within, filter_short (λ o. is_young c.args.now o.heard) c.self.inside.shelf) }, rw c.keep_young-self-inside.ensures.young at c.keep_young-self-inside.ensures.until)
+    rw c.expire-self-inside.ensures.young (record { apart = apart_filter (same_equiv g.met.K.Ord.total) _ _ c.self.invariant.0.apart; within = omega (arith, c.self.invariant.0.within, filter_short (λ o. is_young c.args.now o.heard) c.self.inside.offer_store) }, rw c.expire-self-inside.ensures.young at c.expire-self-inside.ensures.until)
 
 pub returns-clause-aged : goal.returns-clause-aged
 returns-clause-aged g c p =
-    rw (c.keep_young-self-inside.ensures.young, ← c.self.view_is) (found_filter (same_equiv g.met.K.Ord.total) _ _ c.self.invariant.0.apart p)
+    rw (c.expire-self-inside.ensures.young, ← c.self.view_is) (found_filter (same_equiv g.met.K.Ord.total) _ _ c.self.invariant.0.apart p)
 
 pub returns-clause-fewer : goal.returns-clause-fewer
 returns-clause-fewer g c =
-    rw (c.keep_young-self-inside.ensures.young, ← c.self.view_is) (omega (arith, filter_short (λ o. is_young c.args.now o.heard) c.self.inside.shelf))
+    rw (c.expire-self-inside.ensures.young, ← c.self.view_is) (omega (arith, filter_short (λ o. is_young c.args.now o.heard) c.self.inside.offer_store))
 
 pub returns-clause-many : goal.returns-clause-many
 returns-clause-many g c =
-    rw (c.keep_young-self-inside.ensures.young, ← c.self.view_is) (length-filter (λ o. is_young c.args.now o.heard) c.self.inside.shelf)
+    rw (c.expire-self-inside.ensures.young, ← c.self.view_is) (length-filter (λ o. is_young c.args.now o.heard) c.self.inside.offer_store)
 
 pub returns-clause-valid : goal.returns-clause-valid
 returns-clause-valid g c =
-    rw c.keep_young-self-inside.ensures.young (record { apart = apart_filter (same_equiv g.met.K.Ord.total) _ _ c.self.invariant.0.apart; within = omega (arith, c.self.invariant.0.within, filter_short (λ o. is_young c.args.now o.heard) c.self.inside.shelf) })
+    rw c.expire-self-inside.ensures.young (record { apart = apart_filter (same_equiv g.met.K.Ord.total) _ _ c.self.invariant.0.apart; within = omega (arith, c.self.invariant.0.within, filter_short (λ o. is_young c.args.now o.heard) c.self.inside.offer_store) })
 
 pub returns-clause-keys : goal.returns-clause-keys
 returns-clause-keys g c p =
     let aged = found_filter (same_equiv g.met.K.Ord.total) _ c.args.now c.self.invariant.0.apart p in
-    rw (c.keep_young-self-inside.ensures.young, ← c.self.view_is, aged) (told_filter (same_equiv g.met.K.Ord.total) (λ o. o.key) _ _ c.self.invariant.0.apart p)
+    rw (c.expire-self-inside.ensures.young, ← c.self.view_is, aged) (told_filter (same_equiv g.met.K.Ord.total) (λ o. o.key) _ _ c.self.invariant.0.apart p)

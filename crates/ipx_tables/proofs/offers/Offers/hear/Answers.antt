@@ -94,7 +94,7 @@ returns-in_err-add-in-Err-2-clause-no_memory_if_there g c =
 pub invariant_of-self-in-Err-2 : goal.invariant_of-self-in-Err-2
 invariant_of-self-in-Err-2 g c =
     let offer : Offer g.row.K.Denot g.row.M.Denot = record { key = c.args.key; source = c.args.source; metric = c.args.metric; heard = c.args.now } in
-    (record { apart = apart_rising g.met.K.Ord.total _ c.in_ok-add-in-Err-2.ensures.rising; within = rw c.in_ok-add-in-Err-2.ensures.added (omega (arith, c.len.ensures.len, c.if-len-self.false, length-insert c.self.inside.shelf c.in-Err-2.at offer c.in-Err-2.ensures.absent.in_range)) }, rw c.in_ok-add-in-Err-2.ensures.added (none_old_inserted _ _ c.self.invariant.1 _ _ c.args.key c.args.source c.args.metric c.args.now c.min-self-inside.ensures c.expiry.ensures _))
+    (record { apart = apart_rising g.met.K.Ord.total _ c.in_ok-add-in-Err-2.ensures.rising; within = rw c.in_ok-add-in-Err-2.ensures.added (omega (arith, c.len.ensures.len, c.if-len-self.false, length-insert c.self.inside.offer_store c.in-Err-2.at offer c.in-Err-2.ensures.absent.in_range)) }, rw c.in_ok-add-in-Err-2.ensures.added (none_old_inserted _ _ c.self.invariant.1 _ _ c.args.key c.args.source c.args.metric c.args.now c.min-self-inside.ensures c.expiry.ensures _))
 
 pub returns-in_ok-add-in-Err-2-clause-heard : goal.returns-in_ok-add-in-Err-2-clause-heard
 returns-in_ok-add-in-Err-2-clause-heard g c =
@@ -109,14 +109,14 @@ returns-in_ok-add-in-Err-2-clause-keys g c =
 pub returns-in_ok-add-in-Err-2-clause-valid : goal.returns-in_ok-add-in-Err-2-clause-valid
 returns-in_ok-add-in-Err-2-clause-valid g c =
     let offer : Offer g.row.K.Denot g.row.M.Denot = record { key = c.args.key; source = c.args.source; metric = c.args.metric; heard = c.args.now } in
-    record { apart = apart_rising g.met.K.Ord.total _ c.in_ok-add-in-Err-2.ensures.rising; within = rw c.in_ok-add-in-Err-2.ensures.added (omega (arith, c.len.ensures.len, c.if-len-self.false, length-insert c.self.inside.shelf c.in-Err-2.at offer c.in-Err-2.ensures.absent.in_range)) }
+    record { apart = apart_rising g.met.K.Ord.total _ c.in_ok-add-in-Err-2.ensures.rising; within = rw c.in_ok-add-in-Err-2.ensures.added (omega (arith, c.len.ensures.len, c.if-len-self.false, length-insert c.self.inside.offer_store c.in-Err-2.at offer c.in-Err-2.ensures.absent.in_range)) }
 
 pub returns-in_ok-add-in-Err-2-clause-many : goal.returns-in_ok-add-in-Err-2-clause-many
 returns-in_ok-add-in-Err-2-clause-many g c =
     let offer : Offer g.row.K.Denot g.row.M.Denot = record { key = c.args.key; source = c.args.source; metric = c.args.metric; heard = c.args.now } in
     let gone = unsaid g.met.K.Ord.total _ _ _ c.in-Err-2.ensures.absent in
     let alive = sym c.dead.ensures ∙ c.if-dead.false in
-    rw (c.in_ok-add-in-Err-2.ensures.added, ← c.self.view_is, gone, alive) (omega (arith, length-insert c.self.inside.shelf c.in-Err-2.at offer c.in-Err-2.ensures.absent.in_range))
+    rw (c.in_ok-add-in-Err-2.ensures.added, ← c.self.view_is, gone, alive) (omega (arith, length-insert c.self.inside.offer_store c.in-Err-2.at offer c.in-Err-2.ensures.absent.in_range))
 
 pub returns-in-Err-clause-full : goal.returns-in-Err-clause-full
 returns-in-Err-clause-full g c =

@@ -12,4 +12,4 @@ invariant_of-self c =
 
 pub returns : goal.returns
 returns c =
-    changed_by_id c.args.self.now c.self.inside.last c.self.inside.links.items c.deref.result.now c.args.id c.place_of-place.result c.index_mut.result.now c.pace.new.self (λ (l : LinkView). O.pace_link l c.args.window c.args.by_hand) c.self.view_is c.deref.ensures.value c.place_of-place.ensures.place c.index_mut.ensures.value c.pace.ensures refl
+    changed_by_id c.args.self.now c.self.inside.last c.self.inside.links.items c.deref.result.now c.args.id c.place_of-place.result c.index_mut.result.now c.pace.new.self (λ (l : LinkView). O.pace_link l c.args.window c.args.manual) c.self.view_is c.deref.ensures.value c.place_of-place.ensures.place c.index_mut.ensures.value c.pace.ensures refl

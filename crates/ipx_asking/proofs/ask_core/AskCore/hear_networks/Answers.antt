@@ -1,8 +1,0 @@
-use Rattle.std.proofs.Common.{refl}
-use Rattle.ipx_asking.proofs.ask_core.AskCore.hear_networks.Goals as goal
-
-pub returns-in-Err-clause-refused : goal.returns-in-Err-clause-refused
-returns-in-Err-clause-refused c = rw (← c.self.view_is) (c.hear_rip.new.routes, c.in-Err.ensures.refused, refl)
-
-pub returns-in-Ok-clause-heard : goal.returns-in-Ok-clause-heard
-returns-in-Ok-clause-heard c = rw (← c.self.view_is) (c.in-Ok.answer, c.hear_rip.new.routes, c.in-Ok.ensures.answer, c.note.ensures)

@@ -1,7 +1,0 @@
-pub mod AskView
-pub mod AskQueries
-pub mod AskAnswers
-pub mod AskEnds
-pub mod PingRequests
-pub mod PingAnswers
-pub mod PingEnds

@@ -1,4 +1,0 @@
-pub mod HandWords
-pub mod ByHand
-pub mod HandOffers
-pub mod HandRuns

@@ -1,5 +1,0 @@
-use Rattle.std.proofs.Common.{sym}
-use Rattle.ipx_carrier.proofs.on_peers.OnPeersSegments.send.Goals as goal
-
-pub returns-clause-count : goal.returns-clause-count
-returns-clause-count g c = rw (sym c.deref.ensures.value) c.send.ensures.count

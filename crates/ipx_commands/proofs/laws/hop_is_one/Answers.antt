@@ -1,5 +1,0 @@
-use Rattle.ipx_commands.proofs.HopOutputs.{hop_writes_one}
-use Rattle.ipx_commands.proofs.laws.hop_is_one.Goals as goal
-
-pub returns : goal.returns
-returns c = hop_writes_one c.answer_is_one.ensures

@@ -1,8 +1,0 @@
-use Rattle.ipx_converge.proofs.below.laws_below.Goals as goal
-
-pub returns : goal.returns
-returns c = record {
-  one_best = c.one_best.ensures;
-  strict = c.one_is_better.ensures.strict;
-  apart = c.sources_are_apart.ensures;
-}

@@ -1,5 +1,0 @@
-use Rattle.ipx_converge.proofs.TurnByTurn as proof
-use Rattle.ipx_converge.proofs.laws.fair_runs_exist.Goals as goal
-
-pub returns : goal.returns
-returns c = proof.exist c.laws_below.ensures

@@ -1,5 +1,0 @@
-use Rattle.ipx_converge.proofs.Theorems as proof
-use Rattle.ipx_converge.proofs.laws.solutions_are_one.Goals as goal
-
-pub returns : goal.returns
-returns c = proof.one_solution c.laws_below.ensures

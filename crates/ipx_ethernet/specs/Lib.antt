@@ -1,0 +1,4 @@
+pub mod Frame
+pub mod FrameFault
+pub mod SentFrame
+pub mod PortFrames

@@ -1,0 +1,29 @@
+//! Ethernet frames that hold an IPX packet, in the four encapsulations that NetWare has.
+//!
+//! [`decode_frame`] reads a frame as a station hears it, and [`encode_frame_into`] writes one.
+//! Nothing takes memory, and the packet is lent from the frame that it was read from.
+#![tactic(auto)]
+
+mod encapsulation;
+mod fault;
+mod frame;
+mod laws;
+mod packet;
+mod reading;
+mod stations;
+mod ethernet_port;
+mod frame_counters;
+mod writing;
+
+pub use encapsulation::Encapsulation;
+pub use fault::FrameFault;
+pub use frame::{FRAME_MAX_SIZE, FRAME_MIN_SIZE, Frame};
+pub use laws::{
+    bytes_are_one_frame, frame_has_no_fault, sent_frame_is_read_back, sent_frame_is_sized,
+    sent_raw_frame_is_even,
+};
+pub use reading::decode_frame;
+pub use stations::stations_of;
+pub use ethernet_port::{FrameDrop, EthernetPort};
+pub use frame_counters::FrameCounters;
+pub use writing::encode_frame_into;

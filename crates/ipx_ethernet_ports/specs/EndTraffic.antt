@@ -1,0 +1,45 @@
+-- What passes through the sockets of wires: which frame came from which end of a port, and which went
+-- to which. All of it is own.
+use Rattle.std.specs.Prelude.{◌≡◌, ℕ, zero, suc, List, [], ◌∷◌, ◌++◌, Option, Some, None, Result, Ok, Err, IfSome, take}
+use Rattle.ipx_carrier.specs.Counting.{raised}
+use Rattle.ipx_ethernet_ports.specs.declared.end_sockets.FrameCame.{FrameCame}
+
+-- a frame that came from an end of a port, or went to one
+pub record EndFrame : Type 0 where
+  pub port : ℕ
+  pub end : ℕ
+  pub bytes : List ℕ
+
+-- all that passed so far, the first one first
+pub record EndTraffic : Type 0 where
+  pub came : List EndFrame
+  pub went : List EndFrame
+
+-- the same bytes for an end
+abbrev pub frame_at : ℕ → List ℕ → ℕ → EndFrame
+frame_at port bytes end = record { port = port; end = end; bytes = bytes }
+
+-- what came is in the front of the room
+abbrev pub came_in : ℕ → List ℕ → Option FrameCame → Option EndFrame
+came_in port room None = None
+came_in port room (Some c) = Some (frame_at port (take c.size room) c.end)
+
+-- the frames of an answer: one or none
+abbrev pub frames_in : Option EndFrame → List EndFrame
+frames_in None = []
+frames_in (Some f) = f ∷ []
+
+-- sockets that tell what passes tell this besides what they told before
+abbrev pub EndsPass : Option EndTraffic → Option EndTraffic → List EndFrame → List EndFrame → Type 0
+EndsPass old new came went =
+    IfSome old (λ t. new ≡ Some (record { came = t.came ++ came; went = t.went ++ went }))
+
+-- a count after so many failures, which stays at the greatest
+abbrev pub raised_times : ℕ → ℕ → ℕ
+raised_times zero n = n
+raised_times (suc k) n = raised (raised_times k n)
+
+-- the same after one call
+abbrev pub failures_counted : {T E : Type 0} → Result T E → ℕ → ℕ
+failures_counted (Ok x) n = n
+failures_counted (Err e) n = raised n

@@ -1,0 +1,4 @@
+pub mod EndTraffic
+pub mod OnEthernet
+pub mod EthernetAddresses
+pub mod MemoryTraffic

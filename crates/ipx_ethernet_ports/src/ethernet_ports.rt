@@ -1,0 +1,248 @@
+//! Ports on wires.
+
+ghost use Rattle.std.specs.Prelude.{◌≡◌, ◌<◌, ◌≤◌, ◌+◌, ◌^◌, [], Option, None, IfOk, IfSome, OnErr, length, map, min, slice_index, slice_set, true};
+ghost use Rattle.ipx_carrier.specs.PortDrivers.{copies_count, count_in};
+ghost use Rattle.ipx_ethernet_ports.specs.EndTraffic.{EndFrame, frame_at};
+ghost use Rattle.ipx_ethernet_ports.specs.OnEthernet.{HearsAnswerOf, HearsBehind, SendsPacket, by_frames, ethernet_ports_view};
+
+use crate::end_sockets::EndSockets;
+use crate::reaching::send_to_ends;
+use crate::sockets::EthernetSockets;
+use crate::taking::take_packet;
+use ipx_carrier::{DeviceFault, PacketSent, PortDriver, PortDriverFilters, saturating_increment};
+use ipx_ethernet::FRAME_MAX_SIZE;
+use ipx_hub::Switch;
+use ipx_wire::Node;
+
+/// The room that a frame is received into: more than any that goes on has.
+const FRAME_ROOM: usize = 1536;
+
+/// Ports on wires of several ends, each with a hub of its own: frames of an end go on to others, the
+/// core gets what is for it, and its packets go by frames. There are as many ports as both the sockets
+/// and the hubs are for.
+///
+/// A frame that can't be sent to one end is lost there, as one is on the way, and the sockets count
+/// it, as they do where they can't receive: nothing of it keeps other ports from their turns.
+#[derive(Drop)]
+pub struct EthernetPorts<D: EndSockets + Drop> {
+    sockets: D,
+    switches: Vec<Switch>,
+    moment: u64,
+    kept: u64,
+}
+
+impl<D: EndSockets + Drop> EthernetPorts<D> {
+    /// Ports on the wires of these sockets, with their hubs in order, at the moment 0.
+    pub fn new(sockets: D, switches: Vec<Switch>) -> EthernetPorts<D>
+        ensures sockets { result.sockets ≡ sockets }
+        ensures switches { result.switches.items ≡ switches.items }
+        ensures fresh { (result.moment ≡ 0) × (result.kept ≡ 0) }
+    {
+        EthernetPorts {
+            sockets,
+            switches,
+            moment: 0,
+            kept: 0,
+        }
+    }
+
+    /// Sets the moment, in ms, at which what comes and goes from now on does so. One calls it before
+    /// each turn, or before each burst of them.
+    pub fn set_moment(&mut self, moment: u64)
+        ensures { self.new ≡ record self.old { moment = moment } }
+    {
+        self.moment = moment;
+    }
+
+    /// The sockets, to be asked between two runs.
+    pub fn sockets(&self) -> &D
+        ensures { result.now ≡ self.now.sockets }
+    {
+        &self.sockets
+    }
+
+    /// The hubs of the ports, in order: what they count, and which stations they know.
+    pub fn switches(&self) -> &[Switch]
+        ensures { result.now ≡ self.now.switches.items }
+    {
+        &self.switches
+    }
+
+    /// Sends a packet of the core to a node of a port's wire, by one frame.
+    fn send_frame(&mut self, port: usize, node: Node, packet: &[u8]) -> PacketSent
+        requires switch { port < length self.old.switches.items }
+        requires there { port < length (D.ends_of self.old.sockets) }
+        ensures sent { SendsPacket (slice_index (D.ends_of self.old.sockets) port) self.old.moment
+            port node packet.now result
+            (ethernet_ports_view self.old.switches.items self.old.kept
+            (D.traffic self.old.sockets) (D.failed self.old.sockets))
+            (ethernet_ports_view self.new.switches.items self.new.kept
+            (D.traffic self.new.sockets) (D.failed self.new.sockets)) }
+        ensures rest { self.new.moment ≡ self.old.moment }
+        ensures ends { D.ends_of self.new.sockets ≡ D.ends_of self.old.sockets }
+        ensures filtered { D.filtered self.new.sockets ≡ D.filtered self.old.sockets }
+    {
+        let mut frame = [0; FRAME_MAX_SIZE];
+        let switch = &mut self.switches[port];
+        match switch.frame_into(node, packet, self.moment, &mut frame) {
+            Ok((way, size)) => {
+                send_to_ends(&mut self.sockets, port, way, &frame[..size]);
+                PacketSent::Transmitted(1)
+            }
+            Err(_) => PacketSent::Unmapped,
+        }
+    }
+
+    /// Gives a frame on that came from an end of a port, and takes what is for the core into the room.
+    fn hear_frame(
+        &mut self,
+        port: usize,
+        end: usize,
+        bytes: &[u8],
+        room: &mut [u8],
+    ) -> Option<usize>
+        requires switch { port < length self.old.switches.items }
+        requires there { port < length (D.ends_of self.old.sockets) }
+        ensures heard { HearsBehind (slice_index (D.ends_of self.old.sockets) port) self.old.moment
+            (length room.old) (frame_at port bytes.now end) [] room.new result
+            (ethernet_ports_view self.old.switches.items self.old.kept
+            (D.traffic self.old.sockets) (D.failed self.old.sockets))
+            (ethernet_ports_view self.new.switches.items self.new.kept
+            (D.traffic self.new.sockets) (D.failed self.new.sockets)) }
+        ensures within { IfSome result (λ n. n ≤ length room.old) }
+        ensures untouched { result ≡ None → room.new ≡ room.old }
+        ensures rest { self.new.moment ≡ self.old.moment }
+        ensures grows { self.old.kept ≤ self.new.kept }
+        ensures ends { D.ends_of self.new.sockets ≡ D.ends_of self.old.sockets }
+        ensures filtered { D.filtered self.new.sockets ≡ D.filtered self.old.sockets }
+    {
+        let switch = &mut self.switches[port];
+        let (way, count) = take_packet(switch, end, bytes, self.moment, room);
+        send_to_ends(&mut self.sockets, port, way, bytes);
+        if count.is_none() {
+            saturating_increment(&mut self.kept);
+        }
+        count
+    }
+}
+
+impl EthernetPorts<EthernetSockets> {
+    /// Something came to the socket of a port, as `EthernetSockets::mark` says.
+    pub fn mark(&mut self, port: usize)
+        ensures { self.new ≡ record self.old {
+          sockets = record self.old.sockets {
+            marks = slice_set self.old.sockets.marks port true;
+          };
+        } }
+    {
+        self.sockets.mark(port);
+    }
+}
+
+impl<D: EndSockets + Drop> PortDriver for EthernetPorts<D> {
+    ghost use Rattle.std.specs.Prelude.{List, ℕ};
+    ghost use Rattle.ipx_ethernet_ports.specs.OnEthernet.{SentFrameCopy};
+
+    ghost Copy = { SentFrameCopy };
+
+    // The same ports, with as many ends.
+    ghost Kept = { List ℕ };
+
+    ghost kept = { λ w. D.ends_of w.sockets };
+
+    ghost port_count = { λ w. min (length w.switches.items) (length (D.ends_of w.sockets)) };
+
+    // What can't be sent or received on a wire fails there alone, and the sockets count it.
+    ghost failed = { λ w. 0 };
+
+    ghost transmissions = { λ w. by_frames (map (λ h. h.port) w.switches.items) };
+
+    // What goes over the wires is told by the sockets.
+    ghost traffic = { λ w. None };
+
+    // What is kept back or for another station isn't handed up, so they can't tell what will be.
+    ghost waiting = { λ w. None };
+
+    // Whoever is at an end of a wire may speak.
+    ghost access = { λ w. [] };
+
+    ghost filtered = { λ w. w.kept + D.filtered w.sockets };
+
+    fn ports(&self) -> usize {
+        self.switches.len().min(self.sockets.ports())
+    }
+
+    fn failures(&self) -> u64 {
+        0
+    }
+
+    fn send(&mut self, port: usize, node: Node, packet: &[u8]) -> Result<PacketSent, DeviceFault>
+        requires there { port < min (length self.old.switches.items)
+            (length (D.ends_of self.old.sockets)) }
+        // The frame of the packet goes to the ends of its node, or none can carry it.
+        ensures sent { IfOk result (λ sent. SendsPacket
+            (slice_index (D.ends_of self.old.sockets) port) self.old.moment port node packet.now sent
+            (ethernet_ports_view self.old.switches.items self.old.kept
+            (D.traffic self.old.sockets) (D.failed self.old.sockets))
+            (ethernet_ports_view self.new.switches.items self.new.kept
+            (D.traffic self.new.sockets) (D.failed self.new.sockets))) }
+        ensures goes_on { OnErr result ⊥ }
+        ensures count { IfOk result (λ sent. count_in sent
+            ≡ copies_count (by_frames (map (λ h. h.port) self.old.switches.items))
+            (record { port = port; node = node; bytes = packet.now })) }
+        ensures moment { self.new.moment ≡ self.old.moment }
+        ensures ports { length self.new.switches.items ≡ length self.old.switches.items }
+        ensures transmissions { map (λ h. h.port) self.new.switches.items
+            ≡ map (λ h. h.port) self.old.switches.items }
+        ensures kept { self.new.kept ≡ self.old.kept }
+        ensures filtered { D.filtered self.new.sockets ≡ D.filtered self.old.sockets }
+        ensures ends { D.ends_of self.new.sockets ≡ D.ends_of self.old.sockets }
+    {
+        Ok(self.send_frame(port, node, packet))
+    }
+
+    fn receive(&mut self, port: usize, room: &mut [u8]) -> Result<Option<usize>, DeviceFault>
+        requires there { port < min (length self.old.switches.items)
+            (length (D.ends_of self.old.sockets)) }
+        // A frame came from an end and went on from there, or none came, or the sockets failed.
+        ensures received { IfOk result (λ up. (came : Option EndFrame)
+            × IfSome came (λ frame. frame.port ≡ port)
+            × HearsAnswerOf (slice_index (D.ends_of self.old.sockets) port) self.old.moment
+            (length room.old) came room.new up
+            (ethernet_ports_view self.old.switches.items self.old.kept
+            (D.traffic self.old.sockets) (D.failed self.old.sockets))
+            (ethernet_ports_view self.new.switches.items self.new.kept
+            (D.traffic self.new.sockets) (D.failed self.new.sockets))) }
+        ensures within { IfOk result (λ up. IfSome up (λ n. n ≤ length room.old)) }
+        // The room is as it was where nothing is for the core.
+        ensures untouched { IfOk result (λ up. up ≡ None → room.new ≡ room.old) }
+        ensures goes_on { OnErr result ⊥ }
+        ensures moment { self.new.moment ≡ self.old.moment }
+        ensures ports { length self.new.switches.items ≡ length self.old.switches.items }
+        ensures transmissions { map (λ h. h.port) self.new.switches.items
+            ≡ map (λ h. h.port) self.old.switches.items }
+        ensures kept { self.old.kept ≤ self.new.kept }
+        ensures filtered { D.filtered self.old.sockets ≤ D.filtered self.new.sockets }
+        ensures ends { D.ends_of self.new.sockets ≡ D.ends_of self.old.sockets }
+    {
+        let mut frame = [0; FRAME_ROOM];
+        let Ok(came) = self.sockets.receive(port, &mut frame) else {
+            return Ok(None);
+        };
+        let Some(came) = came else {
+            return Ok(None);
+        };
+        Ok(self.hear_frame(port, came.end, &frame[..came.size], room))
+    }
+}
+
+impl<D: EndSockets + Drop> PortDriverFilters for EthernetPorts<D> {
+    /// How much that came was kept from the core: frames whose hub did, also those that went on, and
+    /// what came from no end.
+    fn filtered(&self) -> u128
+        ensures total { result ≡ self.now.kept + D.filtered self.now.sockets }
+        ensures few { result < 2 ^ 65 }
+    {
+        u128::from(self.kept) + u128::from(self.sockets.unknown_senders())
+    }
+}

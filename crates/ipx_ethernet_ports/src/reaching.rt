@@ -1,0 +1,25 @@
+//! A frame that goes to several ends of a wire.
+
+ghost use Rattle.std.specs.Prelude.{◌≡◌, ◌<◌, [], length, slice_index};
+ghost use Rattle.ipx_ethernet_ports.specs.OnEthernet.{ReachesEnds};
+
+use crate::end_sockets::EndSockets;
+use ipx_hub::Egress;
+
+/// Sends bytes by a port to each of its ends that a way names, in order. Where that fails at one, the
+/// others get them still.
+pub fn send_to_ends<D: EndSockets>(sockets: &mut D, port: usize, way: Egress, bytes: &[u8])
+    requires { port < length (D.ends_of sockets.old) }
+    ensures reached { ReachesEnds way (slice_index (D.ends_of sockets.old) port) port bytes.now []
+        (D.traffic sockets.old) (D.traffic sockets.new)
+        (D.failed sockets.old) (D.failed sockets.new) }
+    ensures ends { D.ends_of sockets.new ≡ D.ends_of sockets.old }
+    ensures filtered { D.filtered sockets.new ≡ D.filtered sockets.old }
+{
+    let ends = sockets.ends(port);
+    for end in 0..ends {
+        if way.is_to(end) {
+            let _ = sockets.send(port, end, bytes);
+        }
+    }
+}

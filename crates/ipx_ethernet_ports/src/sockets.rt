@@ -1,0 +1,246 @@
+//! Sockets of UDP as those of wires: each datagram is one Ethernet frame.
+
+ghost use Rattle.std.specs.Prelude.{◌≡◌, ◌<◌, ◌≤◌, ◌↔◌, ◌++◌, ◌∷◌, [], Bool, IfOk, IfSome, IsSome, None, Ok, OnErr, OnOk, false, is_some, length, slice_index, slice_set, true};
+ghost use Rattle.ipx_carrier.specs.Counting.{raised};
+ghost use Rattle.ipx_carrier.specs.ReadySet.{AsksMarked, IsKeptOrAnswer, is_port_marked};
+ghost use Rattle.ipx_ethernet_ports.specs.EndTraffic.{failures_counted};
+ghost use Rattle.ipx_ethernet_ports.specs.EthernetAddresses.{end_at_place, ends_behind, is_place, places_behind};
+
+use crate::end_sockets::{EndSockets, FrameCame};
+use ipx_carrier::{DeviceFault, ReadySet, bind_nonblocking, socket_addr, saturating_increment};
+use std::alloc::Global;
+use std::io;
+use std::io::ErrorKind;
+use std::net::{Net, SocketAddr, UdpSocket};
+use std::os::fd::{AsRawFd, RawFd};
+
+/// Where frames go and come from: an IP address, and a port of UDP there.
+#[derive(Clone, Copy, Debug, PartialEq, Eq)]
+pub struct Place {
+    pub ip: [u8; 4],
+    pub udp_port: u16,
+}
+
+/// The socket of a port, and where the ends of its wire are.
+#[derive(Drop)]
+pub struct EthernetSocket {
+    socket: UdpSocket,
+    ends: Vec<Place>,
+}
+
+/// Sockets that have one of UDP for each port. Frames go to the places of its ends, and come from these
+/// alone: what comes from elsewhere is kept back.
+///
+/// Which frames come and which arrive is the network's. What the system doesn't take is a failure of
+/// sending; receiving never fails.
+///
+/// They have a mark for each port, at which something may wait, and ask the system at those alone. One
+/// that is bound is marked. Whoever waits for them marks those at which something came.
+#[derive(Drop)]
+pub struct EthernetSockets {
+    ethernet: Vec<EthernetSocket>,
+    marks: ReadySet,
+    sent: u64,
+    failures: u64,
+    faults: u64,
+    unknown_senders: u64,
+}
+
+/// How often a port is asked again for a frame where the system fails.
+const TRIES: u32 = 8;
+
+/// Whether a place is where a datagram came from.
+fn is_at(place: &Place, from: SocketAddr) -> bool
+    ensures { result ≡ is_place from place.now }
+{
+    match from {
+        SocketAddr::V4(from) => place.ip == from.ip().octets() && place.udp_port == from.port(),
+        SocketAddr::V6(_) => false,
+    }
+}
+
+/// The end from which a datagram came.
+fn end_at(ends: &[Place], from: SocketAddr) -> Option<usize>
+    ensures first { result ≡ end_at_place from ends.now }
+    ensures there { IfSome result (λ end. end < length ends.now) }
+{
+    ends.iter().position(|place| is_at(place, from))
+}
+
+impl EthernetSockets {
+    /// Sockets without a port.
+    pub fn new(alloc: Global) -> EthernetSockets
+        ensures none { (result.ethernet.items ≡ []) × (result.marks ≡ []) }
+        ensures fresh { (result.sent ≡ 0) × (result.failures ≡ 0) × (result.faults ≡ 0)
+            × (result.unknown_senders ≡ 0) }
+    {
+        EthernetSockets {
+            ethernet: Vec::new(alloc),
+            marks: ReadySet::new(alloc),
+            sent: 0,
+            failures: 0,
+            faults: 0,
+            unknown_senders: 0,
+        }
+    }
+
+    /// Binds one more port at a place, with its ends there. The error is the system's, or want of
+    /// memory, and then the ports are those before.
+    pub fn bind<R: Net>(&mut self, rt: &R, at: Place, ends: Vec<Place>) -> io::Result<()>
+        ensures bound { OnOk result (ends_behind self.new.ethernet.items
+            ≡ ends_behind self.old.ethernet.items ++ length ends.items ∷ []) }
+        ensures places { OnOk result (places_behind self.new.ethernet.items
+            ≡ places_behind self.old.ethernet.items ++ ends.items ∷ []) }
+        ensures marks { OnOk result (self.new.marks ≡ self.old.marks ++ true ∷ []) }
+        ensures refused { OnErr result ((self.new.ethernet.items ≡ self.old.ethernet.items)
+            × (self.new.marks ≡ self.old.marks)) }
+    {
+        let socket = bind_nonblocking(rt, at.ip, at.udp_port)?;
+        let wire = EthernetSocket { socket, ends };
+        let count = self.ethernet.len();
+        if self.ethernet.push(wire).is_err() {
+            return Err(io::Error::from(ErrorKind::OutOfMemory));
+        }
+        if self.marks.add().is_err() {
+            self.ethernet.truncate(count);
+            return Err(io::Error::from(ErrorKind::OutOfMemory));
+        }
+        Ok(())
+    }
+
+    /// How many frames the system took to be sent. It stays at the greatest u64.
+    pub fn sent(&self) -> u64
+        ensures { result ≡ self.now.sent }
+    {
+        self.sent
+    }
+
+    /// How often the system failed as a port was asked. It stays at the greatest u64.
+    pub fn faults(&self) -> u64
+        ensures { result ≡ self.now.faults }
+    {
+        self.faults
+    }
+
+    /// The descriptor of the socket of a port, to wait for it. The first port is 0.
+    pub fn descriptor(&self, port: usize) -> Option<RawFd>
+        ensures { IsSome result ↔ port < length self.now.ethernet.items }
+    {
+        let wire = self.ethernet.get(port)?;
+        Some(wire.socket.as_raw_fd())
+    }
+
+    /// The marks of the ports, in order.
+    pub fn marks(&self) -> &ReadySet
+        ensures { result.now ≡ self.now.marks }
+    {
+        &self.marks
+    }
+
+    /// Something came to a port, as the system said: what waits there is received. Where there is no
+    /// port of that number nothing happens.
+    pub fn mark(&mut self, port: usize)
+        ensures { self.new ≡ record self.old { marks = slice_set self.old.marks port true } }
+    {
+        self.marks.mark(port);
+    }
+}
+
+impl EndSockets for EthernetSockets {
+    ghost use Rattle.std.specs.Prelude.{None};
+
+    ghost ends_of = { λ s. ends_behind s.ethernet.items };
+
+    ghost failed = { λ s. s.failures };
+
+    // What passes is the system's.
+    ghost traffic = { λ s. None };
+
+    ghost filtered = { λ s. s.unknown_senders };
+
+    fn ports(&self) -> usize {
+        self.ethernet.len()
+    }
+
+    fn ends(&self, port: usize) -> usize {
+        self.ethernet[port].ends.len()
+    }
+
+    fn failures(&self) -> u64 {
+        self.failures
+    }
+
+    fn unknown_senders(&self) -> u64 {
+        self.unknown_senders
+    }
+
+    fn send(&mut self, port: usize, end: usize, bytes: &[u8]) -> Result<(), DeviceFault>
+        requires there { port < length (ends_behind self.old.ethernet.items) }
+        requires end { end < slice_index (ends_behind self.old.ethernet.items) port }
+        // The system took it or refused it, and that is counted.
+        ensures sent { OnOk result (self.new.sent ≡ raised self.old.sent) }
+        ensures refused { OnErr result (self.new.sent ≡ self.old.sent) }
+        ensures failures { self.new.failures ≡ failures_counted result self.old.failures }
+        ensures rest { (self.new.ethernet ≡ self.old.ethernet) × (self.new.faults ≡ self.old.faults)
+            × (self.new.unknown_senders ≡ self.old.unknown_senders) × (self.new.marks ≡ self.old.marks) }
+    {
+        let wire = &self.ethernet[port];
+        let to = wire.ends[end];
+        match wire.socket.send_to(bytes, socket_addr(to.ip, to.udp_port)) {
+            Ok(count) if count == bytes.len() => {
+                saturating_increment(&mut self.sent);
+                Ok(())
+            }
+            _ => {
+                saturating_increment(&mut self.failures);
+                Err(DeviceFault)
+            }
+        }
+    }
+
+    fn receive(&mut self, port: usize, room: &mut [u8]) -> Result<Option<FrameCame>, DeviceFault>
+        requires { port < length (ends_behind self.old.ethernet.items) }
+        // A port without a mark is not asked, and nothing changes.
+        ensures unmarked { is_port_marked self.old.marks port ≡ false
+            → (result ≡ Ok None) × (self.new ≡ self.old) × (room.new ≡ room.old) }
+        // One with a mark is asked until something comes or nothing waits, eight times at most: the
+        // mark goes just where nothing waits. What came is answered or counted.
+        ensures marked { is_port_marked self.old.marks port ≡ true → IfOk result (λ answer.
+            (came : Bool) × AsksMarked port came self.old.marks self.new.marks
+            self.old.faults self.new.faults
+            × IsKeptOrAnswer came (is_some answer) self.old.unknown_senders self.new.unknown_senders) }
+        // What came from an end is answered, and what came from none is counted.
+        ensures end { IfOk result (λ came. IfSome came (λ c.
+            c.end < slice_index (ends_behind self.old.ethernet.items) port)) }
+        ensures within { IfOk result (λ came. IfSome came (λ c. c.size ≤ length room.old)) }
+        ensures answered { IfOk result (λ came. IsSome came
+            → self.new.unknown_senders ≡ self.old.unknown_senders) }
+        ensures filtered { self.old.unknown_senders ≤ self.new.unknown_senders }
+        ensures goes_on { OnErr result ⊥ }
+        ensures faults { self.old.faults ≤ self.new.faults }
+        ensures rest { (self.new.ethernet ≡ self.old.ethernet) × (self.new.sent ≡ self.old.sent)
+            × (self.new.failures ≡ self.old.failures) }
+    {
+        if !self.marks.is_marked(port) {
+            return Ok(None);
+        }
+        for _try in 0..TRIES {
+            let wire = &self.ethernet[port];
+            match wire.socket.recv_from(room) {
+                Ok((size, from)) => {
+                    let Some(end) = end_at(&wire.ends, from) else {
+                        saturating_increment(&mut self.unknown_senders);
+                        return Ok(None);
+                    };
+                    return Ok(Some(FrameCame { end, size }));
+                }
+                Err(error) if error.kind() == ErrorKind::WouldBlock => {
+                    self.marks.clear_ready(port);
+                    return Ok(None);
+                }
+                Err(_) => saturating_increment(&mut self.faults),
+            }
+        }
+        Ok(None)
+    }
+}

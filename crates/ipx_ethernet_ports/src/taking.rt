@@ -1,0 +1,41 @@
+//! What the core gets of a frame that came from an end.
+
+ghost use Rattle.std.specs.Prelude.{◌≡◌, ◌≤◌, IfSome, None, false, length, take};
+ghost use Rattle.ipx_hub.specs.Heard.{way_behind};
+ghost use Rattle.ipx_hub.specs.SwitchEnds.{is_way_to};
+ghost use Rattle.ipx_ethernet_ports.specs.OnEthernet.{TakesPacket};
+
+use ipx_hub::{Switch, Egress};
+
+/// Puts bytes to the front of a room, as many as it takes.
+pub fn put_front(bytes: &[u8], room: &mut [u8]) -> usize
+    ensures put { take result room.new ≡ take (length room.old) bytes.now }
+    ensures within { result ≤ length room.old }
+{
+    let count = bytes.len().min(room.len());
+    room[..count].copy_from_slice(&bytes[..count]);
+    count
+}
+
+/// A hub hears what came from an end: the packet for the core goes to the front of the room. It
+/// answers where the bytes go on to, and how long the packet is there, if there is one.
+pub fn take_packet(
+    switch: &mut Switch,
+    end: usize,
+    bytes: &[u8],
+    now: u64,
+    room: &mut [u8],
+) -> (Egress, Option<usize>)
+    ensures way { result.0 ≡ way_behind switch.new bytes.now end now }
+    ensures back { is_way_to result.0 end ≡ false }
+    ensures taken { TakesPacket switch.old end bytes.now now (length room.old) room.new result.1
+        switch.new }
+    ensures within { IfSome result.1 (λ n. n ≤ length room.old) }
+    ensures untouched { result.1 ≡ None → room.new ≡ room.old }
+{
+    let (way, packet) = switch.hear(end, bytes, now);
+    match packet {
+        Ok(packet) => (way, Some(put_front(packet, room))),
+        Err(_) => (way, None),
+    }
+}

@@ -1,3 +1,0 @@
-pub mod CountedRouter
-pub mod LastDrops
-pub mod PortCounts

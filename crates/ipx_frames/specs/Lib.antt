@@ -1,4 +1,0 @@
-pub mod Frame
-pub mod FrameFault
-pub mod SentFrame
-pub mod Wire

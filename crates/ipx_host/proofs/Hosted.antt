@@ -1,0 +1,290 @@
+-- What a host that listens does, one step after another.
+use Rattle.std.proofs.Common.{◌≡◌, ◌≢◌, ℕ, zero, suc, ◌+◌, ◌<◌, Bool, true, false, List, [], ◌∷◌, ◌++◌, length, take, Option, Some, None, Result, Ok, Err, ◌⊎◌, inl, inr, refl, sym, ap, ◌∙◌, subst, arith, append_assoc, append-nil}
+use Rattle.std.specs.Prelude.{All, IfErr, IfOk, IfSome, OnErr, OnOk, slice_get}
+use Rattle.std.specs.Io.KnownBytes.{Appends}
+use Rattle.ipx_carrier.specs.Mapping.{node_at}
+use Rattle.ipx_carrier.specs.Turns.{Peers}
+use Rattle.ipx_site.specs.Host.{IsHostText}
+use Rattle.ipx_site.specs.Loading.{IsFileText}
+use Rattle.ipx_site.specs.AllowedPeers.{named_in}
+use Rattle.ipx_site.specs.declared.host.HostConfig.{HostConfig}
+use Rattle.ipx_wire.specs.declared.address.Socket.{Socket}
+use Rattle.spx_messages.specs.EndpointView.{EndpointView, Held, buffers_at, held_at}
+use Rattle.ipx_host.specs.Hosting.{HearsAndNotesAll, Host, ListensWell, WritesAndPasses, MovesSome, Serves, ServesWell, Steps, StepsWithoutStop, StepsTo, host}
+use Rattle.ipx_host.specs.HostOutput.{Writes, left_of}
+use Rattle.ipx_host.specs.Passing.{PassesEach, PassesFrom, PassesSome, given_each, given_from}
+use Rattle.ipx_host.specs.ListenOutcomes.{parted, stop_status}
+use Rattle.ipx_host.specs.Tending.{DoesAction, JustStays, Tends, TendsFirst, TendsOn, Tidies}
+use Rattle.ipx_host.specs.declared.sessions.Session.{Session}
+use Rattle.ipx_host.specs.declared.sessions.SessionAction.{SessionAction}
+use Rattle.ipx_host.specs.declared.sessions.SessionAction.TheVariants as Fates
+use Rattle.ipx_host.specs.declared.sessions.Phase.{Phase}
+use Rattle.ipx_host.specs.declared.sessions.Phase.TheVariants as Standings
+use Rattle.ipx_host.specs.declared.paced_host_core.PacedHostCore.{PacedHostCore}
+use Rattle.ipx_host.specs.declared.listening.ListenOutcome.{ListenOutcome}
+use Rattle.ipx_host.specs.declared.listening.ListenOutcome.TheVariants.{Ended, Lost, Unwritten, Unwaited}
+use Rattle.ipx_host.specs.declared.output.Outlet.{Outlet}
+use Rattle.ipx_host.proofs.Written.{writes_none, writes_on}
+
+-- ---- one tending after another
+
+some_at : (cs : List Session) (place : ℕ) → place < length cs → (c : Session) × (slice_get cs place ≡ Some c)
+some_at [] place within = absurd (omega arith)
+some_at (c ∷ cs) zero within = (c, refl)
+some_at (c ∷ cs) (suc n) within = some_at cs n (omega arith)
+
+pub tended_first : (once once' : Bool) (old new : PacedHostCore) (cs cs' : List Session) (stop : Option ListenOutcome) (place : ℕ) → once' ≡ once → place < length cs
+    → All (JustStays old) (take place cs) × IfSome (slice_get cs place) (λ c. JustStays old c → ⊥)
+    → IfSome (slice_get cs place) (λ c. Tends once' old c place new.endpoint cs cs' stop) → new ≡ record old { endpoint = new.endpoint }
+    → TendsFirst once old new cs cs' stop
+tended_first once once' old new cs cs' stop place same within first tends core =
+    let at = some_at cs place within in
+    let here : Tends once' old at.0 place new.endpoint cs cs' stop = subst (λ (o : Option Session). IfSome o (λ c. Tends once' old c place new.endpoint cs cs' stop)) at.1 tends in
+    record {
+      place = place;
+      session = at.0;
+      there = at.1;
+      first = first.0;
+      something = subst (λ (o : Option Session). IfSome o (λ c. JustStays old c → ⊥)) at.1 first.1;
+      tends = subst (λ (b : Bool). Tends b old at.0 place new.endpoint cs cs' stop) same here;
+      core = core;
+    }
+
+-- one more
+pub tends_more : (once : Bool) (first mid new : PacedHostCore) (cs ms ns : List Session) (n : ℕ) → TendsOn n once first mid cs ms → TendsFirst once mid new ms ns None → TendsOn (n + 1) once first new cs ns
+tends_more once first mid new cs ms ns n run one =
+    let next : suc n ≡ n + 1 = omega arith in
+    subst (λ (k : ℕ). TendsOn k once first new cs ns) next (mid, ms, run, one)
+
+-- what stops a host as it is tidied is that a connection parts
+abbrev IsParting : Option ListenOutcome → Type 0
+IsParting None = Unit {0}
+IsParting (Some Ended) = Unit {0}
+IsParting (Some Lost) = Unit {0}
+IsParting (Some Unwritten) = ⊥
+IsParting (Some Unwaited) = ⊥
+
+parts : (once : Bool) (fate : SessionAction) (phase : Phase) → IsParting (parted once fate phase)
+parts false fate phase = tt
+parts true fate Standings.New = tt
+parts true fate Standings.NewProbed = tt
+parts true Fates.Stays Standings.Open = tt
+parts true Fates.Asks Standings.Open = tt
+parts true Fates.Over Standings.Open = tt
+parts true Fates.GivenUp Standings.Open = tt
+parts true Fates.Stays Standings.KeepaliveSent = tt
+parts true Fates.Asks Standings.KeepaliveSent = tt
+parts true Fates.Over Standings.KeepaliveSent = tt
+parts true Fates.GivenUp Standings.KeepaliveSent = tt
+parts true Fates.Stays Standings.Ended = tt
+parts true Fates.Asks Standings.Ended = tt
+parts true Fates.Over Standings.Ended = tt
+parts true Fates.GivenUp Standings.Ended = tt
+
+does_part : (once : Bool) (now : ℕ) (c : Session) (place : ℕ) (fate : SessionAction) (old new : EndpointView) (cs cs' : List Session) (stop : Option ListenOutcome)
+    → DoesAction once now c place fate old new cs cs' stop → IsParting stop
+does_part once now c place Fates.Stays old new cs cs' stop does = subst IsParting (sym does.2) tt
+does_part once now c place Fates.Asks old new cs cs' stop does = subst IsParting (sym does.3) tt
+does_part once now c place Fates.Over old new cs cs' stop does = subst IsParting (sym does.2) (parts once Fates.Over c.phase)
+does_part once now c place Fates.GivenUp old new cs cs' stop does = subst IsParting (sym does.2) (parts once Fates.GivenUp c.phase)
+
+tidied_parts : (once : Bool) (old new : PacedHostCore) (cs cs' : List Session) (stop : ListenOutcome) → Tidies once old new cs cs' (Some stop) → IsParting (Some stop)
+tidied_parts once old new cs cs' stop tidied =
+    let last = tidied.5 in
+    does_part once tidied.2.moment last.session last.place last.tends.0 tidied.2.endpoint new.endpoint tidied.3 cs' (Some stop) last.tends.2
+
+-- ---- what passes
+
+from_writes : (o after : Option Held) (x y : List ℕ) (a b : Option (List ℕ)) (c c' : Session) (p : PassesFrom o after x y a b c c') → Writes (x ++ given_from o after x y a b c c' p) y a b
+from_writes None after x y a b c c' p = subst (λ (l : List ℕ). Writes l y a b) (sym (append-nil x)) p.1
+from_writes (Some h) after x y a b c c' p = p.2
+
+writes_behind : (x y z : List ℕ) (a b : Option (List ℕ)) → Writes x y a b → Writes (x ++ z) (y ++ z) a b
+writes_behind x y z a b p = (p.0, ap (λ l. l ++ z) p.1 ∙ append_assoc p.0 y z, p.2)
+
+writes_through : (x y v z : List ℕ) (a b c : Option (List ℕ)) → Writes x y a b → Writes (y ++ v) z b c → Writes (x ++ v) z a c
+writes_through x y v z a b c p q = writes_on (x ++ v) (y ++ v) z a b c (writes_behind x y v a b p) q
+
+each_writes : (old new : EndpointView) (x y : List ℕ) (a b : Option (List ℕ)) (cs cs' : List Session) (p : PassesEach old new x y a b cs cs')
+    → Writes (x ++ given_each old new x y a b cs cs' p) y a b
+each_writes old new x y a b [] cs' p =
+    let same : Writes (x ++ []) x a a = subst (λ (l : List ℕ). Writes l x a a) (sym (append-nil x)) (writes_none x a) in
+    subst (λ (l : List ℕ). Writes (x ++ []) l a b) (sym p.2) (subst (λ (w : Option (List ℕ)). Writes (x ++ []) x a w) (sym p.3) same)
+each_writes old new x y a b (c ∷ cs) cs' p =
+    let one = given_from (held_at old c.id) (held_at p.0 c.id) x p.1 a p.2 c p.3 p.6.from in
+    let more = given_each p.0 new p.1 y p.2 b cs p.4 p.7 in
+    let first : Writes (x ++ one) p.1 a p.2 = from_writes (held_at old c.id) (held_at p.0 c.id) x p.1 a p.2 c p.3 p.6.from in
+    let rest : Writes (p.1 ++ more) y p.2 b = each_writes p.0 new p.1 y p.2 b cs p.4 p.7 in
+    subst (λ (l : List ℕ). Writes l y a b) (append_assoc x one more) (writes_through (x ++ one) p.1 more y a p.2 b first rest)
+
+moves_writes : (old new : PacedHostCore) (cs cs' : List Session) (x y : List ℕ) (a b : Option (List ℕ)) (bytes : List ℕ) → WritesAndPasses old new cs cs' x y a b bytes → Writes (x ++ bytes) y a b
+moves_writes old new cs cs' x y a b bytes m =
+    let rest = each_writes old.endpoint new.endpoint m.between y m.writing b cs cs' m.passes in
+    writes_through x m.between bytes y a m.writing b m.first (subst (λ (l : List ℕ). Writes (m.between ++ l) y m.writing b) (sym m.given) rest)
+
+pub moved_all : (core core' : PacedHostCore) (cs cs' : List Session) (x y z : List ℕ) (a b d : Option (List ℕ)) → Writes x y a b → PassesEach core.endpoint core'.endpoint y z b d cs cs'
+    → core' ≡ record core { endpoint = core'.endpoint } → (bytes : List ℕ) × WritesAndPasses core core' cs cs' x z a d bytes
+moved_all core core' cs cs' x y z a b d wrote passes same =
+    (given_each core.endpoint core'.endpoint y z b d cs cs' passes, record { between = y; writing = b; first = wrote; passes = passes; given = refl; core = same })
+
+pub moved_some : (core core' : PacedHostCore) (cs cs' : List Session) (x y z : List ℕ) (a b d : Option (List ℕ)) → Writes x y a b → PassesSome core.endpoint core'.endpoint y z b d cs cs'
+    → core' ≡ record core { endpoint = core'.endpoint } → (bytes : List ℕ) × MovesSome core core' cs cs' x z a d bytes
+moved_some core core' cs cs' x y z a b d wrote passes same =
+    let all = moved_all core core' passes.0 passes.1 x y z a b d wrote passes.5 same in
+    (all.0, record { front = passes.0; front' = passes.1; rest = passes.2; before = passes.3; after = passes.4; moves = all.1 })
+
+-- the writer fails before anything is taken
+pub moved_none : (core : PacedHostCore) (cs : List Session) (x y : List ℕ) (a b : Option (List ℕ)) → Writes x y a b → (bytes : List ℕ) × MovesSome core core cs cs x y a b bytes
+moved_none core cs x y a b wrote = moved_some core core cs cs x y y a b b wrote ([], [], cs, refl, refl, (refl, refl, refl, refl)) refl
+
+-- ---- one step
+
+pub stepped : {K : Type 0} (clock clock1 clock2 clock3 : K) (core core1 core2 core3 : PacedHostCore) (cs cs1 cs2 cs3 : List Session) (o o1 o2 o3 : Outlet) (once once' : Bool) (a b : Option (List ℕ))
+    (stop : Option ListenOutcome) (tells : K → ℕ → K → Type 0) (peers : Peers) (bytes : List ℕ)
+    → HearsAndNotesAll clock clock1 core core1 cs cs1 once tells peers → o1 ≡ o → clock2 ≡ clock1 → once' ≡ once
+    → WritesAndPasses core1 core2 cs1 cs2 (left_of o1) (left_of o2) a b bytes → clock3 ≡ clock2 → o3 ≡ o2 → Tidies once' core2 core3 cs2 cs3 stop
+    → Steps (host clock core cs (left_of o) a) (host clock3 core3 cs3 (left_of o3) b) once stop tells peers bytes
+stepped {K} clock clock1 clock2 clock3 core core1 core2 core3 cs cs1 cs2 cs3 o o1 o2 o3 once once' a b stop tells peers bytes hears unheard ticks same moves tidied unwritten tidies =
+    record {
+      heard = core1;
+      there = cs1;
+      hears = subst (λ (k : K). HearsAndNotesAll clock k core core1 cs cs1 once tells peers) (sym (tidied ∙ ticks)) hears;
+      moved = core2;
+      still = cs2;
+      moves = subst (λ (k : Outlet). WritesAndPasses core1 core2 cs1 cs2 (left_of k) (left_of o3) a b bytes) unheard
+          (subst (λ (k : Outlet). WritesAndPasses core1 core2 cs1 cs2 (left_of o1) (left_of k) a b bytes) (sym unwritten) moves);
+      tidied = subst (λ (k : Bool). Tidies k core2 core3 cs2 cs3 stop) same tidies;
+    }
+
+-- a step that is tidied stops the host so
+pub tidied_to : {K : Type 0} (old new : Host K) (once : Bool) (stop : ListenOutcome) (tells : K → ℕ → K → Type 0) (peers : Peers) (bytes : List ℕ)
+    → Steps old new once (Some stop) tells peers bytes → StepsTo old new once (Some stop) tells peers bytes
+tidied_to old new once Ended tells peers bytes s = s
+tidied_to old new once Lost tells peers bytes s = s
+tidied_to old new once Unwritten tells peers bytes s = absurd (tidied_parts once s.moved new.core s.still new.sessions Unwritten s.tidied)
+tidied_to old new once Unwaited tells peers bytes s = absurd (tidied_parts once s.moved new.core s.still new.sessions Unwaited s.tidied)
+
+-- ---- one step after another
+
+to_writes : {K : Type 0} (old new : Host K) (once : Bool) (stop : Option ListenOutcome) (tells : K → ℕ → K → Type 0) (peers : Peers) (bytes : List ℕ)
+    → StepsTo old new once stop tells peers bytes → Writes (old.left ++ bytes) new.left old.written new.written
+to_writes old new once None tells peers bytes s = moves_writes s.heard s.moved s.there s.still old.left new.left old.written new.written bytes s.moves
+to_writes old new once (Some Ended) tells peers bytes s = moves_writes s.heard s.moved s.there s.still old.left new.left old.written new.written bytes s.moves
+to_writes old new once (Some Lost) tells peers bytes s = moves_writes s.heard s.moved s.there s.still old.left new.left old.written new.written bytes s.moves
+to_writes old new once (Some Unwritten) tells peers bytes s =
+    moves_writes s.heard new.core s.moves.front s.moves.front' old.left new.left old.written new.written bytes s.moves.moves
+to_writes old new once (Some Unwaited) tells peers bytes s = moves_writes s.heard s.moved s.there s.still old.left new.left old.written new.written bytes s.moves
+
+-- what more was taken is written behind what was taken before
+more_writes : (x y z before now bytes : List ℕ) (a b c : Option (List ℕ)) → bytes ≡ before ++ now → Writes (x ++ before) y a b → Writes (y ++ now) z b c → Writes (x ++ bytes) z a c
+more_writes x y z before now bytes a b c is first rest =
+    let all : (x ++ before) ++ now ≡ x ++ bytes = append_assoc x before now ∙ ap (λ l. x ++ l) (sym is) in
+    subst (λ (l : List ℕ). Writes l z a c) all (writes_through (x ++ before) y now z a b c first rest)
+
+on_writes : {K : Type 0} (n : ℕ) (old new : Host K) (once : Bool) (tells : K → ℕ → K → Type 0) (peers : Peers) (bytes : List ℕ)
+    → StepsWithoutStop n old new once tells peers bytes → Writes (old.left ++ bytes) new.left old.written new.written
+on_writes {K} zero old new once tells peers bytes run =
+    let none : Writes (old.left ++ bytes) old.left old.written old.written =
+    subst (λ (l : List ℕ). Writes l old.left old.written old.written) (sym (ap (λ l. old.left ++ l) run.1 ∙ append-nil old.left)) (writes_none old.left old.written) in
+    subst (λ (h : Host K). Writes (old.left ++ bytes) h.left old.written h.written) (sym run.0) none
+on_writes (suc n) old new once tells peers bytes run =
+    more_writes old.left run.0.left new.left run.1 run.2 bytes old.written run.0.written new.written run.3
+    (on_writes n old run.0 once tells peers run.1 run.4) (to_writes run.0 new once None tells peers run.2 run.5)
+
+-- one more
+pub steps_more : {K : Type 0} (n : ℕ) (old last new : Host K) (once once' : Bool) (tells : K → ℕ → K → Type 0) (peers here : Peers) (before now : List ℕ)
+    → once' ≡ once → here ≡ peers → StepsWithoutStop n old last once tells peers before → StepsTo last new once' None tells here now
+    → (bytes : List ℕ) × StepsWithoutStop (n + 1) old new once tells peers bytes
+steps_more n old last new once once' tells peers here before now same among run step =
+    let next : suc n ≡ n + 1 = omega arith in
+    let one : Steps last new once None tells peers now =
+    subst (λ (o : Bool). Steps last new o None tells peers now) same (subst (λ (p : Peers). Steps last new once' None tells p now) among step) in
+    (before ++ now, subst (λ (k : ℕ). StepsWithoutStop k old new once tells peers (before ++ now)) next (last, before, now, refl, run, one))
+
+-- and a last one
+pub served : {K : Type 0} (n : ℕ) (old last new : Host K) (once once' : Bool) (stop : ListenOutcome) (tells : K → ℕ → K → Type 0) (peers here : Peers) (before now : List ℕ)
+    → once' ≡ once → here ≡ peers → StepsWithoutStop n old last once tells peers before → StepsTo last new once' (Some stop) tells here now
+    → (bytes : List ℕ) × Serves old new once stop tells peers bytes × Writes (old.left ++ bytes) new.left old.written new.written
+served n old last new once once' stop tells peers here before now same among run step =
+    let one : StepsTo last new once (Some stop) tells peers now =
+    subst (λ (o : Bool). StepsTo last new o (Some stop) tells peers now) same (subst (λ (p : Peers). StepsTo last new once' (Some stop) tells p now) among step) in (
+      before ++ now,
+      inl (n, last, before, now, refl, run, one),
+      more_writes old.left last.left new.left before now (before ++ now) old.written last.written new.written refl
+          (on_writes n old last once tells peers before run) (to_writes last new once (Some stop) tells peers now one),
+    )
+
+pub served_long : {K : Type 0} (n : ℕ) (old new : Host K) (once : Bool) (tells : K → ℕ → K → Type 0) (peers : Peers) (bytes : List ℕ) → n ≡ 18446744073709551615
+    → StepsWithoutStop n old new once tells peers bytes
+    → (bytes : List ℕ) × Serves old new once Lost tells peers bytes × Writes (old.left ++ bytes) new.left old.written new.written
+served_long n old new once tells peers bytes long run = (bytes, inr (refl, n, long, run), on_writes n old new once tells peers bytes run)
+
+-- ---- and so the host ends well
+
+all_written : (x y : List ℕ) (a b : Option (List ℕ)) → Writes x y a b → y ≡ [] → Appends a b x
+all_written x y a b p none =
+    let all : p.0 ≡ x = sym (p.1 ∙ ap (λ l. p.0 ++ l) none ∙ append-nil p.0) in
+    subst (Appends a b) all p.2
+
+pub ended_well : {K : Type 0} (old new : Host K) (once : Bool) (stop : ListenOutcome) (tells : K → ℕ → K → Type 0) (peers : Peers) (bytes : List ℕ)
+    → Serves old new once stop tells peers bytes → Writes (old.left ++ bytes) new.left old.written new.written → stop_status stop ≡ 0 → new.left ≡ []
+    → ServesWell old once new.written tells peers bytes
+ended_well old new once Ended tells peers bytes serves wrote status none = (new, serves, none, refl, all_written (old.left ++ bytes) new.left old.written new.written wrote none)
+ended_well old new once Lost tells peers bytes serves wrote status none = absurd (cc)
+ended_well old new once Unwritten tells peers bytes serves wrote status none = absurd (cc)
+ended_well old new once Unwaited tells peers bytes serves wrote status none = absurd (cc)
+
+-- one that was started has no connection yet, and nothing to write
+pub begun : {K T E : Type 0} (file : HostConfig) (X : Type 0) (started : Result T E) (at : T → Host K) (its : T → Bool) (among : T → Peers) (once : Bool) (a b : Option (List ℕ)) (tells : K → ℕ → K → Type 0) (status : ℕ)
+    → IfOk started (λ l. (at l).core.endpoint.network ≡ file.network) → IfOk started (λ l. (at l).core.endpoint.node ≡ node_at file.address)
+    → IfOk started (λ l. (at l).core.endpoint.router ≡ node_at file.router) → IfOk started (λ l. among l ≡ (file.router ∷ []) ∷ [])
+    → IfOk started (λ l. buffers_at (at l).core.endpoint file.socket ≡ Some file.buffers)
+    → IfOk started (λ l. (s : Socket) → s.0 ≢ file.socket.0 → buffers_at (at l).core.endpoint s ≡ None)
+    → IfOk started (λ l. (id : ℕ) → held_at (at l).core.endpoint id ≡ None) → IfOk started (λ l. (at l).core.came ≡ None) → IfOk started (λ l. (at l).core.paced ≡ None)
+    → IfOk started (λ l. named_in (at l).core.from ≡ named_in file.from) → IfOk started (λ l. (at l).core.network ≡ file.network)
+    → IfOk started (λ l. (at l).sessions ≡ []) → IfOk started (λ l. (at l).left ≡ []) → IfOk started (λ l. its l ≡ once) → ((l : T) → (at l).written ≡ a)
+    → OnErr started ((status ≡ 1) × X) → (status ≡ 0 → IfOk started (λ l. (bytes : List ℕ) × ServesWell (at l) (its l) b tells (among l) bytes)) → status ≡ 0
+    → ListensWell file once a b tells
+begun file X (Err e) at its among once a b tells status network node router routed listens alone links accepted unpaced from own nobody nothing same written unstarted well ends =
+    absurd (omega (arith, unstarted.0, ends))
+begun {K} file X (Ok l) at its among once a b tells status network node router routed listens alone links accepted unpaced from own nobody nothing same written unstarted well ends =
+    let run = well ends in
+    let took : Appends (at l).written b ((at l).left ++ run.0) = run.1.4 in
+    let bare : Appends (at l).written b run.0 = subst (λ (x : List ℕ). Appends (at l).written b (x ++ run.0)) nothing took in
+    record {
+      start = at l;
+      peers = among l;
+      bytes = run.0;
+      begins = record {
+        network = network;
+        node = node;
+        router = router;
+        among = routed;
+        listens = listens;
+        alone = alone;
+        unlinked = links;
+        unasked = accepted;
+        unpaced = unpaced;
+        from = from;
+        own = own;
+        nobody = nobody;
+        nothing = nothing;
+        known = written l;
+      };
+      serves = subst (λ (o : Bool). ServesWell (at l) o b tells (among l) run.0) same run.1;
+      took = subst (λ (w : Option (List ℕ)). Appends w b run.0) (written l) bare;
+    }
+
+-- the status of a file that can't be loaded is 1 or 2
+pub loaded_so : {K : Type 0} (X : Type 0) (once : Bool) (a b : Option (List ℕ)) (tells : K → ℕ → K → Type 0) (loaded : Result HostConfig ℕ) (status : ℕ)
+    → IfErr loaded (λ s. (s ≡ 1) ⊎ (s ≡ 2)) → IfOk loaded (λ h. (text : List ℕ) × IsFileText text × IsHostText text h)
+    → IfOk loaded (λ h. status ≡ 0 → ListensWell h once a b tells) → IfErr loaded (λ s. (status ≡ s) × X) → status ≡ 0
+    → (text : List ℕ) × (file : HostConfig) × IsFileText text × IsHostText text file × ListensWell file once a b tells
+loaded_so X once a b tells (Ok h) status fault said well unloaded ends = (said.0, h, said.1, said.2, well ends)
+loaded_so X once a b tells (Err s) status (inl e) said well unloaded ends = absurd (omega (arith, unloaded.0, e, ends))
+loaded_so X once a b tells (Err s) status (inr e) said well unloaded ends = absurd (omega (arith, unloaded.0, e, ends))
+
+-- a status above those of a host that was loaded is that of a file, and nothing is done then
+pub untouched_by : {T : Type 0} (X P : Type 0) (loaded : Result T ℕ) (status : ℕ) → OnOk loaded P → (P → X) → IfErr loaded (λ s. (status ≡ s) × X) → X
+untouched_by X P (Ok h) status few other unloaded = other few
+untouched_by X P (Err s) status few other unloaded = unloaded.1

@@ -1,0 +1,146 @@
+-- What passed from a connection to an outlet, a take after another.
+use Rattle.std.proofs.Common.{◌≡◌, ◌≢◌, ℕ, suc, false, List, [], ◌∷◌, ◌++◌, Option, Some, None, Ok, Err, refl, sym, ap, ◌∙◌, subst, append_assoc, append-nil}
+use Rattle.std.specs.Prelude.{IfSome, Result}
+use Rattle.spx_messages.specs.Changes.{SameSelf}
+use Rattle.spx_messages.specs.EndpointView.{EndpointView, Held, held_at}
+use Rattle.spx_messages.specs.Taking.{TakenView, Nothing, Part, PeerEnd, Whole, take_end}
+use Rattle.spx_messages.specs.declared.fault.EndFault.{EndFault}
+use Rattle.ipx_host.specs.SessionActions.{is_unheard}
+use Rattle.ipx_host.specs.HostOutput.{Writes, left_of}
+use Rattle.ipx_host.specs.Passing.{PassesHeld, PassesEach, PassesFrom, PassesOne, SameOthers, Takes, TakesNothing, bodies_after, held_after, left_with, phase_with}
+use Rattle.ipx_host.specs.declared.sessions.Session.{Session}
+use Rattle.ipx_host.specs.declared.sessions.Phase.{Phase}
+use Rattle.ipx_host.specs.declared.sessions.Phase.TheVariants as Standings
+use Rattle.ipx_host.specs.declared.output.Outlet.{Outlet}
+use Rattle.ipx_host.proofs.Written.{writes_none, writes_nothing, writes_on}
+
+same_self_on : (a b c : EndpointView) → SameSelf a b → SameSelf b c → SameSelf a c
+same_self_on a b c p q = record {
+  network = q.network ∙ p.network;
+  node = q.node ∙ p.node;
+  router = q.router ∙ p.router;
+  buffers = λ socket. q.buffers socket ∙ p.buffers socket;
+}
+
+pub same_others_on : (a b c : EndpointView) (id : ℕ) → SameOthers a b id → SameOthers b c id → SameOthers a c id
+same_others_on a b c id p q = record {
+  others = λ k ne. q.others k ne ∙ p.others k ne;
+  self = same_self_on a b c p.self q.self;
+  heard = q.heard ∙ p.heard;
+}
+
+-- the id is that of the caller, whatever passed
+pub from_id : (o after : Option Held) (x y : List ℕ) (a b : Option (List ℕ)) (c c' : Session) → PassesFrom o after x y a b c c' → c'.id ≡ c.id
+from_id None after x y a b c c' p = ap (λ (k : Session). k.id) p.2
+from_id (Some h) after x y a b c c' p = ap (λ (k : Session). k.id) p.3
+
+-- nothing passed yet
+pub from_start : (o : Option Held) (x : List ℕ) (a : Option (List ℕ)) (c : Session) → PassesFrom o o x x a a c c
+from_start None x a c = (refl, writes_none x a, refl)
+from_start (Some h) x a c =
+    (0, refl, subst (λ (l : List ℕ). Writes l x a a) (sym (append-nil x)) (writes_none x a), refl)
+
+pub one_start : (e : EndpointView) (x : List ℕ) (a : Option (List ℕ)) (c : Session) → PassesOne e e x x a a c c
+one_start e x a c = record {
+  from = from_start (held_at e c.id) x a c;
+  others = record {
+    others = λ q ne. refl;
+    self = record { network = refl; node = refl; router = refl; buffers = λ socket. refl };
+    heard = refl;
+  };
+  unheard = λ is. (refl, refl);
+  behind = λ none ended. none ended;
+}
+
+-- more was written
+pub from_written : (o after : Option Held) (x y z : List ℕ) (a b d : Option (List ℕ)) (c c' : Session) → PassesFrom o after x y a b c c' → Writes y z b d → PassesFrom o after x z a d c c'
+from_written None after x y z a b d c c' p wrote = (p.0, writes_on x y z a b d p.1 wrote, p.2)
+from_written (Some h) after x y z a b d c c' p wrote =
+    (p.0, p.1, writes_on (x ++ bodies_after p.0 h) y z a b d p.2 wrote, p.3)
+
+pub one_written : (old new : EndpointView) (x y z : List ℕ) (a b d : Option (List ℕ)) (c c' : Session) → PassesOne old new x y a b c c' → Writes y z b d → PassesOne old new x z a d c c'
+one_written old new x y z a b d c c' p wrote = record {
+  from = from_written (held_at old c.id) (held_at new c.id) x y z a b d c c' p.from wrote;
+  others = p.others;
+  unheard = p.unheard;
+  behind = λ none ended. writes_nothing y z b d wrote (p.behind none ended);
+}
+
+-- a take that ends a connection that was not ended leaves what was left to write
+ends_left : (r : Result TakenView EndFault) (phase : Phase) (left : List ℕ) → phase ≢ Standings.Ended → phase_with r phase ≡ Standings.Ended → left_with r left ≡ left
+ends_left (Ok Nothing) phase left not ended = refl
+ends_left (Ok Part) phase left not ended = refl
+ends_left (Ok (Whole m)) phase left not ended = absurd (not ended)
+ends_left (Ok PeerEnd) phase left not ended = refl
+ends_left (Err f) phase left not ended = refl
+
+-- one more was taken where nothing was left to write
+pub from_taken : (o : Option Held) (old new : EndpointView) (output output' : Outlet) (x : List ℕ) (a b : Option (List ℕ)) (c c' c'' : Session)
+    → left_of output ≡ [] → PassesFrom o (held_at old c'.id) x (left_of output) a b c c'
+    → (held_at old c'.id ≡ None → ⊥) → IfSome (held_at old c'.id) (λ h. Takes h old new output output' c' c'')
+    → PassesFrom o (held_at new c'.id) x (left_of output') a b c c''
+from_taken None old new output output' x a b c c' c'' none p there took = absurd (there p.0)
+from_taken (Some h) old new output output' x a b c c' c'' none p there took =
+    let count = p.0 in
+    let now = held_after count h in
+    let takes : Takes now old new output output' c' c'' = subst (λ (k : Option Held). IfSome k (λ k. Takes k old new output output' c' c'')) p.1 took in
+    let body = left_with (take_end now).0 [] in
+    let front = p.2.0 in
+    let all : x ++ bodies_after count h ≡ front = p.2.1 ∙ ap (λ l. front ++ l) none ∙ append-nil front in
+    let is : left_of output' ≡ body = takes.left ∙ ap (λ l. left_with (take_end now).0 l) none in (
+      suc count,
+      takes.held.held,
+      (front, sym (append_assoc x (bodies_after count h) body) ∙ ap (λ l. l ++ body) all ∙ ap (λ l. front ++ l) (sym is), p.2.2),
+      takes.noted ∙ ap (λ (k : Session). record k { phase = phase_with (take_end now).0 k.phase }) p.3,
+    )
+
+behind_taken : (o : Option Held) (old new : EndpointView) (output output' : Outlet) (c c' : Session)
+    → left_of output ≡ [] → c.phase ≢ Standings.Ended → (o ≡ None → ⊥) → IfSome o (λ h. Takes h old new output output' c c')
+    → c'.phase ≡ Standings.Ended → left_of output' ≡ []
+behind_taken None old new output output' c c' none not there took ended = absurd (there refl)
+behind_taken (Some h) old new output output' c c' none not there took ended =
+    took.left ∙ ends_left (take_end h).0 c.phase (left_of output) not (sym (ap (λ (k : Session). k.phase) took.noted) ∙ ended) ∙ none
+
+pub one_taken : (old mid new : EndpointView) (output output' : Outlet) (x : List ℕ) (a b : Option (List ℕ)) (c c' c'' : Session)
+    → is_unheard c.phase ≡ false → left_of output ≡ [] → c'.phase ≢ Standings.Ended → c'.id ≡ c.id → PassesOne old mid x (left_of output) a b c c'
+    → (held_at mid c'.id ≡ None → ⊥) → IfSome (held_at mid c'.id) (λ h. Takes h mid new output output' c' c'') → SameOthers mid new c'.id
+    → PassesOne old new x (left_of output') a b c c''
+one_taken old mid new output output' x a b c c' c'' heard none not same p there took others = record {
+  from = subst (λ (k : ℕ). PassesFrom (held_at old c.id) (held_at new k) x (left_of output') a b c c'') same
+      (from_taken (held_at old c.id) mid new output output' x a b c c' c'' none
+      (subst (λ (k : ℕ). PassesFrom (held_at old c.id) (held_at mid k) x (left_of output) a b c c') (sym same) p.from) there took);
+  others = same_others_on old mid new c.id p.others (subst (λ (k : ℕ). SameOthers mid new k) same others);
+  unheard = λ is. absurd (cc);
+  behind = λ before ended. behind_taken (held_at mid c'.id) mid new output output' c' c'' none not there took ended;
+}
+
+-- nothing more was taken
+pub one_idle : (old mid new : EndpointView) (output output' : Outlet) (x : List ℕ) (a b : Option (List ℕ)) (c c' c'' : Session)
+    → is_unheard c.phase ≡ false → c'.id ≡ c.id → PassesOne old mid x (left_of output) a b c c' → TakesNothing mid new output output' c' c'' → SameOthers mid new c'.id
+    → PassesOne old new x (left_of output') a b c c''
+one_idle old mid new output output' x a b c c' c'' heard same p idle others =
+    subst (λ (k : Session). PassesOne old new x (left_of output') a b c k) (sym idle.same)
+    (subst (λ (k : Outlet). PassesOne old new x (left_of k) a b c c') (sym idle.kept)
+    (record {
+      from = subst (λ (k : Option Held). PassesFrom (held_at old c.id) k x (left_of output) a b c c') (sym (idle.held.held c.id)) p.from;
+      others = same_others_on old mid new c.id p.others (subst (λ (k : ℕ). SameOthers mid new k) same others);
+      unheard = λ is. absurd (cc);
+      behind = p.behind;
+    }))
+
+-- what passed, without how the connection stands
+pub from_passes : (o after : Option Held) (x y : List ℕ) (a b : Option (List ℕ)) (c c' : Session) → PassesFrom o after x y a b c c' → IfSome o (λ h. PassesHeld h after x y a b)
+from_passes None after x y a b c c' p = tt
+from_passes (Some h) after x y a b c c' p = (p.0, p.1, p.2)
+
+-- one more connection behind the others
+pub each_on : (old mid new : EndpointView) (x y z : List ℕ) (a b d : Option (List ℕ)) (cs cs' : List Session) (c c' : Session)
+    → PassesEach old mid x y a b cs cs' → PassesOne mid new y z b d c c' → PassesEach old new x z a d (cs ++ c ∷ []) (cs' ++ c' ∷ [])
+each_on old mid new x y z a b d [] cs' c c' p one =
+    let same : PassesOne old new x z a d c c' =
+    subst (λ (e : EndpointView). PassesOne e new x z a d c c') p.1
+    (subst (λ (l : List ℕ). PassesOne mid new l z a d c c') p.2
+    (subst (λ (w : Option (List ℕ)). PassesOne mid new y z w d c c') p.3 one)) in
+    (new, z, d, c', [], ap (λ (l : List Session). l ++ c' ∷ []) p.0, same, (refl, refl, refl, refl))
+each_on old mid new x y z a b d (k ∷ ks) cs' c c' p one =
+    (p.0, p.1, p.2, p.3, p.4 ++ c' ∷ [], ap (λ (l : List Session). l ++ c' ∷ []) p.5, p.6, each_on p.0 mid new p.1 y z p.2 b d ks p.4 c c' p.7 one)

@@ -1,0 +1,17 @@
+use Rattle.std.proofs.Common.{◌≡◌, refl}
+use Rattle.ipx_carrier.specs.Turns.{peers_of}
+use Rattle.ipx_site.specs.Steady.{NeverGoesBack}
+use Rattle.ipx_host.specs.Midway.{listening_at}
+use Rattle.ipx_host.proofs.Hosted.{begun}
+use Rattle.ipx_host.proofs.Rounded.{on_ok}
+use Rattle.ipx_host.proofs.listen.listen_by.Goals as goal
+
+pub returns-clause-well : goal.returns-clause-well
+returns-clause-well g c =
+    let held = g.W.Write.contents in
+    let started = c.open-started.ensures in
+    let ran = c.run_listening.ensures in
+    on_ok _ c.args.loaded c.in-Ok.file c.in-Ok.is
+    (begun c.in-Ok.file (c.run_listening.new.writer ≡ c.args.writer.now) c.open-started.result (λ l. listening_at l (held c.args.writer.now)) (λ l. l.sessions.once) (λ l. peers_of l.station.host_socket.peers.items)
+    c.args.once (held c.args.writer.now) (held c.run_listening.new.writer) NeverGoesBack c.run_listening.result
+    started.network started.node started.router started.peers started.listens started.alone started.links started.accepted started.unpaced started.from started.own started.nobody started.nothing started.once (λ l. refl) ran.unstarted ran.well)

@@ -1,0 +1,68 @@
+use Rattle.std.proofs.Common.{◌≡◌, ◌<◌, ◌≤◌, ◌⊎◌, ℕ, Bool, true, false, List, Option, Result, Ok, Err, inl, inr, refl, arith}
+use Rattle.std.specs.Prelude.{IfErr, IfOk}
+use Rattle.ipx_site.specs.Host.{IsHostText}
+use Rattle.ipx_site.specs.Loading.{IsFileText}
+use Rattle.ipx_site.specs.declared.host.HostConfig.{HostConfig}
+use Rattle.ipx_wire.specs.declared.address.Address.{Address}
+use Rattle.ipx_host.specs.Access.{far_address, is_nowhere}
+use Rattle.ipx_host.specs.Sent.{SendsWholeInput}
+use Rattle.ipx_host.specs.Target.{NamesAddress}
+use Rattle.ipx_host.specs.declared.target.Target.{Target}
+use Rattle.ipx_host.proofs.send.do_send.Goals as goal
+
+-- words that were read name an address
+pub returns-clause-words : goal.returns-clause-words
+returns-clause-words g c = λ nothing. absurd (nothing c.in-Ok.to c.in-Ok.ensures.named)
+
+-- where something goes from a host the status is 0 or 1, and else 2
+few_from : (X : Type 0) (nowhere : Bool) (r : ℕ) → (nowhere ≡ true → (r ≡ 2) × X) → (nowhere ≡ false → r < 2) → r ≤ 2
+few_from X true r told few = omega (arith, (told refl).0)
+few_from X false r told few = omega (arith, few refl)
+
+-- the status of a file that can't be loaded is 1 or 2
+few_of : {T : Type 0} (X : Type 0) (is_nowhere : T → Bool) (loaded : Result T ℕ) (r : ℕ) → IfErr loaded (λ s. (s ≡ 1) ⊎ (s ≡ 2))
+    → IfOk loaded (λ h. is_nowhere h ≡ true → (r ≡ 2) × X) → IfOk loaded (λ h. is_nowhere h ≡ false → r < 2) → IfErr loaded (λ s. (r ≡ s) × X) → r ≤ 2
+few_of X is_nowhere (Ok h) r fault told few unloaded = few_from X (is_nowhere h) r told few
+few_of X is_nowhere (Err s) r (inl e) told few unloaded = omega (arith, unloaded.0, e)
+few_of X is_nowhere (Err s) r (inr e) told few unloaded = omega (arith, unloaded.0, e)
+
+-- at status 2 nothing was done by a host
+untouched_from : (X : Type 0) (nowhere : Bool) (r : ℕ) → (nowhere ≡ true → (r ≡ 2) × X) → (nowhere ≡ false → r < 2) → r ≡ 2 → X
+untouched_from X true r told few two = (told refl).1
+untouched_from X false r told few two = absurd (omega (arith, few refl, two))
+
+-- nor where none was loaded
+untouched_of : {T : Type 0} (X : Type 0) (is_nowhere : T → Bool) (loaded : Result T ℕ) (r : ℕ)
+    → IfOk loaded (λ h. is_nowhere h ≡ true → (r ≡ 2) × X) → IfOk loaded (λ h. is_nowhere h ≡ false → r < 2) → IfErr loaded (λ s. (r ≡ s) × X) → r ≡ 2 → X
+untouched_of X is_nowhere (Ok h) r told few unloaded two = untouched_from X (is_nowhere h) r told few two
+untouched_of X is_nowhere (Err s) r told few unloaded two = unloaded.1
+
+-- what was sent, and by which file
+sent_of : {K : Type 0} (X : Type 0) (t : Target) (to : Address) (known left : Option (List ℕ)) (tells : K → ℕ → K → Type 0) (loaded : Result HostConfig ℕ) (r : ℕ)
+    → IfErr loaded (λ s. (s ≡ 1) ⊎ (s ≡ 2)) → IfErr loaded (λ s. (r ≡ s) × X) → IfOk loaded (λ h. (text : List ℕ) × IsFileText text × IsHostText text h) → NamesAddress t to
+    → IfOk loaded (λ h. r ≡ 0 → SendsWholeInput h (far_address h to) known left tells) → r ≡ 0
+    → (text : List ℕ) × (file : HostConfig) × (a : Address) × IsFileText text × IsHostText text file × NamesAddress t a × SendsWholeInput file (far_address file a) known left tells
+sent_of X t to known left tells (Ok h) r fault unloaded host named sent zero = (host.0, h, to, host.1, host.2, named, sent zero)
+sent_of X t to known left tells (Err s) r (inl e) unloaded host named sent zero = absurd (omega (arith, unloaded.0, e, zero))
+sent_of X t to known left tells (Err s) r (inr e) unloaded host named sent zero = absurd (omega (arith, unloaded.0, e, zero))
+
+pub returns-clause-few : goal.returns-clause-few
+returns-clause-few g c =
+    few_of (c.send_loaded.new.reader ≡ c.args.reader.now) (λ h. is_nowhere h (far_address h c.in-Ok.to)) c.load_host-loaded.result c.send_loaded.result
+    c.load_host-loaded.ensures.fault c.send_loaded.ensures.nowhere c.send_loaded.ensures.status c.send_loaded.ensures.unloaded
+
+pub returns-clause-sent : goal.returns-clause-sent
+returns-clause-sent g c =
+    sent_of (c.send_loaded.new.reader ≡ c.args.reader.now) c.args.target c.in-Ok.to (g.I.Read.remaining c.args.reader.now) (g.I.Read.remaining c.send_loaded.new.reader) _ c.load_host-loaded.result c.send_loaded.result
+    c.load_host-loaded.ensures.fault c.send_loaded.ensures.unloaded c.load_host-loaded.ensures.host c.in-Ok.ensures.named c.send_loaded.ensures.sent
+
+pub returns-clause-all : goal.returns-clause-all
+returns-clause-all g c = λ zero.
+    let sent = sent_of (c.send_loaded.new.reader ≡ c.args.reader.now) c.args.target c.in-Ok.to (g.I.Read.remaining c.args.reader.now) (g.I.Read.remaining c.send_loaded.new.reader) _ c.load_host-loaded.result c.send_loaded.result
+    c.load_host-loaded.ensures.fault c.send_loaded.ensures.unloaded c.load_host-loaded.ensures.host c.in-Ok.ensures.named c.send_loaded.ensures.sent zero in
+    sent.6.all
+
+pub returns-clause-untouched : goal.returns-clause-untouched
+returns-clause-untouched g c =
+    untouched_of (c.send_loaded.new.reader ≡ c.args.reader.now) (λ h. is_nowhere h (far_address h c.in-Ok.to)) c.load_host-loaded.result c.send_loaded.result
+    c.send_loaded.ensures.nowhere c.send_loaded.ensures.status c.send_loaded.ensures.unloaded

@@ -1,0 +1,55 @@
+use Rattle.std.proofs.Common.{ap, inl}
+use Rattle.std.proofs.lemmas.Result.{err_from_is_err_and}
+use Rattle.ipx_host.specs.Midway.{sending_at}
+use Rattle.ipx_host.proofs.Fed.{step_err, step_ok, step_unwaited, step_waited}
+use Rattle.ipx_host.proofs.Slept.{may_wait}
+use Rattle.ipx_host.proofs.sending.SendingHost.step_or_wait.Goals as goal
+
+pub returns-then-branch-clause-steps : goal.returns-then-branch-clause-steps
+returns-then-branch-clause-steps g c =
+    let old = c.args.self.now in
+    let new = c.step.new.self in
+    let before = sending_at old (g.I.Read.remaining c.args.reader.now) in
+    let after = sending_at new (g.I.Read.remaining c.step.new.reader) in
+    step_ok before after c.in_ok-step.field-0 _ _ old.id c.in_ok-step.ensures.steps
+
+pub returns-in-Ok-clause-steps : goal.returns-in-Ok-clause-steps
+returns-in-Ok-clause-steps g c =
+    let old = c.args.self.now in
+    let new = c.step.new.self in
+    let waited = c.wait.new.self in
+    let before = sending_at old (g.I.Read.remaining c.args.reader.now) in
+    let after = sending_at new (g.I.Read.remaining c.step.new.reader) in
+    step_waited before new.station.clock waited.clock new.station.core waited.core _ _ _ _ _ _ _ _ old.id c.wait.ensures.clock c.wait.ensures.core
+    (step_ok before after c.in_ok-step.field-0 _ _ old.id c.in_ok-step.ensures.steps)
+
+pub returns-in-Err-clause-steps : goal.returns-in-Err-clause-steps
+returns-in-Err-clause-steps g c =
+    let old = c.args.self.now in
+    let new = c.step.new.self in
+    let waited = c.wait.new.self in
+    let before = sending_at old (g.I.Read.remaining c.args.reader.now) in
+    let after = sending_at new (g.I.Read.remaining c.step.new.reader) in
+    step_waited before new.station.clock waited.clock new.station.core waited.core _ _ _ _ _ _ _ _ old.id c.wait.ensures.clock c.wait.ensures.core
+    (step_unwaited before after c.in_ok-step.field-0 _ _ old.id c.in_ok-step.ensures.steps)
+
+pub returns-in_err-step-clause-steps : goal.returns-in_err-step-clause-steps
+returns-in_err-step-clause-steps g c =
+    let old = c.args.self.now in
+    let new = c.step.new.self in
+    let before = sending_at old (g.I.Read.remaining c.args.reader.now) in
+    let after = sending_at new (g.I.Read.remaining c.step.new.reader) in
+    let p = err_from_is_err_and c.from_residual.result c.from_residual.ensures.1 in
+    rw (p.1, p.2) (step_err before after _ _ _ old.id c.in_err-step.ensures.steps)
+
+pub returns-then-branch-clause-waits : goal.returns-then-branch-clause-waits
+returns-then-branch-clause-waits g c = inl (ap (λ r. r.asked) c.step.ensures.poller)
+
+pub returns-in_err-step-clause-waits : goal.returns-in_err-step-clause-waits
+returns-in_err-step-clause-waits g c = inl (ap (λ r. r.asked) c.step.ensures.poller)
+
+pub returns-in-Ok-clause-waits : goal.returns-in-Ok-clause-waits
+returns-in-Ok-clause-waits g c = may_wait c.step.new.self.shows c.step.new.self.left c.step.new.self.station.core c.wait.new.self.core _ _ c.longest-longest.result c.longest-longest.ensures c.wait.ensures.core c.wait.ensures.sleeps
+
+pub returns-in-Err-clause-waits : goal.returns-in-Err-clause-waits
+returns-in-Err-clause-waits g c = may_wait c.step.new.self.shows c.step.new.self.left c.step.new.self.station.core c.wait.new.self.core _ _ c.longest-longest.result c.longest-longest.ensures c.wait.ensures.core c.wait.ensures.sleeps

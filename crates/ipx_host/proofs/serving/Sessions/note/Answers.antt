@@ -1,0 +1,11 @@
+use Rattle.std.proofs.Common.{◌∙◌, Some, ap, refl}
+use Rattle.ipx_host.proofs.Coming.{noted_accepted}
+use Rattle.ipx_host.proofs.serving.Sessions.note.Goals as goal
+
+pub returns-in-Some-Accepted-clause-notes : goal.returns-in-Some-Accepted-clause-notes
+returns-in-Some-Accepted-clause-notes c =
+    let old = c.args.self.now in
+    let told = c.take_came.new.self in
+    let new = record told { endpoint = c.admit.new.endpoint } in
+    noted_accepted old.once c.in-Some-Accepted.accepted c.take_came.result c.moment-moment.result c.args.core.now told new old.held.items c.admit.new.self.held.items
+    c.take_came.ensures.told (c.in-Some-Accepted.is ∙ ap Some c.in-Some-Accepted.field-0-is) c.moment-moment.ensures c.take_came.ensures.once refl c.admit.ensures.admits

@@ -1,0 +1,19 @@
+use Rattle.std.proofs.Common.{◌≡◌}
+use Rattle.std.specs.Prelude.{IsTrue}
+use Rattle.ipx_host.specs.Sessions.{EndedAlone}
+use Rattle.ipx_host.specs.Tending.{TendsOn}
+use Rattle.ipx_host.proofs.serving.Sessions.reap.Given as goal
+
+-- so many were tended; what is left to write, and what a core notes, is as it was; with `once` the only
+-- connection is ended just where it was
+abbrev pub invariant-loop-tended : goal.invariant-loop-tended
+invariant-loop-tended g l = record {
+  tends : TendsOn l._tended l.fn.self.once l.fn.station.core l.station.core l.fn.self.held.items l.self.held.items;
+  core : l.station.core ≡ record l.fn.station.core { endpoint = l.station.core.endpoint };
+  clock : l.station.clock ≡ l.fn.station.clock;
+  host_socket : l.station.host_socket ≡ l.fn.station.host_socket;
+  poller : l.station.poller ≡ l.fn.station.poller;
+  output : l.self.output ≡ l.fn.self.output;
+  before : IsTrue l.self.once → EndedAlone l.self.held.items → EndedAlone l.fn.self.held.items;
+  once : l.self.once ≡ l.fn.self.once;
+}

@@ -1,0 +1,45 @@
+-- Whom a host hears and sends to, and who may pass packets on to it, by its file. All of it is own.
+use Rattle.std.specs.Prelude.{ℕ, List, [], ◌∷◌, ◌++◌, ◌==◌, ◌||◌, ◌&&◌, Bool, Option, Some, None, is_none, if◌then◌else◌}
+use Rattle.ipx_carrier.specs.Device.{Access}
+use Rattle.ipx_carrier.specs.Mapping.{ip_at}
+use Rattle.ipx_site.specs.SitePorts.{heard_at_port}
+use Rattle.ipx_site.specs.declared.host.HostConfig.{HostConfig}
+use Rattle.ipx_wire.specs.Assigned.{local_network}
+use Rattle.ipx_wire.specs.declared.address.Address.{Address}
+
+-- the address that a host speaks to: network 0 is its own
+abbrev pub far_address : HostConfig → Address → Address
+far_address file to =
+    if to.network.0 == local_network then record to { network = file.network } else to
+
+-- a node of the host's own network is reached without a router. 0 is its own network too
+abbrev pub is_on_own_network : HostConfig → Address → Bool
+is_on_own_network file to =
+    (to.network.0 == file.network.0) || (to.network.0 == local_network)
+
+-- on its own network nothing goes to a node that no IP address has
+abbrev pub is_nowhere : HostConfig → Address → Bool
+is_nowhere file to = is_on_own_network file to && is_none (ip_at to.node)
+
+-- the IP address of a node of its own network that a host dials
+abbrev pub dialed_ip : HostConfig → Address → Option (List ℕ)
+dialed_ip file to = if is_on_own_network file to then ip_at to.node else None
+
+-- so a list goes on with it, where there is one
+abbrev pub with_dialed : List (List ℕ) → Option (List ℕ) → List (List ℕ)
+with_dialed ips None = ips
+with_dialed ips (Some ip) = ips ++ ip ∷ []
+
+-- whom it knows: its peers, its router, and the node that it dials
+abbrev pub known_ips : HostConfig → Option (List ℕ) → List (List ℕ)
+known_ips file dials = with_dialed (file.peers.items ++ file.router ∷ []) dials
+
+-- a host hears those, and sends to them; or hears everybody, and sends to everybody. Its router and the
+-- routers of its file alone pass packets on to it
+abbrev pub guarded_host : HostConfig → Option (List ℕ) → Access
+guarded_host file dials = record {
+  network = file.network;
+  sends = heard_at_port file.accept (known_ips file dials);
+  hears = heard_at_port file.accept (known_ips file dials);
+  routers = Some (file.routers.items ++ file.router ∷ []);
+}

@@ -1,0 +1,36 @@
+-- Which requests for a connection a host keeps back, and what its core hears. All of it is own.
+use Rattle.std.specs.Prelude.{◌≡◌, ◌⊎◌, ℕ, List, false, None}
+use Rattle.ipx_wire.specs.Connection.{IsConnectionPacket}
+use Rattle.ipx_wire.specs.Ipx.{PacketView}
+use Rattle.ipx_wire.specs.declared.address.Address.{Address}
+use Rattle.ipx_wire.specs.declared.spx.packet.SpxHeader.{SpxHeader}
+use Rattle.spx_units.specs.WrittenPackets.{IsRequestFor}
+use Rattle.ipx_carrier.specs.Counting.{raised}
+use Rattle.ipx_site.specs.AllowedPeers.{may_ask, named_in}
+use Rattle.ipx_host.specs.Noting.{HearsAndNotes}
+use Rattle.ipx_host.specs.Paced.{NotesAnswer}
+use Rattle.ipx_host.specs.declared.paced_host_core.PacedHostCore.{PacedHostCore}
+
+-- bytes ask for a connection, in the name of an address
+pub record IsAskedBy (bytes : List ℕ) (a : Address) : Type 0 where
+  pub packet : PacketView
+  pub header : SpxHeader
+  pub body : List ℕ
+  pub is : IsConnectionPacket packet header body bytes
+  pub request : IsRequestFor header
+  pub from : packet.header.from ≡ a
+
+-- they ask, in the name of one who may not
+abbrev pub IsBarred : PacedHostCore → List ℕ → Type 0
+IsBarred core bytes = (a : Address) × IsAskedBy bytes a
+    × (may_ask (named_in core.from) core.network a ≡ false)
+
+-- what the core of a host hears: a request of one who may not ask is counted, and its endpoint is as it
+-- was; of anything else its endpoint reads, and what is noted. Its pacer is told
+abbrev pub HearsAllowed : PacedHostCore → List ℕ → ℕ → PacedHostCore → Type 0
+HearsAllowed old bytes now new =
+    ((IsBarred old bytes → ⊥) × HearsAndNotes old.endpoint bytes now new.endpoint new.came
+    × NotesAnswer old.endpoint bytes now new.endpoint old.paced new.paced
+    × (new ≡ record old { endpoint = new.endpoint; came = new.came; paced = new.paced; moment = now }))
+    ⊎ (IsBarred old bytes
+    × (new ≡ record old { came = None; rejected = raised old.rejected; moment = now }))

@@ -1,0 +1,58 @@
+-- How the ledger of a host that sends goes on, message by message and by the numbers of its link. All
+-- of it is own.
+use Rattle.std.specs.Prelude.{◌≡◌, ◌<◌, ◌≤◌, ℕ, ◌+◌, ◌-◌, ◌^◌, List, [], ◌∷◌, ◌++◌, length, Option, Some, None}
+use Rattle.spx_link.specs.LinkView.{numbers_of}
+use Rattle.spx_link.specs.SequenceMarks.{distance}
+use Rattle.spx_link.specs.declared.numbers.Numbers.{Numbers}
+use Rattle.spx_messages.specs.EndpointView.{Held}
+use Rattle.ipx_carrier.specs.Counting.{counted}
+use Rattle.ipx_host.specs.AckedBytes.{CountsAcknowledged, IsFirstOpen, all_units, base_of, units_in}
+use Rattle.ipx_host.specs.declared.acked_bytes.Ledger.{Ledger}
+
+-- of messages of these lengths so many units are acknowledged, and the ledger says so
+abbrev pub LedgerSays : Ledger → List ℕ → ℕ → Type 0
+LedgerSays l given units = CountsAcknowledged given units l.messages.items l.units l.whole
+
+-- its first message, if there is one, is not acknowledged whole
+abbrev pub HasFirstOpen : Ledger → Type 0
+HasFirstOpen l = IsFirstOpen l.messages.items l.units
+
+-- nothing was handed in, and nothing is acknowledged
+pub record IsUnused (l : Ledger) : Type 0 where
+  pub base : l.base ≡ 0
+  pub ahead : l.ahead ≡ 0
+  pub given : l.given ≡ 0
+  pub says : LedgerSays l [] 0
+  pub first : HasFirstOpen l
+
+-- a message of so many bytes is entered, behind those before
+pub record Enters (old new : Ledger) (bytes : ℕ) : Type 0 where
+  pub base : new.base ≡ old.base
+  pub ahead : new.ahead ≡ counted (old.ahead + units_in bytes)
+  pub given : new.given ≡ counted (old.given + bytes)
+  pub says : (given : List ℕ) (units : ℕ) → LedgerSays old given units → LedgerSays new (given ++ bytes ∷ []) units
+  pub first : (given : List ℕ) (units : ℕ) → LedgerSays old given units → units ≤ all_units given
+      → HasFirstOpen old → HasFirstOpen new
+
+-- what one read gave is entered as one message, and nothing where none came
+abbrev pub EntersRead : Ledger → Ledger → List ℕ → Type 0
+EntersRead old new [] = new ≡ old
+EntersRead old new (b ∷ bs) = Enters old new (length (b ∷ bs))
+
+-- how many units more these numbers of its link acknowledge
+abbrev pub units_more : Ledger → Numbers → ℕ
+units_more l n = distance (base_of n) l.base
+
+-- what these numbers acknowledge is entered
+pub record Acknowledges (old new : Ledger) (n : Numbers) : Type 0 where
+  pub base : new.base ≡ base_of n
+  pub ahead : new.ahead ≡ old.ahead - units_more old n
+  pub given : new.given ≡ old.given
+  pub says : (given : List ℕ) (units : ℕ) → LedgerSays old given units → units + units_more old n < 2 ^ 64
+      → LedgerSays new given (units + units_more old n)
+  pub first : HasFirstOpen old → HasFirstOpen new
+
+-- what the link that is held under an id acknowledges is entered; where none is held, nothing is
+abbrev pub EntersAcknowledged : Option Held → Ledger → Ledger → Type 0
+EntersAcknowledged None old new = new ≡ old
+EntersAcknowledged (Some h) old new = Acknowledges old new (numbers_of h.link)

@@ -1,0 +1,118 @@
+-- How a host that sends paces its connection: what its link may do at the next poll. All of it is own.
+use Rattle.std.specs.Prelude.{◌≡◌, ◌≢◌, ◌<◌, ◌⊎◌, ℕ, List, IfSome, IsTrue, Option, Some, None, option_map, true}
+use Rattle.ipx_carrier.specs.HostCore.{HostGives}
+use Rattle.ipx_carrier.specs.Turns.{Given}
+use Rattle.spx_link.specs.LinkView.{LinkView, numbers_of}
+use Rattle.spx_link.specs.Offer.{again_link, pace_link}
+use Rattle.spx_link.specs.declared.numbers.Numbers.{Numbers}
+use Rattle.spx_link.specs.declared.outgoing.Sent.{Sent}
+use Rattle.spx_link.specs.declared.received.Received.{Received}
+use Rattle.spx_link.specs.declared.received.Received.TheVariants.{Stranger}
+use Rattle.spx_messages.specs.Arrives.{Arrives}
+use Rattle.spx_messages.specs.Changes.{ChangesEnd}
+use Rattle.spx_messages.specs.EndpointView.{EndpointView, Held, held_at}
+use Rattle.spx_messages.specs.declared.arrived.Arrived.{Arrived}
+use Rattle.spx_messages.specs.declared.arrived.Arrived.TheVariants.{Link}
+use Rattle.spx_congestion.specs.Giving.{gave_of}
+use Rattle.spx_congestion.specs.Pacing.{PacerView, credit_after, wakes_at, holds_back, plan_of}
+use Rattle.spx_congestion.specs.declared.plan.Plan.{Plan}
+use Rattle.ipx_host.specs.declared.paced_host_core.PacedHostCore.{PacedHostCore}
+use Rattle.ipx_host.specs.declared.pacing.Paced.{Paced}
+
+-- a link of which the unit at a place goes again, if there is one
+abbrev pub asked_again_at : Option ℕ → LinkView → LinkView
+asked_again_at None l = l
+asked_again_at (Some place) l = again_link l place
+
+-- a link by hand, as a plan has it: so many units may be outstanding, and that one goes again
+abbrev pub planned : Plan → LinkView → LinkView
+planned plan l = asked_again_at plan.again (pace_link l plan.window true)
+
+-- a plan is that of a pacer, which has counted as many units outstanding as a link has
+pub record IsPlanOf (plan : Plan) (pacer : PacerView) (l : LinkView) : Type 0 where
+  pub counts : pacer.out ≡ l.out
+  pub value : plan ≡ plan_of pacer
+
+-- the link of an id, where it is there, becomes as its pacer plans, and nothing else changes
+abbrev pub PlansLink : ℕ → PacerView → PacerView → Option Held → EndpointView → EndpointView → Type 0
+PlansLink id pacer pacer' None old new = (pacer' ≡ pacer) × (new ≡ old)
+PlansLink id pacer pacer' (Some held) old new = (plan : Plan) × IsPlanOf plan pacer' held.link
+    × ChangesEnd old new id (record held { link = planned plan held.link })
+    × (new.said ≡ old.said) × (new.heard ≡ old.heard)
+
+-- that of the connection that is paced does, and where none is, nothing changes
+abbrev pub Plans : Option Paced → Option Paced → EndpointView → EndpointView → Type 0
+Plans None after old new = (after ≡ None) × (new ≡ old)
+Plans (Some paced) after old new = (pacer : PacerView) × (after ≡ Some (record paced { pacer = pacer }))
+    × PlansLink paced.id paced.pacer pacer (held_at old paced.id) old new
+
+-- a packet of a link was given, which has so many units outstanding since: its pacer has counted these, and has less
+-- credit where it was a unit
+abbrev pub CountsGiven : Sent → ℕ → PacerView → PacerView → Type 0
+CountsGiven what out pacer pacer' = (pacer'.out ≡ out)
+    × ((stream : ℕ) × (pacer'.credit ≡ credit_after pacer.credit (gave_of what stream)))
+
+-- behind a poll the pacer of the link of an id was told of what that link gave, and of nothing else
+abbrev pub NotesGiven : ℕ → Option (ℕ × Sent) → Option Held → PacerView → PacerView → Type 0
+NotesGiven id None held pacer pacer' = pacer' ≡ pacer
+NotesGiven id (Some given) None pacer pacer' = pacer' ≡ pacer
+NotesGiven id (Some given) (Some held) pacer pacer' =
+    (given.0 ≡ id → CountsGiven given.1 held.link.out pacer pacer')
+    × ((given.0 ≡ id → ⊥) → pacer' ≡ pacer)
+
+-- that of the connection that is paced was, if one is
+abbrev pub NotesPoll : Option Paced → EndpointView → Option Paced → Type 0
+NotesPoll None e after = after ≡ None
+NotesPoll (Some paced) e after = (pacer : PacerView) × (after ≡ Some (record paced { pacer = pacer }))
+    × NotesGiven paced.id e.said (held_at e paced.id) paced.pacer pacer
+
+-- the link of an id read a datagram, and took it for its peer's
+abbrev pub LinkReads : ℕ → Arrived → Type 0
+LinkReads id arrived = (received : Received) × (arrived ≡ Link id received) × (received ≢ Stranger)
+
+-- behind a datagram the pacer of the link of an id has counted as many units outstanding as that link, where it read it
+-- and is there; where it did not read it, the pacer is as it was
+pub record NotesHeard (id : ℕ) (arrived : Arrived) (pacer pacer' : PacerView) (there : Option Held) : Type 0 where
+  pub counts : LinkReads id arrived → IfSome there (λ h. pacer'.out ≡ h.link.out)
+  pub stays : (LinkReads id arrived → ⊥) → pacer' ≡ pacer
+
+-- that of the connection that is paced, if one is
+abbrev pub NotesDatagram : Option Paced → Arrived → EndpointView → Option Paced → Type 0
+NotesDatagram None arrived e after = after ≡ None
+NotesDatagram (Some paced) arrived e after = (pacer : PacerView) × (after ≡ Some (record paced { pacer = pacer }))
+    × NotesHeard paced.id arrived paced.pacer pacer (held_at e paced.id)
+
+-- an endpoint answers a datagram, and the pacer is told
+abbrev pub NotesAnswer : EndpointView → List ℕ → ℕ → EndpointView → Option Paced → Option Paced → Type 0
+NotesAnswer old bytes now new paced after =
+    (answer : Arrived) × Arrives old bytes now answer new × NotesDatagram paced answer new after
+
+-- the numbers of the link of the connection that is paced, if one is
+abbrev pub paced_numbers : Option Paced → EndpointView → Option Numbers
+paced_numbers None e = None
+paced_numbers (Some paced) e = option_map (λ h. numbers_of h.link) (held_at e paced.id)
+
+-- the moment at which the pacer of the connection that is paced, if one is, may plan something else
+abbrev pub paced_due : Option Paced → ℕ → Option ℕ
+paced_due None now = None
+paced_due (Some paced) now = wakes_at paced.pacer now
+
+-- a connection is paced whose pacer holds something back
+abbrev pub HoldsBack : Option Paced → Type 0
+HoldsBack None = ⊥
+HoldsBack (Some paced) = IsTrue (holds_back paced.pacer)
+
+-- one is paced that waits for something: units of it are outstanding, or its pacer holds some back
+abbrev pub IsAwake : Option Paced → Type 0
+IsAwake None = ⊥
+IsAwake (Some paced) = (0 < paced.pacer.out) ⊎ IsTrue (holds_back paced.pacer)
+
+-- the core of a host is asked for a packet: the connection that is paced, if one is, may do what is
+-- planned, and then its endpoint gives one by a poll, or none, of which its pacer is told
+pub record GivesAsPlanned (old : PacedHostCore) (now : ℕ) (given : Option Given) (new : PacedHostCore) : Type 0 where
+  pub ready : EndpointView
+  pub paced : Option Paced
+  pub plans : Plans old.paced paced old.endpoint ready
+  pub gives : HostGives ready now given new.endpoint
+  pub notes : NotesPoll paced new.endpoint new.paced
+  pub core : new ≡ record old { endpoint = new.endpoint; moment = now; paced = new.paced }

@@ -1,0 +1,123 @@
+-- What passes from a connection to an outlet, by takes one after another. All of it is own.
+use Rattle.std.specs.Prelude.{◌≡◌, ◌≢◌, ℕ, zero, suc, true, List, [], ◌∷◌, ◌++◌, Option, Some, None, Result, Ok, Err}
+use Rattle.spx_messages.specs.Changes.{ChangesEnd, SameBut, SameSelf}
+use Rattle.spx_messages.specs.EndpointView.{EndpointView, Held, held_at}
+use Rattle.spx_messages.specs.Taking.{TakenView, Nothing, Part, PeerEnd, Whole, take_end}
+use Rattle.spx_messages.specs.declared.fault.EndFault.{EndFault}
+use Rattle.ipx_host.specs.SessionActions.{is_unheard}
+use Rattle.ipx_host.specs.HostOutput.{Writes, left_of}
+use Rattle.ipx_host.specs.declared.sessions.Session.{Session}
+use Rattle.ipx_host.specs.declared.sessions.Phase.{Phase}
+use Rattle.ipx_host.specs.declared.sessions.Phase.TheVariants as Standings
+use Rattle.ipx_host.specs.declared.output.Outlet.{Outlet}
+
+-- what is left to write once a take gave this: the body of the message that its unit ended, or else
+-- what was left before
+abbrev pub left_with : Result TakenView EndFault → List ℕ → List ℕ
+left_with (Ok Nothing) left = left
+left_with (Ok Part) left = left
+left_with (Ok (Whole m)) left = m.body
+left_with (Ok PeerEnd) left = left
+left_with (Err f) left = left
+
+-- how a connection stands once a take gave this: the end of its peer ends it, and nothing else does
+abbrev pub phase_with : Result TakenView EndFault → Phase → Phase
+phase_with (Ok Nothing) phase = phase
+phase_with (Ok Part) phase = phase
+phase_with (Ok (Whole m)) phase = phase
+phase_with (Ok PeerEnd) phase = Standings.Ended
+phase_with (Err f) phase = phase
+
+-- one take of a connection, whose id holds this: what it gave is to be written, and an end is noted
+pub record Takes (h : Held) (old new : EndpointView) (output output' : Outlet)
+    (session session' : Session) : Type 0 where
+  pub held : ChangesEnd old new session.id (take_end h).1
+  pub something : (take_end h).0 ≢ Ok Nothing
+  pub left : left_of output' ≡ left_with (take_end h).0 (left_of output)
+  pub noted : session' ≡ record session {
+    phase = phase_with (take_end h).0 session.phase;
+  }
+
+-- nothing was taken of a connection, and nothing changes
+pub record TakesNothing (old new : EndpointView) (output output' : Outlet)
+    (session session' : Session) : Type 0 where
+  pub held : SameBut old new
+  pub kept : output' ≡ output
+  pub same : session' ≡ session
+
+-- what is held under an id after so many takes
+abbrev pub held_after : ℕ → Held → Held
+held_after zero h = h
+held_after (suc n) h = (take_end (held_after n h)).1
+
+-- the bodies of the messages that so many takes end, one behind the other
+abbrev pub bodies_after : ℕ → Held → List ℕ
+bodies_after zero h = []
+bodies_after (suc n) h = bodies_after n h ++ left_with (take_end (held_after n h)).0 []
+
+-- what waited to be written, and then the bodies that so many takes give, are what a writer took, and
+-- then what is left to write; and what is held is what those takes leave
+abbrev pub PassesHeld : Held → Option Held → List ℕ → List ℕ → Option (List ℕ) → Option (List ℕ) → Type 0
+PassesHeld h after waiting left written writes = (count : ℕ) × (after ≡ Some (held_after count h))
+    × Writes (waiting ++ bodies_after count h) left written writes
+
+-- how a connection stands after so many takes
+abbrev pub phase_after : ℕ → Held → Phase → Phase
+phase_after zero h phase = phase
+phase_after (suc n) h phase =
+    phase_with (take_end (held_after n h)).0 (phase_after n h phase)
+
+-- what passes from a connection whose id holds this, if anything: its takes pass to the outlet and the
+-- writer, and tell how it stands; of one whose link is gone nothing is taken
+abbrev pub PassesFrom : Option Held → Option Held → List ℕ → List ℕ → Option (List ℕ) → Option (List ℕ) → Session → Session → Type 0
+PassesFrom None after waiting left written writes session session' =
+    (after ≡ None) × Writes waiting left written writes × (session' ≡ session)
+PassesFrom (Some h) after waiting left written writes session session' = (count : ℕ)
+    × (after ≡ Some (held_after count h))
+    × Writes (waiting ++ bodies_after count h) left written writes
+    × (session' ≡ record session { phase = phase_after count h session.phase })
+
+-- what is held under any other id, and what listens, is as before
+pub record SameOthers (old new : EndpointView) (id : ℕ) : Type 0 where
+  pub others : (q : ℕ) → q ≢ id → held_at new q ≡ held_at old q
+  pub self : SameSelf old new
+  pub heard : new.heard ≡ old.heard
+
+-- what passes from one connection of a host: nothing where it was not heard. Where an end that was taken
+-- before left nothing to write, one that is taken now leaves nothing, either
+pub record PassesOne (old new : EndpointView) (waiting left : List ℕ)
+    (written writes : Option (List ℕ)) (session session' : Session) : Type 0 where
+  pub from : PassesFrom (held_at old session.id) (held_at new session.id) waiting left written writes session session'
+  pub others : SameOthers old new session.id
+  pub unheard : is_unheard session.phase ≡ true → (new ≡ old) × (session' ≡ session)
+  pub behind : (session.phase ≡ Standings.Ended → waiting ≡ [])
+      → session'.phase ≡ Standings.Ended → left ≡ []
+
+-- what passes from connections, one behind the other
+abbrev pub PassesEach : EndpointView → EndpointView → List ℕ → List ℕ → Option (List ℕ) → Option (List ℕ) → List Session → List Session → Type 0
+PassesEach old new waiting left written writes [] sessions =
+    (sessions ≡ []) × (new ≡ old) × (left ≡ waiting) × (writes ≡ written)
+PassesEach old new waiting left written writes (c ∷ cs) sessions = (mid : EndpointView)
+    × (between : List ℕ) × (writing : Option (List ℕ)) × (c' : Session) × (cs' : List Session)
+    × (sessions ≡ c' ∷ cs') × PassesOne old mid waiting between written writing c c'
+    × PassesEach mid new between left writing writes cs cs'
+
+-- the same, of the first ones; the others are as before
+abbrev pub PassesSome : EndpointView → EndpointView → List ℕ → List ℕ → Option (List ℕ) → Option (List ℕ) → List Session → List Session → Type 0
+PassesSome old new waiting left written writes sessions sessions' =
+    (first first' rest : List Session) × (sessions ≡ first ++ rest) × (sessions' ≡ first' ++ rest)
+    × PassesEach old new waiting left written writes first first'
+
+-- the bodies of the messages that passed from one connection, one behind the other
+abbrev pub given_from : (before after : Option Held) (waiting left : List ℕ) (written writes : Option (List ℕ)) (session session' : Session)
+    → PassesFrom before after waiting left written writes session session' → List ℕ
+given_from None after waiting left written writes session session' p = []
+given_from (Some h) after waiting left written writes session session' p = bodies_after p.0 h
+
+-- and from connections, one behind the other
+abbrev pub given_each : (old new : EndpointView) (waiting left : List ℕ) (written writes : Option (List ℕ)) (sessions sessions' : List Session)
+    → PassesEach old new waiting left written writes sessions sessions' → List ℕ
+given_each old new waiting left written writes [] sessions' p = []
+given_each old new waiting left written writes (c ∷ cs) sessions' p =
+    given_from (held_at old c.id) (held_at p.0 c.id) waiting p.1 written p.2 c p.3 p.6.from
+    ++ given_each p.0 new p.1 left p.2 writes cs p.4 p.7

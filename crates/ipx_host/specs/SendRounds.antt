@@ -1,0 +1,115 @@
+-- The rounds of a host that sends, one after another: each is a turn of its host, and then what came
+-- is dropped and the link is fed. The entry points are `Transfers`, of one that ended well, and
+-- `EndsWith`, of any verdict. All of it is own.
+use Rattle.std.specs.Prelude.{◌≡◌, ◌^◌, ◌-◌, ℕ, Bool, true, List, [], ◌∷◌, length, Option, Some, None, Result, Err}
+use Rattle.std.specs.Io.KnownBytes.{Consumes}
+use Rattle.std.specs.List.{concat}
+use Rattle.ipx_carrier.specs.Turns.{Peers}
+use Rattle.spx_link.specs.declared.state.State.{State}
+use Rattle.spx_messages.specs.EndpointView.{held_at}
+use Rattle.ipx_host.specs.Books.{EntersAcknowledged}
+use Rattle.ipx_host.specs.Feeding.{FeedState, feed_state}
+use Rattle.ipx_host.specs.SendSteps.{FeedsOn, GoesOnOrEnds, IsStepFault, SeenSoFar, Sees}
+use Rattle.ipx_host.specs.Transfer.{IsWholeAt}
+use Rattle.ipx_host.specs.Turning.{TakesHostTurn}
+use Rattle.ipx_host.specs.declared.paced_host_core.PacedHostCore.{PacedHostCore}
+use Rattle.ipx_host.specs.declared.acked_bytes.Ledger.{Ledger}
+use Rattle.ipx_host.specs.declared.running_host.Activity.{Activity}
+use Rattle.ipx_host.specs.declared.send_outcome.SendOutcome.{SendOutcome}
+use Rattle.ipx_host.specs.declared.send_outcome.SendOutcome.TheVariants.{Done, GivenUp}
+
+-- where a run is: its clock and its core, what is noted of the connection, whether all is read,
+-- whether the end is queued, what is counted, and what the reader has left, where that is known
+pub record SendState (K : Type 0) : Type 0 where
+  pub clock : K
+  pub core : PacedHostCore
+  pub noted : SeenSoFar
+  pub read : Bool
+  pub closed : Bool
+  pub acked_bytes : Ledger
+  pub known : Option (List ℕ)
+
+abbrev pub place : {K : Type 0} → K → PacedHostCore → SeenSoFar → Bool → Bool → Ledger → Option (List ℕ) → SendState K
+place clock core noted read closed acked_bytes known = record {
+  clock = clock;
+  core = core;
+  noted = noted;
+  read = read;
+  closed = closed;
+  acked_bytes = acked_bytes;
+  known = known;
+}
+
+abbrev pub feeding_of : {K : Type 0} → SendState K → FeedState
+feeding_of p = feed_state p.core.endpoint p.read p.closed p.acked_bytes p.known
+
+-- one step, and its answer: a turn, which leaves a core; by this it is noted and told how the
+-- connection stands, and the transfer ends or goes on. Nothing else of the core changes
+pub record IsSendStep {K T : Type 0} (faults : Option State → SendOutcome → Type 0) (old new : SendState K)
+    (answer : Result T SendOutcome) (tells : K → ℕ → K → Type 0) (peers : Peers) (id : ℕ) : Type 0 where
+  pub seen : PacedHostCore
+  pub turn : Activity
+  pub turned : TakesHostTurn old.clock new.clock tells peers old.core seen turn
+  pub verdict : Option SendOutcome
+  pub sees : Sees old.noted new.noted seen.endpoint seen.moment id old.closed verdict
+  pub goes : GoesOnOrEnds faults id seen.endpoint (feeding_of old) (feeding_of new) verdict answer
+  pub core : new.core ≡ record seen { endpoint = new.core.endpoint }
+
+-- one round: a step with no verdict, which feeds these bytes
+pub record Round {K : Type 0} (old new : SendState K) (bytes : List ℕ) (tells : K → ℕ → K → Type 0)
+    (peers : Peers) (id : ℕ) : Type 0 where
+  pub seen : PacedHostCore
+  pub turn : Activity
+  pub turned : TakesHostTurn old.clock new.clock tells peers old.core seen turn
+  pub sees : Sees old.noted new.noted seen.endpoint seen.moment id old.closed None
+  pub fed : FeedsOn id seen.endpoint (feeding_of old) (feeding_of new) bytes
+  pub core : new.core ≡ record seen { endpoint = new.core.endpoint }
+
+-- the last one is a turn alone, which tells that all is done
+pub record LastRound {K : Type 0} (old new : SendState K) (tells : K → ℕ → K → Type 0) (peers : Peers)
+    (id : ℕ) : Type 0 where
+  pub turn : Activity
+  pub turned : TakesHostTurn old.clock new.clock tells peers old.core new.core turn
+  pub sees : Sees old.noted new.noted new.core.endpoint new.core.moment id old.closed (Some Done)
+  pub follows : EntersAcknowledged (held_at new.core.endpoint id) old.acked_bytes new.acked_bytes
+  pub read : new.read ≡ old.read
+  pub closed : new.closed ≡ old.closed
+  pub known : new.known ≡ old.known
+
+-- one round after another, which feed these bytes each
+abbrev pub Rounds : {K : Type 0} → SendState K → List (List ℕ) → SendState K → (K → ℕ → K → Type 0) → Peers → ℕ → Type 0
+Rounds old [] new tells peers id = new ≡ old
+Rounds {K} old (bytes ∷ more) new tells peers id = (next : SendState K)
+    × Round old next bytes tells peers id × Rounds next more new tells peers id
+
+-- and a last one
+abbrev pub RunsOut : {K : Type 0} → SendState K → List (List ℕ) → SendState K → (K → ℕ → K → Type 0) → Peers → ℕ → Type 0
+RunsOut {K} old bodies new tells peers id = (last : SendState K)
+    × Rounds old bodies last tells peers id × LastRound last new tells peers id
+
+-- a transfer that ended well: what left the reader is what was fed, one body behind the other; all is
+-- read, the end is queued, and the peer has acknowledged all, that end too
+pub record Transfers {K : Type 0} (old new : SendState K) (tells : K → ℕ → K → Type 0) (peers : Peers)
+    (id : ℕ) : Type 0 where
+  pub bodies : List (List ℕ)
+  pub runs : RunsOut old bodies new tells peers id
+  pub fed : Consumes old.known new.known (concat bodies)
+  pub read : new.read ≡ true
+  pub closed : new.closed ≡ true
+  pub whole : IsWholeAt new.core.endpoint id
+
+-- one that a step ended with a verdict, behind some rounds
+pub record EndsWith {K : Type 0} (old new : SendState K) (verdict : SendOutcome) (tells : K → ℕ → K → Type 0)
+    (peers : Peers) (id : ℕ) : Type 0 where
+  pub bodies : List (List ℕ)
+  pub last : SendState K
+  pub rounds : Rounds old bodies last tells peers id
+  pub step : IsSendStep {T = Unit {0}} IsStepFault last new (Err verdict) tells peers id
+
+-- one that no step ended in so many rounds, and that is given up
+pub record LastsOn {K : Type 0} (old new : SendState K) (verdict : SendOutcome) (tells : K → ℕ → K → Type 0)
+    (peers : Peers) (id : ℕ) : Type 0 where
+  pub bodies : List (List ℕ)
+  pub rounds : Rounds old bodies new tells peers id
+  pub count : length bodies ≡ 2 ^ 64 - 1
+  pub given_up : verdict ≡ GivenUp

@@ -1,0 +1,68 @@
+-- One step of a host that sends: what it sees, what that tells, and what it feeds then. All of it is
+-- own.
+use Rattle.std.specs.Prelude.{◌≡◌, ◌≢◌, ◌↔◌, ◌⊎◌, ℕ, Bool, IsTrue, List, Option, Some, None, Result, Err, IfErr, OnOk}
+use Rattle.std.specs.Option.{option_map}
+use Rattle.spx_link.specs.declared.state.State.{State}
+use Rattle.spx_link.specs.declared.state.State.TheVariants.{Live}
+use Rattle.spx_messages.specs.EndpointView.{EndpointView, held_at}
+use Rattle.ipx_host.specs.Books.{EntersAcknowledged}
+use Rattle.ipx_host.specs.Dropping.{DropsCame}
+use Rattle.ipx_host.specs.Feeding.{Feeds, FeedState, LeavesIntake}
+use Rattle.ipx_host.specs.Transfer.{IsWaiting, IsWholeAt, ended_at, joined_at, left_at, state_at, verdict_at}
+use Rattle.ipx_host.specs.declared.acked_bytes.Ledger.{Ledger}
+use Rattle.ipx_host.specs.declared.send_outcome.SendOutcome.{SendOutcome}
+use Rattle.ipx_host.specs.declared.send_outcome.SendOutcome.TheVariants as Verdicts
+
+-- what is noted of a connection: whether it was open, and when the end of its peer was seen
+pub record SeenSoFar : Type 0 where
+  pub joined : Bool
+  pub left : Option ℕ
+
+abbrev pub noted : Bool → Option ℕ → SeenSoFar
+noted joined left = record { joined = joined; left = left }
+
+-- the endpoint was seen at a moment, and this is noted and told then
+pub record Sees (old new : SeenSoFar) (seen : EndpointView) (moment id : ℕ) (closed : Bool)
+    (verdict : Option SendOutcome) : Type 0 where
+  pub joined : new.joined ≡ joined_at old.joined (state_at seen id)
+  pub left : new.left ≡ left_at old.left (state_at seen id) moment
+  pub whole : Bool
+  pub all : IsTrue whole ↔ IsWholeAt seen id
+  pub waits : Bool
+  pub waiting : IsTrue waits ↔ IsWaiting closed new.left moment
+  pub tells : verdict
+      ≡ option_map (ended_at closed) (verdict_at whole new.joined waits (state_at seen id))
+
+-- what the link that was seen acknowledges is counted; what came is let go; and then the link is fed
+-- these bytes, where it was seen Live, and nothing else
+pub record FeedsOn (id : ℕ) (seen : EndpointView) (old new : FeedState) (bytes : List ℕ) : Type 0 where
+  pub acked_bytes : Ledger
+  pub follows : EntersAcknowledged (held_at seen id) old.acked_bytes acked_bytes
+  pub dropped : EndpointView
+  pub drops : DropsCame seen dropped id
+  pub feeds : Feeds (record old { endpoint = dropped; acked_bytes = acked_bytes }) new id bytes
+  pub only : state_at seen id ≢ Some Live
+      → LeavesIntake (record old { endpoint = dropped; acked_bytes = acked_bytes }) new bytes
+
+-- what the link that was seen acknowledges is counted, and nothing is dropped or fed
+pub record FeedsNothing (id : ℕ) (seen : EndpointView) (old new : FeedState) : Type 0 where
+  pub follows : EntersAcknowledged (held_at seen id) old.acked_bytes new.acked_bytes
+  pub is : new ≡ record old { endpoint = seen; acked_bytes = new.acked_bytes }
+
+-- a verdict ends the transfer, and nothing is fed; with none it goes on, but for faults of its own
+abbrev pub GoesOnOrEnds : {T : Type 0} → (Option State → SendOutcome → Type 0) → ℕ → EndpointView → FeedState → FeedState → Option SendOutcome → Result T SendOutcome → Type 0
+GoesOnOrEnds faults id seen old new (Some v) answer = (answer ≡ Err v) × FeedsNothing id seen old new
+GoesOnOrEnds faults id seen old new None answer = IfErr answer (faults (state_at seen id))
+    × OnOk answer ((bytes : List ℕ) × FeedsOn id seen old new bytes)
+
+-- the faults of what reads, hands in and queues
+abbrev pub IsReadFault : SendOutcome → Type 0
+IsReadFault v = (v ≡ Verdicts.Unread) ⊎ (v ≡ Verdicts.OutOfMemory)
+
+-- which come only where the link was seen Live
+abbrev pub IsFeedFault : Option State → SendOutcome → Type 0
+IsFeedFault state v = (state ≡ Some Live) × IsReadFault v
+
+-- and of what waits
+abbrev pub IsStepFault : Option State → SendOutcome → Type 0
+IsStepFault state v = IsFeedFault state v ⊎ (v ≡ Verdicts.Unwaited)

@@ -1,0 +1,51 @@
+-- What `ipx send` has done where it ends well. The entry point is `SendsWholeInput`. All of it is own.
+use Rattle.std.specs.Prelude.{◌≡◌, ◌≢◌, ℕ, false, List, [], ◌∷◌, Option, Some, None}
+use Rattle.std.specs.Io.KnownBytes.{IsAtEnd}
+use Rattle.ipx_carrier.specs.Mapping.{node_at}
+use Rattle.ipx_carrier.specs.Turns.{Peers}
+use Rattle.ipx_site.specs.declared.host.HostConfig.{HostConfig}
+use Rattle.ipx_wire.specs.declared.address.Address.{Address}
+use Rattle.ipx_wire.specs.declared.address.Socket.{Socket}
+use Rattle.spx_link.specs.Offer.{dialed}
+use Rattle.spx_messages.specs.EndpointView.{buffers_at, held_at}
+use Rattle.spx_congestion.specs.Pacing.{made_pacer}
+use Rattle.ipx_host.specs.Books.{IsUnused}
+use Rattle.ipx_host.specs.Access.{is_nowhere}
+use Rattle.ipx_host.specs.SendRounds.{SendState, Transfers}
+use Rattle.ipx_host.specs.SendSteps.{noted}
+use Rattle.ipx_host.specs.Transfer.{IsWholeAt}
+
+-- a host as its file says it, which listens nowhere, and whose one link asks for a connection to an
+-- address, and is paced. Nothing was seen of it, and nothing is read or counted
+pub record IsDialing {K : Type 0} (file : HostConfig) (to : Address) (p : SendState K) (peers : Peers)
+    (id : ℕ) : Type 0 where
+  pub network : p.core.endpoint.network ≡ file.network
+  pub node : p.core.endpoint.node ≡ node_at file.address
+  pub router : p.core.endpoint.router ≡ node_at file.router
+  pub among : peers ≡ (file.router ∷ []) ∷ []
+  pub link : held_at p.core.endpoint id
+      ≡ Some (record { link = dialed id file.socket to file.buffers 0; rest = None })
+  pub alone : (q : ℕ) → q ≢ id → held_at p.core.endpoint q ≡ None
+  pub deaf : (s : Socket) → buffers_at p.core.endpoint s ≡ None
+  pub paced : p.core.paced ≡ Some (record { id = id; pacer = made_pacer })
+  pub unseen : p.noted ≡ noted false None
+  pub unread : p.read ≡ false
+  pub unended : p.closed ≡ false
+  pub unused : IsUnused p.acked_bytes
+
+-- such a host has run a transfer to an address to which something goes. It ended well, from what a
+-- reader had to what it has left, which is nothing. Its link is there, its end is queued, and all that was
+-- queued on it is acknowledged
+pub record SendsWholeInput {K : Type 0} (file : HostConfig) (to : Address) (known left : Option (List ℕ))
+    (tells : K → ℕ → K → Type 0) : Type 0 where
+  pub goes : is_nowhere file to ≡ false
+  pub id : ℕ
+  pub peers : Peers
+  pub start : SendState K
+  pub last : SendState K
+  pub dials : IsDialing file to start peers id
+  pub begins : start.known ≡ known
+  pub transfers : Transfers start last tells peers id
+  pub ends : last.known ≡ left
+  pub all : IsAtEnd left
+  pub whole : IsWholeAt last.core.endpoint id

@@ -1,0 +1,160 @@
+-- The connections that a listening host holds, as they come, are heard, and go. All of it is own.
+use Rattle.std.specs.Prelude.{◌≡◌, ◌≢◌, ◌≤◌, ◌⊎◌, ◌==◌, ◌&&◌, ◌-◌, ℕ, Bool, true, false, not, IsTrue, List, [], ◌∷◌, ◌++◌, length, map, position, remove, count_by, slice_get, slice_set, nat_eq, nat_le, Option, Some, None, IfSome, MatchOption, if◌then◌else◌}
+use Rattle.std.specs.List.{list_any}
+use Rattle.std.specs.Cmp.Lexicographic.{pointwise}
+use Rattle.std.specs.Coded.{Unit-prop}
+use Rattle.std.proofs.Props.{props}
+use Rattle.spx_link.specs.Offer.{offer_link, refusal}
+use Rattle.spx_link.specs.declared.fault.OfferFault.TheVariants as OfferFaults
+use Rattle.spx_units.specs.declared.fault.MessageFault.TheVariants as MessageFaults
+use Rattle.spx_messages.specs.declared.fault.EndFault.{EndFault}
+use Rattle.spx_messages.specs.declared.fault.EndFault.TheVariants as EndFaults
+use Rattle.spx_units.specs.Cut.{cut_of}
+use Rattle.spx_messages.specs.Changes.{ChangesEnd, SameBut, SameSelf}
+use Rattle.spx_messages.specs.EndpointView.{EndpointView, Held, held_at}
+use Rattle.ipx_carrier.specs.Counting.{raised}
+use Rattle.ipx_site.specs.AllowedPeers.{home_network}
+use Rattle.ipx_wire.specs.declared.address.Address.{Address}
+use Rattle.ipx_wire.specs.declared.address.Network.{Network}
+use Rattle.ipx_host.specs.SessionActions.{ends, is_unheard, phase_asked, phase_heard}
+use Rattle.ipx_host.specs.declared.sessions.Session.{Session}
+use Rattle.ipx_host.specs.declared.sessions.Phase.TheVariants as Standings
+use Rattle.ipx_host.specs.declared.paced_host_core.Accepted.{Accepted}
+use Rattle.ipx_host.specs.declared.paced_host_core.Arrival.{Arrival}
+use Rattle.ipx_host.specs.declared.paced_host_core.Arrival.TheVariants as Cames
+use Rattle.ipx_host.specs.declared.paced_host_core.PacedHostCore.{PacedHostCore}
+
+-- a connection that is heard at a moment
+abbrev pub once_heard : ℕ → Session → Session
+once_heard now c = record c { heard = now; phase = phase_heard c.phase }
+
+-- a datagram of an id is heard: the connection of that id is heard, and no other one
+abbrev pub heard_by : ℕ → ℕ → Session → Session
+heard_by id now c = if c.id == id then once_heard now c else c
+
+-- a connection that was accepted at a moment
+abbrev pub session_of : Accepted → ℕ → Session
+session_of a now = record { id = a.id; from = a.from; heard = now; phase = Standings.New }
+
+-- the link of an id is forgotten, and nothing else changes
+pub record LetsLinkGo (old new : EndpointView) (id : ℕ) : Type 0 where
+  pub gone : held_at new id ≡ None
+  pub others : (q : ℕ) → q ≢ id → held_at new q ≡ held_at old q
+  pub self : SameSelf old new
+  pub heard : new.heard ≡ old.heard
+
+-- two addresses are of one node of one network, for a host of this one
+abbrev pub is_same_node : Network → Address → Address → Bool
+is_same_node own a b = home_network own a == home_network own b && pointwise nat_eq a.node.0 b.node.0
+
+abbrev pub has_spoken : Session → Bool
+has_spoken c = not (is_unheard c.phase)
+
+abbrev pub is_ended : Session → Bool
+is_ended c = ends c.phase
+
+-- a connection was not heard, and is of the node of an address
+abbrev pub is_unheard_of : Network → Address → Session → Bool
+is_unheard_of own from c = is_unheard c.phase && is_same_node own c.from from
+
+-- there is no place at a host of a network for one more from an address: with `once` one was heard; or 16
+-- are held; or 4 of its node were not heard
+abbrev pub HasNoPlaceFor : Bool → Network → Address → List Session → Type 0
+HasNoPlaceFor once own from sessions = (IsTrue once × (list_any has_spoken sessions ≡ true))
+    ⊎ (16 ≤ length sessions) ⊎ (4 ≤ count_by (is_unheard_of own from) sessions)
+
+-- a connection comes: where there is a place it is the last one then, and else its link is let go
+abbrev pub Admits : Bool → Session → EndpointView → EndpointView → List Session → List Session → Type 0
+Admits once c old new sessions sessions' =
+    ((HasNoPlaceFor once old.network c.from sessions → ⊥) × (sessions' ≡ sessions ++ c ∷ []) × (new ≡ old))
+    ⊎ (HasNoPlaceFor once old.network c.from sessions × (sessions' ≡ sessions) × LetsLinkGo old new c.id)
+
+-- the links of connections are forgotten, one after another
+abbrev pub LetsLinksGo : List Session → EndpointView → EndpointView → Type 0
+LetsLinksGo [] old new = new ≡ old
+LetsLinksGo (c ∷ cs) old new = (mid : EndpointView) × LetsLinkGo old mid c.id × LetsLinksGo cs mid new
+
+-- with `once` the first connection that was heard, if one was, stays alone: the others go
+abbrev pub KeepsHeard : Bool → EndpointView → EndpointView → List Session → List Session → Type 0
+KeepsHeard false old new sessions sessions' = (sessions' ≡ sessions) × (new ≡ old)
+KeepsHeard true old new sessions sessions' = MatchOption (position has_spoken sessions)
+    ((sessions' ≡ sessions) × (new ≡ old))
+    (λ place. IfSome (slice_get sessions place) (λ c. sessions' ≡ c ∷ [])
+    × LetsLinksGo (remove sessions place) old new)
+
+-- a connection was not heard, and a second ago or longer it came, or could not be asked
+abbrev pub is_overdue : ℕ → Session → Bool
+is_overdue now c = is_unheard c.phase && nat_le 1000 (now - c.heard)
+
+-- there was no link for one that asked: the first connection that is overdue goes, if one is
+abbrev pub MakesRoom : ℕ → EndpointView → EndpointView → List Session → List Session → Type 0
+MakesRoom now old new sessions sessions' = MatchOption (position (is_overdue now) sessions)
+    ((sessions' ≡ sessions) × (new ≡ old))
+    (λ place. (sessions' ≡ remove sessions place)
+    × IfSome (slice_get sessions place) (λ c. LetsLinkGo old new c.id))
+
+-- a count, one higher where so it is
+abbrev pub raised_if : Bool → ℕ → ℕ
+raised_if more n = if more then raised n else n
+
+-- what a host does of what its core noted: a connection is heard, or one comes, or one makes room
+abbrev pub DoesNoted : Bool → Option Arrival → ℕ → EndpointView → EndpointView → List Session → List Session → Type 0
+DoesNoted once None now old new sessions sessions' = (sessions' ≡ sessions) × (new ≡ old)
+DoesNoted once (Some (Cames.Heard id)) now old new sessions sessions' =
+    KeepsHeard once old new (map (heard_by id now) sessions) sessions'
+DoesNoted once (Some (Cames.Accepted a)) now old new sessions sessions' =
+    Admits once (session_of a now) old new sessions sessions'
+DoesNoted once (Some Cames.NoRoom) now old new sessions sessions' = MakesRoom now old new sessions sessions'
+
+-- it is done of what the core heard last, which is told once
+abbrev pub NotesHeard : Bool → PacedHostCore → PacedHostCore → List Session → List Session → Type 0
+NotesHeard once old new sessions sessions' =
+    (new ≡ record old { endpoint = new.endpoint; came = None })
+    × DoesNoted once old.came old.moment old.endpoint new.endpoint sessions sessions'
+
+-- a connection is asked whether it is there: a message of no bytes is queued on its link
+abbrev pub QueuesNothing : EndpointView → EndpointView → Session → Session → Type 0
+QueuesNothing old new c c' =
+    (h : Held) × (held_at old c.id ≡ Some h) × ChangesEnd old new c.id
+    (record h { link = offer_link h.link (cut_of (record { stream = 0; body = [] })) })
+    × (c' ≡ record c { phase = phase_asked c.phase })
+
+-- so it is, or that is refused, and its silence counts anew
+abbrev pub Asks : ℕ → EndpointView → EndpointView → Session → Session → Type 0
+Asks now old new c c' =
+    QueuesNothing old new c c' ⊎ (SameBut old new × (c' ≡ record c { heard = now }))
+
+-- the link of an id is open, so it takes messages
+abbrev pub TakesMessages : EndpointView → ℕ → Type 0
+TakesMessages e id = (h : Held) × (held_at e id ≡ Some h) × (refusal h.link.state ≡ None)
+
+-- it is asked where its link takes messages, and memory was not refused
+abbrev pub IsAskedUnless : Bool → EndpointView → EndpointView → Session → Session → Type 0
+IsAskedUnless refused old new c c' =
+    TakesMessages old c.id → refused ≡ false → QueuesNothing old new c c'
+
+-- so it is with the connection at a place; and where memory was refused, that is counted
+abbrev pub AsksOrCounts : EndpointView → EndpointView → Session → ℕ → List Session → List Session → ℕ → ℕ → Type 0
+AsksOrCounts old new c place sessions sessions' count count' = (refused : Bool) × (c' : Session)
+    × (sessions' ≡ slice_set sessions place c') × IsAskedUnless refused old new c c'
+    × (count' ≡ raised_if refused count)
+
+-- a message was refused for want of memory
+abbrev pub IsWantOfMemory : EndFault → Type 0
+IsWantOfMemory f = (f ≡ EndFaults.Message MessageFaults.OutOfMemory)
+    ⊎ (f ≡ EndFaults.Offer OfferFaults.OutOfMemory)
+
+-- with `once` a connection that was heard is the only one, and where its end was taken nothing is left to
+-- write
+abbrev pub KeepsOne : Bool → List Session → List ℕ → Type 0
+KeepsOne false sessions left = Unit {0}
+KeepsOne true sessions left = (list_any has_spoken sessions ≡ true → length sessions ≡ 1)
+    × (list_any is_ended sessions ≡ true → left ≡ [])
+
+-- there is one connection, and its end was taken
+abbrev pub EndedAlone : List Session → Type 0
+EndedAlone sessions = (c : Session) × (sessions ≡ c ∷ []) × (c.phase ≡ Standings.Ended)
+
+pub keeps_one_prop : (once : Bool) (sessions : List Session) (left : List ℕ) → IsProp (KeepsOne once sessions left)
+keeps_one_prop false sessions left = Unit-prop
+keeps_one_prop true sessions left = hlevel props

@@ -1,0 +1,66 @@
+-- What is done with a connection that a listening host holds. All of it is own.
+use Rattle.std.specs.Prelude.{◌≡◌, ◌≤◌, ◌<◌, ◌-◌, ℕ, zero, suc, Bool, List, All, take, remove, slice_get, slice_set, Option, Some, None}
+use Rattle.spx_messages.specs.EndpointView.{EndpointView}
+use Rattle.ipx_host.specs.Sessions.{Asks, LetsLinkGo}
+use Rattle.ipx_host.specs.SessionActions.{IsSessionAction}
+use Rattle.ipx_host.specs.ListenOutcomes.{parted}
+use Rattle.ipx_host.specs.Transfer.{state_at}
+use Rattle.ipx_host.specs.declared.sessions.Session.{Session}
+use Rattle.ipx_host.specs.declared.sessions.SessionAction.{SessionAction}
+use Rattle.ipx_host.specs.declared.sessions.SessionAction.TheVariants as Fates
+use Rattle.ipx_host.specs.declared.paced_host_core.PacedHostCore.{PacedHostCore}
+use Rattle.ipx_host.specs.declared.listening.ListenOutcome.{ListenOutcome}
+
+-- what becomes of a connection of a host, by its link and its silence
+abbrev pub IsFateOf : PacedHostCore → Session → SessionAction → Type 0
+IsFateOf core c fate =
+    IsSessionAction fate c.phase (state_at core.endpoint c.id) (core.moment - c.heard)
+
+-- nothing is to be done with a connection
+abbrev pub JustStays : PacedHostCore → Session → Type 0
+JustStays core c = IsFateOf core c Fates.Stays
+
+-- the connection at a place goes, and its link; whether the host stops then, its fate tells
+abbrev pub Parts : Bool → Session → ℕ → SessionAction → EndpointView → EndpointView → List Session → List Session → Option ListenOutcome → Type 0
+Parts once c place fate old new sessions sessions' stop = LetsLinkGo old new c.id
+    × (sessions' ≡ remove sessions place) × (stop ≡ parted once fate c.phase)
+
+-- what is done with the connection at a place, by its fate
+abbrev pub DoesAction : Bool → ℕ → Session → ℕ → SessionAction → EndpointView → EndpointView → List Session → List Session → Option ListenOutcome → Type 0
+DoesAction once now c place Fates.Stays old new sessions sessions' stop =
+    (new ≡ old) × (sessions' ≡ sessions) × (stop ≡ None)
+DoesAction once now c place Fates.Asks old new sessions sessions' stop = (c' : Session)
+    × Asks now old new c c' × (sessions' ≡ slice_set sessions place c') × (stop ≡ None)
+DoesAction once now c place Fates.Over old new sessions sessions' stop =
+    Parts once c place Fates.Over old new sessions sessions' stop
+DoesAction once now c place Fates.GivenUp old new sessions sessions' stop =
+    Parts once c place Fates.GivenUp old new sessions sessions' stop
+
+abbrev pub Tends : Bool → PacedHostCore → Session → ℕ → EndpointView → List Session → List Session → Option ListenOutcome → Type 0
+Tends once core c place new sessions sessions' stop = (fate : SessionAction) × IsFateOf core c fate
+    × DoesAction once core.moment c place fate core.endpoint new sessions sessions' stop
+
+-- one tending: of the first connection that does not just stay
+pub record TendsFirst (once : Bool) (old new : PacedHostCore) (sessions sessions' : List Session)
+    (stop : Option ListenOutcome) : Type 0 where
+  pub place : ℕ
+  pub session : Session
+  pub there : slice_get sessions place ≡ Some session
+  pub first : All (JustStays old) (take place sessions)
+  pub something : JustStays old session → ⊥
+  pub tends : Tends once old session place new.endpoint sessions sessions' stop
+  pub core : new ≡ record old { endpoint = new.endpoint }
+
+-- so many, one after another, none of which stops the host
+abbrev pub TendsOn : ℕ → Bool → PacedHostCore → PacedHostCore → List Session → List Session → Type 0
+TendsOn zero once old new sessions sessions' = (new ≡ old) × (sessions' ≡ sessions)
+TendsOn (suc n) once old new sessions sessions' = (mid : PacedHostCore) × (among : List Session)
+    × TendsOn n once old mid sessions among × TendsFirst once mid new among sessions' None
+
+-- one after another, until all just stay or there were 16; or until one stops the host
+abbrev pub Tidies : Bool → PacedHostCore → PacedHostCore → List Session → List Session → Option ListenOutcome → Type 0
+Tidies once old new sessions sessions' None = (count : ℕ) × (count ≤ 16)
+    × TendsOn count once old new sessions sessions' × (count < 16 → All (JustStays new) sessions')
+Tidies once old new sessions sessions' (Some stop) = (count : ℕ) × (count < 16)
+    × (mid : PacedHostCore) × (among : List Session) × TendsOn count once old mid sessions among
+    × TendsFirst once mid new among sessions' (Some stop)

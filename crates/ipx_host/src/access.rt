@@ -1,0 +1,112 @@
+//! Whom a host hears and sends to.
+
+ghost use Rattle.std.specs.Prelude.{◌≡◌, ◌∷◌, ◌++◌, [], IfOk};
+ghost use Rattle.ipx_site.specs.SitePorts.{access_by, heard_at_port, named};
+ghost use Rattle.ipx_host.specs.Access.{dialed_ip, far_address, guarded_host, is_nowhere, is_on_own_network, known_ips};
+
+use crate::start::StartFault;
+use ipx_carrier::ip_of;
+use ipx_site::{Accept, AccessList, HostConfig};
+use ipx_wire::{Address, Network, Node};
+use std::alloc::Global;
+
+/// The address that the host of a file speaks to: network 0 is the host's own, which answers have as
+/// their source.
+pub fn far_address(file: &HostConfig, to: Address) -> Address
+    ensures { result ≡ far_address file.now to }
+{
+    if to.network == Network::LOCAL {
+        Address {
+            network: file.network,
+            ..to
+        }
+    } else {
+        to
+    }
+}
+
+/// Whether an address is on the host's own network, whose nodes are reached without a router.
+pub fn is_on_own_network(file: &HostConfig, to: Address) -> bool
+    ensures { result ≡ is_on_own_network file.now to }
+{
+    to.network == file.network || to.network == Network::LOCAL
+}
+
+/// Whether nothing goes to an address: on the host's own network to a node that no IP address has.
+pub fn is_nowhere(file: &HostConfig, to: Address) -> bool
+    ensures { result ≡ is_nowhere file.now to }
+{
+    is_on_own_network(file, to) && ip_of(to.node).is_err()
+}
+
+/// Prints that nothing goes to a node of the network of a file's host, and answers the status 2.
+pub fn tell_nowhere<R: Eprint>(rt: &R, path: &str, node: Node) -> u8
+    ensures { result ≡ 2 }
+{
+    let _ = eprintln!(rt; "{path}: node {node} has no IP address, and is none of its network");
+    2
+}
+
+/// The IP address of a node of its own network that a host dials. None where it dials another
+/// network, or a node that has none.
+pub fn dialed_ip(file: &HostConfig, to: Address) -> Option<[u8; 4]>
+    ensures { result ≡ dialed_ip file.now to }
+{
+    if !is_on_own_network(file, to) {
+        return None;
+    }
+    ip_of(to.node).ok()
+}
+
+/// IP addresses, and that of the router behind them.
+fn with_router(alloc: Global, file: &HostConfig, ips: &[[u8; 4]]) -> Result<Vec<[u8; 4]>, StartFault>
+    ensures { IfOk result (λ all. all.items ≡ ips.now ++ file.now.router ∷ []) }
+{
+    let mut all = Vec::from_slice(alloc, ips)?;
+    all.push(file.router)?;
+    Ok(all)
+}
+
+/// Whom a host knows that dials this IP address: its peers, its router, and that one.
+fn known_ips(
+    alloc: Global,
+    file: &HostConfig,
+    dials: Option<[u8; 4]>,
+) -> Result<Vec<[u8; 4]>, StartFault>
+    ensures { IfOk result (λ ips. ips.items ≡ known_ips file.now dials) }
+{
+    let mut ips = with_router(alloc, file, &file.peers)?;
+    if let Some(ip) = dials {
+        ips.push(ip)?;
+    }
+    Ok(ips)
+}
+
+/// Those, or everybody.
+fn heard_ips(
+    alloc: Global,
+    file: &HostConfig,
+    dials: Option<[u8; 4]>,
+) -> Result<Option<Vec<[u8; 4]>>, StartFault>
+    ensures { IfOk result (λ ips. named ips ≡ heard_at_port file.now.accept (known_ips file.now dials)) }
+{
+    match file.accept {
+        Accept::Any => Ok(None),
+        Accept::Peers => Ok(Some(known_ips(alloc, file, dials)?)),
+    }
+}
+
+/// The guard of a host that dials this IP address.
+pub fn access_list_of(alloc: Global, file: &HostConfig, dials: Option<[u8; 4]>) -> Result<AccessList, StartFault>
+    ensures { IfOk result (λ g. access_by g ≡ guarded_host file.now dials) }
+{
+    let sends = heard_ips(alloc, file, dials)?;
+    let hears = heard_ips(alloc, file, dials)?;
+    let routers = with_router(alloc, file, &file.routers)?;
+    Ok(AccessList {
+        network: file.network,
+        sends,
+        hears,
+        routers: Some(routers),
+    })
+}

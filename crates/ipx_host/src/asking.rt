@@ -1,0 +1,48 @@
+//! Which datagrams ask for a connection, and in whose name.
+
+ghost use Rattle.std.specs.Prelude.{◌≡◌, ◌↔◌, IfSome, IsTrue, Some};
+ghost use Rattle.spx_units.specs.WrittenPackets.{IsRequestFor};
+ghost use Rattle.ipx_wire.specs.declared.address.Address.{Address as AnAddress};
+ghost use Rattle.std.specs.List.{list_any};
+ghost use Rattle.ipx_site.specs.AllowedPeers.{is_of};
+ghost use Rattle.ipx_host.specs.Barring.{IsAskedBy};
+
+use ipx_site::AllowedPeer;
+use ipx_wire::{Address, Network, SpxHeader, decode, decode_spx, packet_type};
+
+/// The connection id that stands for none.
+const NO_ID: u16 = 0xffff;
+
+/// The datastream type of the end of a connection.
+const END_STREAM: u8 = 0xfe;
+
+/// Whether a packet of a connection asks for one.
+fn is_request(header: &SpxHeader) -> bool
+    ensures { IsTrue result ↔ IsRequestFor header.now }
+{
+    let names_one = 0 < header.from_id && header.from_id < NO_ID;
+    header.system && header.to_id == NO_ID && header.stream < END_STREAM && names_one
+}
+
+/// The address in whose name bytes ask for a connection, if they do.
+pub fn asker_of(bytes: &[u8]) -> Option<Address>
+    ensures asks { IfSome result (IsAskedBy bytes.now) }
+    ensures only { (a : AnAddress) → IsAskedBy bytes.now a → result ≡ Some a }
+{
+    let packet = decode(bytes).ok()?;
+    if packet.header.kind != packet_type::SPX {
+        return None;
+    }
+    let (header, _) = decode_spx(packet.body).ok()?;
+    if !is_request(&header) {
+        return None;
+    }
+    Some(packet.header.from)
+}
+
+/// Whether an address is one of these, as a host of that network sees it.
+pub fn is_among(origins: &[AllowedPeer], own: Network, address: &Address) -> bool
+    ensures { result ≡ list_any (is_of own address.now) origins.now }
+{
+    origins.iter().any(|origin| origin.has(own, address))
+}

@@ -1,0 +1,98 @@
+//! What a host says of its file, without a socket: `ipx listen --check`.
+
+ghost use Rattle.std.specs.Prelude.{◌≡◌, ◌≤◌, ℕ, List, IfOk, string_bytes};
+ghost use Rattle.std.specs.Io.KnownBytes.{Appends};
+ghost use Rattle.ipx_site.specs.Host.{IsHostText};
+ghost use Rattle.ipx_site.specs.Loading.{IsFileText};
+ghost use Rattle.ipx_site.specs.declared.host.HostConfig.{HostConfig as AHostFile};
+ghost use Rattle.ipx_host.specs.Saying.{host_line, host_lines, listener_text, own_place_text, peers_remarks, router_remark};
+
+use ipx_carrier::node_of;
+use ipx_site::{
+    HostConfig, dotted, load_host, others, peers_to_remarks, reached_to_text, write_checked,
+};
+use std::alloc::{AllocError, Global};
+use std::io::Write;
+use std::rt::Files;
+
+fn own_place_to_text(alloc: Global, file: &HostConfig) -> Result<String, AllocError>
+    ensures { IfOk result (λ t. string_bytes t ≡ own_place_text file.now) }
+{
+    let socket = hex::encode(alloc, file.socket.0.to_be_bytes())?;
+    let network = hex::encode(alloc, file.network.0.to_be_bytes())?;
+    let node = hex::encode(alloc, node_of(file.address).0)?;
+    format!(in alloc; "socket {socket} network {network} node {node}")
+}
+
+/// Where a host listens: `socket .. network .. node .. udp ..`, and ` accept any` where it hears
+/// everybody.
+pub fn listener_to_text(alloc: Global, file: &HostConfig) -> Result<String, AllocError>
+    ensures { IfOk result (λ t. string_bytes t ≡ listener_text file.now) }
+{
+    let place = own_place_to_text(alloc, file)?;
+    let reached = reached_to_text(alloc, file.address, file.udp_port)?;
+    let others = others(file.accept);
+    format!(in alloc; "{place} udp {reached}{others}")
+}
+
+/// What is remarked on the router of a host.
+fn remark_on_router(file: &HostConfig) -> &'static str
+    ensures { result.now ≡ router_remark file.now }
+{
+    if file.router == file.address {
+        "the router is its own address\n"
+    } else {
+        ""
+    }
+}
+
+/// What is remarked on the peers of a host.
+fn remarks_on_peers(alloc: Global, file: &HostConfig) -> Result<String, AllocError>
+    ensures { IfOk result (λ t. string_bytes t ≡ peers_remarks file.now) }
+{
+    peers_to_remarks(alloc, "", file.address, &file.peers)
+}
+
+/// The line of the file itself.
+fn file_to_line(alloc: Global, path: &str, file: &HostConfig) -> Result<String, AllocError>
+    ensures { IfOk result (λ t. string_bytes t ≡ host_line path.now file.now) }
+{
+    let router = dotted(alloc, file.router)?;
+    let buffers = file.buffers;
+    format!(in alloc; "{path}: router {router}, buffers {buffers}\n")
+}
+
+fn host_to_lines(alloc: Global, path: &str, file: &HostConfig) -> Result<String, AllocError>
+    ensures { IfOk result (λ t. string_bytes t ≡ host_lines path.now file.now) }
+{
+    let listener = listener_to_text(alloc, file)?;
+    let remark = remark_on_router(file);
+    let peers = remarks_on_peers(alloc, file)?;
+    let line = file_to_line(alloc, path, file)?;
+    format!(in alloc; "{listener}\n{remark}{peers}{line}")
+}
+
+/// The command `listen --check`: reads the file of a host, and writes the line that it has as it
+/// starts to listen, what is to be remarked, and a line of the file. It opens no socket: no `Net`
+/// comes in.
+///
+/// The answer is the status: 0 where that is written; 1 where memory is refused or the writer
+/// fails; 2 for a fault of the file, which is told as `listen` does, and nothing is written.
+pub fn check_host<R: Files + Eprint, W: Write>(
+    rt: &R,
+    alloc: Global,
+    path: &str,
+    writer: &mut W,
+) -> u8
+    ensures few { result ≤ 2 }
+    // What it writes is of the host that some text describes.
+    ensures lines { result ≡ 0 → (text : List ℕ) × (file : AHostFile)
+        × IsFileText text × IsHostText text file
+        × Appends (W.contents writer.old) (W.contents writer.new) (host_lines path.now file) }
+    ensures untouched { result ≡ 2 → writer.new ≡ writer.old }
+{
+    match load_host(rt, alloc, path) {
+        Ok(file) => write_checked(rt, path, host_to_lines(alloc, path, &file), writer),
+        Err(status) => status,
+    }
+}

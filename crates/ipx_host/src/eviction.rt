@@ -1,0 +1,188 @@
+//! Who keeps a place among the connections of a host that listens, and who goes for others.
+
+ghost use Rattle.std.specs.Prelude.{◌≡◌, ◌↔◌, ◌<◌, ◌≤◌, true, count_by, is_some, length, map, position, vec_capacity, IfSome, IsTrue};
+ghost use Rattle.std.specs.List.{list_any};
+ghost use Rattle.ipx_host.specs.Sessions.{Admits, Asks, IsAskedUnless, HasNoPlaceFor, IsWantOfMemory, KeepsHeard, LetsLinkGo, LetsLinksGo, MakesRoom, heard_by, has_spoken, is_overdue, is_unheard_of, raised_if};
+
+use crate::sessions::{Session, hear_one};
+use ipx_wire::{Address, Network};
+use spx_link::OfferFault;
+use spx_messages::{EndFault, Endpoint, Message};
+use spx_units::MessageFault;
+use std::alloc::Global;
+
+/// The most connections that a host holds.
+pub const MAX_SESSIONS: usize = 16;
+
+/// The most connections of one node of which nothing was heard yet.
+const MAX_UNHEARD: usize = 4;
+
+/// Forgets the link of an id.
+pub fn let_link_go(endpoint: &mut Endpoint, id: u16)
+    ensures { LetsLinkGo endpoint.old endpoint.new id }
+{
+    let _ = endpoint.release(id);
+}
+
+/// Forgets the links of connections.
+fn let_links_go(endpoint: &mut Endpoint, sessions: &[Session])
+    ensures { LetsLinksGo sessions.now endpoint.old endpoint.new }
+{
+    for session in sessions {
+        let_link_go(endpoint, session.id);
+    }
+}
+
+/// Whether a connection was heard.
+fn is_any_heard(sessions: &[Session]) -> bool
+    ensures { result ≡ list_any has_spoken sessions.now }
+{
+    sessions.iter().any(|session| session.is_heard())
+}
+
+/// How many connections of the node of an address are held of which nothing was heard.
+fn count_unheard_of(sessions: &[Session], own: Network, from: &Address) -> usize
+    ensures { result ≡ count_by (is_unheard_of own from.now) sessions.now }
+{
+    sessions
+        .iter()
+        .filter(|session| session.is_unheard_of(own, from))
+        .count()
+}
+
+/// Whether a host of a network lets a connection that comes from an address go at once: with `once`
+/// where one was heard; where 16 are held; and where of its node 4 are, of which nothing was heard.
+fn is_full_on(own: Network, once: bool, sessions: &[Session], from: &Address) -> bool
+    ensures { IsTrue result ↔ HasNoPlaceFor once own from.now sessions.now }
+{
+    if once && is_any_heard(sessions) {
+        return true;
+    }
+    sessions.len() >= MAX_SESSIONS || count_unheard_of(sessions, own, from) >= MAX_UNHEARD
+}
+
+/// Whether the host of an endpoint does.
+fn is_full(endpoint: &Endpoint, once: bool, sessions: &[Session], from: &Address) -> bool
+    ensures { IsTrue result ↔ HasNoPlaceFor once endpoint.now.network from.now sessions.now }
+{
+    is_full_on(endpoint.network(), once, sessions, from)
+}
+
+/// Holds a connection that comes, where there is a place for it. Else its link goes.
+pub fn hold(once: bool, endpoint: &mut Endpoint, sessions: &mut Vec<Session>, session: Session)
+    requires { 16 ≤ vec_capacity sessions.old }
+    ensures admits { Admits once session endpoint.old endpoint.new
+        sessions.old.items sessions.new.items }
+    ensures room { 16 ≤ vec_capacity sessions.new }
+{
+    if is_full(endpoint, once, sessions, &session.from) || sessions.push(session).is_err() {
+        let_link_go(endpoint, session.id);
+    }
+}
+
+/// The place of the first connection that was heard.
+fn place_of_heard(sessions: &[Session]) -> Option<usize>
+    ensures place { result ≡ position has_spoken sessions.now }
+    ensures there { IfSome result (λ place. place < length sessions.now) }
+{
+    sessions.iter().position(|session| session.is_heard())
+}
+
+/// The place of the first connection that is overdue at a moment.
+fn place_of_overdue(sessions: &[Session], moment: u64) -> Option<usize>
+    ensures place { result ≡ position (is_overdue moment) sessions.now }
+    ensures there { IfSome result (λ place. place < length sessions.now) }
+{
+    sessions.iter().position(|session| session.is_overdue(moment))
+}
+
+/// Keeps the first connection that was heard alone, where one was: the others go, and their links.
+fn keep_heard(endpoint: &mut Endpoint, sessions: &mut Vec<Session>)
+    requires { 16 ≤ vec_capacity sessions.old }
+    ensures keeps { KeepsHeard true endpoint.old endpoint.new sessions.old.items sessions.new.items }
+    ensures room { 16 ≤ vec_capacity sessions.new }
+{
+    let Some(place) = place_of_heard(sessions) else {
+        return;
+    };
+    let heard = sessions.remove(place);
+    let_links_go(endpoint, sessions);
+    sessions.clear();
+    let _ = sessions.push(heard);
+}
+
+/// Notes that a connection was heard at a moment. With `once` it stays alone.
+pub fn hear_session(
+    once: bool,
+    endpoint: &mut Endpoint,
+    sessions: &mut Vec<Session>,
+    id: u16,
+    moment: u64,
+)
+    requires { 16 ≤ vec_capacity sessions.old }
+    ensures heard { KeepsHeard once endpoint.old endpoint.new
+        (map (heard_by id moment) sessions.old.items) sessions.new.items }
+    ensures room { 16 ≤ vec_capacity sessions.new }
+{
+    hear_one(sessions, id, moment);
+    if once {
+        keep_heard(endpoint, sessions);
+    }
+}
+
+/// Lets the first connection go that is overdue at a moment, and its link. It answers whether there
+/// was one.
+pub fn make_room(endpoint: &mut Endpoint, sessions: &mut Vec<Session>, moment: u64) -> bool
+    requires { 16 ≤ vec_capacity sessions.old }
+    ensures makes { MakesRoom moment endpoint.old endpoint.new sessions.old.items sessions.new.items }
+    ensures one { result ≡ is_some (position (is_overdue moment) sessions.old.items) }
+    ensures room { 16 ≤ vec_capacity sessions.new }
+{
+    let Some(place) = place_of_overdue(sessions, moment) else {
+        return false;
+    };
+    let session = sessions.remove(place);
+    let_link_go(endpoint, session.id);
+    true
+}
+
+/// A count, one higher where so it is.
+pub fn count_if(more: bool, count: u64) -> u64
+    ensures { result ≡ raised_if more count }
+{
+    if more { count.saturating_add(1) } else { count }
+}
+
+/// Whether a message was refused for want of memory.
+fn is_want_of_memory(fault: EndFault) -> bool
+    ensures { IsTrue result ↔ IsWantOfMemory fault }
+{
+    matches!(
+        fault,
+        EndFault::Message(MessageFault::OutOfMemory) | EndFault::Offer(OfferFault::OutOfMemory)
+    )
+}
+
+/// Asks whether a connection is still there, by a message of no bytes: a peer that is there
+/// acknowledges it, and without one the link is Lost some five seconds later. Where the message is
+/// refused, since memory is or the connection ends, nothing goes out: the silence counts anew, and
+/// it is asked again after it. It answers whether memory was refused.
+pub fn ask(alloc: Global, endpoint: &mut Endpoint, session: &mut Session, moment: u64) -> bool
+    ensures asks { Asks moment endpoint.old endpoint.new session.old session.new }
+    ensures asked { IsAskedUnless result endpoint.old endpoint.new session.old session.new }
+{
+    let nothing = Message {
+        stream: 0,
+        body: Vec::new(alloc),
+    };
+    match endpoint.send(alloc, session.id, &nothing) {
+        Ok(()) => {
+            session.phase = session.phase.asked();
+            false
+        }
+        Err(fault) => {
+            session.heard = moment;
+            is_want_of_memory(fault)
+        }
+    }
+}

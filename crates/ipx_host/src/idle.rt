@@ -1,0 +1,68 @@
+//! What a host that listens has to do with its connections, and how long it has nothing to do,
+//! unless something comes.
+
+ghost use Rattle.std.specs.Prelude.{◌≡◌, ◌<◌, length, slice_get, take, All, IfSome, MatchOption};
+ghost use Rattle.ipx_host.specs.Sleeping.{AllStayFor, StaysFor};
+ghost use Rattle.ipx_host.specs.Tending.{IsFateOf, JustStays};
+ghost use Rattle.ipx_host.specs.declared.sessions.SessionAction.TheVariants as Fates;
+
+use crate::sessions::{FIRST_DATA_TIMEOUT, Session, SessionAction, LINGER, KEEPALIVE_AFTER, Phase, fate_of};
+use crate::paced_host_core::PacedHostCore;
+
+/// The longest wait, in milliseconds.
+const LONG: u64 = 3_600_000;
+
+/// What becomes of a connection of a host by now.
+pub fn fate_in(core: &PacedHostCore, session: &Session) -> SessionAction
+    ensures fate { IsFateOf core.now session.now result }
+    ensures asks { IsFateOf core.now session.now Fates.Asks → result ≡ Fates.Asks }
+{
+    let state = core.endpoint.state(session.id).ok();
+    let silent = core.moment().saturating_sub(session.heard);
+    fate_of(session.phase, state, silent)
+}
+
+/// The place of the first connection that does not just stay.
+pub fn first_to_tend(core: &PacedHostCore, sessions: &[Session]) -> Option<usize>
+    ensures there { IfSome result (λ place. place < length sessions.now) }
+    ensures first { MatchOption result (All (JustStays core.now) sessions.now)
+        (λ place. All (JustStays core.now) (take place sessions.now)
+        × IfSome (slice_get sessions.now place) (λ c. JustStays core.now c → ⊥)) }
+{
+    for (place, session) in sessions.iter().enumerate() {
+        if fate_in(core, session) != SessionAction::Stays {
+            return Some(place);
+        }
+    }
+    None
+}
+
+/// How long a connection just stays, by its silence: none where something is to be done now.
+fn stay_of(core: &PacedHostCore, session: &Session) -> u64
+    ensures { StaysFor core.now session.now result }
+{
+    if fate_in(core, session) != SessionAction::Stays {
+        return 0;
+    }
+    let end = match session.phase {
+        Phase::Open => session.heard.checked_add(KEEPALIVE_AFTER),
+        Phase::New => session.heard.checked_add(FIRST_DATA_TIMEOUT),
+        Phase::KeepaliveSent | Phase::NewProbed => None,
+        Phase::Ended => session.heard.checked_add(LINGER),
+    };
+    match end {
+        Some(end) => end.saturating_sub(core.moment()).min(LONG),
+        None => LONG,
+    }
+}
+
+/// How long there is nothing to do with any connection, in milliseconds: an hour at most.
+pub fn rest_of(core: &PacedHostCore, sessions: &[Session]) -> u64
+    ensures { AllStayFor core.now sessions.now result }
+{
+    let mut least = LONG;
+    for session in sessions {
+        least = least.min(stay_of(core, session));
+    }
+    least
+}

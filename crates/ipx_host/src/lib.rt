@@ -1,0 +1,40 @@
+//! The hosts that one runs at a site: one that listens, `ipx listen`, and one that sends, `ipx
+//! send`.
+//!
+//! [`do_listen`] takes connections and writes the messages that come. [`do_send`] asks for one, and
+//! sends what it reads. Each runs by the file of a host until it is over. [`check_host`] says what
+//! stands in such a file.
+#![tactic(auto)]
+
+mod asking;
+mod sessions;
+mod checking;
+mod access;
+mod paced_host_core;
+mod readiness_gate;
+mod handing;
+mod ids;
+mod input;
+mod eviction;
+mod acked_bytes;
+mod listen;
+mod listening;
+mod output;
+mod pacing;
+mod idle;
+mod room;
+mod running_host;
+mod send;
+mod send_outcome;
+mod sending;
+mod start;
+mod taking;
+mod target;
+mod telling;
+mod serving;
+
+pub use checking::check_host;
+pub use access::{far_address, is_nowhere, is_on_own_network, tell_nowhere};
+pub use listen::do_listen;
+pub use send::do_send;
+pub use target::{Target, TargetFault};

@@ -1,0 +1,114 @@
+//! The command `listen`: a host that takes connections, and writes the messages that come.
+
+ghost use Rattle.std.specs.Prelude.{◌≡◌, ◌<◌, ◌≤◌, ℕ, List, IfErr, IfOk, IsTrue, OnErr, OnOk, Err, Ok};
+ghost use Rattle.ipx_carrier.specs.Turns.{peers_of};
+ghost use Rattle.ipx_site.specs.Host.{IsHostText};
+ghost use Rattle.ipx_site.specs.Loading.{IsFileText};
+ghost use Rattle.ipx_site.specs.Steady.{NeverGoesBack};
+ghost use Rattle.ipx_site.specs.declared.host.HostConfig.{HostConfig as AHostFile};
+ghost use Rattle.ipx_site.specs.declared.clock.SteadyClock.{SteadyClock};
+ghost use Rattle.ipx_host.specs.Hosting.{ListensWell, ServesWell};
+ghost use Rattle.ipx_host.specs.Midway.{listening_at};
+
+use crate::checking::listener_to_text;
+use crate::listening::ListeningHost;
+use crate::start::{StartFault, tell_start};
+use ipx_site::{HostConfig, load_host};
+use log::{Log, info};
+use std::alloc::Global;
+use std::io::Write;
+use std::net::Net;
+use std::rt::{Clock, Files};
+
+/// Logs where a host listens.
+fn tell_place<R: Log>(rt: &R, alloc: Global, file: &HostConfig) -> Result<(), StartFault> {
+    let place = listener_to_text(alloc, file)?;
+    info!(rt; target: "ipx", "{place}");
+    Ok(())
+}
+
+/// Runs a host that was started, and answers its status. Why one was not is told, and is 1.
+fn run_listening<R: Net + Log + Clock + Eprint, W: Write>(
+    rt: &R,
+    alloc: Global,
+    path: &str,
+    file: &HostConfig,
+    started: Result<ListeningHost<'_, R>, StartFault>,
+    writer: &mut W,
+) -> u8
+    ensures unstarted { OnErr started.entry ((result ≡ 1) × (writer.new ≡ writer.old)) }
+    // Where it ends well, the writer took the bodies that the takes gave, one behind the other.
+    ensures well { result ≡ 0 → IfOk started.entry (λ l. (bytes : List ℕ) × ServesWell
+        (listening_at l (W.contents writer.old))
+        l.sessions.once (W.contents writer.new)
+        NeverGoesBack (peers_of l.station.host_socket.peers.items) bytes) }
+    ensures few { result ≤ 1 }
+    ensures once { result ≡ 0 → IfOk started.entry (λ l. IsTrue l.sessions.once) }
+{
+    let mut listening = match started {
+        Ok(listening) => listening,
+        Err(fault) => return tell_start(rt, path, fault),
+    };
+    match tell_place(rt, alloc, file) {
+        Ok(()) => listening.finish(rt, alloc, writer),
+        Err(fault) => tell_start(rt, path, fault),
+    }
+}
+
+/// Runs the host of a file that was loaded. The status of one that was not is passed on.
+fn listen_by<R: Net + Log + Clock + Eprint, W: Write>(
+    rt: &R,
+    alloc: Global,
+    path: &str,
+    loaded: Result<HostConfig, u8>,
+    once: bool,
+    writer: &mut W,
+) -> u8
+    ensures unloaded { IfErr loaded (λ status. (result ≡ status) × (writer.new ≡ writer.old)) }
+    ensures few { OnOk loaded (result ≤ 1) }
+    // Without `once` a host that was loaded never ends well.
+    ensures once { OnOk loaded (result ≡ 0 → IsTrue once) }
+    // Where it ends well, the host of the file has run, and its writer took the bodies that the
+    // takes gave, one behind the other.
+    ensures well { IfOk loaded (λ file. result ≡ 0 → ListensWell {K = SteadyClock R} file once
+        (W.contents writer.old) (W.contents writer.new) NeverGoesBack) }
+{
+    let file = match loaded {
+        Ok(file) => file,
+        Err(status) => return status,
+    };
+    let started = ListeningHost::open(rt, alloc, &file, once);
+    run_listening(rt, alloc, path, &file, started, writer)
+}
+
+/// The command `listen`: runs the host of a file, takes connections at its socket, and writes the
+/// bytes of each message when it is whole, with nothing between them. It goes on until it is ended,
+/// or with `once` until three seconds after the end of the first connection that is heard: the others
+/// are let go then, later ones as they come, and nothing of them is written.
+///
+/// The answer is the status: 0 where the end of that connection came; 1 where that connection was
+/// lost, the writer failed, the socket can't be had or memory for the start is refused; 2 for a
+/// fault of the file. What is wrong is a line on standard error.
+pub fn do_listen<R: Net + Log + Files + Clock + Eprint, W: Write>(
+    rt: &R,
+    alloc: Global,
+    path: &str,
+    once: bool,
+    writer: &mut W,
+) -> u8
+    ensures few { result ≤ 2 }
+    // Without `once` it never ends well.
+    ensures once { result ≡ 0 → IsTrue once }
+    // Where it ends well, a host as some text of a file says it has run, from no connection and
+    // nothing to write, and its writer took the bodies of the messages that were taken, one behind
+    // the other, and nothing else.
+    ensures well { result ≡ 0 → (text : List ℕ) × (file : AHostFile)
+        × IsFileText text × IsHostText text file
+        × ListensWell {K = SteadyClock R} file once (W.contents writer.old) (W.contents writer.new)
+        NeverGoesBack }
+    // For a fault of the file nothing is written.
+    ensures untouched { result ≡ 2 → writer.new ≡ writer.old }
+{
+    let loaded = load_host(rt, alloc, path);
+    listen_by(rt, alloc, path, loaded, once, writer)
+}

@@ -1,0 +1,279 @@
+//! A host that listens: its steps, and how it comes to stop.
+
+ghost use Rattle.std.specs.Prelude.{◌≡◌, ◌≢◌, ◌<◌, ◌≤◌, ◌∷◌, ◌++◌, [], ℕ, List, IfOk, IsTrue, None, Some, Err, Ok, map};
+ghost use Rattle.ipx_carrier.specs.Mapping.{node_at};
+ghost use Rattle.ipx_carrier.specs.Turns.{peers_of};
+ghost use Rattle.ipx_site.specs.AllowedPeers.{named_in};
+ghost use Rattle.ipx_site.specs.SourceFilter.{kept_in};
+ghost use Rattle.ipx_site.specs.SitePorts.{access_by};
+ghost use Rattle.ipx_site.specs.Steady.{NeverGoesBack};
+ghost use Rattle.ipx_wire.specs.declared.address.Socket.{Socket};
+ghost use Rattle.spx_messages.specs.EndpointView.{buffers_at, held_at};
+ghost use Rattle.ipx_host.specs.Access.{guarded_host};
+ghost use Rattle.ipx_host.specs.Hosting.{HearsAndNotesAll, Serves, StepsTo};
+ghost use Rattle.ipx_host.specs.HostOutput.{Writes, left_of};
+ghost use Rattle.ipx_host.specs.Sleeping.{MayRest};
+ghost use Rattle.ipx_host.specs.ListenOutcomes.{stop_in, stop_status};
+ghost use Rattle.ipx_host.specs.declared.listening.ListenOutcome.{ListenOutcome as AStop};
+ghost use Rattle.ipx_host.specs.declared.listening.ListenOutcome.TheVariants as Stops;
+
+use crate::readiness_gate::Gate;
+use crate::output::WriteFault;
+use crate::idle::rest_of;
+use crate::running_host::{Activity, RunningHost};
+use crate::start::StartFault;
+use crate::serving::Sessions;
+use ipx_site::{HostConfig, WaitFault};
+use log::Log;
+use mio::Interest;
+use std::alloc::Global;
+use std::io::Write;
+use std::net::Net;
+use std::os::fd::RawFd;
+use std::rt::Clock;
+
+/// The descriptor of standard output.
+const STDOUT: RawFd = 1;
+
+/// Why a listening host ends.
+#[derive(Clone, Copy, Debug)]
+pub enum ListenOutcome {
+    /// The end of the first connection that was heard came.
+    Ended,
+    /// That connection was lost.
+    Lost,
+    /// Standard output can't be written.
+    Unwritten,
+    /// The system can't wait for the socket.
+    Unwaited,
+}
+
+impl From<WriteFault> for ListenOutcome {
+    ghost use Rattle.std.specs.Prelude.{◌≡◌};
+    ghost use Rattle.ipx_host.specs.declared.listening.ListenOutcome.TheVariants.{Unwritten};
+
+    ghost from_gives = { λ _ e. e ≡ Unwritten };
+
+    fn from(_fault: WriteFault) -> ListenOutcome {
+        ListenOutcome::Unwritten
+    }
+}
+
+impl From<WaitFault> for ListenOutcome {
+    ghost use Rattle.std.specs.Prelude.{◌≡◌};
+    ghost use Rattle.ipx_host.specs.declared.listening.ListenOutcome.TheVariants.{Unwaited};
+
+    ghost from_gives = { λ _ e. e ≡ Unwaited };
+
+    fn from(_fault: WaitFault) -> ListenOutcome {
+        ListenOutcome::Unwaited
+    }
+}
+
+/// A host that listens.
+pub struct ListeningHost<'a, R: Clock> {
+    pub station: RunningHost<'a, R>,
+    pub sessions: Sessions,
+}
+
+impl<'a, R: Clock> Drop for ListeningHost<'a, R> {
+    fn drop(self) {
+        let ListeningHost {
+            station: _,
+            sessions: _,
+        } = self;
+    }
+}
+
+impl<'a, R: Net + Log + Clock> ListeningHost<'a, R> {
+    ghost use Rattle.ipx_host.specs.Midway.{listening_at};
+
+    /// A host that listens at the socket of its file. It holds no connection yet.
+    pub fn open(
+        rt: &'a R,
+        alloc: Global,
+        file: &HostConfig,
+        once: bool,
+    ) -> Result<ListeningHost<'a, R>, StartFault>
+        ensures nobody { IfOk result (λ l. l.sessions.held.items ≡ []) }
+        ensures nothing { IfOk result (λ l. left_of l.sessions.output ≡ []) }
+        ensures once { IfOk result (λ l. l.sessions.once ≡ once) }
+        // It listens at the socket of its file, with the buffers of it, and nowhere else.
+        ensures listens { IfOk result (λ l.
+            buffers_at l.station.core.endpoint file.now.socket ≡ Some file.now.buffers) }
+        ensures alone { IfOk result (λ l. (socket : Socket) → socket.0 ≢ file.now.socket.0
+            → buffers_at l.station.core.endpoint socket ≡ None) }
+        ensures network { IfOk result (λ l.
+            l.station.core.endpoint.network ≡ file.now.network) }
+        ensures node { IfOk result (λ l.
+            l.station.core.endpoint.node ≡ node_at file.now.address) }
+        ensures router { IfOk result (λ l.
+            l.station.core.endpoint.router ≡ node_at file.now.router) }
+        ensures links { IfOk result (λ l. (id : ℕ) → held_at l.station.core.endpoint id ≡ None) }
+        ensures accepted { IfOk result (λ l. l.station.core.came ≡ None) }
+        ensures unpaced { IfOk result (λ l. l.station.core.paced ≡ None) }
+        // Who may ask it for a connection, its file says.
+        ensures from { IfOk result (λ l.
+            named_in l.station.core.from ≡ named_in file.now.from) }
+        ensures own { IfOk result (λ l. l.station.core.network ≡ file.now.network) }
+        ensures peers { IfOk result (λ l.
+            peers_of l.station.host_socket.peers.items ≡ (file.now.router ∷ []) ∷ []) }
+        // Whom it hears and sends to, its file says.
+        ensures access_list { IfOk result (λ l.
+            map access_by l.station.host_socket.device.access_lists.items ≡ guarded_host file.now None ∷ []) }
+    {
+        let mut station = RunningHost::open(rt, alloc, file, None)?;
+        station
+            .core
+            .endpoint
+            .listen(alloc, file.socket, file.buffers)?;
+        let gate = Gate::new(rt, alloc, STDOUT, Interest::WRITABLE);
+        station.watch(gate.fd());
+        Ok(ListeningHost {
+            station,
+            sessions: Sessions::new(alloc, gate, once)?,
+        })
+    }
+
+    /// Takes a turn, and notes the datagram that it heard.
+    fn hear(&mut self, rt: &R, alloc: Global) -> Activity
+        // Behind what was kept back more may lie.
+        ensures kept { kept_in self.old.station.host_socket.device.kept
+            < kept_in self.new.station.host_socket.device.kept → IsTrue result.active }
+        ensures hears { HearsAndNotesAll self.old.station.clock self.new.station.clock
+            self.old.station.core self.new.station.core
+            self.old.sessions.held.items self.new.sessions.held.items self.old.sessions.once
+            NeverGoesBack (peers_of self.old.station.host_socket.peers.items) }
+        ensures peers { self.new.station.host_socket.peers ≡ self.old.station.host_socket.peers }
+        ensures access { map access_by self.new.station.host_socket.device.access_lists.items
+            ≡ map access_by self.old.station.host_socket.device.access_lists.items }
+        ensures poller { self.new.station.poller ≡ self.old.station.poller }
+        ensures output { self.new.sessions.output ≡ self.old.sessions.output }
+        ensures once { self.new.sessions.once ≡ self.old.sessions.once }
+    {
+        let turn = self.station.turn(rt, alloc);
+        self.sessions.tell_silent(rt, self.station.moment());
+        if turn.heard {
+            self.sessions.note(&mut self.station.core);
+        }
+        turn
+    }
+
+    /// Takes a turn, and all that came. It answers whether there may be more to do at once.
+    fn step<W: Write>(
+        &mut self,
+        rt: &R,
+        alloc: Global,
+        writer: &mut W,
+    ) -> Result<bool, ListenOutcome>
+        // Behind what was kept back more may lie.
+        ensures kept { kept_in self.old.station.host_socket.device.kept
+            < kept_in self.new.station.host_socket.device.kept → IfOk result IsTrue }
+        ensures steps { (bytes : List ℕ) × StepsTo (listening_at self.old (W.contents writer.old))
+            (listening_at self.new (W.contents writer.new))
+            self.old.sessions.once (stop_in result)
+            NeverGoesBack (peers_of self.old.station.host_socket.peers.items) bytes }
+        ensures peers { self.new.station.host_socket.peers ≡ self.old.station.host_socket.peers }
+        ensures access { map access_by self.new.station.host_socket.device.access_lists.items
+            ≡ map access_by self.old.station.host_socket.device.access_lists.items }
+        ensures poller { self.new.station.poller ≡ self.old.station.poller }
+        ensures written { result ≡ Err Stops.Ended
+            → IsTrue self.new.sessions.once × (left_of self.new.sessions.output ≡ []) }
+        ensures once { self.new.sessions.once ≡ self.old.sessions.once }
+    {
+        let turn = self.hear(rt, alloc);
+        let moved = self.sessions.pass(alloc, &mut self.station.core, writer)?;
+        self.sessions.reap(rt, alloc, &mut self.station)?;
+        Ok(turn.active | moved)
+    }
+
+    /// Takes a turn, and waits where there is nothing to do.
+    fn step_or_wait<W: Write>(
+        &mut self,
+        rt: &R,
+        alloc: Global,
+        writer: &mut W,
+    ) -> Result<(), ListenOutcome>
+        // Behind what was kept back more may lie: it does not wait.
+        ensures kept { kept_in self.old.station.host_socket.device.kept
+            < kept_in self.new.station.host_socket.device.kept →
+            self.new.station.poller.asked ≡ self.old.station.poller.asked }
+        ensures steps { (bytes : List ℕ) × StepsTo (listening_at self.old (W.contents writer.old))
+            (listening_at self.new (W.contents writer.new))
+            self.old.sessions.once (stop_in result)
+            NeverGoesBack (peers_of self.old.station.host_socket.peers.items) bytes }
+        ensures peers { self.new.station.host_socket.peers ≡ self.old.station.host_socket.peers }
+        ensures access { map access_by self.new.station.host_socket.device.access_lists.items
+            ≡ map access_by self.old.station.host_socket.device.access_lists.items }
+        // It waits only as long as no link has anything to do and each connection just stays.
+        ensures rests { MayRest self.new.station.core self.new.sessions.held.items
+            self.old.station.poller.asked self.new.station.poller.asked }
+        ensures written { result ≡ Err Stops.Ended
+            → IsTrue self.new.sessions.once × (left_of self.new.sessions.output ≡ []) }
+        ensures once { self.new.sessions.once ≡ self.old.sessions.once }
+    {
+        if !self.step(rt, alloc, writer)? {
+            let rest = rest_of(&self.station.core, &self.sessions.held);
+            self.station.wait(rest)?;
+        }
+        Ok(())
+    }
+
+    /// Runs until it is to end.
+    fn serve<W: Write>(&mut self, rt: &R, alloc: Global, writer: &mut W) -> ListenOutcome
+        // What was left to write, and then the bodies that the takes gave, are what the writer
+        // took, and then what is left to write: also from one step to the next.
+        ensures serves { (bytes : List ℕ) × Serves (listening_at self.old (W.contents writer.old))
+            (listening_at self.new (W.contents writer.new))
+            self.old.sessions.once result
+            NeverGoesBack (peers_of self.old.station.host_socket.peers.items) bytes
+            × Writes (left_of self.old.sessions.output ++ bytes) (left_of self.new.sessions.output)
+            (W.contents writer.old) (W.contents writer.new) }
+        ensures written { result ≡ Stops.Ended
+            → IsTrue self.new.sessions.once × (left_of self.new.sessions.output ≡ []) }
+        ensures once { self.new.sessions.once ≡ self.old.sessions.once }
+    {
+        for _step in 0..u64::MAX {
+            if let Err(stop) = self.step_or_wait(rt, alloc, writer) {
+                return stop;
+            }
+        }
+        ListenOutcome::Lost
+    }
+}
+
+impl<'a, R: Net + Log + Clock + Eprint> ListeningHost<'a, R> {
+    ghost use Rattle.ipx_host.specs.Midway.{listening_at};
+
+    /// Runs until it is to end, prints why it ends, and answers the status: 0 only with `once`, and
+    /// where all that was taken is written.
+    pub fn finish<W: Write>(&mut self, rt: &R, alloc: Global, writer: &mut W) -> u8
+        ensures serves { (stop : AStop) × (result ≡ stop_status stop) × (bytes : List ℕ) × Serves
+            (listening_at self.old (W.contents writer.old))
+            (listening_at self.new (W.contents writer.new))
+            self.old.sessions.once stop
+            NeverGoesBack (peers_of self.old.station.host_socket.peers.items) bytes
+            × Writes (left_of self.old.sessions.output ++ bytes) (left_of self.new.sessions.output)
+            (W.contents writer.old) (W.contents writer.new) }
+        ensures written { result ≡ 0
+            → IsTrue self.new.sessions.once × (left_of self.new.sessions.output ≡ []) }
+        ensures few { result ≤ 1 }
+        ensures once { self.new.sessions.once ≡ self.old.sessions.once }
+    {
+        let stopped = self.serve(rt, alloc, writer);
+        tell_stop(rt, stopped)
+    }
+}
+
+/// Prints why a host stopped, where that is to be said, and answers its status.
+fn tell_stop<R: Eprint>(rt: &R, stopped: ListenOutcome) -> u8
+    ensures { result ≡ stop_status stopped }
+{
+    let _ = match stopped {
+        ListenOutcome::Ended => return 0,
+        ListenOutcome::Lost => return 1,
+        ListenOutcome::Unwritten => eprintln!(rt; "standard output can't be written"),
+        ListenOutcome::Unwaited => eprintln!(rt; "the system can't wait for the socket"),
+    };
+    1
+}

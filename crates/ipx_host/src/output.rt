@@ -1,0 +1,100 @@
+//! Messages on their way out.
+
+ghost use Rattle.std.specs.Prelude.{◌≡◌, ◌≤◌, ◌<◌, ◌↔◌, IfOk, IsTrue, [], length};
+
+use crate::readiness_gate::Gate;
+use std::alloc::Global;
+use std::io::{ErrorKind, Write};
+
+/// The most bytes that one write takes: a pipe that is writable takes so many without waiting.
+const PIECE: usize = 4096;
+
+/// The most pieces that are written before the network is asked again.
+const MAX_PIECES: u32 = 64;
+
+/// A writer could not write.
+#[derive(Clone, Copy, Debug)]
+pub struct WriteFault;
+
+/// The bytes of a message, of which the first are written. A slow reader behind the writer stops
+/// no turn: what is left waits here.
+#[derive(Drop)]
+pub struct Outlet {
+    gate: Gate,
+    bytes: Vec<u8>,
+    written: usize,
+    ghost within: { written ≤ length bytes.items },
+}
+
+impl Outlet {
+    ghost use Rattle.ipx_host.specs.HostOutput.{Writes, left_of};
+
+    /// An outlet that holds nothing, for a writer behind this gate.
+    pub fn new(alloc: Global, gate: Gate) -> Outlet
+        ensures { left_of result ≡ [] }
+    {
+        Outlet {
+            gate,
+            bytes: Vec::new(alloc),
+            written: 0,
+        }
+    }
+
+    /// Whether all that was put in is written.
+    pub fn is_empty(&self) -> bool
+        ensures { IsTrue result ↔ (left_of self.now ≡ []) }
+    {
+        self.written == self.bytes.len()
+    }
+
+    /// Puts in the bytes of a message. What was there before is written already, or lost.
+    pub fn put(&mut self, bytes: Vec<u8>)
+        ensures { left_of self.new ≡ bytes.items }
+    {
+        self.written = 0;
+        self.bytes = bytes;
+    }
+
+    /// Writes what the writer takes without waiting. It answers whether it wrote anything.
+    pub fn write<W: Write>(&mut self, writer: &mut W) -> Result<bool, WriteFault>
+        // So it is where the writer fails, too: the first bytes of what was left are written then.
+        ensures writes { Writes (left_of self.old) (left_of self.new)
+            (W.contents writer.old) (W.contents writer.new) }
+        ensures wrote { IfOk result (λ wrote. IsTrue wrote
+            ↔ (length (left_of self.new) < length (left_of self.old))) }
+    {
+        let mut wrote = false;
+        for _ in 0..MAX_PIECES {
+            if self.is_empty() || !self.gate.is_open() {
+                break;
+            }
+            wrote |= self.write_piece(writer)?;
+        }
+        Ok(wrote)
+    }
+
+    /// Writes one piece. It answers whether anything was written.
+    fn write_piece<W: Write>(&mut self, writer: &mut W) -> Result<bool, WriteFault>
+        ensures writes { Writes (left_of self.old) (left_of self.new)
+            (W.contents writer.old) (W.contents writer.new) }
+        ensures wrote { IfOk result (λ wrote. IsTrue wrote
+            ↔ (length (left_of self.new) < length (left_of self.old))) }
+    {
+        let rest = &self.bytes[self.written..];
+        let piece = &rest[..rest.len().min(PIECE)];
+        match writer.write(piece) {
+            Ok(0) => Err(WriteFault),
+            Ok(count) => {
+                self.written += count;
+                self.gate.pass();
+                Ok(true)
+            }
+            Err(error) if error.kind() == ErrorKind::Interrupted => Ok(false),
+            Err(error) if error.kind() == ErrorKind::WouldBlock => {
+                self.gate.pass();
+                Ok(false)
+            }
+            Err(_) => Err(WriteFault),
+        }
+    }
+}

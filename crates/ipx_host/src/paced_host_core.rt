@@ -1,0 +1,269 @@
+//! The core of a host that one runs.
+
+ghost use Rattle.std.specs.Prelude.{◌≡◌, ◌↔◌, ◌-◌, ℕ, IfOk, IfSome, IsNone, IsTrue, None, OnErr, OnOk, Some, min};
+ghost use Rattle.ipx_wire.specs.Ipx.{BeginsWith, PacketView};
+ghost use Rattle.spx_messages.specs.Arrives.{Arrives};
+ghost use Rattle.spx_messages.specs.EndpointView.{EndpointView};
+ghost use Rattle.spx_messages.specs.declared.arrived.Arrived.TheVariants as Arriveds;
+ghost use Rattle.spx_congestion.specs.Pacing.{made_pacer};
+ghost use Rattle.ipx_site.specs.AllowedPeers.{may_ask as may_be_asked_by, named_in};
+ghost use Rattle.ipx_host.specs.Barring.{IsBarred};
+ghost use Rattle.ipx_host.specs.Noting.{Notes};
+ghost use Rattle.ipx_host.specs.Sleeping.{IsSleep};
+
+use crate::asking::{asker_of, is_among};
+use crate::pacing::{Paced, due_of, note_datagram, note_poll, numbers_of, plan};
+use ipx_carrier::{Core, saturating_increment};
+use ipx_site::AllowedPeer;
+use ipx_wire::{Address, Network, Node, OutOfMemory, decode};
+use spx_messages::{Arrived, Endpoint};
+use std::alloc::{AllocError, Global};
+
+/// A connection that was accepted: its id, and the address that asked for it.
+#[derive(Clone, Copy, Debug)]
+pub struct Accepted {
+    pub id: u16,
+    pub from: Address,
+}
+
+/// What came with a datagram.
+#[derive(Clone, Copy, Debug)]
+pub enum Arrival {
+    /// The link of this id read it.
+    Heard(u16),
+    /// It made a connection.
+    Accepted(Accepted),
+    /// It asked for one, and no link was free.
+    NoRoom,
+}
+
+/// A host of one port, as `HostCore` of the carrier is, that says who may ask it for a connection.
+/// It keeps what came last, and the moment at which it was called last. The connection that it paces
+/// goes by hand, as its pacer plans.
+pub struct PacedHostCore {
+    pub endpoint: Endpoint,
+    /// The network that it is on.
+    network: Network,
+    /// Who may ask it. None stands for everybody.
+    from: Option<Vec<AllowedPeer>>,
+    came: Option<Arrival>,
+    /// The connection that is paced, if one is.
+    paced: Option<Paced>,
+    /// The requests of those who may not ask.
+    rejected: u64,
+    moment: u64,
+}
+
+impl Drop for PacedHostCore {
+    fn drop(self) {
+        let PacedHostCore {
+            endpoint: _,
+            network: _,
+            from: _,
+            came: _,
+            paced: _,
+            rejected: _,
+            moment: _,
+        } = self;
+    }
+}
+
+/// How long it is till a moment, and no longer than `most`, in milliseconds.
+fn till(now: u64, due: Option<u64>, most: u64) -> u64
+    ensures none { IsNone due → result ≡ most }
+    ensures some { IfSome due (λ due. result ≡ min most (due - now)) }
+{
+    match due {
+        Some(due) => due.saturating_sub(now).min(most),
+        None => most,
+    }
+}
+
+/// A copy of who may ask.
+pub fn copy_origins(
+    alloc: Global,
+    from: &Option<Vec<AllowedPeer>>,
+) -> Result<Option<Vec<AllowedPeer>>, AllocError>
+    ensures { IfOk result (λ copy. named_in copy ≡ named_in from.now) }
+{
+    match from {
+        Some(origins) => Ok(Some(Vec::from_slice(alloc, origins)?)),
+        None => Ok(None),
+    }
+}
+
+/// The address that a packet is from.
+fn sender_of(bytes: &[u8]) -> Option<Address>
+    ensures { (p : PacketView) → BeginsWith bytes.now p → result ≡ Some p.header.from }
+{
+    match decode(bytes) {
+        Ok(packet) => Some(packet.header.from),
+        Err(_) => None,
+    }
+}
+
+/// The connection that a datagram made.
+fn accepted_by(id: u16, bytes: &[u8]) -> Option<Arrival>
+    // Of a datagram that an endpoint answered so.
+    ensures { (old new : EndpointView) (now : ℕ)
+        → Arrives old bytes.now now (Arriveds.Accepted id) new
+        → Notes (Arriveds.Accepted id) new.heard bytes.now result }
+{
+    let from = sender_of(bytes)?;
+    Some(Arrival::Accepted(Accepted { id, from }))
+}
+
+impl PacedHostCore {
+    /// The core of an endpoint on a network, and who may ask it.
+    pub fn new(endpoint: Endpoint, network: Network, from: Option<Vec<AllowedPeer>>) -> PacedHostCore
+        ensures endpoint { result.endpoint ≡ endpoint }
+        ensures network { result.network ≡ network }
+        ensures from { result.from ≡ from }
+        ensures nobody { result.came ≡ None }
+        ensures unpaced { result.paced ≡ None }
+    {
+        PacedHostCore {
+            endpoint,
+            network,
+            from,
+            came: None,
+            paced: None,
+            rejected: 0,
+            moment: 0,
+        }
+    }
+
+    /// The connection of this id is paced from now on. It is refused only for want of memory.
+    pub fn pace(&mut self, alloc: Global, id: u16) -> Result<(), OutOfMemory>
+        ensures paced { OnOk result (self.new ≡ record self.old {
+          paced = Some (record { id = id; pacer = made_pacer });
+        }) }
+        ensures unchanged { OnErr result (self.new ≡ self.old) }
+    {
+        self.paced = Some(Paced::new(alloc, id)?);
+        Ok(())
+    }
+
+    /// How long there is nothing to do by itself, and no longer than `most`, in milliseconds: no link
+    /// has anything to send, and no pacer to plan.
+    pub fn sleep(&self, most: u64) -> u64
+        ensures { IsSleep self.now most result }
+    {
+        let links = till(self.moment, self.endpoint.next_due(), most);
+        links.min(till(self.moment, due_of(&self.paced, self.moment), most))
+    }
+
+    /// The moment of the last turn, in milliseconds.
+    pub fn moment(&self) -> u64
+        ensures { result ≡ self.now.moment }
+    {
+        self.moment
+    }
+
+    /// How many requests came of those who may not ask.
+    pub fn rejected(&self) -> u64
+        ensures { result ≡ self.now.rejected }
+    {
+        self.rejected
+    }
+
+    /// What came with the last datagram, told once.
+    pub fn take_came(&mut self) -> Option<Arrival>
+        ensures told { result ≡ self.old.came }
+        ensures once { self.new ≡ record self.old { came = None } }
+    {
+        self.came.take()
+    }
+
+    /// Whether an address may ask for a connection.
+    fn may_ask(&self, from: &Address) -> bool
+        ensures { result ≡ may_be_asked_by (named_in self.now.from) self.now.network from.now }
+    {
+        match &self.from {
+            Some(origins) => is_among(origins, self.network, from),
+            None => true,
+        }
+    }
+
+    /// Whether bytes are a request of one who may not ask.
+    fn bars(&self, bytes: &[u8]) -> bool
+        ensures { IsTrue result ↔ IsBarred self.now bytes.now }
+    {
+        match asker_of(bytes) {
+            Some(from) => !self.may_ask(&from),
+            None => false,
+        }
+    }
+
+    /// What came with a datagram that the endpoint answered so.
+    fn came_of(&self, arrived: Arrived, bytes: &[u8]) -> Option<Arrival>
+        ensures { (old : EndpointView) (now : ℕ)
+            → Arrives old bytes.now now arrived self.now.endpoint
+            → Notes arrived self.now.endpoint.heard bytes.now result }
+    {
+        match arrived {
+            Arrived::Accepted(id) => accepted_by(id, bytes),
+            Arrived::NoRoom => Some(Arrival::NoRoom),
+            Arrived::Link(_, _) => self.endpoint.heard().map(Arrival::Heard),
+            _ => None,
+        }
+    }
+}
+
+impl Core for PacedHostCore {
+    ghost use Rattle.std.specs.Prelude.{◌≡◌};
+    ghost use Rattle.ipx_carrier.specs.HostCore.{Misses};
+    ghost use Rattle.ipx_host.specs.Barring.{HearsAllowed};
+    ghost use Rattle.ipx_host.specs.Paced.{GivesAsPlanned};
+
+    ghost port_count = { λ c. 1 };
+
+    ghost hears = { λ old port bytes now new. HearsAllowed old bytes now new };
+
+    ghost gives = { λ old now given new. GivesAsPlanned old now given new };
+
+    ghost hear_out_of_memory = { λ old port bytes now new. Misses old.endpoint bytes new.endpoint
+        × (new ≡ record old { endpoint = new.endpoint; moment = now }) };
+
+    ghost next_out_of_memory = { λ old now new. ⊥ };
+
+    fn ports(&self) -> usize {
+        1
+    }
+
+    fn hear(
+        &mut self,
+        alloc: Global,
+        _port: usize,
+        bytes: &[u8],
+        now: u64,
+    ) -> Result<(), OutOfMemory> {
+        self.moment = now;
+        if self.bars(bytes) {
+            self.came = None;
+            saturating_increment(&mut self.rejected);
+            return Ok(());
+        }
+        let before = numbers_of(&self.paced, &self.endpoint);
+        let arrived = self.endpoint.receive(alloc, bytes, now)?;
+        note_datagram(&mut self.paced, &self.endpoint, arrived, before, now);
+        self.came = self.came_of(arrived, bytes);
+        Ok(())
+    }
+
+    fn next(
+        &mut self,
+        _alloc: Global,
+        now: u64,
+        room: &mut [u8],
+    ) -> Result<Option<(usize, Node, usize)>, OutOfMemory> {
+        self.moment = now;
+        plan(&mut self.paced, &mut self.endpoint, now);
+        let polled = self.endpoint.poll(now, room);
+        note_poll(&mut self.paced, &self.endpoint, room, now);
+        let Some((node, count)) = polled else {
+            return Ok(None);
+        };
+        Ok(Some((0, node, count)))
+    }
+}

@@ -1,0 +1,310 @@
+//! A host by its file: its endpoint, its socket and its clock.
+
+ghost use Rattle.std.specs.Prelude.{◌≡◌, ◌<◌, ◌↔◌, ◌∷◌, [], ℕ, false, true, IfOk, IsTrue, None, OnErr, Some, length, map, replicate};
+ghost use Rattle.ipx_carrier.specs.Mapping.{node_at};
+ghost use Rattle.ipx_carrier.specs.Turns.{peers_of};
+ghost use Rattle.ipx_site.specs.Moments.{AreToldIfDue};
+ghost use Rattle.ipx_site.specs.AllowedPeers.{named_in};
+ghost use Rattle.ipx_site.specs.SourceFilter.{kept_in};
+ghost use Rattle.ipx_site.specs.SitePorts.{access_by};
+ghost use Rattle.ipx_site.specs.Steady.{NeverGoesBack};
+ghost use Rattle.ipx_wire.specs.declared.address.Socket.{Socket};
+ghost use Rattle.spx_link.specs.Links.{count_of};
+ghost use Rattle.spx_messages.specs.EndpointView.{buffers_at, held_at};
+ghost use Rattle.ipx_host.specs.Sessions.{raised_if};
+ghost use Rattle.ipx_host.specs.Access.{guarded_host};
+ghost use Rattle.ipx_host.specs.HostLines.{counts_of_host, host_counts};
+ghost use Rattle.ipx_host.specs.Sleeping.{IsSleep};
+ghost use Rattle.ipx_host.specs.Turning.{TakesHostTurn, TellsOf};
+
+use crate::access::access_list_of;
+use crate::paced_host_core::{PacedHostCore, copy_origins};
+use crate::eviction::count_if;
+use crate::room::tell_room;
+use crate::start::{StartFault, check_streams};
+use crate::telling::{Counts, Telling};
+use ipx_carrier::{CountsFiltered, Report, RunFault, node_of, turn};
+use ipx_site::{AccessList, HostConfig, SourceFilter, Poller, UdpSockets, SteadyClock, WaitFault};
+use log::Log;
+use spx_messages::Endpoint;
+use std::alloc::Global;
+use std::net::Net;
+use std::os::fd::RawFd;
+use std::rt::Clock;
+
+/// What a turn did.
+#[derive(Clone, Copy, Debug)]
+pub struct Activity {
+    /// A datagram was heard.
+    pub heard: bool,
+    /// One was kept back.
+    pub kept: bool,
+    /// A datagram was heard, kept back or sent, a packet had no IP address to go to, or memory was
+    /// refused: the next turn may have something to do as well.
+    pub active: bool,
+}
+
+/// The socket of a host with its guard, and the peers that a broadcast goes to: there is one port,
+/// so a turn can always be begun.
+#[derive(Drop)]
+struct HostSocket {
+    device: SourceFilter<UdpSockets>,
+    peers: Vec<Vec<[u8; 4]>>,
+    ghost one_socket: { length device.device.sockets.items ≡ 1 },
+    ghost one_list: { length peers.items ≡ 1 },
+}
+
+impl HostSocket {
+    /// Something may have come to its port, whether a wait said so or not.
+    fn mark_all(&mut self)
+        ensures { self.new ≡ record self.old {
+          device = record self.old.device {
+            device = record self.old.device.device {
+              marks = replicate (length self.old.device.device.marks) true;
+            };
+          };
+        } }
+    {
+        self.device.mark_all();
+    }
+}
+
+/// A host that runs.
+pub struct RunningHost<'a, R: Clock> {
+    pub core: PacedHostCore,
+    host_socket: HostSocket,
+    clock: SteadyClock<'a, R>,
+    poller: Poller,
+    /// How often memory was refused.
+    refused: u64,
+    telling: Telling,
+}
+
+impl<'a, R: Clock> Drop for RunningHost<'a, R> {
+    fn drop(self) {
+        let RunningHost {
+            core: _,
+            host_socket: _,
+            clock: _,
+            poller: _,
+            refused: _,
+            telling: _,
+        } = self;
+    }
+}
+
+impl HostSocket {
+    /// One socket with its guard, and one list of peers.
+    fn new(sockets: UdpSockets, access_lists: Vec<AccessList>, peers: Vec<Vec<[u8; 4]>>) -> HostSocket
+        requires one_socket { length sockets.sockets.items ≡ 1 }
+        requires one_list { length peers.items ≡ 1 }
+        ensures sockets { result.device.device ≡ sockets }
+        ensures access_lists { result.device.access_lists.items ≡ access_lists.items }
+        ensures peers { result.peers ≡ peers }
+    {
+        HostSocket {
+            device: SourceFilter::new(sockets, access_lists),
+            peers,
+        }
+    }
+
+    /// The socket of a host by its file, bound, with what waits for it.
+    fn open<R: Net + Log>(
+        rt: &R,
+        alloc: Global,
+        file: &HostConfig,
+        dials: Option<[u8; 4]>,
+    ) -> Result<(HostSocket, Poller), StartFault>
+        ensures peers { IfOk result (λ r. peers_of r.0.peers.items ≡ (file.now.router ∷ []) ∷ []) }
+        ensures udp_port { IfOk result (λ r.
+            map (λ s. s.udp_port) r.0.device.device.sockets.items ≡ file.now.udp_port ∷ []) }
+        ensures access_list { IfOk result (λ r.
+            map access_by r.0.device.access_lists.items ≡ guarded_host file.now dials ∷ []) }
+    {
+        let router = vec![in alloc; file.router]?;
+        let peers = vec![in alloc; router]?;
+        let access_lists = vec![in alloc; access_list_of(alloc, file, dials)?]?;
+        let sockets = UdpSockets::bind_one(rt, alloc, file.address, file.udp_port)?;
+        tell_room(rt, &sockets, file.buffers);
+        let poller = Poller::new(rt, alloc, &sockets)?;
+        Ok((HostSocket::new(sockets, access_lists, peers), poller))
+    }
+}
+
+/// The core of a host by its file, without a link.
+fn core_of(alloc: Global, file: &HostConfig) -> Result<PacedHostCore, StartFault>
+    ensures network { IfOk result (λ c. c.endpoint.network ≡ file.now.network) }
+    ensures node { IfOk result (λ c. c.endpoint.node ≡ node_at file.now.address) }
+    ensures router { IfOk result (λ c. c.endpoint.router ≡ node_at file.now.router) }
+    ensures links { IfOk result (λ c. (id : ℕ) → held_at c.endpoint id ≡ None) }
+    ensures last { IfOk result (λ c. c.endpoint.links.last ≡ 0) }
+    ensures count { IfOk result (λ c. count_of c.endpoint.links ≡ 0) }
+    ensures deaf { IfOk result (λ c. (socket : Socket) → buffers_at c.endpoint socket ≡ None) }
+    ensures nobody { IfOk result (λ c. c.endpoint.heard ≡ None) }
+    ensures accepted { IfOk result (λ c. c.came ≡ None) }
+    ensures unpaced { IfOk result (λ c. c.paced ≡ None) }
+    ensures from { IfOk result (λ c. named_in c.from ≡ named_in file.now.from) }
+    ensures own { IfOk result (λ c. c.network ≡ file.now.network) }
+{
+    let node = node_of(file.address);
+    let endpoint = Endpoint::new(alloc, file.network, node, node_of(file.router));
+    let origins = copy_origins(alloc, &file.from)?;
+    Ok(PacedHostCore::new(endpoint, file.network, origins))
+}
+
+/// What a turn did that answered this, and whether a datagram was kept back in it.
+fn activity_of(ran: Result<Report, RunFault>, kept: bool) -> Activity
+    ensures whole { IfOk ran (λ report. TellsOf report result) }
+    ensures ended { OnErr ran ((result.heard ≡ false) × (result.active ≡ true)) }
+    ensures kept { result.kept ≡ kept }
+{
+    match ran {
+        Ok(report) => Activity {
+            heard: report.heard > 0,
+            kept,
+            active: report.heard > 0 || report.sent > 0 || report.unmapped > 0 || kept,
+        },
+        Err(_) => Activity {
+            heard: false,
+            kept,
+            active: true,
+        },
+    }
+}
+
+impl<'a, R: Net + Log + Clock> RunningHost<'a, R> {
+    /// A host that is bound as its file says. It hears whom its file names, and the node at the IP
+    /// address that it dials, or everybody.
+    pub fn open(
+        rt: &'a R,
+        alloc: Global,
+        file: &HostConfig,
+        dials: Option<[u8; 4]>,
+    ) -> Result<RunningHost<'a, R>, StartFault>
+        ensures network { IfOk result (λ s. s.core.endpoint.network ≡ file.now.network) }
+        ensures node { IfOk result (λ s. s.core.endpoint.node ≡ node_at file.now.address) }
+        ensures router { IfOk result (λ s. s.core.endpoint.router ≡ node_at file.now.router) }
+        // No link is there yet, and no id was given; and no socket listens.
+        ensures links { IfOk result (λ s. (id : ℕ) → held_at s.core.endpoint id ≡ None) }
+        ensures last { IfOk result (λ s. s.core.endpoint.links.last ≡ 0) }
+        ensures count { IfOk result (λ s. count_of s.core.endpoint.links ≡ 0) }
+        ensures deaf { IfOk result (λ s.
+            (socket : Socket) → buffers_at s.core.endpoint socket ≡ None) }
+        ensures nobody { IfOk result (λ s. s.core.endpoint.heard ≡ None) }
+        ensures accepted { IfOk result (λ s. s.core.came ≡ None) }
+        ensures unpaced { IfOk result (λ s. s.core.paced ≡ None) }
+        ensures from { IfOk result (λ s. named_in s.core.from ≡ named_in file.now.from) }
+        ensures own { IfOk result (λ s. s.core.network ≡ file.now.network) }
+        // A broadcast goes to its router alone.
+        ensures peers { IfOk result (λ s.
+            peers_of s.host_socket.peers.items ≡ (file.now.router ∷ []) ∷ []) }
+        // Its one socket has the UDP port of the file.
+        ensures udp_port { IfOk result (λ s.
+            map (λ s. s.udp_port) s.host_socket.device.device.sockets.items ≡ file.now.udp_port ∷ []) }
+        // Whom it hears and sends to.
+        ensures access_list { IfOk result (λ s.
+            map access_by s.host_socket.device.access_lists.items ≡ guarded_host file.now dials ∷ []) }
+    {
+        check_streams(rt)?;
+        let core = core_of(alloc, file)?;
+        let (host_socket, poller) = HostSocket::open(rt, alloc, file, dials)?;
+        Ok(RunningHost {
+            core,
+            host_socket,
+            clock: SteadyClock::new(rt),
+            poller,
+            refused: 0,
+            telling: Telling::new(),
+        })
+    }
+
+    /// Ends a wait when this descriptor is readable, too.
+    pub fn watch(&mut self, fd: Option<RawFd>)
+        ensures core { self.new.core ≡ self.old.core }
+        ensures clock { self.new.clock ≡ self.old.clock }
+        ensures host_socket { self.new.host_socket ≡ self.old.host_socket }
+    {
+        if let Some(fd) = fd {
+            let _ = self.poller.watch_reading(fd);
+        }
+    }
+
+    /// Counts that memory was refused, where it was.
+    pub fn count_refusal(&mut self, is_refused: bool)
+        ensures { self.new ≡ record self.old {
+          refused = raised_if is_refused self.old.refused;
+        } }
+    {
+        self.refused = count_if(is_refused, self.refused);
+    }
+
+    /// The moment of the last turn, in milliseconds from the start.
+    pub fn moment(&self) -> u64
+        ensures { result ≡ self.now.core.moment }
+    {
+        self.core.moment()
+    }
+
+    /// Takes one turn. What the system or memory refuses is counted and told, and goes on; the
+    /// datagram of a turn that memory ends is lost.
+    pub fn turn(&mut self, rt: &R, alloc: Global) -> Activity
+        ensures core { TakesHostTurn self.old.clock self.new.clock
+            NeverGoesBack (peers_of self.old.host_socket.peers.items) self.old.core self.new.core result }
+        // What was kept back is something that happened: behind it more may lie.
+        ensures kept { IsTrue result.kept
+            ↔ kept_in self.old.host_socket.device.kept < kept_in self.new.host_socket.device.kept }
+        ensures peers { self.new.host_socket.peers ≡ self.old.host_socket.peers }
+        // Who may speak is as before.
+        ensures access { map access_by self.new.host_socket.device.access_lists.items
+            ≡ map access_by self.old.host_socket.device.access_lists.items }
+        ensures poller { self.new.poller ≡ self.old.poller }
+        // Each trouble that is due behind the turn is told, and no other.
+        ensures told { AreToldIfDue (counts_of_host (host_counts self.new.host_socket.device.kept
+            self.new.core.rejected self.new.host_socket.device.device.faults self.new.refused))
+            self.new.core.moment self.old.telling.causes self.new.telling.causes }
+    {
+        // (a host has one port: it asks there in each turn, whether the wait said so or not)
+        self.host_socket.mark_all();
+        let before = self.host_socket.device.filtered();
+        let ran = turn(
+            alloc,
+            &mut self.core,
+            &mut self.host_socket.device,
+            &self.host_socket.peers,
+            &mut self.clock,
+        );
+        let kept = self.host_socket.device.filtered() > before;
+        self.refused = count_if(ran.is_err(), self.refused);
+        let counts = self.counts();
+        self.telling.tell(rt, counts, self.core.moment());
+        activity_of(ran, kept)
+    }
+
+    /// How often something went wrong.
+    fn counts(&self) -> Counts
+        ensures { result ≡ host_counts self.now.host_socket.device.kept self.now.core.rejected
+            self.now.host_socket.device.device.faults self.now.refused }
+    {
+        Counts {
+            kept: self.host_socket.device.kept(),
+            rejected: self.core.rejected(),
+            system: self.host_socket.device.device().faults(),
+            memory: self.refused,
+        }
+    }
+
+    /// Waits until something may be done: a datagram came, a descriptor that is watched is
+    /// readable, the endpoint has something to send, or so many milliseconds are over.
+    pub fn wait(&mut self, most: u64) -> Result<(), WaitFault>
+        ensures core { self.new.core ≡ self.old.core }
+        ensures clock { self.new.clock ≡ self.old.clock }
+        ensures host_socket { self.new.host_socket ≡ self.old.host_socket }
+        // So long the system is asked to wait, and till then no link has anything to do.
+        ensures sleeps { (time : ℕ) × IsSleep self.old.core most time
+            × (self.new.poller.asked ≡ Some time) }
+    {
+        let time = self.core.sleep(most);
+        self.poller.wait(time)?;
+        Ok(())
+    }
+}

@@ -1,0 +1,131 @@
+//! The command `send`: a host that asks for a connection, and sends what it reads.
+
+ghost use Rattle.std.specs.Prelude.{◌≡◌, ◌<◌, ◌≤◌, ◌+◌, ℕ, List, false, true, IfErr, IfOk, OnErr, Err, Ok};
+ghost use Rattle.std.specs.Io.KnownBytes.{IsAtEnd};
+ghost use Rattle.ipx_carrier.specs.Turns.{peers_of};
+ghost use Rattle.ipx_site.specs.Host.{IsHostText};
+ghost use Rattle.ipx_site.specs.Loading.{IsFileText};
+ghost use Rattle.ipx_site.specs.Steady.{NeverGoesBack};
+ghost use Rattle.ipx_site.specs.declared.clock.SteadyClock.{SteadyClock};
+ghost use Rattle.ipx_wire.specs.declared.address.Address.{Address};
+ghost use Rattle.ipx_host.specs.Access.{far_address, is_nowhere};
+ghost use Rattle.ipx_host.specs.Midway.{sending_at};
+ghost use Rattle.ipx_host.specs.SendRounds.{SendState, Transfers};
+ghost use Rattle.ipx_host.specs.Sent.{SendsWholeInput};
+ghost use Rattle.ipx_host.specs.Target.{NamesAddress};
+
+use crate::access::{far_address, is_nowhere, tell_nowhere};
+use crate::sending::SendingHost;
+use crate::start::{StartFault, tell_start};
+use crate::target::Target;
+use ipx_site::{HostConfig, load_host};
+use ipx_wire::Address;
+use log::Log;
+use std::alloc::Global;
+use std::io::Read;
+use std::net::Net;
+use std::rt::{Clock, Files};
+
+/// Runs what was opened. Where nothing was, why not is told.
+fn send_opened<R: Net + Log + Clock + Eprint, I: Read>(
+    rt: &R,
+    alloc: Global,
+    path: &str,
+    opened: Result<SendingHost<'_, R>, StartFault>,
+    to: Address,
+    reader: &mut I,
+) -> u8
+    ensures status { result < 2 }
+    ensures unopened { OnErr opened.entry ((result ≡ 1) × (reader.new ≡ reader.old)) }
+    // Where it ends well, it was a transfer from what was opened.
+    ensures sent { IfOk opened.entry (λ s. result ≡ 0 → (last : SendState (SteadyClock R))
+        × Transfers (sending_at s (I.remaining reader.old))
+        last NeverGoesBack
+        (peers_of s.station.host_socket.peers.items) s.id
+        × (last.known ≡ I.remaining reader.new)) }
+    // Where what was opened has read nothing, all is read.
+    ensures all { IfOk opened.entry (λ s. (s.input.read ≡ false) × (s.input.closed ≡ false)) → result ≡ 0
+        → IsAtEnd (I.remaining reader.new) }
+{
+    match opened {
+        Ok(mut sending) => sending.finish(rt, alloc, to, reader),
+        Err(fault) => tell_start(rt, path, fault),
+    }
+}
+
+/// Runs the host of a file that was loaded. Where none was, the status is that of the fault, which
+/// is told already.
+fn send_loaded<R: Net + Log + Clock + Eprint, I: Read>(
+    rt: &R,
+    alloc: Global,
+    path: &str,
+    loaded: Result<HostConfig, u8>,
+    to: Address,
+    reader: &mut I,
+    shows: bool,
+) -> u8
+    // Where nothing goes to the address from its host, that is told, and nothing is read.
+    ensures nowhere { IfOk loaded (λ file. is_nowhere file (far_address file to) ≡ true
+        → (result ≡ 2) × (reader.new ≡ reader.old)) }
+    ensures status { IfOk loaded (λ file. is_nowhere file (far_address file to) ≡ false
+        → result < 2) }
+    // Where it ends well, the host of the file sent to the address all that the reader had.
+    ensures sent { IfOk loaded (λ file. result ≡ 0
+        → SendsWholeInput {K = SteadyClock R} file (far_address file to)
+        (I.remaining reader.old) (I.remaining reader.new) NeverGoesBack) }
+    ensures unloaded { IfErr loaded (λ status. (result ≡ status) × (reader.new ≡ reader.old)) }
+{
+    let file = match loaded {
+        Ok(file) => file,
+        Err(status) => return status,
+    };
+    let to = far_address(&file, to);
+    if is_nowhere(&file, to) {
+        return tell_nowhere(rt, path, to.node);
+    }
+    let opened = SendingHost::open(rt, alloc, &file, to, shows);
+    send_opened(rt, alloc, path, opened, to, reader)
+}
+
+/// The command `send`: runs the host of a file, asks for a connection to an address, sends what it
+/// reads, and ends the connection behind it. What one read gives, at most 65,535 bytes, is one
+/// message. Where the input pauses, the connection stays. Network 0 is the host's own.
+///
+/// The answer is the status: 0 where the other end has acknowledged all, the end too, which stands
+/// behind all that was read; 1 where nobody answers, the connection is lost or ended by the other
+/// end, the input fails, the socket can't be had or memory is refused; 2 for a fault of the words or
+/// the file, or where nothing goes to the address. What is wrong is a line on standard error. With
+/// `shows` a line there tells how far it is.
+pub fn do_send<R: Net + Log + Files + Clock + Eprint, I: Read>(
+    rt: &R,
+    alloc: Global,
+    path: &str,
+    target: Target<'_>,
+    reader: &mut I,
+    shows: bool,
+) -> u8
+    // Words that name no address are told, and nothing is read or bound.
+    ensures words { ((a : Address) → NamesAddress target.entry a → ⊥)
+        → (result ≡ 2) × (reader.new ≡ reader.old) }
+    ensures few { result ≤ 2 }
+    // For a fault of the words or of the file, or where nothing goes to the address, nothing is read.
+    ensures untouched { result ≡ 2 → reader.new ≡ reader.old }
+    // Where it ends well, the reader has nothing left.
+    ensures all { result ≡ 0 → IsAtEnd (I.remaining reader.new) }
+    // And a host as some text of a file says it has sent to the address that the words name all
+    // that the reader had, by rounds of which the last one saw all of it acknowledged, the end too.
+    ensures sent { result ≡ 0 → (text : List ℕ) × (file : HostConfig) × (to : Address)
+        × IsFileText text × IsHostText text file × NamesAddress target.entry to
+        × SendsWholeInput {K = SteadyClock R} file (far_address file to)
+        (I.remaining reader.old) (I.remaining reader.new) NeverGoesBack }
+{
+    let to = match target.address() {
+        Ok(to) => to,
+        Err(fault) => {
+            let _ = eprintln!(rt; "{fault}");
+            return 2;
+        }
+    };
+    let loaded = load_host(rt, alloc, path);
+    send_loaded(rt, alloc, path, loaded, to, reader, shows)
+}

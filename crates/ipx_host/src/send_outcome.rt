@@ -1,0 +1,76 @@
+//! How a transfer ends.
+
+ghost use Rattle.std.specs.Prelude.{◌≡◌, ◌≢◌, ◌↔◌, IsTrue, Some};
+ghost use Rattle.ipx_host.specs.Transfer.{IsClosing, ended_at, verdict_at};
+ghost use Rattle.ipx_host.specs.declared.send_outcome.SendOutcome.TheVariants as Verdicts;
+
+use spx_link::State;
+
+/// How a transfer ends.
+#[derive(Clone, Copy, Debug, PartialEq, Eq)]
+pub enum SendOutcome {
+    /// The peer has acknowledged all that was sent, and the end behind it.
+    Done,
+    /// Nobody answered the call.
+    Unanswered,
+    /// The connection was given up.
+    GivenUp,
+    /// The peer ended the connection first.
+    PeerLeft,
+    /// Standard input could not be read.
+    Unread,
+    OutOfMemory,
+    /// The system can't wait for the socket.
+    Unwaited,
+}
+
+impl SendOutcome {
+    /// The status that goes with it.
+    pub fn status(&self) -> u8
+        ensures done { (result ≡ 0) ↔ (self.now ≡ Verdicts.Done) }
+        ensures other { self.now ≢ Verdicts.Done → result ≡ 1 }
+    {
+        match self {
+            SendOutcome::Done => 0,
+            _ => 1,
+        }
+    }
+}
+
+/// What the state of a link tells of a transfer, if it is over. `whole` says whether the peer has
+/// acknowledged all, the end too; `joined` whether the connection was open at any time; and `waits`
+/// whether the rest may still be acknowledged.
+pub fn verdict_of(
+    state: Option<State>,
+    whole: bool,
+    joined: bool,
+    waits: bool,
+) -> Option<SendOutcome>
+    // Done just where the link is whole, and Ending, PeerEnded or Confirmed.
+    ensures done { (result ≡ Some Verdicts.Done) ↔ (IsTrue whole × IsClosing state) }
+    ensures verdict { result ≡ verdict_at whole joined waits state }
+{
+    match state {
+        Some(State::Opening | State::Live) => None,
+        Some(State::Ending | State::PeerEnded | State::Confirmed) if whole => Some(
+            SendOutcome::Done,
+        ),
+        Some(State::Ending) => None,
+        Some(State::PeerEnded) if waits => None,
+        Some(State::PeerEnded) => Some(SendOutcome::PeerLeft),
+        Some(State::Lost) if !joined => Some(SendOutcome::Unanswered),
+        Some(State::Confirmed | State::Lost) | None => Some(SendOutcome::GivenUp),
+    }
+}
+
+/// How a transfer ends whose end is queued, or is not. A link is whole only where its end was
+/// queued, so there is nothing to give up here: but it is seen from this alone that a transfer is
+/// done only where all of the input is read.
+pub fn ended_by(verdict: SendOutcome, closed: bool) -> SendOutcome
+    ensures { result ≡ ended_at closed verdict }
+{
+    match verdict {
+        SendOutcome::Done if !closed => SendOutcome::GivenUp,
+        _ => verdict,
+    }
+}

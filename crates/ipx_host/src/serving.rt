@@ -1,0 +1,345 @@
+//! The connections of a host that listens: they come, pass what they hold, are asked, and go.
+
+ghost use Rattle.std.specs.Prelude.{◌≡◌, ◌<◌, ◌≤◌, [], ℕ, List, false, is_some, length, map, position, remove, slice_get, slice_set, vec_capacity, IfOk, IfSome, IsTrue, OnErr, OnOk, Err, Ok};
+ghost use Rattle.ipx_site.specs.Moments.{IsToldIfDue};
+ghost use Rattle.spx_messages.specs.EndpointView.{held_at};
+ghost use Rattle.ipx_host.specs.Sessions.{Admits, Asks, AsksOrCounts, EndedAlone, KeepsHeard, KeepsOne, LetsLinkGo, MakesRoom, NotesHeard, session_of, heard_by, is_overdue, keeps_one_prop, raised_if};
+ghost use Rattle.ipx_host.specs.SessionActions.{is_unheard};
+ghost use Rattle.ipx_host.specs.Hosting.{MovesSome, WritesAndPasses};
+ghost use Rattle.ipx_host.specs.ListenOutcomes.{parted, stop_in};
+ghost use Rattle.ipx_host.specs.HostOutput.{left_of};
+ghost use Rattle.ipx_host.specs.Passing.{PassesEach, PassesSome};
+ghost use Rattle.ipx_host.specs.Tending.{IsFateOf, Tends, Tidies};
+ghost use Rattle.ipx_host.specs.declared.sessions.Session.{Session};
+ghost use Rattle.ipx_host.specs.declared.sessions.SessionAction.TheVariants as Fates;
+ghost use Rattle.ipx_host.specs.declared.sessions.Phase.TheVariants as Standings;
+ghost use Rattle.ipx_host.specs.declared.listening.ListenOutcome.TheVariants as Stops;
+
+use crate::sessions::{Session, SessionAction, Phase};
+use crate::paced_host_core::{Accepted, Arrival, PacedHostCore};
+use crate::readiness_gate::Gate;
+use crate::eviction::{MAX_SESSIONS, ask, count_if, hear_session, hold, let_link_go, make_room};
+use crate::listening::ListenOutcome;
+use crate::output::{Outlet, WriteFault};
+use crate::idle::{fate_in, first_to_tend};
+use crate::running_host::RunningHost;
+use crate::taking::take_each;
+use ipx_site::ThrottledLog;
+use log::{Log, warn};
+use spx_messages::Endpoint;
+use std::alloc::{AllocError, Global};
+use std::io::Write;
+use std::net::Net;
+use std::rt::Clock;
+
+/// Logs that a connection is lost, where it was heard and its end did not come.
+fn tell_parted<R: Log>(rt: &R, session: &Session, fate: SessionAction) {
+    let ended = fate == SessionAction::Over && session.phase == Phase::Ended;
+    if session.is_heard() && !ended {
+        let from = session.from;
+        warn!(rt; target: "ipx", "{from}: the connection is lost");
+    }
+}
+
+/// Whether a host stops once a connection of this standing went by this fate.
+fn stop_of(once: bool, fate: SessionAction, phase: Phase) -> Result<(), ListenOutcome>
+    ensures stops { stop_in result ≡ parted once fate phase }
+    ensures only { OnErr result (IsTrue once) }
+    ensures ended { result ≡ Err Stops.Ended → phase ≡ Standings.Ended }
+{
+    if !once || phase.is_unheard() {
+        return Ok(());
+    }
+    match (fate, phase) {
+        (SessionAction::Over, Phase::Ended) => Err(ListenOutcome::Ended),
+        _ => Err(ListenOutcome::Lost),
+    }
+}
+
+/// The connections that a host that listens holds, and what was taken of them and is left to write.
+pub struct Sessions {
+    pub held: Vec<Session>,
+    pub output: Outlet,
+    /// Whether the first connection that is heard is the only one, and all is over with it.
+    pub once: bool,
+    /// How many connections went by their silence, of which nothing was ever heard.
+    never_spoke: u64,
+    of_never_spoke: ThrottledLog,
+    ghost room: { 16 ≤ vec_capacity held },
+    ghost one: { KeepsOne once held.items (left_of output) } by { keeps_one_prop once held.items (left_of output) },
+}
+
+impl Drop for Sessions {
+    fn drop(self) {
+        let Sessions {
+            held: _,
+            output: _,
+            once: _,
+            never_spoke: _,
+            of_never_spoke: _,
+        } = self;
+    }
+}
+
+impl Sessions {
+    /// None is held yet, and nothing is left to write for the writer behind this gate.
+    pub fn new(alloc: Global, gate: Gate, once: bool) -> Result<Sessions, AllocError>
+        ensures nobody { IfOk result (λ c. c.held.items ≡ []) }
+        ensures nothing { IfOk result (λ c. left_of c.output ≡ []) }
+        ensures once { IfOk result (λ c. c.once ≡ once) }
+    {
+        Ok(Sessions {
+            held: Vec::with_capacity(alloc, MAX_SESSIONS)?,
+            output: Outlet::new(alloc, gate),
+            once,
+            never_spoke: 0,
+            of_never_spoke: ThrottledLog::new(),
+        })
+    }
+
+    /// Takes from each connection. It answers whether there was anything.
+    fn take_all<W: Write>(
+        &mut self,
+        alloc: Global,
+        endpoint: &mut Endpoint,
+        writer: &mut W,
+    ) -> Result<bool, WriteFault>
+        ensures all { OnOk result (PassesEach endpoint.old endpoint.new
+            (left_of self.old.output) (left_of self.new.output)
+            (W.contents writer.old) (W.contents writer.new)
+            self.old.held.items self.new.held.items) }
+        ensures some { OnErr result (PassesSome endpoint.old endpoint.new
+            (left_of self.old.output) (left_of self.new.output)
+            (W.contents writer.old) (W.contents writer.new)
+            self.old.held.items self.new.held.items) }
+        ensures still { result ≡ Ok false
+            → (id : ℕ) → held_at endpoint.new id ≡ held_at endpoint.old id }
+        ensures once { self.new.once ≡ self.old.once }
+    {
+        take_each(alloc, endpoint, &mut self.output, &mut self.held, writer)
+    }
+
+    /// Writes what is left to write, and then takes from each connection. It answers whether it
+    /// wrote or took anything.
+    pub fn pass<W: Write>(
+        &mut self,
+        alloc: Global,
+        core: &mut PacedHostCore,
+        writer: &mut W,
+    ) -> Result<bool, WriteFault>
+        ensures all { OnOk result ((bytes : List ℕ) × WritesAndPasses core.old core.new
+            self.old.held.items self.new.held.items
+            (left_of self.old.output) (left_of self.new.output)
+            (W.contents writer.old) (W.contents writer.new) bytes) }
+        // Where the writer fails, so it is of the first ones, and the others are as they were.
+        ensures some { OnErr result ((bytes : List ℕ) × MovesSome core.old core.new
+            self.old.held.items self.new.held.items
+            (left_of self.old.output) (left_of self.new.output)
+            (W.contents writer.old) (W.contents writer.new) bytes) }
+        ensures once { self.new.once ≡ self.old.once }
+    {
+        let wrote = self.output.write(writer)?;
+        let took = self.take_all(alloc, &mut core.endpoint, writer)?;
+        Ok(wrote | took)
+    }
+
+    /// Holds a connection that was accepted at a moment, where there is a place for it.
+    fn admit(&mut self, endpoint: &mut Endpoint, accepted: Accepted, moment: u64)
+        ensures admits { Admits self.old.once (session_of accepted moment)
+            endpoint.old endpoint.new self.old.held.items self.new.held.items }
+        ensures output { self.new.output ≡ self.old.output }
+        ensures once { self.new.once ≡ self.old.once }
+    {
+        let session = Session {
+            id: accepted.id,
+            from: accepted.from,
+            heard: moment,
+            phase: Phase::New,
+        };
+        hold(self.once, endpoint, &mut self.held, session);
+    }
+
+    /// Notes that a connection was heard. With `once` it stays alone.
+    fn hear_session(&mut self, endpoint: &mut Endpoint, id: u16, moment: u64)
+        ensures heard { KeepsHeard self.old.once endpoint.old endpoint.new
+            (map (heard_by id moment) self.old.held.items) self.new.held.items }
+        ensures output { self.new.output ≡ self.old.output }
+        ensures once { self.new.once ≡ self.old.once }
+    {
+        hear_session(self.once, endpoint, &mut self.held, id, moment);
+    }
+
+    /// Lets a connection go of which nothing was heard for long, since there was no link for
+    /// another.
+    fn make_room(&mut self, endpoint: &mut Endpoint, moment: u64)
+        ensures room { MakesRoom moment endpoint.old endpoint.new
+            self.old.held.items self.new.held.items }
+        ensures counts { self.new.never_spoke
+            ≡ raised_if (is_some (position (is_overdue moment) self.old.held.items))
+            self.old.never_spoke }
+        ensures output { self.new.output ≡ self.old.output }
+        ensures once { self.new.once ≡ self.old.once }
+    {
+        let went = make_room(endpoint, &mut self.held, moment);
+        self.never_spoke = count_if(went, self.never_spoke);
+    }
+
+    /// Notes which connection the last datagram was of, or made, or did not find room for.
+    pub fn note(&mut self, core: &mut PacedHostCore)
+        ensures notes { NotesHeard self.old.once core.old core.new
+            self.old.held.items self.new.held.items }
+        ensures output { self.new.output ≡ self.old.output }
+        ensures once { self.new.once ≡ self.old.once }
+    {
+        let moment = core.moment();
+        match core.take_came() {
+            Some(Arrival::Heard(id)) => self.hear_session(&mut core.endpoint, id, moment),
+            Some(Arrival::Accepted(accepted)) => self.admit(&mut core.endpoint, accepted, moment),
+            Some(Arrival::NoRoom) => self.make_room(&mut core.endpoint, moment),
+            None => {}
+        }
+    }
+
+    /// Asks whether the connection at a place is still there. Where memory is refused, that is
+    /// counted.
+    fn ask<R: Net + Log + Clock>(
+        &mut self,
+        alloc: Global,
+        station: &mut RunningHost<'_, R>,
+        place: usize,
+    )
+        requires { place < length self.old.held.items }
+        ensures asks { IfSome (slice_get self.old.held.items place) (λ c. (c' : Session)
+            × Asks station.old.core.moment station.old.core.endpoint station.new.core.endpoint c c'
+            × (self.new.held.items ≡ slice_set self.old.held.items place c')) }
+        ensures asked { IfSome (slice_get self.old.held.items place) (λ c. AsksOrCounts
+            station.old.core.endpoint station.new.core.endpoint c place
+            self.old.held.items self.new.held.items station.old.refused station.new.refused) }
+        ensures core { station.new.core ≡ record station.old.core {
+          endpoint = station.new.core.endpoint;
+        } }
+        ensures clock { station.new.clock ≡ station.old.clock }
+        ensures host_socket { station.new.host_socket ≡ station.old.host_socket }
+        ensures poller { station.new.poller ≡ station.old.poller }
+        ensures output { self.new.output ≡ self.old.output }
+        ensures once { self.new.once ≡ self.old.once }
+    {
+        let moment = station.moment();
+        let session = &mut self.held[place];
+        let is_refused = ask(alloc, &mut station.core.endpoint, session, moment);
+        station.count_refusal(is_refused);
+    }
+
+    /// Tells how many connections went before anything was heard of them, once a minute at most.
+    pub fn tell_silent<R: Log>(&mut self, rt: &R, moment: u64)
+        ensures told { IsToldIfDue self.old.never_spoke moment
+            self.old.of_never_spoke self.new.of_never_spoke }
+        ensures count { self.new.never_spoke ≡ self.old.never_spoke }
+        ensures held { self.new.held ≡ self.old.held }
+        ensures output { self.new.output ≡ self.old.output }
+        ensures once { self.new.once ≡ self.old.once }
+    {
+        let count = self.never_spoke;
+        if let Some(more) = self.of_never_spoke.tell(count, moment) {
+            warn!(rt; target: "ipx", "{more} callers never spoke ({count} since the start)");
+        }
+    }
+
+    /// Lets a connection go. With `once` all is over then, where it was heard.
+    fn let_go<R: Log>(
+        &mut self,
+        rt: &R,
+        endpoint: &mut Endpoint,
+        place: usize,
+        fate: SessionAction,
+    ) -> Result<(), ListenOutcome>
+        requires { place < length self.old.held.items }
+        ensures goes { self.new.held.items ≡ remove self.old.held.items place }
+        ensures released { IfSome (slice_get self.old.held.items place) (λ c.
+            LetsLinkGo endpoint.old endpoint.new c.id) }
+        ensures stops { IfSome (slice_get self.old.held.items place) (λ c.
+            stop_in result ≡ parted self.old.once fate c.phase) }
+        ensures counts { IfSome (slice_get self.old.held.items place) (λ c.
+            self.new.never_spoke ≡ raised_if (is_unheard c.phase) self.old.never_spoke) }
+        ensures only { OnErr result (IsTrue self.old.once) }
+        // With `once` the only connection that was heard goes, and what was taken of it is written.
+        ensures written { result ≡ Err Stops.Ended → left_of self.new.output ≡ [] }
+        ensures output { self.new.output ≡ self.old.output }
+        ensures once { self.new.once ≡ self.old.once }
+    {
+        let session = self.held.remove(place);
+        let_link_go(endpoint, session.id);
+        self.never_spoke = count_if(session.phase.is_unheard(), self.never_spoke);
+        tell_parted(rt, &session, fate);
+        stop_of(self.once, fate, session.phase)
+    }
+
+    /// Does what is to be done with the connection at a place.
+    fn tend<R: Net + Log + Clock>(
+        &mut self,
+        rt: &R,
+        alloc: Global,
+        station: &mut RunningHost<'_, R>,
+        place: usize,
+    ) -> Result<(), ListenOutcome>
+        requires { place < length self.old.held.items }
+        ensures tends { IfSome (slice_get self.old.held.items place) (λ c. Tends
+            self.old.once station.old.core c place station.new.core.endpoint
+            self.old.held.items self.new.held.items (stop_in result)) }
+        // One that is to be asked is asked, where its link is open; or memory was refused, which is
+        // counted.
+        ensures asked { IfSome (slice_get self.old.held.items place) (λ c.
+            IsFateOf station.old.core c Fates.Asks → AsksOrCounts
+            station.old.core.endpoint station.new.core.endpoint c place
+            self.old.held.items self.new.held.items station.old.refused station.new.refused) }
+        ensures only { OnErr result (IsTrue self.old.once) }
+        ensures written { result ≡ Err Stops.Ended → left_of self.new.output ≡ [] }
+        ensures core { station.new.core ≡ record station.old.core {
+          endpoint = station.new.core.endpoint;
+        } }
+        ensures clock { station.new.clock ≡ station.old.clock }
+        ensures host_socket { station.new.host_socket ≡ station.old.host_socket }
+        ensures poller { station.new.poller ≡ station.old.poller }
+        ensures output { self.new.output ≡ self.old.output }
+        ensures once { self.new.once ≡ self.old.once }
+    {
+        match fate_in(&station.core, &self.held[place]) {
+            SessionAction::Stays => Ok(()),
+            SessionAction::Asks => {
+                self.ask(alloc, station, place);
+                Ok(())
+            }
+            fate => self.let_go(rt, &mut station.core.endpoint, place, fate),
+        }
+    }
+
+    /// Lets go the connections that are over or given up, and asks those that are silent.
+    pub fn reap<R: Net + Log + Clock>(
+        &mut self,
+        rt: &R,
+        alloc: Global,
+        station: &mut RunningHost<'_, R>,
+    ) -> Result<(), ListenOutcome>
+        ensures tidies { Tidies self.old.once station.old.core station.new.core
+            self.old.held.items self.new.held.items (stop_in result) }
+        ensures ended { result ≡ Err Stops.Ended → EndedAlone self.old.held.items }
+        ensures written { result ≡ Err Stops.Ended → left_of self.new.output ≡ [] }
+        ensures only { OnErr result (IsTrue self.old.once) }
+        ensures core { station.new.core ≡ record station.old.core {
+          endpoint = station.new.core.endpoint;
+        } }
+        ensures clock { station.new.clock ≡ station.old.clock }
+        ensures host_socket { station.new.host_socket ≡ station.old.host_socket }
+        ensures poller { station.new.poller ≡ station.old.poller }
+        ensures output { self.new.output ≡ self.old.output }
+        ensures once { self.new.once ≡ self.old.once }
+    {
+        for _tended in 0..MAX_SESSIONS {
+            let Some(place) = first_to_tend(&station.core, &self.held) else {
+                break;
+            };
+            self.tend(rt, alloc, station, place)?;
+        }
+        Ok(())
+    }
+}

@@ -1,0 +1,166 @@
+//! The connections that a listening host accepted.
+
+ghost use Rattle.std.specs.Prelude.{◌≡◌, ◌↔◌, Some, map};
+ghost use Rattle.spx_link.specs.declared.state.State.TheVariants as States;
+ghost use Rattle.ipx_host.specs.SessionActions.{IsSessionAction, IsOver, IsToAsk, is_unheard, phase_asked, phase_heard};
+ghost use Rattle.ipx_host.specs.Sessions.{heard_by, has_spoken, is_overdue, is_unheard_of};
+ghost use Rattle.ipx_host.specs.declared.sessions.SessionAction.TheVariants as Fates;
+ghost use Rattle.ipx_site.specs.AllowedPeers.{home_network};
+
+use ipx_wire::{Address, Network};
+use spx_link::State;
+
+/// How long a connection is kept once its end came, counted from the last datagram of it, in
+/// milliseconds: a peer that lost the confirmation asks again each second at least.
+pub const LINGER: u64 = 3000;
+
+/// How long an open connection is silent before it is asked whether it is still there, in
+/// milliseconds.
+pub const KEEPALIVE_AFTER: u64 = 60_000;
+
+/// How long a connection of which nothing was heard yet is waited for, before it is asked whether
+/// it is there, or makes room, in milliseconds.
+pub const FIRST_DATA_TIMEOUT: u64 = 1000;
+
+/// How a connection that was accepted stands with this host.
+#[derive(Clone, Copy, Debug, PartialEq, Eq)]
+pub enum Phase {
+    /// Nothing was heard of it since it was accepted.
+    New,
+    /// So it is, and it is asked whether it is there.
+    NewProbed,
+    /// It was heard.
+    Open,
+    /// It was silent, and is asked whether it is still there.
+    KeepaliveSent,
+    /// Its end was taken: all that came before it, too.
+    Ended,
+}
+
+impl Phase {
+    /// Whether nothing was heard of the connection since it was accepted.
+    pub fn is_unheard(self) -> bool
+        ensures { result ≡ is_unheard self }
+    {
+        matches!(self, Phase::New | Phase::NewProbed)
+    }
+
+    /// How it stands once it is asked whether it is there.
+    pub fn asked(self) -> Phase
+        ensures { result ≡ phase_asked self }
+    {
+        match self {
+            Phase::New => Phase::NewProbed,
+            Phase::Open => Phase::KeepaliveSent,
+            phase => phase,
+        }
+    }
+}
+
+/// The network that an address is on, for a host of a network: 0 is its own.
+fn home_of(own: Network, address: &Address) -> Network
+    ensures { result.0 ≡ home_network own address.now }
+{
+    if address.network == Network::LOCAL {
+        own
+    } else {
+        address.network
+    }
+}
+
+/// A connection that was accepted.
+#[derive(Clone, Copy, Debug)]
+pub struct Session {
+    pub id: u16,
+    pub from: Address,
+    /// The moment at which it came, was heard last, or could not be asked.
+    pub heard: u64,
+    pub phase: Phase,
+}
+
+impl Session {
+    /// It is heard at a moment, so it is there.
+    pub fn hear(&mut self, now: u64)
+        ensures { self.new ≡ record self.old {
+          heard = now;
+          phase = phase_heard self.old.phase;
+        } }
+    {
+        self.heard = now;
+        if self.phase != Phase::Ended {
+            self.phase = Phase::Open;
+        }
+    }
+
+    /// Whether something was heard of it.
+    pub fn is_heard(&self) -> bool
+        ensures { result ≡ has_spoken self.now }
+    {
+        !self.phase.is_unheard()
+    }
+
+    /// Whether nothing was heard of it, and a second ago or longer it came, or could not be asked.
+    pub fn is_overdue(&self, now: u64) -> bool
+        ensures { result ≡ is_overdue now self.now }
+    {
+        self.phase.is_unheard() && now.saturating_sub(self.heard) >= FIRST_DATA_TIMEOUT
+    }
+
+    /// Whether nothing was heard of it, and it is of the node of an address, as a host of a network
+    /// sees it.
+    pub fn is_unheard_of(&self, own: Network, from: &Address) -> bool
+        ensures { result ≡ is_unheard_of own from.now self.now }
+    {
+        let here = home_of(own, &self.from) == home_of(own, from);
+        self.phase.is_unheard() && here && self.from.node == from.node
+    }
+
+    /// It is heard at a moment, if it is the one that was heard.
+    fn note(&mut self, heard: u16, now: u64)
+        ensures { self.new ≡ heard_by heard now self.old }
+    {
+        if self.id == heard {
+            self.hear(now);
+        }
+    }
+}
+
+/// Notes in each connection which one was heard at a moment.
+pub fn hear_one(sessions: &mut [Session], heard: u16, moment: u64)
+    ensures { sessions.new ≡ map (heard_by heard moment) sessions.old }
+{
+    for session in sessions.iter_mut() {
+        session.note(heard, moment);
+    }
+}
+
+/// What becomes of a connection.
+#[derive(Clone, Copy, Debug, PartialEq, Eq)]
+pub enum SessionAction {
+    /// It is held on.
+    Stays,
+    /// It is held on, and asked whether it is still there.
+    Asks,
+    /// It is over, and its place is free for another.
+    Over,
+    /// It was given up before its end came.
+    GivenUp,
+}
+
+/// What becomes of a connection of this standing, whose link has this state, or is gone, and that
+/// was silent for so many milliseconds.
+pub fn fate_of(phase: Phase, state: Option<State>, silent: u64) -> SessionAction
+    ensures fate { IsSessionAction result phase state silent }
+    ensures given_up { (result ≡ Fates.GivenUp) ↔ (state ≡ Some States.Lost) }
+    ensures over { (result ≡ Fates.Over) ↔ IsOver phase state silent }
+    ensures asks { (result ≡ Fates.Asks) ↔ IsToAsk phase state silent }
+{
+    match (phase, state) {
+        (_, Some(State::Lost)) => SessionAction::GivenUp,
+        (_, None | Some(State::Confirmed)) => SessionAction::Over,
+        (Phase::Ended, _) if silent >= LINGER => SessionAction::Over,
+        (Phase::Open, _) if silent >= KEEPALIVE_AFTER => SessionAction::Asks,
+        (Phase::New, _) if silent >= FIRST_DATA_TIMEOUT => SessionAction::Asks,
+        _ => SessionAction::Stays,
+    }
+}

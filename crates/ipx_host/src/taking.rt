@@ -1,0 +1,110 @@
+//! What a host that listens takes of its connections, on its way to the output.
+
+ghost use Rattle.std.specs.Prelude.{◌≡◌, ◌<◌, ℕ, take, false, IfSome, IsTrue, None, OnErr, OnOk, Err, Ok};
+ghost use Rattle.spx_messages.specs.EndpointView.{held_at};
+ghost use Rattle.spx_messages.specs.Taking.{PeerEnd as TheEnd, take_end};
+ghost use Rattle.ipx_host.specs.HostOutput.{left_of};
+ghost use Rattle.ipx_host.specs.Passing.{PassesHeld, PassesEach, PassesOne, PassesSome, SameOthers, Takes, TakesNothing};
+ghost use Rattle.ipx_host.specs.declared.sessions.Session.{Session};
+
+use crate::sessions::{Session, Phase};
+use crate::output::{Outlet, WriteFault};
+use spx_messages::{EndFault, Endpoint, Message, MessageFault, Taken};
+use std::alloc::Global;
+use std::io::Write;
+
+/// The most units that are taken of a connection before the network is asked again.
+const MAX_TAKES: u32 = 256;
+
+/// Takes one unit of a connection, which may end a message. It answers whether there was one.
+fn take_next(
+    alloc: Global,
+    endpoint: &mut Endpoint,
+    output: &mut Outlet,
+    session: &mut Session,
+) -> bool
+    ensures takes { IfSome (held_at endpoint.old session.old.id) (λ h. IsTrue result → Takes h
+        endpoint.old endpoint.new output.old output.new session.old session.new) }
+    ensures nothing { result ≡ false → TakesNothing
+        endpoint.old endpoint.new output.old output.new session.old session.new }
+    // No want of memory holds up the end of the peer.
+    ensures ends { IfSome (held_at endpoint.old session.old.id) (λ h.
+        (take_end h).0 ≡ Ok TheEnd → IsTrue result) }
+    ensures unknown { held_at endpoint.old session.old.id ≡ None → result ≡ false }
+    ensures id { session.new.id ≡ session.old.id }
+    ensures others { SameOthers endpoint.old endpoint.new session.old.id }
+{
+    match endpoint.take(alloc, session.id) {
+        Ok(Taken::Part) | Err(EndFault::Message(MessageFault::Overlong)) => true,
+        Ok(Taken::Whole(message)) => {
+            output.put(message.body);
+            true
+        }
+        Ok(Taken::PeerEnd) => {
+            session.phase = Phase::Ended;
+            true
+        }
+        Ok(Taken::Nothing) | Err(_) => false,
+    }
+}
+
+/// Takes what a connection that was heard holds, and writes each message. It stops where one can't
+/// be written without waiting. It answers whether it took anything.
+fn take_some<W: Write>(
+    alloc: Global,
+    endpoint: &mut Endpoint,
+    output: &mut Outlet,
+    session: &mut Session,
+    writer: &mut W,
+) -> Result<bool, WriteFault>
+    // What was left to write, and then the bodies of the messages that were taken, are what the
+    // writer took, and then what is left to write; where the writer fails, too.
+    ensures passes { IfSome (held_at endpoint.old session.old.id) (λ h.
+        PassesHeld h (held_at endpoint.new session.old.id) (left_of output.old) (left_of output.new)
+        (W.contents writer.old) (W.contents writer.new)) }
+    ensures one { PassesOne endpoint.old endpoint.new (left_of output.old) (left_of output.new)
+        (W.contents writer.old) (W.contents writer.new) session.old session.new }
+    ensures id { session.new.id ≡ session.old.id }
+    // Where it took nothing, all that is held is as it was.
+    ensures still { result ≡ Ok false
+        → (id : ℕ) → held_at endpoint.new id ≡ held_at endpoint.old id }
+{
+    if !session.is_heard() {
+        return Ok(false);
+    }
+    let mut took = false;
+    for _ in 0..MAX_TAKES {
+        output.write(writer)?;
+        let ended = session.phase == Phase::Ended;
+        if ended || !output.is_empty() || !take_next(alloc, endpoint, output, session) {
+            break;
+        }
+        took = true;
+    }
+    Ok(took)
+}
+
+/// Takes from each connection, in their order. It answers whether there was anything.
+pub fn take_each<W: Write>(
+    alloc: Global,
+    endpoint: &mut Endpoint,
+    output: &mut Outlet,
+    sessions: &mut [Session],
+    writer: &mut W,
+) -> Result<bool, WriteFault>
+    ensures all { OnOk result (PassesEach endpoint.old endpoint.new (left_of output.old)
+        (left_of output.new) (W.contents writer.old) (W.contents writer.new)
+        sessions.old sessions.new) }
+    // Where the writer fails, so it is of the first ones, and the others are as they were.
+    ensures some { OnErr result (PassesSome endpoint.old endpoint.new (left_of output.old)
+        (left_of output.new) (W.contents writer.old) (W.contents writer.new)
+        sessions.old sessions.new) }
+    ensures still { result ≡ Ok false
+        → (id : ℕ) → held_at endpoint.new id ≡ held_at endpoint.old id }
+{
+    let mut took = false;
+    for session in sessions.iter_mut() {
+        took |= take_some(alloc, endpoint, output, session, writer)?;
+    }
+    Ok(took)
+}

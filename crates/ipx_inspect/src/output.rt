@@ -1,0 +1,70 @@
+//! What a command writes.
+
+ghost use Rattle.std.specs.Prelude.{◌≡◌, ◌⊎◌, IfErr, IfOk, IsOkAnd, OnErr, OnOk, string_bytes};
+ghost use Rattle.std.specs.Io.KnownBytes.{Appends};
+ghost use Rattle.ipx_inspect.specs.Output.{AppendsFront, no_memory_line};
+
+use ipx_wire::OutOfMemory;
+use std::io::{ErrorKind, Write};
+
+/// A writer failed.
+#[derive(Clone, Copy, Debug)]
+struct WriteFault;
+
+/// Writes bytes, as often as it takes. Where the writer fails, the first of them stand.
+fn write_bytes<W: Write>(writer: &mut W, bytes: &[u8]) -> Result<(), WriteFault>
+    ensures written { OnOk result
+        (Appends (W.contents writer.old) (W.contents writer.new) bytes.now) }
+    ensures left { OnErr result
+        (AppendsFront (W.contents writer.old) (W.contents writer.new) bytes.now) }
+{
+    let mut done = 0;
+    for _ in 0..u64::MAX {
+        if done == bytes.len() {
+            return Ok(());
+        }
+        match writer.write(&bytes[done..]) {
+            Ok(0) => return Err(WriteFault),
+            Ok(count) => done += count,
+            Err(error) => {
+                if error.kind() != ErrorKind::Interrupted {
+                    return Err(WriteFault);
+                }
+            }
+        }
+    }
+    Err(WriteFault)
+}
+
+/// Writes `fault (14) OutOfMemory`, if that can be written, and answers status 1. A program calls
+/// it where memory runs out before it knows which command to run.
+pub fn tell_no_memory<W: Write>(writer: &mut W) -> u8
+    ensures status { result ≡ 1 }
+    ensures left { AppendsFront (W.contents writer.old) (W.contents writer.new) no_memory_line }
+{
+    let _ = write_bytes(writer, b"fault (14) OutOfMemory\n");
+    1
+}
+
+/// Writes the lines of a command and answers their status, or tells that memory ran out.
+pub fn write_lines<W: Write>(
+    writer: &mut W,
+    lines: Result<(String, u8), OutOfMemory>,
+) -> Result<u8, u8>
+    ensures written { IfOk result (λ status. IsOkAnd lines (λ l. (status ≡ l.1)
+        × Appends (W.contents writer.old) (W.contents writer.new) (string_bytes l.0))) }
+    ensures fault { IfErr result (λ status. status ≡ 1) }
+    // What is written by then: the first bytes of that line, or of the lines of the command.
+    ensures left { OnErr result
+        (AppendsFront (W.contents writer.old) (W.contents writer.new) no_memory_line
+        ⊎ IsOkAnd lines (λ l.
+        AppendsFront (W.contents writer.old) (W.contents writer.new) (string_bytes l.0))) }
+{
+    let Ok((text, status)) = lines else {
+        return Err(tell_no_memory(writer));
+    };
+    match write_bytes(writer, text.as_bytes()) {
+        Ok(()) => Ok(status),
+        Err(_) => Err(1),
+    }
+}

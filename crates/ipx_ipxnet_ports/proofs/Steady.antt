@@ -1,0 +1,229 @@
+-- What of ports for clients stays where a lobby hears, or gives.
+use Rattle.std.proofs.Common.{◌≡◌, ℕ, Bool, true, false, List, [], ◌∷◌, ◌++◌, Option, Some, None, Result, Ok, Err, cond, filter, length, map, ap, refl, sym, ◌∙◌, subst}
+use Rattle.std.specs.Prelude.{◌&&◌, is_some, if◌then◌else◌, nat_lt, slice_get, slice_set}
+use Rattle.std.specs.Str.{bytes_eq}
+use Rattle.std.proofs.Math.Seq.{map-set_same}
+use Rattle.std.proofs.lemmas.List.Elements.{All-append, All-cons, All-map, All-nil, All-weaker, filter_passes}
+use Rattle.std.proofs.lemmas.Option.{get_or_from_slice_get}
+use Rattle.ipx_wire.specs.Assigned.{broadcast_node}
+use Rattle.ipx_wire.specs.Ipx.{PacketView}
+use Rattle.ipx_wire.specs.declared.address.Node.{Node}
+use Rattle.ipxnet_server.specs.declared.clients.Client.{Client}
+use Rattle.ipxnet_server.specs.declared.drops.ServerDrop.{ServerDrop}
+use Rattle.ipxnet_server.specs.declared.drops.ServerDrop.TheVariants.{TooLong}
+use Rattle.ipxnet_server.specs.declared.disposition.Disposition.{Disposition}
+use Rattle.ipxnet_server.specs.declared.disposition.Disposition.TheVariants.{Registered, Pinged, ToClient, ToOthers, ToOthersAndCore, ToCore, ToJoined, FromJoined, Dropped}
+use Rattle.ipxnet_server.specs.declared.place.Place.{Place}
+use Rattle.ipxnet_server.specs.declared.port.ServerPort.{ServerPort}
+use Rattle.ipxnet_server.specs.declared.recipients.Recipients.{Recipients}
+use Rattle.ipxnet_server.specs.declared.recipients.Recipients.TheVariants.{Joined, Nobody}
+use Rattle.ipxnet_server.specs.ServerClients.{client_at, client_of_node}
+use Rattle.ipxnet_server.specs.ServerHears.{ServerView, all_get, answer_of, client_gets, is_dropped, is_joined_taker, is_taker, is_to_service, server_aged, server_gives, server_giving, server_hearing, server_told, max_client_bytes, notice_of, takers_join, takers_of, takers_reach}
+use Rattle.ipxnet_server.specs.PeerServers.{is_joined_place}
+use Rattle.ipx_carrier.specs.declared.segments.PacketSent.{PacketSent}
+use Rattle.ipx_carrier.specs.PortDrivers.{copies_count, count_in}
+use Rattle.ipx_carrier.specs.Turns.{Given}
+use Rattle.ipx_ipxnet_ports.specs.OnServers.{AreForClients, AreForRouters, HearsAtServer, ServersView, SendsThroughServer, answer_for, by_servers, clients_reached, joined_sends, servers_view, server_ports, server_sends, notice_for, packet_said, packet_sends, relayed_on, relayed_to, routers_reached, takers_given}
+use Rattle.ipx_ipxnet_ports.specs.PlaceTraffic.{HandsOver, PlaceDatagram, PlaceTraffic, PlacesPass, place_datagram}
+use Rattle.ipx_ipxnet_ports.proofs.Handing.{hands_behind}
+
+-- ---- a lobby has its port, and as many clients at most
+
+abbrev port_in : ServerView → ServerPort × ℕ
+port_in l = (l.port, l.most)
+
+told_stays : (told : Option Node) (from : Place) (now : ℕ) (l : ServerView) → port_in (server_told told from now l) ≡ port_in l
+told_stays None from now l = refl
+told_stays (Some node) from now l = refl
+
+hearing_stays : (heard : Disposition) (from : Place) (now : ℕ) (l : ServerView) → port_in (server_hearing heard from now l) ≡ port_in l
+hearing_stays (Registered answer) from now l = refl
+hearing_stays (Pinged giver answer) from now l = refl
+hearing_stays (ToClient place) from now l = refl
+hearing_stays (ToOthers giver) from now l = refl
+hearing_stays (ToOthersAndCore giver) from now l = refl
+hearing_stays ToCore from now l = refl
+hearing_stays (ToJoined takers) from now l = refl
+hearing_stays (FromJoined told takers) from now l = told_stays told from now l
+hearing_stays (Dropped drop) from now l = refl
+
+giving_stays : (given : Result Recipients ServerDrop) (l : ServerView) → port_in (server_giving given l) ≡ port_in l
+giving_stays (Ok takers) l = refl
+giving_stays (Err drop) l = refl
+
+ports_stay : (servers : List ServerView) (port : ℕ) (l after : ServerView) → slice_get servers port ≡ Some l → port_in after ≡ port_in l → map port_in (slice_set servers port after) ≡ map port_in servers
+ports_stay servers port l after there same =
+    map-set_same port_in servers port after l (same ∙ ap port_in (sym (get_or_from_slice_get servers port l l there)))
+
+pub hearing_leaves_ports : (now most : ℕ) (d : PlaceDatagram) (came : List PlaceDatagram) (room : List ℕ) (up : Option ℕ) (old new : ServersView) → HearsAtServer now most d came room up old new → server_ports new.servers ≡ server_ports old.servers
+hearing_leaves_ports now most d came room up old new r =
+    ap (map port_in) r.servers ∙ ports_stay old.servers d.port r.server r.after r.at_port (ap port_in r.becomes ∙ hearing_stays r.heard d.place now (server_aged now r.server))
+
+pub sending_leaves_ports : (now port : ℕ) (node : Node) (packet : List ℕ) (sent : PacketSent) (old new : ServersView) → SendsThroughServer now port node packet sent old new → server_ports new.servers ≡ server_ports old.servers
+sending_leaves_ports now port node packet sent old new r =
+    ap (map port_in) r.servers ∙ ports_stay old.servers port r.server r.after r.at_port (ap port_in r.becomes ∙ giving_stays r.given (server_aged now r.server))
+
+-- ---- what is said of a packet is by what it goes
+
+said_by : (b : Bool) (p : Given) → nat_lt max_client_bytes (length p.bytes) ≡ b → count_in (packet_said (length p.bytes)) ≡ copies_count by_servers p
+said_by true p e = rw e refl
+said_by false p e = rw e refl
+
+pub said_of_packet : (sent : PacketSent) (p : Given) → sent ≡ packet_said (length p.bytes) → count_in sent ≡ copies_count by_servers p
+said_of_packet sent p is = ap count_in is ∙ said_by (nat_lt max_client_bytes (length p.bytes)) p refl
+
+-- ---- what is sent is for clients
+
+answered_kept : (heard : Disposition) → is_some (answer_of heard) ≡ true → is_dropped heard ≡ false
+answered_kept (Registered answer) e = refl
+answered_kept (Pinged giver answer) e = refl
+answered_kept (ToClient place) e = refl
+answered_kept (ToOthers giver) e = refl
+answered_kept (ToOthersAndCore giver) e = refl
+answered_kept ToCore e = refl
+answered_kept (ToJoined takers) e = refl
+answered_kept (FromJoined told takers) e = refl
+answered_kept (Dropped drop) e = cc
+
+both_true : (a b : Bool) → (a && b) ≡ true → a ≡ true
+both_true true b e = refl
+both_true false b e = cc
+
+pub relays_known : (port : ℕ) (bytes : List ℕ) (l : ServerView) (takers : Recipients) → AreForClients l (relayed_to port bytes (clients_reached l takers))
+relays_known port bytes l takers =
+    let known : Client → Type 0 = λ c. is_some (client_at c.place l.clients) ≡ true in
+    All-map (λ (d : PlaceDatagram). is_some (client_at d.place l.clients) ≡ true) (λ (c : Client). place_datagram port bytes c.place) (clients_reached l takers)
+    (All-weaker (λ (c : Client). takers_reach l takers c.place ≡ true) known (λ c e. both_true (is_some (client_at c.place l.clients)) (is_taker takers c.place) e) (clients_reached l takers) (filter_passes (λ (c : Client). takers_reach l takers c.place) l.clients))
+
+answer_known : (port : ℕ) (place : Place) (l : ServerView) (answer : Option (List ℕ)) → (is_some answer ≡ true → is_some (client_at place l.clients) ≡ true) → AreForClients l (answer_for port place answer)
+answer_known port place l None h = All-nil (λ (d : PlaceDatagram). is_some (client_at d.place l.clients) ≡ true)
+answer_known port place l (Some answer) h =
+    All-cons (λ (d : PlaceDatagram). is_some (client_at d.place l.clients) ≡ true) (place_datagram port answer place) [] (h refl) (All-nil (λ (d : PlaceDatagram). is_some (client_at d.place l.clients) ≡ true))
+
+answered_apart : (joined : Bool) (heard : Disposition) → (joined ≡ true → answer_of heard ≡ None) → is_some (answer_of heard) ≡ true → joined ≡ false
+answered_apart true heard unanswered e = cc (ap is_some (unanswered refl))
+answered_apart false heard unanswered e = refl
+
+-- who is answered was heard and is no joined router, and so is a client
+pub sends_known : (joined : Bool) (l : ServerView) (heard : Disposition) (d : PlaceDatagram) (answer : Option (List ℕ)) (c : Client) → is_some answer ≡ is_some (answer_of heard) → (is_dropped heard ≡ false → joined ≡ false → client_at d.place l.clients ≡ Some c) → (joined ≡ true → answer_of heard ≡ None)
+    → AreForClients l (server_sends l heard d answer)
+sends_known joined l heard d answer c answered sender unanswered =
+    let one = λ (e : is_some answer ≡ true). sym answered ∙ e in
+    All-append (λ (s : PlaceDatagram). is_some (client_at s.place l.clients) ≡ true) (answer_for d.port d.place answer) (relayed_to d.port d.bytes (clients_reached l (takers_of heard)))
+    (answer_known d.port d.place l answer (λ e. ap (λ (o : Option Client). is_some o) (sender (answered_kept heard (one e)) (answered_apart joined heard unanswered (one e)))))
+    (relays_known d.port d.bytes l (takers_of heard))
+
+-- ---- what is sent on is for joined routers, and not what came from one
+
+pub relays_joined : (port : ℕ) (bytes : List ℕ) (l : ServerView) (takers : Recipients) → AreForRouters l (relayed_on port bytes (routers_reached l takers))
+relays_joined port bytes l takers =
+    All-map (λ (d : PlaceDatagram). is_joined_place d.place l.routers ≡ true) (λ (r : Place). place_datagram port bytes r) (routers_reached l takers)
+    (All-weaker (λ (r : Place). takers_join l takers r ≡ true) (λ (r : Place). is_joined_place r l.routers ≡ true) (λ r e. both_true (is_joined_place r l.routers) (is_joined_taker takers r) e) (routers_reached l takers) (filter_passes (λ (r : Place). takers_join l takers r) l.routers))
+
+notice_joined : (port : ℕ) (l : ServerView) (announcement : Option (List ℕ)) → AreForRouters l (notice_for port l announcement)
+notice_joined port l None = All-nil (λ (d : PlaceDatagram). is_joined_place d.place l.routers ≡ true)
+notice_joined port l (Some announcement) = relays_joined port announcement l Joined
+
+pub sends_joined : (l : ServerView) (heard : Disposition) (d : PlaceDatagram) (announcement : Option (List ℕ)) → AreForRouters l (joined_sends l heard d announcement)
+sends_joined l heard d announcement =
+    All-append (λ (s : PlaceDatagram). is_joined_place s.place l.routers ≡ true) (notice_for d.port l announcement) (relayed_on d.port d.bytes (routers_reached l (takers_of heard)))
+    (notice_joined d.port l announcement) (relays_joined d.port d.bytes l (takers_of heard))
+
+none_noticed : (heard : Disposition) → answer_of heard ≡ None → is_some (notice_of heard) ≡ false
+none_noticed (Registered answer) e = cc
+none_noticed (Pinged giver answer) e = refl
+none_noticed (ToClient place) e = refl
+none_noticed (ToOthers giver) e = refl
+none_noticed (ToOthersAndCore giver) e = refl
+none_noticed ToCore e = refl
+none_noticed (ToJoined takers) e = refl
+none_noticed (FromJoined told takers) e = refl
+none_noticed (Dropped drop) e = refl
+
+second_false : (a b : Bool) → b ≡ false → (a && b) ≡ false
+second_false true b e = e
+second_false false b e = refl
+
+past_by : (r : Place) (kept : List Place) (b : Bool) → b ≡ false → cond b (r ∷ kept) kept ≡ kept
+past_by r kept true e = cc
+past_by r kept false e = refl
+
+client_past : (c : Client) (kept : List Client) (b : Bool) → b ≡ false → cond b (c ∷ kept) kept ≡ kept
+client_past c kept true e = cc
+client_past c kept false e = refl
+
+none_joined : (l : ServerView) (takers : Recipients) (rs : List Place) → ((place : Place) → is_joined_taker takers place ≡ false) → filter (λ r. takers_join l takers r) rs ≡ []
+none_joined l takers [] ring = refl
+none_joined l takers (r ∷ rs) ring =
+    past_by r (filter (λ r. takers_join l takers r) rs) (takers_join l takers r) (second_false (is_joined_place r l.routers) (is_joined_taker takers r) (ring r)) ∙ none_joined l takers rs ring
+
+none_reached : (l : ServerView) (cs : List Client) → filter (λ c. takers_reach l Nobody c.place) cs ≡ []
+none_reached l [] = refl
+none_reached l (c ∷ cs) =
+    client_past c (filter (λ c. takers_reach l Nobody c.place) cs) (takers_reach l Nobody c.place) (second_false (is_some (client_at c.place l.clients)) false refl) ∙ none_reached l cs
+
+-- ---- what the core tells or asks all nodes by RIP and SAP goes to nobody
+
+given_to_nobody : (long broad : Bool) (drop : ServerDrop) (to_service : Bool) (rest : Result Recipients ServerDrop) → broad ≡ true → to_service ≡ true → takers_given (if long then Err drop else if broad then Ok (all_get to_service) else rest) ≡ Nobody
+given_to_nobody true broad drop to_service rest e f = refl
+given_to_nobody false true drop true rest e f = refl
+given_to_nobody false true drop false rest e f = cc
+given_to_nobody false false drop to_service rest e f = cc
+
+is_broadcast : (node : List ℕ) → node ≡ broadcast_node → bytes_eq node broadcast_node ≡ true
+is_broadcast node e = ap (λ (n : List ℕ). bytes_eq n broadcast_node) e ∙ refl
+
+pub told_to_nobody : (port : ℕ) (packet : List ℕ) (l after : ServerView) (node : Node) (p : PacketView) (given : Result Recipients ServerDrop) → is_to_service p.header ≡ true → node.0 ≡ broadcast_node
+    → given ≡ server_gives l node (is_to_service p.header) (length packet) → packet_sends port packet after (takers_given given) ≡ []
+told_to_nobody port packet l after node p given asks all is =
+    let nobody : takers_given given ≡ Nobody =
+    ap takers_given is ∙ given_to_nobody (nat_lt max_client_bytes (length packet)) (bytes_eq node.0 broadcast_node) (TooLong (length packet)) (is_to_service p.header) (client_gets l node (client_of_node node l.clients)) (is_broadcast node.0 all) asks in
+    let first : relayed_to port packet (clients_reached after Nobody) ≡ [] = ap (relayed_to port packet) (none_reached after after.clients) in
+    let second : relayed_on port packet (routers_reached after Nobody) ≡ [] = ap (relayed_on port packet) (none_joined after Nobody after.routers (λ place. refl)) in
+    ap (packet_sends port packet after) nobody ∙ ap (λ (ds : List PlaceDatagram). ds ++ relayed_on port packet (routers_reached after Nobody)) first ∙ second
+
+nothing_noticed : (port : ℕ) (l : ServerView) (announcement : Option (List ℕ)) → is_some announcement ≡ false → notice_for port l announcement ≡ []
+nothing_noticed port l None e = refl
+nothing_noticed port l (Some announcement) e = cc
+
+pub nothing_goes_round : (l : ServerView) (heard : Disposition) (d : PlaceDatagram) (announcement : Option (List ℕ)) → is_some announcement ≡ is_some (notice_of heard) → answer_of heard ≡ None → ((place : Place) → is_joined_taker (takers_of heard) place ≡ false)
+    → joined_sends l heard d announcement ≡ []
+nothing_goes_round l heard d announcement noticed unanswered ring =
+    let first : notice_for d.port l announcement ≡ [] = nothing_noticed d.port l announcement (noticed ∙ none_noticed heard unanswered) in
+    let second : relayed_on d.port d.bytes (routers_reached l (takers_of heard)) ≡ [] = ap (relayed_on d.port d.bytes) (none_joined l (takers_of heard) l.routers ring) in
+    ap (λ (ds : List PlaceDatagram). ds ++ relayed_on d.port d.bytes (routers_reached l (takers_of heard))) first ∙ second
+
+-- ---- what is heard behind what the sockets answered
+
+pub hears_behind : (now most : ℕ) (d : PlaceDatagram) (room : List ℕ) (up : Option ℕ) (servers : List ServerView) (kept : ℕ) (s t : Option PlaceTraffic) (f f' : ℕ) (new : ServersView) → f' ≡ f → PlacesPass s t (d ∷ []) []
+    → HearsAtServer now most d [] room up (servers_view servers kept t f') new → HearsAtServer now most d (d ∷ []) room up (servers_view servers kept s f) new
+hears_behind now most d room up servers kept s t f f' new as_often first r =
+    let sends : List PlaceDatagram = server_sends r.after r.heard d r.onward.answer ++ joined_sends r.after r.heard d r.onward.announcement in
+    let behind : HandsOver sends (d ∷ []) s new.traffic f' new.failed =
+    hands_behind sends (d ∷ []) s t new.traffic f' new.failed first r.onward.gone in
+    record {
+      server = r.server;
+      after = r.after;
+      heard = r.heard;
+      at_port = r.at_port;
+      hears = r.hears;
+      becomes = r.becomes;
+      onward = record {
+        answer = r.onward.answer;
+        answered = r.onward.answered;
+        is_it = r.onward.is_it;
+        announcement = r.onward.announcement;
+        noticed = r.onward.noticed;
+        is_notice = r.onward.is_notice;
+        gone = subst (λ (k : ℕ). HandsOver sends (d ∷ []) s new.traffic k new.failed) as_often behind;
+        once = r.onward.once;
+        back = r.onward.back;
+      };
+      known = r.known;
+      joined = r.joined;
+      ring = r.ring;
+      no_longer = r.no_longer;
+      core = r.core;
+      servers = r.servers;
+      counted = r.counted;
+    }

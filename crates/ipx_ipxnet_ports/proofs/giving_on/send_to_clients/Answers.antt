@@ -1,0 +1,26 @@
+use Rattle.std.proofs.Common.{refl, sym, ◌∙◌, arith}
+use Rattle.ipx_ipxnet_ports.proofs.Handing.{hands_none, reaches_one, reaches_past}
+use Rattle.ipx_ipxnet_ports.proofs.giving_on.send_to_clients.Goals as goal
+use Rattle.ipx_ipxnet_ports.proofs.giving_on.send_to_clients.Goals.{then-reaches, else-reaches}
+
+pub loop-client-init : goal.loop-client-init
+loop-client-init g c = record {
+  gone = hands_none _ _ _ _ refl refl;
+  ports = refl;
+  filtered = refl;
+}
+
+pub loop-client-preserved : goal.loop-client-preserved
+loop-client-preserved g c =
+    elim c.if-reaches.branch [
+      | then-reaches w ↦ rw w.sockets-is (record {
+        gone = reaches_one w.send.result c.args.server.now c.args.takers c.clients-clients.result.now c.loop-client.client-index _ c.args.port c.args.bytes.now _ _ _ _ _ _ (omega arith) (sym c.reaches.ensures ∙ w.if-reaches.true) c.loop-client.invariant.gone w.send.ensures.sent w.send.ensures.refused w.send.ensures.failures;
+        ports = w.send.ensures.ports ∙ c.loop-client.invariant.ports;
+        filtered = w.send.ensures.filtered ∙ c.loop-client.invariant.filtered;
+      })
+      | else-reaches w ↦ rw w.sockets-is (record {
+        gone = reaches_past c.args.server.now c.args.takers c.clients-clients.result.now c.loop-client.client-index _ c.args.port c.args.bytes.now _ _ _ _ (omega arith) (sym c.reaches.ensures ∙ w.if-reaches.false) c.loop-client.invariant.gone;
+        ports = c.loop-client.invariant.ports;
+        filtered = c.loop-client.invariant.filtered;
+      })
+    ]

@@ -1,0 +1,4 @@
+pub mod PlaceTraffic
+pub mod OnServers
+pub mod ServerAddresses
+pub mod PlacesMemory

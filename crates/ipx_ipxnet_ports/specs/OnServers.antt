@@ -1,0 +1,191 @@
+-- What ports for clients of ipxnet do with what comes from a place, and with the packets of their core.
+-- All of it is own; what a lobby makes of bytes stands with it.
+use Rattle.std.specs.Prelude.{◌≡◌, ◌≤◌, ◌⊎◌, ℕ, List, [], ◌∷◌, ◌++◌, All, Bool, true, false, Option, Some, None, IfSome, Result, Ok, Err, filter, is_some, length, map, nat_lt, slice_get, slice_set, take, if◌then◌else◌}
+use Rattle.ipx_wire.specs.Assigned.{broadcast_node}
+use Rattle.ipx_wire.specs.declared.address.Node.{Node}
+use Rattle.ipx_wire.specs.declared.ipx.fault.IpxFault.{IpxFault}
+use Rattle.ipx_wire.specs.Ipx.{BeginsWith, PacketView, ipx_fault}
+use Rattle.ipxnet_server.specs.declared.clients.Client.{Client}
+use Rattle.ipxnet_server.specs.declared.drops.ServerDrop.{ServerDrop}
+use Rattle.ipxnet_server.specs.declared.drops.ServerDrop.TheVariants.{Malformed}
+use Rattle.ipxnet_server.specs.declared.disposition.Disposition.{Disposition}
+use Rattle.ipxnet_server.specs.declared.disposition.Disposition.TheVariants.{Dropped}
+use Rattle.ipxnet_server.specs.declared.place.Place.{Place}
+use Rattle.ipxnet_server.specs.declared.port.ServerPort.{ServerPort}
+use Rattle.ipxnet_server.specs.declared.recipients.Recipients.{Recipients}
+use Rattle.ipxnet_server.specs.declared.recipients.Recipients.TheVariants.{Nobody, Joined}
+use Rattle.ipxnet_server.specs.ServerClients.{EachClientOnce, client_at}
+use Rattle.ipxnet_server.specs.ServerHears.{IsAnswer, IsNotice, ServerView, answer_of, goes_to_core, is_taker, is_to_service, server_aged, server_gives, server_giving, server_hearing, server_hears, max_client_bytes, notice_of, takers_join, takers_of, takers_reach}
+use Rattle.ipxnet_server.specs.PeerServers.{is_joined_place}
+use Rattle.ipx_carrier.specs.declared.segments.PacketSent.{PacketSent}
+use Rattle.ipx_carrier.specs.declared.segments.PacketSent.TheVariants.{Unmapped, Transmitted}
+use Rattle.ipx_carrier.specs.Counting.{raised}
+use Rattle.ipx_carrier.specs.Turns.{Given, Ways}
+use Rattle.ipx_ipxnet_ports.specs.PlaceTraffic.{HandsOver, PlaceDatagram, PlaceTraffic, PlacesPass, place_datagram}
+
+-- each packet of the core is handed to the lobby of its port once, and one that is too long for clients
+-- is not. Who the clients are, and so where it goes, changes with what comes
+abbrev pub by_servers : Ways Given
+by_servers p = if nat_lt max_client_bytes (length p.bytes) then None else Some (p ∷ [])
+
+-- what of lobbies no call changes: the port of each, and how many clients it may have
+abbrev pub server_ports : List ServerView → List (ServerPort × ℕ)
+server_ports servers = map (λ l. (l.port, l.most)) servers
+
+-- the clients that takers reach, in the order in which the lobby has them
+abbrev pub clients_reached : ServerView → Recipients → List Client
+clients_reached l takers = filter (λ c. takers_reach l takers c.place) l.clients
+
+-- the same bytes for each of them
+abbrev pub relayed_to : ℕ → List ℕ → List Client → List PlaceDatagram
+relayed_to port bytes clients = map (λ c. place_datagram port bytes c.place) clients
+
+-- the places of joined routers that takers have, in order, and the same bytes for each of these
+abbrev pub routers_reached : ServerView → Recipients → List Place
+routers_reached l takers = filter (λ r. takers_join l takers r) l.routers
+
+abbrev pub relayed_on : ℕ → List ℕ → List Place → List PlaceDatagram
+relayed_on port bytes routers = map (λ r. place_datagram port bytes r) routers
+
+-- an answer to a place, if there is one
+abbrev pub answer_for : ℕ → Place → Option (List ℕ) → List PlaceDatagram
+answer_for port place None = []
+answer_for port place (Some answer) = place_datagram port answer place ∷ []
+
+-- what a lobby sends of bytes that it heard, with this answer: first that, if there is one, to the place
+-- that they came from, and then the bytes, as they came, to each of the clients that get them
+abbrev pub server_sends : ServerView → Disposition → PlaceDatagram → Option (List ℕ) → List PlaceDatagram
+server_sends l heard d answer = answer_for d.port d.place answer
+    ++ relayed_to d.port d.bytes (clients_reached l (takers_of heard))
+
+-- what tells each joined router that a client registered, if one did
+abbrev pub notice_for : ℕ → ServerView → Option (List ℕ) → List PlaceDatagram
+notice_for port l None = []
+notice_for port l (Some announcement) = relayed_on port announcement (routers_reached l Joined)
+
+-- what goes on to joined routers: that notice, and the bytes, as they came, to each that gets them
+abbrev pub joined_sends : ServerView → Disposition → PlaceDatagram → Option (List ℕ) → List PlaceDatagram
+joined_sends l heard d announcement = notice_for d.port l announcement
+    ++ relayed_on d.port d.bytes (routers_reached l (takers_of heard))
+
+-- each of these is for the place of a joined router
+abbrev pub AreForRouters : ServerView → List PlaceDatagram → Type 0
+AreForRouters l datagrams = All (λ d. is_joined_place d.place l.routers ≡ true) datagrams
+
+-- each of these is for a place where a client is known
+abbrev pub AreForClients : ServerView → List PlaceDatagram → Type 0
+AreForClients l datagrams = All (λ d. is_some (client_at d.place l.clients) ≡ true) datagrams
+
+-- what a lobby makes of bytes from a place: of those of no packet, and of those that begin with one
+pub record HearsBytes (l : ServerView) (from : Place) (bytes : List ℕ) (now : ℕ) (heard : Disposition) : Type 0 where
+  pub malformed : (f : IpxFault) → ipx_fault bytes ≡ Some f → heard ≡ Dropped (Malformed f)
+  pub packet : (p : PacketView) → BeginsWith bytes p
+      → heard ≡ server_hears (server_aged now l) from p (length bytes) now
+
+-- bytes that a lobby heard go on, behind what came: all that it sends is handed to the sockets, with the
+-- answer that is theirs, if they have one, and then what is for joined routers. Its clients are each at one
+-- place, and those that get the bytes are not at the one that they came from
+pub record GivesOn (l : ServerView) (heard : Disposition) (d : PlaceDatagram) (came : List PlaceDatagram) (old new : Option PlaceTraffic) (failed failed_after : ℕ) : Type 0 where
+  pub answer : Option (List ℕ)
+  pub answered : is_some answer ≡ is_some (answer_of heard)
+  pub is_it : IfSome answer (λ bytes. IsAnswer heard bytes)
+  pub announcement : Option (List ℕ)
+  pub noticed : is_some announcement ≡ is_some (notice_of heard)
+  pub is_notice : IfSome announcement (λ bytes. IsNotice heard bytes)
+  pub gone : HandsOver (server_sends l heard d answer ++ joined_sends l heard d announcement) came
+      old new failed failed_after
+  pub once : EachClientOnce l.clients
+  pub back : is_taker (takers_of heard) d.place ≡ false
+
+-- the core gets bytes, as far as its room takes them, where it is to have them; else it gets nothing
+abbrev pub TakesBytes : Bool → List ℕ → ℕ → List ℕ → Option ℕ → Type 0
+TakesBytes gets bytes most room (Some n) = (gets ≡ true) × (take n room ≡ take most bytes)
+TakesBytes gets bytes most room None = gets ≡ false
+
+-- the count of what the core did not get
+abbrev pub kept_count : Option ℕ → ℕ → ℕ
+kept_count None kept = raised kept
+kept_count (Some n) kept = kept
+
+-- ports for clients, but for what their sockets are: their lobbies, how much was kept from the core, what
+-- passed through the sockets, and how often those failed
+pub record ServersView : Type 0 where
+  pub servers : List ServerView
+  pub kept : ℕ
+  pub traffic : Option PlaceTraffic
+  pub failed : ℕ
+
+abbrev pub servers_view : List ServerView → ℕ → Option PlaceTraffic → ℕ → ServersView
+servers_view servers kept traffic failed =
+    record { servers = servers; kept = kept; traffic = traffic; failed = failed }
+
+-- bytes are heard that came from a place to the port of a lobby, and behind them nothing but these: they
+-- are answered, and go on to clients and joined routers, as the lobby says, and the core gets them where it
+-- is to. Nothing goes where no client is known then and no router is joined, nothing to those behind what one
+-- of them sent, and an answer has no more bytes than it answers
+pub record HearsAtServer (now most : ℕ) (d : PlaceDatagram) (came : List PlaceDatagram) (room : List ℕ) (up : Option ℕ) (old new : ServersView) : Type 0 where
+  pub server : ServerView
+  pub after : ServerView
+  pub heard : Disposition
+  pub at_port : slice_get old.servers d.port ≡ Some server
+  pub hears : HearsBytes server d.place d.bytes now heard
+  pub becomes : after ≡ server_hearing heard d.place now (server_aged now server)
+  pub onward : GivesOn after heard d came old.traffic new.traffic old.failed new.failed
+  pub known : AreForClients after (server_sends after heard d onward.answer)
+  pub joined : AreForRouters after (joined_sends after heard d onward.announcement)
+  pub ring : is_joined_place d.place server.routers ≡ true
+      → joined_sends after heard d onward.announcement ≡ []
+  pub no_longer : (answer : List ℕ) → IsAnswer heard answer → length answer ≤ length d.bytes
+  pub core : TakesBytes (goes_to_core heard) d.bytes most room up
+  pub servers : new.servers ≡ slice_set old.servers d.port after
+  pub counted : new.kept ≡ kept_count up old.kept
+
+-- the same of what the sockets say, which may be that nothing came, or that they failed, which they count
+abbrev pub ReceivesAtServer : ℕ → ℕ → Option PlaceDatagram → List ℕ → Option ℕ → ServersView → ServersView → Type 0
+ReceivesAtServer now most None room up old new = (up ≡ None) × (new.servers ≡ old.servers)
+    × (new.kept ≡ old.kept) × PlacesPass old.traffic new.traffic [] []
+    × ((new.failed ≡ old.failed) ⊎ (new.failed ≡ raised old.failed))
+ReceivesAtServer now most (Some d) room up old new =
+    HearsAtServer now most d (d ∷ []) room up old new
+
+-- the clients and joined routers that a packet of the core goes to
+abbrev pub takers_given : Result Recipients ServerDrop → Recipients
+takers_given (Ok takers) = takers
+takers_given (Err drop) = Nobody
+
+-- what is said of one of so many bytes
+abbrev pub packet_said : ℕ → PacketSent
+packet_said size = if nat_lt max_client_bytes size then Unmapped else Transmitted 1
+
+-- what goes to the places of those who get it, the clients first
+abbrev pub packet_sends : ℕ → List ℕ → ServerView → Recipients → List PlaceDatagram
+packet_sends port packet l takers = relayed_to port packet (clients_reached l takers)
+    ++ relayed_on port packet (routers_reached l takers)
+
+-- whom bytes of the core for a node reach: those of no packet, and those that begin with one
+pub record GivesBytes (l : ServerView) (node : Node) (bytes : List ℕ) (now : ℕ) (given : Result Recipients ServerDrop) : Type 0 where
+  pub malformed : (f : IpxFault) → ipx_fault bytes ≡ Some f
+      → given ≡ server_gives (server_aged now l) node false (length bytes)
+  pub packet : (p : PacketView) → BeginsWith bytes p
+      → given ≡ server_gives (server_aged now l) node (is_to_service p.header) (length bytes)
+
+-- a packet of the core for a node goes, as it is, to each of the clients that the lobby of its port says,
+-- who are each at one place, and each of the joined routers; and what the lobby refuses is counted there.
+-- One that tells or asks all nodes by RIP or SAP goes nowhere
+pub record SendsThroughServer (now port : ℕ) (node : Node) (packet : List ℕ) (sent : PacketSent) (old new : ServersView) : Type 0 where
+  pub server : ServerView
+  pub after : ServerView
+  pub given : Result Recipients ServerDrop
+  pub at_port : slice_get old.servers port ≡ Some server
+  pub gives : GivesBytes server node packet now given
+  pub becomes : after ≡ server_giving given (server_aged now server)
+  pub gone : HandsOver (packet_sends port packet after (takers_given given)) []
+      old.traffic new.traffic old.failed new.failed
+  pub quiet : (p : PacketView) → BeginsWith packet p → is_to_service p.header ≡ true
+      → node.0 ≡ broadcast_node → packet_sends port packet after (takers_given given) ≡ []
+  pub once : EachClientOnce after.clients
+  pub known : AreForClients after (relayed_to port packet (clients_reached after (takers_given given)))
+  pub joined : AreForRouters after (relayed_on port packet (routers_reached after (takers_given given)))
+  pub said : sent ≡ packet_said (length packet)
+  pub servers : new.servers ≡ slice_set old.servers port after
+  pub counted : new.kept ≡ old.kept

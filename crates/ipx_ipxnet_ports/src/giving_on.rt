@@ -1,0 +1,126 @@
+//! What a lobby sends to places.
+
+ghost use Rattle.std.specs.Prelude.{◌≡◌, ◌<◌, [], false};
+ghost use Rattle.ipxnet_server.specs.ServerClients.{EachClientOnce};
+ghost use Rattle.ipxnet_server.specs.ServerHears.{is_taker, takers_of};
+ghost use Rattle.ipx_ipxnet_ports.specs.OnServers.{GivesOn, answer_for, clients_reached, notice_for, relayed_on, relayed_to, routers_reached};
+ghost use Rattle.ipx_ipxnet_ports.specs.PlaceTraffic.{HandsOver, place_datagram};
+
+use crate::place_sockets::PlaceSockets;
+use ipxnet_server::{Disposition, IpxnetServer, Place, Recipients};
+use ipx_wire::IPX_HEADER_SIZE;
+
+/// Sends bytes by a port to each client of its lobby that takers reach, in order. Where that fails at
+/// one, the others get them still.
+pub fn send_to_clients<D: PlaceSockets>(
+    sockets: &mut D,
+    port: usize,
+    server: &IpxnetServer,
+    takers: Recipients,
+    bytes: &[u8],
+)
+    requires { port < D.port_count sockets.old }
+    ensures gone { HandsOver (relayed_to port bytes.now (clients_reached server.now takers)) []
+        (D.traffic sockets.old) (D.traffic sockets.new)
+        (D.failed sockets.old) (D.failed sockets.new) }
+    ensures once { EachClientOnce server.now.clients }
+    ensures ports { D.port_count sockets.new ≡ D.port_count sockets.old }
+    ensures filtered { D.filtered sockets.new ≡ D.filtered sockets.old }
+{
+    let clients = server.clients();
+    for client in clients {
+        if server.reaches(takers, client.place) {
+            let _ = sockets.send(port, client.place, bytes);
+        }
+    }
+}
+
+/// Sends bytes by a port to each joined router that takers have, in order. Where that fails at one, the
+/// others get them still.
+pub fn send_to_routers<D: PlaceSockets>(
+    sockets: &mut D,
+    port: usize,
+    server: &IpxnetServer,
+    takers: Recipients,
+    bytes: &[u8],
+)
+    requires { port < D.port_count sockets.old }
+    ensures gone { HandsOver (relayed_on port bytes.now (routers_reached server.now takers)) []
+        (D.traffic sockets.old) (D.traffic sockets.new)
+        (D.failed sockets.old) (D.failed sockets.new) }
+    ensures ports { D.port_count sockets.new ≡ D.port_count sockets.old }
+    ensures filtered { D.filtered sockets.new ≡ D.filtered sockets.old }
+{
+    let routers = server.routers();
+    for router in routers {
+        if server.joins(takers, *router) {
+            let _ = sockets.send(port, *router, bytes);
+        }
+    }
+}
+
+/// Tells each joined router by a port that a client registered, if one did.
+fn send_notice<D: PlaceSockets>(
+    sockets: &mut D,
+    port: usize,
+    server: &IpxnetServer,
+    announcement: Option<[u8; IPX_HEADER_SIZE]>,
+)
+    requires { port < D.port_count sockets.old }
+    ensures gone { HandsOver (notice_for port server.now announcement) []
+        (D.traffic sockets.old) (D.traffic sockets.new)
+        (D.failed sockets.old) (D.failed sockets.new) }
+    ensures ports { D.port_count sockets.new ≡ D.port_count sockets.old }
+    ensures filtered { D.filtered sockets.new ≡ D.filtered sockets.old }
+{
+    if let Some(announcement) = announcement {
+        send_to_routers(sockets, port, server, Recipients::Joined, &announcement);
+    }
+}
+
+/// Sends an answer by a port to a place, if there is one.
+fn send_answer<D: PlaceSockets>(
+    sockets: &mut D,
+    port: usize,
+    place: Place,
+    answer: Option<[u8; IPX_HEADER_SIZE]>,
+)
+    requires { port < D.port_count sockets.old }
+    ensures gone { HandsOver (answer_for port place answer) []
+        (D.traffic sockets.old) (D.traffic sockets.new)
+        (D.failed sockets.old) (D.failed sockets.new) }
+    ensures ports { D.port_count sockets.new ≡ D.port_count sockets.old }
+    ensures filtered { D.filtered sockets.new ≡ D.filtered sockets.old }
+{
+    if let Some(answer) = answer {
+        let _ = sockets.send(port, place, &answer);
+    }
+}
+
+/// Sends by a port what its lobby has to send of bytes that came from a place and that it heard: the
+/// answer first, since a client takes the first datagram that it gets for it, and then the bytes, as
+/// they came, to the clients that get them; and behind these what is for joined routers.
+///
+/// The caller owes that these are not at that place.
+pub fn give_on<D: PlaceSockets>(
+    sockets: &mut D,
+    port: usize,
+    server: &IpxnetServer,
+    heard: Disposition,
+    from: Place,
+    bytes: &[u8],
+)
+    requires there { port < D.port_count sockets.old }
+    requires back { is_taker (takers_of heard) from ≡ false }
+    ensures gone { GivesOn server.now heard (place_datagram port bytes.now from) []
+        (D.traffic sockets.old) (D.traffic sockets.new)
+        (D.failed sockets.old) (D.failed sockets.new) }
+    ensures ports { D.port_count sockets.new ≡ D.port_count sockets.old }
+    ensures filtered { D.filtered sockets.new ≡ D.filtered sockets.old }
+{
+    send_answer(sockets, port, from, heard.answer());
+    let takers = heard.takers();
+    send_to_clients(sockets, port, server, takers, bytes);
+    send_notice(sockets, port, server, heard.announcement());
+    send_to_routers(sockets, port, server, takers, bytes);
+}

@@ -1,0 +1,157 @@
+//! Sockets in memory, for tests and for what is run without a network.
+
+ghost use Rattle.std.specs.Prelude.{◌≡◌, ◌++◌, ◌∷◌, [], None, Some, OnErr, OnOk};
+ghost use Rattle.ipx_ipxnet_ports.specs.PlaceTraffic.{place_datagram};
+ghost use Rattle.ipx_ipxnet_ports.specs.PlacesMemory.{datagrams_waiting, memory_datagrams, places_traffic};
+
+use crate::front::put_front;
+use crate::place_sockets::{DatagramCame, PlaceSockets};
+use ipx_carrier::{DeviceFault, saturating_increment};
+use ipxnet_server::Place;
+use ipx_wire::OutOfMemory;
+use std::alloc::Global;
+
+/// A datagram that came from a place, or that went to one.
+#[derive(Debug, Drop)]
+pub struct MemoryDatagram {
+    pub port: usize,
+    pub place: Place,
+    pub bytes: Vec<u8>,
+}
+
+/// Sockets whose datagrams are put into them, and which keep what came and went. Each has a place.
+///
+/// Datagrams of a port come in the order in which they were put. Sending fails to the place that was
+/// named with [`MemoryPlaces::break_place`]; else want of memory is a failure, and nothing else is.
+#[derive(Drop)]
+pub struct MemoryPlaces {
+    alloc: Global,
+    ports: usize,
+    waiting: Vec<MemoryDatagram>,
+    came: Vec<MemoryDatagram>,
+    went: Vec<MemoryDatagram>,
+    broken: Option<Place>,
+    failures: u64,
+}
+
+/// Keeps a datagram behind others.
+fn keep_datagram(
+    alloc: Global,
+    datagrams: &mut Vec<MemoryDatagram>,
+    port: usize,
+    place: Place,
+    bytes: &[u8],
+) -> Result<(), OutOfMemory>
+    ensures kept { OnOk result (memory_datagrams datagrams.new.items
+        ≡ memory_datagrams datagrams.old.items ++ place_datagram port bytes.now place ∷ []) }
+    ensures refused { OnErr result (datagrams.new.items ≡ datagrams.old.items) }
+{
+    let bytes = bytes.to_vec(alloc)?;
+    datagrams.push(MemoryDatagram { port, place, bytes })?;
+    Ok(())
+}
+
+/// Takes the first datagram of a port, if one waits.
+fn take_first(waiting: &mut Vec<MemoryDatagram>, port: usize) -> Option<MemoryDatagram> {
+    let first = waiting.iter().position(|datagram| datagram.port == port)?;
+    Some(waiting.remove(first))
+}
+
+impl MemoryPlaces {
+    /// Sockets with so many ports, to which nothing came yet.
+    pub fn new(alloc: Global, ports: usize) -> MemoryPlaces
+        ensures ports { result.ports ≡ ports }
+        ensures traffic { places_traffic result ≡ record { came = []; went = [] } }
+        ensures waiting { datagrams_waiting result ≡ [] }
+        ensures fresh { (result.broken ≡ None) × (result.failures ≡ 0) }
+    {
+        MemoryPlaces {
+            alloc,
+            ports,
+            waiting: Vec::new(alloc),
+            came: Vec::new(alloc),
+            went: Vec::new(alloc),
+            broken: None,
+            failures: 0,
+        }
+    }
+
+    /// Puts a datagram of a place behind those that wait at a port.
+    pub fn put(&mut self, port: usize, place: Place, bytes: &[u8]) -> Result<(), OutOfMemory>
+        ensures put { OnOk result (datagrams_waiting self.new
+            ≡ datagrams_waiting self.old ++ place_datagram port bytes.now place ∷ []) }
+        ensures refused { OnErr result (datagrams_waiting self.new ≡ datagrams_waiting self.old) }
+        ensures ports { self.new.ports ≡ self.old.ports }
+        ensures traffic { places_traffic self.new ≡ places_traffic self.old }
+        ensures rest { (self.new.failures ≡ self.old.failures)
+            × (self.new.broken ≡ self.old.broken) }
+    {
+        keep_datagram(self.alloc, &mut self.waiting, port, place, bytes)
+    }
+
+    /// Sending to a place fails from now on, and to no other that was named before.
+    pub fn break_place(&mut self, place: Place)
+        ensures { self.new ≡ record self.old { broken = Some place } }
+    {
+        self.broken = Some(place);
+    }
+
+    /// What went out so far, the first one first.
+    pub fn went(&self) -> &[MemoryDatagram]
+        ensures { memory_datagrams result.now ≡ (places_traffic self.now).went }
+    {
+        &self.went
+    }
+}
+
+impl PlaceSockets for MemoryPlaces {
+    ghost port_count = { λ m. m.ports };
+
+    ghost failed = { λ m. m.failures };
+
+    ghost traffic = { λ m. Some (places_traffic m) };
+
+    // Each datagram has a place.
+    ghost filtered = { λ m. 0 };
+
+    fn ports(&self) -> usize {
+        self.ports
+    }
+
+    fn failures(&self) -> u64 {
+        self.failures
+    }
+
+    fn from_nowhere(&self) -> u64 {
+        0
+    }
+
+    fn send(&mut self, port: usize, place: Place, bytes: &[u8]) -> Result<(), DeviceFault> {
+        if self.broken == Some(place) {
+            saturating_increment(&mut self.failures);
+            return Err(DeviceFault);
+        }
+        if keep_datagram(self.alloc, &mut self.went, port, place, bytes).is_err() {
+            saturating_increment(&mut self.failures);
+            return Err(DeviceFault);
+        }
+        Ok(())
+    }
+
+    fn receive(
+        &mut self,
+        port: usize,
+        room: &mut [u8],
+    ) -> Result<Option<DatagramCame>, DeviceFault> {
+        let Some(datagram) = take_first(&mut self.waiting, port) else {
+            return Ok(None);
+        };
+        let size = put_front(&datagram.bytes, room);
+        let from = datagram.place;
+        if keep_datagram(self.alloc, &mut self.came, port, from, &room[..size]).is_err() {
+            saturating_increment(&mut self.failures);
+            return Err(DeviceFault);
+        }
+        Ok(Some(DatagramCame { from, size }))
+    }
+}

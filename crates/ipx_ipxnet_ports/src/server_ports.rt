@@ -1,0 +1,258 @@
+//! Ports for clients that register.
+
+ghost use Rattle.std.specs.Prelude.{◌≡◌, ◌<◌, ◌≤◌, ◌+◌, ◌^◌, [], Option, None, IfOk, IfSome, OnErr, length, min, slice_set, true};
+ghost use Rattle.ipx_carrier.specs.PortDrivers.{copies_count, count_in};
+ghost use Rattle.ipx_ipxnet_ports.specs.OnServers.{HearsAtServer, ReceivesAtServer, SendsThroughServer, by_servers, servers_view, server_ports, packet_said};
+ghost use Rattle.ipx_ipxnet_ports.specs.PlaceTraffic.{PlaceDatagram, place_datagram};
+
+use crate::front::put_front;
+use crate::giving_on::{give_on, send_to_clients, send_to_routers};
+use crate::place_sockets::PlaceSockets;
+use crate::sockets::ServerSockets;
+use ipx_carrier::{DeviceFault, PacketSent, PortDriver, PortDriverFilters, saturating_increment};
+use ipxnet_server::{IpxnetServer, MAX_CLIENT_BYTES, Place, Recipients};
+use ipx_wire::Node;
+
+/// The room that a datagram is received into: more than any that goes on to clients has.
+const DATAGRAM_ROOM: usize = 1536;
+
+/// Ports for clients that register, each with a lobby of its own, which may be joined to those of
+/// other routers: what a client sends is answered and goes on to others, the core gets what is for it,
+/// and its packets go to clients. There are as many ports as both the sockets and the lobbies are for.
+///
+/// What can't be sent to one client is lost there, as it may be on the way, and the sockets count it,
+/// as they do where they can't receive: nothing of it keeps others from theirs.
+#[derive(Drop)]
+pub struct Servers<D: PlaceSockets + Drop> {
+    sockets: D,
+    servers: Vec<IpxnetServer>,
+    moment: u64,
+    kept: u64,
+}
+
+/// What is said of a packet of the core of so many bytes: one that is not too long for clients was
+/// handed to its lobby, whoever gets it there.
+fn said_of(size: usize) -> PacketSent
+    ensures { result ≡ packet_said size }
+{
+    if size > MAX_CLIENT_BYTES {
+        PacketSent::Unmapped
+    } else {
+        PacketSent::Transmitted(1)
+    }
+}
+
+impl<D: PlaceSockets + Drop> Servers<D> {
+    /// Ports of these sockets, with their lobbies in order, at the moment 0.
+    pub fn new(sockets: D, servers: Vec<IpxnetServer>) -> Servers<D>
+        ensures sockets { result.sockets ≡ sockets }
+        ensures servers { result.servers.items ≡ servers.items }
+        ensures fresh { (result.moment ≡ 0) × (result.kept ≡ 0) }
+    {
+        Servers {
+            sockets,
+            servers,
+            moment: 0,
+            kept: 0,
+        }
+    }
+
+    /// Sets the moment, in ms, at which what comes and goes from now on does so. One calls it before
+    /// each turn, or before each burst of them.
+    pub fn set_moment(&mut self, moment: u64)
+        ensures { self.new ≡ record self.old { moment = moment } }
+    {
+        self.moment = moment;
+    }
+
+    /// The sockets, to be asked between two runs.
+    pub fn sockets(&self) -> &D
+        ensures { result.now ≡ self.now.sockets }
+    {
+        &self.sockets
+    }
+
+    /// The lobbies of the ports, in order: who their clients are, and what they dropped.
+    pub fn servers(&self) -> &[IpxnetServer]
+        ensures { result.now ≡ self.now.servers.items }
+    {
+        &self.servers
+    }
+
+    /// Sends a packet of the core to the clients of a port that its node stands for, and to the joined
+    /// routers behind which that may be.
+    fn send_packet(&mut self, port: usize, node: Node, packet: &[u8]) -> PacketSent
+        requires server { port < length self.old.servers.items }
+        requires there { port < D.port_count self.old.sockets }
+        ensures sent { SendsThroughServer self.old.moment port node packet.now result
+            (servers_view self.old.servers.items self.old.kept
+            (D.traffic self.old.sockets) (D.failed self.old.sockets))
+            (servers_view self.new.servers.items self.new.kept
+            (D.traffic self.new.sockets) (D.failed self.new.sockets)) }
+        ensures rest { self.new.moment ≡ self.old.moment }
+        ensures ports { D.port_count self.new.sockets ≡ D.port_count self.old.sockets }
+        ensures filtered { D.filtered self.new.sockets ≡ D.filtered self.old.sockets }
+    {
+        let server = &mut self.servers[port];
+        let takers = match server.give(node, packet, self.moment) {
+            Ok(takers) => takers,
+            Err(_) => Recipients::Nobody,
+        };
+        send_to_clients(&mut self.sockets, port, server, takers, packet);
+        send_to_routers(&mut self.sockets, port, server, takers, packet);
+        said_of(packet.len())
+    }
+
+    /// Answers and gives on what came from a place to a port, and takes what is for the core into the
+    /// room.
+    fn hear_datagram(
+        &mut self,
+        port: usize,
+        from: Place,
+        bytes: &[u8],
+        room: &mut [u8],
+    ) -> Option<usize>
+        requires server { port < length self.old.servers.items }
+        requires there { port < D.port_count self.old.sockets }
+        ensures heard { HearsAtServer self.old.moment (length room.old)
+            (place_datagram port bytes.now from) [] room.new result
+            (servers_view self.old.servers.items self.old.kept
+            (D.traffic self.old.sockets) (D.failed self.old.sockets))
+            (servers_view self.new.servers.items self.new.kept
+            (D.traffic self.new.sockets) (D.failed self.new.sockets)) }
+        ensures within { IfSome result (λ n. n ≤ length room.old) }
+        ensures untouched { result ≡ None → room.new ≡ room.old }
+        ensures rest { self.new.moment ≡ self.old.moment }
+        ensures grows { self.old.kept ≤ self.new.kept }
+        ensures ports { D.port_count self.new.sockets ≡ D.port_count self.old.sockets }
+        ensures filtered { D.filtered self.new.sockets ≡ D.filtered self.old.sockets }
+    {
+        let server = &mut self.servers[port];
+        let heard = server.hear(from, bytes, self.moment);
+        give_on(&mut self.sockets, port, server, heard, from, bytes);
+        if !heard.is_for_core() {
+            saturating_increment(&mut self.kept);
+            return None;
+        }
+        Some(put_front(bytes, room))
+    }
+}
+
+impl Servers<ServerSockets> {
+    /// Something came to the socket of a port, as `ServerSockets::mark` says.
+    pub fn mark(&mut self, port: usize)
+        ensures { self.new ≡ record self.old {
+          sockets = record self.old.sockets {
+            marks = slice_set self.old.sockets.marks port true;
+          };
+        } }
+    {
+        self.sockets.mark(port);
+    }
+}
+
+impl<D: PlaceSockets + Drop> PortDriver for Servers<D> {
+    ghost use Rattle.std.specs.Prelude.{List, ℕ};
+    ghost use Rattle.ipx_carrier.specs.Turns.{Given};
+    ghost use Rattle.ipxnet_server.specs.declared.port.ServerPort.{ServerPort};
+
+    // A packet that is handed to the lobby of its port.
+    ghost Copy = { Given };
+
+    // The ports of the lobbies, with how many clients each may have, the moment, and how many ports the
+    // sockets have.
+    ghost Kept = { List (ServerPort × ℕ) × ℕ × ℕ };
+
+    ghost kept = { λ l. (server_ports l.servers.items, l.moment, D.port_count l.sockets) };
+
+    ghost port_count = { λ l. min (length l.servers.items) (D.port_count l.sockets) };
+
+    // What can't be sent or received fails there alone, and the sockets count it.
+    ghost failed = { λ l. 0 };
+
+    ghost transmissions = { λ l. by_servers };
+
+    // What goes to places is told by the sockets.
+    ghost traffic = { λ l. None };
+
+    // What is for clients alone isn't handed up, so they can't tell what will be.
+    ghost waiting = { λ l. None };
+
+    // Whoever registers may speak.
+    ghost access = { λ l. [] };
+
+    ghost filtered = { λ l. l.kept + D.filtered l.sockets };
+
+    fn ports(&self) -> usize {
+        self.servers.len().min(self.sockets.ports())
+    }
+
+    fn failures(&self) -> u64 {
+        0
+    }
+
+    fn send(&mut self, port: usize, node: Node, packet: &[u8]) -> Result<PacketSent, DeviceFault>
+        requires there { port < min (length self.old.servers.items)
+            (D.port_count self.old.sockets) }
+        // The packet goes to the clients of its node, or to joined routers, or the lobby refuses it.
+        ensures sent { IfOk result (λ sent. SendsThroughServer self.old.moment port node packet.now sent
+            (servers_view self.old.servers.items self.old.kept
+            (D.traffic self.old.sockets) (D.failed self.old.sockets))
+            (servers_view self.new.servers.items self.new.kept
+            (D.traffic self.new.sockets) (D.failed self.new.sockets))) }
+        ensures goes_on { OnErr result ⊥ }
+        ensures count { IfOk result (λ sent. count_in sent ≡ copies_count by_servers
+            (record { port = port; node = node; bytes = packet.now })) }
+        ensures moment { self.new.moment ≡ self.old.moment }
+        ensures servers { length self.new.servers.items ≡ length self.old.servers.items }
+        ensures stays { server_ports self.new.servers.items ≡ server_ports self.old.servers.items }
+        ensures kept { self.new.kept ≡ self.old.kept }
+        ensures filtered { D.filtered self.new.sockets ≡ D.filtered self.old.sockets }
+        ensures ports { D.port_count self.new.sockets ≡ D.port_count self.old.sockets }
+    {
+        Ok(self.send_packet(port, node, packet))
+    }
+
+    fn receive(&mut self, port: usize, room: &mut [u8]) -> Result<Option<usize>, DeviceFault>
+        requires there { port < min (length self.old.servers.items)
+            (D.port_count self.old.sockets) }
+        // A datagram came from a place and was heard, or none came, or the sockets failed.
+        ensures received { IfOk result (λ up. (came : Option PlaceDatagram)
+            × IfSome came (λ d. d.port ≡ port)
+            × ReceivesAtServer self.old.moment (length room.old) came room.new up
+            (servers_view self.old.servers.items self.old.kept
+            (D.traffic self.old.sockets) (D.failed self.old.sockets))
+            (servers_view self.new.servers.items self.new.kept
+            (D.traffic self.new.sockets) (D.failed self.new.sockets))) }
+        ensures within { IfOk result (λ up. IfSome up (λ n. n ≤ length room.old)) }
+        // The room is as it was where nothing is for the core.
+        ensures untouched { IfOk result (λ up. up ≡ None → room.new ≡ room.old) }
+        ensures goes_on { OnErr result ⊥ }
+        ensures moment { self.new.moment ≡ self.old.moment }
+        ensures servers { length self.new.servers.items ≡ length self.old.servers.items }
+        ensures stays { server_ports self.new.servers.items ≡ server_ports self.old.servers.items }
+        ensures kept { self.old.kept ≤ self.new.kept }
+        ensures filtered { D.filtered self.old.sockets ≤ D.filtered self.new.sockets }
+        ensures ports { D.port_count self.new.sockets ≡ D.port_count self.old.sockets }
+    {
+        let mut datagram = [0; DATAGRAM_ROOM];
+        let Ok(came) = self.sockets.receive(port, &mut datagram) else {
+            return Ok(None);
+        };
+        let Some(came) = came else {
+            return Ok(None);
+        };
+        Ok(self.hear_datagram(port, came.from, &datagram[..came.size], room))
+    }
+}
+
+impl<D: PlaceSockets + Drop> PortDriverFilters for Servers<D> {
+    /// How much that came was kept from the core: what the lobbies did not give it, also what they
+    /// answered or gave on, and what came from no place.
+    fn filtered(&self) -> u128
+        ensures total { result ≡ self.now.kept + D.filtered self.now.sockets }
+        ensures few { result < 2 ^ 65 }
+    {
+        u128::from(self.kept) + u128::from(self.sockets.from_nowhere())
+    }
+}

@@ -1,0 +1,256 @@
+//! Sockets of UDP as those of lobbies.
+
+ghost use Rattle.std.specs.Prelude.{◌≡◌, ◌<◌, ◌≤◌, ◌↔◌, ◌++◌, ◌∷◌, [], Bool, IfOk, IfSome, IsSome, None, Ok, OnErr, OnOk, false, is_some, length, map, slice_get, slice_set, true};
+ghost use Rattle.ipx_carrier.specs.Counting.{raised};
+ghost use Rattle.ipx_carrier.specs.ReadySet.{AsksMarked, IsKeptOrAnswer, is_port_marked};
+ghost use Rattle.ipx_ipxnet_ports.specs.ServerAddresses.{ips_heard, is_ip_heard, listed_ips, place_behind, place_heard};
+ghost use Rattle.ipx_ipxnet_ports.specs.PlaceTraffic.{failures_with};
+
+use crate::place_sockets::{DatagramCame, PlaceSockets};
+use ipx_carrier::{DeviceFault, ReadySet, bind_nonblocking, socket_addr, saturating_increment};
+use ipxnet_server::Place;
+use std::alloc::Global;
+use std::io;
+use std::io::ErrorKind;
+use std::net::{Net, SocketAddr, UdpSocket};
+use std::os::fd::{AsRawFd, RawFd};
+
+/// The socket of a port, and the IP addresses from which datagrams are heard there. None stands for
+/// each.
+#[derive(Drop)]
+pub struct ServerSocket {
+    socket: UdpSocket,
+    hears: Option<Vec<[u8; 4]>>,
+}
+
+/// Sockets that have one of UDP for each port. Datagrams come from the IP addresses that are heard
+/// there, whatever their port, and go to whatever place: who is a client is the lobby's to say. What
+/// comes from elsewhere or over IPv6 is from nowhere, and kept back.
+///
+/// Which datagrams come and which arrive is the network's. What the system doesn't take is a failure of
+/// sending; receiving never fails.
+///
+/// They have a mark for each port, at which something may wait, and ask the system at those alone. One
+/// that is bound is marked. Whoever waits for them marks those at which something came.
+#[derive(Drop)]
+pub struct ServerSockets {
+    sockets: Vec<ServerSocket>,
+    marks: ReadySet,
+    sent: u64,
+    failures: u64,
+    faults: u64,
+    nowhere: u64,
+}
+
+/// How often a port is asked again for a datagram where the system fails.
+const TRIES: u32 = 8;
+
+/// The place that a datagram came from.
+fn place_at(from: SocketAddr) -> Option<Place>
+    ensures { result ≡ place_behind from }
+{
+    match from {
+        SocketAddr::V4(from) => Some(Place {
+            ip: from.ip().octets(),
+            udp_port: from.port(),
+        }),
+        SocketAddr::V6(_) => None,
+    }
+}
+
+/// Whether an IP address is one of these, or each is.
+fn is_heard(ips: &Option<Vec<[u8; 4]>>, ip: [u8; 4]) -> bool
+    ensures { result ≡ is_ip_heard (listed_ips ips.now) ip }
+{
+    match ips {
+        Some(ips) => ips.contains(&ip),
+        None => true,
+    }
+}
+
+impl ServerSocket {
+    /// The place that a datagram came from, if it is heard.
+    fn place_heard(&self, from: SocketAddr) -> Option<Place>
+        ensures { result ≡ place_heard (ips_heard self.now) (place_behind from) }
+    {
+        let place = place_at(from)?;
+        if is_heard(&self.hears, place.ip) {
+            Some(place)
+        } else {
+            None
+        }
+    }
+}
+
+impl ServerSockets {
+    /// Sockets without a port.
+    pub fn new(alloc: Global) -> ServerSockets
+        ensures none { (result.sockets.items ≡ []) × (result.marks ≡ []) }
+        ensures fresh { (result.sent ≡ 0) × (result.failures ≡ 0) × (result.faults ≡ 0)
+            × (result.nowhere ≡ 0) }
+    {
+        ServerSockets {
+            sockets: Vec::new(alloc),
+            marks: ReadySet::new(alloc),
+            sent: 0,
+            failures: 0,
+            faults: 0,
+            nowhere: 0,
+        }
+    }
+
+    /// Binds one more port at a place, where datagrams from these IP addresses are heard; None stands
+    /// for each. The error is the system's, or want of memory, and then the ports are those before.
+    pub fn bind<R: Net>(&mut self, rt: &R, at: Place, hears: Option<Vec<[u8; 4]>>) -> io::Result<()>
+        ensures bound { OnOk result (map ips_heard self.new.sockets.items
+            ≡ map ips_heard self.old.sockets.items ++ listed_ips hears ∷ []) }
+        ensures marks { OnOk result (self.new.marks ≡ self.old.marks ++ true ∷ []) }
+        ensures refused { OnErr result ((self.new.sockets.items ≡ self.old.sockets.items)
+            × (self.new.marks ≡ self.old.marks)) }
+    {
+        let socket = bind_nonblocking(rt, at.ip, at.udp_port)?;
+        let socket = ServerSocket { socket, hears };
+        let count = self.sockets.len();
+        if self.sockets.push(socket).is_err() {
+            return Err(io::Error::from(ErrorKind::OutOfMemory));
+        }
+        if self.marks.add().is_err() {
+            self.sockets.truncate(count);
+            return Err(io::Error::from(ErrorKind::OutOfMemory));
+        }
+        Ok(())
+    }
+
+    /// How many datagrams the system took to be sent. It stays at the greatest u64.
+    pub fn sent(&self) -> u64
+        ensures { result ≡ self.now.sent }
+    {
+        self.sent
+    }
+
+    /// How often the system failed as a port was asked. It stays at the greatest u64.
+    pub fn faults(&self) -> u64
+        ensures { result ≡ self.now.faults }
+    {
+        self.faults
+    }
+
+    /// The descriptor of the socket of a port, to wait for it. The first port is 0.
+    pub fn descriptor(&self, port: usize) -> Option<RawFd>
+        ensures { IsSome result ↔ port < length self.now.sockets.items }
+    {
+        let socket = self.sockets.get(port)?;
+        Some(socket.socket.as_raw_fd())
+    }
+
+    /// The marks of the ports, in order.
+    pub fn marks(&self) -> &ReadySet
+        ensures { result.now ≡ self.now.marks }
+    {
+        &self.marks
+    }
+
+    /// Something came to a port, as the system said: what waits there is received. Where there is no
+    /// port of that number nothing happens.
+    pub fn mark(&mut self, port: usize)
+        ensures { self.new ≡ record self.old { marks = slice_set self.old.marks port true } }
+    {
+        self.marks.mark(port);
+    }
+}
+
+impl PlaceSockets for ServerSockets {
+    ghost use Rattle.std.specs.Prelude.{None};
+
+    ghost port_count = { λ s. length s.sockets.items };
+
+    ghost failed = { λ s. s.failures };
+
+    // What passes is the system's.
+    ghost traffic = { λ s. None };
+
+    ghost filtered = { λ s. s.nowhere };
+
+    fn ports(&self) -> usize {
+        self.sockets.len()
+    }
+
+    fn failures(&self) -> u64 {
+        self.failures
+    }
+
+    fn from_nowhere(&self) -> u64 {
+        self.nowhere
+    }
+
+    fn send(&mut self, port: usize, place: Place, bytes: &[u8]) -> Result<(), DeviceFault>
+        requires { port < length self.old.sockets.items }
+        // The system took it or refused it, and that is counted.
+        ensures sent { OnOk result (self.new.sent ≡ raised self.old.sent) }
+        ensures refused { OnErr result (self.new.sent ≡ self.old.sent) }
+        ensures failures { self.new.failures ≡ failures_with result self.old.failures }
+        ensures rest { (self.new.sockets ≡ self.old.sockets) × (self.new.faults ≡ self.old.faults)
+            × (self.new.nowhere ≡ self.old.nowhere) × (self.new.marks ≡ self.old.marks) }
+    {
+        match self.sockets[port]
+            .socket
+            .send_to(bytes, socket_addr(place.ip, place.udp_port))
+        {
+            Ok(count) if count == bytes.len() => {
+                saturating_increment(&mut self.sent);
+                Ok(())
+            }
+            _ => {
+                saturating_increment(&mut self.failures);
+                Err(DeviceFault)
+            }
+        }
+    }
+
+    fn receive(&mut self, port: usize, room: &mut [u8]) -> Result<Option<DatagramCame>, DeviceFault>
+        requires { port < length self.old.sockets.items }
+        // A port without a mark is not asked, and nothing changes.
+        ensures unmarked { is_port_marked self.old.marks port ≡ false
+            → (result ≡ Ok None) × (self.new ≡ self.old) × (room.new ≡ room.old) }
+        // One with a mark is asked until something comes or nothing waits, eight times at most: the
+        // mark goes just where nothing waits. What came is answered or counted.
+        ensures marked { is_port_marked self.old.marks port ≡ true → IfOk result (λ answer.
+            (came : Bool) × AsksMarked port came self.old.marks self.new.marks
+            self.old.faults self.new.faults
+            × IsKeptOrAnswer came (is_some answer) self.old.nowhere self.new.nowhere) }
+        // What came from a place is answered, and what came from nowhere is counted.
+        ensures within { IfOk result (λ came. IfSome came (λ c. c.size ≤ length room.old)) }
+        ensures answered { IfOk result (λ came. IsSome came
+            → self.new.nowhere ≡ self.old.nowhere) }
+        // It came from an IP address that is heard there.
+        ensures heard { IfOk result (λ came. IfSome came (λ c.
+            IfSome (slice_get self.old.sockets.items port)
+            (λ s. is_ip_heard (ips_heard s) c.from.ip ≡ true))) }
+        ensures filtered { self.old.nowhere ≤ self.new.nowhere }
+        ensures goes_on { OnErr result ⊥ }
+        ensures faults { self.old.faults ≤ self.new.faults }
+        ensures rest { (self.new.sockets ≡ self.old.sockets) × (self.new.sent ≡ self.old.sent)
+            × (self.new.failures ≡ self.old.failures) }
+    {
+        if !self.marks.is_marked(port) {
+            return Ok(None);
+        }
+        for _try in 0..TRIES {
+            match self.sockets[port].socket.recv_from(room) {
+                Ok((size, from)) => {
+                    let Some(from) = self.sockets[port].place_heard(from) else {
+                        saturating_increment(&mut self.nowhere);
+                        return Ok(None);
+                    };
+                    return Ok(Some(DatagramCame { from, size }));
+                }
+                Err(error) if error.kind() == ErrorKind::WouldBlock => {
+                    self.marks.clear_ready(port);
+                    return Ok(None);
+                }
+                Err(_) => saturating_increment(&mut self.faults),
+            }
+        }
+        Ok(None)
+    }
+}

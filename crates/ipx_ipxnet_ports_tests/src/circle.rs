@@ -1,0 +1,139 @@
+//! What comes from one of three players: it is answered, it goes on to the others, and the core gets
+//! what is for it.
+
+use crate::fixture::{
+    ANSWER, CAME, FIRST, PORT, REGISTRATION, SECOND, UNKNOWN_SENDER, THIRD, behind_registrations,
+    servers, packet, went_behind,
+};
+use ipx_carrier::{PortDriver, PortDriverFilters};
+use ipx_ipxnet_ports::MemoryPlaces;
+use ipx_wire::Node;
+use std::test::Fail;
+
+/// A ping of the first player, and what the router answers it.
+const PING: [u8; 30] = [
+    0xff, 0xff, 0, 0x1e, 0, 0, 0, 0, 0, 0, 0xff, 0xff, 0xff, 0xff, 0xff, 0xff, 0, 2, 0, 0, 0, 0,
+    0x7f, 0, 0, 1, 0xbc, 0x47, 0, 2,
+];
+
+const PONG: [u8; 30] = [
+    0xff, 0xff, 0, 0x1e, 0, 0, 0, 0, 0, 0, 0x7f, 0, 0, 1, 0xbc, 0x47, 0, 2, 0, 0, 0, 0, 2, 0, 0, 0,
+    0xd0, 0x5b, 0, 2,
+];
+
+/// A registration is answered, byte by byte, and the core gets nothing of it.
+#[test]
+fn a_registration(rt: HostRuntime) -> Result<(), Fail> {
+    let alloc = rt.alloc();
+    let mut sockets = MemoryPlaces::new(alloc, 1);
+    sockets.put(0, FIRST, &REGISTRATION)?;
+    let mut servers = servers(alloc, sockets)?;
+    servers.set_moment(7);
+    let mut room = [0xaa; 1536];
+    assert!(rt; matches!(servers.receive(0, &mut room), Ok(None)));
+    assert!(rt; went_behind(servers.sockets(), 0, &[FIRST], &ANSWER));
+    assert_eq!(rt; room, [0xaa; 1536]);
+    assert_eq!(rt; servers.filtered(), 1);
+    let known = servers.servers()[0].clients();
+    assert_eq!(rt; known.len(), 1);
+    assert_eq!(rt; (known[0].place, known[0].since), (FIRST, 7));
+    // Now nothing comes.
+    assert!(rt; matches!(servers.receive(0, &mut room), Ok(None)));
+    assert_eq!(rt; servers.filtered(), 1);
+    Ok(())
+}
+
+/// To all nodes: to both others, in the order in which they were heard, and not back.
+#[test]
+fn to_all(rt: HostRuntime) -> Result<(), Fail> {
+    let bytes = packet(Node::BROADCAST);
+    let mut servers = behind_registrations(rt.alloc(), &bytes)?;
+    let mut room = [0xaa; 1536];
+    assert!(rt; matches!(servers.receive(0, &mut room), Ok(None)));
+    assert!(rt; went_behind(servers.sockets(), 3, &[SECOND, THIRD], &bytes));
+    assert_eq!(rt; room, [0xaa; 1536]);
+    assert_eq!(rt; servers.filtered(), 4);
+    Ok(())
+}
+
+/// To the node of one: to that one alone.
+#[test]
+fn to_one(rt: HostRuntime) -> Result<(), Fail> {
+    let mut servers = behind_registrations(rt.alloc(), &CAME)?;
+    let mut room = [0; 1536];
+    assert!(rt; matches!(servers.receive(0, &mut room), Ok(None)));
+    assert!(rt; went_behind(servers.sockets(), 3, &[SECOND], &CAME));
+    Ok(())
+}
+
+/// A ping is answered first, and goes on behind that.
+#[test]
+fn a_ping(rt: HostRuntime) -> Result<(), Fail> {
+    let mut servers = behind_registrations(rt.alloc(), &PING)?;
+    let mut room = [0; 1536];
+    assert!(rt; matches!(servers.receive(0, &mut room), Ok(None)));
+    let sent = servers.sockets().went();
+    assert_eq!(rt; sent.len(), 6);
+    assert_eq!(rt; sent[3].place, FIRST);
+    assert_eq!(rt; sent[3].bytes.as_slice(), PONG.as_slice());
+    assert!(rt; went_behind(servers.sockets(), 4, &[SECOND, THIRD], &PING));
+    assert_eq!(rt; servers.filtered(), 4);
+    Ok(())
+}
+
+/// To the router's node: the core gets it as it came, as far as its room takes it, and no player does.
+#[test]
+fn to_the_core(rt: HostRuntime) -> Result<(), Fail> {
+    let bytes = packet(PORT.own);
+    let mut servers = behind_registrations(rt.alloc(), &bytes)?;
+    let mut room = [0xaa; 1536];
+    assert!(rt; matches!(servers.receive(0, &mut room), Ok(Some(34))));
+    assert_eq!(rt; &room[..34], bytes.as_slice());
+    assert_eq!(rt; room[34], 0xaa);
+    assert_eq!(rt; servers.sockets().went().len(), 3);
+    assert_eq!(rt; servers.filtered(), 3);
+    let mut servers = behind_registrations(rt.alloc(), &bytes)?;
+    let mut small = [0xaa; 12];
+    assert!(rt; matches!(servers.receive(0, &mut small), Ok(Some(12))));
+    assert_eq!(rt; small.as_slice(), &bytes[..12]);
+    Ok(())
+}
+
+/// Who asks all nodes for a route asks the router too.
+#[test]
+fn to_all_and_the_core(rt: HostRuntime) -> Result<(), Fail> {
+    let mut bytes = packet(Node::BROADCAST);
+    bytes[16..18].copy_from_slice(&[4, 0x53]);
+    bytes[30..32].copy_from_slice(&[0, 1]);
+    let mut servers = behind_registrations(rt.alloc(), &bytes)?;
+    let mut room = [0; 1536];
+    assert!(rt; matches!(servers.receive(0, &mut room), Ok(Some(34))));
+    assert_eq!(rt; &room[..34], bytes.as_slice());
+    assert!(rt; went_behind(servers.sockets(), 3, &[SECOND, THIRD], &bytes));
+    assert_eq!(rt; servers.filtered(), 3);
+    Ok(())
+}
+
+/// Who did not register: nothing comes of what it sends, and it gets nothing.
+#[test]
+fn an_unknown_sender(rt: HostRuntime) -> Result<(), Fail> {
+    let alloc = rt.alloc();
+    let mut sockets = MemoryPlaces::new(alloc, 1);
+    sockets.put(0, FIRST, &REGISTRATION)?;
+    sockets.put(0, UNKNOWN_SENDER, &CAME)?;
+    sockets.put(0, UNKNOWN_SENDER, &packet(Node::BROADCAST))?;
+    sockets.put(0, UNKNOWN_SENDER, &REGISTRATION[..20])?;
+    sockets.put(0, FIRST, &packet(Node::BROADCAST))?;
+    let mut servers = servers(alloc, sockets)?;
+    let mut room = [0xaa; 1536];
+    for _datagram in 0..5_u32 {
+        assert!(rt; matches!(servers.receive(0, &mut room), Ok(None)));
+    }
+    // The answer to the first player is all that went.
+    assert!(rt; went_behind(servers.sockets(), 0, &[FIRST], &ANSWER));
+    assert_eq!(rt; room, [0xaa; 1536]);
+    assert_eq!(rt; servers.servers()[0].counts().unregistered, 2);
+    assert_eq!(rt; servers.servers()[0].counts().malformed, 1);
+    assert_eq!(rt; servers.filtered(), 5);
+    Ok(())
+}

@@ -1,0 +1,70 @@
+//! A player that can't be reached: the others get theirs, and so does the core.
+
+use crate::fixture::{
+    CAME, FIRST, REGISTRATION, SECOND, SECOND_NODE, UNKNOWN_SENDER, THIRD, servers, packet,
+    registrations, went_behind,
+};
+use ipx_carrier::{PacketSent, PortDriver};
+use ipx_ipxnet_ports::PlaceSockets;
+use ipx_wire::Node;
+use std::test::Fail;
+
+/// One of the others fails: the third one gets the request for a route, and the core does.
+#[test]
+fn a_player_that_fails(rt: HostRuntime) -> Result<(), Fail> {
+    let alloc = rt.alloc();
+    let mut bytes = packet(Node::BROADCAST);
+    bytes[16..18].copy_from_slice(&[4, 0x53]);
+    bytes[30..32].copy_from_slice(&[0, 1]);
+    let mut sockets = registrations(alloc)?;
+    sockets.put(0, FIRST, &bytes)?;
+    sockets.break_place(SECOND);
+    let mut servers = servers(alloc, sockets)?;
+    let mut room = [0; 1536];
+    for _player in 0..3_u32 {
+        assert!(rt; matches!(servers.receive(0, &mut room), Ok(None)));
+    }
+    // The second one was not answered, and is a client all the same.
+    assert_eq!(rt; servers.sockets().failures(), 1);
+    assert_eq!(rt; servers.servers()[0].clients().len(), 3);
+    assert!(rt; matches!(servers.receive(0, &mut room), Ok(Some(34))));
+    assert!(rt; went_behind(servers.sockets(), 2, &[THIRD], &bytes));
+    assert_eq!(rt; servers.sockets().failures(), 2);
+    assert_eq!(rt; servers.failures(), 0);
+    // A packet of the core.
+    let sent = servers.send(0, Node::BROADCAST, &CAME);
+    assert!(rt; matches!(sent, Ok(PacketSent::Transmitted(1))));
+    assert!(rt; went_behind(servers.sockets(), 3, &[THIRD, FIRST], &CAME));
+    let sent = servers.send(0, SECOND_NODE, &CAME);
+    assert!(rt; matches!(sent, Ok(PacketSent::Transmitted(1))));
+    assert_eq!(rt; servers.sockets().went().len(), 5);
+    assert_eq!(rt; servers.sockets().failures(), 4);
+    assert_eq!(rt; servers.failures(), 0);
+    Ok(())
+}
+
+/// Of three others the one in the middle fails: those before and behind it get theirs, in order.
+#[test]
+fn a_player_in_the_middle_that_fails(rt: HostRuntime) -> Result<(), Fail> {
+    let alloc = rt.alloc();
+    let bytes = packet(Node::BROADCAST);
+    let mut sockets = registrations(alloc)?;
+    sockets.put(0, UNKNOWN_SENDER, &REGISTRATION)?;
+    sockets.put(0, FIRST, &bytes)?;
+    sockets.break_place(THIRD);
+    let mut servers = servers(alloc, sockets)?;
+    let mut room = [0; 1536];
+    for _player in 0..4_u32 {
+        assert!(rt; matches!(servers.receive(0, &mut room), Ok(None)));
+    }
+    // Three were answered.
+    assert_eq!(rt; servers.sockets().went().len(), 3);
+    let sent = servers.send(0, Node::BROADCAST, &CAME);
+    assert!(rt; matches!(sent, Ok(PacketSent::Transmitted(1))));
+    assert!(rt; went_behind(servers.sockets(), 3, &[FIRST, SECOND, UNKNOWN_SENDER], &CAME));
+    assert!(rt; matches!(servers.receive(0, &mut room), Ok(None)));
+    assert!(rt; went_behind(servers.sockets(), 6, &[SECOND, UNKNOWN_SENDER], &bytes));
+    assert_eq!(rt; servers.sockets().failures(), 3);
+    assert_eq!(rt; servers.failures(), 0);
+    Ok(())
+}

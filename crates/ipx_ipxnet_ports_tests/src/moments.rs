@@ -1,0 +1,119 @@
+//! Players by the moments that are set: who is forgotten, who registers again, and how many are new.
+
+use crate::fixture::{
+    ANSWER, CAME, FIRST, REGISTRATION, SECOND, SECOND_ANSWER, THIRD, servers, registrations,
+    went_behind,
+};
+use ipx_carrier::{PortDriver, PortDriverFilters};
+use ipx_ipxnet_ports::{Servers, MemoryPlaces};
+use ipxnet_server::Place;
+use std::test::Fail;
+
+/// Hears so many datagrams, of which the core gets nothing.
+fn hear(servers: &mut Servers<MemoryPlaces>, count: u32) -> Result<bool, Fail> {
+    let mut room = [0xaa; 1536];
+    for _datagram in 0..count {
+        if servers.receive(0, &mut room)?.is_some() {
+            return Ok(false);
+        }
+    }
+    Ok(room == [0xaa; 1536])
+}
+
+/// Who was silent for a day is nobody, to others and to the port, until it registers again.
+#[test]
+fn forgotten_and_back(rt: HostRuntime) -> Result<(), Fail> {
+    let alloc = rt.alloc();
+    let mut sockets = registrations(alloc)?;
+    sockets.put(0, FIRST, &CAME)?;
+    sockets.put(0, FIRST, &CAME)?;
+    sockets.put(0, SECOND, &CAME)?;
+    sockets.put(0, SECOND, &REGISTRATION)?;
+    sockets.put(0, FIRST, &CAME)?;
+    let mut servers = servers(alloc, sockets)?;
+    servers.set_moment(5);
+    assert!(rt; hear(&mut servers, 3)?);
+    servers.set_moment(86_400_004);
+    assert!(rt; hear(&mut servers, 1)?);
+    assert!(rt; went_behind(servers.sockets(), 3, &[SECOND], &CAME));
+    servers.set_moment(86_400_005);
+    assert!(rt; hear(&mut servers, 2)?);
+    assert_eq!(rt; servers.sockets().went().len(), 4);
+    assert_eq!(rt; servers.servers()[0].counts().no_such_node, 1);
+    assert_eq!(rt; servers.servers()[0].counts().unregistered, 1);
+    // The first player was heard a moment ago, and is the only one.
+    assert_eq!(rt; servers.servers()[0].clients().len(), 1);
+    assert_eq!(rt; servers.servers()[0].clients()[0].place, FIRST);
+    assert!(rt; hear(&mut servers, 1)?);
+    assert!(rt; went_behind(servers.sockets(), 4, &[SECOND], &SECOND_ANSWER));
+    assert!(rt; hear(&mut servers, 1)?);
+    assert!(rt; went_behind(servers.sockets(), 5, &[SECOND], &CAME));
+    assert_eq!(rt; servers.filtered(), 8);
+    Ok(())
+}
+
+/// Who registers again from its place is answered as before, and is known once, from the first time on.
+#[test]
+fn registered_again(rt: HostRuntime) -> Result<(), Fail> {
+    let alloc = rt.alloc();
+    let mut sockets = MemoryPlaces::new(alloc, 1);
+    sockets.put(0, FIRST, &REGISTRATION)?;
+    sockets.put(0, FIRST, &REGISTRATION)?;
+    let mut servers = servers(alloc, sockets)?;
+    servers.set_moment(7);
+    assert!(rt; hear(&mut servers, 1)?);
+    servers.set_moment(9000);
+    assert!(rt; hear(&mut servers, 1)?);
+    assert!(rt; went_behind(servers.sockets(), 0, &[FIRST, FIRST], &ANSWER));
+    let known = servers.servers()[0].clients();
+    assert_eq!(rt; known.len(), 1);
+    assert_eq!(rt; (known[0].since, known[0].heard), (7, 9000));
+    Ok(())
+}
+
+/// By a moment that was set back no time has passed: all are known as before.
+#[test]
+fn a_moment_set_back(rt: HostRuntime) -> Result<(), Fail> {
+    let alloc = rt.alloc();
+    let mut sockets = registrations(alloc)?;
+    sockets.put(0, FIRST, &CAME)?;
+    let mut servers = servers(alloc, sockets)?;
+    servers.set_moment(86_400_005);
+    assert!(rt; hear(&mut servers, 3)?);
+    servers.set_moment(0);
+    assert!(rt; hear(&mut servers, 1)?);
+    assert!(rt; went_behind(servers.sockets(), 3, &[SECOND], &CAME));
+    let known = servers.servers()[0].clients();
+    assert_eq!(rt; known.len(), 3);
+    assert_eq!(rt; (known[0].place, known[1].place), (SECOND, THIRD));
+    assert_eq!(rt; (known[0].since, known[2].since), (86_400_005, 86_400_005));
+    Ok(())
+}
+
+/// While the moment stands ten can register, and the eleventh can a second later.
+#[test]
+fn eleven_at_a_moment(rt: HostRuntime) -> Result<(), Fail> {
+    let alloc = rt.alloc();
+    let mut sockets = MemoryPlaces::new(alloc, 1);
+    let ip = [192, 0, 2, 1];
+    for udp_port in [1, 2, 3, 4, 5, 6, 7, 8, 9, 10, 11, 11, 11] {
+        sockets.put(0, Place { ip, udp_port }, &REGISTRATION)?;
+    }
+    let mut servers = servers(alloc, sockets)?;
+    assert!(rt; hear(&mut servers, 11)?);
+    assert_eq!(rt; servers.sockets().went().len(), 10);
+    assert_eq!(rt; servers.servers()[0].counts().too_many_new, 1);
+    servers.set_moment(999);
+    assert!(rt; hear(&mut servers, 1)?);
+    assert_eq!(rt; servers.sockets().went().len(), 10);
+    assert_eq!(rt; servers.servers()[0].counts().too_many_new, 2);
+    servers.set_moment(1000);
+    assert!(rt; hear(&mut servers, 1)?);
+    assert_eq!(rt; servers.sockets().went().len(), 11);
+    assert_eq!(rt;
+        servers.sockets().went()[10].place,
+        Place { ip, udp_port: 11 }
+    );
+    assert_eq!(rt; servers.filtered(), 13);
+    Ok(())
+}

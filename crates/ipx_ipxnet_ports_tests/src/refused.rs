@@ -1,0 +1,123 @@
+//! Memory that is refused as a datagram is put, and as one comes and goes.
+
+use crate::fixture::{
+    ANSWER, CAME, FIRST, REGISTRATION, SECOND, SECOND_ANSWER, THIRD, THIRD_ANSWER, server, packet,
+    went_behind,
+};
+use ipx_carrier::{PacketSent, PortDriver, PortDriverFilters};
+use ipx_ipxnet_ports::{Servers, MemoryDatagram, MemoryPlaces, PlaceSockets};
+use ipxnet_server::{ServerCounts, Place};
+use ipx_wire::{Node, OutOfMemory};
+use std::alloc::Global;
+use std::test::Fail;
+
+/// Puts a datagram, again where memory is refused.
+fn put(sockets: &mut MemoryPlaces, place: Place, bytes: &[u8]) -> Result<(), OutOfMemory> {
+    match sockets.put(0, place, bytes) {
+        Ok(()) => Ok(()),
+        Err(_) => sockets.put(0, place, bytes),
+    }
+}
+
+/// The port over these sockets, again where memory is refused.
+fn over(alloc: Global, sockets: MemoryPlaces) -> Result<Servers<MemoryPlaces>, Fail> {
+    let all = match server(alloc) {
+        Ok(all) => all,
+        Err(_) => server(alloc)?,
+    };
+    Ok(Servers::new(sockets, all))
+}
+
+/// Whether all that went is of these, in this order, of which each is another.
+fn are_of(went: &[MemoryDatagram], all: &[(Place, &[u8])]) -> bool {
+    let mut found = 0;
+    for (place, bytes) in all {
+        if found < went.len()
+            && went[found].place == *place
+            && went[found].bytes.as_slice() == *bytes
+        {
+            found += 1;
+        }
+    }
+    found == went.len()
+}
+
+/// Where a datagram can't be put, those that wait are as they were. Where one that comes can't be kept,
+/// nothing came; where its answer can't, it did. The sockets fail, and that is counted.
+#[test]
+fn refused_datagrams(rt: HostRuntime) -> Result<(), Fail> {
+    let alloc = rt.alloc();
+    let mut sockets = MemoryPlaces::new(alloc, 1);
+    put(&mut sockets, FIRST, &REGISTRATION)?;
+    let mut servers = over(alloc, sockets)?;
+    let mut room = [0xaa; 1536];
+    assert!(rt; matches!(servers.receive(0, &mut room), Ok(None)));
+    assert_eq!(rt; room, [0xaa; 1536]);
+    let known = servers.servers()[0].clients().len();
+    let failures = servers.sockets().failures();
+    if known == 0 {
+        assert_eq!(rt; failures, 1);
+        assert_eq!(rt; servers.filtered(), 0);
+        assert!(rt; servers.sockets().went().is_empty());
+    } else if failures == 1 {
+        assert_eq!(rt; servers.filtered(), 1);
+        assert!(rt; servers.sockets().went().is_empty());
+    } else {
+        assert_eq!(rt; failures, 0);
+        assert_eq!(rt; servers.filtered(), 1);
+        assert!(rt; went_behind(servers.sockets(), 0, &[FIRST], &ANSWER));
+    }
+    assert_eq!(rt; servers.servers()[0].counts(), ServerCounts::new());
+    assert_eq!(rt; servers.failures(), 0);
+    // Nothing waits, also where it was lost.
+    assert!(rt; matches!(servers.receive(0, &mut room), Ok(None)));
+    assert_eq!(rt; servers.servers()[0].clients().len(), known);
+    Ok(())
+}
+
+/// Three players register, and the first one sends to all: one datagram at most is lost, on its way in
+/// or out, and all others go in order. A packet of the core then goes to all but at most one.
+#[test]
+fn refused_relays(rt: HostRuntime) -> Result<(), Fail> {
+    let alloc = rt.alloc();
+    let bytes = packet(Node::BROADCAST);
+    let mut sockets = MemoryPlaces::new(alloc, 1);
+    for place in [FIRST, SECOND, THIRD] {
+        put(&mut sockets, place, &REGISTRATION)?;
+    }
+    put(&mut sockets, FIRST, &bytes)?;
+    let mut servers = over(alloc, sockets)?;
+    let mut room = [0xaa; 1536];
+    for _datagram in 0..4_u32 {
+        assert!(rt; matches!(servers.receive(0, &mut room), Ok(None)));
+    }
+    assert_eq!(rt; room, [0xaa; 1536]);
+    let all: [(Place, &[u8]); 5] = [
+        (FIRST, &ANSWER),
+        (SECOND, &SECOND_ANSWER),
+        (THIRD, &THIRD_ANSWER),
+        (SECOND, &bytes),
+        (THIRD, &bytes),
+    ];
+    let went = servers.sockets().went().len();
+    let known = servers.servers()[0].clients().len();
+    let failures = servers.sockets().failures();
+    assert!(rt; are_of(servers.sockets().went(), &all));
+    if servers.filtered() == 4 {
+        // All of them came, and one may not have gone.
+        assert_eq!(rt; (went as u64 + failures, known), (5, 3));
+        assert!(rt; failures <= 1);
+    } else {
+        // One did not come: the first one's, without which its packet is a stranger's, or another's.
+        assert_eq!(rt; (servers.filtered(), failures), (3, 1));
+        let strangers = servers.servers()[0].counts().unregistered;
+        assert_eq!(rt; went as u64 + strangers, 3);
+    }
+    let sent = servers.send(0, Node::BROADCAST, &CAME);
+    assert!(rt; matches!(sent, Ok(PacketSent::Transmitted(1))));
+    let more = servers.sockets().went().len() - went;
+    let lost = servers.sockets().failures() - failures;
+    assert_eq!(rt; more as u64 + lost, known as u64);
+    assert!(rt; failures + lost <= 1);
+    Ok(())
+}

@@ -1,0 +1,213 @@
+//! A router with two lobbies: what a player asks it, and what goes from one lobby to the other.
+
+use crate::fixture::{ANSWER, FIRST, PORT, REGISTRATION, SECOND, server};
+use ipx_carrier::{
+    Core, RouterCore, PortDriver, PortDriverFilters, SteppedClock, run_batch, run_once_over_ports,
+};
+use ipx_ipxnet_ports::{Servers, MemoryDatagram, MemoryPlaces};
+use ipxnet_server::{IpxnetServer, ServerCounts, ServerPort, Place};
+use ipx_router::{Port, Router};
+use ipx_wire::{Network, Node};
+use std::alloc::Global;
+use std::test::Fail;
+
+/// The other port, which tells players the network 00000099.
+const OTHER: ServerPort = ServerPort {
+    network: Network(0x99),
+    own: Node([2, 0, 0, 0, 0, 0x99]),
+};
+
+/// A request of the first player for the route to network 99, and its answer: 1 hop and 1 tick.
+const ASKS: [u8; 40] = [
+    0xff, 0xff, 0, 0x28, 0, 1, 0, 0, 0, 0, 0xff, 0xff, 0xff, 0xff, 0xff, 0xff, 4, 0x53, 0, 0, 0xd0,
+    0x5b, 0x7f, 0, 0, 1, 0xbc, 0x47, 4, 0x53, 0, 1, 0, 0, 0, 0x99, 0xff, 0xff, 0xff, 0xff,
+];
+
+const TOLD: [u8; 40] = [
+    0xff, 0xff, 0, 0x28, 0, 1, 0, 0, 0xd0, 0x5b, 0x7f, 0, 0, 1, 0xbc, 0x47, 4, 0x53, 0, 0, 0xd0,
+    0x5b, 2, 0, 0, 0, 0xd0, 0x5b, 4, 0x53, 0, 2, 0, 0, 0, 0x99, 0, 1, 0, 1,
+];
+
+/// A packet of the first player to the second, on network 99; and one hop on.
+const ACROSS: [u8; 34] = [
+    0xff, 0xff, 0, 0x22, 0, 4, 0, 0, 0, 0x99, 0x7f, 0, 0, 1, 0xbc, 0x48, 0x40, 1, 0, 0, 0, 0, 0x7f,
+    0, 0, 1, 0xbc, 0x47, 0x40, 1, 1, 2, 3, 4,
+];
+
+const ARRIVES: [u8; 34] = [
+    0xff, 0xff, 0, 0x22, 1, 4, 0, 0, 0, 0x99, 0x7f, 0, 0, 1, 0xbc, 0x48, 0x40, 1, 0, 0, 0xd0, 0x5b,
+    0x7f, 0, 0, 1, 0xbc, 0x47, 0x40, 1, 1, 2, 3, 4,
+];
+
+/// What the second player is answered, at the other port.
+const OTHER_ANSWER: [u8; 30] = [
+    0xff, 0xff, 0, 0x1e, 0, 0, 0, 0, 0, 0x99, 0x7f, 0, 0, 1, 0xbc, 0x48, 0, 2, 0, 0, 0, 0x99, 2, 0,
+    0, 0, 0, 0x99, 0, 2,
+];
+
+/// A request of the first player for all routes.
+const ASKS_ALL: [u8; 40] = [
+    0xff, 0xff, 0, 0x28, 0, 1, 0, 0, 0, 0, 0xff, 0xff, 0xff, 0xff, 0xff, 0xff, 4, 0x53, 0, 0, 0xd0,
+    0x5b, 0x7f, 0, 0, 1, 0xbc, 0x47, 4, 0x53, 0, 1, 0xff, 0xff, 0xff, 0xff, 0xff, 0xff, 0xff, 0xff,
+];
+
+/// What a neighbour on network 99 tells before 50 routes, each of 8 bytes.
+const TELLS: [u8; 32] = [
+    0xff, 0xff, 1, 0xb0, 0, 1, 0, 0, 0, 0x99, 0xff, 0xff, 0xff, 0xff, 0xff, 0xff, 4, 0x53, 0, 0, 0,
+    0x99, 0, 0, 0x7f, 0, 0, 5, 4, 0x53, 0, 2,
+];
+
+/// A router of both ports.
+fn core(alloc: Global) -> Result<RouterCore, Fail> {
+    let mut ports = Vec::new(alloc);
+    for port in [PORT, OTHER] {
+        ports.push(Port {
+            network: port.network,
+            node: port.own,
+            cost: 1,
+        })?;
+    }
+    Ok(RouterCore::new(alloc, Router::new(alloc, ports)?))
+}
+
+/// Both ports: the first player registers at the first one, asks, and sends to the second player, who
+/// registers at the other.
+fn both_servers(alloc: Global) -> Result<Servers<MemoryPlaces>, Fail> {
+    let mut sockets = MemoryPlaces::new(alloc, 2);
+    sockets.put(0, FIRST, &REGISTRATION)?;
+    sockets.put(1, SECOND, &REGISTRATION)?;
+    sockets.put(0, FIRST, &ASKS)?;
+    sockets.put(0, FIRST, &ACROSS)?;
+    let mut servers = Vec::new(alloc);
+    servers.push(IpxnetServer::new(alloc, PORT, 64)?)?;
+    servers.push(IpxnetServer::new(alloc, OTHER, 64)?)?;
+    Ok(Servers::new(sockets, servers))
+}
+
+/// Whether a datagram went by a port to a place, and is these bytes.
+fn is_for(datagram: Option<&MemoryDatagram>, port: usize, place: Place, bytes: &[u8]) -> bool {
+    match datagram {
+        Some(it) => it.port == port && it.place == place && it.bytes.as_slice() == bytes,
+        None => false,
+    }
+}
+
+/// The neighbour tells 50 routes, from a network on, each of 1 hop and 2 ticks.
+fn tells(first: u32) -> [u8; 432] {
+    let mut bytes = [0; 432];
+    bytes[..32].copy_from_slice(&TELLS);
+    for place in 0..50_u32 {
+        let at = 32 + 8 * place as usize;
+        bytes[at..at + 4].copy_from_slice(&(first + place).to_be_bytes());
+        bytes[at + 4..at + 8].copy_from_slice(&[0, 1, 0, 2]);
+    }
+    bytes
+}
+
+/// Of more sockets than lobbies, or fewer, there are as many ports as both are for.
+#[test]
+fn numbers_that_differ(rt: HostRuntime) -> Result<(), Fail> {
+    let alloc = rt.alloc();
+    for (sockets, ports) in [(0, 0), (1, 1), (2, 1)] {
+        let servers = Servers::new(MemoryPlaces::new(alloc, sockets), server(alloc)?);
+        assert_eq!(rt; servers.ports(), ports);
+    }
+    for (sockets, ports) in [(0, 0), (1, 1), (2, 2), (3, 2)] {
+        let mut both = server(alloc)?;
+        both.push(IpxnetServer::new(alloc, OTHER, 64)?)?;
+        let servers = Servers::new(MemoryPlaces::new(alloc, sockets), both);
+        assert_eq!(rt; servers.ports(), ports);
+    }
+    let servers = Servers::new(MemoryPlaces::new(alloc, 2), Vec::new(alloc));
+    assert_eq!(rt; servers.ports(), 0);
+    Ok(())
+}
+
+#[test]
+fn a_router_of_two_servers(rt: HostRuntime) -> Result<(), Fail> {
+    let alloc = rt.alloc();
+    let mut core = core(alloc)?;
+    let mut servers = both_servers(alloc)?;
+    let mut clock = SteppedClock::new(0, 10);
+    // Both registrations are answered. What the router asks and tells at its start goes to nobody.
+    let first = run_once_over_ports(alloc, &mut core, &mut servers, &mut clock)?;
+    assert_eq!(rt; (first.heard, first.sent, first.unmapped), (0, 6, 0));
+    let went = servers.sockets().went();
+    assert_eq!(rt; went.len(), 2);
+    assert!(rt; is_for(went.first(), 0, FIRST, &ANSWER));
+    assert!(rt; is_for(went.get(1), 1, SECOND, &OTHER_ANSWER));
+    // What the first player asks is answered, to that one alone.
+    let second = run_once_over_ports(alloc, &mut core, &mut servers, &mut clock)?;
+    assert_eq!(rt; (second.heard, second.sent, second.unmapped), (1, 1, 0));
+    assert_eq!(rt; servers.sockets().went().len(), 3);
+    assert!(rt; is_for(servers.sockets().went().last(), 0, FIRST, &TOLD));
+    // What it sends to the second one arrives in the other lobby, one hop on.
+    let third = run_once_over_ports(alloc, &mut core, &mut servers, &mut clock)?;
+    assert_eq!(rt; (third.heard, third.sent, third.unmapped), (1, 1, 0));
+    assert_eq!(rt; servers.sockets().went().len(), 4);
+    assert!(rt; is_for(servers.sockets().went().last(), 1, SECOND, &ARRIVES));
+    assert_eq!(rt; servers.filtered(), 2);
+    Ok(())
+}
+
+/// The same in one burst, which is quiet in the end.
+#[test]
+fn a_batch_of_two_servers(rt: HostRuntime) -> Result<(), Fail> {
+    let alloc = rt.alloc();
+    let mut core = core(alloc)?;
+    let mut servers = both_servers(alloc)?;
+    let mut clock = SteppedClock::new(0, 10);
+    let batch = run_batch(alloc, &mut core, &mut servers, &mut clock, 100);
+    assert_eq!(rt; (batch.heard, batch.sent, batch.unmapped), (2, 8, 0));
+    assert!(rt; batch.quiet && batch.fault.is_none());
+    assert_eq!(rt; servers.sockets().went().len(), 4);
+    assert!(rt; is_for(servers.sockets().went().last(), 1, SECOND, &ARRIVES));
+    Ok(())
+}
+
+/// A table of 1,000 routes is told by 21 datagrams a minute, and no player gets one of them; who asks for
+/// all of it gets all, and nobody else does.
+#[test]
+fn a_full_table_is_told_to_nobody(rt: HostRuntime) -> Result<(), Fail> {
+    let alloc = rt.alloc();
+    let mut core = core(alloc)?;
+    let mut sockets = MemoryPlaces::new(alloc, 2);
+    sockets.put(0, FIRST, &REGISTRATION)?;
+    sockets.put(0, SECOND, &REGISTRATION)?;
+    let mut servers_of_both = server(alloc)?;
+    servers_of_both.push(IpxnetServer::new(alloc, OTHER, 64)?)?;
+    let mut servers = Servers::new(sockets, servers_of_both);
+    let start = run_batch(
+        alloc,
+        &mut core,
+        &mut servers,
+        &mut SteppedClock::new(0, 1),
+        100,
+    );
+    assert!(rt; start.quiet && start.fault.is_none());
+    assert_eq!(rt; servers.sockets().went().len(), 2);
+    for datagram in 0..20_u32 {
+        core.hear(alloc, 1, &tells(0x1_0000 + 50 * datagram), 100)?;
+    }
+    let minute = run_batch(
+        alloc,
+        &mut core,
+        &mut servers,
+        &mut SteppedClock::new(60_000, 1),
+        200,
+    );
+    assert!(rt; minute.quiet && minute.fault.is_none() && minute.sent > 21);
+    assert_eq!(rt; servers.sockets().went().len(), 2);
+    assert_eq!(rt; servers.servers()[0].counts(), ServerCounts::new());
+    let mut room = [0; 1536];
+    core.hear(alloc, 0, &ASKS_ALL, 60_300)?;
+    while core.queued() > 0 {
+        if let Some((port, node, size)) = core.next(alloc, 60_300, &mut room)? {
+            servers.send(port, node, &room[..size])?;
+        }
+    }
+    let went = servers.sockets().went();
+    assert_eq!(rt; went.len(), 23);
+    assert!(rt; went[2..].iter().all(|it| it.port == 0 && it.place == FIRST));
+    Ok(())
+}

@@ -1,0 +1,100 @@
+//! Packets of the core, and the players that they go to.
+
+use crate::fixture::{
+    CAME, FIRST, SECOND, SECOND_NODE, UNKNOWN_SENDER, THIRD, servers, packet, registrations, went_behind,
+};
+use ipx_carrier::{PacketSent, PortDriver, PortDriverFilters};
+use ipx_ipxnet_ports::{Servers, MemoryPlaces};
+use ipxnet_server::ServerCounts;
+use ipx_wire::Node;
+use std::alloc::Global;
+use std::test::Fail;
+
+/// The port, whose three players registered at the moment 5.
+fn three_players(alloc: Global) -> Result<Servers<MemoryPlaces>, Fail> {
+    let mut servers = servers(alloc, registrations(alloc)?)?;
+    servers.set_moment(5);
+    let mut room = [0; 1536];
+    for _player in 0..3_u32 {
+        servers.receive(0, &mut room)?;
+    }
+    Ok(servers)
+}
+
+/// To a player's node: to that one, until it was silent for a day. To all nodes: to each.
+#[test]
+fn packets_to_players(rt: HostRuntime) -> Result<(), Fail> {
+    let mut servers = three_players(rt.alloc())?;
+    let sent = servers.send(0, SECOND_NODE, &CAME);
+    assert!(rt; matches!(sent, Ok(PacketSent::Transmitted(1))));
+    assert!(rt; went_behind(servers.sockets(), 3, &[SECOND], &CAME));
+    let sent = servers.send(0, Node::BROADCAST, &CAME);
+    assert!(rt; matches!(sent, Ok(PacketSent::Transmitted(1))));
+    assert!(rt; went_behind(servers.sockets(), 4, &[FIRST, SECOND, THIRD], &CAME));
+    servers.set_moment(86_400_004);
+    servers.send(0, SECOND_NODE, &CAME)?;
+    assert!(rt; went_behind(servers.sockets(), 7, &[SECOND], &CAME));
+    servers.set_moment(86_400_005);
+    let sent = servers.send(0, SECOND_NODE, &CAME);
+    assert!(rt; matches!(sent, Ok(PacketSent::Transmitted(1))));
+    assert_eq!(rt; servers.sockets().went().len(), 8);
+    assert_eq!(rt; servers.servers()[0].counts().no_such_node, 1);
+    assert_eq!(rt; servers.filtered(), 3);
+    Ok(())
+}
+
+/// To all nodes: to the sockets of RIP and SAP to nobody, and from them to each, as to NetBIOS. To a
+/// player's node: to that one, whatever the socket.
+#[test]
+fn what_a_router_tells(rt: HostRuntime) -> Result<(), Fail> {
+    let mut servers = three_players(rt.alloc())?;
+    for socket in [[4, 0x52], [4, 0x53]] {
+        let mut told = packet(Node::BROADCAST);
+        told[16..18].copy_from_slice(&socket);
+        let sent = servers.send(0, Node::BROADCAST, &told);
+        assert!(rt; matches!(sent, Ok(PacketSent::Transmitted(1))));
+        assert_eq!(rt; servers.sockets().went().len(), 3);
+    }
+    assert_eq!(rt; servers.servers()[0].counts(), ServerCounts::new());
+    let mut answer = packet(SECOND_NODE);
+    answer[16..18].copy_from_slice(&[4, 0x53]);
+    servers.send(0, SECOND_NODE, &answer)?;
+    assert!(rt; went_behind(servers.sockets(), 3, &[SECOND], &answer));
+    let mut named = packet(Node::BROADCAST);
+    named[5] = 20;
+    named[16..18].copy_from_slice(&[4, 0x55]);
+    named[28..30].copy_from_slice(&[4, 0x53]);
+    servers.send(0, Node::BROADCAST, &named)?;
+    assert!(rt; went_behind(servers.sockets(), 4, &[FIRST, SECOND, THIRD], &named));
+    assert_eq!(rt; servers.failures(), 0);
+    Ok(())
+}
+
+/// To a node that is nobody's: the lobby gets it, and nobody else.
+#[test]
+fn packets_to_nobody(rt: HostRuntime) -> Result<(), Fail> {
+    let mut servers = three_players(rt.alloc())?;
+    let sent = servers.send(0, UNKNOWN_SENDER.node(), &CAME);
+    assert!(rt; matches!(sent, Ok(PacketSent::Transmitted(1))));
+    assert_eq!(rt; servers.sockets().went().len(), 3);
+    assert_eq!(rt; servers.servers()[0].counts().no_such_node, 1);
+    Ok(())
+}
+
+/// 1,424 bytes go to a player, and one more does not.
+#[test]
+fn packets_that_are_too_long(rt: HostRuntime) -> Result<(), Fail> {
+    let mut servers = three_players(rt.alloc())?;
+    let bytes = [0x55; 1425];
+    let sent = servers.send(0, SECOND_NODE, &bytes[..1424]);
+    assert!(rt; matches!(sent, Ok(PacketSent::Transmitted(1))));
+    assert!(rt; went_behind(servers.sockets(), 3, &[SECOND], &bytes[..1424]));
+    let sent = servers.send(0, SECOND_NODE, &bytes);
+    assert!(rt; matches!(sent, Ok(PacketSent::Unmapped)));
+    let sent = servers.send(0, Node::BROADCAST, &bytes);
+    assert!(rt; matches!(sent, Ok(PacketSent::Unmapped)));
+    assert_eq!(rt; servers.sockets().went().len(), 4);
+    assert_eq!(rt; servers.servers()[0].counts().too_long, 2);
+    assert_eq!(rt; servers.failures(), 0);
+    Ok(())
+}

@@ -1,0 +1,118 @@
+//! A lobby that is joined to those of two other sites, over sockets.
+
+use crate::fixture::{
+    ANSWER, CAME, FIRST, PORT, REGISTRATION, SECOND_NODE, UNKNOWN_SENDER, packet, went_behind,
+};
+use ipx_carrier::{PacketSent, PortDriver, PortDriverFilters};
+use ipx_ipxnet_ports::{Servers, MemoryPlaces};
+use ipxnet_server::{IpxnetServer, Place};
+use ipx_wire::Node;
+use std::alloc::{AllocError, Global};
+use std::test::Fail;
+
+/// Where the routers of the other sites are.
+const SOUTH: Place = Place {
+    ip: [198, 51, 100, 7],
+    udp_port: 2130,
+};
+
+const WEST: Place = Place {
+    ip: [203, 0, 113, 5],
+    udp_port: 2131,
+};
+
+/// What tells them that the first player registered.
+const NOTICE: [u8; 30] = [
+    0xff, 0xff, 0, 0x1e, 0, 0, 0, 0, 0xd0, 0x5b, 0x7f, 0, 0, 1, 0xbc, 0x47, 0, 2, 0, 0, 0xd0, 0x5b,
+    0x7f, 0, 0, 1, 0xbc, 0x47, 0, 2,
+];
+
+/// A packet between two nodes.
+fn between(to: Node, from: Node) -> [u8; 34] {
+    let mut bytes = packet(to);
+    bytes[22..28].copy_from_slice(&from.0);
+    bytes
+}
+
+/// The port over these sockets, joined to the others.
+fn joined(alloc: Global, sockets: MemoryPlaces) -> Result<Servers<MemoryPlaces>, AllocError> {
+    let routers = Vec::from_slice(alloc, &[SOUTH, WEST])?;
+    let server = IpxnetServer::joined_to(alloc, PORT, 64, routers)?;
+    let mut servers = Vec::new(alloc);
+    servers.push(server)?;
+    Ok(Servers::new(sockets, servers))
+}
+
+/// What goes between a player here and one at the south: each datagram once to whom it is for, the
+/// answer first, and nothing that a site sent to any site.
+#[test]
+fn datagrams_of_sites(rt: HostRuntime) -> Result<(), Fail> {
+    let all = packet(Node::BROADCAST);
+    let back = between(FIRST.node(), SECOND_NODE);
+    let told = between(Node::BROADCAST, SECOND_NODE);
+    let mut sockets = MemoryPlaces::new(rt.alloc(), 1);
+    sockets.put(0, FIRST, &REGISTRATION)?;
+    sockets.put(0, FIRST, &all)?;
+    sockets.put(0, FIRST, &CAME)?;
+    sockets.put(0, SOUTH, &back)?;
+    sockets.put(0, FIRST, &CAME)?;
+    sockets.put(0, SOUTH, &told)?;
+    sockets.put(0, SOUTH, &all)?;
+    let mut servers = joined(rt.alloc(), sockets)?;
+    let mut room = [0; 1536];
+    servers.receive(0, &mut room)?;
+    let sent = servers.sockets().went();
+    assert_eq!(rt; sent[0].place, FIRST);
+    assert_eq!(rt; sent[0].bytes.as_slice(), ANSWER.as_slice());
+    assert!(rt; went_behind(servers.sockets(), 1, &[SOUTH, WEST], &NOTICE));
+    servers.receive(0, &mut room)?;
+    assert!(rt; went_behind(servers.sockets(), 3, &[SOUTH, WEST], &all));
+    servers.receive(0, &mut room)?;
+    assert!(rt; went_behind(servers.sockets(), 5, &[SOUTH, WEST], &CAME));
+    servers.receive(0, &mut room)?;
+    assert!(rt; went_behind(servers.sockets(), 7, &[FIRST], &back));
+    servers.receive(0, &mut room)?;
+    assert!(rt; went_behind(servers.sockets(), 8, &[SOUTH], &CAME));
+    servers.receive(0, &mut room)?;
+    assert!(rt; went_behind(servers.sockets(), 9, &[FIRST], &told));
+    // What the player here sent to all comes back to nobody.
+    servers.receive(0, &mut room)?;
+    assert_eq!(rt; servers.sockets().went().len(), 10);
+    assert_eq!(rt; servers.servers()[0].counts().not_behind, 1);
+    assert_eq!(rt; servers.servers()[0].clients().len(), 1);
+    assert_eq!(rt; servers.filtered(), 7);
+    Ok(())
+}
+
+/// Packets of the core: to a node that no client here has by the sites, to all nodes here alone.
+#[test]
+fn packets_of_the_core_by_sites(rt: HostRuntime) -> Result<(), Fail> {
+    let mut sockets = MemoryPlaces::new(rt.alloc(), 1);
+    sockets.put(0, FIRST, &REGISTRATION)?;
+    sockets.put(0, WEST, &between(FIRST.node(), SECOND_NODE))?;
+    let mut servers = joined(rt.alloc(), sockets)?;
+    let mut room = [0; 1536];
+    servers.receive(0, &mut room)?;
+    servers.receive(0, &mut room)?;
+    let sent = servers.send(0, SECOND_NODE, &CAME);
+    assert!(rt; matches!(sent, Ok(PacketSent::Transmitted(1))));
+    assert!(rt; went_behind(servers.sockets(), 4, &[WEST], &CAME));
+    servers.send(0, UNKNOWN_SENDER.node(), &CAME)?;
+    assert!(rt; went_behind(servers.sockets(), 5, &[SOUTH, WEST], &CAME));
+    servers.send(0, Node::BROADCAST, &CAME)?;
+    assert!(rt; went_behind(servers.sockets(), 7, &[FIRST], &CAME));
+    Ok(())
+}
+
+/// A site to which sending fails keeps none from its datagram.
+#[test]
+fn a_site_that_fails(rt: HostRuntime) -> Result<(), Fail> {
+    let mut sockets = MemoryPlaces::new(rt.alloc(), 1);
+    sockets.put(0, FIRST, &REGISTRATION)?;
+    sockets.break_place(SOUTH);
+    let mut servers = joined(rt.alloc(), sockets)?;
+    let mut room = [0; 1536];
+    servers.receive(0, &mut room)?;
+    assert!(rt; went_behind(servers.sockets(), 1, &[WEST], &NOTICE));
+    Ok(())
+}

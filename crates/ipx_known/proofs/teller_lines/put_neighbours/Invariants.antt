@@ -1,9 +1,0 @@
-use Rattle.std.proofs.Common.{◌≡◌, ◌++◌, string_bytes}
-use Rattle.std.specs.List.{flat_map}
-use Rattle.ipx_known.specs.TableText.{teller_line}
-use Rattle.ipx_known.proofs.teller_lines.put_neighbours.Given as goal
-
--- with those of what is left they are the lines of all, behind what was there
-abbrev pub invariant-loop-source : goal.invariant-loop-source
-invariant-loop-source l =
-    string_bytes l.text ++ flat_map (teller_line l.now) l.source-iterator ≡ string_bytes l.fn.text ++ flat_map (teller_line l.now) l.tellers.entries

@@ -1,7 +1,0 @@
-use Rattle.ipx_lobbies.specs.PlaceTraffic.{place_datagram}
-use Rattle.ipx_lobbies.proofs.Handing.{hands_one}
-use Rattle.ipx_lobbies.proofs.giving_on.send_answer.Goals as goal
-
-pub returns-in-Some-clause-gone : goal.returns-in-Some-clause-gone
-returns-in-Some-clause-gone g c =
-    rw c.in-Some.is (hands_one c.send.result (place_datagram c.args.port c.in-Some.answer c.args.place) _ _ _ _ c.send.ensures.sent c.send.ensures.refused c.send.ensures.failures)

@@ -1,4 +1,0 @@
-pub mod PlaceTraffic
-pub mod OnLobbies
-pub mod LobbyAddresses
-pub mod PlacesMemory

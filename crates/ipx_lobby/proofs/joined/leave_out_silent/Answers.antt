@@ -1,8 +1,0 @@
-use Rattle.std.proofs.Common.{rules}
-use Rattle.std.proofs.lemmas.Fn.{filter_same}
-use Rattle.ipx_lobby.specs.LobbyJoined.{was_far_heard}
-use Rattle.ipx_lobby.proofs.joined.leave_out_silent.Goals as goal
-
-pub returns-clause-items : goal.returns-clause-items
-returns-clause-items c =
-    filter_same _ (was_far_heard c.args.now) _ (λ x b f' k. search rules) _ _ c.retain.ensures.filtered

@@ -1,0 +1,3 @@
+pub mod MeteredRouter
+pub mod LastDrops
+pub mod PortCounts

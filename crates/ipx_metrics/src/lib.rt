@@ -1,0 +1,12 @@
+//! What a router counts at each of its ports, and what it dropped last.
+//!
+//! A [`MeteredRouter`] is a router as a core that counts so.
+#![tactic(auto)]
+
+mod metered_router;
+mod last_drops;
+mod port_counts;
+
+pub use metered_router::MeteredRouter;
+pub use last_drops::{LastDrop, LastDrops};
+pub use port_counts::PortCounts;

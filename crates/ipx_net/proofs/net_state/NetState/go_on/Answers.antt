@@ -1,0 +1,15 @@
+use Rattle.std.proofs.Common.{◌≡◌, ◌∙◌, ap, false, sym}
+use Rattle.ipx_net.specs.StepResultView.{step_result_view}
+use Rattle.ipx_net.specs.NetView.{NetView}
+use Rattle.ipx_net.proofs.NetKept.{goes_on, not_spent, ok_holds}
+use Rattle.ipx_net.proofs.net_state.NetState.go_on.Goals as goal
+
+pub returns-clause-going : goal.returns-clause-going
+returns-clause-going c = ap (λ (v : NetView). v.spent) c.self.view_is ∙ not_spent c.args.self.now c.args.event c.requires.sound
+
+pub invariant_of-self-else-is_err-2 : goal.invariant_of-self-else-is_err-2
+invariant_of-self-else-is_err-2 c =
+    let going : c.self.inside.spent ≡ false = ap (λ (v : NetView). v.spent) c.self.view_is ∙ not_spent c.args.self.now c.args.event c.requires.sound in
+    goes_on c.self.inside.hosts c.happen-grown.new.hosts _ _ c.self.inside.indexed_log c.append.new.self (step_result_view c.in-Ok.growth) c.self.inside.moment c.happen-grown.new.moment c.self.inside.spent c.args.event
+    c.steps_are_deeds.ensures.order c.steps_are_deeds.ensures.reached going c.self.invariant c.in-Ok.ensures.happens
+    (ok_holds c.append.result _ (sym c.is_err-2.ensures.value ∙ c.if-is_err-2.false) c.append.ensures.ok)

@@ -1,0 +1,5 @@
+use Rattle.ipx_net.proofs.TellingStands.{SettledTo}
+use Rattle.ipx_net.proofs.told.EndSummaries.settle.Given as goal
+
+abbrev pub invariant-loop-place : goal.invariant-loop-place
+invariant-loop-place l = SettledTo l.hosts l.host l.gone l.fn.self.infos.items l.place l.self.infos.items

@@ -1,5 +1,0 @@
-use Rattle.ipx_net.proofs.TellingStands.{SettledTo}
-use Rattle.ipx_net.proofs.told.EndsTold.settle.Given as goal
-
-abbrev pub invariant-loop-place : goal.invariant-loop-place
-invariant-loop-place l = SettledTo l.hosts l.host l.gone l.fn.self.infos.items l.place l.self.infos.items

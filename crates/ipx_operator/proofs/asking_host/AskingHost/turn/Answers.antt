@@ -1,7 +1,0 @@
-use Rattle.std.proofs.Common.{[], ◌∷◌, arith, refl}
-use Rattle.ipx_operator.proofs.asking_host.AskingHost.turn.Goals as goal
-
-pub returns : goal.returns
-returns g c =
-    let r = c.in_ok-active.ensures.turn in
-    record { asks = (r.0 ∷ [], ((c.turn.new.core, r.1, refl), (r.2.0, omega (arith, r.2.1)))) }

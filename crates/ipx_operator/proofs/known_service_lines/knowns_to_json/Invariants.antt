@@ -1,8 +1,0 @@
-use Rattle.std.proofs.Common.{◌≡◌, map, string_bytes, take}
-use Rattle.std.specs.List.{flat_map}
-use Rattle.ipx_known.specs.TableRead.{service_spelled}
-use Rattle.ipx_operator.specs.KnownLines.{known_service_json}
-use Rattle.ipx_operator.proofs.known_service_lines.knowns_to_json.Given as goal
-
-abbrev pub invariant-loop-service : goal.invariant-loop-service
-invariant-loop-service l = string_bytes l.lines ≡ flat_map known_service_json (map service_spelled (take l.service-index l.services))

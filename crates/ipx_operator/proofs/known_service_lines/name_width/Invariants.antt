@@ -1,7 +1,0 @@
-use Rattle.std.proofs.Common.{◌≡◌, map, take}
-use Rattle.ipx_known.specs.TableRead.{service_spelled}
-use Rattle.ipx_operator.specs.KnownLines.{known_name_width}
-use Rattle.ipx_operator.proofs.known_service_lines.name_width.Given as goal
-
-abbrev pub invariant-loop-service : goal.invariant-loop-service
-invariant-loop-service l = l.width ≡ known_name_width (map service_spelled (take l.service-index l.services))

@@ -1,7 +1,0 @@
-use Rattle.std.proofs.Common.{◌≡◌, string_bytes, take}
-use Rattle.std.specs.List.{flat_map}
-use Rattle.ipx_operator.specs.OperatorLines.{network_row}
-use Rattle.ipx_operator.proofs.network_lines.networks_to_rows.Given as goal
-
-abbrev pub invariant-loop-told : goal.invariant-loop-told
-invariant-loop-told l = string_bytes l.rows ≡ flat_map network_row (take l.told-index l.listed)

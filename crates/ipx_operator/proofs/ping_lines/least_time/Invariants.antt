@@ -1,6 +1,0 @@
-use Rattle.std.proofs.Common.{◌≡◌, take}
-use Rattle.ipx_operator.specs.PingLines.{least_time}
-use Rattle.ipx_operator.proofs.ping_lines.least_time.Given as goal
-
-abbrev pub invariant-loop-place : goal.invariant-loop-place
-invariant-loop-place l = l.least ≡ least_time (take l.place l.times)

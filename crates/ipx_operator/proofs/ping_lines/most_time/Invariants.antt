@@ -1,6 +1,0 @@
-use Rattle.std.proofs.Common.{◌≡◌, take}
-use Rattle.ipx_operator.specs.PingLines.{most_time}
-use Rattle.ipx_operator.proofs.ping_lines.most_time.Given as goal
-
-abbrev pub invariant-loop-time : goal.invariant-loop-time
-invariant-loop-time l = l.most ≡ most_time (take l.time-index l.times)

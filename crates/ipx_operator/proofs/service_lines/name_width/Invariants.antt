@@ -1,6 +1,0 @@
-use Rattle.std.proofs.Common.{◌≡◌, take}
-use Rattle.ipx_operator.specs.OperatorLines.{name_width}
-use Rattle.ipx_operator.proofs.service_lines.name_width.Given as goal
-
-abbrev pub invariant-loop-told : goal.invariant-loop-told
-invariant-loop-told l = l.width ≡ name_width (take l.told-index l.listed)

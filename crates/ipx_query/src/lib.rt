@@ -1,0 +1,24 @@
+//! What an operator's host asks: routers of its network what they know, and a listener whether it
+//! is there.
+//!
+//! [`QueryCore`] is a core of `ipx_carrier`. It gives RIP requests for all networks, or SAP queries
+//! for the services of a type, and hears what the routers that it asks answer. [`PingCore`] gives
+//! requests for a connection, and counts the replies. Bytes and moments are handed in.
+#![tactic(auto)]
+
+mod answer;
+mod answer_heard;
+mod query_core;
+mod queried_router;
+mod entries;
+mod laws;
+mod ping;
+mod ping_core;
+mod query;
+mod question;
+
+pub use query_core::QueryCore;
+pub use queried_router::QueriedRouter;
+pub use laws::pings_ask_for_a_connection;
+pub use ping_core::PingCore;
+pub use question::TableQuery;

@@ -1,0 +1,10 @@
+//! What routers are asked.
+
+/// What routers are asked.
+#[derive(Clone, Copy, Debug, PartialEq, Eq)]
+pub enum TableQuery {
+    /// Which networks they know: a RIP request for all.
+    Networks,
+    /// Which services of a type they know, of all types by FFFF: a general SAP query.
+    Services(u16),
+}

@@ -1,0 +1,151 @@
+-- What grows by one more: rows of a text, IP addresses, who answered, the width of a column, and turns. And
+-- what a status of 0 comes of.
+use Rattle.std.proofs.Common.{◌≡◌, ◌≤◌, ◌<◌, ◌⊎◌, inl, inr, ℕ, ◌+◌, Bool, true, false, List, ◌++◌, [], ◌∷◌, length, map, max, take, get_or, sym, subst, ap, ◌∙◌, refl, arith, if◌then◌else◌}
+use Rattle.std.specs.Prelude.{filter}
+use Rattle.std.specs.List.{flat_map}
+use Rattle.std.proofs.lemmas.List.{append-nil, append_assoc, flat_map_more, map-append, take_more}
+use Rattle.ipx_wire.specs.declared.address.Node.{Node}
+use Rattle.ipx_carrier.specs.Device.{TellsMoments}
+use Rattle.ipx_carrier.specs.Turns.{Turn, Turns, moments_of}
+use Rattle.ipx_inspect.specs.ShowLine.{name_text}
+use Rattle.ipx_query.specs.AskQueries.{AskGives}
+use Rattle.ipx_query.specs.QueryView.{AskView}
+use Rattle.ipx_query.specs.declared.queried_router.QueriedRouter.{QueriedRouter}
+use Rattle.ipx_site.specs.SourceFilter.{is_peer}
+use Rattle.ipx_site.specs.Steady.{NeverGoesBack}
+use Rattle.ipx_site.specs.declared.clock.SteadyClock.{SteadyClock}
+use Rattle.ipx_query_cmd.specs.QueryRuns.{AsksOn, PassBetween, hears_answer}
+use Rattle.ipx_table_dump.specs.TableRead.{ServiceSpelled}
+use Rattle.ipx_query_cmd.specs.KnownLines.{known_name_width}
+use Rattle.ipx_query_cmd.specs.OperatorLines.{ToldService, answering_nodes, name_width}
+use Rattle.ipx_query_cmd.specs.QueryTargets.{new_ips}
+
+-- one more text behind those of the elements before
+pub texts_more : {X : Type 0} (f : X → List ℕ) (xs : List X) (i : ℕ) (d : X) (old part : List ℕ) → i < length xs → old ≡ flat_map f (take i xs) → part ≡ f (get_or xs i d)
+    → old ++ part ≡ flat_map f (take (i + 1) xs)
+texts_more f xs i d old part lt was is =
+    rw (was, is) (flat_map_more f [] (take i xs) (get_or xs i d) ∙ ap (flat_map f) (sym (take_more xs i d lt)))
+
+-- the text of one more element, by its words
+flat_map_twice : {X W : Type 0} (f : W → List ℕ) (g : X → W) (xs : List X) → flat_map f (map g xs) ≡ flat_map (λ x. f (g x)) xs
+flat_map_twice f g [] = refl
+flat_map_twice f g (x ∷ xs) = ap (λ t. f (g x) ++ t) (flat_map_twice f g xs)
+
+pub words_more : {X W : Type 0} (f : W → List ℕ) (g : X → W) (xs : List X) (i : ℕ) (d : X) (old part : List ℕ) → i < length xs → old ≡ flat_map f (map g (take i xs)) → part ≡ f (g (get_or xs i d))
+    → old ++ part ≡ flat_map f (map g (take (i + 1) xs))
+words_more f g xs i d old part lt was is =
+    texts_more (λ x. f (g x)) xs i d old part lt (was ∙ flat_map_twice f g (take i xs)) is ∙ sym (flat_map_twice f g (take (i + 1) xs))
+
+-- one more element that is kept, and one that is not
+kept_last : {X W : Type 0} (p : W → Bool) (g : X → W) (xs : List X) (x : X) → filter p (map g (xs ++ x ∷ [])) ≡ filter p (map g xs) ++ (if p (g x) then g x ∷ [] else [])
+kept_last p g [] x = elim (p (g x)) as (λ b. (if b then g x ∷ [] else []) ≡ (if b then g x ∷ [] else [])) [ true ↦ refl | false ↦ refl ]
+kept_last p g (y ∷ xs) x =
+    let later = kept_last p g xs x in
+    elim (p (g y)) as (λ b. (if b then g y ∷ filter p (map g (xs ++ x ∷ [])) else filter p (map g (xs ++ x ∷ []))) ≡ (if b then g y ∷ filter p (map g xs) else filter p (map g xs)) ++ (if p (g x) then g x ∷ [] else [])) [
+      | true ↦ ap (λ t. g y ∷ t) later
+      | false ↦ later
+    ]
+
+module _ {X W : Type 0} (p : W → Bool) (g : X → W) (xs : List X) (i : ℕ) (d : X) (lt : i < length xs) (items : List X) (was : map g items ≡ filter p (map g (take i xs))) where
+  kept_more : filter p (map g (take (i + 1) xs)) ≡ map g items ++ (if p (g (get_or xs i d)) then g (get_or xs i d) ∷ [] else [])
+  kept_more =
+      ap (λ ys. filter p (map g ys)) (take_more xs i d lt) ∙ kept_last p g (take i xs) (get_or xs i d)
+      ∙ ap (λ l. l ++ (if p (g (get_or xs i d)) then g (get_or xs i d) ∷ [] else [])) (sym was)
+
+  pub pushed_kept : (new : List X) → p (g (get_or xs i d)) ≡ true → new ≡ items ++ get_or xs i d ∷ [] → map g new ≡ filter p (map g (take (i + 1) xs))
+  pushed_kept new is more =
+      ap (map g) more ∙ map-append g items (get_or xs i d ∷ [])
+      ∙ sym (kept_more ∙ ap (λ b. map g items ++ (if b then g (get_or xs i d) ∷ [] else [])) is)
+
+  pub passed_kept : p (g (get_or xs i d)) ≡ false → map g items ≡ filter p (map g (take (i + 1) xs))
+  passed_kept is = sym (kept_more ∙ ap (λ b. map g items ++ (if b then g (get_or xs i d) ∷ [] else [])) is ∙ append-nil (map g items))
+
+-- of one more IP address it is told whether it is new
+abbrev pub if_new : List (List ℕ) → List ℕ → List (List ℕ)
+if_new earlier ip = if is_peer earlier ip then [] else ip ∷ []
+
+news_more : (earlier ips : List (List ℕ)) (ip : List ℕ) → new_ips earlier (ips ++ ip ∷ []) ≡ new_ips earlier ips ++ if_new (earlier ++ ips) ip
+news_more earlier [] ip = append-nil (if_new earlier ip) ∙ ap (λ t. if_new t ip) (sym (append-nil earlier))
+news_more earlier (y ∷ ys) ip =
+    ap (λ t. if_new earlier y ++ t) (news_more (earlier ++ y ∷ []) ys ip)
+    ∙ rw (append_assoc earlier (y ∷ []) ys) (sym (append_assoc (if_new earlier y) (new_ips (earlier ++ y ∷ []) ys) (if_new (earlier ++ y ∷ ys) ip)))
+
+pub ips_more : (ips : List (List ℕ)) (i : ℕ) (d : List ℕ) (old new : List (List ℕ)) → i < length ips → old ≡ new_ips [] (take i ips)
+    → new ≡ old ++ if_new (take i ips) (get_or ips i d) → new ≡ new_ips [] (take (i + 1) ips)
+ips_more ips i d old new lt was is =
+    is ∙ ap (λ t. t ++ if_new (take i ips) (get_or ips i d)) was ∙ sym (news_more [] (take i ips) (get_or ips i d)) ∙ ap (new_ips []) (sym (take_more ips i d lt))
+
+-- of one more router it is told whether it answered
+abbrev pub if_answered : QueriedRouter → List Node
+if_answered r = if r.answered then r.node ∷ [] else []
+
+by_answer : (answered : Bool) (r : QueriedRouter) (kept : List QueriedRouter) → map (λ r. r.node) (if answered then r ∷ kept else kept) ≡ (if answered then r.node ∷ [] else []) ++ map (λ r. r.node) kept
+by_answer true r kept = refl
+by_answer false r kept = refl
+
+answered_first : (r : QueriedRouter) (rs : List QueriedRouter) → answering_nodes (r ∷ rs) ≡ if_answered r ++ answering_nodes rs
+answered_first r rs = by_answer r.answered r (filter (λ r. r.answered) rs)
+
+answered_more : (rs : List QueriedRouter) (r : QueriedRouter) → answering_nodes (rs ++ r ∷ []) ≡ answering_nodes rs ++ if_answered r
+answered_more [] r = answered_first r [] ∙ append-nil (if_answered r)
+answered_more (q ∷ rs) r =
+    answered_first q (rs ++ r ∷ []) ∙ ap (λ t. if_answered q ++ t) (answered_more rs r)
+    ∙ sym (append_assoc (if_answered q) (answering_nodes rs) (if_answered r)) ∙ ap (λ t. t ++ if_answered r) (sym (answered_first q rs))
+
+pub answers_more : (rs : List QueriedRouter) (i : ℕ) (d : QueriedRouter) (old new : List Node) → i < length rs → old ≡ answering_nodes (take i rs)
+    → new ≡ old ++ if_answered (get_or rs i d) → new ≡ answering_nodes (take (i + 1) rs)
+answers_more rs i d old new lt was is =
+    is ∙ ap (λ t. t ++ if_answered (get_or rs i d)) was ∙ sym (answered_more (take i rs) (get_or rs i d)) ∙ ap answering_nodes (sym (take_more rs i d lt))
+
+-- the column is as wide as one more name wants
+wide_more : (xs : List ToldService) (x : ToldService) → name_width (xs ++ x ∷ []) ≡ max (name_width xs) (length (name_text x.0.name))
+wide_more [] x = omega arith
+wide_more (y ∷ xs) x = omega (arith, wide_more xs x)
+
+pub width_more : (xs : List ToldService) (i : ℕ) (d : ToldService) (old wide : ℕ) → i < length xs → old ≡ name_width (take i xs)
+    → wide ≡ length (name_text (get_or xs i d).0.name) → max old wide ≡ name_width (take (i + 1) xs)
+width_more xs i d old wide lt was is =
+    rw (was, is) (sym (wide_more (take i xs) (get_or xs i d)) ∙ ap name_width (sym (take_more xs i d lt)))
+
+-- the column of known names is as wide as one more name wants
+known_wide_more : (xs : List ServiceSpelled) (x : ServiceSpelled) → known_name_width (xs ++ x ∷ []) ≡ max (known_name_width xs) (length x.name)
+known_wide_more [] x = omega arith
+known_wide_more (y ∷ xs) x = omega (arith, known_wide_more xs x)
+
+pub known_width_more : {X : Type 0} (g : X → ServiceSpelled) (xs : List X) (i : ℕ) (d : X) (old wide : ℕ) → i < length xs → old ≡ known_name_width (map g (take i xs))
+    → wide ≡ length (g (get_or xs i d)).name → max old wide ≡ known_name_width (map g (take (i + 1) xs))
+known_width_more g xs i d old wide lt was is =
+    rw (was, is) (sym (known_wide_more (map g (take i xs)) (g (get_or xs i d)))
+    ∙ ap known_name_width (sym (map-append g (take i xs) (get_or xs i d ∷ [])) ∙ ap (map g) (sym (take_more xs i d lt))))
+
+-- moments, and later ones
+between_on : (from : ℕ) (ms ns : List ℕ) (mid to : ℕ) → PassBetween from ms mid → PassBetween mid ns to → PassBetween from (ms ++ ns) to
+between_on from [] [] mid to h k = omega (arith, h, k)
+between_on from [] (n ∷ ns) mid to h k = (omega (arith, h, k.0), k.1)
+between_on from (m ∷ ms) ns mid to h k = (h.0, between_on m ms ns mid to h.1 k)
+
+pub between_later : (from : ℕ) (ms : List ℕ) (mid to : ℕ) → PassBetween from ms mid → mid ≤ to → PassBetween from ms to
+between_later from [] mid to h k = omega (arith, h, k)
+between_later from (m ∷ ms) mid to h k = (h.0, between_later m ms mid to h.1 k)
+
+-- what a clock told passed between what it told before and last
+pub told_between : {R : Type 0} (old new : SteadyClock R) (ms : List ℕ) → TellsMoments NeverGoesBack old new ms → PassBetween old.last ms new.last
+told_between {R} old new [] h = omega (arith, ap (λ (c : SteadyClock R). c.last) h)
+told_between old new (m ∷ ms) h = (h.1.0, subst (λ (from : ℕ). PassBetween from ms new.last) h.1.1 (told_between h.0 new ms h.2))
+
+-- turns, and more turns; and a moment behind them
+turns_after : (ts us : List Turn) (a b c : AskView) → Turns hears_answer AskGives 1 ts a b → Turns hears_answer AskGives 1 us b c → Turns hears_answer AskGives 1 (ts ++ us) a c
+turns_after [] us a b c h k = subst (λ a. Turns hears_answer AskGives 1 us a c) h k
+turns_after (t ∷ ts) us a b c h k = (h.0, h.1, turns_after ts us h.0 b c h.2 k)
+
+pub turns_on : (ts us : List Turn) (from mid to : ℕ) (a b c : AskView) → AsksOn ts from mid a b → AsksOn us mid to b c → AsksOn (ts ++ us) from to a c
+turns_on ts us from mid to a b c h k =
+    (turns_after ts us a b c h.0 k.0, subst (λ (ms : List ℕ). PassBetween from ms to) (sym (map-append (λ (t : Turn). t.moment) ts us)) (between_on from (moments_of ts) (moments_of us) mid to h.1 k.1))
+
+pub turns_later : (ts : List Turn) (from mid to : ℕ) (a b : AskView) → AsksOn ts from mid a b → mid ≤ to → AsksOn ts from to a b
+turns_later ts from mid to a b h k = (h.0, between_later from (moments_of ts) mid to h.1 k)
+
+-- what ends well ends as the host that asked
+pub status_of_host : (result status : ℕ) → (result ≡ 1) ⊎ (result ≡ status) → result ≡ 0 → status ≡ 0
+status_of_host result status (inl one) zero = absurd (omega (arith, one, zero))
+status_of_host result status (inr is) zero = sym is ∙ zero

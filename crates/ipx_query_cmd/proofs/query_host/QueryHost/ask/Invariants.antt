@@ -1,0 +1,8 @@
+use Rattle.std.proofs.Common.{List}
+use Rattle.ipx_carrier.specs.Turns.{Turn}
+use Rattle.ipx_query_cmd.specs.QueryRuns.{AsksOn}
+use Rattle.ipx_query_cmd.proofs.query_host.QueryHost.ask.Given as goal
+
+-- it was asked turn by turn so far
+abbrev pub invariant-loop : goal.invariant-loop
+invariant-loop g l = (turns : List Turn) × AsksOn turns l.fn.self.clock.last l.self.clock.last l.fn.self.core l.self.core

@@ -1,0 +1,111 @@
+-- What an operator is shown of the text that a router writes of what it knows. All of it is own.
+-- The entry points are `known_networks_text` and `known_services_text`.
+use Rattle.std.specs.Prelude.{ℕ, ◌+◌, ◌==◌, ◌||◌, List, [], ◌∷◌, ◌++◌, Bool, codes, filter, if◌then◌else◌, length, max}
+use Rattle.std.specs.List.{flat_map}
+use Rattle.std.specs.Str.{bytes_eq}
+use Rattle.ipx_router.specs.declared.port.Port.{Port}
+use Rattle.ipx_site.specs.Checked.{shown_text}
+use Rattle.ipx_table_dump.specs.TableParts.{OwnSpelled, own_networks_read}
+use Rattle.ipx_table_dump.specs.TableRead.{NetworkSpelled, ServiceSpelled, networks_read, services_read}
+use Rattle.ipx_query_cmd.specs.OperatorLines.{ToldNetwork, at_left, at_right, json_byte, network_digits, network_json, network_row, service_head, told_count, type_digits}
+
+-- the last line: how much there is, and in which file
+abbrev pub written_in : List ℕ → List ℕ → List ℕ
+written_in count place = count ++ (codes ", by " ++ (shown_text place ++ 10 ∷ []))
+
+-- ---- networks
+
+-- one of a port of the router: nothing lies between, and nobody tells it
+abbrev pub direct_network_row : OwnSpelled → List ℕ
+direct_network_row own = own.network ++ codes "     0      0  -\n"
+
+abbrev pub known_network_row : NetworkSpelled → List ℕ
+known_network_row w =
+    w.network ++ (codes "  " ++ (at_right 4 w.hops ++ (codes "  " ++ (at_right 5 w.ticks
+    ++ (codes "  " ++ (w.next ++ codes "\n"))))))
+
+abbrev pub direct_network_json : OwnSpelled → List ℕ
+direct_network_json own =
+    codes "{\"network\":\"" ++ (own.network ++ codes "\",\"hops\":0,\"ticks\":0,\"by\":\"-\"}\n")
+
+abbrev pub known_network_json : NetworkSpelled → List ℕ
+known_network_json w =
+    codes "{\"network\":\"" ++ (w.network ++ (codes "\",\"hops\":" ++ (w.hops
+    ++ (codes ",\"ticks\":" ++ (w.ticks ++ (codes ",\"by\":\"" ++ (w.next
+    ++ codes "\"}\n")))))))
+
+abbrev pub known_networks_table : List ℕ → List OwnSpelled → List NetworkSpelled → List ℕ
+known_networks_table place owns bests =
+    codes "network   hops  ticks  by\n" ++ (flat_map direct_network_row owns
+    ++ (flat_map known_network_row bests
+    ++ written_in (told_count (length owns + length bests) (codes "1 network") (codes " networks")) place))
+
+-- those of its ports, and the best of each that neighbours told of, by a text of a file at this place
+abbrev pub known_networks_text : Bool → List ℕ → List ℕ → List ℕ
+known_networks_text json place text =
+    if json
+    then flat_map direct_network_json (own_networks_read text) ++ flat_map known_network_json (networks_read text)
+    else known_networks_table place (own_networks_read text) (networks_read text)
+
+-- the network of a port, as it is printed
+abbrev pub port_row : Port → List ℕ
+port_row p = network_digits p.network ++ codes "     0      0  -\n"
+
+abbrev pub port_json : Port → List ℕ
+port_json p =
+    codes "{\"network\":\"" ++ (network_digits p.network ++ codes "\",\"hops\":0,\"ticks\":0,\"by\":\"-\"}\n")
+
+-- what is printed by a router with these ports, where these are the best that neighbours told of: each as a host
+-- prints what it was told
+abbrev pub router_networks_text : Bool → List ℕ → List Port → List ToldNetwork → List ℕ
+router_networks_text json place ports listed =
+    if json then flat_map port_json ports ++ flat_map network_json listed
+    else codes "network   hops  ticks  by\n" ++ (flat_map port_row ports
+    ++ (flat_map network_row listed
+    ++ written_in (told_count (length ports + length listed) (codes "1 network") (codes " networks")) place))
+
+-- ---- services
+
+-- those of a type, or of all
+abbrev pub services_of_type : ℕ → List ServiceSpelled → List ServiceSpelled
+services_of_type kind services =
+    filter (λ s. (kind == 0xffff) || bytes_eq s.kind (type_digits kind)) services
+
+abbrev pub known_name_width : List ServiceSpelled → ℕ
+known_name_width [] = 4
+known_name_width (s ∷ services) = max (length s.name) (known_name_width services)
+
+abbrev pub known_place_columns : ServiceSpelled → List ℕ
+known_place_columns s = s.network ++ (codes "  " ++ (s.node ++ (codes "  " ++ s.socket)))
+
+abbrev pub known_service_row : ℕ → ServiceSpelled → List ℕ
+known_service_row width s =
+    s.kind ++ (codes "  " ++ (at_left width s.name ++ (codes "  " ++ (known_place_columns s
+    ++ (codes "    " ++ (at_right 4 s.hops ++ (codes "  " ++ (s.next ++ codes "\n"))))))))
+
+-- a name that is already as `name_text` has it, within quotes of JSON
+abbrev pub known_json_byte : ℕ → List ℕ
+known_json_byte b = if b == 0x5c then 0x5c ∷ 0x5c ∷ [] else json_byte b
+
+abbrev pub known_place_json : ServiceSpelled → List ℕ
+known_place_json s =
+    codes "\"network\":\"" ++ (s.network ++ (codes "\",\"node\":\"" ++ (s.node
+    ++ (codes "\",\"socket\":\"" ++ (s.socket ++ codes "\"")))))
+
+abbrev pub known_service_json : ServiceSpelled → List ℕ
+known_service_json s =
+    codes "{\"type\":\"" ++ (s.kind ++ (codes "\",\"name\":\"" ++ (flat_map known_json_byte s.name
+    ++ (codes "\"," ++ (known_place_json s ++ (codes ",\"hops\":" ++ (s.hops
+    ++ (codes ",\"by\":\"" ++ (s.next ++ codes "\"}\n")))))))))
+
+abbrev pub known_services_table : List ℕ → List ServiceSpelled → List ℕ
+known_services_table place services =
+    service_head (known_name_width services)
+    ++ (flat_map (known_service_row (known_name_width services)) services
+    ++ written_in (told_count (length services) (codes "1 service") (codes " services")) place)
+
+-- the best of each service of a type that neighbours told of
+abbrev pub known_services_text : Bool → List ℕ → ℕ → List ℕ → List ℕ
+known_services_text json place kind text =
+    if json then flat_map known_service_json (services_of_type kind (services_read text))
+    else known_services_table place (services_of_type kind (services_read text))

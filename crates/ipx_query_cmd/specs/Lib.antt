@@ -1,0 +1,9 @@
+pub mod QueryRuns
+pub mod Listed
+pub mod OperatorLines
+pub mod PingLines
+pub mod PingRuns
+pub mod QueryTargets
+pub mod PingTargets
+pub mod KnownLines
+pub mod KnownListed

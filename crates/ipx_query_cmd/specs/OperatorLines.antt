@@ -1,0 +1,150 @@
+-- What an operator is shown of what routers told: a table, or a line of JSON for each. All of it is own.
+-- The entry points are `networks_text` and `services_text`.
+use Rattle.std.specs.Prelude.{ℕ, ◌-◌, ◌/◌, ◌%◌, ◌==◌, ◌&&◌, List, [], ◌∷◌, ◌++◌, Bool, codes, filter, if◌then◌else◌, length, map, max, nat_le, not}
+use Rattle.std.specs.Fmt.{decimal}
+use Rattle.std.specs.Int.{w16, w32, to_be_bytes}
+use Rattle.std.specs.List.{before_first, flat_map}
+use Rattle.std.specs.List.{repeat}
+use Rattle.hex.specs.Hex.{encode_lower}
+use Rattle.ipx_wire.specs.declared.address.Address.{Address}
+use Rattle.ipx_wire.specs.declared.address.Network.{Network}
+use Rattle.ipx_wire.specs.declared.address.Node.{Node}
+use Rattle.ipx_wire.specs.declared.address.Socket.{Socket}
+use Rattle.ipx_tables.specs.declared.route.RouteMetric.{RouteMetric}
+use Rattle.ipx_tables.specs.declared.service.ServiceKey.{ServiceKey}
+use Rattle.ipx_tables.specs.declared.service.ServiceMetric.{ServiceMetric}
+use Rattle.ipx_tables.specs.declared.source.Source.{Source}
+use Rattle.ipx_inspect.specs.ShowLine.{name_text}
+use Rattle.ipx_query.specs.declared.queried_router.QueriedRouter.{QueriedRouter}
+use Rattle.ipx_query_cmd.specs.declared.answer_times.AnswerTime.{AnswerTime}
+
+-- a network that was told, by whom and how far it is; and a service
+abbrev pub ToldNetwork : Type 0
+ToldNetwork = Network × Source × RouteMetric
+
+abbrev pub ToldService : Type 0
+ToldService = ServiceKey × Source × ServiceMetric
+
+-- ---- columns and digits
+
+-- a text at the right, or the left, of a column so wide
+abbrev pub at_right : ℕ → List ℕ → List ℕ
+at_right width text = repeat (width - length text) (codes " ") ++ text
+
+abbrev pub at_left : ℕ → List ℕ → List ℕ
+at_left width text = text ++ repeat (width - length text) (codes " ")
+
+abbrev pub network_digits : Network → List ℕ
+network_digits network = encode_lower (to_be_bytes w32 network.0)
+
+abbrev pub node_digits : Node → List ℕ
+node_digits node = encode_lower node.0
+
+abbrev pub socket_digits : Socket → List ℕ
+socket_digits socket = encode_lower (to_be_bytes w16 socket.0)
+
+abbrev pub type_digits : ℕ → List ℕ
+type_digits kind = encode_lower (to_be_bytes w16 kind)
+
+-- ---- behind a table: how much it has, and who answered
+
+-- so many tenths of a millisecond
+abbrev pub tenths_text : ℕ → List ℕ
+tenths_text tenths = decimal (tenths / 10) ++ (codes "." ++ (decimal (tenths % 10) ++ codes " ms"))
+
+abbrev pub answered_text : AnswerTime → List ℕ
+answered_text a =
+    codes ", " ++ (node_digits a.node ++ (codes " answered in " ++ tenths_text a.tenths))
+
+abbrev pub told_count : ℕ → List ℕ → List ℕ → List ℕ
+told_count count one many =
+    if count == 1 then one else (decimal count ++ many)
+
+abbrev pub behind_text : List ℕ → List AnswerTime → List ℕ
+behind_text count answers = count ++ (flat_map answered_text answers ++ 10 ∷ [])
+
+-- those of the routers that answered, in their order
+abbrev pub answering_nodes : List QueriedRouter → List Node
+answering_nodes routers = map (λ r. r.node) (filter (λ r. r.answered) routers)
+
+-- ---- networks
+
+abbrev pub network_row : ToldNetwork → List ℕ
+network_row told =
+    network_digits told.0 ++ (codes "  " ++ (at_right 4 (decimal told.2.hops) ++ (codes "  "
+    ++ (at_right 5 (decimal told.2.ticks) ++ (codes "  "
+    ++ (node_digits told.1.neighbour ++ codes "\n"))))))
+
+abbrev pub network_json : ToldNetwork → List ℕ
+network_json told =
+    codes "{\"network\":\"" ++ (network_digits told.0
+    ++ (codes "\",\"hops\":" ++ (decimal told.2.hops ++ (codes ",\"ticks\":"
+    ++ (decimal told.2.ticks ++ (codes ",\"by\":\"" ++ (node_digits told.1.neighbour
+    ++ codes "\"}\n")))))))
+
+abbrev pub networks_table : List ToldNetwork → List AnswerTime → List ℕ
+networks_table listed answers =
+    codes "network   hops  ticks  by\n" ++ (flat_map network_row listed
+    ++ behind_text (told_count (length listed) (codes "1 network") (codes " networks")) answers)
+
+abbrev pub networks_text : Bool → List ToldNetwork → List AnswerTime → List ℕ
+networks_text json listed answers =
+    if json then flat_map network_json listed else networks_table listed answers
+
+-- ---- services
+
+-- how wide the column of names is: as the longest name, and at least as its head
+abbrev pub name_width : List ToldService → ℕ
+name_width [] = 4
+name_width (told ∷ listed) = max (length (name_text told.0.name)) (name_width listed)
+
+abbrev pub place_columns : Address → List ℕ
+place_columns at =
+    network_digits at.network ++ (codes "  " ++ (node_digits at.node
+    ++ (codes "  " ++ socket_digits at.socket)))
+
+abbrev pub service_head : ℕ → List ℕ
+service_head width =
+    codes "type  " ++ (at_left width (codes "name")
+    ++ codes "  network   node          socket  hops  by\n")
+
+abbrev pub service_row : ℕ → ToldService → List ℕ
+service_row width told =
+    type_digits told.0.kind ++ (codes "  " ++ (at_left width (name_text told.0.name)
+    ++ (codes "  " ++ (place_columns told.2.at ++ (codes "    "
+    ++ (at_right 4 (decimal told.2.hops) ++ (codes "  "
+    ++ (node_digits told.1.neighbour ++ codes "\n"))))))))
+
+-- a name within quotes of JSON is as `name_text` has it, with a backslash before each quote and backslash
+abbrev pub json_byte : ℕ → List ℕ
+json_byte b =
+    if b == 0x22 then 0x5c ∷ 0x22 ∷ []
+    else (if (nat_le 0x21 b && nat_le b 0x7e) && not (b == 0x5c) then b ∷ []
+    else 0x5c ∷ 0x5c ∷ 0x78 ∷ encode_lower (b ∷ []))
+
+abbrev pub json_name : List ℕ → List ℕ
+json_name name =
+    if length (before_first (λ b. b == 0) name) == 0 then codes "-"
+    else flat_map json_byte (before_first (λ b. b == 0) name)
+
+abbrev pub place_json : Address → List ℕ
+place_json at =
+    codes "\"network\":\"" ++ (network_digits at.network ++ (codes "\",\"node\":\""
+    ++ (node_digits at.node ++ (codes "\",\"socket\":\""
+    ++ (socket_digits at.socket ++ codes "\"")))))
+
+abbrev pub service_json : ToldService → List ℕ
+service_json told =
+    codes "{\"type\":\"" ++ (type_digits told.0.kind ++ (codes "\",\"name\":\""
+    ++ (json_name told.0.name ++ (codes "\"," ++ (place_json told.2.at ++ (codes ",\"hops\":"
+    ++ (decimal told.2.hops ++ (codes ",\"by\":\"" ++ (node_digits told.1.neighbour
+    ++ codes "\"}\n")))))))))
+
+abbrev pub services_table : List ToldService → List AnswerTime → List ℕ
+services_table listed answers =
+    service_head (name_width listed) ++ (flat_map (service_row (name_width listed)) listed
+    ++ behind_text (told_count (length listed) (codes "1 service") (codes " services")) answers)
+
+abbrev pub services_text : Bool → List ToldService → List AnswerTime → List ℕ
+services_text json listed answers =
+    if json then flat_map service_json listed else services_table listed answers

@@ -1,0 +1,33 @@
+-- Whom the host of an operator pings, and who may speak to it, by its file. All of it is own.
+use Rattle.std.specs.Prelude.{ℕ, List, [], ◌∷◌, Option, Some, None, if◌then◌else◌}
+use Rattle.ipx_wire.specs.declared.address.Address.{Address}
+use Rattle.ipx_carrier.specs.Device.{Access}
+use Rattle.ipx_carrier.specs.Mapping.{ip_at}
+use Rattle.ipx_site.specs.declared.host.HostConfig.{HostConfig}
+use Rattle.ipx_query_cmd.specs.QueryTargets.{asked_ips}
+use Rattle.ipx_host.specs.Access.{is_on_own_network}
+
+-- the one IP address, where a node has one
+abbrev pub ips_of_node : Option (List ℕ) → List (List ℕ)
+ips_of_node None = []
+ips_of_node (Some ip) = ip ∷ []
+
+-- where requests go first: on the host's own network to the listener's node, else to the router of the
+-- file
+abbrev pub ping_way : HostConfig → Address → List (List ℕ)
+ping_way file to =
+    if is_on_own_network file to then ips_of_node (ip_at to.node) else file.router ∷ []
+
+-- who may bring an answer: that node, or any router that the file names
+abbrev pub ping_carriers : HostConfig → Address → List (List ℕ)
+ping_carriers file to =
+    if is_on_own_network file to then ips_of_node (ip_at to.node) else asked_ips file
+
+-- it sends to the one, and hears the others; the routers of the file alone pass packets on to it
+abbrev pub guarded_pinger : HostConfig → Address → Access
+guarded_pinger file to = record {
+  network = file.network;
+  sends = Some (ping_way file to);
+  hears = Some (ping_carriers file to);
+  routers = Some (asked_ips file);
+}

@@ -1,0 +1,38 @@
+-- Whom the host of an operator asks, and who may speak to it, by its file. All of it is own.
+use Rattle.std.specs.Prelude.{ℕ, List, [], ◌∷◌, ◌++◌, Some, map, if◌then◌else◌}
+use Rattle.ipx_wire.specs.declared.address.Address.{Address}
+use Rattle.ipx_wire.specs.declared.address.Node.{Node}
+use Rattle.ipx_carrier.specs.Device.{Access}
+use Rattle.ipx_carrier.specs.Mapping.{node_at}
+use Rattle.ipx_site.specs.SourceFilter.{is_peer}
+use Rattle.ipx_site.specs.declared.host.HostConfig.{HostConfig}
+
+-- of IP addresses behind earlier ones each that is none of those before it
+abbrev pub new_ips : List (List ℕ) → List (List ℕ) → List (List ℕ)
+new_ips earlier [] = []
+new_ips earlier (ip ∷ ips) =
+    (if is_peer earlier ip then [] else ip ∷ []) ++ new_ips (earlier ++ ip ∷ []) ips
+
+-- its router and the routers of its file, each once
+abbrev pub asked_ips : HostConfig → List (List ℕ)
+asked_ips file = new_ips [] (file.router ∷ file.routers.items)
+
+abbrev pub asked_nodes : HostConfig → List Node
+asked_nodes file = map node_at (asked_ips file)
+
+-- the address that it asks from: the network, the node and the socket of its file
+abbrev pub querier_address : HostConfig → Address
+querier_address file = record {
+  network = file.network;
+  node = node_at file.address;
+  socket = file.socket;
+}
+
+-- it sends to those alone, and hears those alone, as routers
+abbrev pub guarded_querier : HostConfig → Access
+guarded_querier file = record {
+  network = file.network;
+  sends = Some (asked_ips file);
+  hears = Some (asked_ips file);
+  routers = Some (asked_ips file);
+}

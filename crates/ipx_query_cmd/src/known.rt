@@ -1,0 +1,98 @@
+//! What a router wrote down, printed by its file.
+
+ghost use Rattle.std.specs.Prelude.{◌≡◌, ◌≤◌, ℕ, List, IsOkAnd, string_bytes};
+ghost use Rattle.std.specs.Io.KnownBytes.{Appends};
+ghost use Rattle.ipx_query_cmd.specs.KnownListed.{ListsKnownNetworks, ListsKnownServices};
+
+use crate::age::tell_old;
+use crate::fault::{KnownFault, tell_known_fault};
+use crate::known_lines::known_networks_to_text;
+use crate::known_service_lines::known_services_to_text;
+use ipx_site::{RouterConfig, load_tables, write_checked};
+use std::alloc::Global;
+use std::io::Write;
+use std::rt::{Clock, Files};
+
+/// Tells that a router's file names no file of tables, and answers the status.
+fn tell_no_tables<R: Eprint>(rt: &R, path: &str, command: &str) -> u8
+    ensures { result ≡ 2 }
+{
+    let _ = eprintln!(rt;
+        "{path}: tables is missing: {command} reads what the router writes there"
+    );
+    2
+}
+
+/// Writes the lines of the file of tables at a place, or tells why there are none, and answers the
+/// status.
+fn write_known<R: Eprint, W: Write>(
+    rt: &R,
+    place: &str,
+    lines: Result<String, KnownFault>,
+    writer: &mut W,
+) -> u8
+    ensures written { result ≡ 0 → IsOkAnd lines (λ l.
+        Appends (W.contents writer.old) (W.contents writer.new) (string_bytes l)) }
+    ensures few { result ≤ 2 }
+    ensures untouched { result ≡ 2 → writer.new ≡ writer.old }
+{
+    match lines {
+        Ok(lines) => write_checked(rt, place, Ok(lines), writer),
+        Err(fault) => tell_known_fault(rt, place, fault),
+    }
+}
+
+/// Prints the networks that the router of a file wrote down, and tells where that is old.
+pub fn networks_by_router<R: Files + Clock + Eprint, W: Write>(
+    rt: &R,
+    alloc: Global,
+    path: &str,
+    site: &RouterConfig,
+    json: bool,
+    writer: &mut W,
+) -> u8
+    ensures listed { result ≡ 0 → (lines : List ℕ) × ListsKnownNetworks json site.now lines
+        × Appends (W.contents writer.old) (W.contents writer.new) lines }
+    ensures few { result ≤ 2 }
+    ensures untouched { result ≡ 2 → writer.new ≡ writer.old }
+{
+    let Some(place) = &site.tables else {
+        return tell_no_tables(rt, path, "networks");
+    };
+    match load_tables(rt, alloc, place.as_str()) {
+        Ok(tables) => {
+            let lines = known_networks_to_text(alloc, json, place.as_str(), &tables);
+            tell_old(rt, place.as_str());
+            write_known(rt, place.as_str(), lines, writer)
+        }
+        Err(status) => status,
+    }
+}
+
+/// Prints its services of a type.
+pub fn services_by_router<R: Files + Clock + Eprint, W: Write>(
+    rt: &R,
+    alloc: Global,
+    path: &str,
+    site: &RouterConfig,
+    kind: u16,
+    json: bool,
+    writer: &mut W,
+) -> u8
+    ensures listed { result ≡ 0 → (lines : List ℕ) × ListsKnownServices json kind site.now lines
+        × Appends (W.contents writer.old) (W.contents writer.new) lines }
+    ensures few { result ≤ 2 }
+    ensures untouched { result ≡ 2 → writer.new ≡ writer.old }
+{
+    let Some(place) = &site.tables else {
+        return tell_no_tables(rt, path, "services");
+    };
+    match load_tables(rt, alloc, place.as_str()) {
+        Ok(tables) => {
+            let lines = known_services_to_text(alloc, json, place.as_str(), kind, &tables);
+            tell_old(rt, place.as_str());
+            write_known(rt, place.as_str(), lines, writer)
+        }
+        Err(status) => status,
+    }
+}

@@ -1,0 +1,45 @@
+//! What an operator types: a host asks the routers of its file which networks or services they know,
+//! or a listener whether it is there.
+//!
+//! [`do_networks`] is the command `ipx networks`, and [`do_services`] `ipx services`; they print a
+//! table, or lines of JSON. [`do_ping`] is `ipx ping`. Each runs by the file of a host; the first two
+//! by that of a router too, and print what it wrote down, and ask nobody.
+#![tactic(auto)]
+
+mod age;
+mod answer_times;
+mod query_options;
+mod query_host;
+mod query_socket;
+mod columns;
+mod fault;
+mod known;
+mod known_laws;
+mod known_lines;
+mod known_service_lines;
+mod last_line;
+mod names;
+mod network_lines;
+mod networks;
+mod ping_lines;
+mod ping_event;
+mod ping_options;
+mod pinging_host;
+mod pings;
+mod service_lines;
+mod services;
+mod stop_watch;
+mod query_target;
+
+pub use answer_times::AnswerTime;
+pub use fault::KnownFault;
+pub use known_laws::known_networks_are_the_bests;
+pub use known_lines::known_networks_to_text;
+pub use known_service_lines::known_services_to_text;
+pub use network_lines::networks_to_text;
+pub use networks::do_networks;
+pub use ping_lines::{news_to_text, totals_to_line};
+pub use ping_event::{PingAnswer, PingEvent};
+pub use pings::do_ping;
+pub use service_lines::services_to_text;
+pub use services::do_services;

@@ -1,0 +1,118 @@
+//! The command `ping`: whether a listener of SPX is there, and how far.
+
+ghost use Rattle.std.specs.Prelude.{◌≡◌, ◌≤◌, ℕ, List, IfOk, false};
+ghost use Rattle.std.specs.Io.KnownBytes.{Appends};
+ghost use Rattle.ipx_query.specs.PingEnds.{ping_status};
+ghost use Rattle.ipx_query.specs.declared.ping_core.PingCore.{PingCore as APingCore};
+ghost use Rattle.ipx_query_cmd.specs.PingRuns.{HasPinged, PingTurn, pinged_lines};
+ghost use Rattle.ipx_site.specs.Host.{IsHostText};
+ghost use Rattle.ipx_site.specs.Loading.{IsFileText};
+ghost use Rattle.ipx_site.specs.declared.host.HostConfig.{HostConfig as AHostFile};
+ghost use Rattle.ipx_host.specs.Access.{far_address, is_nowhere};
+ghost use Rattle.ipx_host.specs.Target.{NamesAddress};
+ghost use Rattle.ipx_wire.specs.declared.address.Address.{Address as AnAddress};
+
+use crate::fault::{AskFault, tell_fault};
+use crate::pinging_host::PingingHost;
+use ipx_site::{HostConfig, load_host};
+use ipx_host::{Target, far_address, is_nowhere, tell_nowhere};
+use ipx_wire::Address;
+use std::alloc::Global;
+use std::io::Write;
+use std::net::Net;
+use std::rt::{Clock, Files};
+
+/// Pings an address by the host of a file, and answers the status.
+fn ping_by<R: Net + Clock, W: Write>(
+    rt: &R,
+    alloc: Global,
+    file: &HostConfig,
+    to: Address,
+    count: u16,
+    writer: &mut W,
+) -> Result<u8, AskFault>
+    ensures pinged { IfOk result (λ status. (turns : List PingTurn) × (ping : APingCore)
+        × (now : ℕ) × HasPinged file.now to count turns ping now
+        × (status ≡ ping_status ping)
+        × Appends (W.contents writer.old) (W.contents writer.new) (pinged_lines to turns ping)) }
+    ensures few { IfOk result (λ status. status ≤ 1) }
+{
+    let mut host = PingingHost::open(rt, alloc, file, to, count)?;
+    host.ping(alloc, writer)?;
+    host.conclude(alloc, writer)?;
+    Ok(host.core.status())
+}
+
+/// Pings an address by the host of the file at a path. What is wrong is told.
+fn ping_at<R: Net + Files + Clock + Eprint, W: Write>(
+    rt: &R,
+    alloc: Global,
+    path: &str,
+    to: Address,
+    count: u16,
+    writer: &mut W,
+) -> u8
+    ensures few { result ≤ 2 }
+    ensures pinged { result ≡ 0 → (text : List ℕ) × (file : AHostFile)
+        × (turns : List PingTurn) × (ping : APingCore) × (now : ℕ)
+        × IsFileText text × IsHostText text file
+        × (is_nowhere file (far_address file to) ≡ false)
+        × HasPinged file (far_address file to) count turns ping now × (ping_status ping ≡ 0)
+        × Appends (W.contents writer.old) (W.contents writer.new)
+        (pinged_lines (far_address file to) turns ping) }
+    ensures untouched { result ≡ 2 → writer.new ≡ writer.old }
+{
+    let file = match load_host(rt, alloc, path) {
+        Ok(file) => file,
+        Err(status) => return status,
+    };
+    let to = far_address(&file, to);
+    if is_nowhere(&file, to) {
+        return tell_nowhere(rt, path, to.node);
+    }
+    match ping_by(rt, alloc, &file, to, count, writer) {
+        Ok(status) => status,
+        Err(fault) => tell_fault(rt, path, fault),
+    }
+}
+
+/// The command `ping`: asks a listener by the host of a file for a connection, so many times, one a
+/// second, and writes a line for each that is answered, and for each that is not, as it comes, and
+/// a line behind all. The host's address and socket are taken meanwhile.
+///
+/// The answer is the status: 0 where one was answered, and all is written; 1 where none was, the
+/// writer fails, the socket can't be had or memory is refused; 2 for a fault of the words or the
+/// file, or where nothing goes to the address. What is wrong is a line on standard error.
+pub fn do_ping<R: Net + Files + Clock + Eprint, W: Write>(
+    rt: &R,
+    alloc: Global,
+    path: &str,
+    target: Target<'_>,
+    count: u16,
+    writer: &mut W,
+) -> u8
+    // Words that name no address are told, and nothing is read or bound.
+    ensures words { ((a : AnAddress) → NamesAddress target.entry a → ⊥)
+        → (result ≡ 2) × (writer.new ≡ writer.old) }
+    ensures few { result ≤ 2 }
+    // Where it ends well, the host of some text of a file has pinged the address that the words
+    // name, to which something goes, one request was answered, and what is written is what came of
+    // them, line by line.
+    ensures pinged { result ≡ 0 → (text : List ℕ) × (file : AHostFile) × (to : AnAddress)
+        × (turns : List PingTurn) × (ping : APingCore) × (now : ℕ)
+        × IsFileText text × IsHostText text file × NamesAddress target.entry to
+        × (is_nowhere file (far_address file to) ≡ false)
+        × HasPinged file (far_address file to) count turns ping now × (ping_status ping ≡ 0)
+        × Appends (W.contents writer.old) (W.contents writer.new)
+        (pinged_lines (far_address file to) turns ping) }
+    // For a fault of the words or of the file nothing is written.
+    ensures untouched { result ≡ 2 → writer.new ≡ writer.old }
+{
+    match target.address() {
+        Ok(to) => ping_at(rt, alloc, path, to, count, writer),
+        Err(fault) => {
+            let _ = eprintln!(rt; "{fault}");
+            2
+        }
+    }
+}

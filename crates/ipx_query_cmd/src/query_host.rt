@@ -1,0 +1,160 @@
+//! The host of a file that asks its routers, over its socket.
+
+ghost use Rattle.std.specs.Prelude.{◌≡◌, ◌∷◌, [], IfOk, IfSome, List, OnOk, map, true};
+ghost use Rattle.ipx_carrier.specs.Turns.{Turn};
+ghost use Rattle.ipx_site.specs.SitePorts.{access_by};
+ghost use Rattle.ipx_query.specs.QueryEnds.{is_ask_over};
+ghost use Rattle.ipx_query.specs.QueryView.{IsNewAsk};
+ghost use Rattle.ipx_query_cmd.specs.QueryRuns.{AsksOn};
+ghost use Rattle.ipx_query_cmd.specs.OperatorLines.{answering_nodes};
+ghost use Rattle.ipx_query_cmd.specs.QueryTargets.{asked_ips, asked_nodes, querier_address, guarded_querier};
+
+use crate::answer_times::{AnswerTime, AnswerTimes};
+use crate::query_socket::QuerySocket;
+use crate::fault::AskFault;
+use crate::query_target::{asked_ips, querier_address, access_list_of, nodes_of};
+use ipx_query::{QueryCore, TableQuery};
+use ipx_carrier::Clock as Moments;
+use ipx_site::{HostConfig, Poller, SteadyClock};
+use std::alloc::{AllocError, Global};
+use std::net::Net;
+use std::rt::Clock;
+
+/// For how many milliseconds it waits at most before it looks again whether it is over.
+pub const POLL_INTERVAL: u64 = 20;
+
+/// A host that asks.
+pub struct QueryHost<'a, R: Clock> {
+    pub core: QueryCore,
+    own_socket: QuerySocket,
+    clock: SteadyClock<'a, R>,
+    poller: Poller,
+    times: AnswerTimes<'a, R>,
+}
+
+impl<'a, R: Clock> Drop for QueryHost<'a, R> {
+    fn drop(self) {
+        let QueryHost {
+            core: _,
+            own_socket: _,
+            clock: _,
+            poller: _,
+            times: _,
+        } = self;
+    }
+}
+
+/// The core of the host of a file that asks at these IP addresses.
+fn core_of(
+    alloc: Global,
+    file: &HostConfig,
+    question: TableQuery,
+    ips: &[[u8; 4]],
+) -> Result<QueryCore, AskFault>
+    ensures { IfOk result (λ c. ips.now ≡ asked_ips file.now
+        → IsNewAsk (querier_address file.now) question (asked_nodes file.now) c) }
+{
+    let nodes = nodes_of(alloc, ips)?;
+    Ok(QueryCore::new(alloc, querier_address(file), question, &nodes)?)
+}
+
+impl<'a, R: Net + Clock> QueryHost<'a, R> {
+    /// A host that is bound as its file says, and asks its routers a question.
+    pub fn open(
+        rt: &'a R,
+        alloc: Global,
+        file: &HostConfig,
+        question: TableQuery,
+    ) -> Result<QueryHost<'a, R>, AskFault>
+        ensures fresh { IfOk result (λ h.
+            IsNewAsk (querier_address file.now) question (asked_nodes file.now) h.core) }
+        ensures udp_port { IfOk result (λ h.
+            map (λ s. s.udp_port) h.own_socket.device.device.sockets.items ≡ file.now.udp_port ∷ []) }
+        ensures clock { IfOk result (λ h. h.clock.last ≡ 0) }
+        // Those alone are sent to and heard that it asks.
+        ensures access_list { IfOk result (λ h.
+            map access_by h.own_socket.device.access_lists.items ≡ guarded_querier file.now ∷ []) }
+    {
+        let ips = asked_ips(alloc, file)?;
+        let access_list = access_list_of(alloc, file, &ips)?;
+        let (own_socket, poller) = QuerySocket::open(rt, alloc, file, access_list)?;
+        let times = AnswerTimes::new(rt, alloc, ips.len())?;
+        // (last, since it owns most of what goes where one of these fails)
+        let core = core_of(alloc, file, question, &ips)?;
+        Ok(QueryHost {
+            core,
+            own_socket,
+            clock: SteadyClock::new(rt),
+            poller,
+            times,
+        })
+    }
+
+    /// Takes one turn. It answers whether there may be more to do at once.
+    fn turn(&mut self, alloc: Global) -> Result<bool, AskFault>
+        ensures asks { OnOk result ((turns : List Turn)
+            × AsksOn turns self.old.clock.last self.new.clock.last self.old.core self.new.core) }
+    {
+        let active = self.own_socket.turn(alloc, &mut self.core, &mut self.clock)?;
+        self.times.note(self.core.routers());
+        Ok(active)
+    }
+
+    /// Takes one turn, and waits where there is nothing to do. It answers the moment, in
+    /// milliseconds, where it is over.
+    #[tactic(auto, using(crate::proofs::Rows::between_later, crate::proofs::Rows::turns_later))]
+    fn step(&mut self, alloc: Global) -> Result<Option<u64>, AskFault>
+        ensures asks { OnOk result ((turns : List Turn)
+            × AsksOn turns self.old.clock.last self.new.clock.last self.old.core self.new.core) }
+        ensures over { IfOk result (λ moment.
+            IfSome moment (λ now.
+            (now ≡ self.new.clock.last) × (is_ask_over self.new.core now ≡ true))) }
+    {
+        let active = self.turn(alloc)?;
+        let now = self.clock.now();
+        if self.core.is_done(now) {
+            return Ok(Some(now));
+        }
+        if !active {
+            self.poller.wait(POLL_INTERVAL)?;
+        }
+        Ok(None)
+    }
+
+    /// Asks, turn by turn, until it is over. It answers that moment, in milliseconds.
+    pub fn ask(&mut self, alloc: Global) -> Result<u64, AskFault>
+        ensures asks { OnOk result ((turns : List Turn)
+            × AsksOn turns self.old.clock.last self.new.clock.last self.old.core self.new.core) }
+        ensures over { IfOk result (λ now.
+            (now ≡ self.new.clock.last) × (is_ask_over self.new.core now ≡ true)) }
+    {
+        for _ in 0..u64::MAX {
+            if let Some(now) = self.step(alloc)? {
+                return Ok(now);
+            }
+        }
+        Err(AskFault::Wait)
+    }
+
+    /// Those of its routers that answered, and after which time.
+    pub fn answers(&self, alloc: Global) -> Result<Vec<AnswerTime>, AllocError>
+        ensures { IfOk result (λ v.
+            map (λ a. a.node) v.items ≡ answering_nodes self.now.core.routers) }
+    {
+        self.times.answers(alloc, self.core.routers())
+    }
+
+    /// Tells on standard error which routers did not answer, or know nothing of what was asked for,
+    /// and whether there was no room for all that was told.
+    pub fn tell<P: Eprint>(&self, rt: &P, knows_nothing: &str) {
+        for router in self.core.routers() {
+            if !router.answered {
+                let node = router.node;
+                let _ = eprintln!(rt; "no answer from {node}, or it knows {knows_nothing}");
+            }
+        }
+        if self.core.is_truncated() {
+            let _ = eprintln!(rt; "more was told than there is room for");
+        }
+    }
+}

@@ -1,0 +1,7 @@
+use Rattle.std.proofs.Common.{arith}
+use Rattle.ipx_sim_udp.proofs.Long.{not_long}
+use Rattle.ipx_sim_udp.proofs.udp.do_udp.Goals as goal
+
+pub returns-clause-long : goal.returns-clause-long
+returns-clause-long g c =
+    not_long c.run_script.result (g.I.Read.remaining c.args.reader.now) c.in-Ok.input.items _ c.in-Ok.ensures (omega (arith, c.if-len-gt-MAX_INPUT.false, c.len.ensures))

@@ -1,0 +1,12 @@
+//! A script over sockets of the loopback, one for each node: `ipx udp`.
+#![tactic(auto)]
+
+mod binding;
+mod mapped;
+mod runner;
+mod layout_binding;
+mod stop;
+mod summing;
+mod udp;
+
+pub use udp::do_udp;

@@ -1,6 +1,0 @@
-use Rattle.std.proofs.Common.{◌≡◌, take}
-use Rattle.ipx_site.specs.ClientLines.{all_clients}
-use Rattle.ipx_site.proofs.client_lines.clients_there.Given as goal
-
-abbrev pub invariant-loop-place : goal.invariant-loop-place
-invariant-loop-place l = l.all.items ≡ all_clients 1 (take l.place l.spots) l.lobbies

@@ -1,0 +1,14 @@
+use Rattle.std.proofs.Common.{List, ◌++◌, drop}
+use Rattle.toml.specs.View.{items_view}
+use Rattle.ipx_site.specs.EthernetValues.{IsEthernetEnd}
+use Rattle.ipx_site.specs.Values.{AreEach}
+use Rattle.ipx_ethernet_ports.specs.declared.sockets.Place.{Place}
+use Rattle.ipx_site.proofs.ethernet_values.places_of.Given as goal
+
+-- what is left to read joins what was read, and if all can be read then so can what is left
+abbrev pub invariant-loop-value : goal.invariant-loop-value
+invariant-loop-value l =
+    ((rest : List Place) → AreEach IsEthernetEnd (items_view (drop l.value-index l.values)) rest
+    → AreEach IsEthernetEnd (items_view l.values) (l.ends.items ++ rest))
+    × ((all : List Place) → AreEach IsEthernetEnd (items_view l.values) all
+    → (rest : List Place) × AreEach IsEthernetEnd (items_view (drop l.value-index l.values)) rest)

@@ -1,6 +1,0 @@
-use Rattle.std.proofs.Common.{◌≡◌, map, take}
-use Rattle.ipx_site.specs.KindPorts.{ipxnet_ports, lobby_of_port}
-use Rattle.ipx_site.proofs.ipxnet_ports.lobbies_of_ports.Given as goal
-
-abbrev pub invariant-loop-port : goal.invariant-loop-port
-invariant-loop-port l = l.lobbies.items ≡ map lobby_of_port (ipxnet_ports (take l.port-index l.ports))

@@ -1,9 +1,0 @@
-use Rattle.std.proofs.Common.{All, length, subst, sym}
-use Rattle.ipx_router.specs.Ports.{IsPortNumber}
-use Rattle.ipx_router.specs.RouterView.{RouterView}
-use Rattle.ipx_by_hand.specs.declared.neighbour.SilentNeighbour.{SilentNeighbour}
-use Rattle.ipx_site.proofs.routing.hearing_by_hand.Goals as goal
-
-pub new-requires-2 : goal.new-requires-2
-new-requires-2 c = subst (λ (r : RouterView). All (λ (n : SilentNeighbour). IsPortNumber (length r.ports) n.port) c.args.silent.now)
-    (sym c.in_ok-counted.ensures.router) c.requires

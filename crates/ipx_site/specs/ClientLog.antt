@@ -1,0 +1,83 @@
+-- What a router tells of who comes to its ports for clients of ipxnet, and of who is gone. All of it is
+-- own.
+use Rattle.std.specs.Prelude.{ℕ, ◌+◌, ◌-◌, List, [], ◌∷◌, ◌++◌, Bool, not, ◌==◌, ◌&&◌, filter, length, map, slice_get, take, Option, Some, None}
+use Rattle.std.specs.HashSet.{HashSet, contains_by}
+use Rattle.std.specs.List.{list_any}
+use Rattle.std.specs.Str.{bytes_eq}
+use Rattle.ipxnet_server.specs.declared.clients.Client.{Client}
+use Rattle.ipxnet_server.specs.ServerClients.{are_one_place}
+use Rattle.ipxnet_server.specs.ServerHears.{ServerView}
+use Rattle.ipx_site.specs.declared.client_log.ClientKey.{ClientKey}
+use Rattle.ipx_site.specs.declared.client_log.PortClient.{PortClient}
+use Rattle.ipx_site.specs.declared.router_ports.PortIndex.{PortIndex}
+use Rattle.ipx_site.specs.declared.router_ports.PortIndex.TheVariants.{Datagrams, Ethernet, IpxnetServer}
+
+-- so many lines are told at a look at most
+abbrev pub max_client_lines : ℕ
+max_client_lines = 10
+
+-- the same client of the same port, and one of these
+abbrev pub is_one_client : PortClient → PortClient → Bool
+is_one_client a b =
+    (a.port == b.port) && (are_one_place a.place b.place && bytes_eq a.node.0 b.node.0)
+
+abbrev pub is_listed_client : List PortClient → PortClient → Bool
+is_listed_client clients client = list_any (λ one. is_one_client client one) clients
+
+-- those of some clients that are none of these
+abbrev pub clients_without : List PortClient → List PortClient → List PortClient
+clients_without clients these = filter (λ c. not (is_listed_client these c)) clients
+
+-- who is told to be gone at a look: who was told to be there, and is not
+abbrev pub clients_gone : List PortClient → List PortClient → List PortClient
+clients_gone told there = take max_client_lines (clients_without told there)
+
+-- who is told to have come: who is there, and was not told
+abbrev pub clients_come : List PortClient → List PortClient → List PortClient
+clients_come told there =
+    take (max_client_lines - length (clients_gone told there)) (clients_without there told)
+
+-- who is told to be there then, by just what was told
+abbrev pub clients_told : List PortClient → List PortClient → List PortClient
+clients_told told there = clients_without told (clients_gone told there) ++ clients_come told there
+
+-- the clients of a port with this number
+abbrev pub port_clients : ℕ → List Client → List PortClient
+port_clients port clients =
+    map (λ c. record { port = port; place = c.place; node = c.node }) clients
+
+-- the clients of a lobby, if there is one
+abbrev pub server_clients : ℕ → Option ServerView → List PortClient
+server_clients port None = []
+server_clients port (Some l) = port_clients port l.clients
+
+-- those of the port at a spot: none where it is no port for clients
+abbrev pub port_index_clients : ℕ → PortIndex → List ServerView → List PortClient
+port_index_clients port (Datagrams place) servers = []
+port_index_clients port (Ethernet place) servers = []
+port_index_clients port (IpxnetServer place) servers = server_clients port (slice_get servers place)
+
+-- those of ports in their order, of which the first has this number
+abbrev pub all_clients : ℕ → List PortIndex → List ServerView → List PortClient
+all_clients port [] servers = []
+all_clients port (s ∷ port_indices) servers =
+    port_index_clients port s servers ++ all_clients (port + 1) port_indices servers
+
+-- ---- words of the private functions
+
+-- what tells a client from every other
+abbrev pub client_key : PortClient → ClientKey
+client_key c = record {
+  port = c.port;
+  ip = c.place.ip;
+  udp_port = c.place.udp_port;
+  node = c.node.0;
+}
+
+abbrev pub is_same_key : ClientKey → ClientKey → Bool
+is_same_key a b = (a.port == b.port)
+    && (bytes_eq a.ip b.ip && ((a.udp_port == b.udp_port) && bytes_eq a.node b.node))
+
+-- the key of a client is one of these
+abbrev pub has_client_key : {S : Type 0} → HashSet ClientKey S → PortClient → Bool
+has_client_key keys c = contains_by (is_same_key (client_key c)) keys

@@ -1,0 +1,48 @@
+-- When a router told what it dropped, and of what it warns. All of it is own.
+use Rattle.std.specs.Prelude.{ℕ, Bool, true, false, not, ◌==◌, ◌&&◌, Option, Some, None}
+use Rattle.ipx_wire.specs.Assigned.{rip_socket, sap_socket}
+use Rattle.ipx_wire.specs.declared.address.Address.{Address}
+use Rattle.ipx_router.specs.Classify.{is_node}
+use Rattle.ipx_router.specs.RouterPackets.{broadcast}
+use Rattle.ipx_metrics.specs.declared.last_drops.LastDrop.{LastDrop}
+use Rattle.ipx_carrier.specs.declared.outcome_counters.OutcomeCounters.{OutcomeCounters}
+use Rattle.ipx_site.specs.declared.drop_log.DropLog.{DropLog}
+use Rattle.ipx_site.specs.declared.drop_log.DropReason.{DropReason}
+use Rattle.ipx_site.specs.declared.drop_log.DropReason.TheVariants.{Bad, NotOurs, NoRoute, HopLimit, BadControl}
+use Rattle.ipx_site.specs.Moments.{IsToldIfDue, untold}
+
+-- nothing was told yet
+abbrev pub no_drops_told : DropLog
+no_drops_told = record {
+  bad = untold;
+  not_ours = untold;
+  no_route = untold;
+  hop_limit = untold;
+  bad_control = untold;
+}
+
+-- what was dropped for each of five reasons is told then, exactly where it is due
+pub record AreDropsTold (outcomes : OutcomeCounters) (now : ℕ) (old new : DropLog) : Type 0 where
+  pub bad : IsToldIfDue outcomes.bad now old.bad new.bad
+  pub not_ours : IsToldIfDue outcomes.not_ours now old.not_ours new.not_ours
+  pub no_route : IsToldIfDue outcomes.no_route now old.no_route new.no_route
+  pub hop_limit : IsToldIfDue outcomes.hop_limit now old.hop_limit new.hop_limit
+  pub bad_control : IsToldIfDue outcomes.bad_control now old.bad_control new.bad_control
+
+-- the last datagram of a reason was sent to all nodes of a network, by neither RIP nor SAP, which routers hear
+abbrev pub is_for_all_nodes : Option Address → Bool
+is_for_all_nodes None = false
+is_for_all_nodes (Some a) =
+    is_node a.node broadcast && not (a.socket.0 == rip_socket) && not (a.socket.0 == sap_socket)
+
+abbrev pub is_of_all_nodes : Option LastDrop → Bool
+is_of_all_nodes None = false
+is_of_all_nodes (Some d) = is_for_all_nodes d.to
+
+-- a line of what was dropped warns, but where the last was not the router's and so sent to all nodes
+abbrev pub warns_of : DropReason → Option LastDrop → Bool
+warns_of Bad last = true
+warns_of NotOurs last = not (is_of_all_nodes last)
+warns_of NoRoute last = true
+warns_of HopLimit last = true
+warns_of BadControl last = true

@@ -1,0 +1,67 @@
+-- A port of a router on a wire in its file, and a port of any kind: a table `[[port]]`. All of it is own.
+use Rattle.std.specs.Prelude.{◌≡◌, ◌⊎◌, ℕ, true, None}
+use Rattle.toml.specs.Data.{Members}
+use Rattle.ipx_site.specs.declared.fault.ConfigError.{ConfigError}
+use Rattle.ipx_site.specs.declared.key.Key.TheVariants as Key
+use Rattle.ipx_site.specs.declared.site.EthernetPortConfig.{EthernetPortConfig}
+use Rattle.ipx_site.specs.declared.site.Kind.{Kind}
+use Rattle.ipx_site.specs.declared.site.Kind.TheVariants as Of
+use Rattle.ipx_site.specs.declared.site.PortConfig.{PortConfig}
+use Rattle.ipx_site.specs.declared.site.PortConfig.TheVariants.{Rfc1234, Frames, Ipxnet}
+use Rattle.ipx_site.specs.Fields.{Holds, HoldsOr, IsFault, IsRight, IsRightOr, IsStray, IsWrong}
+use Rattle.ipx_site.specs.IpxnetTable.{IsIpxnetFault, IsIpxnetTable}
+use Rattle.ipx_site.specs.Keys.{first_unknown, frames_keys}
+use Rattle.ipx_site.specs.Port.{IsPortFault, IsPortTable}
+use Rattle.ipx_site.specs.PortKinds.{kind_of_port}
+use Rattle.ipx_site.specs.Values.{IsCount, IsIpAddress, IsKind, IsNetwork}
+use Rattle.ipx_site.specs.EthernetValues.{AreEthernetEnds, IsEncapsulation, IsFlag, IsStation, made_station}
+
+-- a table is that of a port on a wire, if its kind is that
+pub record IsFramesTable (ms : Members) (p : EthernetPortConfig) : Type 0 where
+  pub known : first_unknown frames_keys ms ≡ None
+  pub network : Holds IsNetwork Key.Network ms p.network
+  pub encapsulation : Holds IsEncapsulation Key.Frame ms p.encapsulation
+  pub address : Holds IsIpAddress Key.Address ms p.address
+  pub udp_port : Holds (IsCount 65535) Key.UdpPort ms p.udp_port
+  pub cost : HoldsOr (IsCount 65535) Key.Cost ms 1 p.cost
+  pub ends : Holds AreEthernetEnds Key.Ends ms p.ends
+  pub node : HoldsOr IsStation Key.Node ms (made_station p.address p.udp_port) p.node
+  pub joined : HoldsOr IsFlag Key.Switch ms true p.joined
+
+-- the first fault of the keys that say what the wire is: its ends, and what the port is to them
+abbrev pub IsEthernetFault : Members → ℕ → ConfigError → Type 0
+IsEthernetFault ms table f = IsFault AreEthernetEnds Key.Ends ms table f
+    ⊎ (IsRight AreEthernetEnds Key.Ends ms × (IsWrong IsStation Key.Node ms table f
+    ⊎ (IsRightOr IsStation Key.Node ms × IsWrong IsFlag Key.Switch ms table f)))
+
+-- the first fault of the table: a name that is no key of this kind, and then the keys in order
+abbrev pub IsFramesFault : ℕ → Members → ConfigError → Type 0
+IsFramesFault table ms f =
+    IsStray Of.Frames ms table f
+    ⊎ ((first_unknown frames_keys ms ≡ None) × (IsFault IsNetwork Key.Network ms table f
+    ⊎ (IsRight IsNetwork Key.Network ms × (IsFault IsEncapsulation Key.Frame ms table f
+    ⊎ (IsRight IsEncapsulation Key.Frame ms × (IsFault IsIpAddress Key.Address ms table f
+    ⊎ (IsRight IsIpAddress Key.Address ms × (IsFault (IsCount 65535) Key.UdpPort ms table f
+    ⊎ (IsRight (IsCount 65535) Key.UdpPort ms × (IsWrong (IsCount 65535) Key.Cost ms table f
+    ⊎ (IsRightOr (IsCount 65535) Key.Cost ms × IsEthernetFault ms table f)))))))))))
+
+-- ---- a port of any kind: that of RFC 1234 where the table says none
+
+abbrev pub IsTableOfKind : Members → PortConfig → Type 0
+IsTableOfKind ms (Rfc1234 p) = IsPortTable ms p
+IsTableOfKind ms (Frames p) = IsFramesTable ms p
+IsTableOfKind ms (Ipxnet p) = IsIpxnetTable ms p
+
+-- a table is that of a port
+abbrev pub IsPortOfKind : Members → PortConfig → Type 0
+IsPortOfKind ms p = HoldsOr IsKind Key.Kind ms Of.Rfc1234 (kind_of_port p) × IsTableOfKind ms p
+
+abbrev pub IsFaultOfKind : Kind → ℕ → Members → ConfigError → Type 0
+IsFaultOfKind Of.Rfc1234 table ms f = IsPortFault table ms f
+IsFaultOfKind Of.Frames table ms f = IsFramesFault table ms f
+IsFaultOfKind Of.Ipxnet table ms f = IsIpxnetFault table ms f
+
+-- its first fault: its kind's, and then those of a port of that kind
+abbrev pub IsKindFault : ℕ → Members → ConfigError → Type 0
+IsKindFault table ms f = IsWrong IsKind Key.Kind ms table f
+    ⊎ ((kind : Kind) × HoldsOr IsKind Key.Kind ms Of.Rfc1234 kind × IsFaultOfKind kind table ms f)

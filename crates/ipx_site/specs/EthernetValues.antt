@@ -1,0 +1,107 @@
+-- What the values of the keys of a port on a wire mean. All of it is own.
+use Rattle.std.specs.Prelude.{Vec, ◌≡◌, ℕ, ◌+◌, ◌*◌, ◌/◌, ◌==◌, ◌≤◌, List, [], ◌∷◌, ◌++◌, Bool, true, not, ◌&&◌, Option, Some, codes, drop, length, nat_eq, slice_index, MatchOption}
+use Rattle.std.specs.Cmp.Lexicographic.{pointwise}
+use Rattle.std.specs.Global.{Global}
+use Rattle.std.specs.Int.{w16, to_be_bytes}
+use Rattle.std.specs.List.{list_any}
+use Rattle.std.specs.Net.Grammar.{IsSocketV4Text}
+use Rattle.std.specs.Str.{bytes_eq}
+use Rattle.std.specs.declared.net.socket_addr.SocketAddrV4.{SocketAddrV4}
+use Rattle.toml.specs.Data.{Data, Items, as_array, as_bool, as_str}
+use Rattle.ipx_ethernet.specs.Frame.{is_group}
+use Rattle.ipx_ethernet.specs.declared.encapsulation.Encapsulation.{Encapsulation}
+use Rattle.ipx_ethernet.specs.declared.encapsulation.Encapsulation.TheVariants.{Raw, Llc, Snap, EthernetII}
+use Rattle.ipx_wire.specs.AddressText.{spelled_node}
+use Rattle.ipx_wire.specs.declared.address.Node.{Node}
+use Rattle.ipx_ethernet_ports.specs.declared.sockets.Place.{Place}
+use Rattle.ipx_site.specs.Values.{AreEach}
+
+abbrev pub frame_word : Encapsulation → List ℕ
+frame_word Raw = codes "802.3"
+frame_word Llc = codes "802.2"
+frame_word Snap = codes "snap"
+frame_word EthernetII = codes "ethernet-ii"
+
+-- a string that is the word of an encapsulation
+abbrev pub IsEncapsulation : Data → Encapsulation → Type 0
+IsEncapsulation d e = as_str d ≡ Some (frame_word e)
+
+-- true or false
+abbrev pub IsFlag : Data → Bool → Type 0
+IsFlag d b = as_bool d ≡ Some b
+
+-- a place as an address of a socket
+abbrev pub socket_at : Place → SocketAddrV4
+socket_at p = record { ip = record { octets = p.ip }; port = p.udp_port }
+
+-- a place where an end can be: the address 0.0.0.0 and the port 0 are none
+abbrev pub is_somewhere : Place → Bool
+is_somewhere p = not (bytes_eq p.ip (0 ∷ 0 ∷ 0 ∷ 0 ∷ [])) && not (p.udp_port == 0)
+
+-- two places are one
+abbrev pub is_same_place : Place → Place → Bool
+is_same_place a b = pointwise nat_eq b.ip a.ip && (b.udp_port == a.udp_port)
+
+-- none of some places stands twice
+abbrev pub are_places_apart : List Place → Bool
+are_places_apart [] = true
+are_places_apart (p ∷ ps) = not (list_any (is_same_place p) ps) && are_places_apart ps
+
+-- an IP address, a colon and a port of UDP: such a place
+abbrev pub WritesPlace : List ℕ → Place → Type 0
+WritesPlace text p = IsSocketV4Text text (socket_at p) × (is_somewhere p ≡ true)
+
+-- a string that is such a text
+abbrev pub IsEthernetEnd : Data → Place → Type 0
+IsEthernetEnd d p = (text : List ℕ) × (as_str d ≡ Some text) × WritesPlace text p
+
+-- an array of them, 1 to 256
+abbrev pub AreEthernetEnds : Data → Vec Place Global → Type 0
+AreEthernetEnds d ends = (ds : Items) × (as_array d ≡ Some ds) × AreEach IsEthernetEnd ds ends.items
+    × (1 ≤ length ends.items) × (length ends.items ≤ 256)
+
+-- digits in pairs, with a colon before each pair but the first
+abbrev pub with_colons : List ℕ → List ℕ
+with_colons [] = []
+with_colons (a ∷ []) = a ∷ []
+with_colons (a ∷ b ∷ []) = a ∷ b ∷ []
+with_colons (a ∷ b ∷ c ∷ digits) = a ∷ b ∷ 58 ∷ with_colons (c ∷ digits)
+
+-- an address that one station can have: no group's, and not zero
+abbrev pub is_station : Node → Bool
+is_station node = not (is_group node.0) && not (bytes_eq node.0 (0 ∷ 0 ∷ 0 ∷ 0 ∷ 0 ∷ 0 ∷ []))
+
+-- a string of twelve hex digits with colons between the pairs: the address of a station
+abbrev pub WritesStation : List ℕ → Node → Type 0
+WritesStation text node = (digits : List ℕ) × (text ≡ with_colons digits)
+    × (spelled_node digits ≡ Some node) × (is_station node ≡ true)
+
+abbrev pub IsStation : Data → Node → Type 0
+IsStation d node = (text : List ℕ) × (as_str d ≡ Some text) × WritesStation text node
+
+-- the address of a port that has none in its file: its IP address, the two low bits of whose first byte
+-- say that no maker gave it and that it is no group's, and its port of UDP
+abbrev pub made_station : List ℕ → ℕ → Node
+made_station ip udp_port = record {
+  0 = (slice_index ip 0 / 4 * 4 + 2) ∷ (drop 1 ip ++ to_be_bytes w16 udp_port);
+}
+
+-- ---- words of the private functions
+
+-- the place that a text writes, or that it writes none
+abbrev pub ReadsPlace : List ℕ → Option Place → Type 0
+ReadsPlace text found = MatchOption found ((p : Place) → WritesPlace text p → ⊥) (WritesPlace text)
+
+abbrev pub ReadsEthernetEnds : Items → Option (Vec Place Global) → Type 0
+ReadsEthernetEnds ds found = MatchOption found ((ends : List Place) → AreEach IsEthernetEnd ds ends → ⊥)
+    (λ v. AreEach IsEthernetEnd ds v.items)
+
+-- the twelve digits of a text, or that it has no such ones
+abbrev pub ReadsDigits : List ℕ → Option (List ℕ) → Type 0
+ReadsDigits text found = MatchOption found
+    ((digits : List ℕ) → length digits ≡ 12 → text ≡ with_colons digits → ⊥)
+    (λ digits. text ≡ with_colons digits)
+
+-- the address of a station that a text writes, or that it writes none
+abbrev pub ReadsStation : List ℕ → Option Node → Type 0
+ReadsStation text found = MatchOption found ((n : Node) → WritesStation text n → ⊥) (WritesStation text)

@@ -1,0 +1,144 @@
+-- What a router that runs does by itself, and how long it has nothing to do. All of it is own.
+use Rattle.std.specs.Prelude.{◌≡◌, ◌≤◌, ◌<◌, ◌⊎◌, ◌==◌, ◌^◌, ℕ, ◌+◌, List, [], ◌∷◌, length, map, true, Option, if◌then◌else◌}
+use Rattle.ipx_router.specs.Telling.{is_due}
+use Rattle.ipx_site.specs.declared.metrics.Metrics.{Metrics}
+use Rattle.ipx_site.specs.declared.router_counts.RouterCounts.{RouterCounts}
+use Rattle.ipx_carrier.specs.declared.datagrams.Datagrams as OfDevice
+use Rattle.ipx_ipxnet_ports.specs.declared.place_sockets.PlaceSockets as OfPlaces
+use Rattle.ipx_ipxnet_ports.specs.declared.sockets.ServerSockets.{ServerSockets}
+use Rattle.ipx_ethernet_ports.specs.declared.end_sockets.EndSockets as OfSockets
+use Rattle.ipx_ethernet_ports.specs.declared.sockets.EthernetSockets.{EthernetSockets}
+use Rattle.ipx_site.specs.declared.source_filter.SourceFilter.{SourceFilter}
+use Rattle.ipx_site.specs.declared.sockets.UdpSockets.{UdpSockets}
+use Rattle.ipx_site.specs.PortsView.{SitePortsRun}
+use Rattle.ipx_site.specs.declared.warnings.Warning.{Warning}
+use Rattle.ipx_site.specs.declared.warnings.Warnings.{Warnings}
+use Rattle.ipx_carrier.specs.Counting.{counted}
+use Rattle.ipx_carrier.specs.RouterCore.{CoreQueues}
+use Rattle.ipx_site.specs.Moments.{HasPassed, IsOneDue, IsToAskAgain}
+use Rattle.ipx_site.specs.SiteCore.{SiteCore}
+use Rattle.ipx_site.specs.EthernetTotals.{encapsulated_otherwise_in, unframed_in}
+
+-- how often each cause happened of which a line is told
+pub record EventCounts : Type 0 where
+  pub unknown_senders : ℕ
+  pub spoofed : ℕ
+  pub not_a_router : ℕ
+  pub rate_limited : ℕ
+  pub refused : ℕ
+  pub table_full : ℕ
+  pub queue_full : ℕ
+  pub device : ℕ
+  pub memory : ℕ
+  pub file : ℕ
+  pub frame_unknown_senders : ℕ
+  pub unframed : ℕ
+  pub other_encapsulation : ℕ
+
+-- by its figures
+abbrev pub happened_in : Metrics → EventCounts
+happened_in f = record {
+  unknown_senders = f.kept.unknown_senders.count;
+  spoofed = f.kept.spoofed.count;
+  not_a_router = f.kept.not_a_router.count;
+  rate_limited = f.rate_limited.count;
+  refused = f.refused;
+  table_full = f.outcomes.table_full;
+  queue_full = f.queue_full;
+  device = f.device_faults;
+  memory = f.memory_faults;
+  file = f.file_faults;
+  frame_unknown_senders = f.frame_unknown_senders;
+  unframed = f.unframed;
+  other_encapsulation = f.other_encapsulation;
+}
+
+-- how many datagrams and frames the system refused
+abbrev pub lost_in : {gd : OfDevice.Ghosts (SourceFilter UdpSockets)} {ge : OfSockets.Ghosts EthernetSockets} {gl : OfPlaces.Ghosts ServerSockets} → SitePortsRun gd ge gl → ℕ
+lost_in r = r.datagrams.device.device.faults + (r.ethernet.sockets.failures + r.ethernet.sockets.faults)
+    + (r.servers.sockets.failures + r.servers.sockets.faults)
+
+-- by what it tallies, what its core counts, and what its ports kept back, did not send and lost
+abbrev pub happened : {gd : OfDevice.Ghosts (SourceFilter UdpSockets)} {ge : OfSockets.Ghosts EthernetSockets} {gl : OfPlaces.Ghosts ServerSockets} → RouterCounts → SiteCore → SitePortsRun gd ge gl → EventCounts
+happened totals core ports = record {
+  unknown_senders = ports.datagrams.device.kept.unknown_senders.count;
+  spoofed = ports.datagrams.device.kept.spoofed.count;
+  not_a_router = ports.datagrams.device.kept.not_a_router.count;
+  rate_limited = core.kept.count;
+  refused = ports.datagrams.device.refused;
+  table_full = core.core.core.outcomes.table_full;
+  queue_full = core.core.core.dropped;
+  device = counted (totals.device_faults + lost_in ports);
+  memory = totals.memory_faults;
+  file = totals.file_faults;
+  frame_unknown_senders = ports.ethernet.sockets.unknown_senders;
+  unframed = unframed_in ports.ethernet.switches.items;
+  other_encapsulation = encapsulated_otherwise_in ports.ethernet.switches.items;
+}
+
+-- in the order in which they are told
+abbrev pub counts_told : EventCounts → List ℕ
+counts_told n = n.unknown_senders ∷ n.spoofed ∷ n.not_a_router ∷ n.rate_limited ∷ n.refused ∷ n.table_full
+    ∷ n.queue_full ∷ n.device ∷ n.memory ∷ n.file ∷ n.frame_unknown_senders ∷ n.unframed
+    ∷ n.other_encapsulation ∷ []
+
+-- a line of one of a router's causes is to be told
+abbrev pub IsLineDue : Warnings → EventCounts → ℕ → Type 0
+IsLineDue t n now = IsOneDue t.causes (counts_told n) now
+
+-- what all that depends on which a router does by itself
+pub record Deadlines : Type 0 where
+  -- how often it asked again
+  pub asked : ℕ
+  -- when it looked last what it knows, and how many responses it had heard by then
+  pub looked : Option ℕ
+  pub responses : ℕ
+  -- when it wrote its figures last
+  pub written : Option ℕ
+  pub core : SiteCore
+  pub warnings : Warnings
+  pub count : EventCounts
+
+abbrev pub deadlines : ℕ → Option ℕ → ℕ → Option ℕ → SiteCore → Warnings → EventCounts → Deadlines
+deadlines asked looked responses written core warnings count = record {
+  asked = asked;
+  looked = looked;
+  responses = responses;
+  written = written;
+  core = core;
+  warnings = warnings;
+  count = count;
+}
+
+-- it looks each ten seconds what it knows, and one second after the last look where a response was
+-- heard since
+abbrev pub look_after : ℕ → ℕ → ℕ
+look_after heard responses = if heard == responses then 10000 else 1000
+
+-- packets wait to be sent
+abbrev pub IsToSend : CoreQueues → Type 0
+IsToSend q = 0 < length q.forwarded + length q.own
+
+-- there is something to do: to send what waits, to ask again, to tell the neighbours, to hear by hand, to
+-- look, to write the figures, or to tell a line
+abbrev pub IsDue : Deadlines → ℕ → Type 0
+IsDue a now = IsToSend a.core.core.core.queues
+    ⊎ IsToAskAgain a.asked now
+    ⊎ (is_due a.core.core.core.router.told now ≡ true)
+    ⊎ (is_due a.core.core.said now ≡ true)
+    ⊎ HasPassed (look_after a.core.core.core.outcomes.heard a.responses) a.looked now
+    ⊎ HasPassed 10000 a.written now
+    ⊎ IsLineDue a.warnings a.count now
+
+-- so long from now there is nothing to do, at any moment that a clock can show; where that is less than
+-- ten seconds, which is the most, there is something then
+pub record IsTimeUntilDue (todo : ℕ → Type 0) (now time : ℕ) : Type 0 where
+  pub most : time ≤ 10000
+  pub nothing : (t : ℕ) → now ≤ t → t < now + time → t < 2 ^ 64 → todo t → ⊥
+  pub something : time < 10000 → (now + time < 2 ^ 64) × todo (now + time)
+
+-- ---- words of the private functions
+
+-- how often each trouble of a list happened
+abbrev pub counts_of : List Warning → List ℕ
+counts_of warnings = map (λ t. t.kept.count) warnings

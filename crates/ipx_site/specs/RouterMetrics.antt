@@ -1,0 +1,53 @@
+-- What a router counts itself, and what stands in its figures. All of it is own.
+use Rattle.std.specs.Prelude.{◌≡◌, ℕ, ◌+◌, ◌/◌, Option, Some, None, length}
+use Rattle.ipx_carrier.specs.Counting.{counted, raised}
+use Rattle.ipx_carrier.specs.OutcomeCounters.{outcomes_in}
+use Rattle.ipx_carrier.specs.declared.fault.RunFault.{RunFault}
+use Rattle.ipx_carrier.specs.declared.fault.RunFault.TheVariants.{Device, OutOfMemory}
+use Rattle.ipx_site.specs.SiteCore.{SiteCore}
+use Rattle.ipx_site.specs.declared.metrics.Metrics.{Metrics}
+use Rattle.ipx_site.specs.declared.router_counts.RouterCounts.{RouterCounts}
+use Rattle.ipx_carrier.specs.declared.datagrams.Datagrams as OfDevice
+use Rattle.ipx_ipxnet_ports.specs.declared.place_sockets.PlaceSockets as OfPlaces
+use Rattle.ipx_ipxnet_ports.specs.declared.sockets.ServerSockets.{ServerSockets}
+use Rattle.ipx_ethernet_ports.specs.declared.end_sockets.EndSockets as OfSockets
+use Rattle.ipx_ethernet_ports.specs.declared.sockets.EthernetSockets.{EthernetSockets}
+use Rattle.ipx_site.specs.declared.source_filter.SourceFilter.{SourceFilter}
+use Rattle.ipx_site.specs.declared.sockets.UdpSockets.{UdpSockets}
+use Rattle.ipx_site.specs.PortsView.{SitePortsRun}
+use Rattle.ipx_carrier.specs.declared.report.Batch.{Batch}
+use Rattle.ipx_site.specs.declared.route_change_log.RouteChangeLog.{RouteChangeLog}
+
+-- nothing was counted yet
+abbrev pub no_counts : RouterCounts
+no_counts = record { unmapped = 0; device_faults = 0; memory_faults = 0; file_faults = 0 }
+
+-- memory was refused once more
+abbrev pub with_memory_fault : RouterCounts → RouterCounts
+with_memory_fault t = record t { memory_faults = raised t.memory_faults }
+
+-- what ended a burst is counted by its cause
+abbrev pub with_fault : Option RunFault → RouterCounts → RouterCounts
+with_fault None t = t
+with_fault (Some Device) t = record t { device_faults = raised t.device_faults }
+with_fault (Some OutOfMemory) t = with_memory_fault t
+
+-- so a burst is: the packets whose node has no IP address, and what ended it
+abbrev pub with_batch : Batch → RouterCounts → RouterCounts
+with_batch b t = with_fault b.fault (record t { unmapped = counted (t.unmapped + b.unmapped) })
+
+-- the figures of a router at a moment, in milliseconds since its start, besides how often it happened of
+-- which a line is told: by what it counts itself, what its core counts, what its device kept back, how many
+-- datagrams the system took of it, and what it knew as it looked last
+pub record AreMetrics {gd : OfDevice.Ghosts (SourceFilter UdpSockets)} {ge : OfSockets.Ghosts EthernetSockets} {gl : OfPlaces.Ghosts ServerSockets} (totals : RouterCounts) (core : SiteCore) (ports : SitePortsRun gd ge gl) (known : RouteChangeLog) (now : ℕ) (f : Metrics) : Type 0 where
+  -- each datagram that was heard became something. A query that came too often is none of them
+  pub heard : f.heard ≡ counted (outcomes_in core.core.core.outcomes)
+  pub outcomes : f.outcomes ≡ core.core.core.outcomes
+  pub rate_limited : f.rate_limited ≡ core.kept
+  pub filtered : f.kept ≡ ports.datagrams.device.kept
+  pub sent_out : f.sent ≡ ports.datagrams.device.device.sent
+  pub unmapped : f.unmapped ≡ totals.unmapped
+  pub queue : f.queue ≡ length core.core.core.queues.forwarded + length core.core.core.queues.own
+  pub routes : f.routes ≡ length known.networks.items
+  pub services : f.services ≡ length known.services.items
+  pub seconds : f.seconds ≡ now / 1000

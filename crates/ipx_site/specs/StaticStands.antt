@@ -1,0 +1,131 @@
+-- What each route and service by hand of a router's file meets of what `StaticRoutesHold` and
+-- `StaticServicesHold` ask for, and so that it stands. All of it is own.
+-- The entry points are `FilesMayStand`, `RoutesOfFilesStand` and `ServicesOfFilesStand`, and
+-- `RoutesOfSitesStand` and `ServicesOfSitesStand`.
+use Rattle.std.specs.Prelude.{◌≡◌, ◌<◌, ◌≤◌, ◌+◌, ◌^◌, ℕ, true, List, [], ◌∷◌, All, Contains, Option, Some}
+use Rattle.ipx_control.specs.declared.rip.packet.RipEntry.{RipEntry}
+use Rattle.ipx_control.specs.declared.sap.packet.ServiceEntry.{ServiceEntry}
+use Rattle.ipx_tables.specs.Content.{is_young}
+use Rattle.ipx_router.specs.declared.port.Port.{Port}
+use Rattle.ipx_router.specs.Hearing.{is_heard, route_metric, service_metric}
+use Rattle.ipx_router.specs.Knowledge.{routes_in, services_in}
+use Rattle.ipx_router.specs.Told.{key_of_service, route_key}
+use Rattle.ipx_carrier.specs.RouterCore.{CoreView}
+use Rattle.ipx_carrier.specs.Turns.{Given}
+use Rattle.ipx_static.specs.declared.neighbour.StaticNeighbour.{StaticNeighbour}
+use Rattle.ipx_static.specs.WithStatics.{WithStaticsView}
+use Rattle.ipx_static.specs.StaticOffers.{IsAnotherNode, SaysNoOther, static_source}
+use Rattle.ipx_static.specs.StaticRuns.{Asked, AsksOnceMore, Comes, DoStaticCalls, DoesStaticCall, StaticCall, StaticCallAt, IsAskedEachMinute, OffersItself, TellsItself, asked_in}
+use Rattle.ipx_site.specs.declared.statics.StaticEntry.{StaticEntry}
+use Rattle.ipx_site.specs.declared.statics.StaticItem.{StaticItem}
+use Rattle.ipx_site.specs.declared.statics.StaticItem.TheVariants.{Route, Service}
+use Rattle.ipx_site.specs.declared.site.RouterConfig.{RouterConfig}
+use Rattle.ipx_site.specs.StaticNeighbours.{AreSilent, IsToHear}
+use Rattle.ipx_site.specs.Site.{IsSiteText}
+use Rattle.ipx_site.specs.SiteCore.{SiteAsksAgain, SiteCore, SiteGives, SiteHears}
+use Rattle.ipx_site.specs.SitePorts.{router_ports}
+
+-- whoever is heard as this neighbour says nothing else of the key of an entry
+abbrev pub IsSaidAlone : {E K M : Type 0} → (E → K) → (E → M) → (StaticNeighbour → List E)
+    → List StaticNeighbour → StaticNeighbour → E → Type 0
+IsSaidAlone key_of metric_of said_by ns n e = (m : StaticNeighbour) → Contains ns m
+    → static_source m ≡ static_source n → SaysNoOther key_of metric_of (said_by m) e
+
+-- a neighbour is to say a word, it alone, under 16 hops away, and a route of a network that is heard
+abbrev pub MayStand : List Port → List StaticNeighbour → StaticNeighbour → StaticItem → Type 0
+MayStand ports ns n (Route e) = Contains n.routes.items e
+    × IsSaidAlone route_key route_metric (λ m. m.routes.items) ns n e
+    × (is_heard ports e ≡ true) × (e.hops < 16)
+MayStand ports ns n (Service e) = Contains n.services.items e
+    × IsSaidAlone key_of_service service_metric (λ m. m.services.items) ns n e × (e.hops < 16)
+
+-- the one that an entry is heard from is to say so
+abbrev pub IsToStand : List Port → List StaticNeighbour → StaticEntry → Type 0
+IsToStand ports ns h = (n : StaticNeighbour) × Contains ns n × (static_source n ≡ h.by)
+    × MayStand ports ns n h.word
+
+-- no neighbour of a file is the router itself, and each entry is to stand
+abbrev pub FilesMayStand : Type 0
+FilesMayStand = (text : List ℕ) (s : RouterConfig) → IsSiteText text s
+    → (ns : List StaticNeighbour) → AreSilent s.statics.items ns
+    → All (IsAnotherNode (router_ports s.ports.items)) ns
+    × All (IsToStand (router_ports s.ports.items) ns) s.statics.items
+
+-- a router that counts nothing by port and keeps nothing back, with the ports of a file, which is to hear by
+-- hand what that says, is asked at first, and over all calls never finds a table full
+pub record RunsByFile (s : RouterConfig) (start : ℕ) (calls : List StaticCallAt) (old new : WithStaticsView CoreView) : Type 0 where
+  pub to_hear : IsToHear s.statics.items old
+  pub ports : old.core.router.ports ≡ router_ports s.ports.items
+  pub given : Option Given
+  pub first : WithStaticsView CoreView
+  pub begins : DoesStaticCall start (Asked given) old first
+  pub goes_on : DoStaticCalls calls first new
+  pub room : new.core.outcomes.table_full ≡ old.core.outcomes.table_full
+  pub countable : old.core.outcomes.table_full + 1 < 2 ^ 64
+
+-- then each route of the file, while it is asked each minute and whoever is heard there tells nothing of that
+-- network itself, is an offer that counts, up to a minute after the last question
+abbrev pub RoutesOfFilesStand : Type 0
+RoutesOfFilesStand = (text : List ℕ) (s : RouterConfig) → IsSiteText text s → (start : ℕ) (calls : List StaticCallAt)
+    (old new : WithStaticsView CoreView) → RunsByFile s start calls old new
+    → (h : StaticEntry) → Contains s.statics.items h → (e : RipEntry) → h.word ≡ Route e
+    → ((n : StaticNeighbour) → static_source n ≡ h.by
+    → IsAskedEachMinute (λ port bytes. TellsItself n e.network port bytes → ⊥) calls start)
+    → (now : ℕ) → now ≤ asked_in calls start + 60000 → (heard : ℕ)
+    × (routes_in new.core.router.routes (e.network, h.by) ≡ Some (route_metric e, heard))
+    × (is_young now heard ≡ true)
+
+-- and so is each service
+abbrev pub ServicesOfFilesStand : Type 0
+ServicesOfFilesStand = (text : List ℕ) (s : RouterConfig) → IsSiteText text s → (start : ℕ) (calls : List StaticCallAt)
+    (old new : WithStaticsView CoreView) → RunsByFile s start calls old new
+    → (h : StaticEntry) → Contains s.statics.items h → (e : ServiceEntry) → h.word ≡ Service e
+    → ((n : StaticNeighbour) → static_source n ≡ h.by
+    → IsAskedEachMinute (λ port bytes. OffersItself n (key_of_service e) port bytes → ⊥) calls start)
+    → (now : ℕ) → now ≤ asked_in calls start + 60000 → (heard : ℕ)
+    × (services_in new.core.router.services (key_of_service e, h.by) ≡ Some (service_metric e, heard))
+    × (is_young now heard ≡ true)
+
+-- bytes come in to the core of a site's router; or that is asked for a packet; or it is to ask its neighbours
+-- once more; and no memory is refused
+abbrev pub DoesSiteCall : ℕ → StaticCall → SiteCore → SiteCore → Type 0
+DoesSiteCall now (Comes port bytes) old new = SiteHears old port bytes now new
+DoesSiteCall now (Asked given) old new = SiteGives old now given new
+DoesSiteCall now AsksOnceMore old new = SiteAsksAgain old new
+
+abbrev pub DoSiteCalls : List StaticCallAt → SiteCore → SiteCore → Type 0
+DoSiteCalls [] old new = new ≡ old
+DoSiteCalls (c ∷ cs) old new = (mid : SiteCore)
+    × DoesSiteCall c.moment c.call old mid × DoSiteCalls cs mid new
+
+-- so the router of a file runs, also where it asks its neighbours again
+pub record RunsAsSite (s : RouterConfig) (start : ℕ) (calls : List StaticCallAt) (old new : SiteCore) : Type 0 where
+  pub to_hear : IsToHear s.statics.items old.core
+  pub ports : old.core.core.router.ports ≡ router_ports s.ports.items
+  pub given : Option Given
+  pub first : SiteCore
+  pub begins : DoesSiteCall start (Asked given) old first
+  pub goes_on : DoSiteCalls calls first new
+  pub room : new.core.core.outcomes.table_full ≡ old.core.core.outcomes.table_full
+  pub countable : old.core.core.outcomes.table_full + 1 < 2 ^ 64
+
+-- then each route and each service of the file stands in it as above
+abbrev pub RoutesOfSitesStand : Type 0
+RoutesOfSitesStand = (text : List ℕ) (s : RouterConfig) → IsSiteText text s → (start : ℕ) (calls : List StaticCallAt)
+    (old new : SiteCore) → RunsAsSite s start calls old new
+    → (h : StaticEntry) → Contains s.statics.items h → (e : RipEntry) → h.word ≡ Route e
+    → ((n : StaticNeighbour) → static_source n ≡ h.by
+    → IsAskedEachMinute (λ port bytes. TellsItself n e.network port bytes → ⊥) calls start)
+    → (now : ℕ) → now ≤ asked_in calls start + 60000 → (heard : ℕ)
+    × (routes_in new.core.core.router.routes (e.network, h.by) ≡ Some (route_metric e, heard))
+    × (is_young now heard ≡ true)
+
+abbrev pub ServicesOfSitesStand : Type 0
+ServicesOfSitesStand = (text : List ℕ) (s : RouterConfig) → IsSiteText text s → (start : ℕ) (calls : List StaticCallAt)
+    (old new : SiteCore) → RunsAsSite s start calls old new
+    → (h : StaticEntry) → Contains s.statics.items h → (e : ServiceEntry) → h.word ≡ Service e
+    → ((n : StaticNeighbour) → static_source n ≡ h.by
+    → IsAskedEachMinute (λ port bytes. OffersItself n (key_of_service e) port bytes → ⊥) calls start)
+    → (now : ℕ) → now ≤ asked_in calls start + 60000 → (heard : ℕ)
+    × (services_in new.core.core.router.services (key_of_service e, h.by) ≡ Some (service_metric e, heard))
+    × (is_young now heard ≡ true)

@@ -1,0 +1,275 @@
+//! What a router tells of who comes to its ports for clients of ipxnet, and of who is gone.
+
+ghost use Rattle.std.specs.Prelude.{◌≡◌, ◌≤◌, ◌+◌, ◌++◌, [], IfOk, None, OnErr, OnOk, Some, length};
+ghost use Rattle.ipx_site.specs.ClientLog.{all_clients, clients_come, clients_gone, clients_told, clients_without};
+ghost use Rattle.ipx_site.specs.ClientLog.{client_key, has_client_key, is_listed_client, max_client_lines, port_clients, port_index_clients};
+ghost use Rattle.ipx_site.specs.Moments.{HasPassed};
+
+use crate::moments::is_over;
+use crate::router_ports::{UdpRouterPorts, PortIndex};
+use ipxnet_server::{Client, IpxnetServer, Place};
+use ipx_wire::Node;
+use log::{Log, info};
+use std::alloc::{AllocError, Global};
+use std::collections::HashSet;
+
+/// How many lines are told at once at most, and how long it is to the next look, in milliseconds.
+const MAX_LINES: usize = 10;
+
+const PERIOD: u64 = 1000;
+
+/// A client of a port, as it is told.
+#[derive(Clone, Copy, Debug, PartialEq, Eq)]
+pub struct PortClient {
+    /// The number of the port, the first of which is 1.
+    pub port: usize,
+    /// Where the client is.
+    pub place: Place,
+    /// The node that it has.
+    pub node: Node,
+}
+
+/// Which clients are told at a look: those that are gone, and those that came.
+#[derive(Drop)]
+pub struct ClientChanges {
+    pub gone: Vec<PortClient>,
+    pub came: Vec<PortClient>,
+}
+
+/// The clients that were told to be there, and when one looked last.
+#[derive(Drop)]
+pub struct ClientLog {
+    told: Vec<PortClient>,
+    looked: Option<u64>,
+}
+
+/// What tells a client of a port from every other.
+#[derive(Clone, Copy, PartialEq, Eq, Hash)]
+struct ClientKey {
+    port: usize,
+    ip: [u8; 4],
+    udp_port: u16,
+    node: [u8; 6],
+}
+
+fn key_of(client: &PortClient) -> ClientKey
+    ensures { result ≡ client_key client.now }
+{
+    ClientKey {
+        port: client.port,
+        ip: client.place.ip,
+        udp_port: client.place.udp_port,
+        node: client.node.0,
+    }
+}
+
+/// The keys of some clients, among which one is found without a walk over all.
+fn keys_of(alloc: Global, clients: &[PortClient]) -> Result<HashSet<ClientKey>, AllocError>
+    ensures { IfOk result (λ keys. (client : PortClient) →
+        has_client_key keys client ≡ is_listed_client clients.now client) }
+{
+    clients.iter().map(|client| key_of(client)).collect(alloc)
+}
+
+/// Whether the key of a client is one of these.
+fn is_listed(keys: &HashSet<ClientKey>, client: &PortClient) -> bool
+    ensures { result ≡ has_client_key keys.now client.now }
+{
+    keys.contains(&key_of(client))
+}
+
+/// Those of some clients that are none of these.
+fn without(
+    alloc: Global,
+    clients: &[PortClient],
+    these: &[PortClient],
+) -> Result<Vec<PortClient>, AllocError>
+    ensures { IfOk result (λ v.
+        v.items ≡ clients_without clients.now these.now) }
+{
+    let these = keys_of(alloc, these)?;
+    clients
+        .iter()
+        .filter(|client| !is_listed(&these, client))
+        .copied()
+        .collect(alloc)
+}
+
+/// Whom to tell, where these were told to be there, and those are: at most ten.
+fn news_of(
+    alloc: Global,
+    told: &[PortClient],
+    there: &[PortClient],
+) -> Result<ClientChanges, AllocError>
+    ensures gone { IfOk result (λ n. n.gone.items ≡ clients_gone told.now there.now) }
+    ensures came { IfOk result (λ n. n.came.items ≡ clients_come told.now there.now) }
+{
+    let mut gone = without(alloc, told, there)?;
+    gone.truncate(MAX_LINES);
+    let mut came = without(alloc, there, told)?;
+    came.truncate(MAX_LINES.saturating_sub(gone.len()));
+    Ok(ClientChanges { gone, came })
+}
+
+/// Who is told to be there behind these news.
+fn told_behind(
+    alloc: Global,
+    told: &[PortClient],
+    news: &ClientChanges,
+) -> Result<Vec<PortClient>, AllocError>
+    ensures { IfOk result (λ v.
+        v.items ≡ clients_without told.now news.now.gone.items ++ news.now.came.items) }
+{
+    let mut all = without(alloc, told, &news.gone)?;
+    all.extend_from_slice(&news.came)?;
+    Ok(all)
+}
+
+/// A client of a port.
+fn port_client(port: usize, client: &Client) -> PortClient
+    ensures { result ≡ record { port = port; place = client.now.place; node = client.now.node } }
+{
+    PortClient {
+        port,
+        place: client.place,
+        node: client.node,
+    }
+}
+
+/// The clients of a lobby, whose port has this number.
+fn clients_of(alloc: Global, port: usize, clients: &[Client]) -> Result<Vec<PortClient>, AllocError>
+    ensures { IfOk result (λ v. v.items ≡ port_clients port clients.now) }
+{
+    clients
+        .iter()
+        .map(|client| port_client(port, client))
+        .collect(alloc)
+}
+
+/// The clients of the port at a spot, which has this number; none where it is no port for clients.
+fn clients_at(
+    alloc: Global,
+    number: usize,
+    port_index: PortIndex,
+    servers: &[IpxnetServer],
+) -> Result<Vec<PortClient>, AllocError>
+    ensures { IfOk result (λ v. v.items ≡ port_index_clients number port_index servers.now) }
+{
+    let PortIndex::IpxnetServer(place) = port_index else {
+        return Ok(Vec::new(alloc));
+    };
+    match servers.get(place) {
+        Some(server) => clients_of(alloc, number, server.clients()),
+        None => Ok(Vec::new(alloc)),
+    }
+}
+
+/// The clients of all ports, in their order.
+fn clients_there(
+    alloc: Global,
+    port_indices: &[PortIndex],
+    servers: &[IpxnetServer],
+) -> Result<Vec<PortClient>, AllocError>
+    ensures { IfOk result (λ v. v.items ≡ all_clients 1 port_indices.now servers.now) }
+{
+    let mut all = Vec::new(alloc);
+    for (place, port_index) in port_indices.iter().enumerate() {
+        let clients = clients_at(alloc, place + 1, *port_index, servers)?;
+        all.extend_from_slice(&clients)?;
+    }
+    Ok(all)
+}
+
+/// The clients that the ports of a router have.
+fn clients_in(alloc: Global, ports: &UdpRouterPorts) -> Result<Vec<PortClient>, AllocError>
+    ensures { IfOk result (λ v.
+        v.items ≡ all_clients 1 ports.now.port_indices.items ports.now.servers.servers.items) }
+{
+    clients_there(alloc, ports.port_indices(), ports.servers().servers())
+}
+
+/// Tells who is gone.
+fn tell_gone<R: Log>(rt: &R, gone: &[PortClient]) {
+    for client in gone {
+        let port = client.port;
+        let [a, b, c, d] = client.place.ip;
+        let udp_port = client.place.udp_port;
+        info!(rt; target: "ipx", "port {port}: client {a}.{b}.{c}.{d}:{udp_port} is gone");
+    }
+}
+
+/// Tells who came.
+fn tell_come<R: Log>(rt: &R, came: &[PortClient]) {
+    for client in came {
+        let port = client.port;
+        let [a, b, c, d] = client.place.ip;
+        let udp_port = client.place.udp_port;
+        let node = client.node;
+        info!(rt; target: "ipx", "port {port}: client {a}.{b}.{c}.{d}:{udp_port} came as {node}");
+    }
+}
+
+impl ClientChanges {
+    /// Tells a line of each.
+    pub fn tell<R: Log>(&self, rt: &R) {
+        tell_gone(rt, &self.gone);
+        tell_come(rt, &self.came);
+    }
+}
+
+impl ClientLog {
+    /// Nobody was told to be there yet.
+    pub fn new(alloc: Global) -> ClientLog
+        ensures nobody { result.told.items ≡ [] }
+        ensures never { result.looked ≡ None }
+    {
+        ClientLog {
+            told: Vec::new(alloc),
+            looked: None,
+        }
+    }
+
+    /// Whom to tell at a look, at which these clients are there: who was told to be there and is not, and
+    /// who is there and was not told, each once, and no more than ten. What is left waits for the next look,
+    /// as does all where memory is refused.
+    pub fn look(&mut self, alloc: Global, there: &[PortClient]) -> Result<ClientChanges, AllocError>
+        ensures gone { IfOk result (λ n. n.gone.items ≡ clients_gone self.old.told.items there.now) }
+        ensures came { IfOk result (λ n. n.came.items ≡ clients_come self.old.told.items there.now) }
+        ensures told { OnOk result (self.new.told.items
+            ≡ clients_told self.old.told.items there.now) }
+        ensures few { IfOk result (λ n.
+            length n.gone.items + length n.came.items ≤ max_client_lines) }
+        ensures looked { self.new.looked ≡ self.old.looked }
+        ensures refused { OnErr result (self.new ≡ self.old) }
+    {
+        let news = news_of(alloc, &self.told, there)?;
+        self.told = told_behind(alloc, &self.told, &news)?;
+        Ok(news)
+    }
+
+    /// Looks which clients the ports of a router have at a moment in milliseconds, and tells a line of
+    /// each that came or is gone, ten at most; unless it looked less than a second ago.
+    pub(crate) fn tell<R: Log>(
+        &mut self,
+        rt: &R,
+        alloc: Global,
+        ports: &UdpRouterPorts,
+        now: u64,
+    ) -> Result<(), AllocError>
+        ensures early { (HasPassed 1000 self.old.looked now → ⊥) → self.new ≡ self.old }
+        ensures looked { HasPassed 1000 self.old.looked now → self.new.looked ≡ Some now }
+        ensures told { HasPassed 1000 self.old.looked now → OnOk result (self.new.told.items
+            ≡ clients_told self.old.told.items
+            (all_clients 1 ports.now.port_indices.items ports.now.servers.servers.items)) }
+        ensures refused { OnErr result (self.new.told ≡ self.old.told) }
+    {
+        if !is_over(self.looked, PERIOD, now) {
+            return Ok(());
+        }
+        self.looked = Some(now);
+        let there = clients_in(alloc, ports)?;
+        let news = self.look(alloc, &there)?;
+        news.tell(rt);
+        Ok(())
+    }
+}

@@ -1,0 +1,169 @@
+//! The lines of what a router dropped: one a minute for each reason, with the last one of it.
+
+ghost use Rattle.std.specs.Prelude.{◌≡◌};
+ghost use Rattle.ipx_site.specs.DropLog.{AreDropsTold, is_for_all_nodes, is_of_all_nodes, no_drops_told, warns_of};
+ghost use Rattle.ipx_site.specs.Moments.{IsToldIfDue};
+
+use crate::throttled_log::ThrottledLog;
+use crate::sameness::is_same_node;
+use ipx_carrier::OutcomeCounters;
+use ipx_metrics::{LastDrop, LastDrops};
+use ipx_wire::{Address, Node, Socket};
+use log::{Log, info, warn};
+use std::fmt;
+
+/// Why datagrams were dropped of which a line is told.
+#[derive(Clone, Copy, Debug, PartialEq, Eq)]
+pub enum DropReason {
+    Bad,
+    NotOurs,
+    NoRoute,
+    HopLimit,
+    BadControl,
+}
+
+/// What a line says of a reason and of the last datagram of it. Of one to which no route leads it
+/// names the network.
+#[derive(Clone, Copy, Debug, PartialEq, Eq)]
+pub struct DropSummary {
+    pub reason: DropReason,
+    pub last: Option<LastDrop>,
+}
+
+/// When a router told what it dropped, for each of five reasons.
+#[derive(Clone, Copy, Debug, PartialEq, Eq)]
+pub struct DropLog {
+    bad: ThrottledLog,
+    not_ours: ThrottledLog,
+    no_route: ThrottledLog,
+    hop_limit: ThrottledLog,
+    bad_control: ThrottledLog,
+}
+
+fn write_reason<W: fmt::Write>(
+    f: &mut fmt::Formatter<W>,
+    reason: DropReason,
+    last: Option<LastDrop>,
+) -> fmt::Result {
+    match reason {
+        DropReason::Bad => f.write_str("bad"),
+        DropReason::NotOurs => f.write_str("not ours"),
+        DropReason::HopLimit => f.write_str("hop limit"),
+        DropReason::BadControl => f.write_str("bad control"),
+        DropReason::NoRoute => match last.and_then(|last| last.to) {
+            Some(to) => write!(f, "no route {}", to.network),
+            None => f.write_str("no route"),
+        },
+    }
+}
+
+/// Who sent the last one, where its head says so, and the number of the port that it came by.
+fn write_last<W: fmt::Write>(f: &mut fmt::Formatter<W>, last: LastDrop) -> fmt::Result {
+    f.write_str(", the last")?;
+    if let Some(from) = last.from {
+        write!(f, " from {} {} {}", from.network, from.node, from.socket)?;
+    }
+    write!(f, " by port {}", last.port.saturating_add(1))
+}
+
+/// Whether an address is that of all nodes of a network, and of neither RIP nor SAP.
+fn is_for_all_nodes(to: Option<Address>) -> bool
+    ensures { result ≡ is_for_all_nodes to }
+{
+    match to {
+        Some(to) => {
+            is_same_node(to.node, Node::BROADCAST)
+                && to.socket.0 != Socket::RIP.0
+                && to.socket.0 != Socket::SAP.0
+        }
+        None => false,
+    }
+}
+
+/// Whether the last datagram was sent to all nodes of a network, by neither RIP nor SAP.
+fn is_of_all_nodes(last: Option<LastDrop>) -> bool
+    ensures { result ≡ is_of_all_nodes last }
+{
+    match last {
+        Some(last) => is_for_all_nodes(last.to),
+        None => false,
+    }
+}
+
+impl DropSummary {
+    /// Whether its line is a warning. What is sent to all nodes of a network comes to its routers
+    /// too. They hear RIP and SAP, and drop all else as not their own, which is no fault.
+    pub fn warns(&self) -> bool
+        ensures { result ≡ warns_of self.now.reason self.now.last }
+    {
+        match self.reason {
+            DropReason::NotOurs => !is_of_all_nodes(self.last),
+            DropReason::Bad | DropReason::NoRoute | DropReason::HopLimit | DropReason::BadControl =>
+                true,
+        }
+    }
+}
+
+impl fmt::Display for DropSummary {
+    fn fmt<W: fmt::Write>(&self, f: &mut fmt::Formatter<W>) -> fmt::Result {
+        write_reason(f, self.reason, self.last)?;
+        match self.last {
+            Some(last) => write_last(f, last),
+            None => Ok(()),
+        }
+    }
+}
+
+fn tell<R: Log>(rt: &R, cause: &mut ThrottledLog, count: u64, words: DropSummary, now: u64)
+    ensures { IsToldIfDue count now cause.old cause.new }
+{
+    if let Some(more) = cause.tell(count, now) {
+        if words.warns() {
+            warn!(rt; target: "ipx", "dropped {more} ({count} since the start): {words}");
+        } else {
+            info!(rt; target: "ipx", "dropped {more} ({count} since the start): {words}");
+        }
+    }
+}
+
+/// What a line says of a reason.
+fn words(reason: DropReason, last: Option<LastDrop>) -> DropSummary {
+    DropSummary { reason, last }
+}
+
+impl DropLog {
+    /// None was told yet.
+    pub fn new() -> DropLog
+        ensures { result ≡ no_drops_told }
+    {
+        DropLog {
+            bad: ThrottledLog::new(),
+            not_ours: ThrottledLog::new(),
+            no_route: ThrottledLog::new(),
+            hop_limit: ThrottledLog::new(),
+            bad_control: ThrottledLog::new(),
+        }
+    }
+
+    /// Tells those for which it is time.
+    pub fn tell<R: Log>(&mut self, rt: &R, outcomes: &OutcomeCounters, last: LastDrops, now: u64)
+        ensures { AreDropsTold outcomes.now now self.old self.new }
+    {
+        let bad = words(DropReason::Bad, last.bad);
+        let not_ours = words(DropReason::NotOurs, last.not_ours);
+        let no_route = words(DropReason::NoRoute, last.no_route);
+        let hop_limit = words(DropReason::HopLimit, last.hop_limit);
+        let bad_control = words(DropReason::BadControl, last.bad_control);
+        tell(rt, &mut self.bad, outcomes.bad, bad, now);
+        tell(rt, &mut self.not_ours, outcomes.not_ours, not_ours, now);
+        tell(rt, &mut self.no_route, outcomes.no_route, no_route, now);
+        tell(rt, &mut self.hop_limit, outcomes.hop_limit, hop_limit, now);
+        tell(
+            rt,
+            &mut self.bad_control,
+            outcomes.bad_control,
+            bad_control,
+            now,
+        );
+    }
+}

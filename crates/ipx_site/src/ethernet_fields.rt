@@ -1,0 +1,79 @@
+//! The keys of the table of a port on a wire, each with its value.
+
+ghost use Rattle.std.specs.Prelude.{true};
+ghost use Rattle.toml.specs.View.{table_view};
+ghost use Rattle.ipx_site.specs.Fields.{Gives, GivesOr};
+ghost use Rattle.ipx_site.specs.Values.{IsCount};
+ghost use Rattle.ipx_site.specs.EthernetValues.{AreEthernetEnds, IsEncapsulation, IsFlag, IsStation};
+
+use crate::fault::ConfigError;
+use crate::fields::{held, required};
+use crate::key::Key;
+use crate::values::count_of;
+use crate::ethernet_values::{encapsulation_of, ends_of, flag_of, station_of};
+use ipx_ethernet::Encapsulation;
+use ipx_wire::Node;
+use ipx_ethernet_ports::Place;
+use std::alloc::Global;
+use toml::Table;
+
+/// The encapsulation of a wire.
+pub fn encapsulation_in(table: &Table, number: usize) -> Result<Encapsulation, ConfigError>
+    ensures { Gives IsEncapsulation Key.Frame (table_view table.now) number result }
+{
+    match encapsulation_of(required(table, number, Key::Frame)?) {
+        Some(encapsulation) => Ok(encapsulation),
+        None => Err(ConfigError::Wrong(number, Key::Frame)),
+    }
+}
+
+/// A number from 1 to a greatest one, which must be there.
+pub fn required_count_in(
+    table: &Table,
+    number: usize,
+    key: Key,
+    most: u16,
+) -> Result<u16, ConfigError>
+    ensures { Gives (IsCount most) key (table_view table.now) number result }
+{
+    match count_of(required(table, number, key)?, most) {
+        Some(count) => Ok(count),
+        None => Err(ConfigError::Wrong(number, key)),
+    }
+}
+
+/// The ends of a wire.
+pub fn ends_in(alloc: Global, table: &Table, number: usize) -> Result<Vec<Place>, ConfigError>
+    ensures { Gives AreEthernetEnds Key.Ends (table_view table.now) number result }
+{
+    match ends_of(alloc, required(table, number, Key::Ends)?)? {
+        Some(ends) => Ok(ends),
+        None => Err(ConfigError::Wrong(number, Key::Ends)),
+    }
+}
+
+/// The address of the port on its wire, or else the one that is made.
+pub fn station_in(table: &Table, number: usize, made: Node) -> Result<Node, ConfigError>
+    ensures { GivesOr IsStation Key.Node (table_view table.now) number made result }
+{
+    let Some(value) = held(table, Key::Node) else {
+        return Ok(made);
+    };
+    match station_of(value) {
+        Some(node) => Ok(node),
+        None => Err(ConfigError::Wrong(number, Key::Node)),
+    }
+}
+
+/// Whether the port is the hub of its ends. It is where nothing is said.
+pub fn joined_in(table: &Table, number: usize) -> Result<bool, ConfigError>
+    ensures { GivesOr IsFlag Key.Switch (table_view table.now) number true result }
+{
+    let Some(value) = held(table, Key::Switch) else {
+        return Ok(true);
+    };
+    match flag_of(value) {
+        Some(joined) => Ok(joined),
+        None => Err(ConfigError::Wrong(number, Key::Switch)),
+    }
+}

@@ -1,0 +1,96 @@
+//! The ports of a router on wires: their sockets and their hubs.
+
+ghost use Rattle.std.specs.Prelude.{◌≡◌, ◌++◌, ◌∷◌, [], IfOk, OnOk, map};
+ghost use Rattle.ipx_site.specs.KindPorts.{end_places, switch_of, ethernet_port_of, ethernet_ports};
+ghost use Rattle.ipx_ethernet_ports.specs.EthernetAddresses.{places_behind};
+
+use crate::bind_fault::{BindFault, bind_error_kind};
+use crate::site::{EthernetPortConfig, PortConfig};
+use ipx_ethernet::EthernetPort;
+use ipx_hub::Switch;
+use ipx_ethernet_ports::{Place, EthernetSockets, EthernetPorts};
+use std::alloc::{AllocError, Global};
+use std::io::ErrorKind;
+use std::net::Net;
+
+/// A port of a file as one on a wire.
+fn ethernet_port(port: &EthernetPortConfig) -> EthernetPort
+    ensures { result ≡ ethernet_port_of port.now }
+{
+    EthernetPort {
+        own: port.node,
+        network: port.network,
+        encapsulation: port.encapsulation,
+    }
+}
+
+/// The hub of each port on a wire, before anything came.
+fn switches_of(alloc: Global, ports: &[PortConfig]) -> Result<Vec<Switch>, AllocError>
+    ensures { IfOk result (λ v. v.items ≡ map switch_of (ethernet_ports ports.now)) }
+{
+    let mut switches = Vec::new(alloc);
+    for port in ports {
+        if let PortConfig::Frames(port) = port {
+            let switch = Switch::new(alloc, ethernet_port(port), port.joined)?;
+            switches.push(switch)?;
+        }
+    }
+    Ok(switches)
+}
+
+/// Binds the socket of a port on a wire, which has this number.
+fn bind_ethernet_port<R: Net>(
+    rt: &R,
+    alloc: Global,
+    sockets: &mut EthernetSockets,
+    number: usize,
+    port: &EthernetPortConfig,
+) -> Result<(), BindFault>
+    ensures { OnOk result (places_behind sockets.new.ethernet.items
+        ≡ places_behind sockets.old.ethernet.items ++ port.now.ends.items ∷ []) }
+{
+    let Ok(ends) = Vec::from_slice(alloc, &port.ends) else {
+        return Err(BindFault::OutOfMemory);
+    };
+    let at = Place {
+        ip: port.address,
+        udp_port: port.udp_port,
+    };
+    match sockets.bind(rt, at, ends) {
+        Ok(()) => Ok(()),
+        Err(error) if error.kind() == ErrorKind::OutOfMemory => Err(BindFault::OutOfMemory),
+        Err(error) => Err(BindFault::Port(number, bind_error_kind(error.kind()))),
+    }
+}
+
+/// The sockets of the ports on wires. At the first that can't be had it answers that port, and nothing
+/// stays bound.
+fn bind_ethernet_ports<R: Net>(rt: &R, alloc: Global, ports: &[PortConfig]) -> Result<EthernetSockets, BindFault>
+    ensures { IfOk result (λ s.
+        places_behind s.ethernet.items ≡ end_places (ethernet_ports ports.now)) }
+{
+    let mut sockets = EthernetSockets::new(alloc);
+    for (place, port) in ports.iter().enumerate() {
+        if let PortConfig::Frames(port) = port {
+            bind_ethernet_port(rt, alloc, &mut sockets, place + 1, port)?;
+        }
+    }
+    Ok(sockets)
+}
+
+/// The ports on wires among these, with their sockets bound and their hubs.
+pub fn ethernet_ports_of<R: Net>(
+    rt: &R,
+    alloc: Global,
+    ports: &[PortConfig],
+) -> Result<EthernetPorts<EthernetSockets>, BindFault>
+    ensures switches { IfOk result (λ w. w.switches.items ≡ map switch_of (ethernet_ports ports.now)) }
+    ensures ends { IfOk result (λ w.
+        places_behind w.sockets.ethernet.items ≡ end_places (ethernet_ports ports.now)) }
+{
+    let Ok(switches) = switches_of(alloc, ports) else {
+        return Err(BindFault::OutOfMemory);
+    };
+    let sockets = bind_ethernet_ports(rt, alloc, ports)?;
+    Ok(EthernetPorts::new(sockets, switches))
+}

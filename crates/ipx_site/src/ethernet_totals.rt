@@ -1,0 +1,54 @@
+//! What the hubs of a router's ports on wires counted together.
+
+ghost use Rattle.std.specs.Prelude.{◌≡◌};
+ghost use Rattle.ipx_carrier.specs.Counting.{counted};
+ghost use Rattle.ipx_site.specs.EthernetTotals.{came_as, encapsulated_otherwise, encapsulated_otherwise_in, unframed_in};
+
+use ipx_ethernet::{Encapsulation, FrameCounters};
+use ipx_hub::Switch;
+
+/// How many packets of the core no frame could carry. It stays at the greatest u64.
+pub fn unframed(switches: &[Switch]) -> u64
+    ensures { result ≡ unframed_in switches.now }
+{
+    let mut total: u64 = 0;
+    for switch in switches {
+        total = total.saturating_add(switch.refused());
+    }
+    total
+}
+
+/// How many frames with an IPX packet came in another encapsulation than that of a port, whichever it
+/// has.
+fn other_encapsulations(counts: FrameCounters) -> u64
+    ensures { result ≡ counted (encapsulated_otherwise counts) }
+{
+    counts
+        .in_raw
+        .saturating_add(counts.in_llc)
+        .saturating_add(counts.in_snap)
+        .saturating_add(counts.in_ethernet_ii)
+}
+
+/// How many there were at all ports. It stays at the greatest u64.
+pub fn in_other_encapsulations(switches: &[Switch]) -> u64
+    ensures { result ≡ encapsulated_otherwise_in switches.now }
+{
+    let mut total: u64 = 0;
+    for switch in switches {
+        total = total.saturating_add(other_encapsulations(switch.counts()));
+    }
+    total
+}
+
+/// How many came in an encapsulation to a port that has another one.
+pub fn came_in(counts: FrameCounters, encapsulation: Encapsulation) -> u64
+    ensures { result ≡ came_as counts encapsulation }
+{
+    match encapsulation {
+        Encapsulation::Raw => counts.in_raw,
+        Encapsulation::Llc => counts.in_llc,
+        Encapsulation::Snap => counts.in_snap,
+        Encapsulation::EthernetII => counts.in_ethernet_ii,
+    }
+}

@@ -1,0 +1,175 @@
+//! What the values of the keys of a port on a wire mean.
+
+ghost use Rattle.std.specs.Prelude.{◌≡◌, IfOk};
+ghost use Rattle.toml.specs.View.{items_view, view};
+ghost use Rattle.ipx_site.specs.Fields.{Reads};
+ghost use Rattle.ipx_site.specs.EthernetValues.{AreEthernetEnds, IsEncapsulation, IsFlag, IsStation, IsEthernetEnd, ReadsDigits, ReadsPlace, ReadsStation, ReadsEthernetEnds, frame_word, is_somewhere, is_station, made_station, socket_at};
+
+use crate::allowed_peer::MAX_ENTRIES;
+use ipx_ethernet::Encapsulation;
+use ipx_wire::{Node, OutOfMemory};
+use ipx_ethernet_ports::Place;
+use std::alloc::Global;
+use std::net::SocketAddrV4;
+use toml::Value;
+
+/// The encapsulation that a value names.
+pub fn encapsulation_of(value: &Value) -> Option<Encapsulation>
+    ensures { Reads IsEncapsulation (view value.now) result }
+{
+    match value.as_str()? {
+        "802.3" => Some(Encapsulation::Raw),
+        "802.2" => Some(Encapsulation::Llc),
+        "snap" => Some(Encapsulation::Snap),
+        "ethernet-ii" => Some(Encapsulation::EthernetII),
+        _ => None,
+    }
+}
+
+/// The word that names an encapsulation.
+pub fn word_of(encapsulation: Encapsulation) -> &'static str
+    ensures { result.now ≡ frame_word encapsulation }
+{
+    match encapsulation {
+        Encapsulation::Raw => "802.3",
+        Encapsulation::Llc => "802.2",
+        Encapsulation::Snap => "snap",
+        Encapsulation::EthernetII => "ethernet-ii",
+    }
+}
+
+/// Whether something is so.
+pub fn flag_of(value: &Value) -> Option<bool>
+    ensures { Reads IsFlag (view value.now) result }
+{
+    value.as_bool()
+}
+
+/// Whether a place is one where an end can be.
+fn is_somewhere(place: Place) -> bool
+    ensures { result ≡ is_somewhere place }
+{
+    place.ip != [0; 4] && place.udp_port != 0
+}
+
+/// The place of an address of a socket.
+fn place_at(socket: SocketAddrV4) -> Place
+    ensures { socket_at result ≡ socket }
+{
+    Place {
+        ip: socket.ip().octets(),
+        udp_port: socket.port(),
+    }
+}
+
+/// The place that a text writes.
+fn place_written(text: &str) -> Option<Place>
+    ensures { ReadsPlace text.now result }
+{
+    match text.parse::<SocketAddrV4>() {
+        Ok(socket) => {
+            let place = place_at(socket);
+            if is_somewhere(place) {
+                Some(place)
+            } else {
+                None
+            }
+        }
+        Err(_) => None,
+    }
+}
+
+/// The place of an end that a value writes.
+fn end_of(value: &Value) -> Option<Place>
+    ensures { Reads IsEthernetEnd (view value.now) result }
+{
+    place_written(value.as_str()?)
+}
+
+/// The places that values write, if each of them writes one.
+fn places_of(alloc: Global, values: &[Value]) -> Result<Option<Vec<Place>>, OutOfMemory>
+    ensures { IfOk result (ReadsEthernetEnds (items_view values.now)) }
+{
+    let mut ends = Vec::new(alloc);
+    for value in values {
+        let Some(end) = end_of(value) else {
+            return Ok(None);
+        };
+        ends.push(end)?;
+    }
+    Ok(Some(ends))
+}
+
+/// The ends of a wire that a value lists, 1 to 256.
+pub fn ends_of(alloc: Global, value: &Value) -> Result<Option<Vec<Place>>, OutOfMemory>
+    ensures { IfOk result (Reads AreEthernetEnds (view value.now)) }
+{
+    let Some(values) = value.as_array() else {
+        return Ok(None);
+    };
+    let count = values.len();
+    if count == 0 || count > MAX_ENTRIES {
+        return Ok(None);
+    }
+    places_of(alloc, values)
+}
+
+/// The digits of six pairs with colons between them.
+fn digits_of(text: &[u8]) -> Option<[u8; 12]>
+    ensures { ReadsDigits text.now result }
+{
+    let [
+        a,
+        b,
+        b':',
+        c,
+        d,
+        b':',
+        e,
+        f,
+        b':',
+        g,
+        h,
+        b':',
+        i,
+        j,
+        b':',
+        k,
+        l,
+    ] = text
+    else {
+        return None;
+    };
+    Some([*a, *b, *c, *d, *e, *f, *g, *h, *i, *j, *k, *l])
+}
+
+/// Whether one station can have this address: it is no group's, and not zero.
+pub(crate) fn is_station(node: Node) -> bool
+    ensures { result ≡ is_station node }
+{
+    node.0[0] % 2 == 0 && node.0 != [0; 6]
+}
+
+/// The address of a station that a text writes.
+fn station_written(text: &[u8]) -> Option<Node>
+    ensures { ReadsStation text.now result }
+{
+    let node = Node::from_hex(&digits_of(text)?)?;
+    if is_station(node) { Some(node) } else { None }
+}
+
+/// The address of a station that a value writes.
+pub fn station_of(value: &Value) -> Option<Node>
+    ensures { Reads IsStation (view value.now) result }
+{
+    station_written(value.as_str()?.as_bytes())
+}
+
+/// The address of a port that has none in its file, made of the place where it is bound.
+pub fn station_at(place: Place) -> Node
+    ensures { result ≡ made_station place.ip place.udp_port }
+{
+    let [first, second, third, last] = place.ip;
+    let [high, low] = place.udp_port.to_be_bytes();
+    Node([first / 4 * 4 + 2, second, third, last, high, low])
+}

@@ -1,0 +1,166 @@
+//! What a router counts of frames on its wires, as a text for Prometheus.
+
+use crate::family::{Family, put_family, put_of_port, put_one};
+use crate::router_ports::{UdpRouterPorts, PortIndex};
+use crate::ethernet_totals::came_in;
+use ipx_ethernet::{Encapsulation, FrameCounters};
+use ipx_hub::Switch;
+use ipx_ethernet_ports::EndSockets;
+use log::{Log, warn};
+use std::alloc::AllocError;
+
+/// The encapsulations, in the order in which they are told.
+const ALL: [Encapsulation; 4] = [
+    Encapsulation::Raw,
+    Encapsulation::Llc,
+    Encapsulation::Snap,
+    Encapsulation::EthernetII,
+];
+
+const FRAMES: Family = Family {
+    name: "ipx_frames_total",
+    help: "Frames that came on a wire, by what became of them at the port",
+    kind: "counter",
+};
+
+const PASSED: Family = Family {
+    name: "ipx_frames_passed_total",
+    help: "Frames that were to go on from one end to others",
+    kind: "counter",
+};
+
+const REFUSED: Family = Family {
+    name: "ipx_frames_refused_total",
+    help: "Packets that no frame could carry",
+    kind: "counter",
+};
+
+const UNKNOWN_SENDERS: Family = Family {
+    name: "ipx_frames_strangers_total",
+    help: "Datagrams that came from no end of a wire",
+    kind: "counter",
+};
+
+const SENT: Family = Family {
+    name: "ipx_frames_sent_total",
+    help: "Frames that the system took to be sent",
+    kind: "counter",
+};
+
+/// The hub of a port that is on a wire.
+fn switch_at(ports: &UdpRouterPorts, port_index: PortIndex) -> Option<&Switch> {
+    match port_index {
+        PortIndex::Datagrams(_) | PortIndex::IpxnetServer(_) => None,
+        PortIndex::Ethernet(place) => ports.ethernet().switches().get(place),
+    }
+}
+
+fn put_outcomes(text: &mut String, number: usize, counts: FrameCounters) -> Result<(), AllocError> {
+    let metrics = [
+        ("handed_on", counts.handed_on),
+        ("broken", counts.broken),
+        ("own", counts.own),
+        ("not_ours", counts.not_ours),
+        ("tagged", counts.tagged),
+        ("other_type", counts.other_type),
+        ("other_llc", counts.other_llc),
+        ("no_packet", counts.no_packet),
+        ("other_network", counts.other_network),
+    ];
+    for (fate, count) in metrics {
+        write!(
+            text,
+            "ipx_frames_total{{port=\"{number}\",fate=\"{fate}\"}} {count}\n"
+        )?;
+    }
+    Ok(())
+}
+
+fn put_encapsulations(
+    text: &mut String,
+    number: usize,
+    counts: FrameCounters,
+) -> Result<(), AllocError> {
+    for encapsulation in ALL {
+        let count = came_in(counts, encapsulation);
+        write!(
+            text,
+            "ipx_frames_total{{port=\"{number}\",fate=\"in_{encapsulation}\"}} {count}\n"
+        )?;
+    }
+    Ok(())
+}
+
+/// Writes what became of the frames that came to each port.
+fn put_frames(text: &mut String, ports: &UdpRouterPorts) -> Result<(), AllocError> {
+    put_family(text, &FRAMES)?;
+    for (place, port_index) in ports.port_indices().iter().enumerate() {
+        if let Some(switch) = switch_at(ports, *port_index) {
+            put_outcomes(text, place + 1, switch.counts())?;
+            put_encapsulations(text, place + 1, switch.counts())?;
+        }
+    }
+    Ok(())
+}
+
+/// Writes how many frames went on from one end of a wire to others.
+fn put_passed(text: &mut String, ports: &UdpRouterPorts) -> Result<(), AllocError> {
+    put_family(text, &PASSED)?;
+    for (place, port_index) in ports.port_indices().iter().enumerate() {
+        if let Some(switch) = switch_at(ports, *port_index) {
+            put_of_port(text, &PASSED, place + 1, switch.passed())?;
+        }
+    }
+    Ok(())
+}
+
+/// Writes how many packets of the router no frame could carry.
+fn put_refused(text: &mut String, ports: &UdpRouterPorts) -> Result<(), AllocError> {
+    put_family(text, &REFUSED)?;
+    for (place, port_index) in ports.port_indices().iter().enumerate() {
+        if let Some(switch) = switch_at(ports, *port_index) {
+            put_of_port(text, &REFUSED, place + 1, switch.refused())?;
+        }
+    }
+    Ok(())
+}
+
+/// Writes what the sockets of all wires counted.
+fn put_ethernet_sockets(text: &mut String, ports: &UdpRouterPorts) -> Result<(), AllocError> {
+    let sockets = ports.ethernet().sockets();
+    put_one(text, &UNKNOWN_SENDERS, sockets.unknown_senders())?;
+    put_one(text, &SENT, sockets.sent())
+}
+
+/// Writes what a router counts of frames behind its other figures; nothing where it is on no wire.
+pub fn put_frame_metrics(text: &mut String, ports: &UdpRouterPorts) -> Result<(), AllocError> {
+    if ports.ethernet().switches().is_empty() {
+        return Ok(());
+    }
+    put_frames(text, ports)?;
+    put_passed(text, ports)?;
+    put_refused(text, ports)?;
+    put_ethernet_sockets(text, ports)
+}
+
+/// Tells which other encapsulations came to a port.
+fn tell_encapsulations_at<R: Log>(rt: &R, number: usize, switch: &Switch) {
+    let own = switch.port().encapsulation;
+    for encapsulation in ALL {
+        let count = came_in(switch.counts(), encapsulation);
+        if count > 0 {
+            warn!(rt; target: "ipx",
+                "port {number}: frames of another encapsulation: {encapsulation}, this port has \
+                 {own} ({count} since the start)");
+        }
+    }
+}
+
+/// Tells which other encapsulations came to each port.
+pub fn tell_encapsulations<R: Log>(rt: &R, ports: &UdpRouterPorts) {
+    for (place, port_index) in ports.port_indices().iter().enumerate() {
+        if let Some(switch) = switch_at(ports, *port_index) {
+            tell_encapsulations_at(rt, place + 1, switch);
+        }
+    }
+}

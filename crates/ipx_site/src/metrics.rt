@@ -1,0 +1,177 @@
+//! What a router counts, as a text for Prometheus.
+
+use crate::family::{Family, put_each, put_one};
+use crate::source_filter::{DropCount, FilterDrops};
+use ipx_carrier::OutcomeCounters;
+use std::alloc::{AllocError, Global};
+
+/// What a router counted since it started.
+#[derive(Clone, Copy, Debug, PartialEq, Eq)]
+pub struct Metrics {
+    /// The datagrams that it heard, each of which became something, and those that the system took to
+    /// be sent.
+    pub heard: u64,
+    pub sent: u64,
+    /// What became of those that it heard.
+    pub outcomes: OutcomeCounters,
+    /// The packets that found no room in its queue, and those that nothing could carry to their node: it has no
+    /// IP address, or no frame holds the packet, which `unframed` counts too.
+    pub queue_full: u64,
+    pub unmapped: u64,
+    /// The datagrams that came and were not heard, and those that were to go to no peer.
+    pub kept: FilterDrops,
+    /// The queries that came too often, and were not heard.
+    pub rate_limited: DropCount,
+    pub refused: u64,
+    /// The datagrams that came from no end of a wire, the packets that no frame could carry, and the
+    /// frames with a packet in another encapsulation than that of their port.
+    pub frame_unknown_senders: u64,
+    pub unframed: u64,
+    pub other_encapsulation: u64,
+    /// How often the system refused a datagram, memory, and the file of these figures.
+    pub device_faults: u64,
+    pub memory_faults: u64,
+    pub file_faults: u64,
+    /// The packets that wait to be sent.
+    pub queue: u64,
+    /// The networks and services of others that it knows.
+    pub routes: u64,
+    pub services: u64,
+    /// The seconds since it started.
+    pub seconds: u64,
+}
+
+const HEARD: Family = Family {
+    name: "ipx_heard_total",
+    help: "Datagrams that were heard",
+    kind: "counter",
+};
+
+const SENT: Family = Family {
+    name: "ipx_sent_total",
+    help: "Datagrams that the system took to be sent",
+    kind: "counter",
+};
+
+const OUTCOMES: Family = Family {
+    name: "ipx_fates_total",
+    help: "What became of the datagrams that were heard, and were not dropped",
+    kind: "counter",
+};
+
+const DROPPED: Family = Family {
+    name: "ipx_dropped_total",
+    help: "Packets that were dropped, by reason",
+    kind: "counter",
+};
+
+const UNKNOWN_SENDERS: Family = Family {
+    name: "ipx_strangers_total",
+    help: "Datagrams that came from no peer, and were not heard",
+    kind: "counter",
+};
+
+const FILTERED: Family = Family {
+    name: "ipx_kept_back_total",
+    help: "Other datagrams that were not heard, by reason",
+    kind: "counter",
+};
+
+const REFUSED: Family = Family {
+    name: "ipx_refused_total",
+    help: "Datagrams that were to go to no peer, and were not sent",
+    kind: "counter",
+};
+
+const FAULTS: Family = Family {
+    name: "ipx_faults_total",
+    help: "How often the system refused",
+    kind: "counter",
+};
+
+const QUEUE: Family = Family {
+    name: "ipx_queue",
+    help: "Packets that wait to be sent",
+    kind: "gauge",
+};
+
+const ROUTES: Family = Family {
+    name: "ipx_routes",
+    help: "Networks of others that are known",
+    kind: "gauge",
+};
+
+const SERVICES: Family = Family {
+    name: "ipx_services",
+    help: "Services that are known",
+    kind: "gauge",
+};
+
+const SECONDS: Family = Family {
+    name: "ipx_seconds",
+    help: "Seconds since the start",
+    kind: "gauge",
+};
+
+fn put_outcomes(text: &mut String, outcomes: &OutcomeCounters) -> Result<(), AllocError> {
+    let metrics = [
+        ("forwarded", outcomes.forwarded),
+        ("answered", outcomes.answered),
+        ("heard", outcomes.heard),
+    ];
+    put_each(text, &OUTCOMES, "fate", &metrics)
+}
+
+fn put_dropped(text: &mut String, metrics: &Metrics) -> Result<(), AllocError> {
+    let outcomes = metrics.outcomes;
+    let metrics = [
+        ("bad", outcomes.bad),
+        ("propagated", outcomes.propagated),
+        ("not_ours", outcomes.not_ours),
+        ("no_route", outcomes.no_route),
+        ("hop_limit", outcomes.hop_limit),
+        ("bad_control", outcomes.bad_control),
+        ("table_full", outcomes.table_full),
+        ("queue_full", metrics.queue_full),
+        ("unmapped", metrics.unmapped),
+    ];
+    put_each(text, &DROPPED, "reason", &metrics)
+}
+
+fn put_faults(text: &mut String, metrics: &Metrics) -> Result<(), AllocError> {
+    let metrics = [
+        ("device", metrics.device_faults),
+        ("memory", metrics.memory_faults),
+        ("status_file", metrics.file_faults),
+    ];
+    put_each(text, &FAULTS, "of", &metrics)
+}
+
+impl Metrics {
+    /// The text of these figures, in the text form of Prometheus.
+    pub fn text(&self, alloc: Global) -> Result<String, AllocError> {
+        let mut text = String::new(alloc);
+        put_one(&mut text, &HEARD, self.heard)?;
+        put_one(&mut text, &SENT, self.sent)?;
+        put_outcomes(&mut text, &self.outcomes)?;
+        put_dropped(&mut text, self)?;
+        put_one(&mut text, &UNKNOWN_SENDERS, self.kept.unknown_senders.count)?;
+        put_each(
+            &mut text,
+            &FILTERED,
+            "reason",
+            &[
+                ("forged", self.kept.spoofed.count),
+                ("no_router", self.kept.not_a_router.count),
+                ("too_often", self.rate_limited.count),
+            ],
+        )?;
+        put_one(&mut text, &REFUSED, self.refused)?;
+        put_faults(&mut text, self)?;
+        put_one(&mut text, &QUEUE, self.queue)?;
+        put_one(&mut text, &ROUTES, self.routes)?;
+        put_one(&mut text, &SERVICES, self.services)?;
+        put_one(&mut text, &SECONDS, self.seconds)?;
+        Ok(text)
+    }
+}

@@ -1,0 +1,73 @@
+//! How much each neighbour of a router told, as a text for Prometheus.
+
+use crate::family::{Family, put_family};
+use ipx_table_dump::{Advertiser, first_advertisers};
+use ipx_router::Router;
+use ipx_tables::Source;
+use std::alloc::{AllocError, Global};
+
+const NETWORKS: Family = Family {
+    name: "ipx_neighbour_networks",
+    help: "Networks that a neighbour offers, as far as they count",
+    kind: "gauge",
+};
+
+const SERVICES: Family = Family {
+    name: "ipx_neighbour_services",
+    help: "Services that a neighbour offers, as far as they count",
+    kind: "gauge",
+};
+
+const HEARD: Family = Family {
+    name: "ipx_neighbour_heard_seconds",
+    help: "Seconds since the last of these was heard",
+    kind: "gauge",
+};
+
+/// What is told of a neighbour.
+#[derive(Clone, Copy, Debug, PartialEq, Eq)]
+enum Told {
+    Networks,
+    Services,
+    /// How long ago the last was heard, at this moment in milliseconds.
+    Heard(u64),
+}
+
+fn figure_of(teller: &Advertiser, told: Told) -> u64 {
+    match told {
+        Told::Networks => teller.networks as u64,
+        Told::Services => teller.services as u64,
+        Told::Heard(now) => now.saturating_sub(teller.heard) / 1000,
+    }
+}
+
+/// Writes a figure of each of these neighbours.
+fn put_told(
+    text: &mut String,
+    family: &Family,
+    advertisers: &[(Source, Advertiser)],
+    told: Told,
+) -> Result<(), AllocError> {
+    put_family(text, family)?;
+    for (source, teller) in advertisers {
+        let name = family.name;
+        let port = source.port;
+        let node = source.neighbour;
+        let figure = figure_of(teller, told);
+        write!(text, "{name}{{port=\"{port}\",node=\"{node}\"}} {figure}\n")?;
+    }
+    Ok(())
+}
+
+/// Writes how much each neighbour told that counts at a moment, of the first 256 by port and node.
+pub fn put_neighbour_metrics(
+    text: &mut String,
+    alloc: Global,
+    router: &Router,
+    now: u64,
+) -> Result<(), AllocError> {
+    let advertisers = first_advertisers(alloc, router.routes(), router.services(), now)?;
+    put_told(text, &NETWORKS, &advertisers, Told::Networks)?;
+    put_told(text, &SERVICES, &advertisers, Told::Services)?;
+    put_told(text, &HEARD, &advertisers, Told::Heard(now))
+}

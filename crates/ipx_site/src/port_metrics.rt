@@ -1,0 +1,114 @@
+//! What a router counts at each of its ports, as a text for Prometheus.
+
+use crate::family::{Family, put_family};
+use ipx_carrier::OutcomeCounters;
+use ipx_metrics::{MeteredRouter, PortCounts};
+use std::alloc::AllocError;
+
+const HEARD: Family = Family {
+    name: "ipx_port_heard_total",
+    help: "Datagrams that were heard, by the port that they came by",
+    kind: "counter",
+};
+
+const HEARD_BYTES: Family = Family {
+    name: "ipx_port_heard_bytes_total",
+    help: "Bytes of these",
+    kind: "counter",
+};
+
+const SENT: Family = Family {
+    name: "ipx_port_sent_total",
+    help: "Packets that were handed to a port to be sent",
+    kind: "counter",
+};
+
+const SENT_BYTES: Family = Family {
+    name: "ipx_port_sent_bytes_total",
+    help: "Bytes of these",
+    kind: "counter",
+};
+
+const DROPPED: Family = Family {
+    name: "ipx_port_dropped_total",
+    help: "Datagrams that were dropped, by the port that they came by and by reason",
+    kind: "counter",
+};
+
+/// What is counted of all that passes at a port.
+#[derive(Clone, Copy, Debug, PartialEq, Eq)]
+enum Passed {
+    Heard,
+    HeardBytes,
+    Sent,
+    SentBytes,
+}
+
+fn count_of(counts: &PortCounts, passed: Passed) -> u64 {
+    match passed {
+        Passed::Heard => counts.heard(),
+        Passed::HeardBytes => counts.heard_bytes,
+        Passed::Sent => counts.sent,
+        Passed::SentBytes => counts.sent_bytes,
+    }
+}
+
+/// Writes a figure of each port, with its number and its network.
+fn put_passed(
+    text: &mut String,
+    family: &Family,
+    core: &MeteredRouter,
+    passed: Passed,
+) -> Result<(), AllocError> {
+    put_family(text, family)?;
+    let ports = core.router().ports();
+    for (place, counts) in core.port_counters().iter().enumerate() {
+        let name = family.name;
+        let number = place + 1;
+        let network = ports[place].network;
+        let count = count_of(counts, passed);
+        write!(
+            text,
+            "{name}{{port=\"{number}\",network=\"{network}\"}} {count}\n"
+        )?;
+    }
+    Ok(())
+}
+
+/// Writes what became of datagrams that came by a port and were dropped, by reason.
+fn put_drops(text: &mut String, number: usize, outcomes: &OutcomeCounters) -> Result<(), AllocError> {
+    let metrics = [
+        ("bad", outcomes.bad),
+        ("propagated", outcomes.propagated),
+        ("not_ours", outcomes.not_ours),
+        ("no_route", outcomes.no_route),
+        ("hop_limit", outcomes.hop_limit),
+        ("bad_control", outcomes.bad_control),
+        ("table_full", outcomes.table_full),
+    ];
+    for (reason, count) in metrics {
+        write!(
+            text,
+            "ipx_port_dropped_total{{port=\"{number}\",reason=\"{reason}\"}} {count}\n"
+        )?;
+    }
+    Ok(())
+}
+
+/// Writes what was dropped, by the port that it came by.
+fn put_dropped(text: &mut String, core: &MeteredRouter) -> Result<(), AllocError> {
+    put_family(text, &DROPPED)?;
+    for (place, counts) in core.port_counters().iter().enumerate() {
+        put_drops(text, place + 1, &counts.outcomes)?;
+    }
+    Ok(())
+}
+
+/// Writes what a router counts at each of its ports behind its other figures.
+pub fn put_port_metrics(text: &mut String, core: &MeteredRouter) -> Result<(), AllocError> {
+    put_passed(text, &HEARD, core, Passed::Heard)?;
+    put_passed(text, &HEARD_BYTES, core, Passed::HeardBytes)?;
+    put_passed(text, &SENT, core, Passed::Sent)?;
+    put_passed(text, &SENT_BYTES, core, Passed::SentBytes)?;
+    put_dropped(text, core)
+}

@@ -1,0 +1,120 @@
+//! Which datagrams ask a router for all that it knows, and who asks.
+
+ghost use Rattle.std.specs.Prelude.{◌≡◌, ◌↔◌, IsTrue, IfNone, IfSome};
+ghost use Rattle.ipx_router.specs.Classify.{concern_of, concern_on_network, is_from_neighbour};
+ghost use Rattle.ipx_router.specs.Replying.{asks_all};
+ghost use Rattle.ipx_site.specs.QueryLimiter.{AsksAllRoutes, AsksAllServices, AsksAt, AsksForAll, IsGeneralQuery};
+
+use ipx_control::{RipBody, RipEntries, SapBody, read_rip, read_sap};
+use ipx_router::Port;
+use ipx_wire::{IpxHeader, Network, Node, Socket, decode, packet_type};
+
+/// Who asks: a node, at a port of this number, of which the first is 0.
+#[derive(Clone, Copy, Debug, PartialEq, Eq)]
+pub struct Querier {
+    pub port: usize,
+    pub node: Node,
+}
+
+/// Whether one of the networks asked for is every network.
+fn names_all(asked: RipEntries<'_>) -> bool
+    ensures { result ≡ asks_all asked.entry }
+{
+    for entry in asked {
+        if entry.network == Network::ALL {
+            return true;
+        }
+    }
+    false
+}
+
+/// Whether a body asks for all routes.
+fn asks_all_routes(body: &[u8]) -> bool
+    ensures { IsTrue result ↔ AsksAllRoutes body.now }
+{
+    match read_rip(body) {
+        Ok(RipBody::Request(asked)) => names_all(asked),
+        Ok(RipBody::Response(_)) => false,
+        Err(_) => false,
+    }
+}
+
+/// Whether a body asks for all services, or for all of a kind.
+fn asks_all_services(body: &[u8]) -> bool
+    ensures { IsTrue result ↔ AsksAllServices body.now }
+{
+    match read_sap(body) {
+        Ok(SapBody::Query { nearest, .. }) => !nearest,
+        Ok(SapBody::Response { .. }) => false,
+        Err(_) => false,
+    }
+}
+
+/// Whether a packet is for the router with this port, and from a neighbour there.
+fn comes_from_neighbour(at: Port, header: &IpxHeader) -> bool
+    ensures { result ≡ is_from_neighbour at header.now }
+{
+    let for_us = header.to.node == at.node || header.to.node == Node::BROADCAST;
+    let from_here = header.from.network == Network::LOCAL || header.from.network == at.network;
+    for_us && from_here && header.from.node != at.node
+}
+
+/// Whether a packet for the network at hand asks its router for all.
+fn asks_on_network(at: Port, header: &IpxHeader, body: &[u8]) -> bool
+    ensures { IsTrue result ↔ AsksForAll (concern_on_network at header.now) body.now }
+{
+    if !comes_from_neighbour(at, header) {
+        return false;
+    }
+    if header.to.socket == Socket::RIP {
+        return asks_all_routes(body);
+    }
+    if header.to.socket == Socket::SAP {
+        return asks_all_services(body);
+    }
+    false
+}
+
+/// Whether a packet that came to a port asks its router for all.
+fn asks_for_all(at: Port, header: &IpxHeader, body: &[u8]) -> bool
+    ensures { IsTrue result ↔ AsksForAll (concern_of at header.now) body.now }
+{
+    if header.kind == packet_type::NETBIOS_PROPAGATION {
+        return false;
+    }
+    if header.to.network == Network::LOCAL || header.to.network == at.network {
+        return asks_on_network(at, header, body);
+    }
+    false
+}
+
+/// Who asks for all at a port of this number.
+fn querier_at(at: Port, port: usize, bytes: &[u8]) -> Option<Querier>
+    ensures asked { IfSome result (AsksAt at port bytes.now) }
+    ensures none { IfNone result ((who : Querier) → AsksAt at port bytes.now who → ⊥) }
+{
+    let Ok(packet) = decode(bytes) else {
+        return None;
+    };
+    if !asks_for_all(at, &packet.header, packet.body) {
+        return None;
+    }
+    Some(Querier {
+        port,
+        node: packet.header.from.node,
+    })
+}
+
+/// Who asks a router with these ports for all that it knows, where bytes that came to its port of a
+/// number do: by a RIP request with an entry for network FFFFFFFF, or by a SAP query that is not
+/// for the nearest.
+pub fn general_query_from(ports: &[Port], port: usize, bytes: &[u8]) -> Option<Querier>
+    ensures asked { IfSome result (IsGeneralQuery ports.now port bytes.now) }
+    ensures none { IfNone result
+        ((who : Querier) → IsGeneralQuery ports.now port bytes.now who → ⊥) }
+{
+    match ports.get(port) {
+        Some(at) => querier_at(*at, port, bytes),
+        None => None,
+    }
+}

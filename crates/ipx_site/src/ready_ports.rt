@@ -1,0 +1,46 @@
+//! The marks of a router's ports, of all kinds: where something may wait.
+
+ghost use Rattle.std.specs.Prelude.{◌≡◌, slice_set, true};
+ghost use Rattle.ipx_carrier.specs.ReadySet.{AreMarked, is_any_marked};
+ghost use Rattle.ipx_site.specs.SiteMarks.{DifferInMarks, marks_in, numbers_come};
+
+use crate::poller::Poller;
+use crate::router_ports::UdpRouterPorts;
+
+/// Whether something may wait at a port.
+pub fn is_any_marked(ports: &UdpRouterPorts) -> bool
+    ensures { result ≡ is_any_marked (marks_in ports.now) }
+{
+    ports.datagrams.device.device.marks().is_any_marked()
+        || ports.ethernet.sockets().marks().is_any_marked()
+        || ports.servers.sockets().marks().is_any_marked()
+}
+
+/// Something came to the port whose descriptor has this place among those of all: of the ports of
+/// RFC 1234, then of those on wires, and then of those for clients.
+fn mark_port(ports: &mut UdpRouterPorts, number: usize)
+    ensures marks { marks_in ports.new ≡ slice_set (marks_in ports.old) number true }
+    ensures rest { DifferInMarks ports.old ports.new }
+{
+    let datagrams = ports.datagrams.device.device.marks().ports();
+    let Some(behind) = number.checked_sub(datagrams) else {
+        ports.datagrams.device.device.mark(number);
+        return;
+    };
+    let ethernet = ports.ethernet.sockets().marks().ports();
+    match behind.checked_sub(ethernet) {
+        Some(last) => ports.servers.mark(last),
+        None => ports.ethernet.mark(behind),
+    }
+}
+
+/// Marks the ports at which something came at the last wait.
+#[tactic(auto, using(crate::proofs::MarksApart::same_marks, crate::proofs::MarksApart::marks_on))]
+pub fn mark_ready(ports: &mut UdpRouterPorts, ready: &Poller)
+    ensures marks { AreMarked (numbers_come ready.now) (marks_in ports.old) (marks_in ports.new) }
+    ensures rest { DifferInMarks ports.old ports.new }
+{
+    for event in ready.events() {
+        mark_port(ports, event.token().0);
+    }
+}

@@ -1,0 +1,168 @@
+//! What a router knows of the networks and services of others, and what it knew before.
+
+ghost use Rattle.std.specs.Prelude.{◌≡◌, length};
+
+use crate::escaped::Escaped;
+use ipx_router::Router;
+use ipx_tables::{Metric, Offers, RouteMetric, ServiceKey, ServiceMetric, Source};
+use ipx_wire::{Network, OutOfMemory};
+use log::{Log, info};
+use std::alloc::Global;
+
+/// The most lines of networks, and of services, that are written at once; the others are counted.
+const MAX_LINES: usize = 64;
+
+/// The networks and services that were known when one looked last.
+#[derive(Drop)]
+pub struct RouteChangeLog {
+    networks: Vec<Network>,
+    services: Vec<ServiceKey>,
+}
+
+/// A key of a table, a network or a service, of which it is told that it is known or lost.
+trait Told: Ord + Copy {
+    /// What a neighbour offers by it.
+    type Offered: Metric + Copy;
+
+    /// What several of them are called.
+    const MANY: &'static str;
+
+    /// Tells that it is known, by this source.
+    fn tell_known<R: Log>(&self, rt: &R, source: Source, offered: Self::Offered);
+
+    fn tell_lost<R: Log>(&self, rt: &R);
+}
+
+impl Told for Network {
+    type Offered = RouteMetric;
+
+    const MANY: &'static str = "networks";
+
+    fn tell_known<R: Log>(&self, rt: &R, source: Source, offered: RouteMetric) {
+        let network = *self;
+        let port = source.port;
+        let node = source.neighbour;
+        let hops = offered.hops;
+        let ticks = offered.ticks;
+        info!(rt; target: "ipx",
+            "network {network} known by port {port} node {node} hops {hops} ticks {ticks}");
+    }
+
+    fn tell_lost<R: Log>(&self, rt: &R) {
+        let network = *self;
+        info!(rt; target: "ipx", "network {network} lost");
+    }
+}
+
+impl Told for ServiceKey {
+    type Offered = ServiceMetric;
+
+    const MANY: &'static str = "services";
+
+    fn tell_known<R: Log>(&self, rt: &R, source: Source, offered: ServiceMetric) {
+        let kind = self.kind;
+        let name = Escaped(&self.name);
+        let at = offered.at;
+        let port = source.port;
+        let hops = offered.hops;
+        info!(rt; target: "ipx",
+            "service {kind:04x} {name} at {at} known by port {port} hops {hops}");
+    }
+
+    fn tell_lost<R: Log>(&self, rt: &R) {
+        let kind = self.kind;
+        let name = Escaped(&self.name);
+        info!(rt; target: "ipx", "service {kind:04x} {name} lost");
+    }
+}
+
+/// Says that there were more lines than are written at once.
+fn tell_rest<R: Log>(rt: &R, many: &str, what: &str, count: usize) {
+    if count > MAX_LINES {
+        let rest = count - MAX_LINES;
+        info!(rt; target: "ipx", "{rest} more {many} {what}");
+    }
+}
+
+/// Tells those that were not known before.
+fn tell_new<R: Log, K: Told>(rt: &R, known: &[K], held: &[(K, Source, K::Offered)]) {
+    let mut count: usize = 0;
+    for item in held {
+        if known.binary_search(&item.0).is_err() {
+            if count < MAX_LINES {
+                item.0.tell_known(rt, item.1, item.2);
+            }
+            count = count.saturating_add(1);
+        }
+    }
+    tell_rest(rt, K::MANY, "known", count);
+}
+
+/// Tells those that are known no more.
+fn tell_gone<R: Log, K: Told>(rt: &R, known: &[K], held: &[(K, Source, K::Offered)]) {
+    let mut count: usize = 0;
+    for key in known {
+        if held.binary_search_by(|item| item.0.cmp(key)).is_err() {
+            if count < MAX_LINES {
+                key.tell_lost(rt);
+            }
+            count = count.saturating_add(1);
+        }
+    }
+    tell_rest(rt, K::MANY, "lost", count);
+}
+
+/// The keys that a table offers now. Those that are new and those that are gone are told.
+fn look_at<R: Log, K: Told>(
+    rt: &R,
+    alloc: Global,
+    known: &[K],
+    table: &Offers<K, K::Offered>,
+    now: u64,
+) -> Result<Vec<K>, OutOfMemory> {
+    let Ok(held) = table.list(alloc, now) else {
+        return Err(OutOfMemory);
+    };
+    let keys = held.iter().map(|item| item.0).collect::<Vec<K>>(alloc)?;
+    tell_new(rt, known, &held);
+    tell_gone(rt, known, &held);
+    Ok(keys)
+}
+
+impl RouteChangeLog {
+    /// Nothing is known yet.
+    pub fn new(alloc: Global) -> RouteChangeLog {
+        RouteChangeLog {
+            networks: Vec::new(alloc),
+            services: Vec::new(alloc),
+        }
+    }
+
+    /// How many networks of others were known when one looked last.
+    pub fn networks(&self) -> usize
+        ensures { result ≡ length self.now.networks.items }
+    {
+        self.networks.len()
+    }
+
+    /// How many services were known then.
+    pub fn services(&self) -> usize
+        ensures { result ≡ length self.now.services.items }
+    {
+        self.services.len()
+    }
+
+    /// Looks what a router knows now, and tells a line for each network and service that is new or
+    /// lost since one looked last.
+    pub fn look<R: Log>(
+        &mut self,
+        rt: &R,
+        alloc: Global,
+        router: &Router,
+        now: u64,
+    ) -> Result<(), OutOfMemory> {
+        self.networks = look_at(rt, alloc, &self.networks, router.routes(), now)?;
+        self.services = look_at(rt, alloc, &self.services, router.services(), now)?;
+        Ok(())
+    }
+}

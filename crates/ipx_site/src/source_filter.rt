@@ -1,0 +1,370 @@
+//! A device that hears its peers alone, and sends to them alone.
+
+ghost use Rattle.std.specs.Prelude.{◌≡◌, ◌<◌, ◌≤◌, ◌+◌, ◌^◌, [], ◌∷◌, ℕ, true, false, Ok, Option, Some, OnErr, OnOk, IfOk, IfSome, is_err, length, map, replicate, slice_get, if◌then◌else◌};
+ghost use Rattle.ipx_wire.specs.Ipx.{packet_view};
+ghost use Rattle.ipx_carrier.specs.Device.{Passes, received_in};
+ghost use Rattle.ipx_carrier.specs.Counting.{raised};
+ghost use Rattle.ipx_carrier.specs.RunFaultNumbers.{device_failures};
+ghost use Rattle.ipx_carrier.specs.Waits.{LeavesPort};
+ghost use Rattle.ipx_site.specs.PortFilterDrops.{CountsUnknownSenderAt, kept_changed_at, nothing_at_port, one_refused};
+ghost use Rattle.ipx_site.specs.SourceFilter.{IsVerdictOn, TakesIn, is_listed, is_peer, kept_in, may_go, may_originate, none_kept, nothing_kept, one_more};
+ghost use Rattle.ipx_site.specs.SitePorts.{access_by};
+
+use crate::port_filter_drops::{PortFilterDrops, count_refused, count_unknown_sender};
+use crate::source_check::{source_matches_sender, is_response, is_unrouted};
+use crate::sameness::is_same_ip;
+use crate::last_sender::Senders;
+use crate::sockets::UdpSockets;
+use ipx_carrier::{Datagrams, DeviceFault, CountsFiltered, saturating_increment};
+use ipx_wire::{Network, Packet, decode};
+
+/// The ports at which it is counted what is kept back: as many as a router has at most.
+const COUNTED: usize = 16;
+
+/// Whom a port sends to, who is heard there, and what each may say: lists of IP addresses, of which
+/// None stands for everybody.
+#[derive(Drop)]
+pub struct AccessList {
+    /// The network of the port.
+    pub network: Network,
+    /// Whom it sends to.
+    pub sends: Option<Vec<[u8; 4]>>,
+    /// Who is heard.
+    pub hears: Option<Vec<[u8; 4]>>,
+    /// Who of them is a router, and so may pass on what others sent, and tell routes and services.
+    pub routers: Option<Vec<[u8; 4]>>,
+}
+
+/// What a guard says of a datagram that came.
+#[derive(Clone, Copy, Debug, PartialEq, Eq)]
+pub enum Verdict {
+    Heard,
+    /// It came from nobody who is heard.
+    UnknownSender,
+    /// It speaks for another node than the one that sent it.
+    SpoofedSource,
+    /// It was passed on, or tells of routes or services, and none of the routers sent it.
+    NotARouter,
+}
+
+/// The datagrams that were kept back for one cause: how many, and who sent the last of them.
+#[derive(Clone, Copy, Debug, PartialEq, Eq)]
+pub struct DropCount {
+    /// It stays at the greatest u64.
+    pub count: u64,
+    /// None where there was none yet, or where it came from no address of four bytes.
+    pub last: Option<[u8; 4]>,
+}
+
+/// The datagrams that were kept back, by their causes.
+#[derive(Clone, Copy, Debug, PartialEq, Eq)]
+pub struct FilterDrops {
+    /// Those that came from nobody who is heard.
+    pub unknown_senders: DropCount,
+    /// Those that spoke for another node than the one that sent them.
+    pub spoofed: DropCount,
+    /// Those that were passed on, or told, by one that is no router.
+    pub not_a_router: DropCount,
+}
+
+impl DropCount {
+    pub fn none() -> DropCount
+        ensures { result ≡ none_kept }
+    {
+        DropCount {
+            count: 0,
+            last: None,
+        }
+    }
+
+    pub fn saturating_increment(&mut self, from: Option<[u8; 4]>)
+        ensures counted { self.new ≡ one_more self.old from }
+        ensures grows { self.old.count ≤ self.new.count }
+    {
+        saturating_increment(&mut self.count);
+        self.last = from;
+    }
+}
+
+impl FilterDrops {
+    /// How many there were for all causes.
+    pub fn total(&self) -> u128
+        ensures total { result ≡ kept_in self.now }
+        ensures few { result < 2 ^ 66 }
+    {
+        let unknown_senders = u128::from(self.unknown_senders.count);
+        let spoofed = u128::from(self.spoofed.count);
+        let not_a_router = u128::from(self.not_a_router.count);
+        unknown_senders + spoofed + not_a_router
+    }
+}
+
+/// Whether an IP address is one of these.
+fn is_peer(peers: &[[u8; 4]], ip: [u8; 4]) -> bool
+    ensures { result ≡ is_peer peers.now ip }
+{
+    peers.iter().any(|peer| is_same_ip(*peer, ip))
+}
+
+/// Whether an IP address is among those that are named, where some are.
+fn is_listed(ips: &Option<Vec<[u8; 4]>>, ip: Option<[u8; 4]>) -> bool
+    ensures { result ≡ is_listed ips.now ip }
+{
+    match (ips, ip) {
+        (None, _) => true,
+        (Some(ips), Some(ip)) => is_peer(ips, ip),
+        (Some(_), None) => false,
+    }
+}
+
+/// Whether it is a sender's to send a packet: a router passes on and tells, others do neither.
+fn may_originate(access_list: &AccessList, from: Option<[u8; 4]>, packet: &Packet<'_>) -> bool
+    ensures { result ≡ may_originate access_list.now.network access_list.now.routers from (packet_view packet.now) }
+{
+    is_listed(&access_list.routers, from)
+        || (is_unrouted(access_list.network, &packet.header) && !is_response(packet))
+}
+
+/// What a guard says of these bytes, which came from there.
+fn verdict_on(access_list: &AccessList, from: Option<[u8; 4]>, bytes: &[u8]) -> Verdict
+    ensures { IsVerdictOn (Some access_list.now) from bytes.now result }
+{
+    if !is_listed(&access_list.hears, from) {
+        return Verdict::UnknownSender;
+    }
+    let Ok(packet) = decode(bytes) else {
+        return Verdict::Heard;
+    };
+    if !source_matches_sender(access_list.network, from, &packet.header) {
+        return Verdict::SpoofedSource;
+    }
+    if may_originate(access_list, from, &packet) {
+        Verdict::Heard
+    } else {
+        Verdict::NotARouter
+    }
+}
+
+/// A device over another one, which asks the guard of a port of all that comes and goes there. It
+/// counts what it keeps back, at the first 16 ports by port too. A port without a guard hears and
+/// sends nothing.
+pub struct SourceFilter<D: Senders + Drop> {
+    pub(crate) device: D,
+    access_lists: Vec<AccessList>,
+    kept: FilterDrops,
+    refused: u64,
+    port_counters: [PortFilterDrops; COUNTED],
+}
+
+impl<D: Senders + Drop> Drop for SourceFilter<D> {
+    fn drop(self) {
+        let SourceFilter {
+            device: _,
+            access_lists: _,
+            kept: _,
+            refused: _,
+            port_counters: _,
+        } = self;
+    }
+}
+
+impl<D: Senders + Drop> SourceFilter<D> {
+    /// A device over this one, with the guards of its ports in their order.
+    pub fn new(device: D, access_lists: Vec<AccessList>) -> SourceFilter<D>
+        ensures device { result.device ≡ device }
+        ensures access_lists { result.access_lists.items ≡ access_lists.items }
+        ensures none { (result.kept ≡ nothing_kept) × (result.refused ≡ 0) }
+        ensures none_by_port { result.port_counters ≡ replicate 16 nothing_at_port }
+    {
+        SourceFilter {
+            device,
+            access_lists,
+            kept: FilterDrops {
+                unknown_senders: DropCount::none(),
+                spoofed: DropCount::none(),
+                not_a_router: DropCount::none(),
+            },
+            refused: 0,
+            port_counters: [PortFilterDrops::nothing(); COUNTED],
+        }
+    }
+
+    /// The device below, to be asked between two runs.
+    pub fn device(&self) -> &D
+        ensures { result.now ≡ self.now.device }
+    {
+        &self.device
+    }
+
+    /// The datagrams that came and were not heard.
+    pub fn kept(&self) -> FilterDrops
+        ensures { result ≡ self.now.kept }
+    {
+        self.kept
+    }
+
+    /// The datagrams that were not sent, since their port does not send there.
+    pub fn refused(&self) -> u64
+        ensures { result ≡ self.now.refused }
+    {
+        self.refused
+    }
+
+    /// Strangers and what was not sent, by port: of the first 16 ports.
+    pub fn port_counters(&self) -> &[PortFilterDrops]
+        ensures { result.now ≡ self.now.port_counters }
+    {
+        &self.port_counters
+    }
+
+    /// What is said of these bytes, which came to a port last.
+    fn word(&self, port: usize, bytes: &[u8]) -> Verdict
+        ensures { IsVerdictOn (slice_get self.now.access_lists.items port)
+            (D.last_sender self.now.device) bytes.now result }
+    {
+        match self.access_lists.get(port) {
+            Some(access_list) => verdict_on(access_list, self.device.sender(), bytes),
+            None => Verdict::UnknownSender,
+        }
+    }
+
+    /// Whether a datagram may go there by a port.
+    fn may_go(&self, port: usize, to: [u8; 4]) -> bool
+        ensures { result ≡ may_go (slice_get self.now.access_lists.items port) to }
+    {
+        match self.access_lists.get(port) {
+            Some(access_list) => is_listed(&access_list.sends, Some(to)),
+            None => false,
+        }
+    }
+}
+
+impl SourceFilter<UdpSockets> {
+    /// Something may have come to any port, as `UdpSockets::mark_all` says.
+    pub fn mark_all(&mut self)
+        ensures { self.new ≡ record self.old {
+          device = record self.old.device {
+            marks = replicate (length self.old.device.marks) true;
+          };
+        } }
+    {
+        self.device.mark_all();
+    }
+}
+
+impl<D: Senders + Drop> Datagrams for SourceFilter<D> {
+    ghost use Rattle.std.specs.Prelude.{None};
+
+    ghost port_count = { λ p. D.port_count p.device };
+
+    ghost failed = { λ p. D.failed p.device };
+
+    // What it lets down is told by the device below.
+    ghost traffic = { λ p. None };
+
+    // What is kept back leaves its port below and isn't handed up, so it can't tell what will be.
+    ghost waiting = { λ p. None };
+
+    // What may not go is no call of the device below.
+    ghost fails = { λ p failed q. Unit {0} };
+
+    // Its guards say who may speak, and those who may not are strangers.
+    ghost access = { λ p. map access_by p.access_lists.items };
+
+    ghost filtered = { λ p. kept_in p.kept };
+
+    fn ports(&self) -> usize {
+        self.device.ports()
+    }
+
+    fn failures(&self) -> u64 {
+        self.device.failures()
+    }
+
+    fn send(&mut self, port: usize, to: [u8; 4], bytes: &[u8]) -> Result<(), DeviceFault>
+        requires there { port < D.port_count self.old.device }
+        requires countable { D.failed self.old.device + 1 < 2 ^ 64 }
+        // What may go there is sent by the device below, as it says.
+        ensures sent { may_go (slice_get self.old.access_lists.items port) to ≡ true → OnOk result
+            (Passes (D.traffic self.old.device) (D.traffic self.new.device)
+            [] (record { port = port; to = to; bytes = bytes.now } ∷ [])) }
+        ensures faulty { OnErr result
+            (D.traffic self.new.device ≡ D.traffic self.old.device) }
+        ensures counted { may_go (slice_get self.old.access_lists.items port) to ≡ true
+            → self.new.refused ≡ self.old.refused }
+        // What may not is counted, and the device below is as it was.
+        ensures refused { may_go (slice_get self.old.access_lists.items port) to ≡ false →
+            (result ≡ Ok tt) × (self.new.device ≡ self.old.device)
+            × (self.new.refused ≡ raised self.old.refused) }
+        // At its port too.
+        ensures port_counters { self.new.port_counters ≡ (if may_go (slice_get self.old.access_lists.items port) to
+            then self.old.port_counters else kept_changed_at self.old.port_counters port one_refused) }
+        ensures kept { self.new.kept ≡ self.old.kept }
+        ensures waiting { D.waiting self.new.device ≡ D.waiting self.old.device }
+        ensures fails { may_go (slice_get self.old.access_lists.items port) to ≡ true
+            → D.fails self.old.device (is_err result) self.new.device }
+        ensures access_lists { self.new.access_lists ≡ self.old.access_lists }
+        ensures failures { D.failed self.new.device
+            ≡ device_failures result (D.failed self.old.device) }
+        ensures ports { D.port_count self.new.device ≡ D.port_count self.old.device }
+    {
+        if !self.may_go(port, to) {
+            saturating_increment(&mut self.refused);
+            count_refused(&mut self.port_counters, port);
+            return Ok(());
+        }
+        self.device.send(port, to, bytes)
+    }
+
+    fn receive(&mut self, port: usize, room: &mut [u8]) -> Result<Option<usize>, DeviceFault>
+        requires there { port < D.port_count self.old.device }
+        requires countable { D.failed self.old.device + 1 < 2 ^ 64 }
+        // Something or nothing came to the device below, and is handed up where it is heard.
+        ensures received { IfOk result (λ up. (came : Option ℕ)
+            × Passes (D.traffic self.old.device) (D.traffic self.new.device)
+            (record { port = port; bytes = received_in room.new came } ∷ []) []
+            × LeavesPort (length room.old) port (D.waiting self.old.device)
+            (received_in room.new came) (D.waiting self.new.device)
+            × TakesIn (slice_get self.old.access_lists.items port) (D.last_sender self.new.device)
+            room.new came up self.old.kept self.new.kept) }
+        ensures within { IfOk result (λ up. IfSome up (λ n. n ≤ length room.old)) }
+        ensures faulty { OnErr result ((D.traffic self.new.device ≡ D.traffic self.old.device)
+            × (D.waiting self.new.device ≡ D.waiting self.old.device)
+            × (self.new.kept ≡ self.old.kept)) }
+        ensures fails { D.fails self.old.device (is_err result) self.new.device }
+        // A stranger is counted at its port too.
+        ensures port_counters { CountsUnknownSenderAt port self.old.kept.unknown_senders.count
+            self.new.kept.unknown_senders.count self.old.port_counters self.new.port_counters }
+        ensures filtered { kept_in self.old.kept ≤ kept_in self.new.kept }
+        ensures refused { self.new.refused ≡ self.old.refused }
+        ensures access_lists { self.new.access_lists ≡ self.old.access_lists }
+        ensures failures { D.failed self.new.device
+            ≡ device_failures result (D.failed self.old.device) }
+        ensures ports { D.port_count self.new.device ≡ D.port_count self.old.device }
+    {
+        let Some(count) = self.device.receive(port, room)? else {
+            return Ok(None);
+        };
+        let from = self.device.sender();
+        match self.word(port, &room[..count]) {
+            Verdict::Heard => return Ok(Some(count)),
+            Verdict::UnknownSender => {
+                DropCount::saturating_increment(&mut self.kept.unknown_senders, from);
+                count_unknown_sender(&mut self.port_counters, port);
+            }
+            Verdict::SpoofedSource => self.kept.spoofed.saturating_increment(from),
+            Verdict::NotARouter => self.kept.not_a_router.saturating_increment(from),
+        }
+        Ok(None)
+    }
+}
+
+impl<D: Senders + Drop> CountsFiltered for SourceFilter<D> {
+    fn filtered(&self) -> u128
+        ensures total { result ≡ kept_in self.now.kept }
+        ensures few { result < 2 ^ 66 }
+    {
+        let kept = self.kept();
+        kept.total()
+    }
+}

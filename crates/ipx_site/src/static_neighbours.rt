@@ -1,0 +1,113 @@
+//! The silent neighbours that entries by hand are heard from.
+
+ghost use Rattle.std.specs.Prelude.{◌≡◌, ℕ, [], All, IfOk, OnOk};
+ghost use Rattle.std.specs.List.{AllZip, filter_map, list_any};
+ghost use Rattle.ipx_router.specs.Ports.{IsPortNumber};
+ghost use Rattle.ipx_site.specs.StaticLists.{is_one_source};
+ghost use Rattle.ipx_site.specs.StaticNeighbours.{AreSilent, IsSilent, named_sources, route_by, service_by, with_source};
+
+use crate::statics::{StaticEntry, is_one_source};
+use ipx_static::StaticNeighbour;
+use ipx_control::{RipEntry, ServiceEntry};
+use ipx_tables::Source;
+use std::alloc::{AllocError, Global};
+
+/// Whether a source is one of these.
+fn is_known(known: &[Source], by: Source) -> bool
+    ensures { result ≡ list_any (λ s. is_one_source s by) known.now }
+{
+    known.iter().any(|other| is_one_source(*other, by))
+}
+
+/// Names one more, unless it was.
+fn add_source(sources: &mut Vec<Source>, by: Source) -> Result<(), AllocError>
+    ensures { OnOk result (sources.new.items ≡ with_source sources.old.items by) }
+{
+    if is_known(sources, by) {
+        return Ok(());
+    }
+    sources.push(by)?;
+    Ok(())
+}
+
+/// From whom entries are heard, each once.
+fn sources_of(alloc: Global, entries: &[StaticEntry]) -> Result<Vec<Source>, AllocError>
+    ensures { IfOk result (λ v. v.items ≡ named_sources [] entries.now) }
+{
+    let mut sources = Vec::new(alloc);
+    for entry in entries {
+        add_source(&mut sources, entry.by)?;
+    }
+    Ok(sources)
+}
+
+/// The routes that a neighbour is to tell.
+fn routes_by(alloc: Global, entries: &[StaticEntry], by: Source) -> Result<Vec<RipEntry>, AllocError>
+    ensures { IfOk result (λ v. v.items ≡ filter_map (route_by by) entries.now) }
+{
+    entries
+        .iter()
+        .filter_map(|entry| entry.route_by(by))
+        .collect(alloc)
+}
+
+/// The services that it is to tell.
+fn services_by(
+    alloc: Global,
+    entries: &[StaticEntry],
+    by: Source,
+) -> Result<Vec<ServiceEntry>, AllocError>
+    ensures { IfOk result (λ v. v.items ≡ filter_map (service_by by) entries.now) }
+{
+    entries
+        .iter()
+        .filter_map(|entry| entry.service_by(by))
+        .collect(alloc)
+}
+
+/// A neighbour, and what it is to have said.
+fn silent_by(
+    alloc: Global,
+    entries: &[StaticEntry],
+    by: Source,
+) -> Result<StaticNeighbour, AllocError>
+    ensures { IfOk result (IsSilent entries.now by) }
+{
+    let routes = routes_by(alloc, entries, by)?;
+    let services = services_by(alloc, entries, by)?;
+    Ok(StaticNeighbour {
+        port: by.port,
+        node: by.neighbour,
+        routes,
+        services,
+    })
+}
+
+/// The neighbours of sources.
+fn silent_by_each(
+    alloc: Global,
+    entries: &[StaticEntry],
+    sources: &[Source],
+) -> Result<Vec<StaticNeighbour>, AllocError>
+    ensures { IfOk result (λ v. AllZip (IsSilent entries.now) sources.now v.items) }
+{
+    let mut silent = Vec::new(alloc);
+    for by in sources {
+        let neighbour = silent_by(alloc, entries, *by)?;
+        silent.push(neighbour)?;
+    }
+    Ok(silent)
+}
+
+/// The silent neighbours that entries by hand are heard from, each once, with all that it is to
+/// have said.
+pub fn silent_of(alloc: Global, entries: &[StaticEntry]) -> Result<Vec<StaticNeighbour>, AllocError>
+    ensures silent { IfOk result (λ v. AreSilent entries.now v.items) }
+    // They are at ports that are there, where the entries are.
+    ensures there { (count : ℕ) → All (λ e. IsPortNumber count e.by.port) entries.now
+        → IfOk result (λ v. All (λ n. IsPortNumber count n.port) v.items) }
+{
+    let sources = sources_of(alloc, entries)?;
+    let silent = silent_by_each(alloc, entries, &sources)?;
+    Ok(silent)
+}

@@ -1,0 +1,130 @@
+//! The tables of routes and services by hand.
+
+ghost use Rattle.std.specs.Prelude.{◌≡◌, ◌⊎◌, IfErr, IfOk};
+ghost use Rattle.toml.specs.View.{table_view};
+ghost use Rattle.ipx_site.specs.StaticTables.{IsEntryFault, IsEntryTable, IsOffered, IsOfferedFault, IsPath, IsPathFault, IsRouteFault, IsRouteTable, IsServiceFault, IsServiceTable};
+
+use crate::fault::ConfigError;
+use crate::fields::{count_in, refuse_unknown};
+use crate::statics::{StaticEntry, StaticKind, StaticItem};
+use crate::static_fields::{
+    far_network_in, next_hop_in, service_name_in, service_place_in, service_type_in,
+};
+use crate::key::Key;
+use crate::site::PortConfig;
+use ipx_control::{RipEntry, ServiceEntry};
+use std::alloc::Global;
+use toml::Table;
+
+/// The keys of a route, in the order in which their faults are told.
+const ROUTE_KEYS: [Key; 5] = [Key::Port, Key::Next, Key::Network, Key::Hops, Key::Ticks];
+
+/// Those of a service.
+const SERVICE_KEYS: [Key; 6] = [
+    Key::Port,
+    Key::Next,
+    Key::ServiceType,
+    Key::Name,
+    Key::At,
+    Key::Hops,
+];
+
+/// The most routers on the way to what is told by hand: the router itself is one more.
+const MAX_HOPS: u16 = 14;
+
+/// What a route says, which takes as long as it costs to send to the next node, if it says nothing.
+fn path_in(
+    table: &Table,
+    number: usize,
+    ports: &[PortConfig],
+    cost: u16,
+) -> Result<RipEntry, ConfigError>
+    ensures path { IfOk result (IsPath ports.now (table_view table.now) cost) }
+    ensures fault { IfErr result (λ f. (f ≡ ConfigError.OutOfMemory)
+        ⊎ IsPathFault ports.now (table_view table.now) number f) }
+{
+    let network = far_network_in(table, number, ports)?;
+    let hops = count_in(table, number, Key::Hops, MAX_HOPS, 1)?;
+    let ticks = count_in(table, number, Key::Ticks, 65535, cost)?;
+    Ok(RipEntry {
+        network,
+        hops,
+        ticks,
+    })
+}
+
+/// What a service says.
+fn offered_in(alloc: Global, table: &Table, number: usize) -> Result<ServiceEntry, ConfigError>
+    ensures offered { IfOk result (IsOffered (table_view table.now)) }
+    ensures fault { IfErr result (λ f. (f ≡ ConfigError.OutOfMemory)
+        ⊎ IsOfferedFault (table_view table.now) number f) }
+{
+    let kind = service_type_in(table, number)?;
+    let name = service_name_in(table, number)?;
+    let at = service_place_in(alloc, table, number)?;
+    let hops = count_in(table, number, Key::Hops, MAX_HOPS, 1)?;
+    Ok(ServiceEntry {
+        kind,
+        name,
+        at,
+        hops,
+    })
+}
+
+/// The route of a table with this number.
+fn route_in(
+    alloc: Global,
+    table: &Table,
+    number: usize,
+    ports: &[PortConfig],
+) -> Result<StaticEntry, ConfigError>
+    ensures entry { IfOk result (IsRouteTable ports.now (table_view table.now)) }
+    ensures fault { IfErr result (λ f. (f ≡ ConfigError.OutOfMemory)
+        ⊎ IsRouteFault ports.now (table_view table.now) number f) }
+{
+    refuse_unknown(alloc, table, number, &ROUTE_KEYS)?;
+    let near = next_hop_in(table, number, ports)?;
+    let route = path_in(table, number, ports, near.cost)?;
+    Ok(StaticEntry {
+        by: near.by,
+        word: StaticItem::Route(route),
+    })
+}
+
+/// The service of a table with this number.
+fn service_in(
+    alloc: Global,
+    table: &Table,
+    number: usize,
+    ports: &[PortConfig],
+) -> Result<StaticEntry, ConfigError>
+    ensures entry { IfOk result (IsServiceTable ports.now (table_view table.now)) }
+    ensures fault { IfErr result (λ f. (f ≡ ConfigError.OutOfMemory)
+        ⊎ IsServiceFault ports.now (table_view table.now) number f) }
+{
+    refuse_unknown(alloc, table, number, &SERVICE_KEYS)?;
+    let near = next_hop_in(table, number, ports)?;
+    let service = offered_in(alloc, table, number)?;
+    Ok(StaticEntry {
+        by: near.by,
+        word: StaticItem::Service(service),
+    })
+}
+
+/// The entry of a table of a kind, with this number.
+pub fn entry_in(
+    alloc: Global,
+    kind: StaticKind,
+    table: &Table,
+    number: usize,
+    ports: &[PortConfig],
+) -> Result<StaticEntry, ConfigError>
+    ensures entry { IfOk result (IsEntryTable kind ports.now (table_view table.now)) }
+    ensures fault { IfErr result (λ f. (f ≡ ConfigError.OutOfMemory)
+        ⊎ IsEntryFault kind ports.now (table_view table.now) number f) }
+{
+    match kind {
+        StaticKind::Route => route_in(alloc, table, number, ports),
+        StaticKind::Service => service_in(alloc, table, number, ports),
+    }
+}

@@ -1,0 +1,125 @@
+//! Routes and services by hand, as the file of a router has them.
+
+ghost use Rattle.std.specs.Prelude.{◌≡◌, ◌≤◌};
+ghost use Rattle.ipx_site.specs.StaticLists.{entry_key, first_table, is_one_source, is_same_word, says_again};
+ghost use Rattle.ipx_site.specs.StaticNeighbours.{route_by, route_in_word, service_by, service_in_word};
+
+use crate::key::Key;
+use ipx_control::{RipEntry, ServiceEntry};
+use ipx_tables::Source;
+
+/// The tables that say something by hand.
+#[derive(Clone, Copy, Debug, PartialEq, Eq)]
+pub enum StaticKind {
+    Route,
+    Service,
+}
+
+/// What a neighbour that says nothing itself is to say.
+#[derive(Clone, Copy, Debug, PartialEq, Eq)]
+pub enum StaticItem {
+    /// A network behind it.
+    Route(RipEntry),
+    /// A service of it, or behind it.
+    Service(ServiceEntry),
+}
+
+/// A route or a service by hand.
+#[derive(Clone, Copy, Debug, PartialEq, Eq)]
+pub struct StaticEntry {
+    /// The number of the port where it is heard, from 1 on, and the next node.
+    pub by: Source,
+    pub word: StaticItem,
+}
+
+impl StaticKind {
+    /// The key of its tables.
+    pub(crate) fn key(self) -> Key
+        ensures { result ≡ entry_key self }
+    {
+        match self {
+            StaticKind::Route => Key::Route,
+            StaticKind::Service => Key::Service,
+        }
+    }
+
+    /// The number of its first table, for the line of a fault: there are at most 16 ports, and 256
+    /// routes.
+    pub(crate) fn first_table(self) -> usize
+        ensures number { result ≡ first_table self }
+        ensures small { result ≤ 273 }
+    {
+        match self {
+            StaticKind::Route => 17,
+            StaticKind::Service => 273,
+        }
+    }
+}
+
+/// Whether two are one neighbour at one port.
+pub(crate) fn is_one_source(a: Source, b: Source) -> bool
+    ensures { result ≡ is_one_source a b }
+{
+    a.port == b.port && a.neighbour == b.neighbour
+}
+
+/// Whether two words speak of one network, or of one service by type and name.
+fn is_same_word(a: StaticItem, b: StaticItem) -> bool
+    ensures { result ≡ is_same_word a b }
+{
+    match (a, b) {
+        (StaticItem::Route(a), StaticItem::Route(b)) => a.network == b.network,
+        (StaticItem::Service(a), StaticItem::Service(b)) => a.kind == b.kind && a.name == b.name,
+        (StaticItem::Route(_), StaticItem::Service(_)) => false,
+        (StaticItem::Service(_), StaticItem::Route(_)) => false,
+    }
+}
+
+fn route_in_word(word: StaticItem) -> Option<RipEntry>
+    ensures { result ≡ route_in_word word }
+{
+    match word {
+        StaticItem::Route(route) => Some(route),
+        StaticItem::Service(_) => None,
+    }
+}
+
+fn service_in_word(word: StaticItem) -> Option<ServiceEntry>
+    ensures { result ≡ service_in_word word }
+{
+    match word {
+        StaticItem::Route(_) => None,
+        StaticItem::Service(service) => Some(service),
+    }
+}
+
+impl StaticEntry {
+    /// Whether another one says of the same neighbour what this one does.
+    pub(crate) fn says_again(&self, other: &StaticEntry) -> bool
+        ensures { result ≡ says_again self.now other.now }
+    {
+        is_one_source(self.by, other.by) && is_same_word(self.word, other.word)
+    }
+
+    /// The route that this neighbour is to tell, if it is one.
+    pub(crate) fn route_by(&self, by: Source) -> Option<RipEntry>
+        ensures { result ≡ route_by by self.now }
+    {
+        if is_one_source(self.by, by) {
+            route_in_word(self.word)
+        } else {
+            None
+        }
+    }
+
+    /// The service that it is to tell.
+    pub(crate) fn service_by(&self, by: Source) -> Option<ServiceEntry>
+        ensures { result ≡ service_by by self.now }
+    {
+        if is_one_source(self.by, by) {
+            service_in_word(self.word)
+        } else {
+            None
+        }
+    }
+}

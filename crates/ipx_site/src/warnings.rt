@@ -1,0 +1,163 @@
+//! The troubles that a person is told of, each at most once a minute.
+
+ghost use Rattle.std.specs.Prelude.{◌≡◌, ◌↔◌, ◌<◌, ◌^◌, ℕ, IsTrue, None, get_or, replicate};
+ghost use Rattle.ipx_site.specs.IdleTime.{IsLineDue, counts_of, counts_told, happened_in};
+ghost use Rattle.ipx_site.specs.Moments.{AreToldIfDue, IsDue, IsOneDue, IsReached, IsToldIfDue, untold};
+
+use crate::throttled_log::ThrottledLog;
+use crate::metrics::Metrics;
+use crate::moments::sooner;
+use crate::source_filter::DropCount;
+use log::{Log, warn};
+
+/// What goes wrong again and again: how often it did, who did it last, where that is known, and
+/// what its line says.
+#[derive(Clone, Copy, Debug, PartialEq, Eq)]
+pub struct Warning {
+    pub kept: DropCount,
+    pub what: &'static str,
+}
+
+impl Warning {
+    /// One that came from those whom a line names.
+    pub fn from(kept: DropCount, what: &'static str) -> Warning
+        ensures { result.kept ≡ kept }
+    {
+        Warning { kept, what }
+    }
+
+    /// One that nobody is named for.
+    pub fn of_nobody(count: u64, what: &'static str) -> Warning
+        ensures count { result.kept.count ≡ count }
+        ensures nobody { result.kept.last ≡ None }
+    {
+        let kept = DropCount { count, last: None };
+        Warning { kept, what }
+    }
+}
+
+/// How many causes a router has.
+const CAUSES: usize = 13;
+
+/// The place of that of other encapsulations.
+const ENCAPSULATIONS: usize = 12;
+
+/// When a router told its troubles, in the order of their lines.
+#[derive(Clone, Copy, Debug, PartialEq, Eq)]
+pub struct Warnings {
+    causes: [ThrottledLog; CAUSES],
+}
+
+fn tell<R: Log>(rt: &R, cause: &mut ThrottledLog, count: u64, now: u64, what: &str)
+    ensures { IsToldIfDue count now cause.old cause.new }
+{
+    if let Some(more) = cause.tell(count, now) {
+        warn!(rt; target: "ipx", "{more} {what} ({count} since the start)");
+    }
+}
+
+/// Logs how many of these there were since it was told last, if it is time, with who sent the last
+/// of them, where that is known.
+fn tell_kept<R: Log>(rt: &R, cause: &mut ThrottledLog, kept: DropCount, now: u64, what: &str)
+    ensures { IsToldIfDue kept.count now cause.old cause.new }
+{
+    let count = kept.count;
+    let Some(ip) = kept.last else {
+        tell(rt, cause, count, now, what);
+        return;
+    };
+    let [a, b, c, d] = ip;
+    if let Some(more) = cause.tell(count, now) {
+        warn!(rt; target: "ipx",
+            "{more} {what} ({count} since the start), the last from {a}.{b}.{c}.{d}");
+    }
+}
+
+/// Tells those troubles for which it is time, each by the cause at its place.
+pub fn tell_each<R: Log>(rt: &R, causes: &mut [ThrottledLog], warnings: &[Warning], now: u64)
+    ensures { AreToldIfDue (counts_of warnings.now) now causes.old causes.new }
+{
+    for (place, cause) in causes.iter_mut().enumerate() {
+        if let Some(warning) = warnings.get(place) {
+            tell_kept(rt, cause, warning.kept, now, warning.what);
+        }
+    }
+}
+
+/// How often the trouble at a place happened: 0 where there is none.
+fn count_at(warnings: &[Warning], place: usize) -> u64
+    ensures { result ≡ get_or (counts_of warnings.now) place 0 }
+{
+    match warnings.get(place) {
+        Some(warning) => warning.kept.count,
+        None => 0,
+    }
+}
+
+/// The moment from which on it is time to tell one of these; none where no clock can show it.
+fn next_of(causes: &[ThrottledLog], warnings: &[Warning]) -> Option<u64>
+    ensures { (t : ℕ) → t < 2 ^ 64
+        → IsReached result t ↔ IsOneDue causes.now (counts_of warnings.now) t }
+{
+    let mut first = None;
+    for (place, cause) in causes.iter().enumerate() {
+        first = sooner(first, cause.next(count_at(warnings, place)));
+    }
+    first
+}
+
+/// The troubles of a router.
+fn warnings_in(f: &Metrics) -> [Warning; CAUSES]
+    ensures { counts_of result ≡ counts_told (happened_in f.now) }
+{
+    [
+        Warning::from(f.kept.unknown_senders, "datagrams came from no peer"),
+        Warning::from(f.kept.spoofed, "datagrams spoke for another node"),
+        Warning::from(f.kept.not_a_router, "datagrams were no router's to send"),
+        Warning::from(f.rate_limited, "queries came too often"),
+        Warning::of_nobody(f.refused, "datagrams were to go to no peer"),
+        Warning::of_nobody(f.outcomes.table_full, "responses found a table full"),
+        Warning::of_nobody(f.queue_full, "packets found no room to wait"),
+        Warning::of_nobody(f.device_faults, "datagrams the system refused"),
+        Warning::of_nobody(f.memory_faults, "times memory was refused"),
+        Warning::of_nobody(f.file_faults, "times a file could not be written"),
+        Warning::of_nobody(f.frame_unknown_senders, "datagrams came from no end of a wire"),
+        Warning::of_nobody(f.unframed, "packets no frame could carry"),
+        Warning::of_nobody(f.other_encapsulation, "frames of another encapsulation"),
+    ]
+}
+
+impl Warnings {
+    /// None was told yet.
+    pub fn new() -> Warnings
+        ensures { result.causes ≡ replicate 13 untold }
+    {
+        Warnings {
+            causes: [ThrottledLog::new(); CAUSES],
+        }
+    }
+
+    /// Tells those for which it is time.
+    pub fn tell<R: Log>(&mut self, rt: &R, metrics: &Metrics, now: u64)
+        ensures { AreToldIfDue (counts_told (happened_in metrics.now)) now self.old.causes
+            self.new.causes }
+    {
+        tell_each(rt, &mut self.causes, &warnings_in(metrics), now);
+    }
+
+    /// Whether it is time to tell of frames of another encapsulation.
+    pub fn are_encapsulations_due(&self, metrics: &Metrics, now: u64) -> bool
+        ensures { IsTrue result ↔ IsDue (get_or self.now.causes 12 untold)
+            metrics.now.other_encapsulation now }
+    {
+        self.causes[ENCAPSULATIONS].is_due(metrics.other_encapsulation, now)
+    }
+
+    /// The moment from which on it is time to tell one; none where no clock can show that moment.
+    pub fn next(&self, metrics: &Metrics) -> Option<u64>
+        ensures { (t : ℕ) → t < 2 ^ 64
+            → IsReached result t ↔ IsLineDue self.now (happened_in metrics.now) t }
+    {
+        next_of(&self.causes, &warnings_in(metrics))
+    }
+}

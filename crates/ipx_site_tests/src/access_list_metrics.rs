@@ -1,0 +1,78 @@
+//! What the guards of ports by RFC 1234 kept back, as a text, where a router has ports of other
+//! kinds before and between them.
+
+use ipx_site::{PortFilterDrops, PortIndex, put_access_list_metrics};
+use std::alloc::{AllocError, Global};
+
+/// A wire, a port by RFC 1234, one for clients, another one by RFC 1234, and another wire.
+const PORT_INDICES: [PortIndex; 5] = [
+    PortIndex::Ethernet(0),
+    PortIndex::Datagrams(0),
+    PortIndex::IpxnetServer(0),
+    PortIndex::Datagrams(1),
+    PortIndex::Ethernet(1),
+];
+
+const KEPT: [PortFilterDrops; 2] = [
+    PortFilterDrops {
+        unknown_senders: 3,
+        refused: 5,
+    },
+    PortFilterDrops {
+        unknown_senders: 7,
+        refused: 11,
+    },
+];
+
+const TEXT: &str = "\
+# HELP ipx_port_strangers_total Datagrams that came from no peer, by the port that they came by.
+# TYPE ipx_port_strangers_total counter
+ipx_port_strangers_total{port=\"2\"} 3
+ipx_port_strangers_total{port=\"4\"} 7
+# HELP ipx_port_refused_total Datagrams that were to go to no peer, by the port that \
+was to send them.
+# TYPE ipx_port_refused_total counter
+ipx_port_refused_total{port=\"2\"} 5
+ipx_port_refused_total{port=\"4\"} 11
+";
+
+#[test]
+fn metrics_of_access_lists_in_text(rt: HostRuntime) -> Result<(), AllocError> {
+    let mut text = String::new(rt.alloc());
+    put_access_list_metrics(&mut text, rt.alloc(), &PORT_INDICES, &KEPT)?;
+    assert_eq!(rt; text.as_str(), TEXT);
+    Ok(())
+}
+
+#[test]
+fn no_metrics_without_access_lists(rt: HostRuntime) -> Result<(), AllocError> {
+    let mut text = String::new(rt.alloc());
+    put_access_list_metrics(&mut text, rt.alloc(), &[PortIndex::Ethernet(0), PortIndex::IpxnetServer(0)], &[])?;
+    assert_eq!(rt; text.as_str(), "");
+    Ok(())
+}
+
+/// What stands before the figures of guards.
+const BEFORE: &str = "ipx_seconds 7\n";
+
+/// That text, made once more where memory was refused.
+fn text_before(alloc: Global) -> Result<String, AllocError> {
+    match String::from_str(alloc, BEFORE) {
+        Ok(text) => Ok(text),
+        Err(_) => String::from_str(alloc, BEFORE),
+    }
+}
+
+/// The figures stand whole behind the text, or that is as it was and memory is wanted.
+#[test]
+fn refused_metrics_of_access_lists(rt: HostRuntime) -> Result<(), AllocError> {
+    let alloc = rt.alloc();
+    let mut text = text_before(alloc)?;
+    if put_access_list_metrics(&mut text, alloc, &PORT_INDICES, &KEPT).is_err() {
+        assert_eq!(rt; text.as_str(), BEFORE);
+        put_access_list_metrics(&mut text, alloc, &PORT_INDICES, &KEPT)?;
+    }
+    assert!(rt; text.as_str().starts_with(BEFORE));
+    assert_eq!(rt; &text.as_str()[BEFORE.len()..], TEXT);
+    Ok(())
+}

@@ -1,0 +1,275 @@
+//! The figures of a port for clients by cause: what is sent through a router, and which one it raises.
+
+use ipx_carrier::{RouterCore, SteppedClock, run_batch};
+use ipx_ipxnet_ports::{Servers, MemoryPlaces};
+use ipxnet_server::{IpxnetServer, ServerCounts, ServerPort, Place};
+use ipx_router::{Port, Router};
+use ipx_site::put_drops;
+use ipx_wire::{Network, Node};
+use std::alloc::Global;
+use std::test::Fail;
+
+const PORT: ServerPort = ServerPort {
+    network: Network(0xd05b),
+    own: Node([2, 0, 0, 0, 0xd0, 0x5b]),
+};
+
+/// What `ipxnet connect` sends.
+const REGISTRATION: [u8; 30] = [
+    0xff, 0xff, 0, 0x1e, 0, 0, 0, 0, 0, 0, 0, 0, 0, 0, 0, 0, 0, 2, 0, 0, 0, 0, 0, 0, 0, 0, 0, 0, 0,
+    2,
+];
+
+/// The places of the two players who have registered, of who has not, and of a joined router.
+const FIRST: Place = Place {
+    ip: [198, 51, 100, 7],
+    udp_port: 48199,
+};
+
+const SECOND: Place = Place {
+    ip: [198, 51, 100, 7],
+    udp_port: 48200,
+};
+
+const UNKNOWN_SENDER: Place = Place {
+    ip: [203, 0, 113, 9],
+    udp_port: 48199,
+};
+
+const SOUTH: Place = Place {
+    ip: [192, 0, 2, 20],
+    udp_port: 2130,
+};
+
+/// The place whose node is the router's.
+const OWN: Place = Place {
+    ip: [2, 0, 0, 0],
+    udp_port: 0xd05b,
+};
+
+const FIRST_NODE: Node = Node([198, 51, 100, 7, 0xbc, 0x47]);
+
+const SECOND_NODE: Node = Node([198, 51, 100, 7, 0xbc, 0x48]);
+
+const UNKNOWN_SENDER_NODE: Node = Node([203, 0, 113, 9, 0xbc, 0x47]);
+
+const NOBODY: Node = Node([0, 0, 0, 0, 0, 1]);
+
+/// All causes, in the order of the figures.
+const REASONS: [&str; 15] = [
+    "malformed",
+    "node_taken",
+    "too_many_new",
+    "full",
+    "unregistered",
+    "other_source",
+    "too_long",
+    "no_such_node",
+    "to_itself",
+    "ping_elsewhere",
+    "broadcast_elsewhere",
+    "from_elsewhere",
+    "response",
+    "not_behind",
+    "for_elsewhere",
+];
+
+/// What is sent behind the registrations of the players.
+#[derive(Clone, Copy)]
+enum Sent {
+    /// Three bytes that are no packet.
+    Three,
+    /// A registration.
+    Registration,
+    /// The same behind those of eight more players, who have other places.
+    AfterTen,
+    /// A packet to a node of a network, to a socket, from a node of a network; its body begins with 0002.
+    Packet((u32, Node, u16), (u32, Node)),
+    /// The same in 1,425 bytes, to all nodes.
+    Long(Node),
+}
+
+/// A cause: how many clients there may be, whether the lobby is joined to a router, from where it is sent,
+/// and what.
+#[derive(Clone, Copy)]
+struct Row {
+    reason: &'static str,
+    most: usize,
+    joined: bool,
+    from: Place,
+    sent: Sent,
+}
+
+/// A row in which what the first player sends is a packet.
+fn of_first(reason: &'static str, to: (u32, Node, u16), from: (u32, Node)) -> Row {
+    Row {
+        reason,
+        most: 64,
+        joined: false,
+        from: FIRST,
+        sent: Sent::Packet(to, from),
+    }
+}
+
+/// A row with something else, in a lobby with room.
+fn of_place(reason: &'static str, joined: bool, from: Place, sent: Sent) -> Row {
+    Row {
+        reason,
+        most: 64,
+        joined,
+        from,
+        sent,
+    }
+}
+
+fn rows() -> [Row; 15] {
+    [
+        of_place("malformed", false, FIRST, Sent::Three),
+        of_place("node_taken", false, OWN, Sent::Registration),
+        of_place("too_many_new", false, UNKNOWN_SENDER, Sent::AfterTen),
+        Row {
+            reason: "full",
+            most: 2,
+            joined: false,
+            from: UNKNOWN_SENDER,
+            sent: Sent::Registration,
+        },
+        of_place(
+            "unregistered",
+            false,
+            UNKNOWN_SENDER,
+            Sent::Packet((0, SECOND_NODE, 0x4001), (0, UNKNOWN_SENDER_NODE)),
+        ),
+        of_first("other_source", (0, SECOND_NODE, 0x4001), (0, SECOND_NODE)),
+        of_place("too_long", false, FIRST, Sent::Long(FIRST_NODE)),
+        of_first("no_such_node", (0, NOBODY, 0x4001), (0, FIRST_NODE)),
+        of_first("to_itself", (0, FIRST_NODE, 0x4001), (0, FIRST_NODE)),
+        of_first("ping_elsewhere", (0x99, NOBODY, 2), (0, FIRST_NODE)),
+        of_first(
+            "broadcast_elsewhere",
+            (0x99, Node::BROADCAST, 0x4001),
+            (0, FIRST_NODE),
+        ),
+        of_first("from_elsewhere", (0, PORT.own, 0x4001), (0x77, FIRST_NODE)),
+        of_first("response", (0, PORT.own, 0x453), (0, FIRST_NODE)),
+        of_place(
+            "not_behind",
+            true,
+            SOUTH,
+            Sent::Packet((0, SECOND_NODE, 0x4001), (0, FIRST_NODE)),
+        ),
+        of_place(
+            "for_elsewhere",
+            true,
+            SOUTH,
+            Sent::Packet((0x99, SECOND_NODE, 0x4001), (0, NOBODY)),
+        ),
+    ]
+}
+
+/// A packet of so many bytes.
+fn packet(size: u16, to: (u32, Node, u16), from: (u32, Node)) -> [u8; 1425] {
+    let mut bytes = [0; 1425];
+    bytes[..2].copy_from_slice(&[0xff, 0xff]);
+    bytes[2..4].copy_from_slice(&size.to_be_bytes());
+    bytes[6..10].copy_from_slice(&to.0.to_be_bytes());
+    bytes[10..16].copy_from_slice(&to.1.0);
+    bytes[16..18].copy_from_slice(&to.2.to_be_bytes());
+    bytes[18..22].copy_from_slice(&from.0.to_be_bytes());
+    bytes[22..28].copy_from_slice(&from.1.0);
+    bytes[28..30].copy_from_slice(&[0x40, 1]);
+    bytes[31] = 2;
+    bytes
+}
+
+/// Puts what is sent.
+fn put(sockets: &mut MemoryPlaces, from: Place, sent: Sent) -> Result<(), Fail> {
+    match sent {
+        Sent::Three => sockets.put(0, from, b"abc")?,
+        Sent::Registration => sockets.put(0, from, &REGISTRATION)?,
+        Sent::AfterTen => {
+            for udp_port in 1..9_u16 {
+                let place = Place { udp_port, ..SECOND };
+                sockets.put(0, place, &REGISTRATION)?;
+            }
+            sockets.put(0, from, &REGISTRATION)?;
+        }
+        Sent::Packet(to, source) => sockets.put(0, from, &packet(34, to, source)[..34])?,
+        Sent::Long(node) => {
+            let bytes = packet(1425, (0, Node::BROADCAST, 0x4001), (0, node));
+            sockets.put(0, from, &bytes)?;
+        }
+    }
+    Ok(())
+}
+
+/// A router with the port.
+fn core(alloc: Global) -> Result<RouterCore, Fail> {
+    let mut ports = Vec::new(alloc);
+    ports.push(Port {
+        network: PORT.network,
+        node: PORT.own,
+        cost: 1,
+    })?;
+    Ok(RouterCore::new(alloc, Router::new(alloc, ports)?))
+}
+
+/// The lobby of a row.
+fn server(alloc: Global, most: usize, joined: bool) -> Result<IpxnetServer, Fail> {
+    let mut routers = Vec::new(alloc);
+    if joined {
+        routers.push(SOUTH)?;
+    }
+    Ok(IpxnetServer::joined_to(alloc, PORT, most, routers)?)
+}
+
+/// The figures of a port with number 2 behind a row.
+fn metrics(alloc: Global, row: Row) -> Result<String, Fail> {
+    let mut sockets = MemoryPlaces::new(alloc, 1);
+    for place in [FIRST, SECOND] {
+        sockets.put(0, place, &REGISTRATION)?;
+    }
+    put(&mut sockets, row.from, row.sent)?;
+    let mut all = Vec::new(alloc);
+    all.push(server(alloc, row.most, row.joined)?)?;
+    let mut servers = Servers::new(sockets, all);
+    let mut core = core(alloc)?;
+    run_batch(
+        alloc,
+        &mut core,
+        &mut servers,
+        &mut SteppedClock::new(0, 1),
+        50,
+    );
+    let mut text = String::new(alloc);
+    put_drops(&mut text, 2, servers.servers()[0].counts())?;
+    Ok(text)
+}
+
+/// Each cause raises its own figure by one, and no other.
+#[test]
+fn metrics_by_cause(rt: HostRuntime) -> Result<(), Fail> {
+    let alloc = rt.alloc();
+    for row in rows() {
+        let text = metrics(alloc, row)?;
+        let mut wanted = String::new(alloc);
+        for reason in REASONS {
+            let count = u8::from(reason == row.reason);
+            let line = format!(in alloc;
+                "ipx_lobby_dropped_total{{port=\"2\",reason=\"{reason}\"}} {count}\n"
+            )?;
+            wanted.push_str(&line)?;
+        }
+        assert_eq!(rt; text.as_str(), wanted.as_str());
+    }
+    Ok(())
+}
+
+/// The text is whole, or memory is wanted.
+#[test]
+fn refused_drops(rt: HostRuntime) {
+    let mut text = String::new(rt.alloc());
+    if put_drops(&mut text, 1, ServerCounts::new()).is_ok() {
+        assert!(rt; text.as_str().ends_with("reason=\"for_elsewhere\"} 0\n"));
+    }
+}

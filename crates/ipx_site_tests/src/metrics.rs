@@ -1,0 +1,98 @@
+//! The text of figures, in the text form of Prometheus.
+
+use ipx_carrier::OutcomeCounters;
+use ipx_site::{Metrics, DropCount, FilterDrops};
+use std::alloc::AllocError;
+
+/// Figures of a router, each another number.
+pub const METRICS: Metrics = Metrics {
+    heard: 1,
+    sent: 2,
+    outcomes: OutcomeCounters {
+        forwarded: 3,
+        answered: 4,
+        heard: 5,
+        bad: 6,
+        propagated: 7,
+        not_ours: 8,
+        no_route: 9,
+        hop_limit: 10,
+        bad_control: 11,
+        table_full: 12,
+    },
+    queue_full: 13,
+    unmapped: 14,
+    kept: FilterDrops {
+        unknown_senders: DropCount {
+            count: 15,
+            last: None,
+        },
+        spoofed: DropCount {
+            count: 23,
+            last: None,
+        },
+        not_a_router: DropCount {
+            count: 24,
+            last: None,
+        },
+    },
+    rate_limited: DropCount {
+        count: 25,
+        last: None,
+    },
+    refused: 16,
+    frame_unknown_senders: 26,
+    unframed: 27,
+    other_encapsulation: 28,
+    device_faults: 17,
+    memory_faults: 18,
+    file_faults: 19,
+    queue: 29,
+    routes: 20,
+    services: 21,
+    seconds: 22,
+};
+
+/// Lines that stand in it.
+const LINES: [&str; 26] = [
+    "ipx_heard_total 1\n",
+    "ipx_sent_total 2\n",
+    "ipx_fates_total{fate=\"forwarded\"} 3\n",
+    "ipx_fates_total{fate=\"answered\"} 4\n",
+    "ipx_fates_total{fate=\"heard\"} 5\n",
+    "ipx_dropped_total{reason=\"bad\"} 6\n",
+    "ipx_dropped_total{reason=\"propagated\"} 7\n",
+    "ipx_dropped_total{reason=\"not_ours\"} 8\n",
+    "ipx_dropped_total{reason=\"no_route\"} 9\n",
+    "ipx_dropped_total{reason=\"hop_limit\"} 10\n",
+    "ipx_dropped_total{reason=\"bad_control\"} 11\n",
+    "ipx_dropped_total{reason=\"table_full\"} 12\n",
+    "ipx_dropped_total{reason=\"queue_full\"} 13\n",
+    "ipx_dropped_total{reason=\"unmapped\"} 14\n",
+    "ipx_strangers_total 15\n",
+    "ipx_kept_back_total{reason=\"forged\"} 23\n",
+    "ipx_kept_back_total{reason=\"no_router\"} 24\n",
+    "ipx_kept_back_total{reason=\"too_often\"} 25\n",
+    "ipx_refused_total 16\n",
+    "ipx_faults_total{of=\"device\"} 17\n",
+    "ipx_faults_total{of=\"memory\"} 18\n",
+    "ipx_faults_total{of=\"status_file\"} 19\n",
+    "ipx_queue 29\n",
+    "ipx_routes 20\n",
+    "ipx_services 21\n",
+    "ipx_seconds 22\n",
+];
+
+const START: &str = "\
+# HELP ipx_heard_total Datagrams that were heard.
+# TYPE ipx_heard_total counter
+ipx_heard_total 1
+";
+
+#[test]
+fn metrics_in_text(rt: HostRuntime) -> Result<(), AllocError> {
+    let text = METRICS.text(rt.alloc())?;
+    assert!(rt; text.as_str().starts_with(START));
+    assert!(rt; LINES.iter().all(|line| text.as_str().contains(*line)));
+    Ok(())
+}

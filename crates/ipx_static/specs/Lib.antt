@@ -1,0 +1,4 @@
+pub mod StaticAdvertisements
+pub mod WithStatics
+pub mod StaticOffers
+pub mod StaticRuns

@@ -1,0 +1,139 @@
+-- A router that hears by hand, over a run of calls.
+-- The entry points are `StaticRoutesHold` and `StaticServicesHold`, and `StaticsAreCountedApart` of a router
+-- that counts.
+use Rattle.std.specs.Prelude.{◌≡◌, ◌<◌, ◌≤◌, ◌+◌, ◌^◌, ℕ, Bool, false, true, List, [], ◌∷◌, All, Contains, Option, Some}
+use Rattle.ipx_wire.specs.declared.address.Network.{Network}
+use Rattle.ipx_wire.specs.Ipx.{IsIpx, PacketView}
+use Rattle.ipx_control.specs.declared.rip.packet.RipEntry.{RipEntry}
+use Rattle.ipx_control.specs.declared.sap.packet.ServiceEntry.{ServiceEntry}
+use Rattle.ipx_control.specs.Rip.{IsRip}
+use Rattle.ipx_control.specs.Rip as rip
+use Rattle.ipx_control.specs.Sap.{IsSap}
+use Rattle.ipx_control.specs.Sap as sap
+use Rattle.ipx_tables.specs.declared.service.ServiceKey.{ServiceKey}
+use Rattle.ipx_tables.specs.Content.{is_young}
+use Rattle.ipx_router.specs.Hearing.{is_heard, route_metric, service_metric}
+use Rattle.ipx_router.specs.Knowledge.{routes_in, services_in}
+use Rattle.ipx_router.specs.Telling.{is_due}
+use Rattle.ipx_router.specs.Told.{key_of_service, route_key}
+use Rattle.ipx_carrier.specs.RouterCore.{CoreView, RouterGives, RouterHears}
+use Rattle.ipx_carrier.specs.Turns.{Given}
+use Rattle.ipx_metrics.specs.MeteredRouter.{CountedView, CountsAsItGives, CountsHeard, without_counts}
+use Rattle.ipx_static.specs.declared.neighbour.StaticNeighbour.{StaticNeighbour}
+use Rattle.ipx_static.specs.WithStatics.{WithStaticsView, GivesWithStatics, HearsUnder}
+use Rattle.ipx_static.specs.StaticOffers.{IsAnotherNode, SaysNoOther, static_source}
+use Rattle.ipx_static.specs.StaticAdvertisements.{AreWordsOf}
+
+-- bytes come in on a port; or it is asked for a packet, and gives one or none; or it is to ask its
+-- neighbours once more
+pub data StaticCall : Type 0 where
+  Comes : (port : ℕ) → (bytes : List ℕ) → StaticCall
+  Asked : (given : Option Given) → StaticCall
+  AsksOnceMore : StaticCall
+
+pub record StaticCallAt : Type 0 where
+  pub moment : ℕ
+  pub call : StaticCall
+
+-- what a call does, and what calls do, one after another
+abbrev pub DoesStaticCall : ℕ → StaticCall → WithStaticsView CoreView → WithStaticsView CoreView → Type 0
+DoesStaticCall now (Comes port bytes) old new = HearsUnder RouterHears old port bytes now new
+DoesStaticCall now (Asked given) old new = GivesWithStatics RouterHears RouterGives old now given new
+DoesStaticCall now AsksOnceMore old new = new ≡ record old { core = record old.core { started = false } }
+
+abbrev pub DoStaticCalls : List StaticCallAt → WithStaticsView CoreView → WithStaticsView CoreView → Type 0
+DoStaticCalls [] old new = new ≡ old
+DoStaticCalls (c ∷ cs) old new = (mid : WithStaticsView CoreView)
+    × DoesStaticCall c.moment c.call old mid × DoStaticCalls cs mid new
+
+-- when it was asked last, by these calls
+abbrev pub asked_by : ℕ → StaticCall → ℕ → ℕ
+asked_by now (Comes port bytes) asked = asked
+asked_by now (Asked given) asked = now
+asked_by now AsksOnceMore asked = asked
+
+abbrev pub asked_in : List StaticCallAt → ℕ → ℕ
+asked_in [] asked = asked
+asked_in (c ∷ cs) asked = asked_in cs (asked_by c.moment c.call asked)
+
+-- each call comes within a minute of the last question, and what comes in is such
+abbrev pub ComesAs : (ℕ → List ℕ → Type 0) → StaticCall → Type 0
+ComesAs IsSuch (Comes port bytes) = IsSuch port bytes
+ComesAs IsSuch (Asked given) = Unit {0}
+ComesAs IsSuch AsksOnceMore = Unit {0}
+
+abbrev pub IsAskedEachMinute : (ℕ → List ℕ → Type 0) → List StaticCallAt → ℕ → Type 0
+IsAskedEachMinute IsSuch [] asked = Unit {0}
+IsAskedEachMinute IsSuch (c ∷ cs) asked = (c.moment ≤ asked + 60000) × ComesAs IsSuch c.call
+    × IsAskedEachMinute IsSuch cs (asked_by c.moment c.call asked)
+
+-- bytes are a RIP response of the neighbour itself that names a network, or a SAP response of it that
+-- names a service
+abbrev pub TellsItself : StaticNeighbour → Network → ℕ → List ℕ → Type 0
+TellsItself n network port bytes = (port + 1 ≡ n.port) × (p : PacketView) × (tail : List ℕ)
+    × IsIpx p bytes tail × (p.header.from.node ≡ n.node) × (entries : List RipEntry)
+    × (rest : List ℕ) × IsRip (rip.Response entries) p.body rest
+    × (x : RipEntry) × Contains entries x × (x.network ≡ network)
+
+abbrev pub OffersItself : StaticNeighbour → ServiceKey → ℕ → List ℕ → Type 0
+OffersItself n key port bytes = (port + 1 ≡ n.port) × (p : PacketView) × (tail : List ℕ)
+    × IsIpx p bytes tail × (p.header.from.node ≡ n.node) × (nearest : Bool)
+    × (entries : List ServiceEntry) × (rest : List ℕ)
+    × IsSap (sap.Response nearest entries) p.body rest
+    × (x : ServiceEntry) × Contains entries x × (key_of_service x ≡ key)
+
+-- a run that begins with a question at which words are due, and never finds a table full
+pub record RunsWithStatics (ns : List StaticNeighbour) (start : ℕ) (calls : List StaticCallAt)
+    (old new : WithStaticsView CoreView) : Type 0 where
+  pub advertisements : AreWordsOf ns old.advertisements
+  pub others : All (IsAnotherNode old.core.router.ports) ns
+  pub due : is_due old.said start ≡ true
+  pub given : Option Given
+  pub first : WithStaticsView CoreView
+  pub begins : DoesStaticCall start (Asked given) old first
+  pub goes_on : DoStaticCalls calls first new
+  pub room : new.core.outcomes.table_full ≡ old.core.outcomes.table_full
+  pub countable : old.core.outcomes.table_full + 1 < 2 ^ 64
+
+-- where it is asked each minute, and the neighbour tells nothing itself of a network that stands in its
+-- routes, and nothing else is said there of it by hand, that route is an offer of the neighbour that
+-- counts, up to a minute after the last question
+abbrev pub StaticRoutesHold : Type 0
+StaticRoutesHold = (ns : List StaticNeighbour) (start : ℕ) (calls : List StaticCallAt)
+    (old new : WithStaticsView CoreView) → RunsWithStatics ns start calls old new
+    → (n : StaticNeighbour) → Contains ns n → (e : RipEntry) → Contains n.routes.items e
+    → ((m : StaticNeighbour) → Contains ns m → static_source m ≡ static_source n
+    → SaysNoOther route_key route_metric m.routes.items e)
+    → is_heard old.core.router.ports e ≡ true → e.hops < 16
+    → IsAskedEachMinute (λ port bytes. TellsItself n e.network port bytes → ⊥) calls start
+    → (now : ℕ) → now ≤ asked_in calls start + 60000 → (heard : ℕ)
+    × (routes_in new.core.router.routes (e.network, static_source n) ≡ Some (route_metric e, heard))
+    × (is_young now heard ≡ true)
+
+-- and so is each of its services
+abbrev pub StaticServicesHold : Type 0
+StaticServicesHold = (ns : List StaticNeighbour) (start : ℕ) (calls : List StaticCallAt)
+    (old new : WithStaticsView CoreView) → RunsWithStatics ns start calls old new
+    → (n : StaticNeighbour) → Contains ns n → (e : ServiceEntry) → Contains n.services.items e
+    → ((m : StaticNeighbour) → Contains ns m → static_source m ≡ static_source n
+    → SaysNoOther key_of_service service_metric m.services.items e)
+    → e.hops < 16
+    → IsAskedEachMinute (λ port bytes. OffersItself n (key_of_service e) port bytes → ⊥) calls start
+    → (now : ℕ) → now ≤ asked_in calls start + 60000 → (heard : ℕ)
+    × (services_in new.core.router.services (key_of_service e, static_source n)
+    ≡ Some (service_metric e, heard)) × (is_young now heard ≡ true)
+
+-- a router that counts, without its counts
+abbrev pub uncounted : WithStaticsView CountedView → WithStaticsView CoreView
+uncounted s = record { core = without_counts s.core; advertisements = s.advertisements; said = s.said }
+
+-- what a call does to it
+abbrev pub DoesCountedCall : ℕ → StaticCall → WithStaticsView CountedView → WithStaticsView CountedView → Type 0
+DoesCountedCall now (Comes port bytes) old new = HearsUnder CountsHeard old port bytes now new
+DoesCountedCall now (Asked given) old new = GivesWithStatics CountsHeard CountsAsItGives old now given new
+DoesCountedCall now AsksOnceMore old new = new ≡ record old { core = record old.core { started = false } }
+
+-- that is what the call does to it without its counts: so all of the above is true of it too
+abbrev pub StaticsAreCountedApart : Type 0
+StaticsAreCountedApart = (now : ℕ) (call : StaticCall) (old new : WithStaticsView CountedView)
+    → DoesCountedCall now call old new → DoesStaticCall now call (uncounted old) (uncounted new)

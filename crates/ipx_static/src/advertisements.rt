@@ -1,0 +1,182 @@
+//! The packets that say what silent neighbours are to have said.
+
+ghost use Rattle.std.specs.Prelude.{◌≡◌, ◌≤◌, ℕ, List, [], false, length, All, OnOk, IfOk};
+ghost use Rattle.ipx_wire.specs.Assigned.{rip_socket, sap_socket};
+ghost use Rattle.ipx_wire.specs.Ipx.{IsBytes, IsIpx};
+ghost use Rattle.ipx_control.specs.Rip.{Response as routes_response};
+ghost use Rattle.ipx_control.specs.Sap.{Response as services_response};
+ghost use Rattle.ipx_router.specs.Adding.{AddsPackets};
+ghost use Rattle.ipx_router.specs.Ports.{AreOnPorts, IsPortNumber};
+ghost use Rattle.ipx_router.specs.RouterPackets.{AreBytesOf, AreRoutePackets, AreServicePackets, IsRipPacket, IsSapPacket, own_header, sending_of, sendings};
+ghost use Rattle.ipx_static.specs.StaticAdvertisements.{AreWords, AreWordsOf, heard_on};
+
+use crate::neighbour::StaticNeighbour;
+use ipx_control::{
+    RIP_MAX_ENTRIES, RipEntry, SAP_MAX_SERVICES, ServiceEntry, encode_routes_into,
+    encode_services_into,
+};
+use ipx_router::Reply;
+use ipx_wire::{
+    Address, IpxHeader, Network, Node, OutOfMemory, Packet, Socket, encode_into, packet_type,
+};
+use std::alloc::Global;
+
+/// Who speaks: a node, which is heard on the port of a number.
+#[derive(Clone, Copy)]
+struct Speaker {
+    port: u8,
+    node: Node,
+}
+
+/// Bytes are numbers under 256.
+fn are_bytes(bytes: &[u8])
+    ensures { IsBytes bytes.now }
+{
+    let _ = bytes;
+}
+
+fn encoded(alloc: Global, header: IpxHeader, body: &[u8]) -> Result<Vec<u8>, OutOfMemory>
+    requires { length body.now ≤ 1470 }
+    ensures { IfOk result (λ v. IsIpx (record { header = header; body = body.now }) v.items []) }
+{
+    let mut bytes = vec![in alloc; 0; 30 + body.len()]?;
+    encode_into(&Packet { header, body }, &mut bytes);
+    Ok(bytes)
+}
+
+/// The bytes of a packet.
+fn packet_bytes(alloc: Global, header: IpxHeader, body: &[u8]) -> Result<Vec<u8>, OutOfMemory>
+    requires { length body.now ≤ 1470 }
+    ensures { IfOk result (λ v. AreBytesOf (record { header = header; body = body.now }) v.items) }
+{
+    let bytes = encoded(alloc, header, body)?;
+    are_bytes(&bytes);
+    Ok(bytes)
+}
+
+fn header_from(from: Speaker, kind: u8, socket: Socket) -> IpxHeader
+    ensures { result ≡ own_header (heard_on from.port from.node socket.0) kind socket.0 }
+{
+    let network = Network::LOCAL;
+    IpxHeader {
+        hops: 0,
+        kind,
+        to: Address {
+            network,
+            node: Node::BROADCAST,
+            socket,
+        },
+        from: Address {
+            network,
+            node: from.node,
+            socket,
+        },
+    }
+}
+
+/// A RIP response of these routes.
+fn routes_word(alloc: Global, from: Speaker, routes: &[RipEntry]) -> Result<Reply, OutOfMemory>
+    requires { length routes.now ≤ 50 }
+    ensures { IfOk result (λ r. IsRipPacket (heard_on from.port from.node rip_socket)
+        (routes_response routes.now) (sending_of r)) }
+{
+    let mut body = [0u8; 402];
+    let count = encode_routes_into(routes, &mut body);
+    let header = header_from(from, packet_type::RIP, Socket::RIP);
+    let bytes = packet_bytes(alloc, header, &body[..count])?;
+    Ok(Reply {
+        port: from.port,
+        next: Node::BROADCAST,
+        bytes,
+    })
+}
+
+/// A SAP response of these services.
+fn services_word(
+    alloc: Global,
+    from: Speaker,
+    services: &[ServiceEntry],
+) -> Result<Reply, OutOfMemory>
+    requires { length services.now ≤ 7 }
+    ensures { IfOk result (λ r. IsSapPacket (heard_on from.port from.node sap_socket)
+        (services_response false services.now) (sending_of r)) }
+{
+    let mut body = [0u8; 450];
+    let count = encode_services_into(false, services, &mut body);
+    let header = header_from(from, packet_type::PACKET_EXCHANGE, Socket::SAP);
+    let bytes = packet_bytes(alloc, header, &body[..count])?;
+    Ok(Reply {
+        port: from.port,
+        next: Node::BROADCAST,
+        bytes,
+    })
+}
+
+/// Adds the responses of a list of routes.
+fn add_route_words(
+    alloc: Global,
+    advertisements: &mut Vec<Reply>,
+    from: Speaker,
+    routes: &[RipEntry],
+) -> Result<(), OutOfMemory>
+    ensures { OnOk result (AddsPackets
+        (AreRoutePackets (heard_on from.port from.node rip_socket) routes.now)
+        advertisements.old.items advertisements.new.items) }
+{
+    let mut rest = routes;
+    while !rest.is_empty() {
+        let (part, later) = rest.split_at(rest.len().min(RIP_MAX_ENTRIES));
+        advertisements.push(routes_word(alloc, from, part)?)?;
+        rest = later;
+    }
+    Ok(())
+}
+
+/// Adds the responses of a list of services.
+fn add_service_words(
+    alloc: Global,
+    advertisements: &mut Vec<Reply>,
+    from: Speaker,
+    services: &[ServiceEntry],
+) -> Result<(), OutOfMemory>
+    ensures { OnOk result (AddsPackets
+        (AreServicePackets (heard_on from.port from.node sap_socket) false services.now)
+        advertisements.old.items advertisements.new.items) }
+{
+    let mut rest = services;
+    while !rest.is_empty() {
+        let (part, later) = rest.split_at(rest.len().min(SAP_MAX_SERVICES));
+        advertisements.push(services_word(alloc, from, part)?)?;
+        rest = later;
+    }
+    Ok(())
+}
+
+/// Adds the words of a neighbour.
+fn add_words(
+    alloc: Global,
+    advertisements: &mut Vec<Reply>,
+    neighbour: &StaticNeighbour,
+) -> Result<(), OutOfMemory>
+    ensures { OnOk result (AddsPackets (AreWords neighbour.now) advertisements.old.items advertisements.new.items) }
+{
+    let from = Speaker {
+        port: neighbour.port,
+        node: neighbour.node,
+    };
+    add_route_words(alloc, advertisements, from, &neighbour.routes)?;
+    add_service_words(alloc, advertisements, from, &neighbour.services)
+}
+
+/// The words of all neighbours, one after another.
+pub fn words_of(alloc: Global, neighbours: &[StaticNeighbour]) -> Result<Vec<Reply>, OutOfMemory>
+    ensures advertisements { IfOk result (λ v. AreWordsOf neighbours.now (sendings v.items)) }
+    ensures there { (count : ℕ) → All (λ n. IsPortNumber count n.port) neighbours.now
+        → IfOk result (λ v. AreOnPorts count (sendings v.items)) }
+{
+    let mut advertisements = Vec::new(alloc);
+    for neighbour in neighbours {
+        add_words(alloc, &mut advertisements, neighbour)?;
+    }
+    Ok(advertisements)
+}

@@ -1,0 +1,55 @@
+//! How a core hears the words.
+
+ghost use Rattle.std.specs.Prelude.{◌≡◌, OnOk, OnErr};
+ghost use Rattle.ipx_router.specs.Ports.{AreOnPorts};
+ghost use Rattle.ipx_router.specs.RouterPackets.{sendings};
+ghost use Rattle.ipx_router.specs.Telling.{IsNextTelling, is_due};
+ghost use Rattle.ipx_static.specs.WithStatics.{HearsWords, MissesAWord};
+
+use ipx_carrier::Core;
+use ipx_router::Reply;
+use ipx_wire::OutOfMemory;
+use std::alloc::Global;
+
+/// After how many milliseconds the words are said again.
+const PERIOD: u64 = 60_000;
+
+/// Whether it is time: at first, and when a minute has passed since the last time.
+pub fn is_time(said: Option<u64>, now: u64) -> bool
+    ensures { result ≡ is_due said now }
+{
+    match said {
+        None => true,
+        Some(last) => now.saturating_sub(last) >= PERIOD,
+    }
+}
+
+/// The moment from which on it is time.
+pub fn next_time(said: Option<u64>) -> Option<u64>
+    ensures { IsNextTelling said result }
+{
+    match said {
+        None => Some(0),
+        Some(last) => last.checked_add(PERIOD),
+    }
+}
+
+/// The core hears the words, in order. At the first that it misses it stops.
+pub fn hear_words<C: Core>(
+    alloc: Global,
+    core: &mut C,
+    advertisements: &[Reply],
+    now: u64,
+) -> Result<(), OutOfMemory>
+    requires { AreOnPorts (C.port_count core.old) (sendings advertisements.now) }
+    ensures heard { OnOk result
+        (HearsWords C.hears now (sendings advertisements.now) core.old core.new) }
+    ensures refused { OnErr result
+        (MissesAWord C.hears C.hear_out_of_memory now (sendings advertisements.now) core.old core.new) }
+    ensures ports { C.port_count core.new ≡ C.port_count core.old }
+{
+    for word in advertisements {
+        core.hear(alloc, word.port as usize - 1, &word.bytes, now)?;
+    }
+    Ok(())
+}

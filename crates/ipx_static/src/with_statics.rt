@@ -1,0 +1,139 @@
+//! A core that hears what silent neighbours are to have said.
+
+ghost use Rattle.std.specs.Prelude.{◌≡◌, None, All, IfOk, OnOk, OnErr};
+ghost use Rattle.ipx_router.specs.Ports.{IsPortNumber};
+ghost use Rattle.ipx_router.specs.Telling.{IsNextTelling};
+ghost use Rattle.ipx_static.specs.WithStatics.{HearsIfDue, MissesIfDue};
+ghost use Rattle.ipx_static.specs.StaticAdvertisements.{AreWordsOf};
+
+use crate::restart_discovery::RestartDiscovery;
+use crate::hearing::{hear_words, is_time, next_time};
+use crate::neighbour::StaticNeighbour;
+use crate::advertisements::words_of;
+use ipx_carrier::Core;
+use ipx_router::Reply;
+use ipx_wire::{Node, OutOfMemory};
+use std::alloc::Global;
+use std::marker::Model;
+
+/// A core over another one, which hears what silent neighbours are to have said as it is asked for
+/// a packet first, and then when a minute has passed since the last time. After want of memory it
+/// hears them again a minute later. All else is the core's below.
+#[derive(Drop)]
+pub struct WithStatics<C: Core + Drop> {
+    core: C,
+    advertisements: Vec<Reply>,
+    said: Option<u64>,
+}
+
+impl<C: Core + Drop> Model for WithStatics<C> {
+    ghost use Rattle.ipx_router.specs.Ports.{AreOnPorts};
+    ghost use Rattle.ipx_router.specs.RouterPackets.{sendings};
+    ghost use Rattle.ipx_static.specs.WithStatics.{WithStaticsView};
+
+    ghost Value = { WithStaticsView C };
+
+    ghost view = { λ s. record { core = s.core; advertisements = sendings s.advertisements.items; said = s.said } };
+
+    ghost invariant = { λ s. AreOnPorts (C.port_count s.core) (sendings s.advertisements.items) };
+}
+
+impl<C: Core + Drop> WithStatics<C> {
+    /// A core over this one, which has heard nothing by hand yet. The caller owes ports that are
+    /// there, of numbers from 1 on.
+    pub fn new(
+        alloc: Global,
+        core: C,
+        neighbours: &[StaticNeighbour],
+    ) -> Result<WithStatics<C>, OutOfMemory>
+        requires { All (λ n. IsPortNumber (C.port_count core) n.port) neighbours.now }
+        ensures core { IfOk result (λ s. s.core ≡ core) }
+        ensures advertisements { IfOk result (λ s. AreWordsOf neighbours.now s.advertisements) }
+        ensures unsaid { IfOk result (λ s. s.said ≡ None) }
+    {
+        let advertisements = words_of(alloc, neighbours)?;
+        Ok(WithStatics {
+            core,
+            advertisements,
+            said: None,
+        })
+    }
+
+    /// The core below, to be asked between two runs.
+    pub fn core(&self) -> &C
+        ensures { result.now ≡ self.now.core }
+    {
+        &self.core
+    }
+
+    /// The moment, in milliseconds, from which on the core below hears the words as it is asked for
+    /// a packet. None where no clock can show that moment.
+    ///
+    /// Whoever waits for datagrams wakes by then, and asks.
+    pub fn next_refresh(&self) -> Option<u64>
+        ensures { IsNextTelling self.now.said result }
+    {
+        next_time(self.said)
+    }
+
+    /// Lets the core below hear the words, if it is time.
+    fn refresh(&mut self, alloc: Global, now: u64) -> Result<(), OutOfMemory>
+        ensures heard { OnOk result (HearsIfDue C.hears self.old now self.new) }
+        ensures refused { OnErr result (MissesIfDue C.hears C.hear_out_of_memory self.old now self.new) }
+        ensures ports { C.port_count self.new.core ≡ C.port_count self.old.core }
+    {
+        if !is_time(self.said, now) {
+            return Ok(());
+        }
+        self.said = Some(now);
+        hear_words(alloc, &mut self.core, &self.advertisements, now)
+    }
+}
+
+impl<C: RestartDiscovery + Drop> RestartDiscovery for WithStatics<C> {
+    ghost use Rattle.ipx_static.specs.WithStatics.{asking_under};
+
+    ghost asking_again = { asking_under C.asking_again };
+
+    fn restart_discovery(&mut self) {
+        self.core.restart_discovery();
+    }
+}
+
+impl<C: Core + Drop> Core for WithStatics<C> {
+    ghost use Rattle.ipx_static.specs.WithStatics.{GivesWithStatics, HearsUnder, MissesUnder, WithholdsWithStatics};
+
+    ghost port_count = { λ s. C.port_count s.core };
+
+    ghost hears = { HearsUnder C.hears };
+
+    ghost gives = { GivesWithStatics C.hears C.gives };
+
+    ghost hear_out_of_memory = { MissesUnder C.hear_out_of_memory };
+
+    ghost next_out_of_memory = { WithholdsWithStatics C.hears C.hear_out_of_memory C.next_out_of_memory };
+
+    fn ports(&self) -> usize {
+        self.core.ports()
+    }
+
+    fn hear(
+        &mut self,
+        alloc: Global,
+        port: usize,
+        bytes: &[u8],
+        now: u64,
+    ) -> Result<(), OutOfMemory> {
+        self.core.hear(alloc, port, bytes, now)
+    }
+
+    fn next(
+        &mut self,
+        alloc: Global,
+        now: u64,
+        room: &mut [u8],
+    ) -> Result<Option<(usize, Node, usize)>, OutOfMemory> {
+        self.refresh(alloc, now)?;
+        self.core.next(alloc, now, room)
+    }
+}

@@ -1,0 +1,19 @@
+use Rattle.std.proofs.Common.{◌∙◌, ap, map}
+use Rattle.ipx_table_dump.specs.TableRead.{parts_view, words_in}
+use Rattle.ipx_table_dump.specs.TableParts.{port_network_in, own_spelled}
+use Rattle.ipx_table_dump.proofs.ReadLines.{passed_more, pushed_more}
+use Rattle.ipx_table_dump.proofs.direct_networks.own_networks_in_lines.Goals.{in-Some+in_ok-push-in-Some, in-None}
+use Rattle.ipx_table_dump.proofs.direct_networks.own_networks_in_lines.Goals as goal
+
+pub loop-line-preserved : goal.loop-line-preserved
+loop-line-preserved c =
+    let told = c.port_network_in.ensures ∙ ap (λ w. port_network_in (parts_view w)) c.deref.ensures.value ∙ ap port_network_in c.in_ok-words.ensures in
+    let i = c.loop-line.line-index in
+    elim c.match-port_network_in.branch [
+      | in-Some+in_ok-push-in-Some w ↦
+          ap (λ v. map own_spelled v.items) w.networks-is
+          ∙ pushed_more (λ line. port_network_in (words_in line)) c.args.lines.now i _ c.loop-line-test.true own_spelled c.loop-line.networks.items c.port_network_in.result c.loop-line.invariant told w.push.new.self.items w.in-Some.network w.in-Some.is w.in_ok-push-in-Some.ensures.items
+      | in-None w ↦
+          ap (λ v. map own_spelled v.items) w.networks-is
+          ∙ passed_more (λ line. port_network_in (words_in line)) c.args.lines.now i _ c.loop-line-test.true own_spelled c.loop-line.networks.items c.port_network_in.result c.loop-line.invariant told w.in-None.is
+    ]

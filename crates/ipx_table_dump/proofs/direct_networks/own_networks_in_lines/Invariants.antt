@@ -1,0 +1,8 @@
+use Rattle.std.proofs.Common.{◌≡◌, map, take}
+use Rattle.std.specs.List.{filter_map}
+use Rattle.ipx_table_dump.specs.TableRead.{parts_view, words_in}
+use Rattle.ipx_table_dump.specs.TableParts.{port_network_in, own_spelled}
+use Rattle.ipx_table_dump.proofs.direct_networks.own_networks_in_lines.Given as goal
+
+abbrev pub invariant-loop-line : goal.invariant-loop-line
+invariant-loop-line l = map own_spelled l.networks.items ≡ filter_map (λ line. port_network_in (words_in line)) (take l.line-index (parts_view l.lines))

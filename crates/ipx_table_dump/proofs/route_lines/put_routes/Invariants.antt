@@ -1,0 +1,10 @@
+use Rattle.std.proofs.Common.{◌≡◌, ◌++◌, string_bytes, take}
+use Rattle.std.specs.List.{flat_map}
+use Rattle.ipx_tables.specs.Route.{network_cmp}
+use Rattle.ipx_table_dump.specs.Standing.{is_among_best}
+use Rattle.ipx_table_dump.specs.TableText.{route_offer_line}
+use Rattle.ipx_table_dump.proofs.route_lines.put_routes.Given as goal
+
+abbrev pub invariant-loop-offer : goal.invariant-loop-offer
+invariant-loop-offer l =
+    string_bytes l.text ≡ string_bytes l.fn.text ++ flat_map (λ o. route_offer_line (is_among_best network_cmp l.bests o) l.now o) (take l.offer-index l.offers)

@@ -1,0 +1,7 @@
+use Rattle.std.proofs.Common.{◌≡◌, ◌++◌, string_bytes, take}
+use Rattle.std.specs.List.{flat_map}
+use Rattle.ipx_inspect.specs.ShowLine.{name_byte}
+use Rattle.ipx_table_dump.proofs.words.put_name_bytes.Given as goal
+
+abbrev pub invariant-loop-byte : goal.invariant-loop-byte
+invariant-loop-byte l = string_bytes l.text ≡ string_bytes l.fn.text ++ flat_map name_byte (take l.byte-index l.bytes)

@@ -1,0 +1,6 @@
+pub mod Standing
+pub mod Advertisers
+pub mod TableText
+pub mod TableRead
+pub mod FirstAdvertisers
+pub mod TableParts

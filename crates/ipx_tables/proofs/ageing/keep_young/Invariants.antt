@@ -1,8 +1,0 @@
-use Rattle.std.proofs.Common.{◌≡◌}
-use Rattle.std.specs.List.{filter}
-use Rattle.ipx_tables.specs.Content.{is_young}
-use Rattle.ipx_tables.proofs.ageing.keep_young.Given as goal
-
--- what counts is what counted before
-abbrev pub invariant-loop : goal.invariant-loop
-invariant-loop g l = filter (λ o. is_young l.now o.heard) l.shelf ≡ filter (λ o. is_young l.now o.heard) l.fn.shelf

@@ -1,8 +1,0 @@
-use Rattle.std.proofs.Common.{◌↔◌, subst}
-use Rattle.std.specs.Prelude.{IsTrue}
-use Rattle.ipx_wire.specs.declared.address.Network.{Network}
-use Rattle.ipx_transfer.specs.Callers.{HasNoPlaceFor}
-use Rattle.ipx_transfer.proofs.leaving.is_full.Goals as goal
-
-pub returns : goal.returns
-returns c = subst (λ (n : Network). IsTrue c.is_full_on.result ↔ HasNoPlaceFor c.args.once n c.args.from.now c.args.callers.now) c.network.ensures c.is_full_on.ensures

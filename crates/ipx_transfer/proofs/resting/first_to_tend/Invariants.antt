@@ -1,8 +1,0 @@
-use Rattle.std.proofs.Common.{take}
-use Rattle.std.specs.Prelude.{All}
-use Rattle.ipx_transfer.specs.Tending.{JustStays}
-use Rattle.ipx_transfer.proofs.resting.first_to_tend.Given as goal
-
--- nothing is to be done with those before
-abbrev pub invariant-loop-place : goal.invariant-loop-place
-invariant-loop-place l = All (JustStays l.core) (take l.place l.callers)

@@ -1,5 +1,0 @@
-use Rattle.ipx_udp.specs.UdpCalls.{FillsUdpEnd, KeepsOtherParts}
-use Rattle.ipx_udp.proofs.site.UdpNet.fill.Given as goal
-
-abbrev pub invariant-loop-k : goal.invariant-loop-k
-invariant-loop-k l = FillsUdpEnd l.who l.k l.fn.self l.self × KeepsOtherParts l.fn.self l.self

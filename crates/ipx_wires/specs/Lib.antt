@@ -1,4 +1,0 @@
-pub mod EndTraffic
-pub mod OnWires
-pub mod WirePlaces
-pub mod MemoryTraffic

@@ -1,0 +1,5 @@
+pub mod ServerClients
+pub mod PeerServers
+pub mod ServerHears
+pub mod ServerCounted
+pub mod ServerInside

@@ -1,0 +1,412 @@
+-- What a lobby does with a datagram, and with a packet of its router. Registration and ping are
+-- DOSBox 0.74-3's, the socket and the layout of both as it has them; the order of the cases, what is
+-- dropped, and all that joined routers do, is own.
+use Rattle.std.specs.Prelude.{◌≡◌, ℕ, List, [], length, replicate, Bool, true, false, not, ◌==◌, ◌&&◌, ◌||◌, nat_le, nat_lt, is_some, Option, Some, None, Result, Ok, Err, if◌then◌else◌}
+use Rattle.std.specs.Str.{bytes_eq}
+use Rattle.ipx_wire.specs.Assigned.{broadcast_node, ipx_header_size, local_network, rip_socket, sap_socket, unknown_type}
+use Rattle.ipx_wire.specs.Ipx.{IsIpx, PacketView, number, packet_of}
+use Rattle.ipx_wire.specs.declared.address.Network.{Network}
+use Rattle.ipx_wire.specs.declared.address.Node.{Node}
+use Rattle.ipx_wire.specs.declared.ipx.packet.IpxHeader.{IpxHeader}
+use Rattle.ipxnet_server.specs.declared.place.Place.{Place}
+use Rattle.ipxnet_server.specs.declared.clients.Client.{Client}
+use Rattle.ipxnet_server.specs.declared.counts.ServerCounts.{ServerCounts}
+use Rattle.ipxnet_server.specs.declared.drops.ServerDrop.{ServerDrop}
+use Rattle.ipxnet_server.specs.declared.drops.ServerDrop.TheVariants.{NodeTaken, TooManyNew, Full, Unregistered, OtherSource, TooLong, NoSuchNode, ToItself, PingElsewhere, BroadcastElsewhere, FromElsewhere, Response, NotBehind, ForElsewhere}
+use Rattle.ipxnet_server.specs.declared.disposition.Disposition.{Disposition}
+use Rattle.ipxnet_server.specs.declared.disposition.Disposition.TheVariants.{Registered, Pinged, ToClient, ToOthers, ToOthersAndCore, ToCore, ToJoined, FromJoined, Dropped}
+use Rattle.ipxnet_server.specs.declared.recipients.Recipients.{Recipients}
+use Rattle.ipxnet_server.specs.declared.recipients.Recipients.TheVariants.{Nobody, One, Others, All, Here, Joined, JoinedAt}
+use Rattle.ipxnet_server.specs.declared.peer_servers.RemoteClient.{RemoteClient}
+use Rattle.ipxnet_server.specs.declared.port.ServerPort.{ServerPort}
+use Rattle.ipxnet_server.specs.ServerClients.{are_one_place, is_server_full, client_at, client_of_node, clients_heard, clients_left, max_recent_registrations, recent_registrations}
+use Rattle.ipxnet_server.specs.ServerCounted.{drop_counted, no_drops}
+use Rattle.ipxnet_server.specs.PeerServers.{far_client_of, far_clients_heard, far_clients_left, is_joined_place, newcomer_node}
+
+-- a lobby: its port, how many clients it may have, who they are, the one that was heard last behind the
+-- others, how much was dropped, where the routers are that it is joined to, and which clients these have
+pub record ServerView : Type 0 where
+  pub port : ServerPort
+  pub most : ℕ
+  pub clients : List Client
+  pub counts : ServerCounts
+  pub routers : List Place
+  pub far : List RemoteClient
+
+-- the socket of registrations and pings, and the most bytes that a client takes
+abbrev pub server_socket : ℕ
+server_socket = 2
+
+abbrev pub max_client_bytes : ℕ
+max_client_bytes = 1424
+
+-- ---- answers: a header of 30 bytes, and no body
+
+abbrev pub server_header : Network → Node → Node → IpxHeader
+server_header network to from = record {
+  hops = 0;
+  kind = unknown_type;
+  to = record { network = network; node = to; socket = record { 0 = server_socket } };
+  from = record { network = network; node = from; socket = record { 0 = server_socket } };
+}
+
+-- to a client of a node, whom it tells its network and node
+abbrev pub registration_answer : ServerPort → Node → IpxHeader
+registration_answer port node = server_header port.network node port.own
+
+-- to a ping of a node
+abbrev pub ping_answer : ServerPort → Node → IpxHeader
+ping_answer port node = server_header (record { 0 = local_network }) node port.own
+
+-- ---- what a packet is
+
+abbrev pub is_to_all_nodes : IpxHeader → Bool
+is_to_all_nodes h = bytes_eq h.to.node.0 broadcast_node
+
+-- in a datagram of so many bytes, from node 0 to node 0
+abbrev pub is_registration : IpxHeader → ℕ → Bool
+is_registration h size = (size == ipx_header_size) && bytes_eq h.to.node.0 (replicate 6 0)
+    && bytes_eq h.from.node.0 (replicate 6 0) && (h.to.socket.0 == server_socket)
+
+-- it stays on the network of the port
+abbrev pub is_for_server : ServerPort → IpxHeader → Bool
+is_for_server port h = (h.to.network.0 == local_network) || (h.to.network.0 == port.network.0)
+
+-- a service of the router is asked
+abbrev pub is_to_service : IpxHeader → Bool
+is_to_service h = (h.to.socket.0 == rip_socket) || (h.to.socket.0 == sap_socket)
+
+-- it comes from the network of the port
+abbrev pub is_from_server : ServerPort → IpxHeader → Bool
+is_from_server port h = (h.from.network.0 == local_network) || (h.from.network.0 == port.network.0)
+
+-- one of its sockets is this
+abbrev pub has_socket : ℕ → IpxHeader → Bool
+has_socket socket h = (h.to.socket.0 == socket) || (h.from.socket.0 == socket)
+
+-- it tells routes (RIP) or services (SAP): a response, by a socket and its operation
+abbrev pub tells_router : PacketView → Bool
+tells_router p = nat_le 2 (length p.body)
+    && ((has_socket rip_socket p.header && number 2 0 p.body == 2)
+    || (has_socket sap_socket p.header && (number 2 0 p.body == 2 || number 2 0 p.body == 4)))
+
+-- the core gets of clients what comes from their network and tells it nothing
+abbrev pub may_reach_core : ServerPort → PacketView → Bool
+may_reach_core port p = is_from_server port p.header && not (tells_router p)
+
+-- ---- what becomes of it, the first case that applies
+
+-- a node that is the router's, all nodes' or a client's
+abbrev pub is_node_here : ServerPort → List Client → Node → Bool
+is_node_here port known node = bytes_eq node.0 port.own.0 || bytes_eq node.0 broadcast_node
+    || is_some (client_of_node node known)
+
+-- no new client can have one of these, nor that of a client of a joined router. A client's it cannot be
+-- while each has the node of its place
+abbrev pub is_node_taken : ServerView → Node → Bool
+is_node_taken l node =
+    is_node_here l.port l.clients node || is_some (far_client_of node l.far)
+
+-- why who registers from a place, and would get this node, becomes no client
+abbrev pub newcomer_drop : ServerView → Node → ℕ → Option ServerDrop
+newcomer_drop l node now =
+    if is_node_taken l node then Some (NodeTaken node)
+    else if nat_le max_recent_registrations (recent_registrations now l.clients) then Some TooManyNew
+    else if is_server_full l.most now l.clients then Some Full
+    else None
+
+abbrev pub newcomer_hears : ServerPort → Node → Option ServerDrop → Disposition
+newcomer_hears port node None = Registered (registration_answer port node)
+newcomer_hears port node (Some drop) = Dropped drop
+
+-- the node that a new client of a lobby gets
+abbrev pub node_given : ServerView → Place → Node
+node_given l from = newcomer_node l.port.own l.far from
+
+-- a registration, from a place where this client is known
+abbrev pub registration_hears : ServerView → Place → ℕ → Option Client → Disposition
+registration_hears l from now None =
+    newcomer_hears l.port (node_given l from) (newcomer_drop l (node_given l from) now)
+registration_hears l from now (Some c) = Registered (registration_answer l.port c.node)
+
+-- to all nodes here
+abbrev pub all_hear : ServerPort → Place → PacketView → ℕ → Disposition
+all_hear port from p size =
+    if nat_lt max_client_bytes size then Dropped (TooLong size)
+    else if p.header.to.socket.0 == server_socket then Pinged from (ping_answer port p.header.from.node)
+    else if is_to_service p.header && may_reach_core port p then ToOthersAndCore from
+    else ToOthers from
+
+-- to the core alone
+abbrev pub core_hears : ServerPort → PacketView → Disposition
+core_hears port p =
+    if not (is_from_server port p.header) then Dropped (FromElsewhere p.header.from.network)
+    else if tells_router p then Dropped Response
+    else ToCore
+
+-- to the joined router behind which a node is known, or to each
+abbrev pub joined_takers : Option RemoteClient → Recipients
+joined_takers None = Joined
+joined_takers (Some f) = JoinedAt f.router
+
+-- to one node here, which no client has
+abbrev pub far_hear : ServerView → Node → ℕ → Disposition
+far_hear l node size =
+    if length l.routers == 0 then Dropped (NoSuchNode node)
+    else if nat_lt max_client_bytes size then Dropped (TooLong size)
+    else ToJoined (joined_takers (far_client_of node l.far))
+
+-- to one node here, of which this is the client
+abbrev pub client_hears : ServerView → Place → IpxHeader → ℕ → Option Client → Disposition
+client_hears l from h size None = far_hear l h.to.node size
+client_hears l from h size (Some c) =
+    if are_one_place c.place from then Dropped ToItself
+    else if nat_lt max_client_bytes size then Dropped (TooLong size)
+    else ToClient c.place
+
+-- to the network of the port
+abbrev pub server_hears_here : ServerView → Place → PacketView → ℕ → Disposition
+server_hears_here l from p size =
+    if is_to_all_nodes p.header then all_hear l.port from p size
+    else if bytes_eq p.header.to.node.0 l.port.own.0 then core_hears l.port p
+    else client_hears l from p.header size (client_of_node p.header.to.node l.clients)
+
+-- to another
+abbrev pub server_hears_elsewhere : ServerPort → PacketView → Disposition
+server_hears_elsewhere port p =
+    if p.header.to.socket.0 == server_socket then Dropped (PingElsewhere p.header.to.network)
+    else if is_to_all_nodes p.header then Dropped (BroadcastElsewhere p.header.to.network)
+    else core_hears port p
+
+-- from a place where this client is known
+abbrev pub server_hears_from : ServerView → Place → PacketView → ℕ → Option Client → Disposition
+server_hears_from l from p size None = Dropped Unregistered
+server_hears_from l from p size (Some c) =
+    if not (bytes_eq p.header.from.node.0 c.node.0) then Dropped (OtherSource p.header.from.node)
+    else if is_for_server l.port p.header then server_hears_here l from p size
+    else server_hears_elsewhere l.port p
+
+-- no client behind a joined router can have one of these, nor 0
+abbrev pub is_not_behind : ServerPort → List Client → Node → Bool
+is_not_behind port known node =
+    bytes_eq node.0 (replicate 6 0) || is_node_here port known node
+
+-- the node of a far client that a packet of a joined router is from: of none where it comes from
+-- another network
+abbrev pub far_source : ServerPort → IpxHeader → Option Node
+far_source port h = if is_from_server port h then Some h.from.node else None
+
+-- from a far client to its own node: it tells where that is, and is for nobody
+abbrev pub tells_node : ServerPort → IpxHeader → Bool
+tells_node port h = is_from_server port h && bytes_eq h.to.node.0 h.from.node.0
+
+-- a joined router's, to one node, of which this is the client here
+abbrev pub one_hears_joined : ServerPort → Place → IpxHeader → ℕ → Option Client → Disposition
+one_hears_joined port from h size None = Dropped (NoSuchNode h.to.node)
+one_hears_joined port from h size (Some c) =
+    if are_one_place c.place from then Dropped ToItself
+    else if nat_lt max_client_bytes size then Dropped (TooLong size)
+    else FromJoined (far_source port h) (One c.place)
+
+-- the same to all nodes
+abbrev pub all_hear_joined : ServerPort → Place → IpxHeader → ℕ → Disposition
+all_hear_joined port from h size =
+    if nat_lt max_client_bytes size then Dropped (TooLong size)
+    else FromJoined (far_source port h) (Here from)
+
+-- from the place of a joined router: the core gets none of it, nor does any joined router
+abbrev pub joined_hears : ServerView → Place → IpxHeader → ℕ → Disposition
+joined_hears l from h size =
+    if not (is_for_server l.port h) then Dropped (ForElsewhere h.to.network)
+    else if is_from_server l.port h && is_not_behind l.port l.clients h.from.node
+    then Dropped (NotBehind h.from.node)
+    else if tells_node l.port h then FromJoined (Some h.from.node) Nobody
+    else if is_to_all_nodes h then all_hear_joined l.port from h size
+    else one_hears_joined l.port from h size (client_of_node h.to.node l.clients)
+
+-- a packet, in a datagram of so many bytes from a place
+abbrev pub server_hears : ServerView → Place → PacketView → ℕ → ℕ → Disposition
+server_hears l from p size now =
+    if is_joined_place from l.routers then joined_hears l from p.header size
+    else if is_registration p.header size
+    then registration_hears l from now (client_at from l.clients)
+    else server_hears_from l from p size (client_at from l.clients)
+
+-- ---- whom it reaches
+
+-- the clients and joined routers that get the bytes as they came
+abbrev pub takers_of : Disposition → Recipients
+takers_of (Registered answer) = Nobody
+takers_of (Pinged from answer) = Others from
+takers_of (ToClient place) = One place
+takers_of (ToOthers from) = Others from
+takers_of (ToOthersAndCore from) = Others from
+takers_of ToCore = Nobody
+takers_of (ToJoined takers) = takers
+takers_of (FromJoined told takers) = takers
+takers_of (Dropped drop) = Nobody
+
+abbrev pub is_taker : Recipients → Place → Bool
+is_taker Nobody place = false
+is_taker (One one) place = are_one_place one place
+is_taker (Others from) place = not (are_one_place from place)
+is_taker All place = true
+is_taker (Here from) place = not (are_one_place from place)
+is_taker Joined place = false
+is_taker (JoinedAt one) place = false
+
+-- the same of a joined router: it gets what a client sent to all nodes, or to a node that no client has
+abbrev pub is_joined_taker : Recipients → Place → Bool
+is_joined_taker Nobody place = false
+is_joined_taker (One one) place = false
+is_joined_taker (Others from) place = true
+is_joined_taker All place = false
+is_joined_taker (Here from) place = false
+is_joined_taker Joined place = true
+is_joined_taker (JoinedAt one) place = are_one_place one place
+
+-- the takers have the client at a place: there is one, and it is among them
+abbrev pub takers_reach : ServerView → Recipients → Place → Bool
+takers_reach l takers place = is_some (client_at place l.clients) && is_taker takers place
+
+-- the takers have the joined router at a place
+abbrev pub takers_join : ServerView → Recipients → Place → Bool
+takers_join l takers place = is_joined_place place l.routers && is_joined_taker takers place
+
+-- the core gets them
+abbrev pub goes_to_core : Disposition → Bool
+goes_to_core (Registered answer) = false
+goes_to_core (Pinged from answer) = false
+goes_to_core (ToClient place) = false
+goes_to_core (ToOthers from) = false
+goes_to_core (ToOthersAndCore from) = true
+goes_to_core ToCore = true
+goes_to_core (ToJoined takers) = false
+goes_to_core (FromJoined told takers) = false
+goes_to_core (Dropped drop) = false
+
+-- the answer that goes back to where they came from
+abbrev pub answer_of : Disposition → Option IpxHeader
+answer_of (Registered answer) = Some answer
+answer_of (Pinged from answer) = Some answer
+answer_of (ToClient place) = None
+answer_of (ToOthers from) = None
+answer_of (ToOthersAndCore from) = None
+answer_of ToCore = None
+answer_of (ToJoined takers) = None
+answer_of (FromJoined told takers) = None
+answer_of (Dropped drop) = None
+
+-- nobody gets anything
+abbrev pub is_dropped : Disposition → Bool
+is_dropped (Registered answer) = false
+is_dropped (Pinged from answer) = false
+is_dropped (ToClient place) = false
+is_dropped (ToOthers from) = false
+is_dropped (ToOthersAndCore from) = false
+is_dropped ToCore = false
+is_dropped (ToJoined takers) = false
+is_dropped (FromJoined told takers) = false
+is_dropped (Dropped drop) = true
+
+-- a client sent them
+abbrev pub is_of_client : Disposition → Bool
+is_of_client (Registered answer) = true
+is_of_client (Pinged from answer) = true
+is_of_client (ToClient place) = true
+is_of_client (ToOthers from) = true
+is_of_client (ToOthersAndCore from) = true
+is_of_client ToCore = true
+is_of_client (ToJoined takers) = true
+is_of_client (FromJoined told takers) = false
+is_of_client (Dropped drop) = false
+
+-- what tells joined routers that a client registered: a header from its node to its node
+abbrev pub notice_of : Disposition → Option IpxHeader
+notice_of (Registered answer) = Some (record answer { from = answer.to })
+notice_of (Pinged from answer) = None
+notice_of (ToClient place) = None
+notice_of (ToOthers from) = None
+notice_of (ToOthersAndCore from) = None
+notice_of ToCore = None
+notice_of (ToJoined takers) = None
+notice_of (FromJoined told takers) = None
+notice_of (Dropped drop) = None
+
+-- bytes are that answer, and nothing else
+abbrev pub IsAnswer : Disposition → List ℕ → Type 0
+IsAnswer heard bytes = (h : IpxHeader) × (answer_of heard ≡ Some h) × IsIpx (packet_of h []) bytes []
+
+-- bytes are what joined routers are told, and nothing else
+abbrev pub IsNotice : Disposition → List ℕ → Type 0
+IsNotice heard bytes = (h : IpxHeader) × (notice_of heard ≡ Some h) × IsIpx (packet_of h []) bytes []
+
+-- whom a packet of the core for all nodes reaches: each client here, as what another network sends to all
+-- nodes of this one, and no joined router; and where it is to a service of a router nobody, since no client
+-- listens to that
+abbrev pub all_get : Bool → Recipients
+all_get to_service = if to_service then Nobody else All
+
+-- whom one for a node reaches, of so many bytes
+abbrev pub client_gets : ServerView → Node → Option Client → Result Recipients ServerDrop
+client_gets l node None =
+    if length l.routers == 0 then Err (NoSuchNode node)
+    else Ok (joined_takers (far_client_of node l.far))
+client_gets l node (Some c) = Ok (One c.place)
+
+abbrev pub server_gives : ServerView → Node → Bool → ℕ → Result Recipients ServerDrop
+server_gives l node to_service size =
+    if nat_lt max_client_bytes size then Err (TooLong size)
+    else if bytes_eq node.0 broadcast_node then Ok (all_get to_service)
+    else client_gets l node (client_of_node node l.clients)
+
+-- ---- what the lobby is then
+
+-- who was silent for a day is forgotten
+abbrev pub server_aged : ℕ → ServerView → ServerView
+server_aged now l =
+    record l { clients = clients_left now l.clients; far = far_clients_left now l.far }
+
+-- one more was dropped, and nothing else is another
+abbrev pub server_dropping : ServerDrop → ServerView → ServerView
+server_dropping drop l = record l { counts = drop_counted drop l.counts }
+
+-- the client at a place was heard
+abbrev pub server_knowing : Place → ℕ → ServerView → ServerView
+server_knowing from now l =
+    record l { clients = clients_heard l.most (node_given l from) from now l.clients }
+
+-- the joined router at a place told where a node is, or none
+abbrev pub server_told : Option Node → Place → ℕ → ServerView → ServerView
+server_told None from now l = l
+server_told (Some node) from now l = record l { far = far_clients_heard node from now l.far }
+
+abbrev pub server_hearing : Disposition → Place → ℕ → ServerView → ServerView
+server_hearing (Registered answer) from now l = server_knowing from now l
+server_hearing (Pinged giver answer) from now l = server_knowing from now l
+server_hearing (ToClient place) from now l = server_knowing from now l
+server_hearing (ToOthers giver) from now l = server_knowing from now l
+server_hearing (ToOthersAndCore giver) from now l = server_knowing from now l
+server_hearing ToCore from now l = server_knowing from now l
+server_hearing (ToJoined takers) from now l = server_knowing from now l
+server_hearing (FromJoined told takers) from now l = server_told told from now l
+server_hearing (Dropped drop) from now l = server_dropping drop l
+
+-- a packet of the core reaches them, or none
+abbrev pub server_giving : Result Recipients ServerDrop → ServerView → ServerView
+server_giving (Ok takers) l = l
+server_giving (Err drop) l = server_dropping drop l
+
+-- nobody is known yet
+abbrev pub joined_server : ServerPort → ℕ → List Place → ServerView
+joined_server port most routers = record {
+  port = port;
+  most = most;
+  clients = [];
+  counts = no_drops;
+  routers = routers;
+  far = [];
+}
+
+abbrev pub new_server : ServerPort → ℕ → ServerView
+new_server port most = joined_server port most []

@@ -1,0 +1,211 @@
+//! The clients of a lobby.
+
+ghost use Rattle.std.specs.Prelude.{◌≡◌, ◌≤◌, ◌<◌, ◌+◌, ◌-◌, [], None, IfOk, drop, filter, find, length, not, option_copied};
+ghost use Rattle.std.specs.Vec.{vec_capacity, vec_len};
+ghost use Rattle.ipxnet_server.specs.ServerClients.{EachClientOnce, is_server_full, client_at, client_heard, client_of_node, clients_heard, clients_left};
+ghost use Rattle.ipxnet_server.specs.ServerClients.{has_client_node, is_client_at, is_newcomer, max_server_clients, recent_registrations};
+
+use crate::place::Place;
+use ipx_wire::Node;
+use std::alloc::{AllocError, Global};
+use std::marker::Model;
+
+/// The most clients that a lobby may have, as `IpxnetServer::may_have` says.
+pub const MAX_CLIENTS: usize = 150;
+
+/// After how many milliseconds of silence a client is forgotten: a day.
+pub const FORGOTTEN_AFTER_MS: u64 = 86_400_000;
+
+/// After how many milliseconds of silence a client is forgotten where there is no room for another:
+/// an hour.
+pub const REPLACED_AFTER_MS: u64 = 3_600_000;
+
+/// How many new clients may register in less than a second.
+pub const MAX_RECENT_REGISTRATIONS: usize = 10;
+
+/// For how many milliseconds a client is new.
+const NEWCOMER_MS: u64 = 1000;
+
+/// A client that registered.
+#[derive(Clone, Copy, Debug, PartialEq, Eq)]
+pub struct Client {
+    /// The node that it was given.
+    pub node: Node,
+    /// Where it is.
+    pub place: Place,
+    /// When it registered first, in ms.
+    pub since: u64,
+    /// When it was heard last, in ms.
+    pub heard: u64,
+}
+
+/// The clients of a lobby, the one that was heard last behind the others.
+#[derive(Drop)]
+pub struct Clients {
+    known: Vec<Client>,
+    most: usize,
+}
+
+impl Model for Clients {
+    ghost use Rattle.std.specs.Vec.{vec_capacity};
+    ghost use Rattle.ipxnet_server.specs.ServerInside.{AreClients, ClientsView};
+
+    ghost Value = { ClientsView };
+
+    ghost view = { λ c. record { most = c.most; known = c.known.items } };
+
+    ghost invariant = { λ c. AreClients c.most c.known.items (vec_capacity c.known) };
+}
+
+/// All of them but the one at a place.
+fn leave_out(known: &mut Vec<Client>, place: Place)
+    ensures items { known.new.items ≡ filter (λ c. not (is_client_at place c)) known.old.items }
+    ensures fewer { vec_len known.new ≤ vec_len known.old }
+    ensures capacity { vec_capacity known.new ≡ vec_capacity known.old }
+{
+    known.retain(|client| client.place != place);
+}
+
+/// All of them but those who were silent for a day.
+fn leave_out_silent(known: &mut Vec<Client>, now: u64)
+    ensures items { known.new.items ≡ clients_left now known.old.items }
+    ensures fewer { vec_len known.new ≤ vec_len known.old }
+    ensures capacity { vec_capacity known.new ≡ vec_capacity known.old }
+{
+    known.retain(|client| now.saturating_sub(client.heard) < FORGOTTEN_AFTER_MS);
+}
+
+/// Lets the client go that was heard before all others, where no other finds room.
+fn make_room(known: &mut Vec<Client>, most: usize)
+    requires some { 1 ≤ most }
+    requires few { vec_len known.old ≤ most }
+    ensures items { known.new.items ≡ drop (length known.old.items + 1 - most) known.old.items }
+    ensures room { vec_len known.new < most }
+    ensures capacity { vec_capacity known.new ≡ vec_capacity known.old }
+{
+    if known.len() == most {
+        known.remove(0);
+    }
+}
+
+/// The client at a place.
+fn find_place(known: &[Client], place: Place) -> Option<&Client>
+    ensures { option_copied result ≡ find (is_client_at place) known.now }
+{
+    known.iter().find(|client| client.place == place)
+}
+
+/// The client of a node.
+fn find_node(known: &[Client], node: Node) -> Option<&Client>
+    ensures { option_copied result ≡ find (has_client_node node) known.now }
+{
+    known.iter().find(|client| client.node == node)
+}
+
+/// Whether a client registered less than a second ago.
+fn is_new(now: u64, client: &Client) -> bool
+    ensures { result ≡ is_newcomer now client.now }
+{
+    now.saturating_sub(client.since) < NEWCOMER_MS
+}
+
+impl Clients {
+    /// None yet. Memory for all of them is taken here.
+    pub fn new(alloc: Global, most: usize) -> Result<Clients, AllocError>
+        requires some { 1 ≤ most }
+        requires few { most ≤ max_server_clients }
+        ensures { IfOk result (λ c. c ≡ record { most = most; known = [] }) }
+    {
+        let known = Vec::with_capacity(alloc, most)?;
+        Ok(Clients { known, most })
+    }
+
+    /// The clients, the one that was heard last behind the others.
+    pub fn all(&self) -> &[Client]
+        ensures all { result.now ≡ self.now.known }
+        ensures once { EachClientOnce self.now.known }
+        ensures few { length self.now.known ≤ self.now.most }
+        ensures most { self.now.most ≤ max_server_clients }
+    {
+        &self.known
+    }
+
+    /// Those who were silent for a day are forgotten.
+    pub fn age(&mut self, now: u64)
+        ensures left { self.new ≡ record self.old { known = clients_left now self.old.known } }
+        ensures few { length self.new.known ≤ self.new.most }
+    {
+        leave_out_silent(&mut self.known, now);
+    }
+
+    /// The client at a place.
+    pub fn at(&self, place: Place) -> Option<Client>
+        ensures { result ≡ client_at place self.now.known }
+    {
+        find_place(&self.known, place).copied()
+    }
+
+    /// The client of a node.
+    pub fn of_node(&self, node: Node) -> Option<Client>
+        ensures { result ≡ client_of_node node self.now.known }
+    {
+        find_node(&self.known, node).copied()
+    }
+
+    /// How many registered less than a second ago.
+    pub fn recent_registrations(&self, now: u64) -> usize
+        ensures { result ≡ recent_registrations now self.now.known }
+    {
+        self.known
+            .iter()
+            .filter(|client| is_new(now, client))
+            .count()
+    }
+
+    /// Whether there is no room for one more: as many as may be, all heard within the last hour.
+    pub fn is_full(&self, now: u64) -> bool
+        ensures { result ≡ is_server_full self.now.most now self.now.known }
+    {
+        if self.known.len() < self.most {
+            return false;
+        }
+        match self.known.first() {
+            Some(first) => now.saturating_sub(first.heard) < REPLACED_AFTER_MS,
+            None => true,
+        }
+    }
+
+    /// The client that is heard at a place, which is a new one of this node where none is known there.
+    fn heard_at(&self, node: Node, place: Place, now: u64) -> Client
+        ensures { result ≡ client_heard node place now (client_at place self.now.known) }
+    {
+        match self.at(place) {
+            Some(client) => Client {
+                heard: now,
+                ..client
+            },
+            None => Client {
+                node,
+                place,
+                since: now,
+                heard: now,
+            },
+        }
+    }
+
+    /// A client is heard at a place, where a new one's node is no other's. Where there are too many
+    /// the one goes that was heard before all others.
+    pub fn put(&mut self, node: Node, place: Place, now: u64)
+        requires { client_at place self.old.known ≡ None
+            → client_of_node node self.old.known ≡ None }
+        ensures { self.new ≡ record self.old {
+          known = clients_heard self.old.most node place now self.old.known;
+        } }
+    {
+        let client = self.heard_at(node, place, now);
+        leave_out(&mut self.known, place);
+        make_room(&mut self.known, self.most);
+        let last = self.known.len();
+        self.known.insert(last, client).unwrap();
+    }
+}

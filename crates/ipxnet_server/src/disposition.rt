@@ -1,0 +1,107 @@
+//! What became of a datagram.
+
+ghost use Rattle.std.specs.Prelude.{◌≡◌, [], IfSome, is_some};
+ghost use Rattle.ipx_wire.specs.Ipx.{IsIpx, packet_of};
+ghost use Rattle.ipxnet_server.specs.ServerHears.{IsAnswer, IsNotice, answer_of, goes_to_core, notice_of, takers_of};
+
+use crate::drops::ServerDrop;
+use crate::place::Place;
+use crate::recipients::Recipients;
+use ipx_wire::{IPX_HEADER_SIZE, IpxHeader, Node, Packet, encode_into};
+
+/// What becomes of a datagram.
+#[derive(Clone, Copy, Debug, PartialEq, Eq)]
+pub enum Disposition {
+    /// A registration: it is answered by this.
+    Registered(IpxHeader),
+    /// A ping, from a client at a place: it is answered by this, and goes on to the other clients,
+    /// who answer for themselves.
+    Pinged(Place, IpxHeader),
+    /// It goes to the client at a place.
+    ToClient(Place),
+    /// It goes to each client but the one at a place, which sent it, and to each joined router.
+    ToOthers(Place),
+    /// The same, and the core of the port gets it too.
+    ToOthersAndCore(Place),
+    /// The core of the port gets it alone.
+    ToCore,
+    /// It is a client's for a node that no client has: it goes to these joined routers.
+    ToJoined(Recipients),
+    /// It came from a joined router, and goes to these clients: also whose node is there, where it tells
+    /// that.
+    FromJoined(Option<Node>, Recipients),
+    /// Nobody gets it: why.
+    Dropped(ServerDrop),
+}
+
+/// The bytes of a header with no body.
+fn bytes_of(header: IpxHeader) -> [u8; IPX_HEADER_SIZE]
+    ensures { IsIpx (packet_of header []) result [] }
+{
+    let mut bytes = [0; IPX_HEADER_SIZE];
+    let packet = Packet { header, body: &[] };
+    encode_into(&packet, &mut bytes);
+    bytes
+}
+
+impl Disposition {
+    /// The clients and joined routers that the bytes go on to, as they came.
+    pub fn takers(self) -> Recipients
+        ensures { result ≡ takers_of self }
+    {
+        match self {
+            Disposition::ToClient(place) => Recipients::One(place),
+            Disposition::Pinged(from, _) | Disposition::ToOthers(from) | Disposition::ToOthersAndCore(from) => {
+                Recipients::Others(from)
+            }
+            Disposition::ToJoined(takers) | Disposition::FromJoined(_, takers) => takers,
+            Disposition::Registered(_) | Disposition::ToCore | Disposition::Dropped(_) => Recipients::Nobody,
+        }
+    }
+
+    /// Whether the core of the port gets the bytes, as they came.
+    pub fn is_for_core(self) -> bool
+        ensures { result ≡ goes_to_core self }
+    {
+        matches!(self, Disposition::ToOthersAndCore(_) | Disposition::ToCore)
+    }
+
+    /// The answer that goes back to where the datagram came from, if there is one.
+    pub fn answer(self) -> Option<[u8; IPX_HEADER_SIZE]>
+        ensures answer { IfSome result (λ bytes. IsAnswer self bytes) }
+        ensures answered { is_some result ≡ is_some (answer_of self) }
+    {
+        match self {
+            Disposition::Registered(header) | Disposition::Pinged(_, header) => Some(bytes_of(header)),
+            Disposition::ToClient(_)
+            | Disposition::ToOthers(_)
+            | Disposition::ToOthersAndCore(_)
+            | Disposition::ToCore
+            | Disposition::ToJoined(_)
+            | Disposition::FromJoined(_, _)
+            | Disposition::Dropped(_) => None,
+        }
+    }
+
+    /// What tells each joined router that a client registered, if one did: a packet from its node to
+    /// its node. A router that hears it gives that node to no client of its own.
+    pub fn announcement(self) -> Option<[u8; IPX_HEADER_SIZE]>
+        ensures announcement { IfSome result (λ bytes. IsNotice self bytes) }
+        ensures noticed { is_some result ≡ is_some (notice_of self) }
+    {
+        match self {
+            Disposition::Registered(answer) => Some(bytes_of(IpxHeader {
+                from: answer.to,
+                ..answer
+            })),
+            Disposition::Pinged(_, _)
+            | Disposition::ToClient(_)
+            | Disposition::ToOthers(_)
+            | Disposition::ToOthersAndCore(_)
+            | Disposition::ToCore
+            | Disposition::ToJoined(_)
+            | Disposition::FromJoined(_, _)
+            | Disposition::Dropped(_) => None,
+        }
+    }
+}

@@ -1,0 +1,181 @@
+//! What becomes of a packet, by who is known.
+
+ghost use Rattle.std.specs.Prelude.{◌≡◌, []};
+ghost use Rattle.ipx_wire.specs.Ipx.{packet_view};
+ghost use Rattle.ipxnet_server.specs.ServerClients.{client_of_node, node_of_place};
+ghost use Rattle.ipxnet_server.specs.ServerHears.{client_hears, far_hear, is_node_here, is_node_taken, is_not_behind, joined_hears, server_hears};
+ghost use Rattle.ipxnet_server.specs.ServerHears.{server_hears_from, server_hears_here, newcomer_drop, node_given, registration_hears};
+
+use crate::clients::{Client, MAX_RECENT_REGISTRATIONS};
+use crate::drops::ServerDrop;
+use crate::disposition::Disposition;
+use crate::hearing::{
+    answer_with_node, elsewhere, is_for_all, is_from_here, is_too_long, joined_takers_of,
+    joined_to_all, joined_to_one, notes_node, registers, stays, to_all, to_core,
+};
+use crate::server::IpxnetServer;
+use crate::place::Place;
+use crate::recipients::Recipients;
+use ipx_wire::{IpxHeader, Node, Packet};
+
+impl IpxnetServer {
+    /// Whether a node is the router's, all nodes' or a client's.
+    fn is_here(&self, node: Node) -> bool
+        ensures { result ≡ is_node_here self.now.port self.now.clients node }
+    {
+        node == self.port.own || node == Node::BROADCAST || self.clients.of_node(node).is_some()
+    }
+
+    /// Whether no client behind a joined router can have a node.
+    fn is_not_behind(&self, node: Node) -> bool
+        ensures { result ≡ is_not_behind self.now.port self.now.clients node }
+    {
+        node == Node([0; 6]) || self.is_here(node)
+    }
+
+    /// Whether no new client can have a node.
+    fn is_taken(&self, node: Node) -> bool
+        ensures { result ≡ is_node_taken self.now node }
+    {
+        self.is_here(node) || self.joined.of_node(node).is_some()
+    }
+
+    /// The node that a new client at a place gets.
+    pub(crate) fn node_for(&self, from: Place) -> Node
+        ensures node { result ≡ node_given self.now from }
+        ensures alone { self.now.routers ≡ [] → result ≡ node_of_place from }
+    {
+        self.joined.node_for(self.port.own, from)
+    }
+
+    /// Why who registers, and would get this node, becomes no client.
+    fn refuses(&self, node: Node, now: u64) -> Option<ServerDrop>
+        ensures { result ≡ newcomer_drop self.now node now }
+    {
+        if self.is_taken(node) {
+            return Some(ServerDrop::NodeTaken(node));
+        }
+        if self.clients.recent_registrations(now) >= MAX_RECENT_REGISTRATIONS {
+            return Some(ServerDrop::TooManyNew);
+        }
+        if self.clients.is_full(now) {
+            return Some(ServerDrop::Full);
+        }
+        None
+    }
+
+    /// What becomes of a registration.
+    fn registration(&self, from: Place, now: u64, known: Option<Client>) -> Disposition
+        ensures { result ≡ registration_hears self.now from now known }
+    {
+        if let Some(client) = known {
+            return Disposition::Registered(answer_with_node(self.port, client.node));
+        }
+        let node = self.node_for(from);
+        match self.refuses(node, now) {
+            Some(drop) => Disposition::Dropped(drop),
+            None => Disposition::Registered(answer_with_node(self.port, node)),
+        }
+    }
+
+    /// What becomes of a packet for one node here, which no client has.
+    fn to_far(&self, node: Node, size: usize) -> Disposition
+        ensures { result ≡ far_hear self.now node size }
+    {
+        if self.routers().is_empty() {
+            return Disposition::Dropped(ServerDrop::NoSuchNode(node));
+        }
+        if is_too_long(size) {
+            return Disposition::Dropped(ServerDrop::TooLong(size));
+        }
+        Disposition::ToJoined(joined_takers_of(self.joined.of_node(node)))
+    }
+
+    /// What becomes of a packet for one node here.
+    fn to_node(&self, from: Place, header: IpxHeader, size: usize) -> Disposition
+        ensures { result ≡ client_hears self.now from header size
+            (client_of_node header.to.node self.now.clients) }
+    {
+        match self.clients.of_node(header.to.node) {
+            None => self.to_far(header.to.node, size),
+            Some(client) if client.place == from => Disposition::Dropped(ServerDrop::ToItself),
+            Some(_) if is_too_long(size) => Disposition::Dropped(ServerDrop::TooLong(size)),
+            Some(client) => Disposition::ToClient(client.place),
+        }
+    }
+
+    /// What becomes of a packet for the network of the port.
+    fn here(&self, from: Place, packet: &Packet<'_>, size: usize) -> Disposition
+        ensures { result ≡ server_hears_here self.now from (packet_view packet.now) size }
+    {
+        if is_for_all(packet.header) {
+            return to_all(self.port, from, packet, size);
+        }
+        if packet.header.to.node == self.port.own {
+            return to_core(self.port, packet);
+        }
+        self.to_node(from, packet.header, size)
+    }
+
+    /// What becomes of a packet of a client, if one is known there.
+    fn from_client(
+        &self,
+        from: Place,
+        packet: &Packet<'_>,
+        size: usize,
+        known: Option<Client>,
+    ) -> Disposition
+        ensures { result ≡ server_hears_from self.now from (packet_view packet.now) size known }
+    {
+        let header = packet.header;
+        let Some(client) = known else {
+            return Disposition::Dropped(ServerDrop::Unregistered);
+        };
+        if header.from.node != client.node {
+            return Disposition::Dropped(ServerDrop::OtherSource(header.from.node));
+        }
+        if stays(self.port, header) {
+            return self.here(from, packet, size);
+        }
+        elsewhere(self.port, packet)
+    }
+
+    /// What becomes of a packet of a joined router.
+    fn from_joined(&self, from: Place, header: IpxHeader, size: usize) -> Disposition
+        ensures { result ≡ joined_hears self.now from header size }
+    {
+        if !stays(self.port, header) {
+            return Disposition::Dropped(ServerDrop::ForElsewhere(header.to.network));
+        }
+        if is_from_here(self.port, header) && self.is_not_behind(header.from.node) {
+            return Disposition::Dropped(ServerDrop::NotBehind(header.from.node));
+        }
+        if notes_node(self.port, header) {
+            return Disposition::FromJoined(Some(header.from.node), Recipients::Nobody);
+        }
+        if is_for_all(header) {
+            return joined_to_all(self.port, from, header, size);
+        }
+        joined_to_one(
+            self.port,
+            from,
+            header,
+            size,
+            self.clients.of_node(header.to.node),
+        )
+    }
+
+    /// What becomes of a packet.
+    pub(crate) fn outcome(&self, from: Place, packet: &Packet<'_>, size: usize, now: u64) -> Disposition
+        ensures { result ≡ server_hears self.now from (packet_view packet.now) size now }
+    {
+        if self.joined.has(from) {
+            return self.from_joined(from, packet.header, size);
+        }
+        let known = self.clients.at(from);
+        if registers(packet.header, size) {
+            return self.registration(from, now, known);
+        }
+        self.from_client(from, packet, size, known)
+    }
+}

@@ -1,0 +1,180 @@
+//! The routers that a lobby is joined to, and the clients that these have.
+
+ghost use Rattle.std.specs.Prelude.{◌≡◌, ◌≤◌, ◌<◌, ◌+◌, ◌-◌, [], IfOk, None, drop, filter, find, length, not, option_copied, true};
+ghost use Rattle.std.specs.Vec.{vec_capacity, vec_len};
+ghost use Rattle.ipxnet_server.specs.ServerClients.{node_of_place};
+ghost use Rattle.ipxnet_server.specs.PeerServers.{far_client_of, far_clients_heard, far_clients_left, has_far_node, is_joined_place, made_node, max_remote_clients, newcomer_node};
+
+use crate::clients::FORGOTTEN_AFTER_MS;
+use crate::place::Place;
+use byteorder::{BigEndian, ByteOrder};
+use ipx_wire::Node;
+use std::alloc::{AllocError, Global};
+use std::marker::Model;
+
+/// How many clients of joined routers are known at once.
+pub const MAX_REMOTE_CLIENTS: usize = 1024;
+
+/// A client of a joined router.
+#[derive(Clone, Copy, Debug, PartialEq, Eq)]
+pub struct RemoteClient {
+    /// Its node, as that router tells.
+    pub node: Node,
+    /// Where the router is.
+    pub router: Place,
+    /// When it was heard last, in ms.
+    pub heard: u64,
+}
+
+/// The routers that a lobby is joined to, and their clients, the one that was heard last behind the
+/// others.
+#[derive(Drop)]
+pub struct Joined {
+    routers: Vec<Place>,
+    far: Vec<RemoteClient>,
+}
+
+impl Model for Joined {
+    ghost use Rattle.std.specs.Vec.{vec_capacity};
+    ghost use Rattle.ipxnet_server.specs.ServerInside.{AreFarClients, JoinedView};
+
+    ghost Value = { JoinedView };
+
+    ghost view = { λ j. record { routers = j.routers.items; far = j.far.items } };
+
+    ghost invariant = { λ j. AreFarClients j.routers.items j.far.items (vec_capacity j.far) };
+}
+
+/// Whether one of these is at a place.
+fn is_one(routers: &[Place], place: Place) -> bool
+    ensures { result ≡ is_joined_place place routers.now }
+{
+    routers.iter().any(|router| *router == place)
+}
+
+/// All of them but the one of a node.
+fn leave_out(far: &mut Vec<RemoteClient>, node: Node)
+    ensures items { far.new.items ≡ filter (λ f. not (has_far_node node f)) far.old.items }
+    ensures fewer { vec_len far.new ≤ vec_len far.old }
+    ensures capacity { vec_capacity far.new ≡ vec_capacity far.old }
+{
+    far.retain(|client| client.node != node);
+}
+
+/// All of them but those who were silent for a day.
+fn leave_out_silent(far: &mut Vec<RemoteClient>, now: u64)
+    ensures items { far.new.items ≡ far_clients_left now far.old.items }
+    ensures fewer { vec_len far.new ≤ vec_len far.old }
+    ensures capacity { vec_capacity far.new ≡ vec_capacity far.old }
+{
+    far.retain(|client| now.saturating_sub(client.heard) < FORGOTTEN_AFTER_MS);
+}
+
+/// Lets the one go that was heard before all others, where no other finds room.
+fn make_room(far: &mut Vec<RemoteClient>)
+    requires { vec_len far.old ≤ max_remote_clients }
+    ensures items { far.new.items
+        ≡ drop (length far.old.items + 1 - max_remote_clients) far.old.items }
+    ensures room { vec_len far.new < max_remote_clients }
+    ensures capacity { vec_capacity far.new ≡ vec_capacity far.old }
+{
+    if far.len() == MAX_REMOTE_CLIENTS {
+        far.remove(0);
+    }
+}
+
+/// The one of a node.
+fn find_node(far: &[RemoteClient], node: Node) -> Option<&RemoteClient>
+    ensures { option_copied result ≡ find (has_far_node node) far.now }
+{
+    far.iter().find(|client| client.node == node)
+}
+
+/// A node of a router's making for a client at a place: the router's, with the client's port of UDP in
+/// place of its last two bytes.
+fn make_node(own: Node, place: Place) -> Node
+    ensures { result ≡ made_node own place }
+{
+    let mut node = own.0;
+    BigEndian::write_u16(&mut node[4..], place.udp_port);
+    Node(node)
+}
+
+impl Joined {
+    /// These routers, and none of their clients yet. Memory for all of those is taken here.
+    pub fn new(alloc: Global, routers: Vec<Place>) -> Result<Joined, AllocError>
+        ensures { IfOk result (λ j. j ≡ record { routers = routers.items; far = [] }) }
+    {
+        let far = Vec::with_capacity(alloc, MAX_REMOTE_CLIENTS)?;
+        Ok(Joined { routers, far })
+    }
+
+    /// Where the routers are.
+    pub fn routers(&self) -> &[Place]
+        ensures { result.now ≡ self.now.routers }
+    {
+        &self.routers
+    }
+
+    /// Their clients, the one that was heard last behind the others.
+    pub fn far_clients(&self) -> &[RemoteClient]
+        ensures far { result.now ≡ self.now.far }
+        ensures few { length self.now.far ≤ max_remote_clients }
+        ensures none { self.now.routers ≡ [] → self.now.far ≡ [] }
+    {
+        &self.far
+    }
+
+    /// Whether one of the routers is at a place.
+    pub fn has(&self, place: Place) -> bool
+        ensures { result ≡ is_joined_place place self.now.routers }
+    {
+        is_one(&self.routers, place)
+    }
+
+    /// The client of a node.
+    pub fn of_node(&self, node: Node) -> Option<RemoteClient>
+        ensures client { result ≡ far_client_of node self.now.far }
+        ensures alone { self.now.routers ≡ [] → result ≡ None }
+    {
+        find_node(&self.far, node).copied()
+    }
+
+    /// The node that a new client at a place gets from a router with this node.
+    pub fn node_for(&self, own: Node, place: Place) -> Node
+        ensures node { result ≡ newcomer_node own self.now.far place }
+        ensures alone { self.now.routers ≡ [] → result ≡ node_of_place place }
+    {
+        let node = place.node();
+        if self.of_node(node).is_some() {
+            return make_node(own, place);
+        }
+        node
+    }
+
+    /// Those who were silent for a day are forgotten.
+    pub fn age(&mut self, now: u64)
+        ensures { self.new ≡ record self.old { far = far_clients_left now self.old.far } }
+    {
+        leave_out_silent(&mut self.far, now);
+    }
+
+    /// The client of a node is heard through the router at a place. Where there are too many the one
+    /// goes that was heard before all others.
+    pub fn put(&mut self, node: Node, router: Place, now: u64)
+        requires { is_joined_place router self.old.routers ≡ true }
+        ensures { self.new ≡ record self.old {
+          far = far_clients_heard node router now self.old.far;
+        } }
+    {
+        leave_out(&mut self.far, node);
+        make_room(&mut self.far);
+        let last = self.far.len();
+        let client = RemoteClient {
+            node,
+            router,
+            heard: now,
+        };
+        self.far.insert(last, client).unwrap();
+    }
+}

@@ -1,0 +1,104 @@
+//! Packets between players: who gets them, and what stays as it came.
+
+use crate::caller::give;
+use crate::fixture::{
+    CAME, FIRST, FIRST_NODE, PORT, SECOND, SECOND_NODE, THIRD, long_packet, packet, register_all,
+};
+use ipxnet_server::{Disposition, IpxnetServer, ServerDrop};
+use ipx_wire::Node;
+use std::test::Fail;
+
+/// By the network that they were told, or by 0; whatever its hops and type are.
+#[test]
+fn to_one_player(rt: HostRuntime) -> Result<(), Fail> {
+    let mut server = IpxnetServer::new(rt.alloc(), PORT, 64)?;
+    register_all(&mut server);
+    assert_eq!(rt; server.hear(FIRST, &CAME, 0), Disposition::ToClient(SECOND));
+    let mut bytes = packet(SECOND_NODE, 0x4001, FIRST_NODE);
+    bytes[4..6].copy_from_slice(&[16, 20]);
+    assert_eq!(rt; server.hear(FIRST, &bytes, 0), Disposition::ToClient(SECOND));
+    // With bytes behind it, which go along.
+    let mut padded = [0xee; 36];
+    padded[..34].copy_from_slice(&CAME);
+    assert_eq!(rt; server.hear(FIRST, &padded, 0), Disposition::ToClient(SECOND));
+    // Also to a socket of the router's services: it is for that player's program.
+    let rip = packet(SECOND_NODE, 0x453, FIRST_NODE);
+    assert_eq!(rt; server.hear(FIRST, &rip, 0), Disposition::ToClient(SECOND));
+    Ok(())
+}
+
+/// To all nodes: to the others, and where it asks for routes or services to the core too.
+#[test]
+fn to_all_players(rt: HostRuntime) -> Result<(), Fail> {
+    let mut server = IpxnetServer::new(rt.alloc(), PORT, 64)?;
+    register_all(&mut server);
+    for (socket, core) in [
+        (0x4001, false),
+        (0x451, false),
+        (0x452, true),
+        (0x453, true),
+    ] {
+        let all = packet(Node::BROADCAST, socket, FIRST_NODE);
+        assert_eq!(rt;
+            give(&mut server, FIRST, &all),
+            (false, [false, true, true], core)
+        );
+    }
+    // NetBIOS, of type 20: to the others, as any.
+    let mut netbios = packet(Node::BROADCAST, 0x455, FIRST_NODE);
+    netbios[5] = 20;
+    assert_eq!(rt; server.hear(FIRST, &netbios, 0), Disposition::ToOthers(FIRST));
+    Ok(())
+}
+
+/// To the router's node: to the core alone.
+#[test]
+fn to_the_router(rt: HostRuntime) -> Result<(), Fail> {
+    let mut server = IpxnetServer::new(rt.alloc(), PORT, 64)?;
+    register_all(&mut server);
+    let rip = packet(PORT.own, 0x453, FIRST_NODE);
+    assert_eq!(rt; give(&mut server, FIRST, &rip), (false, [false; 3], true));
+    let mut named = CAME;
+    named[10..16].copy_from_slice(&PORT.own.0);
+    assert_eq!(rt; server.hear(FIRST, &named, 0), Disposition::ToCore);
+    Ok(())
+}
+
+/// A player takes 1,424 bytes whole, and no more.
+#[test]
+fn sizes(rt: HostRuntime) -> Result<(), Fail> {
+    let mut server = IpxnetServer::new(rt.alloc(), PORT, 64)?;
+    register_all(&mut server);
+    let all = long_packet(Node::BROADCAST, 1424);
+    assert_eq!(rt; server.hear(FIRST, &all[..1424], 0), Disposition::ToOthers(FIRST));
+    let long = Disposition::Dropped(ServerDrop::TooLong(1425));
+    assert_eq!(rt; server.hear(FIRST, &all[..1425], 0), long);
+    let one = long_packet(SECOND_NODE, 1424);
+    assert_eq!(rt; server.hear(FIRST, &one[..1424], 0), Disposition::ToClient(SECOND));
+    assert_eq!(rt; server.hear(FIRST, &one[..1425], 0), long);
+    assert_eq!(rt; server.counts().too_long, 2);
+    // The core takes more.
+    let router = long_packet(PORT.own, 1500);
+    assert_eq!(rt; server.hear(FIRST, &router, 0), Disposition::ToCore);
+    Ok(())
+}
+
+/// Whom it is sent from counts, not the source node alone: a packet with the second player's node
+/// goes nowhere from the first.
+#[test]
+fn from_anothers_node(rt: HostRuntime) -> Result<(), Fail> {
+    let mut server = IpxnetServer::new(rt.alloc(), PORT, 64)?;
+    register_all(&mut server);
+    let all = packet(Node::BROADCAST, 0x4001, SECOND_NODE);
+    assert_eq!(rt;
+        server.hear(FIRST, &all, 0),
+        Disposition::Dropped(ServerDrop::OtherSource(SECOND_NODE))
+    );
+    assert_eq!(rt; server.hear(SECOND, &all, 0), Disposition::ToOthers(SECOND));
+    assert_eq!(rt;
+        server.hear(THIRD, &CAME, 0),
+        Disposition::Dropped(ServerDrop::OtherSource(FIRST_NODE))
+    );
+    assert_eq!(rt; server.counts().other_source, 2);
+    Ok(())
+}

@@ -1,0 +1,145 @@
+//! What is dropped, its cause, and that nothing but a count changes.
+
+use crate::fixture::{CAME, FIRST, FIRST_NODE, PORT, SECOND, packet, packet_for, register_all};
+use ipxnet_server::{Disposition, IpxnetServer, ServerCounts, ServerDrop, Place};
+use ipx_wire::{IpxFault, Network, Node};
+use std::test::Fail;
+
+/// A node that nobody has.
+const NOBODY: Node = Node([2, 0, 0, 0, 0, 1]);
+
+/// Each cause of what a client sends, from the first to the last.
+#[test]
+fn causes(rt: HostRuntime) -> Result<(), Fail> {
+    let mut server = IpxnetServer::new(rt.alloc(), PORT, 64)?;
+    register_all(&mut server);
+    let before = server.clients()[0];
+    let rows = [
+        (
+            packet(NOBODY, 0x4001, FIRST_NODE),
+            ServerDrop::NoSuchNode(NOBODY),
+        ),
+        (packet(FIRST_NODE, 0x4001, FIRST_NODE), ServerDrop::ToItself),
+        (
+            packet_for(0x99, Node::BROADCAST, 0x4001, FIRST_NODE),
+            ServerDrop::BroadcastElsewhere(Network(0x99)),
+        ),
+        (
+            packet_for(0x99, Node::BROADCAST, 0x453, FIRST_NODE),
+            ServerDrop::BroadcastElsewhere(Network(0x99)),
+        ),
+        (
+            packet_for(0x99, Node::BROADCAST, 2, FIRST_NODE),
+            ServerDrop::PingElsewhere(Network(0x99)),
+        ),
+        (
+            packet_for(0x99, NOBODY, 2, FIRST_NODE),
+            ServerDrop::PingElsewhere(Network(0x99)),
+        ),
+    ];
+    for (bytes, drop) in rows {
+        assert_eq!(rt; server.hear(FIRST, &bytes, 500), Disposition::Dropped(drop));
+    }
+    let wanted = ServerCounts {
+        no_such_node: 1,
+        to_itself: 1,
+        broadcast_elsewhere: 2,
+        ping_elsewhere: 2,
+        ..ServerCounts::new()
+    };
+    assert_eq!(rt; server.counts(), wanted);
+    // None of them was heard from by that.
+    assert_eq!(rt; server.clients()[0], before);
+    Ok(())
+}
+
+/// Another port of the same address is another end.
+#[test]
+fn from_another_port(rt: HostRuntime) -> Result<(), Fail> {
+    let mut server = IpxnetServer::new(rt.alloc(), PORT, 64)?;
+    register_all(&mut server);
+    let other = Place {
+        udp_port: 48201,
+        ..FIRST
+    };
+    assert_eq!(rt;
+        server.hear(other, &CAME, 0),
+        Disposition::Dropped(ServerDrop::Unregistered)
+    );
+    let far = Place {
+        ip: [127, 0, 0, 2],
+        ..FIRST
+    };
+    assert_eq!(rt;
+        server.hear(far, &CAME, 0),
+        Disposition::Dropped(ServerDrop::Unregistered)
+    );
+    assert_eq!(rt; server.counts().unregistered, 2);
+    Ok(())
+}
+
+/// Three bytes, and a packet that is cut: from whomever they come.
+#[test]
+fn no_packets(rt: HostRuntime) -> Result<(), Fail> {
+    let mut server = IpxnetServer::new(rt.alloc(), PORT, 64)?;
+    register_all(&mut server);
+    assert_eq!(rt;
+        server.hear(SECOND, b"abc", 0),
+        Disposition::Dropped(ServerDrop::Malformed(IpxFault::Short(3)))
+    );
+    assert_eq!(rt;
+        server.hear(FIRST, &CAME[..33], 0),
+        Disposition::Dropped(ServerDrop::Malformed(IpxFault::Truncated(34, 33)))
+    );
+    assert_eq!(rt; server.counts().malformed, 2);
+    Ok(())
+}
+
+/// What is said of each cause.
+#[test]
+fn texts(rt: HostRuntime) -> Result<(), Fail> {
+    let rows = [
+        (
+            ServerDrop::Malformed(IpxFault::Short(3)),
+            "3 bytes, an IPX header needs 30",
+        ),
+        (
+            ServerDrop::NodeTaken(FIRST_NODE),
+            "a client's node is taken: 7f000001bc47",
+        ),
+        (ServerDrop::TooManyNew, "too many registrations in a second"),
+        (ServerDrop::Full, "the lobby is full"),
+        (ServerDrop::Unregistered, "from no client"),
+        (
+            ServerDrop::OtherSource(FIRST_NODE),
+            "a client sent from a node that is not its own: 7f000001bc47",
+        ),
+        (
+            ServerDrop::TooLong(1425),
+            "1425 bytes, over the 1424 that a client takes",
+        ),
+        (
+            ServerDrop::NoSuchNode(FIRST_NODE),
+            "no client has the node 7f000001bc47",
+        ),
+        (ServerDrop::ToItself, "a client sent to itself"),
+        (
+            ServerDrop::PingElsewhere(Network(0x99)),
+            "a ping for network 00000099",
+        ),
+        (
+            ServerDrop::BroadcastElsewhere(Network(0x99)),
+            "a broadcast for network 00000099",
+        ),
+        (
+            ServerDrop::FromElsewhere(Network(0x99)),
+            "a client sent from network 00000099",
+        ),
+        (ServerDrop::Response, "a client told routes or services"),
+    ];
+    for (drop, wanted) in rows {
+        let text = format!(in rt.alloc(); "{drop}")?;
+        assert_eq!(rt; text.as_str(), wanted);
+    }
+    Ok(())
+}

@@ -1,0 +1,78 @@
+//! Players, what they send, and what they expect.
+
+use ipxnet_server::{IpxnetServer, ServerPort, Place};
+use ipx_wire::{Network, Node};
+
+/// The port, which tells players the network 0000d05b.
+pub const PORT: ServerPort = ServerPort {
+    network: Network(0xd05b),
+    own: Node([2, 0, 0, 0, 0xd0, 0x5b]),
+};
+
+/// Three players, and the nodes that they are given.
+pub const FIRST: Place = Place {
+    ip: [127, 0, 0, 1],
+    udp_port: 48199,
+};
+
+pub const SECOND: Place = Place {
+    ip: [127, 0, 0, 1],
+    udp_port: 48200,
+};
+
+pub const THIRD: Place = Place {
+    ip: [10, 0, 0, 9],
+    udp_port: 213,
+};
+
+pub const FIRST_NODE: Node = Node([0x7f, 0, 0, 1, 0xbc, 0x47]);
+
+pub const SECOND_NODE: Node = Node([0x7f, 0, 0, 1, 0xbc, 0x48]);
+
+pub const THIRD_NODE: Node = Node([10, 0, 0, 9, 0, 0xd5]);
+
+/// What `ipxnet connect` sends.
+pub const REGISTRATION: [u8; 30] = [
+    0xff, 0xff, 0, 0x1e, 0, 0, 0, 0, 0, 0, 0, 0, 0, 0, 0, 0, 0, 2, 0, 0, 0, 0, 0, 0, 0, 0, 0, 0, 0,
+    2,
+];
+
+/// A packet of 34 bytes from the first player to socket 4001 of the second, as its driver sends it:
+/// both networks are the one that it was told.
+pub const CAME: [u8; 34] = [
+    0xff, 0xff, 0, 0x22, 0, 4, 0, 0, 0xd0, 0x5b, 0x7f, 0, 0, 1, 0xbc, 0x48, 0x40, 1, 0, 0, 0xd0,
+    0x5b, 0x7f, 0, 0, 1, 0xbc, 0x47, 0x40, 1, 1, 2, 3, 4,
+];
+
+/// The same packet between other nodes, to another socket, with 0 for both networks.
+pub fn packet(to: Node, socket: u16, from: Node) -> [u8; 34] {
+    let mut bytes = CAME;
+    bytes[6..10].copy_from_slice(&[0; 4]);
+    bytes[10..16].copy_from_slice(&to.0);
+    bytes[16..18].copy_from_slice(&socket.to_be_bytes());
+    bytes[18..22].copy_from_slice(&[0; 4]);
+    bytes[22..28].copy_from_slice(&from.0);
+    bytes
+}
+
+/// The same to another network.
+pub fn packet_for(network: u32, to: Node, socket: u16, from: Node) -> [u8; 34] {
+    let mut bytes = packet(to, socket, from);
+    bytes[6..10].copy_from_slice(&network.to_be_bytes());
+    bytes
+}
+
+/// A packet of so many bytes from the first player, at most 1,500.
+pub fn long_packet(to: Node, size: u16) -> [u8; 1500] {
+    let mut bytes = [0; 1500];
+    bytes[..34].copy_from_slice(&packet(to, 0x4001, FIRST_NODE));
+    bytes[2..4].copy_from_slice(&size.to_be_bytes());
+    bytes
+}
+
+/// The three players register.
+pub fn register_all(server: &mut IpxnetServer) {
+    server.hear(FIRST, &REGISTRATION, 0);
+    server.hear(SECOND, &REGISTRATION, 0);
+    server.hear(THIRD, &REGISTRATION, 0);
+}

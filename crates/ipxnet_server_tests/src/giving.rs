@@ -1,0 +1,103 @@
+//! Packets of the core, and the players that they go to.
+
+use crate::caller::reached;
+use crate::fixture::{
+    FIRST, FIRST_NODE, PORT, REGISTRATION, SECOND, SECOND_NODE, packet, register_all,
+};
+use ipxnet_server::{IpxnetServer, ServerCounts, ServerDrop, Recipients};
+use ipx_wire::Node;
+use std::test::Fail;
+
+/// To a node's player, to all for all nodes, and to nobody for another node.
+#[test]
+fn packets_of_the_core(rt: HostRuntime) -> Result<(), Fail> {
+    let mut server = IpxnetServer::new(rt.alloc(), PORT, 64)?;
+    assert_eq!(rt;
+        server.give(FIRST_NODE, &[0; 40], 0),
+        Err(ServerDrop::NoSuchNode(FIRST_NODE))
+    );
+    assert_eq!(rt; server.give(Node::BROADCAST, &[0; 40], 0), Ok(Recipients::All));
+    assert_eq!(rt; reached(&server, Recipients::All), [false; 3]);
+    assert_eq!(rt; reached(&server, Recipients::Others(SECOND)), [false; 3]);
+    assert_eq!(rt; reached(&server, Recipients::One(FIRST)), [false; 3]);
+    server.hear(FIRST, &REGISTRATION, 0);
+    assert_eq!(rt; reached(&server, Recipients::All), [true, false, false]);
+    register_all(&mut server);
+    let one = server.give(SECOND_NODE, &[0; 40], 0)?;
+    assert_eq!(rt; one, Recipients::One(SECOND));
+    assert_eq!(rt; reached(&server, one), [false, true, false]);
+    let all = server.give(Node::BROADCAST, &[0; 40], 0)?;
+    assert_eq!(rt; reached(&server, all), [true; 3]);
+    assert_eq!(rt;
+        server.give(PORT.own, &[0; 40], 0),
+        Err(ServerDrop::NoSuchNode(PORT.own))
+    );
+    assert_eq!(rt; server.counts().no_such_node, 2);
+    Ok(())
+}
+
+/// What it tells or asks all nodes at the sockets of RIP and SAP goes to nobody, and is no drop; to one
+/// node, or from those sockets to another, it goes, as does what is no packet.
+#[test]
+fn what_a_router_tells(rt: HostRuntime) -> Result<(), Fail> {
+    let mut server = IpxnetServer::new(rt.alloc(), PORT, 64)?;
+    register_all(&mut server);
+    let rows = [
+        (Node::BROADCAST, 0x453, Recipients::Nobody),
+        (Node::BROADCAST, 0x452, Recipients::Nobody),
+        (Node::BROADCAST, 0x451, Recipients::All),
+        (Node::BROADCAST, 0x455, Recipients::All),
+        (Node::BROADCAST, 0x5304, Recipients::All),
+        (SECOND_NODE, 0x453, Recipients::One(SECOND)),
+        (SECOND_NODE, 0x452, Recipients::One(SECOND)),
+    ];
+    for (node, socket, wanted) in rows {
+        for from in [0x4001_u16, 0x452, 0x453] {
+            let mut bytes = packet(node, socket, PORT.own);
+            bytes[28..30].copy_from_slice(&from.to_be_bytes());
+            assert_eq!(rt; server.give(node, &bytes, 0), Ok(wanted));
+        }
+    }
+    let mut checksummed = packet(Node::BROADCAST, 0x453, PORT.own);
+    checksummed[0] = 0;
+    assert_eq!(rt;
+        server.give(Node::BROADCAST, &checksummed, 0),
+        Ok(Recipients::All)
+    );
+    assert_eq!(rt; server.counts(), ServerCounts::new());
+    Ok(())
+}
+
+/// Over 1,424 bytes nobody gets it, and that is counted.
+#[test]
+fn long_packets_of_the_core(rt: HostRuntime) -> Result<(), Fail> {
+    let mut server = IpxnetServer::new(rt.alloc(), PORT, 64)?;
+    register_all(&mut server);
+    assert_eq!(rt;
+        server.give(FIRST_NODE, &[0; 1424], 0),
+        Ok(Recipients::One(FIRST))
+    );
+    let long = Err(ServerDrop::TooLong(1425));
+    assert_eq!(rt; server.give(FIRST_NODE, &[0; 1425], 0), long);
+    assert_eq!(rt; server.give(Node::BROADCAST, &[0; 1425], 0), long);
+    assert_eq!(rt; server.counts().too_long, 2);
+    assert_eq!(rt; server.clients().len(), 3);
+    Ok(())
+}
+
+/// Who was silent for a day gets none.
+#[test]
+fn to_one_who_is_forgotten(rt: HostRuntime) -> Result<(), Fail> {
+    let mut server = IpxnetServer::new(rt.alloc(), PORT, 64)?;
+    server.hear(FIRST, &REGISTRATION, 5);
+    assert_eq!(rt;
+        server.give(FIRST_NODE, &[0; 40], 86_400_004),
+        Ok(Recipients::One(FIRST))
+    );
+    assert_eq!(rt;
+        server.give(FIRST_NODE, &[0; 40], 86_400_005),
+        Err(ServerDrop::NoSuchNode(FIRST_NODE))
+    );
+    assert!(rt; server.clients().is_empty());
+    Ok(())
+}

@@ -1,0 +1,327 @@
+//! Lobbies at several sites that are joined as one network.
+
+use crate::caller::reached;
+use crate::fixture::{
+    CAME, FIRST, FIRST_NODE, PORT, REGISTRATION, SECOND, SECOND_NODE, THIRD, THIRD_NODE,
+    long_packet, packet, packet_for, register_all,
+};
+use crate::sites::{NORTH, SOUTH, WEST, north, south};
+use ipxnet_server::{RemoteClient, Disposition, IpxnetServer, ServerCounts, ServerDrop, Place, Recipients};
+use ipx_wire::{Network, Node};
+use std::test::Fail;
+
+/// A node that nobody has.
+const NOBODY: Node = Node([2, 0, 0, 0, 0, 1]);
+
+/// Which of the two other sites of the north get the bytes.
+fn passed(server: &IpxnetServer, takers: Recipients) -> [bool; 2] {
+    [server.joins(takers, SOUTH), server.joins(takers, WEST)]
+}
+
+/// To all nodes: to the others here and to each site once, and there to the clients alone.
+#[test]
+fn to_all_at_each_site(rt: HostRuntime) -> Result<(), Fail> {
+    let mut here = north(rt.alloc())?;
+    let mut there = south(rt.alloc())?;
+    here.hear(FIRST, &REGISTRATION, 0);
+    here.hear(SECOND, &REGISTRATION, 0);
+    there.hear(THIRD, &REGISTRATION, 0);
+    for socket in [0x4001, 0x452, 0x453, 2] {
+        let all = packet(Node::BROADCAST, socket, FIRST_NODE);
+        let heard = here.hear(FIRST, &all, 0);
+        assert_eq!(rt; reached(&here, heard.takers()), [false, true, false]);
+        assert_eq!(rt; passed(&here, heard.takers()), [true, true]);
+        let heard = there.hear(NORTH, &all, 0);
+        assert_eq!(rt;
+            heard,
+            Disposition::FromJoined(Some(FIRST_NODE), Recipients::Here(NORTH))
+        );
+        assert_eq!(rt; reached(&there, heard.takers()), [false, false, true]);
+        assert!(rt; !there.joins(heard.takers(), NORTH));
+        assert!(rt; !there.joins(heard.takers(), WEST));
+        assert!(rt; !heard.is_for_core());
+        assert_eq!(rt; heard.answer(), None);
+    }
+    // The site that it came from is no client there.
+    assert_eq!(rt; there.clients().len(), 1);
+    assert_eq!(rt; there.counts(), ServerCounts::new());
+    Ok(())
+}
+
+/// To a node that no client here has: to each site, and once it is known where it is to that alone.
+/// What is for a client here goes to no site.
+#[test]
+fn to_one_at_a_site(rt: HostRuntime) -> Result<(), Fail> {
+    let mut here = north(rt.alloc())?;
+    here.hear(FIRST, &REGISTRATION, 0);
+    here.hear(SECOND, &REGISTRATION, 0);
+    assert_eq!(rt; here.hear(FIRST, &CAME, 0), Disposition::ToClient(SECOND));
+    assert_eq!(rt; passed(&here, Recipients::One(SECOND)), [false, false]);
+    let far = packet(THIRD_NODE, 0x4001, FIRST_NODE);
+    let heard = here.hear(FIRST, &far, 0);
+    assert_eq!(rt; heard, Disposition::ToJoined(Recipients::Joined));
+    assert_eq!(rt; passed(&here, heard.takers()), [true, true]);
+    assert_eq!(rt; reached(&here, heard.takers()), [false; 3]);
+    let back = packet(FIRST_NODE, 0x4001, THIRD_NODE);
+    let heard = here.hear(SOUTH, &back, 7);
+    assert_eq!(rt;
+        heard,
+        Disposition::FromJoined(Some(THIRD_NODE), Recipients::One(FIRST))
+    );
+    assert_eq!(rt; reached(&here, heard.takers()), [true, false, false]);
+    assert_eq!(rt; passed(&here, heard.takers()), [false, false]);
+    let known = RemoteClient {
+        node: THIRD_NODE,
+        router: SOUTH,
+        heard: 7,
+    };
+    assert_eq!(rt; here.far_clients(), [known].as_slice());
+    let heard = here.hear(FIRST, &far, 0);
+    assert_eq!(rt; heard, Disposition::ToJoined(Recipients::JoinedAt(SOUTH)));
+    assert_eq!(rt; passed(&here, heard.takers()), [true, false]);
+    // It is at the site that told of it last.
+    here.hear(WEST, &back, 8);
+    let heard = here.hear(FIRST, &far, 0);
+    assert_eq!(rt; passed(&here, heard.takers()), [false, true]);
+    Ok(())
+}
+
+/// A registration tells each site, by 30 bytes from its node to its node, and there the same place
+/// gets another node, of that router's making: the first four bytes of its own, and the port of UDP.
+#[test]
+fn one_place_at_two_sites(rt: HostRuntime) -> Result<(), Fail> {
+    let mut here = north(rt.alloc())?;
+    let mut there = south(rt.alloc())?;
+    let announcement = [
+        0xff, 0xff, 0, 0x1e, 0, 0, 0, 0, 0xd0, 0x5b, 0x7f, 0, 0, 1, 0xbc, 0x47, 0, 2, 0, 0, 0xd0,
+        0x5b, 0x7f, 0, 0, 1, 0xbc, 0x47, 0, 2,
+    ];
+    let heard = here.hear(FIRST, &REGISTRATION, 0);
+    assert_eq!(rt; heard.announcement(), Some(announcement));
+    assert_eq!(rt; passed(&here, heard.takers()), [false, false]);
+    let heard = there.hear(NORTH, &announcement, 0);
+    assert_eq!(rt; heard, Disposition::FromJoined(Some(FIRST_NODE), Recipients::Nobody));
+    assert_eq!(rt; heard.announcement(), None);
+    let answer = [
+        0xff, 0xff, 0, 0x1e, 0, 0, 0, 0, 0xd0, 0x5b, 0xc6, 0x33, 0x64, 7, 0xbc, 0x47, 0, 2, 0, 0,
+        0xd0, 0x5b, 0xc6, 0x33, 0x64, 7, 8, 0x52, 0, 2,
+    ];
+    let made = Node([0xc6, 0x33, 0x64, 7, 0xbc, 0x47]);
+    assert_eq!(rt; there.hear(FIRST, &REGISTRATION, 5).answer(), Some(answer));
+    assert_eq!(rt; there.clients()[0].node, made);
+    // It keeps that, and sends from there.
+    assert_eq!(rt; there.hear(FIRST, &REGISTRATION, 9).answer(), Some(answer));
+    let all = packet(Node::BROADCAST, 0x4001, made);
+    assert_eq!(rt; there.hear(FIRST, &all, 9), Disposition::ToOthers(FIRST));
+    let other = packet(Node::BROADCAST, 0x4001, FIRST_NODE);
+    assert_eq!(rt;
+        there.hear(FIRST, &other, 9),
+        Disposition::Dropped(ServerDrop::OtherSource(FIRST_NODE))
+    );
+    // Another place has its own, and a made one that is taken too is given to nobody.
+    there.hear(SECOND, &REGISTRATION, 5);
+    assert_eq!(rt; there.clients()[1].node, SECOND_NODE);
+    let mut third = north(rt.alloc())?;
+    let made = Node([2, 0, 0, 0, 0, 0xd5]);
+    third.hear(SOUTH, &packet(Node::BROADCAST, 2, THIRD_NODE), 0);
+    third.hear(SOUTH, &packet(Node::BROADCAST, 2, made), 0);
+    assert_eq!(rt;
+        third.hear(THIRD, &REGISTRATION, 0),
+        Disposition::Dropped(ServerDrop::NodeTaken(made))
+    );
+    Ok(())
+}
+
+/// What a site may not send: from a node that is known here, so that no packet of a client comes back;
+/// for another network; to nobody here. A site does not register.
+#[test]
+fn what_a_site_may_not_send(rt: HostRuntime) -> Result<(), Fail> {
+    let mut here = north(rt.alloc())?;
+    here.hear(FIRST, &REGISTRATION, 0);
+    here.hear(SECOND, &REGISTRATION, 0);
+    let rows = [
+        (
+            packet(Node::BROADCAST, 0x4001, FIRST_NODE),
+            ServerDrop::NotBehind(FIRST_NODE),
+        ),
+        (CAME, ServerDrop::NotBehind(FIRST_NODE)),
+        (
+            packet(FIRST_NODE, 0x4001, PORT.own),
+            ServerDrop::NotBehind(PORT.own),
+        ),
+        (
+            packet(FIRST_NODE, 0x4001, Node::BROADCAST),
+            ServerDrop::NotBehind(Node::BROADCAST),
+        ),
+        (
+            packet_for(0x99, PORT.own, 0x453, THIRD_NODE),
+            ServerDrop::ForElsewhere(Network(0x99)),
+        ),
+        (
+            packet(NOBODY, 0x4001, THIRD_NODE),
+            ServerDrop::NoSuchNode(NOBODY),
+        ),
+        (
+            packet(PORT.own, 0x453, THIRD_NODE),
+            ServerDrop::NoSuchNode(PORT.own),
+        ),
+    ];
+    for (bytes, drop) in rows {
+        assert_eq!(rt; here.hear(SOUTH, &bytes, 0), Disposition::Dropped(drop));
+    }
+    assert_eq!(rt;
+        here.hear(SOUTH, &REGISTRATION, 0),
+        Disposition::Dropped(ServerDrop::NotBehind(Node([0; 6])))
+    );
+    assert!(rt; here.far_clients().is_empty());
+    assert_eq!(rt; here.clients().len(), 2);
+    let wanted = ServerCounts {
+        not_behind: 5,
+        for_elsewhere: 1,
+        no_such_node: 2,
+        ..ServerCounts::new()
+    };
+    assert_eq!(rt; here.counts(), wanted);
+    Ok(())
+}
+
+/// Another port of a site's address is no site, and of a site that does not name this one nothing is
+/// heard.
+#[test]
+fn who_is_no_site(rt: HostRuntime) -> Result<(), Fail> {
+    let mut here = north(rt.alloc())?;
+    register_all(&mut here);
+    let all = packet(Node::BROADCAST, 0x4001, NOBODY);
+    for from in [
+        Place {
+            udp_port: 2131,
+            ..SOUTH
+        },
+        NORTH,
+    ] {
+        assert_eq!(rt;
+            here.hear(from, &all, 0),
+            Disposition::Dropped(ServerDrop::Unregistered)
+        );
+    }
+    let mut alone = IpxnetServer::new(rt.alloc(), PORT, 64)?;
+    register_all(&mut alone);
+    assert_eq!(rt;
+        alone.hear(SOUTH, &all, 0),
+        Disposition::Dropped(ServerDrop::Unregistered)
+    );
+    assert!(rt; alone.routers().is_empty());
+    assert_eq!(rt; here.routers(), [SOUTH, WEST].as_slice());
+    Ok(())
+}
+
+/// Packets of the core: to a node that no client here has by the sites, and to all nodes here alone.
+/// What a site's core forwards comes from another network, and tells of no node here.
+#[test]
+fn packets_of_the_core(rt: HostRuntime) -> Result<(), Fail> {
+    let mut here = north(rt.alloc())?;
+    here.hear(FIRST, &REGISTRATION, 0);
+    assert_eq!(rt; here.give(FIRST_NODE, &[0; 40], 0), Ok(Recipients::One(FIRST)));
+    let each = here.give(THIRD_NODE, &[0; 40], 0)?;
+    assert_eq!(rt; each, Recipients::Joined);
+    assert_eq!(rt; passed(&here, each), [true, true]);
+    here.hear(WEST, &packet(FIRST_NODE, 0x4001, THIRD_NODE), 0);
+    assert_eq!(rt;
+        here.give(THIRD_NODE, &[0; 40], 0),
+        Ok(Recipients::JoinedAt(WEST))
+    );
+    let all = here.give(Node::BROADCAST, &[0; 40], 0)?;
+    assert_eq!(rt; reached(&here, all), [true, false, false]);
+    assert_eq!(rt; passed(&here, all), [false, false]);
+    let told = packet(Node::BROADCAST, 0x453, PORT.own);
+    assert_eq!(rt; here.give(Node::BROADCAST, &told, 0), Ok(Recipients::Nobody));
+    assert_eq!(rt; passed(&here, Recipients::Nobody), [false, false]);
+    assert_eq!(rt;
+        here.give(THIRD_NODE, &[0; 1425], 0),
+        Err(ServerDrop::TooLong(1425))
+    );
+    // From network 00000099, by a node that a client here has too: another end.
+    let mut forwarded = packet(FIRST_NODE, 0x4001, FIRST_NODE);
+    forwarded[18..22].copy_from_slice(&[0, 0, 0, 0x99]);
+    assert_eq!(rt;
+        here.hear(SOUTH, &forwarded, 0),
+        Disposition::FromJoined(None, Recipients::One(FIRST))
+    );
+    assert_eq!(rt; here.far_clients().len(), 1);
+    Ok(())
+}
+
+/// No client takes more than 1,424 bytes, at whichever site.
+#[test]
+fn long_packets(rt: HostRuntime) -> Result<(), Fail> {
+    let mut here = north(rt.alloc())?;
+    here.hear(FIRST, &REGISTRATION, 0);
+    let far = long_packet(THIRD_NODE, 1424);
+    assert_eq!(rt;
+        here.hear(FIRST, &far[..1424], 0),
+        Disposition::ToJoined(Recipients::Joined)
+    );
+    let long = Disposition::Dropped(ServerDrop::TooLong(1425));
+    assert_eq!(rt; here.hear(FIRST, &far[..1425], 0), long);
+    let mut there = south(rt.alloc())?;
+    there.hear(THIRD, &REGISTRATION, 0);
+    let all = long_packet(Node::BROADCAST, 1424);
+    assert_eq!(rt;
+        there.hear(NORTH, &all[..1424], 0),
+        Disposition::FromJoined(Some(FIRST_NODE), Recipients::Here(NORTH))
+    );
+    assert_eq!(rt; there.hear(NORTH, &all[..1425], 0), long);
+    assert_eq!(rt; there.hear(NORTH, &far[..1425], 0), long);
+    Ok(())
+}
+
+/// A client of a site is known for a day behind its last packet, and 1,024 of them at most.
+#[test]
+fn far_clients_that_go(rt: HostRuntime) -> Result<(), Fail> {
+    let mut here = north(rt.alloc())?;
+    let day = 86_400_000;
+    here.hear(SOUTH, &packet(Node::BROADCAST, 2, THIRD_NODE), 5);
+    here.hear(SOUTH, b"abc", day + 4);
+    assert_eq!(rt; here.far_clients().len(), 1);
+    here.hear(SOUTH, b"abc", day + 5);
+    assert!(rt; here.far_clients().is_empty());
+    for number in 0..1025u16 {
+        let mut node = NOBODY;
+        node.0[4..].copy_from_slice(&number.to_be_bytes());
+        here.hear(SOUTH, &packet(Node::BROADCAST, 2, node), 0);
+    }
+    assert_eq!(rt; here.far_clients().len(), 1024);
+    assert_eq!(rt; here.far_clients()[0].node, NOBODY);
+    Ok(())
+}
+
+/// Where memory is refused there is no lobby, and one is made at the next try.
+#[test]
+fn refused_joined_server(rt: HostRuntime) -> Result<(), Fail> {
+    let mut server = match north(rt.alloc()) {
+        Ok(server) => server,
+        Err(_) => north(rt.alloc())?,
+    };
+    assert_eq!(rt; server.give(THIRD_NODE, &[0; 40], 0), Ok(Recipients::Joined));
+    Ok(())
+}
+
+/// What is said of what a site may not send.
+#[test]
+fn texts_of_sites(rt: HostRuntime) -> Result<(), Fail> {
+    let rows = [
+        (
+            ServerDrop::NotBehind(FIRST_NODE),
+            "a joined router sent from a node that is not behind it: 7f000001bc47",
+        ),
+        (
+            ServerDrop::ForElsewhere(Network(0x99)),
+            "a joined router sent for network 00000099",
+        ),
+    ];
+    for (drop, wanted) in rows {
+        let text = format!(in rt.alloc(); "{drop}")?;
+        assert_eq!(rt; text.as_str(), wanted);
+    }
+    Ok(())
+}

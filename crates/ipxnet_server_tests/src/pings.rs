@@ -1,0 +1,83 @@
+//! What `ipxnet ping` sends, and who answers it.
+
+use crate::caller::give;
+use crate::fixture::{CAME, FIRST, PORT, SECOND, THIRD, register_all};
+use ipxnet_server::{Disposition, IpxnetServer, ServerDrop};
+use std::test::Fail;
+
+/// A ping of the first player.
+const PING: [u8; 30] = [
+    0xff, 0xff, 0, 0x1e, 0, 0, 0, 0, 0, 0, 0xff, 0xff, 0xff, 0xff, 0xff, 0xff, 0, 2, 0, 0, 0, 0,
+    0x7f, 0, 0, 1, 0xbc, 0x47, 0, 2,
+];
+
+/// What the router answers it.
+const ANSWER: [u8; 30] = [
+    0xff, 0xff, 0, 0x1e, 0, 0, 0, 0, 0, 0, 0x7f, 0, 0, 1, 0xbc, 0x47, 0, 2, 0, 0, 0, 0, 2, 0, 0, 0,
+    0xd0, 0x5b, 0, 2,
+];
+
+/// What the second player answers it.
+const OF_SECOND: [u8; 30] = [
+    0xff, 0xff, 0, 0x1e, 0, 0, 0, 0, 0, 0, 0x7f, 0, 0, 1, 0xbc, 0x47, 0, 2, 0, 0, 0, 0, 0x7f, 0, 0,
+    1, 0xbc, 0x48, 0, 2,
+];
+
+/// The router answers with its node, and the others get the ping; the core does not.
+#[test]
+fn a_ping(rt: HostRuntime) -> Result<(), Fail> {
+    let mut server = IpxnetServer::new(rt.alloc(), PORT, 64)?;
+    register_all(&mut server);
+    assert_eq!(rt;
+        give(&mut server, FIRST, &PING),
+        (true, [false, true, true], false)
+    );
+    assert_eq!(rt; server.hear(FIRST, &PING, 0).answer(), Some(ANSWER));
+    // Others answer for themselves, to the one that asked alone.
+    assert_eq!(rt;
+        give(&mut server, SECOND, &OF_SECOND),
+        (false, [true, false, false], false)
+    );
+    Ok(())
+}
+
+/// It may name the network, come from another socket and be longer.
+#[test]
+fn a_ping_of_another_kind(rt: HostRuntime) -> Result<(), Fail> {
+    let mut server = IpxnetServer::new(rt.alloc(), PORT, 64)?;
+    register_all(&mut server);
+    let mut bytes = CAME;
+    bytes[10..18].copy_from_slice(&[0xff, 0xff, 0xff, 0xff, 0xff, 0xff, 0, 2]);
+    assert_eq!(rt; server.hear(FIRST, &bytes, 0).answer(), Some(ANSWER));
+    Ok(())
+}
+
+/// One to a node goes there as any packet does, and one to another network goes nowhere.
+#[test]
+fn pings_that_the_router_leaves(rt: HostRuntime) -> Result<(), Fail> {
+    let mut server = IpxnetServer::new(rt.alloc(), PORT, 64)?;
+    register_all(&mut server);
+    let mut bytes = PING;
+    bytes[10..16].copy_from_slice(&[10, 0, 0, 9, 0, 0xd5]);
+    assert_eq!(rt; server.hear(FIRST, &bytes, 0), Disposition::ToClient(THIRD));
+    bytes[10..16].copy_from_slice(&PORT.own.0);
+    assert_eq!(rt; server.hear(FIRST, &bytes, 0), Disposition::ToCore);
+    let mut elsewhere = PING;
+    elsewhere[9] = 0x99;
+    let dropped = server.hear(FIRST, &elsewhere, 0);
+    assert!(rt; matches!(dropped, Disposition::Dropped(ServerDrop::PingElsewhere(_))));
+    elsewhere[10..16].copy_from_slice(&[2, 0, 0, 0, 0, 1]);
+    server.hear(FIRST, &elsewhere, 0);
+    assert_eq!(rt; server.counts().ping_elsewhere, 2);
+    Ok(())
+}
+
+/// From an end that is not registered it is not answered.
+#[test]
+fn a_ping_of_an_unknown_sender(rt: HostRuntime) -> Result<(), Fail> {
+    let mut server = IpxnetServer::new(rt.alloc(), PORT, 64)?;
+    server.hear(SECOND, &crate::fixture::REGISTRATION, 0);
+    assert_eq!(rt; give(&mut server, FIRST, &PING), (false, [false; 3], false));
+    assert_eq!(rt; server.counts().unregistered, 1);
+    Ok(())
+}

@@ -1,0 +1,123 @@
+//! How many players there may be, and how many register in a second.
+
+use crate::fixture::{FIRST, FIRST_NODE, PORT, REGISTRATION, SECOND, THIRD, packet};
+use ipxnet_server::{Disposition, IpxnetServer, ServerDrop, MAX_CLIENTS, Place};
+use ipx_wire::Node;
+use std::test::Fail;
+
+/// A place of a number.
+fn place(number: u16) -> Place {
+    Place {
+        ip: [192, 0, 2, 1],
+        udp_port: number,
+    }
+}
+
+/// Whether an end registers at a moment, and why it does not.
+fn registers(server: &mut IpxnetServer, from: Place, now: u64) -> Option<ServerDrop> {
+    match server.hear(from, &REGISTRATION, now) {
+        Disposition::Dropped(drop) => Some(drop),
+        _ => None,
+    }
+}
+
+/// How many there may be: 1 to 150.
+#[test]
+fn how_many_there_may_be(rt: HostRuntime) -> Result<(), Fail> {
+    for (most, may) in [(0, false), (1, true), (64, true), (150, true), (151, false)] {
+        assert_eq!(rt; IpxnetServer::may_have(most), may);
+    }
+    assert_eq!(rt; MAX_CLIENTS, 150);
+    Ok(())
+}
+
+/// By a clock that went back no time has passed: who registered before that is new as ever.
+#[test]
+fn ten_before_the_clock_went_back(rt: HostRuntime) -> Result<(), Fail> {
+    let mut server = IpxnetServer::new(rt.alloc(), PORT, 150)?;
+    for number in 1..=10 {
+        assert_eq!(rt; registers(&mut server, place(number), 5000), None);
+    }
+    for now in [0, 4999, 5999] {
+        assert_eq!(rt;
+            registers(&mut server, place(11), now),
+            Some(ServerDrop::TooManyNew)
+        );
+    }
+    assert_eq!(rt; registers(&mut server, place(11), 6000), None);
+    Ok(())
+}
+
+/// In a full lobby, the player that was silent longest makes room behind an hour.
+#[test]
+fn who_makes_room(rt: HostRuntime) -> Result<(), Fail> {
+    let mut server = IpxnetServer::new(rt.alloc(), PORT, 2)?;
+    assert_eq!(rt; registers(&mut server, FIRST, 0), None);
+    assert_eq!(rt; registers(&mut server, SECOND, 10), None);
+    // The first is heard again, so that the second was silent longer.
+    server.hear(FIRST, &packet(Node::BROADCAST, 0x4001, FIRST_NODE), 20);
+    assert_eq!(rt;
+        registers(&mut server, THIRD, 3_600_009),
+        Some(ServerDrop::Full)
+    );
+    assert_eq!(rt; server.counts().full, 1);
+    // Who is known registers as ever.
+    assert_eq!(rt; server.clients().len(), 2);
+    assert_eq!(rt; registers(&mut server, THIRD, 3_600_010), None);
+    assert_eq!(rt; server.clients().len(), 2);
+    assert_eq!(rt; server.clients()[0].place, FIRST);
+    assert_eq!(rt; server.clients()[1].place, THIRD);
+    assert_eq!(rt; registers(&mut server, FIRST, 3_600_011), None);
+    assert_eq!(rt;
+        registers(&mut server, SECOND, 3_600_012),
+        Some(ServerDrop::Full)
+    );
+    Ok(())
+}
+
+/// Ten in a second, and the next one a second behind the first.
+#[test]
+fn ten_in_a_second(rt: HostRuntime) -> Result<(), Fail> {
+    let mut server = IpxnetServer::new(rt.alloc(), PORT, 150)?;
+    for number in 1..=10 {
+        assert_eq!(rt;
+            registers(&mut server, place(number), 100 * u64::from(number)),
+            None
+        );
+    }
+    assert_eq!(rt;
+        registers(&mut server, place(11), 1099),
+        Some(ServerDrop::TooManyNew)
+    );
+    // One that is known is answered all the same.
+    assert_eq!(rt; registers(&mut server, place(1), 1099), None);
+    assert_eq!(rt; registers(&mut server, place(11), 1100), None);
+    assert_eq!(rt;
+        registers(&mut server, place(12), 1199),
+        Some(ServerDrop::TooManyNew)
+    );
+    assert_eq!(rt; server.counts().too_many_new, 2);
+    assert_eq!(rt; server.clients().len(), 11);
+    Ok(())
+}
+
+/// A hundred and fifty, and no one more within the hour.
+#[test]
+fn a_full_server(rt: HostRuntime) -> Result<(), Fail> {
+    let mut server = IpxnetServer::new(rt.alloc(), PORT, 150)?;
+    for number in 1..=150 {
+        assert_eq!(rt;
+            registers(&mut server, place(number), 100 * u64::from(number)),
+            None
+        );
+    }
+    assert_eq!(rt; server.clients().len(), 150);
+    assert_eq!(rt;
+        registers(&mut server, place(151), 3_600_099),
+        Some(ServerDrop::Full)
+    );
+    assert_eq!(rt; registers(&mut server, place(151), 3_600_100), None);
+    assert_eq!(rt; server.clients().len(), 150);
+    assert_eq!(rt; server.clients()[0].place, place(2));
+    Ok(())
+}

@@ -1,0 +1,43 @@
+//! For how long a silent player is known.
+
+use crate::fixture::{CAME, FIRST, FIRST_NODE, PORT, REGISTRATION, SECOND, packet};
+use ipxnet_server::{Disposition, IpxnetServer, ServerDrop};
+use ipx_wire::Node;
+use std::test::Fail;
+
+/// A day behind the last that was heard it is forgotten, at whatever comes, and registers again with
+/// the same node.
+#[test]
+fn after_a_day(rt: HostRuntime) -> Result<(), Fail> {
+    let mut server = IpxnetServer::new(rt.alloc(), PORT, 64)?;
+    server.hear(FIRST, &REGISTRATION, 0);
+    let all = packet(Node::BROADCAST, 0x4001, FIRST_NODE);
+    server.hear(FIRST, &all, 1000);
+    server.hear(SECOND, b"abc", 86_400_999);
+    assert_eq!(rt; server.clients().len(), 1);
+    server.hear(SECOND, b"abc", 86_401_000);
+    assert!(rt; server.clients().is_empty());
+    assert_eq!(rt;
+        server.hear(FIRST, &CAME, 86_401_001),
+        Disposition::Dropped(ServerDrop::Unregistered)
+    );
+    server.hear(FIRST, &REGISTRATION, 86_401_002);
+    assert_eq!(rt; server.clients()[0].node, FIRST_NODE);
+    assert_eq!(rt; server.clients()[0].since, 86_401_002);
+    Ok(())
+}
+
+/// What is dropped does not count as heard; a clock that went back lets nobody go.
+#[test]
+fn what_counts_as_heard(rt: HostRuntime) -> Result<(), Fail> {
+    let mut server = IpxnetServer::new(rt.alloc(), PORT, 64)?;
+    server.hear(FIRST, &REGISTRATION, 1000);
+    server.hear(FIRST, &packet(FIRST_NODE, 0x4001, FIRST_NODE), 2000);
+    assert_eq!(rt; server.clients()[0].heard, 1000);
+    server.hear(SECOND, b"abc", 0);
+    assert_eq!(rt; server.clients().len(), 1);
+    server.hear(FIRST, &packet(PORT.own, 0x453, FIRST_NODE), 500);
+    assert_eq!(rt; server.clients()[0].heard, 500);
+    assert_eq!(rt; server.clients()[0].since, 1000);
+    Ok(())
+}

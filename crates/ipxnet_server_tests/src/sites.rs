@@ -1,0 +1,40 @@
+//! Three lobbies at three sites, each joined to the others, and what goes between them.
+
+use crate::fixture::PORT;
+use ipxnet_server::{IpxnetServer, ServerPort, Place};
+use ipx_wire::Node;
+use std::alloc::{AllocError, Global};
+
+/// Where the routers are.
+pub const NORTH: Place = Place {
+    ip: [192, 0, 2, 10],
+    udp_port: 2130,
+};
+
+pub const SOUTH: Place = Place {
+    ip: [198, 51, 100, 7],
+    udp_port: 2130,
+};
+
+pub const WEST: Place = Place {
+    ip: [203, 0, 113, 5],
+    udp_port: 2131,
+};
+
+/// The port of the south, on the network of the others.
+pub const SOUTH_PORT: ServerPort = ServerPort {
+    own: Node([0xc6, 0x33, 0x64, 7, 8, 0x52]),
+    ..PORT
+};
+
+/// The lobby of the north, joined to the south and the west.
+pub fn north(alloc: Global) -> Result<IpxnetServer, AllocError> {
+    let routers = Vec::from_slice(alloc, &[SOUTH, WEST])?;
+    IpxnetServer::joined_to(alloc, PORT, 64, routers)
+}
+
+/// The lobby of the south, joined to the north and the west.
+pub fn south(alloc: Global) -> Result<IpxnetServer, AllocError> {
+    let routers = Vec::from_slice(alloc, &[NORTH, WEST])?;
+    IpxnetServer::joined_to(alloc, SOUTH_PORT, 64, routers)
+}

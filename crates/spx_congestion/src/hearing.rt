@@ -1,0 +1,190 @@
+//! What a packet that the link read says of the line.
+
+ghost use Rattle.std.specs.Prelude.{◌≡◌, ◌+◌, ◌-◌, ◌<◌, ◌≤◌, ◌⊎◌, None, Some, false, true};
+ghost use Rattle.spx_congestion.specs.Pacing.{MendsOn, WaitsOn, behind, is_double, waited_since};
+ghost use Rattle.spx_congestion.specs.Pacing.{with_outstanding};
+
+use crate::pacer::Pacer;
+use crate::loss_recovery::LossRecovery;
+use crate::window::UNIT;
+use spx_link::Numbers;
+
+/// How many duplicates say that a unit is missing (RFC 5681).
+const MISSING: u16 = 3;
+
+impl Pacer {
+    /// The link read a packet, which made of its numbers others. `joined` is whether it is the
+    /// answer to the request.
+    ///
+    /// A packet that takes no unit from the queue, brings none, and allows no more than was allowed
+    /// is a duplicate: one of those behind a missing unit came. Three of them say that it is
+    /// missing, fewer where fewer are outstanding (RFC 5681, RFC 5827).
+    pub fn heard(&mut self, before: Numbers, after: Numbers, joined: bool, now: u64)
+        ensures counts { self.new.out ≡ after.out }
+        ensures acknowledged { after.out < before.out
+            → (self.new.timer ≡ waited_since None after.out now) × (self.new.trip.doubled ≡ 0) }
+        ensures waits { before.out ≤ after.out → WaitsOn self.old.timer after.out now self.new.timer
+            × (self.new.trip.doubled ≡ self.old.trip.doubled) }
+        ensures counted { before.out ≤ after.out → is_double before after ≡ false
+            → self.new ≡ record (with_outstanding self.old after.out now) { trip = self.new.trip } }
+        ensures mends { MendsOn self.old now self.new }
+        ensures ended { self.new.ended ≡ self.old.ended }
+    {
+        if joined {
+            self.answered(now);
+        }
+        let flight = self.flight();
+        let units = before.out.saturating_sub(after.out);
+        if units > 0 {
+            self.acknowledged(units, after.out, flight, now);
+        } else if after.out > 0 && before.room >= after.room && before.expected == after.expected {
+            self.count(after.out, now);
+            self.doubled(now);
+        } else {
+            self.count(after.out, now);
+        }
+    }
+
+    /// The request was answered.
+    fn answered(&mut self, now: u64)
+        ensures value { self.new ≡ record self.old { trip = self.new.trip } }
+        ensures doubled { self.new.trip.doubled ≡ self.old.trip.doubled }
+    {
+        if let Some(asked_at) = self.asked_at {
+            self.trip.answer_request(now.saturating_sub(asked_at));
+        }
+        self.asked_at = None;
+    }
+
+    /// So many units were acknowledged, and `flight` were on their way before.
+    fn acknowledged(&mut self, units: u16, out: u16, flight: u64, now: u64)
+        ensures counts { self.new.out ≡ out }
+        ensures timer { self.new.timer ≡ waited_since None out now }
+        ensures doubled { self.new.trip.doubled ≡ 0 }
+        ensures mends { MendsOn self.old now self.new }
+        ensures ended { self.new.ended ≡ self.old.ended }
+    {
+        if self.dup_acks == 0 && !self.repair.is_on() {
+            self.measure(units, now);
+        }
+        self.trip.come_back();
+        self.dup_acks = 0;
+        self.base = self.base.saturating_add(u64::from(units));
+        self.left = self.left.saturating_sub(units.saturating_sub(1));
+        self.timer = None;
+        self.count(out, now);
+        if self.base > self.past {
+            self.ignore = 0;
+        }
+        match self.repair.recover {
+            Some(recover) => self.mend(units, recover, now),
+            None => self.grow(units, flight, now),
+        }
+    }
+
+    /// The last unit that an acknowledgement takes tells the round trip, where it was sent once
+    /// (RFC 6298, Karn's rule).
+    fn measure(&mut self, units: u16, now: u64)
+        ensures { self.new ≡ record self.old { trip = self.new.trip } }
+    {
+        let last = self.base.saturating_add(u64::from(units.saturating_sub(1)));
+        if let Some(sent) = self.sent.at(last) {
+            self.trip.sample(now.saturating_sub(sent));
+        }
+    }
+
+    /// The window grows, where it was the limit.
+    fn grow(&mut self, units: u16, flight: u64, now: u64)
+        ensures { self.new ≡ record self.old { window = self.new.window } }
+    {
+        if self.window.is_limit(flight) {
+            self.window.grow(u64::from(units), now, &self.trip);
+        }
+    }
+
+    /// Units were acknowledged while something is repaired.
+    fn mend(&mut self, units: u16, recover: u64, now: u64)
+        ensures counts { self.new.out ≡ self.old.out }
+        ensures timer { self.new.timer ≡ self.old.timer }
+        ensures trip { self.new.trip ≡ self.old.trip }
+        ensures ended { self.new.ended ≡ self.old.ended }
+        ensures mends { MendsOn self.old now self.new }
+    {
+        self.in_flight = self.in_flight.saturating_sub(1);
+        if self.base >= recover {
+            self.leave(now);
+            return;
+        }
+        self.repair
+            .go_on(self.base, u64::from(self.left), recover, now);
+        if self.repair.timed {
+            self.window
+                .widen_to_threshold(u64::from(units.min(2)) * UNIT);
+        }
+    }
+
+    /// A duplicate came.
+    fn doubled(&mut self, now: u64)
+        ensures counts { self.new.out ≡ self.old.out }
+        ensures timer { (self.new.timer ≡ self.old.timer) ⊎ (self.new.timer ≡ Some now) }
+        ensures trip { self.new.trip ≡ self.old.trip }
+        ensures ended { self.new.ended ≡ self.old.ended }
+        ensures mends { MendsOn self.old now self.new }
+    {
+        if self.ignore > 0 {
+            self.ignore -= 1;
+            return;
+        }
+        self.dup_acks = self.dup_acks.saturating_add(1);
+        if self.repair.counts_repairs() && self.in_flight > 0 {
+            self.in_flight -= 1;
+        } else if self.left < self.out {
+            self.left += 1;
+        }
+        if self.repair.is_on() {
+            self.timer = Some(now);
+            self.widen();
+        } else if self.says_missing() {
+            self.enter(now);
+        }
+    }
+
+    /// Whether the duplicates say that the first outstanding unit is missing (RFC 6582: and not
+    /// that one went again which had come).
+    fn says_missing(&self) -> bool {
+        let wanted = self.out.saturating_sub(1).max(1).min(MISSING);
+        self.dup_acks >= wanted && self.base >= self.safe
+    }
+
+    /// A packet left the line while something is repaired.
+    fn widen(&mut self)
+        ensures { self.new ≡ record self.old { window = self.new.window } }
+    {
+        if self.repair.timed {
+            self.window.widen_to_threshold(UNIT / 2);
+        } else if !self.repair.crowded {
+            self.window.widen_in_repair();
+        }
+    }
+
+    /// A repair begins with the first outstanding unit.
+    pub(crate) fn enter(&mut self, now: u64)
+        ensures { self.new ≡ record self.old {
+          in_flight = 0;
+          from = self.old.base;
+          to = behind self.old.base 1;
+          window = self.new.window;
+          mends = true;
+          fixed_at = now;
+          tries = 0;
+        } }
+    {
+        let next = self.next();
+        let queued = self.trip.is_queued();
+        self.safe = next;
+        self.window.lessen(queued);
+        self.repair = LossRecovery::begin(self.base, next, now);
+        self.repair.crowded = queued;
+        self.in_flight = 0;
+    }
+}

@@ -1,0 +1,40 @@
+//! The end of a repair.
+
+ghost use Rattle.std.specs.Prelude.{◌≡◌};
+ghost use Rattle.spx_congestion.specs.Pacing.{MendsOn};
+
+use crate::pacer::Pacer;
+use crate::loss_recovery::LossRecovery;
+
+/// How many units that came behind the first outstanding one say that it is missing.
+const MISSING: u16 = 3;
+
+impl Pacer {
+    /// All that was outstanding as the repair began is acknowledged.
+    ///
+    /// Where more went again than was known to be missing, the acknowledgements of those that had
+    /// come say nothing. Else units that came behind the first outstanding one say that it is
+    /// missing too.
+    pub(crate) fn leave(&mut self, now: u64)
+        ensures counts { self.new.out ≡ self.old.out }
+        ensures timer { self.new.timer ≡ self.old.timer }
+        ensures trip { self.new.trip ≡ self.old.trip }
+        ensures ended { self.new.ended ≡ self.old.ended }
+        ensures mends { MendsOn self.old now self.new }
+    {
+        let blind = self.repair.messy || self.repair.timed;
+        self.repair = LossRecovery::new();
+        self.past = self.next();
+        self.in_flight = 0;
+        self.dup_acks = 0;
+        if blind {
+            let since = now.saturating_sub(self.trip.with_slack());
+            self.ignore = self.repairs.count_since(since);
+            self.left = 0;
+        } else if self.left >= MISSING {
+            self.enter(now);
+        } else {
+            self.left = 0;
+        }
+    }
+}

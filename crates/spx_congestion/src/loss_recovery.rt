@@ -1,0 +1,195 @@
+//! Units that go again: which are to, and which did.
+
+ghost use Rattle.std.specs.Prelude.{◌≡◌, ◌+◌, ◌-◌, ◌*◌, ◌^◌, ◌&&◌, Some, None, if◌then◌else◌, is_some, max, min, nat_le};
+ghost use Rattle.std.specs.Prelude.{◌⊎◌, false, not};
+ghost use Rattle.spx_congestion.specs.Pacing.{behind};
+
+/// What stands of a repair. Positions count units from 0.
+///
+/// It begins with the first unit that is missing, and lasts until all is acknowledged that was
+/// outstanding then.
+#[derive(Clone, Copy)]
+pub struct LossRecovery {
+    /// The position up to which it goes. None where nothing is being repaired.
+    pub recover: Option<u64>,
+    /// How many units from the first outstanding one on may go again.
+    pub run: u64,
+    /// The positions that are to go again.
+    pub from: u64,
+    pub to: u64,
+    /// The position up to which units were to go again so far, and when the first outstanding one
+    /// was.
+    pub fixed: u64,
+    pub fixed_at: u64,
+    /// How often the first outstanding one went again, and was missing again.
+    pub tries: u32,
+    /// Whether a queue stood on the line as it began.
+    pub crowded: bool,
+    /// Whether more go again than are known to be missing.
+    pub messy: bool,
+    /// Whether no acknowledgement moved it yet.
+    pub fresh: bool,
+    /// Whether a wait was over.
+    pub timed: bool,
+}
+
+/// The longest run after a wait was over.
+const MAX_RUN: u64 = 64;
+
+impl LossRecovery {
+    /// Nothing is being repaired.
+    pub fn new() -> LossRecovery
+        ensures off { result.recover ≡ None }
+        ensures from { result.from ≡ 0 }
+        ensures to { result.to ≡ 0 }
+        ensures fixed_at { result.fixed_at ≡ 0 }
+        ensures tries { result.tries ≡ 0 }
+    {
+        LossRecovery {
+            recover: None,
+            run: 1,
+            from: 0,
+            to: 0,
+            fixed: 0,
+            fixed_at: 0,
+            tries: 0,
+            crowded: false,
+            messy: false,
+            fresh: false,
+            timed: false,
+        }
+    }
+
+    /// One that begins with the unit at `base`, up to `next`.
+    pub fn begin(base: u64, next: u64, now: u64) -> LossRecovery
+        ensures on { result.recover ≡ Some next }
+        ensures from { result.from ≡ base }
+        ensures to { result.to ≡ behind base 1 }
+        ensures fixed_at { result.fixed_at ≡ now }
+        ensures tries { result.tries ≡ 0 }
+        ensures timed { result.timed ≡ false }
+    {
+        LossRecovery {
+            recover: Some(next),
+            run: 1,
+            from: base,
+            to: base.saturating_add(1),
+            fixed: base.saturating_add(1),
+            fixed_at: now,
+            tries: 0,
+            crowded: false,
+            messy: false,
+            fresh: true,
+            timed: false,
+        }
+    }
+
+    /// Whether something is being repaired.
+    pub fn is_on(&self) -> bool
+        ensures { result ≡ is_some self.now.recover }
+    {
+        self.recover.is_some()
+    }
+
+    /// Whether nothing is to go again of what is outstanding from `base` on.
+    pub fn is_idle(&self, base: u64) -> bool
+        ensures { result ≡ nat_le self.now.to (max self.now.from base) }
+    {
+        self.to <= self.from.max(base)
+    }
+
+    /// Whether a duplicate says that a repair came, and not that a unit did.
+    pub fn counts_repairs(&self) -> bool {
+        self.is_on() && (self.run > 1 || self.timed)
+    }
+
+    /// An acknowledgement came, and the unit at `base` is the next that is missing: `left` of
+    /// those behind it came.
+    pub fn go_on(&mut self, base: u64, left: u64, recover: u64, now: u64)
+        ensures recover { self.new.recover ≡ self.old.recover }
+        ensures timed { self.new.timed ≡ self.old.timed }
+        ensures tries { self.new.tries ≡ 0 }
+        ensures fixed_at { (self.new.fixed_at ≡ now) ⊎ (self.new.fixed_at ≡ self.old.fixed_at) }
+    {
+        self.tries = 0;
+        let wanted = recover.saturating_sub(base);
+        if self.timed {
+            self.run = self.run.saturating_mul(2).min(MAX_RUN);
+        } else if self.fresh {
+            self.choose_run(wanted, wanted.saturating_sub(left));
+        }
+        self.fresh = false;
+        self.ask(base, recover, now);
+    }
+
+    /// How many may go again, where so many of those wanted are missing: a sixth of them, where
+    /// many are. Where a queue stood twice as many as are missing, if that is more: of what is too
+    /// much for a line every second one is lost.
+    fn choose_run(&mut self, wanted: u64, missing: u64)
+        ensures { self.new ≡ record self.old { run = self.new.run; messy = self.new.messy } }
+    {
+        let many = self.crowded || missing.saturating_mul(6) > wanted;
+        if missing > 6 && many {
+            let twice = if self.crowded {
+                missing.saturating_mul(2)
+            } else {
+                0
+            };
+            self.run = wanted.div_ceil(6).max(twice);
+            self.messy = true;
+        } else {
+            self.run = 1;
+        }
+    }
+
+    /// Those of the run that were not to go again yet are.
+    fn ask(&mut self, base: u64, recover: u64, now: u64)
+        ensures recover { self.new.recover ≡ self.old.recover }
+        ensures timed { self.new.timed ≡ self.old.timed }
+        ensures tries { self.new.tries ≡ self.old.tries }
+        ensures fixed_at { (self.new.fixed_at ≡ now) ⊎ (self.new.fixed_at ≡ self.old.fixed_at) }
+    {
+        let was_idle = self.is_idle(base);
+        let first = self.fixed.max(base);
+        let end = base.saturating_add(self.run).min(recover);
+        if was_idle {
+            self.from = first;
+            self.to = first;
+            self.fixed_at = now;
+        }
+        if first < end {
+            self.to = end;
+            self.fixed = end;
+            if first == base {
+                self.fixed_at = now;
+            }
+        }
+    }
+
+    /// When the first outstanding unit is missing again, which went again a round trip and its
+    /// slack ago. Each time doubles that. None where others are to go first.
+    pub fn missing_at(&self, base: u64, slack: u64) -> Option<u64>
+        ensures { result ≡ (if is_some self.now.recover && not self.now.timed
+            && nat_le self.now.to (max self.now.from base)
+            then Some (behind self.now.fixed_at (slack * 2 ^ min self.now.tries 6)) else None) }
+    {
+        if !self.is_on() || self.timed || !self.is_idle(base) {
+            return None;
+        }
+        let times = 2_u64.saturating_pow(self.tries.min(6));
+        Some(self.fixed_at.saturating_add(slack.saturating_mul(times)))
+    }
+
+    /// The first outstanding unit goes again once more.
+    pub fn repeat(&mut self, base: u64)
+        ensures { self.new ≡ record self.old {
+          from = base;
+          to = behind base 1;
+          tries = min (self.old.tries + 1) (2 ^ 32 - 1);
+        } }
+    {
+        self.from = base;
+        self.to = base.saturating_add(1);
+        self.tries = self.tries.saturating_add(1);
+    }
+}

@@ -1,0 +1,158 @@
+//! The pacer of a connection: what it holds.
+
+ghost use Rattle.std.specs.Prelude.{◌≡◌, ◌&&◌, IfOk, is_some, not};
+ghost use Rattle.spx_congestion.specs.Measured.{trip_of};
+ghost use Rattle.spx_congestion.specs.Pacing.{PacerView, flight, made_pacer, place_again};
+ghost use Rattle.spx_congestion.specs.Pacing.{with_outstanding};
+
+use crate::send_budget::SendBudget;
+use crate::send_times::SendTimes;
+use crate::loss_recovery::LossRecovery;
+use crate::round_trip::RoundTrip;
+use crate::window::{UNIT, Window};
+use ipx_wire::OutOfMemory;
+use std::alloc::Global;
+use std::marker::Model;
+
+/// When the units of one connection go.
+///
+/// It stands beside a link that goes by hand, and is told of each packet that the link read, by
+/// [`Pacer::heard`], or gave, by [`Pacer::gave`]. Before each poll of the link one asks it what the
+/// link may do, by [`Pacer::plan`]; what else is to wake the caller, [`Pacer::next_due`] says.
+/// Moments are in milliseconds from any start, and are handed in.
+#[derive(Drop)]
+pub struct Pacer {
+    pub(crate) trip: RoundTrip,
+    pub(crate) window: Window,
+    pub(crate) credit: SendBudget,
+    pub(crate) repair: LossRecovery,
+    /// The position of the first outstanding unit, and how many are outstanding.
+    pub(crate) base: u64,
+    pub(crate) out: u16,
+    /// How many of these came, or are given up, and how many went again.
+    pub(crate) left: u16,
+    pub(crate) in_flight: u16,
+    /// The duplicates since the last acknowledgement of a unit, and how many more are of repairs
+    /// that were not needed, up to the position `past`.
+    pub(crate) dup_acks: u16,
+    pub(crate) ignore: u64,
+    pub(crate) past: u64,
+    /// The position before which nothing begins a repair again.
+    pub(crate) safe: u64,
+    /// Since when an acknowledgement is waited for.
+    pub(crate) timer: Option<u64>,
+    /// When a unit was sent last.
+    pub(crate) spoke: Option<u64>,
+    /// When the request was sent, where it was sent once.
+    pub(crate) asked_at: Option<u64>,
+    pub(crate) asked: bool,
+    /// Whether the end of the connection was sent.
+    pub(crate) ended: bool,
+    /// When each unit was sent, where it was sent once.
+    pub(crate) sent: SendTimes,
+    /// When units went again, by how many did before.
+    pub(crate) repairs: SendTimes,
+    pub(crate) repaired: u64,
+}
+
+impl Model for Pacer {
+    ghost Value = { PacerView };
+
+    ghost view = { λ p. record {
+      base = p.base;
+      out = p.out;
+      left = p.left;
+      in_flight = p.in_flight;
+      from = p.repair.from;
+      to = p.repair.to;
+      window = p.window.size;
+      credit = p.credit.amount;
+      trip = trip_of p.trip;
+      timer = p.timer;
+      ended = p.ended;
+      mends = is_some p.repair.recover && not p.repair.timed;
+      fixed_at = p.repair.fixed_at;
+      tries = p.repair.tries;
+    } };
+}
+
+impl Pacer {
+    /// A pacer of a connection that is to be made. It takes all the memory that it ever wants, and
+    /// is refused only for want of that.
+    pub fn new(alloc: Global) -> Result<Pacer, OutOfMemory>
+        ensures { IfOk result (λ p. p ≡ made_pacer) }
+    {
+        let sent = SendTimes::new(alloc)?;
+        let repairs = SendTimes::new(alloc)?;
+        Ok(Pacer {
+            trip: RoundTrip::new(),
+            window: Window::new(),
+            credit: SendBudget::new(),
+            repair: LossRecovery::new(),
+            base: 0,
+            out: 0,
+            left: 0,
+            in_flight: 0,
+            dup_acks: 0,
+            ignore: 0,
+            past: 0,
+            safe: 0,
+            timer: None,
+            spoke: None,
+            asked_at: None,
+            asked: false,
+            ended: false,
+            sent,
+            repairs,
+            repaired: 0,
+        })
+    }
+
+    /// The position of the next new unit.
+    pub(crate) fn next(&self) -> u64 {
+        self.base.saturating_add(u64::from(self.out))
+    }
+
+    /// How many units are on their way.
+    pub(crate) fn flight(&self) -> u64
+        ensures { result ≡ flight self.now }
+    {
+        u64::from(self.out.saturating_sub(self.left)) + u64::from(self.in_flight)
+    }
+
+    /// How many more the window allows.
+    pub(crate) fn spare(&self) -> u64
+        ensures { result ≡ Rattle.spx_congestion.specs.Pacing.spare self.now }
+    {
+        (self.window.size() / UNIT).saturating_sub(self.flight())
+    }
+
+    /// The place of the first outstanding unit that is to go again.
+    pub(crate) fn place_again(&self) -> Option<u16>
+        ensures { result ≡ place_again self.now }
+    {
+        if self.repair.is_idle(self.base) {
+            return None;
+        }
+        let place = self.repair.from.saturating_sub(self.base);
+        if place < u64::from(self.out) {
+            Some(place as u16)
+        } else {
+            None
+        }
+    }
+
+    /// So many units are outstanding now, as the link says.
+    pub(crate) fn count(&mut self, out: u16, now: u64)
+        ensures { self.new ≡ with_outstanding self.old out now }
+    {
+        self.out = out;
+        self.left = self.left.min(out);
+        self.in_flight = if out > 0 { self.in_flight } else { 0 };
+        self.timer = match self.timer {
+            _ if out == 0 => None,
+            Some(since) => Some(since),
+            None => Some(now),
+        };
+    }
+}

@@ -1,0 +1,195 @@
+//! The measured round trip, and how long an acknowledgement is waited for (RFC 6298).
+
+ghost use Rattle.std.specs.Prelude.{◌≡◌, ◌+◌, ◌-◌, ◌^◌, min};
+ghost use Rattle.spx_congestion.specs.Measured.{doubled_wait, slack, trip_of};
+
+/// How long it is waited for before anything is measured, in milliseconds.
+const FIRST_WAIT: u64 = 500;
+
+/// The shortest and the longest such wait.
+const LEAST_WAIT: u64 = 200;
+
+const MAX_WAIT: u64 = 60_000;
+
+/// The longest wait that comes of doubling.
+const MAX_DOUBLED: u64 = 4000;
+
+/// How long the end of a connection is waited for at most: a listener keeps a connection some
+/// seconds behind its end, and no longer.
+const MAX_END_WAIT: u64 = 1000;
+
+/// The shortest time that the end of a connection is waited for, which alone is outstanding: ten of
+/// these outlast a router that is started again.
+const LEAST_END_WAIT: u64 = 500;
+
+/// How many samples tell whether a queue stands.
+const RECENT: usize = 8;
+
+/// The round trips of a connection, in milliseconds.
+#[derive(Clone, Copy)]
+pub struct RoundTrip {
+    /// Eight times the smoothed round trip.
+    smooth: Option<u64>,
+    /// Four times its variation.
+    variation: u64,
+    /// That of the request, which is no sample.
+    first: Option<u64>,
+    wait: u64,
+    /// How often the wait was over in a row.
+    doubled: u32,
+    least: Option<u64>,
+    recent: [u64; RECENT],
+    /// Which of the recent ones is replaced next.
+    turn: usize,
+}
+
+impl RoundTrip {
+    /// Nothing is measured yet.
+    pub fn new() -> RoundTrip
+        ensures { trip_of result ≡ record { wait = 500; doubled = 0; smoothed = 500 } }
+    {
+        RoundTrip {
+            smooth: None,
+            variation: 0,
+            first: None,
+            wait: FIRST_WAIT,
+            doubled: 0,
+            least: None,
+            recent: [0; RECENT],
+            turn: 0,
+        }
+    }
+
+    /// A request was answered at its first sending.
+    pub fn answer_request(&mut self, trip: u64)
+        ensures { self.new.doubled ≡ self.old.doubled }
+    {
+        self.first = Some(trip);
+        self.wait = trip.saturating_mul(3).max(LEAST_WAIT);
+    }
+
+    /// A unit that was sent once was acknowledged.
+    pub fn sample(&mut self, trip: u64) {
+        let trip = trip.max(1);
+        let smooth = match self.smooth {
+            None => {
+                self.variation = trip.saturating_mul(2);
+                self.recent = [trip; RECENT];
+                trip.saturating_mul(8)
+            }
+            Some(smooth) => {
+                let off = (smooth / 8).abs_diff(trip);
+                self.variation = (self.variation - self.variation / 4).saturating_add(off);
+                (smooth - smooth / 8).saturating_add(trip)
+            }
+        };
+        self.smooth = Some(smooth);
+        self.wait = (smooth / 8)
+            .saturating_add(self.variation.max(1))
+            .max(LEAST_WAIT)
+            .min(MAX_WAIT);
+        self.note(trip);
+    }
+
+    /// Notes a sample among the recent ones.
+    fn note(&mut self, trip: u64) {
+        self.least = match self.least {
+            Some(least) if least < trip => Some(least),
+            _ => Some(trip),
+        };
+        if let Some(place) = self.recent.get_mut(self.turn) {
+            *place = trip;
+        }
+        self.turn = if self.turn < RECENT - 1 {
+            self.turn + 1
+        } else {
+            0
+        };
+    }
+
+    /// The smoothed round trip, at least 1. Before a sample that of the request, and where it was
+    /// asked more than once the wait.
+    pub fn smoothed(&self) -> u64
+        ensures { result ≡ (trip_of self.now).smoothed }
+    {
+        match (self.smooth, self.first) {
+            (Some(smooth), _) => (smooth / 8).max(1),
+            (None, Some(first)) => first.max(1),
+            (None, None) => self.wait.max(1),
+        }
+    }
+
+    /// A round trip and what it may vary by: what was sent again and did not come by then is
+    /// missing again (RFC 8985, the reordering window).
+    pub fn with_slack(&self) -> u64
+        ensures { result ≡ slack (trip_of self.now) }
+    {
+        let trip = self.smoothed();
+        trip.saturating_add((trip / 4).max(10))
+    }
+
+    /// Whether a queue stands on the line: the least of the last eight samples is over the least
+    /// of all by an eighth, at least 4 and at most 16 (RFC 9406, its threshold).
+    pub fn is_queued(&self) -> bool {
+        self.is_over(8, 16)
+    }
+
+    /// Whether one begins to stand: it is over by a 32nd, at least 4 and at most 8.
+    pub fn is_slowing(&self) -> bool {
+        self.is_over(32, 8)
+    }
+
+    /// Whether the last eight samples are over the least of all by that part of it, at least 4 and
+    /// at most so many.
+    fn is_over(&self, part: u64, most: u64) -> bool {
+        let Some(least) = self.least else {
+            return false;
+        };
+        let over = (least / part.max(1)).max(4).min(most);
+        self.recent
+            .iter()
+            .all(|trip| *trip >= least.saturating_add(over))
+    }
+
+    /// The plain wait, without doubling.
+    pub fn plain_wait(&self) -> u64 {
+        self.wait
+    }
+
+    /// How long an acknowledgement is waited for.
+    pub fn wait(&self) -> u64
+        ensures { result ≡ doubled_wait (trip_of self.now) }
+    {
+        let times = 2_u64.saturating_pow(self.doubled);
+        self.wait
+            .saturating_mul(times)
+            .min(MAX_DOUBLED)
+            .max(self.wait)
+    }
+
+    /// How long that of the end of a connection is waited for, which alone is outstanding.
+    pub fn end_wait(&self) -> u64
+        ensures { result ≡ Rattle.spx_congestion.specs.Measured.end_wait (trip_of self.now) }
+    {
+        self.wait.max(LEAST_END_WAIT).min(MAX_END_WAIT)
+    }
+
+    /// Whether the wait was not over since the last acknowledgement.
+    pub fn is_first_wait(&self) -> bool {
+        self.doubled == 0
+    }
+
+    /// The wait was over.
+    pub fn back_off(&mut self)
+        ensures { self.new ≡ record self.old { doubled = min (self.old.doubled + 1) (2 ^ 32 - 1) } }
+    {
+        self.doubled = self.doubled.saturating_add(1);
+    }
+
+    /// Something was acknowledged.
+    pub fn come_back(&mut self)
+        ensures { self.new ≡ record self.old { doubled = 0 } }
+    {
+        self.doubled = 0;
+    }
+}

@@ -1,0 +1,60 @@
+//! Credit: what may be sent at once, so that sends are spread over the round trip.
+
+ghost use Rattle.std.specs.Prelude.{◌≡◌, ◌-◌, ◌/◌, nat_lt};
+
+use crate::window::UNIT;
+
+/// The credit at first, and what it may always grow to, in 256ths of a unit.
+const FIRST: u64 = 10 * UNIT;
+
+/// The credit of a sender, in 256ths of a unit. Each unit takes one of them away.
+#[derive(Clone, Copy)]
+pub struct SendBudget {
+    amount: u64,
+    /// Till when it has grown.
+    tick: u64,
+}
+
+impl SendBudget {
+    /// The credit at first.
+    pub fn new() -> SendBudget
+        ensures { result.amount ≡ 2560 }
+    {
+        SendBudget {
+            amount: FIRST,
+            tick: 0,
+        }
+    }
+
+    /// It grows till a moment by `rate` a millisecond, up to what four of them bring.
+    pub fn grow(&mut self, rate: u64, now: u64) {
+        if now <= self.tick {
+            return;
+        }
+        let gained = rate.saturating_mul(now - self.tick);
+        let most = rate.saturating_mul(4).max(FIRST);
+        self.amount = self.amount.saturating_add(gained).min(most);
+        self.tick = now;
+    }
+
+    /// Whether there is enough for a unit.
+    pub fn is_enough(&self) -> bool
+        ensures { result ≡ nat_lt 255 self.now.amount }
+    {
+        self.amount >= UNIT
+    }
+
+    /// For how many units there is.
+    pub fn units(&self) -> u64
+        ensures { result ≡ self.now.amount / 256 }
+    {
+        self.amount / UNIT
+    }
+
+    /// A unit was sent.
+    pub fn spend(&mut self)
+        ensures { self.new ≡ record self.old { amount = self.old.amount - 256 } }
+    {
+        self.amount = self.amount.saturating_sub(UNIT);
+    }
+}

@@ -1,0 +1,252 @@
+//! A line between a sender that is paced and a listener, with a clock of its own.
+
+use spx_link::Numbers;
+use spx_congestion::{SentKind, Pacer};
+use std::alloc::Global;
+use std::collections::VecDeque;
+use std::test::Fail;
+
+/// How many buffers the listener has.
+const BUFFERS: u64 = 8192;
+
+/// The bytes of a unit and of an acknowledgement on the wire, with the headers of IP and UDP.
+const UNIT: u64 = 604;
+
+const ACKNOWLEDGEMENT: u64 = 70;
+
+/// The seeds of the two directions.
+const SEEDS: [u64; 2] = [0x9e37_79b9_7f4a_7c15, 0xd1b5_4a32_d192_ed03];
+
+/// A millisecond, in nanoseconds, which the clock counts.
+const MS: u64 = 1_000_000;
+
+/// What a line does, the same in both directions.
+#[derive(Clone, Copy)]
+pub struct Terms {
+    /// Kilobits a second.
+    pub rate: u64,
+    /// The round trip, in milliseconds.
+    pub trip: u64,
+    /// How many packets wait for the rate. One more is dropped.
+    pub queue: usize,
+    /// Of so many packets the last is lost. None where 0.
+    pub every: u64,
+    /// Of a thousand so many are lost, drawn from a seed.
+    pub drawn: u64,
+}
+
+/// One direction of a line.
+#[derive(Drop)]
+struct Way {
+    terms: Terms,
+    count: u64,
+    draws: u64,
+    /// When the last packet has left the queue.
+    free: u64,
+    /// When those that wait leave it.
+    waiting: VecDeque<u64>,
+    /// What is on its way, and when it comes.
+    coming: VecDeque<(u64, u64)>,
+}
+
+impl Way {
+    fn new(alloc: Global, terms: Terms, seed: u64) -> Way {
+        Way {
+            terms,
+            count: 0,
+            draws: seed,
+            free: 0,
+            waiting: VecDeque::new(alloc),
+            coming: VecDeque::new(alloc),
+        }
+    }
+
+    /// Whether the next packet is lost (drawn by Marsaglia's xorshift).
+    fn loses(&mut self) -> bool {
+        self.count += 1;
+        self.draws ^= self.draws << 13;
+        self.draws ^= self.draws >> 7;
+        self.draws ^= self.draws << 17;
+        let every = self.terms.every;
+        (every > 0 && self.count % every == 0) || self.draws % 1000 < self.terms.drawn
+    }
+
+    /// A packet of so many bytes comes in.
+    fn put(&mut self, now: u64, bytes: u64, what: u64) -> Result<(), Fail> {
+        if self.loses() {
+            return Ok(());
+        }
+        while self.waiting.front().is_some_and(|leaves| *leaves <= now) {
+            self.waiting.pop_front();
+        }
+        if self.waiting.len() >= self.terms.queue {
+            return Ok(());
+        }
+        self.free = self.free.max(now) + bytes * 8 * MS / self.terms.rate;
+        self.waiting.push_back(self.free)?;
+        self.coming
+            .push_back((self.free + self.terms.trip * MS / 2, what))?;
+        Ok(())
+    }
+
+    /// When the next packet comes out.
+    fn next(&self) -> u64 {
+        self.coming.front().map_or(u64::MAX, |it| it.0)
+    }
+
+    /// The packet that comes out at a moment.
+    fn take(&mut self, now: u64) -> Option<u64> {
+        if self.next() != now {
+            return None;
+        }
+        self.coming.pop_front().map(|it| it.1)
+    }
+}
+
+/// A sender with units without end, a line, and a listener that takes each unit at once and
+/// acknowledges each packet.
+#[derive(Drop)]
+pub struct Course {
+    pacer: Pacer,
+    there: Way,
+    back: Way,
+    /// The first outstanding unit, and the next new one.
+    base: u64,
+    next: u64,
+    /// The unit that the listener waits for, and which of the next it has.
+    expected: u64,
+    came: Vec<bool>,
+    /// How often each unit was sent, and how often any.
+    sends: Vec<u8>,
+    sent: u64,
+    now: u64,
+    /// Whether a unit was to be sent for the eleventh time, at which a link is lost.
+    pub lost: bool,
+}
+
+impl Course {
+    /// A connection that was asked for at 0.
+    pub fn new(alloc: Global, terms: Terms) -> Result<Course, Fail> {
+        let mut course = Course {
+            pacer: Pacer::new(alloc)?,
+            there: Way::new(alloc, terms, SEEDS[0]),
+            back: Way::new(alloc, terms, SEEDS[1]),
+            base: 0,
+            next: 0,
+            expected: 0,
+            came: vec![in alloc; false; 8192]?,
+            sends: vec![in alloc; 0; 8192]?,
+            sent: 0,
+            now: terms.trip * MS,
+            lost: false,
+        };
+        course.pacer.plan(course.numbers(), 0);
+        course.pacer.gave(SentKind::Request, course.numbers(), 0);
+        course
+            .pacer
+            .heard(course.numbers(), course.numbers(), true, terms.trip);
+        Ok(course)
+    }
+
+    /// The numbers of the sender's link.
+    fn numbers(&self) -> Numbers {
+        let out = self.next - self.base;
+        Numbers {
+            next: (self.next % 65536) as u16,
+            out: out as u16,
+            room: (BUFFERS - out) as u16,
+            expected: 0,
+            held: 0,
+            buffers: 64,
+        }
+    }
+
+    /// Goes on till a moment, in milliseconds.
+    pub fn run_till(&mut self, till: u64) -> Result<(), Fail> {
+        while self.now < till * MS && !self.lost {
+            self.poll()?;
+            let due = self
+                .pacer
+                .next_due(self.now / MS)
+                .map_or(u64::MAX, |due| due * MS);
+            let next = due
+                .max(self.now + 1)
+                .min(self.there.next())
+                .min(self.back.next());
+            self.now = self.now.max(next);
+            self.arrive()?;
+            self.hear();
+        }
+        Ok(())
+    }
+
+    /// The sender's turn: polls till nothing is given.
+    fn poll(&mut self) -> Result<(), Fail> {
+        while self.poll_once()? {}
+        Ok(())
+    }
+
+    /// One poll, as a link by hand answers it: whether it gave anything.
+    fn poll_once(&mut self) -> Result<bool, Fail> {
+        let numbers = self.numbers();
+        let plan = self.pacer.plan(numbers, self.now / MS);
+        if numbers.out < plan.window && numbers.room > 0 {
+            self.sends[(self.next % 8192) as usize] = 1;
+            self.there.put(self.now, UNIT, self.next)?;
+            self.next += 1;
+            self.sent += 1;
+            self.pacer.gave(SentKind::Unit, self.numbers(), self.now / MS);
+            return Ok(true);
+        }
+        let Some(place) = plan.again else {
+            return Ok(false);
+        };
+        let position = self.base + u64::from(place);
+        let count = &mut self.sends[(position % 8192) as usize];
+        if *count == 10 {
+            self.lost = true;
+            return Ok(false);
+        }
+        *count += 1;
+        self.there.put(self.now, UNIT, position)?;
+        self.sent += 1;
+        self.pacer.gave(SentKind::Again, numbers, self.now / MS);
+        Ok(true)
+    }
+
+    /// A unit comes to the listener, which acknowledges it.
+    fn arrive(&mut self) -> Result<(), Fail> {
+        let Some(position) = self.there.take(self.now) else {
+            return Ok(());
+        };
+        if position >= self.expected {
+            self.came[(position % 8192) as usize] = true;
+        }
+        while self.came[(self.expected % 8192) as usize] {
+            self.came[(self.expected % 8192) as usize] = false;
+            self.expected += 1;
+        }
+        self.back.put(self.now, ACKNOWLEDGEMENT, self.expected)
+    }
+
+    /// An acknowledgement comes to the sender.
+    fn hear(&mut self) {
+        let Some(expected) = self.back.take(self.now) else {
+            return;
+        };
+        let before = self.numbers();
+        self.base = self.base.max(expected);
+        self.pacer
+            .heard(before, self.numbers(), false, self.now / MS);
+    }
+
+    /// How many bytes a second the listener got, of 534 a unit.
+    pub fn speed(&self) -> u64 {
+        self.expected * 534 * 1000 / (self.now / MS)
+    }
+
+    /// How many units were sent for a hundred that were needed.
+    pub fn sent_for_a_hundred(&self) -> u64 {
+        self.sent * 100 / self.expected.max(1)
+    }
+}

@@ -1,0 +1,5 @@
+use Rattle.spx_theory.proofs.Addresses.{ids_tell_peers}
+use Rattle.spx_theory.proofs.laws.ids_tell_peers.Goals as goal
+
+pub returns : goal.returns
+returns c = λ s reached. ids_tell_peers c.laws_below.ensures s reached

@@ -1,0 +1,12 @@
+-- What an end handed out is what it took, joined to messages (Novell SPX: the end of message bit).
+use Rattle.std.specs.Prelude.{ℕ, ◌≡◌, ◌≢◌, false, Some, None, slice_get}
+use Rattle.spx_units.specs.Joining.{joined}
+use Rattle.spx_theory.specs.Handed.{handed_out, taken_of}
+use Rattle.spx_theory.specs.Scene.{Scene, Stand}
+
+-- unless a take of it answered that a message grew too long; and what it has in part is what is
+-- left behind them
+abbrev pub HandsOutWhatItTook : Scene → Type 0
+HandsOutWhatItTook s = (who : ℕ) (e : Stand) → slice_get s.ends who ≡ Some e → e.overlong ≡ false
+    → (handed_out who s.log ≡ (joined (taken_of who s.log)).messages)
+    × (e.link ≢ None → e.rest ≡ (joined (taken_of who s.log)).rest)

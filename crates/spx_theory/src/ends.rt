@@ -1,0 +1,68 @@
+//! Laws of the ends of a network and of the numbers in its log, for what is told of them.
+
+ghost use Rattle.std.specs.Prelude.{ℕ};
+ghost use Rattle.spx_theory.specs.Deeds.{Reached};
+ghost use Rattle.spx_theory.specs.EntriesOfEnds.{EntriesTellEnds};
+ghost use Rattle.spx_theory.specs.EndsTold.{EndsAreTold, EndsStay, GoneSendsNothing, PeerIsFound};
+ghost use Rattle.spx_theory.specs.Numbered.{NumbersAreInOrder};
+ghost use Rattle.spx_theory.specs.Outside.{OutsideWasInjected};
+ghost use Rattle.spx_theory.specs.Scan.{Scan};
+ghost use Rattle.spx_theory.specs.Scene.{Scene};
+ghost use Rattle.spx_theory.specs.UnitsOfEnds.{UnitsAreCuts};
+
+use crate::below::laws_below;
+
+/// Ends are numbered as their roles in the log are; the next number of a link is that of the unit
+/// after those that its end sent, and it has the buffers that its end was made with.
+pub fn ends_are_told()
+    ensures { (s : Scene) → Reached s → EndsAreTold s }
+{
+    laws_below();
+}
+
+/// An end that has no link after a deed sent no unit by it.
+pub fn gone_sends_nothing()
+    ensures { GoneSendsNothing }
+{}
+
+/// An end stays at its host, and one that is released stays as it is.
+pub fn ends_stay()
+    ensures { EndsStay }
+{}
+
+/// An end's peer is the one that is found from the roles of the two, and it has no other.
+pub fn peer_is_found()
+    ensures { (s : Scan) (c d : ℕ) → PeerIsFound s c d }
+{}
+
+/// Ends and parcels are numbered in the order of the entries that make them, and each entry names
+/// ends and parcels that are there.
+pub fn numbers_are_in_order()
+    ensures { (s : Scene) → Reached s → NumbersAreInOrder s }
+{
+    laws_below();
+}
+
+/// Where no parcel was injected, none that an end read was.
+pub fn outside_was_injected()
+    ensures { (s : Scene) → Reached s → OutsideWasInjected s }
+{
+    numbers_are_in_order();
+}
+
+/// The units of an end are those of its messages, cut, one after another, and then one end of the
+/// connection where it was asked for.
+pub fn units_are_cuts()
+    ensures { (s : Scene) → Reached s → UnitsAreCuts s }
+{
+    laws_below();
+}
+
+/// An end is at the host of the entry that opened it. It has no link just where an entry says that
+/// it was released; and while it stands, its end of the connection is queued just where an entry
+/// asks for that.
+pub fn entries_tell_ends()
+    ensures { (s : Scene) → Reached s → EntriesTellEnds s }
+{
+    laws_below();
+}

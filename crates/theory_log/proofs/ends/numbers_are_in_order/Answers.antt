@@ -1,5 +1,0 @@
-use Rattle.theory_log.proofs.Numbering.{numbers_are_in_order}
-use Rattle.theory_log.proofs.ends.numbers_are_in_order.Goals as goal
-
-pub returns : goal.returns
-returns c = λ s reached. numbers_are_in_order c.laws_below.ensures s reached

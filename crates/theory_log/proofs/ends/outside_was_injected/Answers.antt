@@ -1,5 +1,0 @@
-use Rattle.theory_log.proofs.Outside.{outside_was_injected}
-use Rattle.theory_log.proofs.ends.outside_was_injected.Goals as goal
-
-pub returns : goal.returns
-returns c = λ s reached. outside_was_injected s (c.numbers_are_in_order.ensures s reached)

@@ -1,5 +1,0 @@
-use Rattle.theory_log.proofs.UnitsOfEnds.{units_are_cuts}
-use Rattle.theory_log.proofs.ends.units_are_cuts.Goals as goal
-
-pub returns : goal.returns
-returns c = λ s reached. units_are_cuts c.laws_below.ensures s reached

@@ -1,5 +1,0 @@
-use Rattle.theory_log.proofs.TheClose.{confirmed_is_read}
-use Rattle.theory_log.proofs.laws.confirmed_is_read.Goals as goal
-
-pub returns : goal.returns
-returns c = λ s reached. confirmed_is_read c.laws_below.ensures s reached

@@ -1,5 +1,0 @@
-use Rattle.theory_log.proofs.Named.{peers_are_named}
-use Rattle.theory_log.proofs.laws.peers_are_named.Goals as goal
-
-pub returns : goal.returns
-returns c = λ s reached. peers_are_named c.laws_below.ensures s reached

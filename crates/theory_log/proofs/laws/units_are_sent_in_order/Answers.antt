@@ -1,5 +1,0 @@
-use Rattle.theory_log.proofs.SenderScenes.{units_are_sent_in_order}
-use Rattle.theory_log.proofs.laws.units_are_sent_in_order.Goals as goal
-
-pub returns : goal.returns
-returns c = λ s reached. units_are_sent_in_order c.laws_below.ensures s reached

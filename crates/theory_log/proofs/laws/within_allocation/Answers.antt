@@ -1,5 +1,0 @@
-use Rattle.theory_log.proofs.Allocation.{within_allocation}
-use Rattle.theory_log.proofs.laws.within_allocation.Goals as goal
-
-pub returns : goal.returns
-returns c = λ s reached. within_allocation c.laws_below.ensures s reached
