@@ -5,8 +5,8 @@ ghost use Rattle.std.specs.Prelude.{◌≡◌, length};
 use crate::digest::{bytes_digest, mixed};
 use crate::feeding::{MOMENT, router_of_three};
 use crate::receiving::fed_digests;
-use ipx_table_dump::tables_to_text;
 use ipx_router::Router;
+use ipx_table_dump::tables_to_text;
 use std::alloc::Global;
 
 /// How far apart two texts are, in milliseconds.

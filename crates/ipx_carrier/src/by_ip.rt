@@ -6,7 +6,7 @@ ghost use Rattle.ipx_carrier.specs.RunFaultNumbers.{device_failures};
 ghost use Rattle.ipx_carrier.specs.PortDrivers.{SendsFrontOf};
 ghost use Rattle.ipx_carrier.specs.Turns.{by_ip, peers_of};
 
-use crate::datagrams::{Datagrams, CountsFiltered};
+use crate::datagrams::{CountsFiltered, Datagrams};
 use crate::fault::DeviceFault;
 use crate::mapping::ip_of;
 use crate::segments::{PacketSent, PortDriver, PortDriverFilters};

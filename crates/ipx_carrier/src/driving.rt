@@ -9,7 +9,7 @@ ghost use Rattle.ipx_carrier.specs.Turns.{peers_of};
 use crate::by_ip::ByIp;
 use crate::clock::Clock;
 use crate::cores::Core;
-use crate::datagrams::{Datagrams, CountsFiltered};
+use crate::datagrams::{CountsFiltered, Datagrams};
 use crate::fault::RunFault;
 use crate::report::{Batch, Report};
 use crate::running::{MAX_DATAGRAM, run, run_once_in};

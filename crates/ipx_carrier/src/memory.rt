@@ -5,7 +5,7 @@ ghost use Rattle.ipx_carrier.specs.Device.{received_in};
 ghost use Rattle.ipx_carrier.specs.Memory.{KeepsAllButWaiting, WaitsLast, datagram_bytes, fails_next, memory_received, memory_sent, named_after, traffic_of, waiting_of};
 
 use crate::counting::saturating_increment;
-use crate::datagrams::{Datagrams, CountsFiltered};
+use crate::datagrams::{CountsFiltered, Datagrams};
 use crate::fault::DeviceFault;
 use ipx_wire::OutOfMemory;
 use std::alloc::Global;

@@ -3,7 +3,7 @@
 ghost use Rattle.std.specs.Prelude.{◌≡◌};
 
 use crate::by_ip::ByIp;
-use crate::datagrams::{Datagrams, CountsFiltered};
+use crate::datagrams::{CountsFiltered, Datagrams};
 use crate::fault::DeviceFault;
 use crate::segments::{PacketSent, PortDriver, PortDriverFilters};
 use ipx_wire::Node;

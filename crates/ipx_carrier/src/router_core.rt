@@ -6,7 +6,7 @@ ghost use Rattle.ipx_carrier.specs.RouterCore.{ForwardedLeaveFirst, nothing_wait
 
 use crate::cores::Core;
 use crate::outcome_counters::OutcomeCounters;
-use crate::queue::{put_outcome, enqueue_start, enqueue_advertisements, dequeue};
+use crate::queue::{dequeue, enqueue_advertisements, enqueue_start, put_outcome};
 use ipx_router::{Reply, Router};
 use ipx_wire::{Node, OutOfMemory};
 use std::alloc::Global;
@@ -176,6 +176,11 @@ impl Core for RouterCore {
             &mut self.own,
             &mut self.dropped,
         )?;
-        Ok(dequeue(&mut self.forwarded, &mut self.own, &mut self.originated_run, room))
+        Ok(dequeue(
+            &mut self.forwarded,
+            &mut self.own,
+            &mut self.originated_run,
+            room,
+        ))
     }
 }

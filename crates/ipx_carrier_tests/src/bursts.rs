@@ -3,8 +3,8 @@
 use crate::fixture::{text_of, two_ports};
 use crate::refused::core_at_last;
 use ipx_carrier::{
-    Batch, Datagrams, MemoryDatagrams, OnPeers, RunFault, PortDriver, PortDriverFilters, SteppedClock,
-    run_batch, run_once_over_ports,
+    Batch, Datagrams, MemoryDatagrams, OnPeers, PortDriver, PortDriverFilters, RunFault,
+    SteppedClock, run_batch, run_once_over_ports,
 };
 use ipx_wire::OutOfMemory;
 use std::alloc::Global;

@@ -3,7 +3,8 @@
 use crate::fixture::{one_peer_each, text_of, two_ports};
 use crate::turns::are_first;
 use ipx_carrier::{
-    ByIp, Datagrams, DeviceFault, MemoryDatagrams, PacketSent, PortDriver, SteppedClock, run_over_ports,
+    ByIp, Datagrams, DeviceFault, MemoryDatagrams, PacketSent, PortDriver, SteppedClock,
+    run_over_ports,
 };
 use ipx_wire::Node;
 use std::alloc::Global;

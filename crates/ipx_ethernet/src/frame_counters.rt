@@ -4,8 +4,8 @@ ghost use Rattle.std.specs.Prelude.{◌≡◌};
 ghost use Rattle.ipx_ethernet.specs.PortFrames.{encapsulation_counted, frame_counted, frames_raised, no_frames, unheard_counted};
 
 use crate::encapsulation::Encapsulation;
-use crate::fault::FrameFault;
 use crate::ethernet_port::FrameDrop;
+use crate::fault::FrameFault;
 
 /// The frames that came on a wire, by what became of them. Each count stays at the greatest u64.
 #[derive(Clone, Copy, Debug, PartialEq, Eq)]

@@ -5,13 +5,13 @@
 #![tactic(auto)]
 
 mod end_sockets;
+mod ethernet_ports;
 mod memory;
 mod reaching;
 mod sockets;
 mod taking;
-mod ethernet_ports;
 
 pub use end_sockets::{EndSockets, FrameCame};
-pub use memory::{MemoryEnds, MemoryFrame};
-pub use sockets::{Place, EthernetSockets};
 pub use ethernet_ports::EthernetPorts;
+pub use memory::{MemoryEnds, MemoryFrame};
+pub use sockets::{EthernetSockets, Place};

@@ -7,7 +7,7 @@ ghost use Rattle.ipx_ethernet_ports.specs.EndTraffic.{failures_counted};
 ghost use Rattle.ipx_ethernet_ports.specs.EthernetAddresses.{end_at_place, ends_behind, is_place, places_behind};
 
 use crate::end_sockets::{EndSockets, FrameCame};
-use ipx_carrier::{DeviceFault, ReadySet, bind_nonblocking, socket_addr, saturating_increment};
+use ipx_carrier::{DeviceFault, ReadySet, bind_nonblocking, saturating_increment, socket_addr};
 use std::alloc::Global;
 use std::io;
 use std::io::ErrorKind;

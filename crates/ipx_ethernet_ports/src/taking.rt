@@ -5,7 +5,7 @@ ghost use Rattle.ipx_hub.specs.Heard.{way_behind};
 ghost use Rattle.ipx_hub.specs.SwitchEnds.{is_way_to};
 ghost use Rattle.ipx_ethernet_ports.specs.OnEthernet.{TakesPacket};
 
-use ipx_hub::{Switch, Egress};
+use ipx_hub::{Egress, Switch};
 
 /// Puts bytes to the front of a room, as many as it takes.
 pub fn put_front(bytes: &[u8], room: &mut [u8]) -> usize

@@ -1,9 +1,9 @@
 //! What comes from one of three ends: it goes on to the others, and the core gets what is for it.
 
-use crate::fixture::{FIRST, PACKET, PORT, SECOND, frame, three_ends, took, ethernet};
+use crate::fixture::{FIRST, PACKET, PORT, SECOND, ethernet, frame, three_ends, took};
 use ipx_carrier::{PortDriver, PortDriverFilters};
-use ipx_wire::Node;
 use ipx_ethernet_ports::EndSockets;
+use ipx_wire::Node;
 use std::test::Fail;
 
 /// A frame to a station that nobody heard goes to both others, its answer to the end of the first alone,

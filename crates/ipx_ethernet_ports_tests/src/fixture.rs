@@ -1,9 +1,9 @@
 //! A wire with three ends, a station at each, and the frames that they send.
 
 use ipx_ethernet::{Encapsulation, EthernetPort};
+use ipx_ethernet_ports::{EndSockets, EthernetPorts, MemoryEnds, MemoryFrame};
 use ipx_hub::Switch;
 use ipx_wire::{Network, Node};
-use ipx_ethernet_ports::{EndSockets, MemoryEnds, MemoryFrame, EthernetPorts};
 use std::alloc::{AllocError, Global};
 
 /// The port, which has the network 22 in Ethernet II.
@@ -46,7 +46,10 @@ pub fn switches(alloc: Global) -> Result<Vec<Switch>, AllocError> {
 }
 
 /// A port on the wire of these sockets.
-pub fn ethernet<D: EndSockets + Drop>(alloc: Global, sockets: D) -> Result<EthernetPorts<D>, AllocError> {
+pub fn ethernet<D: EndSockets + Drop>(
+    alloc: Global,
+    sockets: D,
+) -> Result<EthernetPorts<D>, AllocError> {
     Ok(EthernetPorts::new(sockets, switches(alloc)?))
 }
 

@@ -1,7 +1,7 @@
 //! A router whose one port is on a wire with three ends.
 
-use crate::fixture::{FIRST, PORT, frame, three_ends, ethernet};
-use ipx_carrier::{RouterCore, PortDriverFilters, SteppedClock, run_over_ports};
+use crate::fixture::{FIRST, PORT, ethernet, frame, three_ends};
+use ipx_carrier::{PortDriverFilters, RouterCore, SteppedClock, run_over_ports};
 use ipx_router::{Port, Router};
 use ipx_wire::Node;
 use std::test::Fail;

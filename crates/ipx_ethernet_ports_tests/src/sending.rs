@@ -1,6 +1,6 @@
 //! Packets of the core, and the ends that their frames go to.
 
-use crate::fixture::{FIRST, PACKET, PORT, SECOND, frame, three_ends, took, ethernet};
+use crate::fixture::{FIRST, PACKET, PORT, SECOND, ethernet, frame, three_ends, took};
 use ipx_carrier::{PacketSent, PortDriver};
 use ipx_wire::Node;
 use std::test::Fail;
@@ -23,14 +23,29 @@ fn packets_to_stations(rt: HostRuntime) -> Result<(), Fail> {
     ethernet.set_moment(1000);
     let mut room = [0; 1536];
     assert!(rt; matches!(ethernet.receive(0, &mut room), Ok(Some(30))));
-    assert!(rt; matches!(ethernet.send(0, FIRST, &PACKET), Ok(PacketSent::Transmitted(1))));
+    assert!(rt;
+        matches!(
+            ethernet.send(0, FIRST, &PACKET),
+            Ok(PacketSent::Transmitted(1))
+        )
+    );
     assert_eq!(rt; ethernet.sockets().went().len(), 3);
     assert!(rt; took(ethernet.sockets(), &[0, 1, 2], &padded(FIRST)));
-    assert!(rt; matches!(ethernet.send(0, SECOND, &PACKET), Ok(PacketSent::Transmitted(1))));
+    assert!(rt;
+        matches!(
+            ethernet.send(0, SECOND, &PACKET),
+            Ok(PacketSent::Transmitted(1))
+        )
+    );
     assert_eq!(rt; ethernet.sockets().went().len(), 4);
     assert!(rt; took(ethernet.sockets(), &[1], &padded(SECOND)));
     ethernet.set_moment(301_000);
-    assert!(rt; matches!(ethernet.send(0, SECOND, &PACKET), Ok(PacketSent::Transmitted(1))));
+    assert!(rt;
+        matches!(
+            ethernet.send(0, SECOND, &PACKET),
+            Ok(PacketSent::Transmitted(1))
+        )
+    );
     assert!(rt; took(ethernet.sockets(), &[0, 1, 2], &padded(SECOND)));
     assert!(rt;
         matches!(

@@ -1,9 +1,9 @@
 //! Sockets of this machine: a port, two ends of its wire, and one that is at no end.
 
-use crate::fixture::{FIRST, PACKET, PORT, SECOND, frame, ethernet};
+use crate::fixture::{FIRST, PACKET, PORT, SECOND, ethernet, frame};
 use ipx_carrier::{DeviceFault, PacketSent, PortDriver, PortDriverFilters};
+use ipx_ethernet_ports::{EndSockets, EthernetPorts, EthernetSockets, FrameCame, Place};
 use ipx_wire::Node;
-use ipx_ethernet_ports::{EndSockets, FrameCame, Place, EthernetSockets, EthernetPorts};
 use std::alloc::Global;
 use std::io;
 use std::net::Net;
@@ -80,7 +80,12 @@ fn frames_over_sockets(rt: HostRuntime) -> Result<(), Fail> {
     assert_eq!(rt; ethernet.sockets().unknown_senders(), 1);
     assert_eq!(rt; ethernet.filtered(), 1);
     // A packet of the core goes to the end of its station, padded.
-    assert!(rt; matches!(ethernet.send(0, FIRST, &PACKET), Ok(PacketSent::Transmitted(1))));
+    assert!(rt;
+        matches!(
+            ethernet.send(0, FIRST, &PACKET),
+            Ok(PacketSent::Transmitted(1))
+        )
+    );
     assert!(rt; next_frame(&mut first, &mut room)? == Some(FrameCame { end: 0, size: 60 }));
     assert_eq!(rt; &room[..44], frame(FIRST, PORT.own).as_slice());
     // Nothing else came to anybody.

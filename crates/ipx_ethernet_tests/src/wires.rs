@@ -1,7 +1,9 @@
 //! What of the frames on a wire goes to the core of a port there: literal values.
 
 use crate::caller::CAME;
-use ipx_ethernet::{Encapsulation, FrameFault, FrameDrop, FrameCounters, EthernetPort, stations_of};
+use ipx_ethernet::{
+    Encapsulation, EthernetPort, FrameCounters, FrameDrop, FrameFault, stations_of,
+};
 use ipx_wire::{IpxFault, Network, Node};
 use std::process::Abort;
 use std::test::Fail;
@@ -68,7 +70,10 @@ fn each_fault_has_its_count(rt: HostRuntime) -> Result<(), Fail> {
     let node = Node([2, 0, 0, 0, 0, 7]);
     let no_packet = FrameFault::NoPacket(IpxFault::Short(29));
     for (fault, wanted) in [
-        (FrameFault::FrameShort(13), FrameCounters { broken: 1, ..none }),
+        (
+            FrameFault::FrameShort(13),
+            FrameCounters { broken: 1, ..none },
+        ),
         (
             FrameFault::FrameLong(1515),
             FrameCounters { broken: 1, ..none },
@@ -90,7 +95,10 @@ fn each_fault_has_its_count(rt: HostRuntime) -> Result<(), Fail> {
                 ..none
             },
         ),
-        (FrameFault::Tagged(0x8100), FrameCounters { tagged: 1, ..none }),
+        (
+            FrameFault::Tagged(0x8100),
+            FrameCounters { tagged: 1, ..none },
+        ),
         (
             FrameFault::OtherType(0x0800),
             FrameCounters {

@@ -59,7 +59,11 @@ pub fn dialed_ip(file: &HostConfig, to: Address) -> Option<[u8; 4]>
 }
 
 /// IP addresses, and that of the router behind them.
-fn with_router(alloc: Global, file: &HostConfig, ips: &[[u8; 4]]) -> Result<Vec<[u8; 4]>, StartFault>
+fn with_router(
+    alloc: Global,
+    file: &HostConfig,
+    ips: &[[u8; 4]],
+) -> Result<Vec<[u8; 4]>, StartFault>
     ensures { IfOk result (λ all. all.items ≡ ips.now ++ file.now.router ∷ []) }
 {
     let mut all = Vec::from_slice(alloc, ips)?;
@@ -97,7 +101,11 @@ fn heard_ips(
 }
 
 /// The guard of a host that dials this IP address.
-pub fn access_list_of(alloc: Global, file: &HostConfig, dials: Option<[u8; 4]>) -> Result<AccessList, StartFault>
+pub fn access_list_of(
+    alloc: Global,
+    file: &HostConfig,
+    dials: Option<[u8; 4]>,
+) -> Result<AccessList, StartFault>
     ensures { IfOk result (λ g. access_by g ≡ guarded_host file.now dials) }
 {
     let sends = heard_ips(alloc, file, dials)?;

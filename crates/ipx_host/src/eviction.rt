@@ -93,7 +93,9 @@ fn place_of_overdue(sessions: &[Session], moment: u64) -> Option<usize>
     ensures place { result ≡ position (is_overdue moment) sessions.now }
     ensures there { IfSome result (λ place. place < length sessions.now) }
 {
-    sessions.iter().position(|session| session.is_overdue(moment))
+    sessions
+        .iter()
+        .position(|session| session.is_overdue(moment))
 }
 
 /// Keeps the first connection that was heard alone, where one was: the others go, and their links.

@@ -6,8 +6,10 @@ ghost use Rattle.ipx_host.specs.Sleeping.{AllStayFor, StaysFor};
 ghost use Rattle.ipx_host.specs.Tending.{IsFateOf, JustStays};
 ghost use Rattle.ipx_host.specs.declared.sessions.SessionAction.TheVariants as Fates;
 
-use crate::sessions::{FIRST_DATA_TIMEOUT, Session, SessionAction, LINGER, KEEPALIVE_AFTER, Phase, fate_of};
 use crate::paced_host_core::PacedHostCore;
+use crate::sessions::{
+    FIRST_DATA_TIMEOUT, KEEPALIVE_AFTER, LINGER, Phase, Session, SessionAction, fate_of,
+};
 
 /// The longest wait, in milliseconds.
 const LONG: u64 = 3_600_000;

@@ -9,9 +9,9 @@ ghost use Rattle.ipx_host.specs.Feeding.{Feeds, HandsOn, ReadsOn};
 ghost use Rattle.ipx_host.specs.SendSteps.{IsReadFault};
 ghost use Rattle.ipx_host.specs.declared.send_outcome.SendOutcome.TheVariants as Verdicts;
 
-use crate::readiness_gate::Gate;
-use crate::handing::hand_in;
 use crate::acked_bytes::Ledger;
+use crate::handing::hand_in;
+use crate::readiness_gate::Gate;
 use crate::send_outcome::SendOutcome;
 use mio::Interest;
 use spx_messages::{Endpoint, MAX_BYTES};

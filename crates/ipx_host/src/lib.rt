@@ -6,35 +6,35 @@
 //! stands in such a file.
 #![tactic(auto)]
 
-mod asking;
-mod sessions;
-mod checking;
 mod access;
-mod paced_host_core;
-mod readiness_gate;
+mod acked_bytes;
+mod asking;
+mod checking;
+mod eviction;
 mod handing;
+mod idle;
 mod ids;
 mod input;
-mod eviction;
-mod acked_bytes;
 mod listen;
 mod listening;
 mod output;
+mod paced_host_core;
 mod pacing;
-mod idle;
+mod readiness_gate;
 mod room;
 mod running_host;
 mod send;
 mod send_outcome;
 mod sending;
+mod serving;
+mod sessions;
 mod start;
 mod taking;
 mod target;
 mod telling;
-mod serving;
 
-pub use checking::check_host;
 pub use access::{far_address, is_nowhere, is_on_own_network, tell_nowhere};
+pub use checking::check_host;
 pub use listen::do_listen;
 pub use send::do_send;
 pub use target::{Target, TargetFault};

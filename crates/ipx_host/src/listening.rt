@@ -17,12 +17,12 @@ ghost use Rattle.ipx_host.specs.ListenOutcomes.{stop_in, stop_status};
 ghost use Rattle.ipx_host.specs.declared.listening.ListenOutcome.{ListenOutcome as AStop};
 ghost use Rattle.ipx_host.specs.declared.listening.ListenOutcome.TheVariants as Stops;
 
-use crate::readiness_gate::Gate;
-use crate::output::WriteFault;
 use crate::idle::rest_of;
+use crate::output::WriteFault;
+use crate::readiness_gate::Gate;
 use crate::running_host::{Activity, RunningHost};
-use crate::start::StartFault;
 use crate::serving::Sessions;
+use crate::start::StartFault;
 use ipx_site::{HostConfig, WaitFault};
 use log::Log;
 use mio::Interest;

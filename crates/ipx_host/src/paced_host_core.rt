@@ -115,7 +115,11 @@ fn accepted_by(id: u16, bytes: &[u8]) -> Option<Arrival>
 
 impl PacedHostCore {
     /// The core of an endpoint on a network, and who may ask it.
-    pub fn new(endpoint: Endpoint, network: Network, from: Option<Vec<AllowedPeer>>) -> PacedHostCore
+    pub fn new(
+        endpoint: Endpoint,
+        network: Network,
+        from: Option<Vec<AllowedPeer>>,
+    ) -> PacedHostCore
         ensures endpoint { result.endpoint ≡ endpoint }
         ensures network { result.network ≡ network }
         ensures from { result.from ≡ from }

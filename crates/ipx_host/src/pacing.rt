@@ -6,9 +6,9 @@ ghost use Rattle.ipx_host.specs.Paced.{HoldsBack, IsAwake, NotesDatagram, NotesP
 ghost use Rattle.ipx_host.specs.Paced.{paced_due, paced_numbers};
 
 use ipx_wire::{OutOfMemory, decode, decode_spx};
+use spx_congestion::{Pacer, SentKind};
 use spx_link::{Numbers, Received};
 use spx_messages::{Arrived, Endpoint};
-use spx_congestion::{SentKind, Pacer};
 use std::alloc::Global;
 
 /// A connection that is paced: its id, and its pacer.

@@ -18,13 +18,13 @@ ghost use Rattle.ipx_host.specs.Sleeping.{IsSleep};
 ghost use Rattle.ipx_host.specs.Turning.{TakesHostTurn, TellsOf};
 
 use crate::access::access_list_of;
-use crate::paced_host_core::{PacedHostCore, copy_origins};
 use crate::eviction::count_if;
+use crate::paced_host_core::{PacedHostCore, copy_origins};
 use crate::room::tell_room;
 use crate::start::{StartFault, check_streams};
 use crate::telling::{Counts, Telling};
 use ipx_carrier::{CountsFiltered, Report, RunFault, node_of, turn};
-use ipx_site::{AccessList, HostConfig, SourceFilter, Poller, UdpSockets, SteadyClock, WaitFault};
+use ipx_site::{AccessList, HostConfig, Poller, SourceFilter, SteadyClock, UdpSockets, WaitFault};
 use log::Log;
 use spx_messages::Endpoint;
 use std::alloc::Global;
@@ -95,7 +95,11 @@ impl<'a, R: Clock> Drop for RunningHost<'a, R> {
 
 impl HostSocket {
     /// One socket with its guard, and one list of peers.
-    fn new(sockets: UdpSockets, access_lists: Vec<AccessList>, peers: Vec<Vec<[u8; 4]>>) -> HostSocket
+    fn new(
+        sockets: UdpSockets,
+        access_lists: Vec<AccessList>,
+        peers: Vec<Vec<[u8; 4]>>,
+    ) -> HostSocket
         requires one_socket { length sockets.sockets.items ≡ 1 }
         requires one_list { length peers.items ≡ 1 }
         ensures sockets { result.device.device ≡ sockets }

@@ -15,14 +15,14 @@ ghost use Rattle.ipx_host.specs.declared.sessions.SessionAction.TheVariants as F
 ghost use Rattle.ipx_host.specs.declared.sessions.Phase.TheVariants as Standings;
 ghost use Rattle.ipx_host.specs.declared.listening.ListenOutcome.TheVariants as Stops;
 
-use crate::sessions::{Session, SessionAction, Phase};
-use crate::paced_host_core::{Accepted, Arrival, PacedHostCore};
-use crate::readiness_gate::Gate;
 use crate::eviction::{MAX_SESSIONS, ask, count_if, hear_session, hold, let_link_go, make_room};
+use crate::idle::{fate_in, first_to_tend};
 use crate::listening::ListenOutcome;
 use crate::output::{Outlet, WriteFault};
-use crate::idle::{fate_in, first_to_tend};
+use crate::paced_host_core::{Accepted, Arrival, PacedHostCore};
+use crate::readiness_gate::Gate;
 use crate::running_host::RunningHost;
+use crate::sessions::{Phase, Session, SessionAction};
 use crate::taking::take_each;
 use ipx_site::ThrottledLog;
 use log::{Log, warn};

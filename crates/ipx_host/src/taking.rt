@@ -7,8 +7,8 @@ ghost use Rattle.ipx_host.specs.HostOutput.{left_of};
 ghost use Rattle.ipx_host.specs.Passing.{PassesHeld, PassesEach, PassesOne, PassesSome, SameOthers, Takes, TakesNothing};
 ghost use Rattle.ipx_host.specs.declared.sessions.Session.{Session};
 
-use crate::sessions::{Session, Phase};
 use crate::output::{Outlet, WriteFault};
+use crate::sessions::{Phase, Session};
 use spx_messages::{EndFault, Endpoint, Message, MessageFault, Taken};
 use std::alloc::Global;
 use std::io::Write;

@@ -5,7 +5,7 @@ ghost use Rattle.ipx_site.specs.IdleTime.{counts_of};
 ghost use Rattle.ipx_site.specs.Moments.{AreToldIfDue, untold};
 ghost use Rattle.ipx_host.specs.HostLines.{counts_of_host};
 
-use ipx_site::{ThrottledLog, FilterDrops, Warning, tell_each};
+use ipx_site::{FilterDrops, ThrottledLog, Warning, tell_each};
 use log::Log;
 
 /// How often each of it happened.
@@ -36,7 +36,10 @@ fn warnings_in(counts: Counts) -> [Warning; CAUSES]
 {
     let kept = counts.kept;
     [
-        Warning::from(kept.unknown_senders, "datagrams came from nobody who is heard"),
+        Warning::from(
+            kept.unknown_senders,
+            "datagrams came from nobody who is heard",
+        ),
         Warning::from(kept.spoofed, "datagrams spoke for another node"),
         Warning::from(kept.not_a_router, "datagrams were no router's to send"),
         Warning::of_nobody(counts.rejected, "requests came from nobody who may connect"),

@@ -5,17 +5,17 @@
 //! own goes to. Memory is taken by [`Switch::new`] alone.
 #![tactic(auto)]
 
-mod switch;
-mod laws;
 mod egress;
-mod passing;
+mod laws;
 mod mac_table;
+mod passing;
+mod switch;
 
-pub use switch::Switch;
+pub use egress::Egress;
 pub use laws::{
     frames_go_on_whatever_they_hold, frames_go_where_they_are_for, other_stations_are_known_still,
     station_is_known_where_it_was_heard,
 };
-pub use egress::Egress;
+pub use mac_table::{AGEING_TIME_MS, MAX_STATIONS, Station};
 pub use passing::MAX_FORWARDED_SIZE;
-pub use mac_table::{MAX_STATIONS, AGEING_TIME_MS, Station};
+pub use switch::Switch;

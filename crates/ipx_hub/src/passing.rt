@@ -5,7 +5,7 @@ ghost use Rattle.ipx_ethernet.specs.Frame;
 ghost use Rattle.ipx_hub.specs.Heard.{may_be_behind, may_pass, passed_with, station_from, station_to, stations_from, way_between};
 
 use crate::egress::{Egress, flood_except};
-use crate::mac_table::{Station, MacTable};
+use crate::mac_table::{MacTable, Station};
 use ipx_ethernet::stations_of;
 use ipx_wire::Node;
 
@@ -59,7 +59,13 @@ pub fn learn(stations: &mut MacTable, own: Node, from: Node, end: usize, now: u6
 }
 
 /// Where a frame goes on to that an end gave, to a station at a known end, or at any.
-pub fn forwarding_decision(own: Node, to: Node, from: Node, end: usize, place: Option<usize>) -> Egress
+pub fn forwarding_decision(
+    own: Node,
+    to: Node,
+    from: Node,
+    end: usize,
+    place: Option<usize>,
+) -> Egress
     ensures { result ≡ way_between own to from end place }
 {
     if from == own || to == own {

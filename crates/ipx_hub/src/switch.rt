@@ -10,9 +10,9 @@ ghost use Rattle.ipx_hub.specs.Heard.{way_behind, way_of_own};
 ghost use Rattle.ipx_hub.specs.SwitchEnds.{is_way_to};
 
 use crate::egress::{Egress, egress_to};
-use crate::passing::{addresses_of, forwarding_decision, count_passed, is_group, learn};
-use crate::mac_table::{Station, MacTable};
-use ipx_ethernet::{FrameFault, FrameDrop, FrameCounters, EthernetPort};
+use crate::mac_table::{MacTable, Station};
+use crate::passing::{addresses_of, count_passed, forwarding_decision, is_group, learn};
+use ipx_ethernet::{EthernetPort, FrameCounters, FrameDrop, FrameFault};
 use ipx_wire::Node;
 use std::alloc::{AllocError, Global};
 use std::marker::Model;

@@ -2,7 +2,7 @@
 
 use crate::caller::give;
 use crate::fixture::{CAME, FIRST, PORT, SECOND, frame};
-use ipx_hub::{Switch, Egress};
+use ipx_hub::{Egress, Switch};
 use ipx_wire::Node;
 use std::test::Fail;
 

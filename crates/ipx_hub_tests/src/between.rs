@@ -2,8 +2,8 @@
 
 use crate::caller::give;
 use crate::fixture::{CAME, FIRST, PORT, SECOND, THIRD, arp, frame};
-use ipx_ethernet::{Encapsulation, FrameFault, FrameDrop, FrameCounters, EthernetPort};
-use ipx_hub::{Switch, Egress};
+use ipx_ethernet::{Encapsulation, EthernetPort, FrameCounters, FrameDrop, FrameFault};
+use ipx_hub::{Egress, Switch};
 use ipx_wire::{Network, Node};
 use std::test::Fail;
 
@@ -31,7 +31,10 @@ fn other_protocols_go_on(rt: HostRuntime) -> Result<(), Fail> {
 fn to_all_stations(rt: HostRuntime) -> Result<(), Fail> {
     let all = frame(Node::BROADCAST, FIRST);
     let mut switch = Switch::new(rt.alloc(), PORT, true)?;
-    assert_eq!(rt; give(&mut switch, 0, &all, 0), ([false, true, true], Some(30)));
+    assert_eq!(rt;
+        give(&mut switch, 0, &all, 0),
+        ([false, true, true], Some(30))
+    );
     let port = EthernetPort {
         network: Network(0x33),
         ..PORT
@@ -141,7 +144,10 @@ fn sizes_that_go_on(rt: HostRuntime) -> Result<(), Fail> {
     // Of a frame for the port itself the core hears as many as 1,514 bytes.
     let mut own = [0; 1515];
     own[..44].copy_from_slice(&CAME);
-    assert_eq!(rt; give(&mut switch, 0, &own[..1514], 0), ([false; 3], Some(30)));
+    assert_eq!(rt;
+        give(&mut switch, 0, &own[..1514], 0),
+        ([false; 3], Some(30))
+    );
     let (_, packet) = switch.hear(0, &own, 0);
     assert!(rt; matches!(packet, Err(FrameDrop::Unheard(FrameFault::FrameLong(1515)))));
     Ok(())
@@ -157,7 +163,10 @@ fn what_is_no_frame(rt: HostRuntime) -> Result<(), Fail> {
     assert!(rt; switch.stations().is_empty());
     // From a group, it goes on; nobody is known by it.
     let group = frame(Node::BROADCAST, Node([3, 0, 0, 0, 0, 0x42]));
-    assert_eq!(rt; give(&mut switch, 0, &group, 0), ([false, true, true], None));
+    assert_eq!(rt;
+        give(&mut switch, 0, &group, 0),
+        ([false, true, true], None)
+    );
     let zero = frame(Node::BROADCAST, Node([0; 6]));
     assert_eq!(rt; give(&mut switch, 0, &zero, 0), ([false, true, true], None));
     assert!(rt; switch.stations().is_empty());

@@ -6,7 +6,12 @@ use std::test::Fail;
 
 /// Which of three ends take a frame that the end `giver` gave, and how many bytes of it go to the
 /// core of the port.
-pub fn give(switch: &mut Switch, giver: usize, bytes: &[u8], now: u64) -> ([bool; 3], Option<usize>) {
+pub fn give(
+    switch: &mut Switch,
+    giver: usize,
+    bytes: &[u8],
+    now: u64,
+) -> ([bool; 3], Option<usize>) {
     let (onward, packet) = switch.hear(giver, bytes, now);
     let takers = [onward.is_to(0), onward.is_to(1), onward.is_to(2)];
     (takers, packet.ok().map(|packet| packet.len()))

@@ -2,7 +2,7 @@
 
 use crate::caller::give;
 use crate::fixture::{FIRST, PORT, SECOND, frame};
-use ipx_hub::{Switch, Egress};
+use ipx_hub::{Egress, Switch};
 use std::test::Fail;
 
 /// Where memory is refused there is no hub, and one is made at the next try.

@@ -7,8 +7,8 @@ ghost use Rattle.ipx_ipxnet_ports.specs.OnServers.{GivesOn, answer_for, clients_
 ghost use Rattle.ipx_ipxnet_ports.specs.PlaceTraffic.{HandsOver, place_datagram};
 
 use crate::place_sockets::PlaceSockets;
-use ipxnet_server::{Disposition, IpxnetServer, Place, Recipients};
 use ipx_wire::IPX_HEADER_SIZE;
+use ipxnet_server::{Disposition, IpxnetServer, Place, Recipients};
 
 /// Sends bytes by a port to each client of its lobby that takers reach, in order. Where that fails at
 /// one, the others get them still.

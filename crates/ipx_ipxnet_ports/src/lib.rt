@@ -6,12 +6,12 @@
 
 mod front;
 mod giving_on;
-mod server_ports;
 mod memory;
 mod place_sockets;
+mod server_ports;
 mod sockets;
 
-pub use server_ports::Servers;
 pub use memory::{MemoryDatagram, MemoryPlaces};
 pub use place_sockets::{DatagramCame, PlaceSockets};
+pub use server_ports::Servers;
 pub use sockets::{ServerSocket, ServerSockets};

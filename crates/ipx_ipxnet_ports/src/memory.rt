@@ -7,8 +7,8 @@ ghost use Rattle.ipx_ipxnet_ports.specs.PlacesMemory.{datagrams_waiting, memory_
 use crate::front::put_front;
 use crate::place_sockets::{DatagramCame, PlaceSockets};
 use ipx_carrier::{DeviceFault, saturating_increment};
-use ipxnet_server::Place;
 use ipx_wire::OutOfMemory;
+use ipxnet_server::Place;
 use std::alloc::Global;
 
 /// A datagram that came from a place, or that went to one.

@@ -10,8 +10,8 @@ use crate::giving_on::{give_on, send_to_clients, send_to_routers};
 use crate::place_sockets::PlaceSockets;
 use crate::sockets::ServerSockets;
 use ipx_carrier::{DeviceFault, PacketSent, PortDriver, PortDriverFilters, saturating_increment};
-use ipxnet_server::{IpxnetServer, MAX_CLIENT_BYTES, Place, Recipients};
 use ipx_wire::Node;
+use ipxnet_server::{IpxnetServer, MAX_CLIENT_BYTES, Place, Recipients};
 
 /// The room that a datagram is received into: more than any that goes on to clients has.
 const DATAGRAM_ROOM: usize = 1536;

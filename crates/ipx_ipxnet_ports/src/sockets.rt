@@ -7,7 +7,7 @@ ghost use Rattle.ipx_ipxnet_ports.specs.ServerAddresses.{ips_heard, is_ip_heard,
 ghost use Rattle.ipx_ipxnet_ports.specs.PlaceTraffic.{failures_with};
 
 use crate::place_sockets::{DatagramCame, PlaceSockets};
-use ipx_carrier::{DeviceFault, ReadySet, bind_nonblocking, socket_addr, saturating_increment};
+use ipx_carrier::{DeviceFault, ReadySet, bind_nonblocking, saturating_increment, socket_addr};
 use ipxnet_server::Place;
 use std::alloc::Global;
 use std::io;

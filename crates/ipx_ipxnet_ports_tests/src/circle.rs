@@ -2,8 +2,8 @@
 //! what is for it.
 
 use crate::fixture::{
-    ANSWER, CAME, FIRST, PORT, REGISTRATION, SECOND, UNKNOWN_SENDER, THIRD, behind_registrations,
-    servers, packet, went_behind,
+    ANSWER, CAME, FIRST, PORT, REGISTRATION, SECOND, THIRD, UNKNOWN_SENDER, behind_registrations,
+    packet, servers, went_behind,
 };
 use ipx_carrier::{PortDriver, PortDriverFilters};
 use ipx_ipxnet_ports::MemoryPlaces;

@@ -1,8 +1,8 @@
 //! A player that can't be reached: the others get theirs, and so does the core.
 
 use crate::fixture::{
-    CAME, FIRST, REGISTRATION, SECOND, SECOND_NODE, UNKNOWN_SENDER, THIRD, servers, packet,
-    registrations, went_behind,
+    CAME, FIRST, REGISTRATION, SECOND, SECOND_NODE, THIRD, UNKNOWN_SENDER, packet, registrations,
+    servers, went_behind,
 };
 use ipx_carrier::{PacketSent, PortDriver};
 use ipx_ipxnet_ports::PlaceSockets;
@@ -61,7 +61,14 @@ fn a_player_in_the_middle_that_fails(rt: HostRuntime) -> Result<(), Fail> {
     assert_eq!(rt; servers.sockets().went().len(), 3);
     let sent = servers.send(0, Node::BROADCAST, &CAME);
     assert!(rt; matches!(sent, Ok(PacketSent::Transmitted(1))));
-    assert!(rt; went_behind(servers.sockets(), 3, &[FIRST, SECOND, UNKNOWN_SENDER], &CAME));
+    assert!(rt;
+        went_behind(
+            servers.sockets(),
+            3,
+            &[FIRST, SECOND, UNKNOWN_SENDER],
+            &CAME
+        )
+    );
     assert!(rt; matches!(servers.receive(0, &mut room), Ok(None)));
     assert!(rt; went_behind(servers.sockets(), 6, &[SECOND, UNKNOWN_SENDER], &bytes));
     assert_eq!(rt; servers.sockets().failures(), 3);

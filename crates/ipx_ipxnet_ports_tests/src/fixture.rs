@@ -1,9 +1,9 @@
 //! A port, three players at their places, and what they send.
 
 use ipx_carrier::PortDriver;
-use ipx_ipxnet_ports::{Servers, MemoryDatagram, MemoryPlaces, PlaceSockets};
-use ipxnet_server::{IpxnetServer, ServerPort, Place};
+use ipx_ipxnet_ports::{MemoryDatagram, MemoryPlaces, PlaceSockets, Servers};
 use ipx_wire::{Network, Node};
+use ipxnet_server::{IpxnetServer, Place, ServerPort};
 use std::alloc::{AllocError, Global};
 use std::test::Fail;
 

@@ -3,8 +3,8 @@
 
 use crate::fixture::{PORT, SECOND, SECOND_NODE, THIRD, behind_registrations, packet, went_behind};
 use ipx_carrier::{PortDriver, PortDriverFilters};
-use ipxnet_server::Place;
 use ipx_wire::Node;
+use ipxnet_server::Place;
 use std::alloc::Global;
 use std::test::Fail;
 

@@ -1,11 +1,11 @@
 //! Players by the moments that are set: who is forgotten, who registers again, and how many are new.
 
 use crate::fixture::{
-    ANSWER, CAME, FIRST, REGISTRATION, SECOND, SECOND_ANSWER, THIRD, servers, registrations,
+    ANSWER, CAME, FIRST, REGISTRATION, SECOND, SECOND_ANSWER, THIRD, registrations, servers,
     went_behind,
 };
 use ipx_carrier::{PortDriver, PortDriverFilters};
-use ipx_ipxnet_ports::{Servers, MemoryPlaces};
+use ipx_ipxnet_ports::{MemoryPlaces, Servers};
 use ipxnet_server::Place;
 use std::test::Fail;
 

@@ -1,13 +1,13 @@
 //! Memory that is refused as a datagram is put, and as one comes and goes.
 
 use crate::fixture::{
-    ANSWER, CAME, FIRST, REGISTRATION, SECOND, SECOND_ANSWER, THIRD, THIRD_ANSWER, server, packet,
+    ANSWER, CAME, FIRST, REGISTRATION, SECOND, SECOND_ANSWER, THIRD, THIRD_ANSWER, packet, server,
     went_behind,
 };
 use ipx_carrier::{PacketSent, PortDriver, PortDriverFilters};
-use ipx_ipxnet_ports::{Servers, MemoryDatagram, MemoryPlaces, PlaceSockets};
-use ipxnet_server::{ServerCounts, Place};
+use ipx_ipxnet_ports::{MemoryDatagram, MemoryPlaces, PlaceSockets, Servers};
 use ipx_wire::{Node, OutOfMemory};
+use ipxnet_server::{Place, ServerCounts};
 use std::alloc::Global;
 use std::test::Fail;
 

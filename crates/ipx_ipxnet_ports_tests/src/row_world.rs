@@ -6,11 +6,11 @@
 //! at that of 0000d05e, to which j and k are joined. h is a host of 00000081, and r the second
 //! router there: what it sends has one of its two hops.
 
-use ipx_carrier::{Core, RouterCore, PortDriver};
-use ipx_ipxnet_ports::{Servers, MemoryPlaces};
-use ipxnet_server::{IpxnetServer, ServerPort, Place};
+use ipx_carrier::{Core, PortDriver, RouterCore};
+use ipx_ipxnet_ports::{MemoryPlaces, Servers};
 use ipx_router::{Port, Router};
 use ipx_wire::{Network, Node};
+use ipxnet_server::{IpxnetServer, Place, ServerPort};
 use std::alloc::Global;
 use std::process::Abort;
 use std::test::Fail;

@@ -2,12 +2,12 @@
 
 use crate::fixture::{ANSWER, FIRST, PORT, REGISTRATION, SECOND, server};
 use ipx_carrier::{
-    Core, RouterCore, PortDriver, PortDriverFilters, SteppedClock, run_batch, run_once_over_ports,
+    Core, PortDriver, PortDriverFilters, RouterCore, SteppedClock, run_batch, run_once_over_ports,
 };
-use ipx_ipxnet_ports::{Servers, MemoryDatagram, MemoryPlaces};
-use ipxnet_server::{IpxnetServer, ServerCounts, ServerPort, Place};
+use ipx_ipxnet_ports::{MemoryDatagram, MemoryPlaces, Servers};
 use ipx_router::{Port, Router};
 use ipx_wire::{Network, Node};
+use ipxnet_server::{IpxnetServer, Place, ServerCounts, ServerPort};
 use std::alloc::Global;
 use std::test::Fail;
 

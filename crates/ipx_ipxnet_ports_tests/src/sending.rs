@@ -1,12 +1,13 @@
 //! Packets of the core, and the players that they go to.
 
 use crate::fixture::{
-    CAME, FIRST, SECOND, SECOND_NODE, UNKNOWN_SENDER, THIRD, servers, packet, registrations, went_behind,
+    CAME, FIRST, SECOND, SECOND_NODE, THIRD, UNKNOWN_SENDER, packet, registrations, servers,
+    went_behind,
 };
 use ipx_carrier::{PacketSent, PortDriver, PortDriverFilters};
-use ipx_ipxnet_ports::{Servers, MemoryPlaces};
-use ipxnet_server::ServerCounts;
+use ipx_ipxnet_ports::{MemoryPlaces, Servers};
 use ipx_wire::Node;
+use ipxnet_server::ServerCounts;
 use std::alloc::Global;
 use std::test::Fail;
 

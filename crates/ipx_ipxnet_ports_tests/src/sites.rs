@@ -4,9 +4,9 @@ use crate::fixture::{
     ANSWER, CAME, FIRST, PORT, REGISTRATION, SECOND_NODE, UNKNOWN_SENDER, packet, went_behind,
 };
 use ipx_carrier::{PacketSent, PortDriver, PortDriverFilters};
-use ipx_ipxnet_ports::{Servers, MemoryPlaces};
-use ipxnet_server::{IpxnetServer, Place};
+use ipx_ipxnet_ports::{MemoryPlaces, Servers};
 use ipx_wire::Node;
+use ipxnet_server::{IpxnetServer, Place};
 use std::alloc::{AllocError, Global};
 use std::test::Fail;
 

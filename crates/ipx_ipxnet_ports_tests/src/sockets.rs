@@ -2,9 +2,9 @@
 
 use crate::fixture::{PORT, REGISTRATION, servers};
 use ipx_carrier::{DeviceFault, PacketSent, PortDriver, PortDriverFilters};
-use ipx_ipxnet_ports::{DatagramCame, Servers, ServerSockets, PlaceSockets};
-use ipxnet_server::Place;
+use ipx_ipxnet_ports::{DatagramCame, PlaceSockets, ServerSockets, Servers};
 use ipx_wire::Node;
+use ipxnet_server::Place;
 use std::alloc::Global;
 use std::io;
 use std::net::Net;

@@ -86,7 +86,13 @@ impl LastDrops {
     }
 
     /// Notes bytes that came by a port, by what their router counted before them and behind them.
-    pub fn note(&mut self, before: &OutcomeCounters, after: &OutcomeCounters, port: usize, bytes: &[u8])
+    pub fn note(
+        &mut self,
+        before: &OutcomeCounters,
+        after: &OutcomeCounters,
+        port: usize,
+        bytes: &[u8],
+    )
         ensures { AreNoted before.now after.now port bytes.now self.old self.new }
     {
         note_if(&mut self.bad, before.bad, after.bad, port, bytes);

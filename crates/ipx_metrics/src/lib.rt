@@ -3,10 +3,10 @@
 //! A [`MeteredRouter`] is a router as a core that counts so.
 #![tactic(auto)]
 
-mod metered_router;
 mod last_drops;
+mod metered_router;
 mod port_counts;
 
-pub use metered_router::MeteredRouter;
 pub use last_drops::{LastDrop, LastDrops};
+pub use metered_router::MeteredRouter;
 pub use port_counts::PortCounts;

@@ -27,7 +27,11 @@ fn moved(count: u64, before: u64, after: u64) -> u64
 }
 
 /// These counts, each of which rises as that of a whole does.
-fn moved_outcomes(here: &OutcomeCounters, before: &OutcomeCounters, after: &OutcomeCounters) -> OutcomeCounters
+fn moved_outcomes(
+    here: &OutcomeCounters,
+    before: &OutcomeCounters,
+    after: &OutcomeCounters,
+) -> OutcomeCounters
     ensures { result ≡ outcomes_moved here.now before.now after.now }
 {
     OutcomeCounters {

@@ -181,7 +181,12 @@ fn kept(alloc: Global, unit: &Unit) -> Result<TakenUnit, OutOfMemory>
 
 /// What is told of a take that was not refused: the unit that was held, and the message that it
 /// ended.
-fn taken(alloc: Global, who: usize, unit: Option<Unit>, taken: Taken) -> Result<StepResult, OutOfMemory>
+fn taken(
+    alloc: Global,
+    who: usize,
+    unit: Option<Unit>,
+    taken: Taken,
+) -> Result<StepResult, OutOfMemory>
     ensures grows { IfOk result (λ g. step_result_view g ≡ record {
       parcels = [];
       notes = unit_notes (Ok (taken_view taken)) unit who

@@ -7,9 +7,9 @@ ghost use Rattle.ipx_net.specs.IndexedLogView.{IndexedLogView};
 ghost use Rattle.ipx_net.specs.NetView.{net_of};
 ghost use Rattle.ipx_net.specs.Parcels.{parcel_views};
 
-use crate::indexed_log::IndexedLog;
 use crate::event::{Event, Member};
 use crate::fault::NetFault;
+use crate::indexed_log::IndexedLog;
 use crate::parcel::Parcel;
 use crate::place::Place;
 use crate::routers::{RouterNow, network_at};

@@ -10,17 +10,17 @@ ghost use Rattle.ipx_net.specs.EventWants.{EventWantsMemory, IsMade, PollWantsMe
 ghost use Rattle.ipx_net.specs.declared.event.Event.TheVariants as Events;
 
 use crate::answer::Answer;
-use crate::indexed_log::IndexedLog;
 use crate::calling::{again, close, dial, pace, release, send, take};
 use crate::delivering::deliver_host;
 use crate::entry::Entry;
 use crate::event::{Event, Member};
-use crate::step_result::{StepResult, quiet};
+use crate::indexed_log::IndexedLog;
 use crate::parcel::Parcel;
 use crate::place::Place;
 use crate::polling::poll_host;
 use crate::routers::RouterNow;
 use crate::routing::{deliver_member, poll_member};
+use crate::step_result::{StepResult, quiet};
 use ipx_net_hosts::Hosts;
 use ipx_wire::{Network, Node, OutOfMemory};
 use std::alloc::Global;
@@ -165,7 +165,13 @@ pub fn happen(
         }
         Event::Poll { member } => poll(alloc, hosts, routers, indexed_log, member, now),
         Event::Deliver { parcel, place } => deliver(
-            alloc, hosts, routers, indexed_log, parcel, place, now,
+            alloc,
+            hosts,
+            routers,
+            indexed_log,
+            parcel,
+            place,
+            now,
         ),
         Event::Inject {
             segment,

@@ -10,12 +10,12 @@ ghost use Rattle.ipx_net.specs.Parcels.{parcel_views};
 
 use crate::entry::Entry;
 use crate::handed::{is_beginning, is_silent};
-use crate::parcel::Parcel;
 use crate::log_index::LogIndex;
+use crate::parcel::Parcel;
 use ipx_wire::OutOfMemory;
+use spx_theory::peer_is_found;
 use std::alloc::Global;
 use std::marker::Model;
-use spx_theory::peer_is_found;
 
 /// What happened in a network, in order, and the parcels by their numbers.
 #[derive(Drop)]

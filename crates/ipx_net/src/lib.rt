@@ -9,21 +9,21 @@
 #![tactic(auto)]
 
 mod answer;
-mod indexed_log;
 mod calling;
-mod net_state;
 mod delivering;
 mod endinfo;
 mod entry;
 mod event;
 mod fault;
 mod faults;
-mod step_result;
 mod handed;
 mod happening;
 mod host;
+mod indexed_log;
+mod log_index;
 mod making;
 mod net;
+mod net_state;
 mod parcel;
 mod parcel_origin;
 mod place;
@@ -34,16 +34,16 @@ mod recent;
 mod role;
 mod routers;
 mod routing;
-mod log_index;
+mod step_result;
 mod told;
 
 pub use answer::Answer;
-pub use indexed_log::IndexedLog;
 pub use endinfo::EndInfo;
 pub use entry::{Entry, TakenUnit};
 pub use event::{Event, Member};
 pub use fault::NetFault;
 pub use host::Host;
+pub use indexed_log::IndexedLog;
 pub use net::Net;
 pub use parcel::Parcel;
 pub use place::Place;

@@ -17,18 +17,18 @@ ghost use Rattle.ipx_net.specs.Theorems.{Theorems};
 ghost use Rattle.ipx_net.specs.declared.fault.NetFault.TheVariants as NetFaults;
 
 use crate::answer::Answer;
-use crate::net_state::NetState;
 use crate::endinfo::EndInfo;
 use crate::entry::Entry;
 use crate::event::Event;
 use crate::fault::NetFault;
 use crate::host::Host;
+use crate::net_state::NetState;
 use crate::parcel::Parcel;
 use crate::told::EndSummaries;
 use ipx_router::{NewFault, Port};
+use spx_theory::peer_is_found;
 use std::alloc::Global;
 use std::marker::Model;
-use spx_theory::peer_is_found;
 
 /// A network in memory: its hosts and routers, the packets on their way, and the log; and what is
 /// told of its ends.

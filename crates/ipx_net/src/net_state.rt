@@ -18,30 +18,30 @@ ghost use Rattle.ipx_net.specs.EventWants.{EventWantsMemory};
 ghost use Rattle.ipx_net.specs.declared.fault.NetFault.TheVariants as NetFaults;
 
 use crate::answer::Answer;
-use crate::indexed_log::IndexedLog;
 use crate::entry::Entry;
 use crate::event::{Event, Member};
 use crate::fault::NetFault;
 use crate::faults::fault_of;
-use crate::step_result::StepResult;
 use crate::happening::happen;
 use crate::host::Host;
+use crate::indexed_log::IndexedLog;
 use crate::making::{hosts_of, routers_of};
 use crate::parcel::Parcel;
 use crate::place::Place;
 use crate::routers::RouterNow;
+use crate::step_result::StepResult;
 use crate::told::EndSummaries;
 use ipx_net_hosts::Hosts;
 use ipx_recovery::{no_pair_is_stuck, no_state_is_stuck, nothing_is_stuck_by_addresses};
 use ipx_router::{NewFault, Port};
-use std::alloc::Global;
-use std::marker::Model;
 use spx_theory::{
     acknowledged_end_is_read, addresses_tell_peers, alone_reads_nothing, confirmed_is_read,
     end_taken_is_whole, ends_are_told, entries_tell_ends, hands_out_what_it_took,
     links_send_in_order, numbers_are_in_order, pairs_take_steps, peers_are_in_step,
     routers_alter_hops_alone, units_are_cuts, units_are_sent_in_order, within_allocation,
 };
+use std::alloc::Global;
+use std::marker::Model;
 use theory_steps::{peers_of_worlds_are_in_step, steps_are_deeds};
 
 /// How many entries the log holds before no more steps are taken.
@@ -100,7 +100,11 @@ impl NetState {
     /// The caller owes networks other than 0 and FFFFFFFF, of hosts and of ports, and 1 to 8,192
     /// buffers where a host listens. It is refused with the fault of the first router that is
     /// refused, else for want of memory.
-    pub fn new(alloc: Global, hosts: Vec<Host>, routers: Vec<Vec<Port>>) -> Result<NetState, NewFault>
+    pub fn new(
+        alloc: Global,
+        hosts: Vec<Host>,
+        routers: Vec<Vec<Port>>,
+    ) -> Result<NetState, NewFault>
         requires hosts { All IsHostOwed hosts.items }
         requires ports { All ArePortsOwed routers.items }
         ensures new { IfOk result (λ n. IsNewNet hosts.items routers.items n) }

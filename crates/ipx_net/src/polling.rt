@@ -14,9 +14,9 @@ ghost use Rattle.ipx_net.specs.EventWants.{IsMade, PollIsSent};
 
 use crate::answer::Answer;
 use crate::entry::Entry;
-use crate::step_result::{StepResult, quiet};
 use crate::parcel::Parcel;
 use crate::place::Place;
+use crate::step_result::{StepResult, quiet};
 use ipx_net_hosts::Hosts;
 use ipx_wire::{Network, Node, OutOfMemory, SPX_MAX_PACKET_SIZE};
 use spx_link::Sent;

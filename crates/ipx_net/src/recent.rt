@@ -1,8 +1,8 @@
 //! Whether what ends read of their peers was sent lately.
 
+use crate::log_index::LogIndex;
 use crate::reading::Reading;
 use crate::role::Role;
-use crate::log_index::LogIndex;
 use spx_theory::peer_is_found;
 
 /// So many units an end may have sent between the sending of a packet and its reading, less one:

@@ -11,9 +11,9 @@ ghost use Rattle.ipx_net.specs.EventWants.{IsMade, IsSent, RouterPollWantsMemory
 
 use crate::answer::Answer;
 use crate::entry::Entry;
-use crate::step_result::{StepResult, quiet};
 use crate::parcel::Parcel;
 use crate::routers::{RouterNow, poll_router, post, post_all, told_entries};
+use crate::step_result::{StepResult, quiet};
 use ipx_router::{Outcome, Port, Reply};
 use ipx_wire::OutOfMemory;
 use std::alloc::Global;

@@ -11,13 +11,13 @@ ghost use Rattle.ipx_net.specs.LogEntries.{entry_note, entry_notes};
 ghost use Rattle.ipx_net.specs.Theorems.{AreNumbered};
 ghost use Rattle.ipx_net.specs.ToldEnds.{AreCounted, StandsSo, StayAlone, StayAs, change, joins, logged, one_given, one_out, one_sent, made_peers, paired_by, settled, standing, state_by, stood, told_with, with_peer};
 
-use crate::indexed_log::IndexedLog;
 use crate::endinfo::EndInfo;
 use crate::entry::Entry;
+use crate::indexed_log::IndexedLog;
 use ipx_net_hosts::Hosts;
 use spx_link::State;
-use std::alloc::{AllocError, Global};
 use spx_theory::peer_is_found;
+use std::alloc::{AllocError, Global};
 
 /// What is told of each end, by its number.
 #[derive(Drop)]

@@ -1,6 +1,6 @@
 //! A book: what it tells of small logs, written by hand.
 
-use ipx_net::{IndexedLog, Entry, NetFault, Parcel};
+use ipx_net::{Entry, IndexedLog, NetFault, Parcel};
 use ipx_wire::{Network, Node};
 use spx_units::Message;
 use std::alloc::{AllocError, Global};

@@ -1,7 +1,7 @@
 //! A book where memory is refused. Run these with each request for memory refused.
 
 use crate::book::{joining, parcel};
-use ipx_net::{IndexedLog, Entry, Parcel};
+use ipx_net::{Entry, IndexedLog, Parcel};
 use std::alloc::{AllocError, Global};
 use std::process::Abort;
 use std::test::Fail;
@@ -29,7 +29,11 @@ fn parcel_at_last(alloc: Global) -> Result<Vec<Parcel>, AllocError> {
 }
 
 /// Appends, and once more where memory was refused: the book is then as it was.
-fn append_at_last(rt: &impl Abort, alloc: Global, indexed_log: &mut IndexedLog) -> Result<(), Fail> {
+fn append_at_last(
+    rt: &impl Abort,
+    alloc: Global,
+    indexed_log: &mut IndexedLog,
+) -> Result<(), Fail> {
     let parcels = parcel_at_last(alloc)?;
     let entries = entries_at_last(alloc)?;
     if indexed_log.append(parcels, entries).is_err() {

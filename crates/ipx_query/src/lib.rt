@@ -8,17 +8,17 @@
 
 mod answer;
 mod answer_heard;
-mod query_core;
-mod queried_router;
 mod entries;
 mod laws;
 mod ping;
 mod ping_core;
+mod queried_router;
 mod query;
+mod query_core;
 mod question;
 
-pub use query_core::QueryCore;
-pub use queried_router::QueriedRouter;
 pub use laws::pings_ask_for_a_connection;
 pub use ping_core::PingCore;
+pub use queried_router::QueriedRouter;
+pub use query_core::QueryCore;
 pub use question::TableQuery;

@@ -2,7 +2,7 @@
 
 ghost use Rattle.std.specs.Prelude.{◌≡◌, ◌⊎◌};
 
-use ipx_site::{BindFault, BindErrorKind, WaitFault};
+use ipx_site::{BindErrorKind, BindFault, WaitFault};
 use ipx_wire::OutOfMemory;
 use std::alloc::{AllocError, AllocFailed};
 

@@ -10,8 +10,8 @@ ghost use Rattle.ipx_query_cmd.specs.KnownLines.{direct_network_json, direct_net
 use crate::columns::at_right;
 use crate::fault::KnownFault;
 use crate::last_line::count_to_text;
-use ipx_table_dump::{NetworkWords, OwnWords, networks_of_text, own_networks_of_text};
 use ipx_site::Escaped;
+use ipx_table_dump::{NetworkWords, OwnWords, networks_of_text, own_networks_of_text};
 use std::alloc::{AllocError, Global};
 use std::str;
 

@@ -10,11 +10,11 @@ ghost use Rattle.ipx_query_cmd.specs.KnownListed.{ListsAsked, ListsKnownNetworks
 ghost use Rattle.ipx_query_cmd.specs.Listed.{ListsNetworks};
 ghost use Rattle.ipx_site.specs.Loading.{IsFileText};
 
-use crate::query_options::{Asked, ask, status_of};
 use crate::known::networks_by_router;
 use crate::network_lines::networks_to_text;
+use crate::query_options::{Asked, ask, status_of};
 use ipx_query::TableQuery;
-use ipx_site::{HostConfig, ConfigFile, load_config, write_checked};
+use ipx_site::{ConfigFile, HostConfig, load_config, write_checked};
 use std::alloc::{AllocError, Global};
 use std::io::Write;
 use std::net::Net;

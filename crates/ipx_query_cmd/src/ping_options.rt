@@ -7,8 +7,8 @@ ghost use Rattle.ipx_query_cmd.specs.PingTargets.{guarded_pinger, ips_of_node, p
 
 use crate::query_target::asked_ips;
 use ipx_carrier::ip_of;
-use ipx_site::{AccessList, HostConfig};
 use ipx_host::is_on_own_network;
+use ipx_site::{AccessList, HostConfig};
 use ipx_wire::{Address, Node};
 use std::alloc::{AllocError, Global};
 
@@ -50,7 +50,11 @@ fn carriers_of(alloc: Global, file: &HostConfig, to: Address) -> Result<Vec<[u8;
 
 /// The guard of a host that pings: it sends to the first on the way, and hears who may bring an
 /// answer.
-pub fn access_list_of(alloc: Global, file: &HostConfig, to: Address) -> Result<AccessList, AllocError>
+pub fn access_list_of(
+    alloc: Global,
+    file: &HostConfig,
+    to: Address,
+) -> Result<AccessList, AllocError>
     ensures { IfOk result (λ g. access_by g ≡ guarded_pinger file.now to) }
 {
     let sends = way_of(alloc, file, to)?;

@@ -10,16 +10,16 @@ ghost use Rattle.ipx_query_cmd.specs.PingRuns.{IsPingTurn, PingTurn, PingsOn, li
 ghost use Rattle.ipx_query_cmd.specs.QueryTargets.{querier_address};
 ghost use Rattle.ipx_query_cmd.specs.PingTargets.{guarded_pinger};
 
+use crate::fault::AskFault;
+use crate::ping_event::{PingEvent, keep_time, news_of, unanswered};
+use crate::ping_lines::{news_to_text, totals_to_line};
+use crate::ping_options::{PING_ID, access_list_of};
 use crate::query_host::POLL_INTERVAL;
 use crate::query_socket::QuerySocket;
-use crate::fault::AskFault;
-use crate::ping_lines::{news_to_text, totals_to_line};
-use crate::ping_event::{PingEvent, keep_time, news_of, unanswered};
-use crate::ping_options::{PING_ID, access_list_of};
-use crate::stop_watch::StopWatch;
 use crate::query_target::querier_address;
-use ipx_query::PingCore;
+use crate::stop_watch::StopWatch;
 use ipx_carrier::{Clock as Moments, node_of};
+use ipx_query::PingCore;
 use ipx_site::{HostConfig, Poller, SteadyClock};
 use ipx_wire::Address;
 use std::alloc::Global;
@@ -122,7 +122,9 @@ impl<'a, R: Net + Clock> PingingHost<'a, R> {
         ensures times { self.new.times ≡ self.old.times }
     {
         let before = self.core;
-        let active = self.own_socket.turn(alloc, &mut self.core, &mut self.clock)?;
+        let active = self
+            .own_socket
+            .turn(alloc, &mut self.core, &mut self.clock)?;
         let news = news_of(&before, &self.core, self.watch.tenths());
         if self.core.sent() != before.sent() {
             self.watch.restart();

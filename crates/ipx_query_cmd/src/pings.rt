@@ -14,8 +14,8 @@ ghost use Rattle.ipx_wire.specs.declared.address.Address.{Address as AnAddress};
 
 use crate::fault::{AskFault, tell_fault};
 use crate::pinging_host::PingingHost;
-use ipx_site::{HostConfig, load_host};
 use ipx_host::{Target, far_address, is_nowhere, tell_nowhere};
+use ipx_site::{HostConfig, load_host};
 use ipx_wire::Address;
 use std::alloc::Global;
 use std::io::Write;

@@ -10,11 +10,11 @@ ghost use Rattle.ipx_query_cmd.specs.OperatorLines.{answering_nodes};
 ghost use Rattle.ipx_query_cmd.specs.QueryTargets.{asked_ips, asked_nodes, querier_address, guarded_querier};
 
 use crate::answer_times::{AnswerTime, AnswerTimes};
-use crate::query_socket::QuerySocket;
 use crate::fault::AskFault;
-use crate::query_target::{asked_ips, querier_address, access_list_of, nodes_of};
-use ipx_query::{QueryCore, TableQuery};
+use crate::query_socket::QuerySocket;
+use crate::query_target::{access_list_of, asked_ips, nodes_of, querier_address};
 use ipx_carrier::Clock as Moments;
+use ipx_query::{QueryCore, TableQuery};
 use ipx_site::{HostConfig, Poller, SteadyClock};
 use std::alloc::{AllocError, Global};
 use std::net::Net;
@@ -95,7 +95,9 @@ impl<'a, R: Net + Clock> QueryHost<'a, R> {
         ensures asks { OnOk result ((turns : List Turn)
             × AsksOn turns self.old.clock.last self.new.clock.last self.old.core self.new.core) }
     {
-        let active = self.own_socket.turn(alloc, &mut self.core, &mut self.clock)?;
+        let active = self
+            .own_socket
+            .turn(alloc, &mut self.core, &mut self.clock)?;
         self.times.note(self.core.routers());
         Ok(active)
     }

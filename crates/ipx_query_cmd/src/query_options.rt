@@ -4,8 +4,8 @@ ghost use Rattle.std.specs.Prelude.{◌≡◌, IfErr, IfOk};
 ghost use Rattle.ipx_query_cmd.specs.QueryRuns.{HasAsked};
 ghost use Rattle.ipx_query_cmd.specs.Listed.{printed_status};
 
-use crate::query_host::QueryHost;
 use crate::fault::{AskFault, tell_fault};
+use crate::query_host::QueryHost;
 use ipx_query::{QueryCore, TableQuery};
 use ipx_site::HostConfig;
 use std::alloc::Global;

@@ -6,7 +6,7 @@ ghost use Rattle.ipx_site.specs.SitePorts.{access_by};
 
 use crate::fault::AskFault;
 use ipx_carrier::{Clock, Core, CountsFiltered, Report, turn};
-use ipx_site::{AccessList, HostConfig, SourceFilter, Poller, UdpSockets};
+use ipx_site::{AccessList, HostConfig, Poller, SourceFilter, UdpSockets};
 use std::alloc::Global;
 use std::net::Net;
 
@@ -34,7 +34,11 @@ fn is_active(report: Report) -> bool {
 
 impl QuerySocket {
     /// One socket with its guard, and one list of nobody.
-    fn new(sockets: UdpSockets, access_lists: Vec<AccessList>, peers: Vec<Vec<[u8; 4]>>) -> QuerySocket
+    fn new(
+        sockets: UdpSockets,
+        access_lists: Vec<AccessList>,
+        peers: Vec<Vec<[u8; 4]>>,
+    ) -> QuerySocket
         requires one_socket { length sockets.sockets.items ≡ 1 }
         requires one_list { length peers.items ≡ 1 }
         ensures sockets { result.device.device ≡ sockets }

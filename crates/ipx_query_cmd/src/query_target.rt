@@ -55,7 +55,11 @@ pub fn nodes_of(alloc: Global, ips: &[[u8; 4]]) -> Result<Vec<Node>, AllocError>
 }
 
 /// A guard that sends to these alone, and hears these alone, as routers.
-pub fn access_list_of(alloc: Global, file: &HostConfig, ips: &[[u8; 4]]) -> Result<AccessList, AllocError>
+pub fn access_list_of(
+    alloc: Global,
+    file: &HostConfig,
+    ips: &[[u8; 4]],
+) -> Result<AccessList, AllocError>
     ensures { IfOk result (λ g. ips.now ≡ asked_ips file.now → access_by g ≡ guarded_querier file.now) }
 {
     let sends = Vec::from_slice(alloc, ips)?;

@@ -11,11 +11,11 @@ ghost use Rattle.ipx_query_cmd.specs.KnownListed.{ListsAsked, ListsKnownServices
 ghost use Rattle.ipx_query_cmd.specs.Listed.{IsTypeWord, ListsServices};
 ghost use Rattle.ipx_site.specs.Loading.{IsFileText};
 
-use crate::query_options::{Asked, ask, status_of};
 use crate::known::services_by_router;
+use crate::query_options::{Asked, ask, status_of};
 use crate::service_lines::services_to_text;
 use ipx_query::TableQuery;
-use ipx_site::{HostConfig, ConfigFile, load_config, write_checked};
+use ipx_site::{ConfigFile, HostConfig, load_config, write_checked};
 use ipx_wire::Socket;
 use std::alloc::{AllocError, Global};
 use std::io::Write;

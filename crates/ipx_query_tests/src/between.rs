@@ -7,8 +7,8 @@
 ghost use Rattle.std.specs.Prelude.{◌≡◌};
 
 use crate::fixture::{FIRST, OWN};
-use ipx_query::{QueryCore, PingCore, TableQuery};
 use ipx_carrier::{Core, HostCore, RouterCore};
+use ipx_query::{PingCore, QueryCore, TableQuery};
 use ipx_router::{Port, Router};
 use ipx_tables::{RouteMetric, Source};
 use ipx_wire::{Address, Network, Node, OutOfMemory, Socket};

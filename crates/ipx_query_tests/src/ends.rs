@@ -1,8 +1,8 @@
 //! When it is over, and the status.
 
 use crate::fixture::{FIRST, OWN, asked, given, hear, routes_from};
-use ipx_query::{QueryCore, TableQuery};
 use ipx_carrier::Core;
+use ipx_query::{QueryCore, TableQuery};
 use std::alloc::Global;
 use std::test::Fail;
 

@@ -1,7 +1,7 @@
 //! A host at node 00007f000009, socket 4003, of network 11, and two routers there.
 
-use ipx_query::{QueryCore, TableQuery};
 use ipx_carrier::Core;
+use ipx_query::{QueryCore, TableQuery};
 use ipx_wire::{Address, Network, Node, OutOfMemory, Socket};
 use std::alloc::Global;
 use std::test::Fail;

@@ -1,7 +1,7 @@
 //! Requests that ping a listener, and what answers them.
 
-use ipx_query::PingCore;
 use ipx_carrier::Core;
+use ipx_query::PingCore;
 use ipx_wire::{Address, Network, Node, Socket};
 use std::alloc::Global;
 use std::process::Abort;

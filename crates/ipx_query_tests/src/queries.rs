@@ -1,8 +1,8 @@
 //! Which queries are given, when, and their bytes.
 
 use crate::fixture::{FIRST, SECOND, asked, gives, hear, host};
-use ipx_query::{QueryCore, QueriedRouter, TableQuery};
 use ipx_carrier::{MemoryDatagrams, SteppedClock, turn};
+use ipx_query::{QueriedRouter, QueryCore, TableQuery};
 use std::alloc::Global;
 use std::test::Fail;
 

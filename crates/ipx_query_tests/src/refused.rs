@@ -1,8 +1,8 @@
 //! Memory that is refused: the same call answers then. Run it with each request refused.
 
 use crate::fixture::{FIRST, OWN};
-use ipx_query::{QueryCore, TableQuery};
 use ipx_carrier::Core;
+use ipx_query::{QueryCore, TableQuery};
 use std::alloc::Global;
 use std::test::Fail;
 

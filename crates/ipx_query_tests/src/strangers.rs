@@ -1,8 +1,8 @@
 //! Packets that are no answer change nothing.
 
 use crate::fixture::{OWN, asked, hear, host};
-use ipx_query::{QueryCore, TableQuery};
 use ipx_carrier::Core;
+use ipx_query::{QueryCore, TableQuery};
 use std::test::Fail;
 
 /// One route, from the first router to the host: an answer. Its network of origin may be 0, and so

@@ -5,8 +5,8 @@ ghost use Rattle.hex.specs.Hex.{encode_lower};
 ghost use Rattle.ipx_ethernet.specs.Frame.{frame_view};
 ghost use Rattle.ipx_shown_frames.specs.FrameLine.{encapsulation_text, frame_fault_name, frame_line, no_frame_line, type_text};
 
-use ipx_inspect::{fault_to_text, numbered_text};
 use ipx_ethernet::{Encapsulation, Frame, FrameFault};
+use ipx_inspect::{fault_to_text, numbered_text};
 use ipx_wire::{Node, OutOfMemory};
 use std::alloc::{AllocError, Global};
 

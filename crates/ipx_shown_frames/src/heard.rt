@@ -9,8 +9,8 @@ ghost use Rattle.ipx_shown_frames.specs.FrameLine.{frame_line};
 ghost use Rattle.ipx_shown_frames.specs.ShownFrame.{LeavesBehind, LeavesFrame, ShowsFrame};
 
 use crate::frame_line::{frame_lines, refused_lines};
-use ipx_inspect::{do_show, tell_no_memory, write_lines};
 use ipx_ethernet::{Encapsulation, Frame, decode_frame};
+use ipx_inspect::{do_show, tell_no_memory, write_lines};
 use ipx_wire::Node;
 use std::alloc::Global;
 use std::io::Write;

@@ -4,8 +4,8 @@ ghost use Rattle.std.specs.Prelude.{◌≡◌, ℕ, List};
 ghost use Rattle.ipx_wire.specs.declared.address.Node.{Node};
 ghost use Rattle.ipx_shown_frames.specs.ShownFrame.{ShowsFrames};
 
-use ipx_inspect::reading_is_one;
 use ipx_ethernet::bytes_are_one_frame;
+use ipx_inspect::reading_is_one;
 
 /// What `show --frame` writes for an input, and the status, are one.
 pub fn shown_frames_are_one()

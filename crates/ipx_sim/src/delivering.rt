@@ -109,7 +109,12 @@ fn reached(outcome: Result<Answer, NetFault>) -> Result<bool, LineFault>
 }
 
 /// Delivers a parcel to a place where it comes there, and answers whether it does.
-fn deliver_to(alloc: Global, net: &mut Net, spot: &ScriptTarget, parcel: usize) -> Result<bool, LineFault>
+fn deliver_to(
+    alloc: Global,
+    net: &mut Net,
+    spot: &ScriptTarget,
+    parcel: usize,
+) -> Result<bool, LineFault>
     ensures { DeliversParcelTo parcel spot.now net.old result net.new }
 {
     if !is_due_parcel(net, parcel, spot) {

@@ -6,8 +6,8 @@ ghost use Rattle.ipx_net.specs.NetBeginnings.{ArePortsOwed, IsHostOwed};
 ghost use Rattle.ipx_router.specs.NewRouter.{IsOwnNetwork};
 
 use crate::fields::{fields_of, is_blank, is_name, own_network_of, parse_buffers, short_of};
-use crate::script_fault::ScriptFault;
 use crate::names::{Names, ScriptTarget};
+use crate::script_fault::ScriptFault;
 use crate::simulation::Simulation;
 use ipx_net::{Host, Member, Net, Place};
 use ipx_router::{Port, Router};

@@ -6,13 +6,13 @@
 mod acting;
 mod delivering;
 mod fields;
-mod script_fault;
 mod layout;
 mod line;
 mod lines;
 mod names;
 mod reading;
 mod rounds;
+mod script_fault;
 mod sim;
 mod simulation;
 mod stop;
@@ -22,12 +22,12 @@ mod words;
 
 pub use acting::act;
 pub use fields::{fields_of, is_blank};
-pub use script_fault::ScriptFault;
 pub use layout::Layout;
 pub use line::ScriptLine;
 pub use lines::refused_to_line;
 pub use names::{Names, ScriptTarget};
 pub use reading::read_line;
+pub use script_fault::ScriptFault;
 pub use sim::{do_sim, tell_too_long};
 pub use summing::{summary, write_counts, write_standing};
 pub use words::state_word;

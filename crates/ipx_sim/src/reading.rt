@@ -12,9 +12,9 @@ ghost use Rattle.ipx_sim.specs.Script.{IsLineOwed};
 use crate::fields::{
     bytes_of, index_of, number_of, parse_address, parse_buffers, parse_network, stream_of,
 };
-use crate::script_fault::ScriptFault;
 use crate::line::ScriptLine;
 use crate::names::Names;
+use crate::script_fault::ScriptFault;
 use ipx_net::Event;
 use ipx_wire::{Node, Socket};
 use spx_units::Message;

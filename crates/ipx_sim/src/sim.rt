@@ -4,8 +4,8 @@ ghost use Rattle.std.specs.Prelude.{◌≡◌, IfErr, IfOk, IfSome, string_bytes
 ghost use Rattle.std.specs.Io.KnownBytes.{Appends};
 ghost use Rattle.ipx_sim.specs.Script.{IsTooLong, too_long_line};
 
-use crate::script_fault::ScriptFault;
 use crate::layout::Layout;
+use crate::script_fault::ScriptFault;
 use crate::simulation::Simulation;
 use ipx_inspect::{InputFault, MAX_INPUT, read_up_to, tell_no_memory, write_lines};
 use ipx_wire::OutOfMemory;

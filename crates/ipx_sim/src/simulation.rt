@@ -15,12 +15,12 @@ ghost use Rattle.ipx_sim.specs.declared.script_fault.ScriptFault.TheVariants as 
 use crate::acting::act;
 use crate::delivering::Delivered;
 use crate::fields::{fields_of, is_blank};
-use crate::script_fault::ScriptFault;
 use crate::line::ScriptLine;
 use crate::lines::{bytes_to_text, fault_to_line, refused_to_line};
 use crate::names::Names;
 use crate::reading::read_line;
 use crate::rounds::{fill, run_rounds};
+use crate::script_fault::ScriptFault;
 use crate::stop::LineFault;
 use crate::summing::summary;
 use crate::taking::{is_unit, take_one};

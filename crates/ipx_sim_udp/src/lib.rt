@@ -2,9 +2,9 @@
 #![tactic(auto)]
 
 mod binding;
+mod layout_binding;
 mod mapped;
 mod runner;
-mod layout_binding;
 mod stop;
 mod summing;
 mod udp;

@@ -9,8 +9,8 @@ ghost use Rattle.ipx_sim_udp.specs.UdpDoing.{DoesNamed, DoesLine, said};
 ghost use Rattle.ipx_sim_udp.specs.Stops.{bad_script_line, told_of_line};
 ghost use Rattle.ipx_sim_udp.specs.declared.stop.UdpScriptFault.{UdpScriptFault as AnyStop};
 
-use crate::mapped::is_mapped;
 use crate::layout_binding::UdpNet;
+use crate::mapped::is_mapped;
 use crate::stop::UdpScriptFault;
 use crate::summing::write_ends;
 use ipx_inspect::{InputFault, MAX_INPUT, read_up_to, tell_no_memory, write_lines};

@@ -47,7 +47,9 @@ fn is_guarded(port_index: PortIndex, kept: &[PortFilterDrops]) -> bool
 fn is_any_guarded(port_indices: &[PortIndex], kept: &[PortFilterDrops]) -> bool
     ensures { result ≡ is_any_guarded port_indices.now kept.now }
 {
-    port_indices.iter().any(|port_index| is_guarded(*port_index, kept))
+    port_indices
+        .iter()
+        .any(|port_index| is_guarded(*port_index, kept))
 }
 
 fn count_of(kept: PortFilterDrops, count: FilterDropKind) -> u64
@@ -103,15 +105,29 @@ fn put_counts(
     Ok(())
 }
 
-fn put_unknown_senders(text: &mut String, port_indices: &[PortIndex], kept: &[PortFilterDrops]) -> Result<(), AllocError>
+fn put_unknown_senders(
+    text: &mut String,
+    port_indices: &[PortIndex],
+    kept: &[PortFilterDrops],
+) -> Result<(), AllocError>
     ensures { OnOk result (string_bytes text.new
         ≡ string_bytes text.old ++ unknown_senders_text port_indices.now kept.now) }
 {
     put_family(text, &UNKNOWN_SENDERS)?;
-    put_counts(text, &UNKNOWN_SENDERS, FilterDropKind::UnknownSenders, port_indices, kept)
+    put_counts(
+        text,
+        &UNKNOWN_SENDERS,
+        FilterDropKind::UnknownSenders,
+        port_indices,
+        kept,
+    )
 }
 
-fn put_refused(text: &mut String, port_indices: &[PortIndex], kept: &[PortFilterDrops]) -> Result<(), AllocError>
+fn put_refused(
+    text: &mut String,
+    port_indices: &[PortIndex],
+    kept: &[PortFilterDrops],
+) -> Result<(), AllocError>
     ensures { OnOk result (string_bytes text.new
         ≡ string_bytes text.old ++ refused_text port_indices.now kept.now) }
 {
@@ -120,7 +136,11 @@ fn put_refused(text: &mut String, port_indices: &[PortIndex], kept: &[PortFilter
 }
 
 /// What the guards of a router's ports kept back, as a text; nothing where no port has one.
-fn access_lists_to_text(alloc: Global, port_indices: &[PortIndex], kept: &[PortFilterDrops]) -> Result<String, AllocError>
+fn access_lists_to_text(
+    alloc: Global,
+    port_indices: &[PortIndex],
+    kept: &[PortFilterDrops],
+) -> Result<String, AllocError>
     ensures { IfOk result (λ t. string_bytes t ≡ access_list_text port_indices.now kept.now) }
 {
     let mut text = String::new(alloc);

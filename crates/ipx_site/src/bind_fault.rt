@@ -39,9 +39,11 @@ pub fn bind_error_kind(kind: ErrorKind) -> BindErrorKind {
 impl fmt::Display for BindErrorKind {
     fn fmt<W: fmt::Write>(&self, f: &mut fmt::Formatter<W>) -> fmt::Result {
         f.write_str(match self {
-            BindErrorKind::InUse => "address and udp_port are in use: end what has them, or take others",
+            BindErrorKind::InUse =>
+                "address and udp_port are in use: end what has them, or take others",
             BindErrorKind::NotHere => "address is to be an IP address of this machine",
-            BindErrorKind::NotAllowed => "udp_port wants a right (below 1024: CAP_NET_BIND_SERVICE)",
+            BindErrorKind::NotAllowed =>
+                "udp_port wants a right (below 1024: CAP_NET_BIND_SERVICE)",
             BindErrorKind::Other => "address and udp_port can't be had from the system",
         })
     }

@@ -8,11 +8,11 @@ ghost use Rattle.ipx_site.specs.Loading.{IsFileText};
 ghost use Rattle.ipx_site.specs.Site.{IsSiteText};
 ghost use Rattle.ipx_site.specs.declared.site.RouterConfig.{RouterConfig as ASiteFile};
 
-use crate::files::load_site;
-use crate::static_lines::entries_to_lines;
 use crate::escaped::Escaped;
+use crate::files::load_site;
 use crate::site::{PortConfig, RouterConfig};
 use crate::start_lines::{dotted, end_to_text, port_to_text};
+use crate::static_lines::entries_to_lines;
 use ipx_ethernet_ports::Place;
 use std::alloc::{AllocError, Global};
 use std::io::Write;

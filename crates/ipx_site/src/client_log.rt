@@ -6,9 +6,9 @@ ghost use Rattle.ipx_site.specs.ClientLog.{client_key, has_client_key, is_listed
 ghost use Rattle.ipx_site.specs.Moments.{HasPassed};
 
 use crate::moments::is_over;
-use crate::router_ports::{UdpRouterPorts, PortIndex};
-use ipxnet_server::{Client, IpxnetServer, Place};
+use crate::router_ports::{PortIndex, UdpRouterPorts};
 use ipx_wire::Node;
+use ipxnet_server::{Client, IpxnetServer, Place};
 use log::{Log, info};
 use std::alloc::{AllocError, Global};
 use std::collections::HashSet;

@@ -4,8 +4,8 @@ ghost use Rattle.std.specs.Prelude.{◌≡◌};
 ghost use Rattle.ipx_site.specs.DropLog.{AreDropsTold, is_for_all_nodes, is_of_all_nodes, no_drops_told, warns_of};
 ghost use Rattle.ipx_site.specs.Moments.{IsToldIfDue};
 
-use crate::throttled_log::ThrottledLog;
 use crate::sameness::is_same_node;
+use crate::throttled_log::ThrottledLog;
 use ipx_carrier::OutcomeCounters;
 use ipx_metrics::{LastDrop, LastDrops};
 use ipx_wire::{Address, Node, Socket};

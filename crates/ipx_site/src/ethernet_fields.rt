@@ -6,14 +6,14 @@ ghost use Rattle.ipx_site.specs.Fields.{Gives, GivesOr};
 ghost use Rattle.ipx_site.specs.Values.{IsCount};
 ghost use Rattle.ipx_site.specs.EthernetValues.{AreEthernetEnds, IsEncapsulation, IsFlag, IsStation};
 
+use crate::ethernet_values::{encapsulation_of, ends_of, flag_of, station_of};
 use crate::fault::ConfigError;
 use crate::fields::{held, required};
 use crate::key::Key;
 use crate::values::count_of;
-use crate::ethernet_values::{encapsulation_of, ends_of, flag_of, station_of};
 use ipx_ethernet::Encapsulation;
-use ipx_wire::Node;
 use ipx_ethernet_ports::Place;
+use ipx_wire::Node;
 use std::alloc::Global;
 use toml::Table;
 

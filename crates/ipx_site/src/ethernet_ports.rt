@@ -7,8 +7,8 @@ ghost use Rattle.ipx_ethernet_ports.specs.EthernetAddresses.{places_behind};
 use crate::bind_fault::{BindFault, bind_error_kind};
 use crate::site::{EthernetPortConfig, PortConfig};
 use ipx_ethernet::EthernetPort;
+use ipx_ethernet_ports::{EthernetPorts, EthernetSockets, Place};
 use ipx_hub::Switch;
-use ipx_ethernet_ports::{Place, EthernetSockets, EthernetPorts};
 use std::alloc::{AllocError, Global};
 use std::io::ErrorKind;
 use std::net::Net;
@@ -65,7 +65,11 @@ fn bind_ethernet_port<R: Net>(
 
 /// The sockets of the ports on wires. At the first that can't be had it answers that port, and nothing
 /// stays bound.
-fn bind_ethernet_ports<R: Net>(rt: &R, alloc: Global, ports: &[PortConfig]) -> Result<EthernetSockets, BindFault>
+fn bind_ethernet_ports<R: Net>(
+    rt: &R,
+    alloc: Global,
+    ports: &[PortConfig],
+) -> Result<EthernetSockets, BindFault>
     ensures { IfOk result (λ s.
         places_behind s.ethernet.items ≡ end_places (ethernet_ports ports.now)) }
 {

@@ -7,8 +7,8 @@ ghost use Rattle.ipx_site.specs.EthernetValues.{AreEthernetEnds, IsEncapsulation
 
 use crate::allowed_peer::MAX_ENTRIES;
 use ipx_ethernet::Encapsulation;
-use ipx_wire::{Node, OutOfMemory};
 use ipx_ethernet_ports::Place;
+use ipx_wire::{Node, OutOfMemory};
 use std::alloc::Global;
 use std::net::SocketAddrV4;
 use toml::Value;

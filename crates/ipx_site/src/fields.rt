@@ -10,10 +10,10 @@ ghost use Rattle.ipx_site.specs.AllowedPeers.{AreOrigins};
 ghost use Rattle.ipx_site.specs.Values.{AreAddressesOf, AreRouterPeers, IsAccept, IsIpAddress, IsCount, IsKind, IsNetwork, IsSocket, IsFileName, IsOtherFileName};
 ghost use Rattle.ipx_site.specs.Fields.{Gives, GivesIf, GivesOr, Holds, HoldsOr, IsMissing, IsStray, IsStrayName, IsUnknown, IsWrong};
 
+use crate::allowed_peer::{AllowedPeer, origins_of};
 use crate::fault::ConfigError;
 use crate::key::{Key, is_key, key_in, keys_of_kind, keys_of_other_kinds};
 use crate::neighbours::{among, neighbours_of};
-use crate::allowed_peer::{AllowedPeer, origins_of};
 use crate::site::{Accept, Kind};
 use crate::values::{
     accept_of, count_of, file_name_of, kind_of, parse_address, parse_network, parse_peers,
@@ -240,7 +240,11 @@ pub fn other_file_name_in(
 }
 
 /// The IP addresses that a host hears besides its router's; none where they are left out.
-pub fn neighbours_in(alloc: Global, table: &Table, number: usize) -> Result<Vec<[u8; 4]>, ConfigError>
+pub fn neighbours_in(
+    alloc: Global,
+    table: &Table,
+    number: usize,
+) -> Result<Vec<[u8; 4]>, ConfigError>
     ensures { MatchResult result
         (λ ips. HoldsOr AreNeighbours Key.Peers (table_view table.now) [] ips.items)
         (λ f. (f ≡ ConfigError.OutOfMemory)

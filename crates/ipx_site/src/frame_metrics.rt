@@ -1,11 +1,11 @@
 //! What a router counts of frames on its wires, as a text for Prometheus.
 
-use crate::family::{Family, put_family, put_of_port, put_one};
-use crate::router_ports::{UdpRouterPorts, PortIndex};
 use crate::ethernet_totals::came_in;
+use crate::family::{Family, put_family, put_of_port, put_one};
+use crate::router_ports::{PortIndex, UdpRouterPorts};
 use ipx_ethernet::{Encapsulation, FrameCounters};
-use ipx_hub::Switch;
 use ipx_ethernet_ports::EndSockets;
+use ipx_hub::Switch;
 use log::{Log, warn};
 use std::alloc::AllocError;
 

@@ -8,13 +8,13 @@ ghost use Rattle.ipx_site.specs.Neighbours.{AreAmong, AreNeighbours};
 ghost use Rattle.ipx_site.specs.AllowedPeers.{AreOrigins};
 ghost use Rattle.ipx_site.specs.Values.{IsAccept};
 
+use crate::allowed_peer::AllowedPeer;
 use crate::fault::ConfigError;
 use crate::fields::{
     accept_in, address_in, count_in, neighbours_in, network_in, origins_in, refuse_unknown,
     routers_in, socket_in,
 };
 use crate::key::Key;
-use crate::allowed_peer::AllowedPeer;
 use crate::site::Accept;
 use crate::toml_text::table_of;
 use ipx_carrier::UDP_PORT;

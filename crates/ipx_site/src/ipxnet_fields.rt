@@ -5,14 +5,14 @@ ghost use Rattle.toml.specs.View.{table_view};
 ghost use Rattle.ipx_site.specs.IpxnetTable.{AreJoinedRouters, ArePeersFor, IsIpxnetFault, IsIpxnetTable, IsJoinFault, IsPeersFault};
 ghost use Rattle.ipx_site.specs.EthernetValues.{are_places_apart};
 
+use crate::ethernet_fields::{required_count_in, station_in};
+use crate::ethernet_values::{ends_of, station_at};
 use crate::fault::ConfigError;
 use crate::fields::{accept_in, address_in, count_in, held, network_in, refuse_stray};
 use crate::ipxnet_port::IpxnetPortConfig;
 use crate::key::Key;
 use crate::site::{Accept, Kind};
 use crate::values::parse_peers;
-use crate::ethernet_fields::{required_count_in, station_in};
-use crate::ethernet_values::{ends_of, station_at};
 use ipx_ethernet_ports::Place;
 use std::alloc::Global;
 use toml::Table;
@@ -78,7 +78,11 @@ fn joined_routers_in(alloc: Global, table: &Table, number: usize) -> Result<Vec<
 }
 
 /// The port for clients of ipxnet of a table with this number.
-pub fn ipxnet_port_in(alloc: Global, table: &Table, number: usize) -> Result<IpxnetPortConfig, ConfigError>
+pub fn ipxnet_port_in(
+    alloc: Global,
+    table: &Table,
+    number: usize,
+) -> Result<IpxnetPortConfig, ConfigError>
     ensures port { IfOk result (IsIpxnetTable (table_view table.now)) }
     ensures fault { IfErr result (λ f.
         (f ≡ ConfigError.OutOfMemory) ⊎ IsIpxnetFault number (table_view table.now) f) }

@@ -1,7 +1,7 @@
 //! What a router counts at its ports for clients of ipxnet, as a text for Prometheus.
 
 use crate::family::{Family, put_family, put_of_port, put_one};
-use crate::router_ports::{UdpRouterPorts, PortIndex};
+use crate::router_ports::{PortIndex, UdpRouterPorts};
 use ipx_ipxnet_ports::PlaceSockets;
 use ipxnet_server::{IpxnetServer, ServerCounts};
 use std::alloc::AllocError;

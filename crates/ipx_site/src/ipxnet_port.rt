@@ -4,8 +4,8 @@ ghost use Rattle.std.specs.Prelude.{◌≤◌};
 ghost use Rattle.ipxnet_server.specs.ServerClients.{max_server_clients};
 
 use crate::site::Accept;
-use ipx_wire::{Network, Node};
 use ipx_ethernet_ports::Place;
+use ipx_wire::{Network, Node};
 
 /// A port of a router for clients of ipxnet, as its file has it.
 #[derive(Drop)]

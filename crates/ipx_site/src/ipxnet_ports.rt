@@ -7,9 +7,9 @@ ghost use Rattle.ipx_site.specs.KindPorts.{client_port_of, ipxnet_ports, server_
 use crate::bind_fault::{BindFault, bind_error_kind};
 use crate::ipxnet_port::IpxnetPortConfig;
 use crate::site::{Accept, PortConfig};
-use ipx_ipxnet_ports::{Servers, ServerSockets};
-use ipxnet_server::{IpxnetServer, ServerPort, Place};
 use ipx_ethernet_ports::Place as EndPlace;
+use ipx_ipxnet_ports::{ServerSockets, Servers};
+use ipxnet_server::{IpxnetServer, Place, ServerPort};
 use std::alloc::{AllocError, Global};
 use std::io::ErrorKind;
 use std::net::Net;

@@ -3,8 +3,8 @@
 ghost use Rattle.std.specs.Prelude.{IfOk, string_bytes};
 ghost use Rattle.ipx_site.specs.KnownFile.{TellsKnown};
 
-use ipx_table_dump::tables_to_text;
 use ipx_router::Router;
+use ipx_table_dump::tables_to_text;
 use std::alloc::{AllocError, Global};
 
 /// What a router knows at a moment, in milliseconds.

@@ -1,8 +1,8 @@
 //! How much each neighbour of a router told, as a text for Prometheus.
 
 use crate::family::{Family, put_family};
-use ipx_table_dump::{Advertiser, first_advertisers};
 use ipx_router::Router;
+use ipx_table_dump::{Advertiser, first_advertisers};
 use ipx_tables::Source;
 use std::alloc::{AllocError, Global};
 

@@ -5,8 +5,8 @@ ghost use Rattle.ipx_carrier.specs.Counting.{counted, raised};
 
 use crate::sockets::UdpSockets;
 use ipx_carrier::Datagrams;
-use ipx_ipxnet_ports::{ServerSockets, PlaceSockets};
 use ipx_ethernet_ports::{EndSockets, EthernetSockets};
+use ipx_ipxnet_ports::{PlaceSockets, ServerSockets};
 use mio::unix::SourceFd;
 use mio::{Events, Interest, Poll, Token};
 use std::alloc::Global;

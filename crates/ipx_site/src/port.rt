@@ -5,6 +5,8 @@ ghost use Rattle.toml.specs.View.{table_view};
 ghost use Rattle.ipx_site.specs.EthernetTable.{IsFramesFault, IsFramesTable, IsKindFault, IsPortOfKind};
 ghost use Rattle.ipx_site.specs.Port.{IsPortTable, IsPortFault};
 
+use crate::ethernet_fields::{encapsulation_in, ends_in, joined_in, required_count_in, station_in};
+use crate::ethernet_values::station_at;
 use crate::fault::ConfigError;
 use crate::fields::{
     accept_in, address_in, count_in, kind_in, network_in, peers_in, port_routers_in, refuse_stray,
@@ -12,15 +14,17 @@ use crate::fields::{
 use crate::ipxnet_fields::ipxnet_port_in;
 use crate::key::Key;
 use crate::site::{EthernetPortConfig, Kind, PortConfig, Rfc1234PortConfig};
-use crate::ethernet_fields::{encapsulation_in, ends_in, joined_in, required_count_in, station_in};
-use crate::ethernet_values::station_at;
 use ipx_carrier::UDP_PORT;
 use ipx_ethernet_ports::Place;
 use std::alloc::Global;
 use toml::Table;
 
 /// The port of RFC 1234 of a table with this number.
-fn rfc1234_port(alloc: Global, table: &Table, number: usize) -> Result<Rfc1234PortConfig, ConfigError>
+fn rfc1234_port(
+    alloc: Global,
+    table: &Table,
+    number: usize,
+) -> Result<Rfc1234PortConfig, ConfigError>
     ensures port { IfOk result (IsPortTable (table_view table.now)) }
     ensures fault { IfErr result (λ f.
         (f ≡ ConfigError.OutOfMemory) ⊎ IsPortFault number (table_view table.now) f) }
@@ -45,7 +49,11 @@ fn rfc1234_port(alloc: Global, table: &Table, number: usize) -> Result<Rfc1234Po
 }
 
 /// The port on a wire of a table with this number.
-fn frames_port(alloc: Global, table: &Table, number: usize) -> Result<EthernetPortConfig, ConfigError>
+fn frames_port(
+    alloc: Global,
+    table: &Table,
+    number: usize,
+) -> Result<EthernetPortConfig, ConfigError>
     ensures port { IfOk result (IsFramesTable (table_view table.now)) }
     ensures fault { IfErr result (λ f.
         (f ≡ ConfigError.OutOfMemory) ⊎ IsFramesFault number (table_view table.now) f) }

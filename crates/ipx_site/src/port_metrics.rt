@@ -76,7 +76,11 @@ fn put_passed(
 }
 
 /// Writes what became of datagrams that came by a port and were dropped, by reason.
-fn put_drops(text: &mut String, number: usize, outcomes: &OutcomeCounters) -> Result<(), AllocError> {
+fn put_drops(
+    text: &mut String,
+    number: usize,
+    outcomes: &OutcomeCounters,
+) -> Result<(), AllocError> {
     let metrics = [
         ("bad", outcomes.bad),
         ("propagated", outcomes.propagated),

@@ -4,11 +4,11 @@ ghost use Rattle.std.specs.Prelude.{◌≡◌, [], IfOk};
 ghost use Rattle.ipx_site.specs.SourceFilter.{none_kept};
 
 use crate::querier::general_query_from;
-use crate::token_buckets::TokenBuckets;
 use crate::source_filter::DropCount;
-use ipx_static::RestartDiscovery;
+use crate::token_buckets::TokenBuckets;
 use ipx_carrier::{Core, ip_of};
 use ipx_router::Port;
+use ipx_static::RestartDiscovery;
 use ipx_wire::{Node, OutOfMemory};
 use std::alloc::{AllocError, Global};
 use std::marker::Model;

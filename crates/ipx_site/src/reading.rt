@@ -11,10 +11,10 @@ ghost use Rattle.ipx_site.specs.Site.{ArePorts, IsFirstFault, IsPortItem, IsPort
 
 use crate::fault::ConfigError;
 use crate::fields::{file_name_in, other_file_name_in, refuse_unknown, required};
-use crate::static_lists::statics_in;
 use crate::key::Key;
 use crate::port::port_of;
 use crate::site::{PortConfig, RouterConfig};
+use crate::static_lists::statics_in;
 use crate::toml_text::table_of;
 use std::alloc::Global;
 use toml::{Table, Value};

@@ -6,16 +6,16 @@ ghost use Rattle.ipx_carrier.specs.OutcomeCounters.{outcomes_in};
 ghost use Rattle.ipx_site.specs.IdleTime.{happened, happened_in, lost_in};
 ghost use Rattle.ipx_site.specs.RouterMetrics.{AreMetrics, no_counts, with_batch, with_memory_fault};
 
+use crate::ethernet_totals::{in_other_encapsulations, unframed};
 use crate::metrics::Metrics;
-use crate::router_ports::UdpRouterPorts;
 use crate::query_limiter::QueryLimiter;
 use crate::route_change_log::RouteChangeLog;
-use crate::ethernet_totals::{in_other_encapsulations, unframed};
-use ipx_static::WithStatics;
+use crate::router_ports::UdpRouterPorts;
 use ipx_carrier::{Batch, OutcomeCounters, RunFault, saturating_increment};
-use ipx_metrics::MeteredRouter;
-use ipx_ipxnet_ports::PlaceSockets;
 use ipx_ethernet_ports::EndSockets;
+use ipx_ipxnet_ports::PlaceSockets;
+use ipx_metrics::MeteredRouter;
+use ipx_static::WithStatics;
 
 /// What a router that runs counts itself. Each count stays at the greatest u64.
 #[derive(Clone, Copy, Debug, PartialEq, Eq)]

@@ -8,14 +8,14 @@ ghost use Rattle.ipx_ipxnet_ports.specs.OnServers.{servers_view, server_ports};
 ghost use Rattle.ipx_ethernet_ports.specs.OnEthernet.{ethernet_ports_view};
 ghost use Rattle.ipx_site.specs.RouterPorts.{ReceivesByKind, SendsByKind, by_kind, fits};
 
-use crate::source_filter::SourceFilter;
 use crate::sockets::UdpSockets;
+use crate::source_filter::SourceFilter;
 use ipx_carrier::{
-    Datagrams, DeviceFault, CountsFiltered, OnPeers, PacketSent, PortDriver, PortDriverFilters,
+    CountsFiltered, Datagrams, DeviceFault, OnPeers, PacketSent, PortDriver, PortDriverFilters,
 };
-use ipx_ipxnet_ports::{Servers, ServerSockets, PlaceSockets};
+use ipx_ethernet_ports::{EndSockets, EthernetPorts, EthernetSockets};
+use ipx_ipxnet_ports::{PlaceSockets, ServerSockets, Servers};
 use ipx_wire::Node;
-use ipx_ethernet_ports::{EndSockets, EthernetSockets, EthernetPorts};
 
 /// Where a port is among those of its kind, the first of which is 0.
 #[derive(Clone, Copy, Debug, PartialEq, Eq)]

@@ -13,23 +13,23 @@ ghost use Rattle.ipx_site.specs.SitePorts.{AccessListPorts, access_by, access_of
 
 use crate::bind_fault::BindFault;
 use crate::clock::SteadyClock;
+use crate::ethernet_ports::ethernet_ports_of;
 use crate::files::load_site;
 use crate::ipxnet_ports::servers_of;
-use crate::source_filter::{AccessList, SourceFilter};
 use crate::poller::{Poller, WaitFault};
-use crate::rcvbuf::{RCVBUF_SIZE, set_rcvbuf};
-use crate::router_ports::{RouterPorts, UdpRouterPorts, PortIndex};
-use crate::running_router::{Parts, RunningRouter};
-use crate::static_neighbours::silent_of;
-use crate::site::{Accept, PortConfig, RouterConfig, Rfc1234PortConfig};
-use crate::sockets::UdpSockets;
 use crate::query_limiter::QueryLimiter;
+use crate::rcvbuf::{RCVBUF_SIZE, set_rcvbuf};
+use crate::router_ports::{PortIndex, RouterPorts, UdpRouterPorts};
+use crate::running_router::{Parts, RunningRouter};
+use crate::site::{Accept, PortConfig, Rfc1234PortConfig, RouterConfig};
+use crate::sockets::UdpSockets;
+use crate::source_filter::{AccessList, SourceFilter};
 use crate::start_lines::ports_to_texts;
-use crate::ethernet_ports::ethernet_ports_of;
-use ipx_static::{WithStatics, StaticNeighbour};
+use crate::static_neighbours::silent_of;
 use ipx_carrier::OnPeers;
 use ipx_metrics::MeteredRouter;
 use ipx_router::{NewFault, Port, Router};
+use ipx_static::{StaticNeighbour, WithStatics};
 use log::{Log, info, warn};
 use std::alloc::{AllocError, Global};
 use std::net::Net;
@@ -291,11 +291,7 @@ fn bound_ports<R: Net>(
 }
 
 /// What waits for the sockets of ports.
-fn ready_for<R: Net>(
-    rt: &R,
-    alloc: Global,
-    ports: &UdpRouterPorts,
-) -> Result<Poller, RouteFault>
+fn ready_for<R: Net>(rt: &R, alloc: Global, ports: &UdpRouterPorts) -> Result<Poller, RouteFault>
     ensures { IfOk result (λ r. r.watched
         ≡ counted (length ports.now.datagrams.device.device.sockets.items
         + length ports.now.ethernet.sockets.ethernet.items

@@ -4,13 +4,13 @@ ghost use Rattle.std.specs.Prelude.{◌≡◌};
 ghost use Rattle.ipx_site.specs.PortKinds.{kind_of_port, network_of_kind, place_of_kind};
 ghost use Rattle.ipx_site.specs.SitePorts.{router_port_of, router_port_of_kind};
 
-use crate::statics::StaticEntry;
 use crate::ipxnet_port::IpxnetPortConfig;
+use crate::statics::StaticEntry;
 use ipx_carrier::node_of;
 use ipx_ethernet::Encapsulation;
+use ipx_ethernet_ports::Place;
 use ipx_router::Port;
 use ipx_wire::{Network, Node};
-use ipx_ethernet_ports::Place;
 
 /// What a port of a router is.
 #[derive(Clone, Copy, Debug, PartialEq, Eq)]

@@ -8,10 +8,12 @@ ghost use Rattle.ipx_site.specs.KindPorts.{datagram_ports};
 ghost use Rattle.ipx_site.specs.SitePorts.{udp_ports};
 
 use crate::bind_fault::{BindFault, bind_error_kind};
-use crate::rcvbuf::set_rcvbuf;
 use crate::last_sender::Senders;
+use crate::rcvbuf::set_rcvbuf;
 use crate::site::PortConfig;
-use ipx_carrier::{Datagrams, DeviceFault, ReadySet, bind_nonblocking, socket_addr, saturating_increment};
+use ipx_carrier::{
+    Datagrams, DeviceFault, ReadySet, bind_nonblocking, saturating_increment, socket_addr,
+};
 use std::alloc::{AllocError, Global};
 use std::io;
 use std::io::ErrorKind;

@@ -10,12 +10,12 @@ ghost use Rattle.ipx_site.specs.PortFilterDrops.{CountsUnknownSenderAt, kept_cha
 ghost use Rattle.ipx_site.specs.SourceFilter.{IsVerdictOn, TakesIn, is_listed, is_peer, kept_in, may_go, may_originate, none_kept, nothing_kept, one_more};
 ghost use Rattle.ipx_site.specs.SitePorts.{access_by};
 
-use crate::port_filter_drops::{PortFilterDrops, count_refused, count_unknown_sender};
-use crate::source_check::{source_matches_sender, is_response, is_unrouted};
-use crate::sameness::is_same_ip;
 use crate::last_sender::Senders;
+use crate::port_filter_drops::{PortFilterDrops, count_refused, count_unknown_sender};
+use crate::sameness::is_same_ip;
 use crate::sockets::UdpSockets;
-use ipx_carrier::{Datagrams, DeviceFault, CountsFiltered, saturating_increment};
+use crate::source_check::{is_response, is_unrouted, source_matches_sender};
+use ipx_carrier::{CountsFiltered, Datagrams, DeviceFault, saturating_increment};
 use ipx_wire::{Network, Packet, decode};
 
 /// The ports at which it is counted what is kept back: as many as a router has at most.

@@ -4,12 +4,12 @@ ghost use Rattle.std.specs.Prelude.{◌≡◌, IfOk, map, string_bytes};
 ghost use Rattle.std.specs.List.{flat_map};
 ghost use Rattle.ipx_site.specs.Checked.{clients_text, dealings_text, dotted_text, frames_text, ipxnet_text, join_text, joined_text, others_text, place_text, port_text, port_texts, reached_text, rfc1234_text, routers_text, ethernet_end_text, ethernet_text};
 
+use crate::ethernet_values::word_of;
 use crate::ipxnet_port::IpxnetPortConfig;
 use crate::site::{Accept, EthernetPortConfig, PortConfig, Rfc1234PortConfig};
-use crate::ethernet_values::word_of;
 use ipx_carrier::node_of;
-use ipx_wire::{Network, Node};
 use ipx_ethernet_ports::Place;
+use ipx_wire::{Network, Node};
 use std::alloc::{AllocError, Global};
 
 /// An IP address with dots between its four numbers.
@@ -70,7 +70,11 @@ fn dealings_to_text(alloc: Global, port: &Rfc1234PortConfig) -> Result<String, A
 }
 
 /// A port of RFC 1234 with its number: `port 1 network .. node .. udp .. cost .. peers ..`.
-fn rfc1234_to_text(alloc: Global, number: usize, port: &Rfc1234PortConfig) -> Result<String, AllocError>
+fn rfc1234_to_text(
+    alloc: Global,
+    number: usize,
+    port: &Rfc1234PortConfig,
+) -> Result<String, AllocError>
     ensures { IfOk result (λ t. string_bytes t ≡ rfc1234_text number port.now) }
 {
     let place = place_to_text(alloc, port.network, node_of(port.address))?;
@@ -116,7 +120,11 @@ fn ethernet_to_text(alloc: Global, port: &EthernetPortConfig) -> Result<String, 
 }
 
 /// A port on a wire with its number: `port 2 network .. node .. frames .. udp .. cost .. ends ..`.
-fn frames_to_text(alloc: Global, number: usize, port: &EthernetPortConfig) -> Result<String, AllocError>
+fn frames_to_text(
+    alloc: Global,
+    number: usize,
+    port: &EthernetPortConfig,
+) -> Result<String, AllocError>
     ensures { IfOk result (λ t. string_bytes t ≡ frames_text number port.now) }
 {
     let place = place_to_text(alloc, port.network, port.node)?;
@@ -149,7 +157,11 @@ fn clients_to_text(alloc: Global, port: &IpxnetPortConfig) -> Result<String, All
 }
 
 /// A port for clients with its number: `port 3 network .. node .. ipxnet udp .. cost .. clients ..`.
-fn ipxnet_to_text(alloc: Global, number: usize, port: &IpxnetPortConfig) -> Result<String, AllocError>
+fn ipxnet_to_text(
+    alloc: Global,
+    number: usize,
+    port: &IpxnetPortConfig,
+) -> Result<String, AllocError>
     ensures { IfOk result (λ t. string_bytes t ≡ ipxnet_text number port.now) }
 {
     let place = place_to_text(alloc, port.network, port.node)?;

@@ -7,13 +7,13 @@ ghost use Rattle.ipx_site.specs.StaticFields.{IsFarNetwork, IsFarNetworkFault, I
 ghost use Rattle.ipx_site.specs.Values.{IsCount};
 ghost use Rattle.ipx_site.specs.EthernetValues.{IsStation};
 
+use crate::ethernet_values::station_of;
 use crate::fault::ConfigError;
 use crate::fields::{address_in, network_in, required};
-use crate::static_values::{is_place_of_service, port_number_of, service_name_of, written_place};
 use crate::key::Key;
 use crate::site::PortConfig;
+use crate::static_values::{is_place_of_service, port_number_of, service_name_of, written_place};
 use crate::values::parse_socket;
-use crate::ethernet_values::station_of;
 use ipx_carrier::node_of;
 use ipx_tables::Source;
 use ipx_wire::{Address, Network, Node};
@@ -108,7 +108,11 @@ fn next_node_in(table: &Table, number: usize, port: &PortConfig) -> Result<Node,
 }
 
 /// By whom an entry is heard.
-pub fn next_hop_in(table: &Table, number: usize, ports: &[PortConfig]) -> Result<NextHop, ConfigError>
+pub fn next_hop_in(
+    table: &Table,
+    number: usize,
+    ports: &[PortConfig],
+) -> Result<NextHop, ConfigError>
     ensures near { IfOk result (IsNear ports.now (table_view table.now)) }
     ensures fault { IfErr result (λ f. (f ≡ ConfigError.OutOfMemory)
         ⊎ IsNearFault ports.now (table_view table.now) number f) }

@@ -2,7 +2,7 @@
 
 ghost use Rattle.ipx_site.specs.StaticStands.{FilesMayStand, RoutesOfFilesStand, RoutesOfSitesStand, ServicesOfFilesStand, ServicesOfSitesStand};
 
-use ipx_static::{statics_are_counted_apart, static_routes_hold, static_services_hold};
+use ipx_static::{static_routes_hold, static_services_hold, statics_are_counted_apart};
 
 /// Each route and service by hand of a router's file that is read meets what its standing asks of
 /// the file: what else `static_routes_hold` and `static_services_hold` of `ipx_static` ask for

@@ -6,8 +6,8 @@ ghost use Rattle.ipx_inspect.specs.ShowLine.{address_text};
 ghost use Rattle.ipx_table_dump.specs.TableText.{by_text};
 ghost use Rattle.ipx_site.specs.Checked.{static_line, static_route_line, static_service_line, service_words, shown_text};
 
-use crate::statics::{StaticEntry, StaticItem};
 use crate::escaped::Escaped;
+use crate::statics::{StaticEntry, StaticItem};
 use ipx_control::{RipEntry, ServiceEntry};
 use ipx_tables::Source;
 use ipx_wire::Address;

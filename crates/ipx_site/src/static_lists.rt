@@ -7,12 +7,12 @@ ghost use Rattle.ipx_site.specs.Fields.{Reads};
 ghost use Rattle.ipx_site.specs.StaticLists.{AreStatics, AreEntriesOf, AreStaticEntries, IsAgain, IsStaticFault, IsEntriesFault, IsEntryItem, IsEntryItemFault, IsEntryList, IsFirstEntryFault, again_place};
 ghost use Rattle.ipx_site.specs.Values.{item_count};
 
+use crate::allowed_peer::MAX_ENTRIES;
 use crate::fault::ConfigError;
 use crate::fields::held;
-use crate::statics::{StaticEntry, StaticKind};
-use crate::static_tables::entry_in;
-use crate::allowed_peer::MAX_ENTRIES;
 use crate::site::PortConfig;
+use crate::static_tables::entry_in;
+use crate::statics::{StaticEntry, StaticKind};
 use std::alloc::Global;
 use toml::{Table, Value};
 
@@ -43,7 +43,11 @@ fn again_place(earlier: &[StaticEntry], entry: &StaticEntry) -> Option<usize>
 }
 
 /// Refuses an entry that says what an earlier one does.
-fn refuse_again(kind: StaticKind, earlier: &[StaticEntry], entry: &StaticEntry) -> Result<(), ConfigError>
+fn refuse_again(
+    kind: StaticKind,
+    earlier: &[StaticEntry],
+    entry: &StaticEntry,
+) -> Result<(), ConfigError>
     requires { length earlier.now < 2 ^ 63 }
     ensures alone { OnOk result (again_place earlier.now entry.now ≡ None) }
     ensures again { IfErr result (IsAgain kind earlier.now entry.now) }

@@ -7,8 +7,8 @@ ghost use Rattle.ipx_site.specs.StaticLists.{is_one_source};
 ghost use Rattle.ipx_site.specs.StaticNeighbours.{AreSilent, IsSilent, named_sources, route_by, service_by, with_source};
 
 use crate::statics::{StaticEntry, is_one_source};
-use ipx_static::StaticNeighbour;
 use ipx_control::{RipEntry, ServiceEntry};
+use ipx_static::StaticNeighbour;
 use ipx_tables::Source;
 use std::alloc::{AllocError, Global};
 
@@ -42,7 +42,11 @@ fn sources_of(alloc: Global, entries: &[StaticEntry]) -> Result<Vec<Source>, All
 }
 
 /// The routes that a neighbour is to tell.
-fn routes_by(alloc: Global, entries: &[StaticEntry], by: Source) -> Result<Vec<RipEntry>, AllocError>
+fn routes_by(
+    alloc: Global,
+    entries: &[StaticEntry],
+    by: Source,
+) -> Result<Vec<RipEntry>, AllocError>
     ensures { IfOk result (λ v. v.items ≡ filter_map (route_by by) entries.now) }
 {
     entries

@@ -6,12 +6,12 @@ ghost use Rattle.ipx_site.specs.StaticTables.{IsEntryFault, IsEntryTable, IsOffe
 
 use crate::fault::ConfigError;
 use crate::fields::{count_in, refuse_unknown};
-use crate::statics::{StaticEntry, StaticKind, StaticItem};
+use crate::key::Key;
+use crate::site::PortConfig;
 use crate::static_fields::{
     far_network_in, next_hop_in, service_name_in, service_place_in, service_type_in,
 };
-use crate::key::Key;
-use crate::site::PortConfig;
+use crate::statics::{StaticEntry, StaticItem, StaticKind};
 use ipx_control::{RipEntry, ServiceEntry};
 use std::alloc::Global;
 use toml::Table;

@@ -1,8 +1,8 @@
 //! The lines of faults.
 
+use crate::escaped::Escaped;
 use crate::fault::ConfigError;
 use crate::key::Key;
-use crate::escaped::Escaped;
 use crate::site::Kind;
 use std::fmt;
 

@@ -4,10 +4,10 @@ ghost use Rattle.std.specs.Prelude.{◌≡◌, ◌↔◌, ◌<◌, ◌^◌, ℕ,
 ghost use Rattle.ipx_site.specs.IdleTime.{IsLineDue, counts_of, counts_told, happened_in};
 ghost use Rattle.ipx_site.specs.Moments.{AreToldIfDue, IsDue, IsOneDue, IsReached, IsToldIfDue, untold};
 
-use crate::throttled_log::ThrottledLog;
 use crate::metrics::Metrics;
 use crate::moments::sooner;
 use crate::source_filter::DropCount;
+use crate::throttled_log::ThrottledLog;
 use log::{Log, warn};
 
 /// What goes wrong again and again: how often it did, who did it last, where that is known, and
@@ -121,7 +121,10 @@ fn warnings_in(f: &Metrics) -> [Warning; CAUSES]
         Warning::of_nobody(f.device_faults, "datagrams the system refused"),
         Warning::of_nobody(f.memory_faults, "times memory was refused"),
         Warning::of_nobody(f.file_faults, "times a file could not be written"),
-        Warning::of_nobody(f.frame_unknown_senders, "datagrams came from no end of a wire"),
+        Warning::of_nobody(
+            f.frame_unknown_senders,
+            "datagrams came from no end of a wire",
+        ),
         Warning::of_nobody(f.unframed, "packets no frame could carry"),
         Warning::of_nobody(f.other_encapsulation, "frames of another encapsulation"),
     ]

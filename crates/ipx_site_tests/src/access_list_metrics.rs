@@ -47,7 +47,12 @@ fn metrics_of_access_lists_in_text(rt: HostRuntime) -> Result<(), AllocError> {
 #[test]
 fn no_metrics_without_access_lists(rt: HostRuntime) -> Result<(), AllocError> {
     let mut text = String::new(rt.alloc());
-    put_access_list_metrics(&mut text, rt.alloc(), &[PortIndex::Ethernet(0), PortIndex::IpxnetServer(0)], &[])?;
+    put_access_list_metrics(
+        &mut text,
+        rt.alloc(),
+        &[PortIndex::Ethernet(0), PortIndex::IpxnetServer(0)],
+        &[],
+    )?;
     assert_eq!(rt; text.as_str(), "");
     Ok(())
 }

@@ -1,10 +1,10 @@
 //! Routers below `QueryLimiter` that ask their neighbours once more.
 
-use ipx_static::{RestartDiscovery, WithStatics};
 use ipx_carrier::{Core, RouterCore};
 use ipx_metrics::MeteredRouter;
 use ipx_router::{Port, Router};
 use ipx_site::QueryLimiter;
+use ipx_static::{RestartDiscovery, WithStatics};
 use ipx_wire::{Network, Node, OutOfMemory};
 use std::alloc::{AllocError, Global};
 use std::test::Fail;

@@ -1,8 +1,8 @@
 //! Who comes to ports for clients and who is gone: what is told at a look, and what waits.
 
-use ipxnet_server::Place;
-use ipx_site::{PortClient, ClientLog};
+use ipx_site::{ClientLog, PortClient};
 use ipx_wire::Node;
+use ipxnet_server::Place;
 use std::alloc::{AllocError, Global};
 use std::test::Fail;
 

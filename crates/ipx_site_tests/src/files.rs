@@ -1,7 +1,7 @@
 //! Files without a fault: what is read of them.
 
 use crate::fixture::{host, site};
-use ipx_site::{Accept, AllowedPeer, PortConfig, RouterConfig, Rfc1234PortConfig};
+use ipx_site::{Accept, AllowedPeer, PortConfig, Rfc1234PortConfig, RouterConfig};
 use ipx_wire::{Address, Network, Node, Socket};
 
 const SITE: &str = "\

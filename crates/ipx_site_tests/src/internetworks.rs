@@ -3,7 +3,7 @@
 
 use ipx_carrier::{Datagrams, DeviceFault, RouterCore, SteppedClock, batch, node_of};
 use ipx_router::{Port, Router};
-use ipx_site::{AccessList, SourceFilter, Senders};
+use ipx_site::{AccessList, Senders, SourceFilter};
 use ipx_wire::{Address, IpxHeader, Network, Node, Packet, Socket, decode, encode_into};
 use std::alloc::Global;
 use std::collections::VecDeque;

@@ -1,11 +1,11 @@
 //! The figures of a port for clients by cause: what is sent through a router, and which one it raises.
 
 use ipx_carrier::{RouterCore, SteppedClock, run_batch};
-use ipx_ipxnet_ports::{Servers, MemoryPlaces};
-use ipxnet_server::{IpxnetServer, ServerCounts, ServerPort, Place};
+use ipx_ipxnet_ports::{MemoryPlaces, Servers};
 use ipx_router::{Port, Router};
 use ipx_site::put_drops;
 use ipx_wire::{Network, Node};
+use ipxnet_server::{IpxnetServer, Place, ServerCounts, ServerPort};
 use std::alloc::Global;
 use std::test::Fail;
 

@@ -3,25 +3,23 @@
 #![tactic(auto)]
 
 #[cfg(test)]
-mod again;
+mod access_list_metrics;
 #[cfg(test)]
-mod statics;
+mod again;
 #[cfg(test)]
 mod client_lines;
 #[cfg(test)]
 mod faults;
 #[cfg(test)]
-mod metrics;
-#[cfg(test)]
 mod files;
 #[cfg(test)]
 mod fixture;
 #[cfg(test)]
-mod access_list_metrics;
-#[cfg(test)]
 mod internetworks;
 #[cfg(test)]
 mod ipxnet_metrics;
+#[cfg(test)]
+mod metrics;
 #[cfg(test)]
 mod moments;
 #[cfg(test)]
@@ -31,13 +29,15 @@ mod players;
 #[cfg(test)]
 mod port_metrics;
 #[cfg(test)]
+mod query_limiter;
+#[cfg(test)]
 mod refused;
 #[cfg(test)]
 mod refused_device;
 #[cfg(test)]
 mod sockets;
 #[cfg(test)]
-mod query_limiter;
+mod statics;
 #[cfg(test)]
 mod waiting;
 #[cfg(test)]

@@ -1,7 +1,7 @@
 //! The text of figures, in the text form of Prometheus.
 
 use ipx_carrier::OutcomeCounters;
-use ipx_site::{Metrics, DropCount, FilterDrops};
+use ipx_site::{DropCount, FilterDrops, Metrics};
 use std::alloc::AllocError;
 
 /// Figures of a router, each another number.

@@ -1,7 +1,7 @@
 //! Who is heard, in whose name, and whom is sent to.
 
 use ipx_carrier::{Datagrams, DeviceFault};
-use ipx_site::{AccessList, PortFilterDrops, SourceFilter, Senders};
+use ipx_site::{AccessList, PortFilterDrops, Senders, SourceFilter};
 use ipx_wire::{Address, IpxHeader, Network, Node, Packet, Socket, encode_into};
 use std::alloc::{AllocError, Global};
 use std::process::Abort;

@@ -1,7 +1,7 @@
 //! What a router counts at each of two ports, as a text, and what its lines say of what it dropped.
 
 use ipx_carrier::{Core, OutcomeCounters};
-use ipx_metrics::{MeteredRouter, LastDrop};
+use ipx_metrics::{LastDrop, MeteredRouter};
 use ipx_router::{Port, Router};
 use ipx_site::{DropReason, DropSummary, put_neighbour_metrics, put_port_metrics};
 use ipx_wire::{Network, Node};
@@ -57,7 +57,10 @@ fn hear_all(alloc: Global, core: &mut MeteredRouter) -> Result<(), Fail> {
 
 /// A count of each port, added up.
 fn sum(core: &MeteredRouter, of: fn(&OutcomeCounters) -> u64) -> u64 {
-    core.port_counters().iter().map(|port| of(&port.outcomes)).sum()
+    core.port_counters()
+        .iter()
+        .map(|port| of(&port.outcomes))
+        .sum()
 }
 
 #[test]
@@ -75,7 +78,10 @@ fn ports_make_up_the_whole(rt: HostRuntime) -> Result<(), Fail> {
     assert_eq!(rt; sum(&core, |outcomes| outcomes.not_ours), all.not_ours);
     assert_eq!(rt; sum(&core, |outcomes| outcomes.hop_limit), all.hop_limit);
     assert_eq!(rt; sum(&core, |outcomes| outcomes.propagated), all.propagated);
-    assert_eq!(rt; sum(&core, |outcomes| outcomes.bad_control), all.bad_control);
+    assert_eq!(rt;
+        sum(&core, |outcomes| outcomes.bad_control),
+        all.bad_control
+    );
     assert_eq!(rt; sum(&core, |outcomes| outcomes.no_route), all.no_route);
     assert_eq!(rt; sum(&core, |outcomes| outcomes.forwarded), all.forwarded);
     Ok(())

@@ -113,6 +113,8 @@ fn refused_faults_of_files(rt: HostRuntime) {
     }
     match read_site(rt.alloc(), CUT) {
         Ok(_) => assert!(rt; false),
-        Err(fault) => assert!(rt; matches!(fault, ConfigError::NotToml(..) | ConfigError::OutOfMemory)),
+        Err(fault) => assert!(rt;
+            matches!(fault, ConfigError::NotToml(..) | ConfigError::OutOfMemory)
+        ),
     }
 }

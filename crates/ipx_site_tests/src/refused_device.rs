@@ -3,7 +3,7 @@
 
 use crate::metrics::METRICS;
 use ipx_carrier::{Batch, Core, Datagrams, RunFault, batch};
-use ipx_site::{BindFault, AccessList, SourceFilter, Poller, UdpSockets, SteadyClock, WaitFault};
+use ipx_site::{AccessList, BindFault, Poller, SourceFilter, SteadyClock, UdpSockets, WaitFault};
 use ipx_wire::{Network, Node, OutOfMemory};
 use std::alloc::Global;
 

@@ -2,7 +2,7 @@
 
 use crate::fixture::site;
 use ipx_carrier::{Datagrams, DeviceFault};
-use ipx_site::{BindFault, BindErrorKind, Senders, UdpSockets};
+use ipx_site::{BindErrorKind, BindFault, Senders, UdpSockets};
 use std::test::Fail;
 
 const HERE: &str = "\
@@ -118,5 +118,10 @@ fn a_port_without_a_mark_is_not_asked(rt: HostRuntime) -> Result<(), Fail> {
 
 #[test]
 fn names_the_port_that_is_in_use(rt: HostRuntime) {
-    assert!(rt; matches!(bound(&rt, IN_USE), Err(BindFault::Port(2, BindErrorKind::InUse))));
+    assert!(rt;
+        matches!(
+            bound(&rt, IN_USE),
+            Err(BindFault::Port(2, BindErrorKind::InUse))
+        )
+    );
 }

@@ -1,7 +1,7 @@
 //! Waiting for sockets of the loopback, and bursts of turns over them.
 
 use ipx_carrier::{Clock, Core, Datagrams, DeviceFault, batch};
-use ipx_site::{BindFault, AccessList, SourceFilter, Poller, UdpSockets, SteadyClock};
+use ipx_site::{AccessList, BindFault, Poller, SourceFilter, SteadyClock, UdpSockets};
 use ipx_wire::{Network, Node, OutOfMemory};
 use std::alloc::{AllocError, Global};
 use std::test::Fail;

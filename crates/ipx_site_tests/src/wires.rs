@@ -2,9 +2,9 @@
 
 use crate::fixture::{site, site_line};
 use ipx_ethernet::Encapsulation;
+use ipx_ethernet_ports::Place;
 use ipx_site::{EthernetPortConfig, Kind, PortConfig, RouterConfig};
 use ipx_wire::{Network, Node};
-use ipx_ethernet_ports::Place;
 use std::alloc::AllocError;
 
 /// A router with a port of RFC 1234 and two on wires.
@@ -250,7 +250,10 @@ fn lines_of_many_ends(rt: HostRuntime) -> Result<(), AllocError> {
     let most = ends(&rt, 256)?;
     assert_eq!(rt; site_line(rt.alloc(), most.as_str())?.as_str(), "none");
     let more = ends(&rt, 257)?;
-    assert_eq!(rt; site_line(rt.alloc(), more.as_str())?.as_str(), ETHERNET[2].1);
+    assert_eq!(rt;
+        site_line(rt.alloc(), more.as_str())?.as_str(),
+        ETHERNET[2].1
+    );
     Ok(())
 }
 

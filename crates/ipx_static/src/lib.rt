@@ -5,17 +5,17 @@
 //! they tell is preferred, told on and forgotten as what any neighbour tells.
 #![tactic(auto)]
 
-mod restart_discovery;
-mod with_statics;
+mod advertisements;
 mod hearing;
 mod laws;
 mod neighbour;
-mod advertisements;
+mod restart_discovery;
+mod with_statics;
 
-pub use restart_discovery::RestartDiscovery;
-pub use with_statics::WithStatics;
 pub use laws::{
-    statics_are_counted_apart, static_routes_are_offers, static_routes_hold,
-    static_services_are_offers, static_services_hold,
+    static_routes_are_offers, static_routes_hold, static_services_are_offers, static_services_hold,
+    statics_are_counted_apart,
 };
 pub use neighbour::StaticNeighbour;
+pub use restart_discovery::RestartDiscovery;
+pub use with_statics::WithStatics;

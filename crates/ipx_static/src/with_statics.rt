@@ -6,10 +6,10 @@ ghost use Rattle.ipx_router.specs.Telling.{IsNextTelling};
 ghost use Rattle.ipx_static.specs.WithStatics.{HearsIfDue, MissesIfDue};
 ghost use Rattle.ipx_static.specs.StaticAdvertisements.{AreWordsOf};
 
-use crate::restart_discovery::RestartDiscovery;
+use crate::advertisements::words_of;
 use crate::hearing::{hear_words, is_time, next_time};
 use crate::neighbour::StaticNeighbour;
-use crate::advertisements::words_of;
+use crate::restart_discovery::RestartDiscovery;
 use ipx_carrier::Core;
 use ipx_router::Reply;
 use ipx_wire::{Node, OutOfMemory};

@@ -2,10 +2,10 @@
 
 use crate::fixture::silent;
 use crate::routers::port;
-use ipx_static::{RestartDiscovery, WithStatics};
 use ipx_carrier::{Core, RouterCore};
 use ipx_metrics::MeteredRouter;
 use ipx_router::Router;
+use ipx_static::{RestartDiscovery, WithStatics};
 use ipx_wire::OutOfMemory;
 use std::alloc::Global;
 use std::test::Fail;

@@ -1,10 +1,10 @@
 //! A second router, behind the one that hears by hand: what it is told, and when it forgets that.
 
 use crate::routers::{has_service, port, router, way};
-use ipx_static::WithStatics;
 use ipx_carrier::Core;
 use ipx_metrics::MeteredRouter;
 use ipx_router::Router;
+use ipx_static::WithStatics;
 use ipx_tables::Source;
 use ipx_wire::{Node, OutOfMemory};
 use std::alloc::Global;

@@ -1,9 +1,9 @@
 //! Silent neighbours of ports 1 and 2, and cores that hear their words.
 
 use crate::ears::Ears;
-use ipx_static::{WithStatics, StaticNeighbour};
 use ipx_carrier::Core;
 use ipx_control::{RipEntry, ServiceEntry};
+use ipx_static::{StaticNeighbour, WithStatics};
 use ipx_wire::{Address, Network, Node, OutOfMemory, Socket};
 use std::alloc::Global;
 

@@ -1,7 +1,7 @@
 //! Want of memory. Run it with each request refused.
 
 use crate::fixture::ask;
-use crate::routers::{statics, has_service, router, way};
+use crate::routers::{has_service, router, statics, way};
 use std::test::Fail;
 
 /// Whichever request is refused, the route and the service are there two minutes later.

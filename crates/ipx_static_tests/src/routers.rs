@@ -4,10 +4,10 @@
 ghost use Rattle.std.specs.Prelude.{◌≡◌};
 
 use crate::fixture::{NEXT, ask, backup, silent};
-use ipx_static::{RestartDiscovery, WithStatics};
 use ipx_carrier::Core;
 use ipx_metrics::MeteredRouter;
 use ipx_router::{Port, Router};
+use ipx_static::{RestartDiscovery, WithStatics};
 use ipx_tables::{ServiceKey, Source};
 use ipx_wire::{Network, Node, OutOfMemory};
 use std::alloc::Global;

@@ -10,7 +10,12 @@ use ipx_tables::Source;
 use std::alloc::AllocError;
 use std::collections::BTreeMap;
 
-fn put_advertiser(text: &mut String, now: u64, source: Source, teller: Advertiser) -> Result<(), AllocError>
+fn put_advertiser(
+    text: &mut String,
+    now: u64,
+    source: Source,
+    teller: Advertiser,
+) -> Result<(), AllocError>
     ensures { OnOk result
         (string_bytes text.new ≡ string_bytes text.old ++ advertiser_line now (source, teller)) }
 {

@@ -54,7 +54,10 @@ fn told_before(advertisers: &BTreeMap<Source, Advertiser>, source: Source) -> Ad
 }
 
 /// Each neighbour that said something, by port and node, and what it said.
-pub fn advertisers_of(alloc: Global, said: &[Advertisement]) -> Result<BTreeMap<Source, Advertiser>, AllocError>
+pub fn advertisers_of(
+    alloc: Global,
+    said: &[Advertisement],
+) -> Result<BTreeMap<Source, Advertiser>, AllocError>
     ensures { IfOk result (λ m. AreAdvertisers said.now m.entries) }
 {
     sources_are_apart();

@@ -4,24 +4,24 @@
 //! from and how long ago; [`first_advertisers`] are the first neighbours, and how much each told.
 #![tactic(auto)]
 
-mod laws;
-mod neighbours;
-mod direct_networks;
-mod reading;
-mod route_lines;
 mod advertisements;
-mod service_lines;
-mod standing;
 mod advertiser_lines;
 mod advertisers;
+mod direct_networks;
+mod laws;
+mod neighbours;
+mod reading;
+mod route_lines;
 mod section_headers;
+mod service_lines;
+mod standing;
 mod words;
 mod writing;
 
+pub use advertisers::Advertiser;
+pub use direct_networks::{OwnWords, own_networks_of_text};
 pub use laws::{bests_are_read_back, own_networks_are_read_back};
 pub use neighbours::first_advertisers;
-pub use direct_networks::{OwnWords, own_networks_of_text};
 pub use reading::{NetworkWords, ServiceWords, networks_of_text, services_of_text};
-pub use advertisers::Advertiser;
 pub use section_headers::has_all_titles;
 pub use writing::tables_to_text;

@@ -6,12 +6,12 @@ ghost use Rattle.ipx_tables.specs.Listing.{IsListing};
 ghost use Rattle.ipx_table_dump.specs.Advertisers.{AreAdvertisers, advertisements};
 ghost use Rattle.ipx_table_dump.specs.TableText.{IsTables};
 
-use crate::route_lines::{RouteOffer, put_networks};
 use crate::advertisements::add_advertisements;
-use crate::service_lines::{ServiceOffer, put_services};
-use crate::standing::offers_at;
 use crate::advertiser_lines::put_advertisers;
 use crate::advertisers::{Advertiser, advertisers_of};
+use crate::route_lines::{RouteOffer, put_networks};
+use crate::service_lines::{ServiceOffer, put_services};
+use crate::standing::offers_at;
 use ipx_router::Port;
 use ipx_tables::{Metric, Offers, RouteTable, ServiceTable, Source};
 use std::alloc::{AllocError, Global};

@@ -2,8 +2,8 @@
 
 use crate::fixture::{PORT, files, route, service};
 use crate::hearings::{HEARINGS, Hearing};
-use ipx_table_dump::tables_to_text;
 use ipx_router::Port;
+use ipx_table_dump::tables_to_text;
 use ipx_tables::{
     RouteTable, ServiceKey, ServiceTable, Source, TableFault, route_table, service_table,
 };

@@ -1,10 +1,10 @@
 //! What a router knows, as literal texts.
 
 use crate::fixture::{FAR, NEAR, PORT, files, hear_both, route, service};
+use ipx_router::Port;
 use ipx_table_dump::{
     has_all_titles, networks_of_text, own_networks_of_text, services_of_text, tables_to_text,
 };
-use ipx_router::Port;
 use ipx_tables::{route_table, service_table};
 use ipx_wire::{Network, Node};
 use std::test::Fail;

@@ -51,7 +51,11 @@ pub fn better_one<'a, K: Copy, M: Metric + Copy>(
 }
 
 /// The first place whose key is not below this one. Each offer that is read halves what is left.
-fn first_of<K: Ord + Copy, M: Copy>(offer_store: &OfferStore<K, M>, key: K, steps: &mut usize) -> usize
+fn first_of<K: Ord + Copy, M: Copy>(
+    offer_store: &OfferStore<K, M>,
+    key: K,
+    steps: &mut usize,
+) -> usize
     requires { steps.old + 65 < 2 ^ 64 }
     ensures within { result ≤ length offer_store.now }
     ensures below { (j : ℕ) (o : Offer K M) → j < result

@@ -17,12 +17,12 @@ mod marks;
 mod metric;
 mod moments;
 mod offer;
+mod offer_store;
 mod offers;
 mod route;
 mod service;
-mod offer_store;
-mod source;
 mod slot_order;
+mod source;
 mod walk;
 
 pub use fault::TableFault;

@@ -9,8 +9,8 @@ ghost use Rattle.ipx_tables.specs.Expiry.{IsOldest};
 ghost use Rattle.ipx_tables.specs.Sorted.{IsAtKey, IsGapFor, IsRising};
 
 use crate::offer::Offer;
-use crate::source::Source;
 use crate::slot_order::SlotOrder;
+use crate::source::Source;
 use std::alloc::{AllocError, Global};
 use std::cmp::Ordering;
 use std::marker::Model;

@@ -7,7 +7,7 @@ ghost use Rattle.ipx_tables.specs.Content.{is_young};
 ghost use Rattle.ipx_tables.specs.Marks.{IsEarliest};
 ghost use Rattle.ipx_tables.specs.SlotOrder.{is_young_in};
 
-use crate::marks::{Mark, put_mark, settle_first, remove_expiry, remove_expired};
+use crate::marks::{Mark, put_mark, remove_expired, remove_expiry, settle_first};
 use crate::moments::{Timed, counts};
 use std::alloc::{AllocError, Global};
 use std::collections::VecDeque;

@@ -31,10 +31,17 @@ impl<'a, K: Ord + Copy, M: Metric + Copy> Model for Bests<'a, K, M> {
 }
 
 /// The best of each key of the shelf.
-pub fn bests_on<K: Ord + Copy, M: Metric + Copy>(offer_store: &OfferStore<K, M>, now: u64) -> Bests<'_, K, M>
+pub fn bests_on<K: Ord + Copy, M: Metric + Copy>(
+    offer_store: &OfferStore<K, M>,
+    now: u64,
+) -> Bests<'_, K, M>
     ensures { result ≡ bests_of K.cmp M.before now offer_store.now }
 {
-    Bests { offer_store, at: 0, now }
+    Bests {
+        offer_store,
+        at: 0,
+        now,
+    }
 }
 
 impl<'a, K: Ord + Copy, M: Metric + Copy> Iterator for Bests<'a, K, M> {

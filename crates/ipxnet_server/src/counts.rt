@@ -72,7 +72,9 @@ impl ServerCounts {
             ServerDrop::NoSuchNode(_) => saturating_increment(&mut self.no_such_node),
             ServerDrop::ToItself => saturating_increment(&mut self.to_itself),
             ServerDrop::PingElsewhere(_) => saturating_increment(&mut self.ping_elsewhere),
-            ServerDrop::BroadcastElsewhere(_) => saturating_increment(&mut self.broadcast_elsewhere),
+            ServerDrop::BroadcastElsewhere(_) => saturating_increment(
+                &mut self.broadcast_elsewhere,
+            ),
             ServerDrop::FromElsewhere(_) => saturating_increment(&mut self.from_elsewhere),
             ServerDrop::Response => saturating_increment(&mut self.response),
             ServerDrop::NotBehind(_) => saturating_increment(&mut self.not_behind),

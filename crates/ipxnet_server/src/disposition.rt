@@ -51,11 +51,12 @@ impl Disposition {
     {
         match self {
             Disposition::ToClient(place) => Recipients::One(place),
-            Disposition::Pinged(from, _) | Disposition::ToOthers(from) | Disposition::ToOthersAndCore(from) => {
-                Recipients::Others(from)
-            }
+            Disposition::Pinged(from, _)
+            | Disposition::ToOthers(from)
+            | Disposition::ToOthersAndCore(from) => { Recipients::Others(from) }
             Disposition::ToJoined(takers) | Disposition::FromJoined(_, takers) => takers,
-            Disposition::Registered(_) | Disposition::ToCore | Disposition::Dropped(_) => Recipients::Nobody,
+            Disposition::Registered(_) | Disposition::ToCore | Disposition::Dropped(_) =>
+                Recipients::Nobody,
         }
     }
 
@@ -72,7 +73,9 @@ impl Disposition {
         ensures answered { is_some result ≡ is_some (answer_of self) }
     {
         match self {
-            Disposition::Registered(header) | Disposition::Pinged(_, header) => Some(bytes_of(header)),
+            Disposition::Registered(header) | Disposition::Pinged(_, header) => Some(bytes_of(
+                header,
+            )),
             Disposition::ToClient(_)
             | Disposition::ToOthers(_)
             | Disposition::ToOthersAndCore(_)

@@ -7,8 +7,8 @@ ghost use Rattle.ipxnet_server.specs.ServerHears.{all_get, all_hear, core_hears,
 ghost use Rattle.ipxnet_server.specs.ServerHears.{all_hear_joined, far_source, server_header, server_hears_elsewhere, may_reach_core, max_client_bytes, one_hears_joined, registration_answer, tells_node, tells_router};
 
 use crate::clients::Client;
-use crate::drops::ServerDrop;
 use crate::disposition::Disposition;
+use crate::drops::ServerDrop;
 use crate::peer_servers::RemoteClient;
 use crate::place::Place;
 use crate::port::ServerPort;
@@ -249,6 +249,8 @@ pub fn joined_to_one(
         None => Disposition::Dropped(ServerDrop::NoSuchNode(header.to.node)),
         Some(client) if client.place == from => Disposition::Dropped(ServerDrop::ToItself),
         Some(_) if is_too_long(size) => Disposition::Dropped(ServerDrop::TooLong(size)),
-        Some(client) => { Disposition::FromJoined(far_node(port, header), Recipients::One(client.place)) }
+        Some(client) => {
+            Disposition::FromJoined(far_node(port, header), Recipients::One(client.place))
+        }
     }
 }

@@ -7,15 +7,15 @@ ghost use Rattle.ipxnet_server.specs.ServerHears.{client_hears, far_hear, is_nod
 ghost use Rattle.ipxnet_server.specs.ServerHears.{server_hears_from, server_hears_here, newcomer_drop, node_given, registration_hears};
 
 use crate::clients::{Client, MAX_RECENT_REGISTRATIONS};
-use crate::drops::ServerDrop;
 use crate::disposition::Disposition;
+use crate::drops::ServerDrop;
 use crate::hearing::{
     answer_with_node, elsewhere, is_for_all, is_from_here, is_too_long, joined_takers_of,
     joined_to_all, joined_to_one, notes_node, registers, stays, to_all, to_core,
 };
-use crate::server::IpxnetServer;
 use crate::place::Place;
 use crate::recipients::Recipients;
+use crate::server::IpxnetServer;
 use ipx_wire::{IpxHeader, Node, Packet};
 
 impl IpxnetServer {
@@ -166,7 +166,13 @@ impl IpxnetServer {
     }
 
     /// What becomes of a packet.
-    pub(crate) fn outcome(&self, from: Place, packet: &Packet<'_>, size: usize, now: u64) -> Disposition
+    pub(crate) fn outcome(
+        &self,
+        from: Place,
+        packet: &Packet<'_>,
+        size: usize,
+        now: u64,
+    ) -> Disposition
         ensures { result ≡ server_hears self.now from (packet_view packet.now) size now }
     {
         if self.joined.has(from) {

@@ -11,23 +11,25 @@
 
 mod clients;
 mod counts;
-mod drops;
 mod disposition;
+mod drops;
 mod hearing;
-mod peer_servers;
 mod judging;
-mod server;
+mod peer_servers;
 mod place;
 mod port;
 mod recipients;
+mod server;
 
-pub use clients::{Client, FORGOTTEN_AFTER_MS, MAX_CLIENTS, MAX_RECENT_REGISTRATIONS, REPLACED_AFTER_MS};
+pub use clients::{
+    Client, FORGOTTEN_AFTER_MS, MAX_CLIENTS, MAX_RECENT_REGISTRATIONS, REPLACED_AFTER_MS,
+};
 pub use counts::ServerCounts;
-pub use drops::ServerDrop;
 pub use disposition::Disposition;
-pub use hearing::{SERVER_SOCKET, MAX_CLIENT_BYTES};
-pub use peer_servers::{RemoteClient, MAX_REMOTE_CLIENTS};
-pub use server::IpxnetServer;
+pub use drops::ServerDrop;
+pub use hearing::{MAX_CLIENT_BYTES, SERVER_SOCKET};
+pub use peer_servers::{MAX_REMOTE_CLIENTS, RemoteClient};
 pub use place::Place;
 pub use port::ServerPort;
 pub use recipients::Recipients;
+pub use server::IpxnetServer;

@@ -48,7 +48,8 @@ impl Recipients {
         match self {
             Recipients::Others(_) | Recipients::Joined => true,
             Recipients::JoinedAt(one) => one == place,
-            Recipients::Nobody | Recipients::One(_) | Recipients::All | Recipients::Here(_) => false,
+            Recipients::Nobody | Recipients::One(_) | Recipients::All | Recipients::Here(_) =>
+                false,
         }
     }
 }

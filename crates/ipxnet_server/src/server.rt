@@ -19,10 +19,10 @@ ghost use Rattle.ipxnet_server.specs.PeerServers.{is_joined_place, max_remote_cl
 
 use crate::clients::{Client, Clients, MAX_CLIENTS};
 use crate::counts::ServerCounts;
-use crate::drops::ServerDrop;
 use crate::disposition::Disposition;
+use crate::drops::ServerDrop;
 use crate::hearing::{is_for_service, is_too_long, joined_takers_of, takers_of_all};
-use crate::peer_servers::{RemoteClient, Joined};
+use crate::peer_servers::{Joined, RemoteClient};
 use crate::place::Place;
 use crate::port::ServerPort;
 use crate::recipients::Recipients;

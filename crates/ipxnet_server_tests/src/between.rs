@@ -4,8 +4,8 @@ use crate::caller::give;
 use crate::fixture::{
     CAME, FIRST, FIRST_NODE, PORT, SECOND, SECOND_NODE, THIRD, long_packet, packet, register_all,
 };
-use ipxnet_server::{Disposition, IpxnetServer, ServerDrop};
 use ipx_wire::Node;
+use ipxnet_server::{Disposition, IpxnetServer, ServerDrop};
 use std::test::Fail;
 
 /// By the network that they were told, or by 0; whatever its hops and type are.
@@ -16,11 +16,17 @@ fn to_one_player(rt: HostRuntime) -> Result<(), Fail> {
     assert_eq!(rt; server.hear(FIRST, &CAME, 0), Disposition::ToClient(SECOND));
     let mut bytes = packet(SECOND_NODE, 0x4001, FIRST_NODE);
     bytes[4..6].copy_from_slice(&[16, 20]);
-    assert_eq!(rt; server.hear(FIRST, &bytes, 0), Disposition::ToClient(SECOND));
+    assert_eq!(rt;
+        server.hear(FIRST, &bytes, 0),
+        Disposition::ToClient(SECOND)
+    );
     // With bytes behind it, which go along.
     let mut padded = [0xee; 36];
     padded[..34].copy_from_slice(&CAME);
-    assert_eq!(rt; server.hear(FIRST, &padded, 0), Disposition::ToClient(SECOND));
+    assert_eq!(rt;
+        server.hear(FIRST, &padded, 0),
+        Disposition::ToClient(SECOND)
+    );
     // Also to a socket of the router's services: it is for that player's program.
     let rip = packet(SECOND_NODE, 0x453, FIRST_NODE);
     assert_eq!(rt; server.hear(FIRST, &rip, 0), Disposition::ToClient(SECOND));
@@ -47,7 +53,10 @@ fn to_all_players(rt: HostRuntime) -> Result<(), Fail> {
     // NetBIOS, of type 20: to the others, as any.
     let mut netbios = packet(Node::BROADCAST, 0x455, FIRST_NODE);
     netbios[5] = 20;
-    assert_eq!(rt; server.hear(FIRST, &netbios, 0), Disposition::ToOthers(FIRST));
+    assert_eq!(rt;
+        server.hear(FIRST, &netbios, 0),
+        Disposition::ToOthers(FIRST)
+    );
     Ok(())
 }
 
@@ -70,11 +79,17 @@ fn sizes(rt: HostRuntime) -> Result<(), Fail> {
     let mut server = IpxnetServer::new(rt.alloc(), PORT, 64)?;
     register_all(&mut server);
     let all = long_packet(Node::BROADCAST, 1424);
-    assert_eq!(rt; server.hear(FIRST, &all[..1424], 0), Disposition::ToOthers(FIRST));
+    assert_eq!(rt;
+        server.hear(FIRST, &all[..1424], 0),
+        Disposition::ToOthers(FIRST)
+    );
     let long = Disposition::Dropped(ServerDrop::TooLong(1425));
     assert_eq!(rt; server.hear(FIRST, &all[..1425], 0), long);
     let one = long_packet(SECOND_NODE, 1424);
-    assert_eq!(rt; server.hear(FIRST, &one[..1424], 0), Disposition::ToClient(SECOND));
+    assert_eq!(rt;
+        server.hear(FIRST, &one[..1424], 0),
+        Disposition::ToClient(SECOND)
+    );
     assert_eq!(rt; server.hear(FIRST, &one[..1425], 0), long);
     assert_eq!(rt; server.counts().too_long, 2);
     // The core takes more.

@@ -3,8 +3,8 @@
 use crate::fixture::{
     CAME, FIRST, FIRST_NODE, PORT, REGISTRATION, SECOND, THIRD, packet, register_all,
 };
-use ipxnet_server::{Disposition, IpxnetServer, Place, Recipients};
 use ipx_wire::Node;
+use ipxnet_server::{Disposition, IpxnetServer, Place, Recipients};
 use std::test::Fail;
 
 /// Which of the three players get the bytes.

@@ -1,8 +1,8 @@
 //! What is dropped, its cause, and that nothing but a count changes.
 
 use crate::fixture::{CAME, FIRST, FIRST_NODE, PORT, SECOND, packet, packet_for, register_all};
-use ipxnet_server::{Disposition, IpxnetServer, ServerCounts, ServerDrop, Place};
 use ipx_wire::{IpxFault, Network, Node};
+use ipxnet_server::{Disposition, IpxnetServer, Place, ServerCounts, ServerDrop};
 use std::test::Fail;
 
 /// A node that nobody has.

@@ -1,7 +1,7 @@
 //! Players, what they send, and what they expect.
 
-use ipxnet_server::{IpxnetServer, ServerPort, Place};
 use ipx_wire::{Network, Node};
+use ipxnet_server::{IpxnetServer, Place, ServerPort};
 
 /// The port, which tells players the network 0000d05b.
 pub const PORT: ServerPort = ServerPort {

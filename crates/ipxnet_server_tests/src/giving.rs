@@ -4,8 +4,8 @@ use crate::caller::reached;
 use crate::fixture::{
     FIRST, FIRST_NODE, PORT, REGISTRATION, SECOND, SECOND_NODE, packet, register_all,
 };
-use ipxnet_server::{IpxnetServer, ServerCounts, ServerDrop, Recipients};
 use ipx_wire::Node;
+use ipxnet_server::{IpxnetServer, Recipients, ServerCounts, ServerDrop};
 use std::test::Fail;
 
 /// To a node's player, to all for all nodes, and to nobody for another node.
@@ -16,7 +16,10 @@ fn packets_of_the_core(rt: HostRuntime) -> Result<(), Fail> {
         server.give(FIRST_NODE, &[0; 40], 0),
         Err(ServerDrop::NoSuchNode(FIRST_NODE))
     );
-    assert_eq!(rt; server.give(Node::BROADCAST, &[0; 40], 0), Ok(Recipients::All));
+    assert_eq!(rt;
+        server.give(Node::BROADCAST, &[0; 40], 0),
+        Ok(Recipients::All)
+    );
     assert_eq!(rt; reached(&server, Recipients::All), [false; 3]);
     assert_eq!(rt; reached(&server, Recipients::Others(SECOND)), [false; 3]);
     assert_eq!(rt; reached(&server, Recipients::One(FIRST)), [false; 3]);

@@ -6,8 +6,10 @@ use crate::fixture::{
     long_packet, packet, packet_for, register_all,
 };
 use crate::sites::{NORTH, SOUTH, WEST, north, south};
-use ipxnet_server::{RemoteClient, Disposition, IpxnetServer, ServerCounts, ServerDrop, Place, Recipients};
 use ipx_wire::{Network, Node};
+use ipxnet_server::{
+    Disposition, IpxnetServer, Place, Recipients, RemoteClient, ServerCounts, ServerDrop,
+};
 use std::test::Fail;
 
 /// A node that nobody has.
@@ -100,7 +102,10 @@ fn one_place_at_two_sites(rt: HostRuntime) -> Result<(), Fail> {
     assert_eq!(rt; heard.announcement(), Some(announcement));
     assert_eq!(rt; passed(&here, heard.takers()), [false, false]);
     let heard = there.hear(NORTH, &announcement, 0);
-    assert_eq!(rt; heard, Disposition::FromJoined(Some(FIRST_NODE), Recipients::Nobody));
+    assert_eq!(rt;
+        heard,
+        Disposition::FromJoined(Some(FIRST_NODE), Recipients::Nobody)
+    );
     assert_eq!(rt; heard.announcement(), None);
     let answer = [
         0xff, 0xff, 0, 0x1e, 0, 0, 0, 0, 0xd0, 0x5b, 0xc6, 0x33, 0x64, 7, 0xbc, 0x47, 0, 2, 0, 0,
@@ -221,7 +226,10 @@ fn who_is_no_site(rt: HostRuntime) -> Result<(), Fail> {
 fn packets_of_the_core(rt: HostRuntime) -> Result<(), Fail> {
     let mut here = north(rt.alloc())?;
     here.hear(FIRST, &REGISTRATION, 0);
-    assert_eq!(rt; here.give(FIRST_NODE, &[0; 40], 0), Ok(Recipients::One(FIRST)));
+    assert_eq!(rt;
+        here.give(FIRST_NODE, &[0; 40], 0),
+        Ok(Recipients::One(FIRST))
+    );
     let each = here.give(THIRD_NODE, &[0; 40], 0)?;
     assert_eq!(rt; each, Recipients::Joined);
     assert_eq!(rt; passed(&here, each), [true, true]);
@@ -234,7 +242,10 @@ fn packets_of_the_core(rt: HostRuntime) -> Result<(), Fail> {
     assert_eq!(rt; reached(&here, all), [true, false, false]);
     assert_eq!(rt; passed(&here, all), [false, false]);
     let told = packet(Node::BROADCAST, 0x453, PORT.own);
-    assert_eq!(rt; here.give(Node::BROADCAST, &told, 0), Ok(Recipients::Nobody));
+    assert_eq!(rt;
+        here.give(Node::BROADCAST, &told, 0),
+        Ok(Recipients::Nobody)
+    );
     assert_eq!(rt; passed(&here, Recipients::Nobody), [false, false]);
     assert_eq!(rt;
         here.give(THIRD_NODE, &[0; 1425], 0),
@@ -302,7 +313,10 @@ fn refused_joined_server(rt: HostRuntime) -> Result<(), Fail> {
         Ok(server) => server,
         Err(_) => north(rt.alloc())?,
     };
-    assert_eq!(rt; server.give(THIRD_NODE, &[0; 40], 0), Ok(Recipients::Joined));
+    assert_eq!(rt;
+        server.give(THIRD_NODE, &[0; 40], 0),
+        Ok(Recipients::Joined)
+    );
     Ok(())
 }
 

@@ -12,6 +12,9 @@ fn refused_server(rt: HostRuntime) -> Result<(), Fail> {
         Err(_) => IpxnetServer::new(rt.alloc(), PORT, 64)?,
     };
     server.hear(FIRST, &REGISTRATION, 0);
-    assert_eq!(rt; server.give(FIRST_NODE, &[0; 40], 0), Ok(Recipients::One(FIRST)));
+    assert_eq!(rt;
+        server.give(FIRST_NODE, &[0; 40], 0),
+        Ok(Recipients::One(FIRST))
+    );
     Ok(())
 }

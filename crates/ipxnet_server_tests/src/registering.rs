@@ -1,8 +1,8 @@
 //! Registrations and their answers, byte by byte.
 
 use crate::fixture::{CAME, FIRST, FIRST_NODE, PORT, REGISTRATION, SECOND, THIRD, THIRD_NODE};
-use ipxnet_server::{Client, Disposition, IpxnetServer, ServerDrop, ServerPort, Place};
 use ipx_wire::{IpxFault, Node};
+use ipxnet_server::{Client, Disposition, IpxnetServer, Place, ServerDrop, ServerPort};
 use std::test::Fail;
 
 /// What the first player is answered: its network and node are those that it takes from then on, and

@@ -1,8 +1,8 @@
 //! How many players there may be, and how many register in a second.
 
 use crate::fixture::{FIRST, FIRST_NODE, PORT, REGISTRATION, SECOND, THIRD, packet};
-use ipxnet_server::{Disposition, IpxnetServer, ServerDrop, MAX_CLIENTS, Place};
 use ipx_wire::Node;
+use ipxnet_server::{Disposition, IpxnetServer, MAX_CLIENTS, Place, ServerDrop};
 use std::test::Fail;
 
 /// A place of a number.

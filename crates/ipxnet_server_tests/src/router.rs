@@ -1,9 +1,9 @@
 //! A lobby at a port of a router: to another network and back, and routes that are asked.
 
 use crate::fixture::{CAME, FIRST, FIRST_NODE, PORT, packet, packet_for, register_all};
-use ipxnet_server::{Disposition, IpxnetServer, ServerDrop, Recipients};
 use ipx_router::{Outcome, Port, Reason, Router};
 use ipx_wire::{Network, Node};
+use ipxnet_server::{Disposition, IpxnetServer, Recipients, ServerDrop};
 use std::alloc::Global;
 use std::test::Fail;
 
@@ -94,7 +94,10 @@ fn a_route_is_asked(rt: HostRuntime) -> Result<(), Fail> {
     let mut server = IpxnetServer::new(rt.alloc(), PORT, 64)?;
     register_all(&mut server);
     let mut router = router(rt.alloc())?;
-    assert_eq!(rt; server.hear(FIRST, &ASKS, 0), Disposition::ToOthersAndCore(FIRST));
+    assert_eq!(rt;
+        server.hear(FIRST, &ASKS, 0),
+        Disposition::ToOthersAndCore(FIRST)
+    );
     let Outcome::Replies(replies) = router.receive(rt.alloc(), 1, &ASKS, 0)? else {
         return Err(Fail::from(ServerDrop::Unregistered));
     };

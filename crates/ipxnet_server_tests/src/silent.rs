@@ -1,8 +1,8 @@
 //! For how long a silent player is known.
 
 use crate::fixture::{CAME, FIRST, FIRST_NODE, PORT, REGISTRATION, SECOND, packet};
-use ipxnet_server::{Disposition, IpxnetServer, ServerDrop};
 use ipx_wire::Node;
+use ipxnet_server::{Disposition, IpxnetServer, ServerDrop};
 use std::test::Fail;
 
 /// A day behind the last that was heard it is forgotten, at whatever comes, and registers again with

@@ -1,8 +1,8 @@
 //! Three lobbies at three sites, each joined to the others, and what goes between them.
 
 use crate::fixture::PORT;
-use ipxnet_server::{IpxnetServer, ServerPort, Place};
 use ipx_wire::Node;
+use ipxnet_server::{IpxnetServer, Place, ServerPort};
 use std::alloc::{AllocError, Global};
 
 /// Where the routers are.

@@ -4,8 +4,8 @@ use crate::caller::give;
 use crate::fixture::{
     FIRST, FIRST_NODE, PORT, SECOND, SECOND_NODE, packet, packet_for, register_all,
 };
-use ipxnet_server::{Disposition, IpxnetServer, ServerDrop};
 use ipx_wire::{Network, Node};
+use ipxnet_server::{Disposition, IpxnetServer, ServerDrop};
 use std::test::Fail;
 
 /// A response of RIP to all nodes: the sender has network 99, two hops away.
@@ -89,7 +89,10 @@ fn responses_to_others(rt: HostRuntime) -> Result<(), Fail> {
     let mut server = IpxnetServer::new(rt.alloc(), PORT, 64)?;
     register_all(&mut server);
     let bytes = told(SECOND_NODE, 0x453, 0x453, 2);
-    assert_eq!(rt; server.hear(FIRST, &bytes, 0), Disposition::ToClient(SECOND));
+    assert_eq!(rt;
+        server.hear(FIRST, &bytes, 0),
+        Disposition::ToClient(SECOND)
+    );
     let mut elsewhere = told(Node([0, 0, 0, 0, 0, 1]), 0x453, 0x453, 2);
     elsewhere[9] = 0x99;
     assert_eq!(rt;

@@ -4,8 +4,8 @@ ghost use Rattle.std.specs.Prelude.{◌≡◌, ◌-◌};
 ghost use Rattle.spx_congestion.specs.Pacing.{credit_after, given_by, with_outstanding};
 ghost use Rattle.spx_congestion.specs.declared.sent_kind.SentKind.TheVariants as Gaves;
 
-use crate::sent_kind::SentKind;
 use crate::pacer::Pacer;
+use crate::sent_kind::SentKind;
 use spx_link::Numbers;
 
 impl Pacer {

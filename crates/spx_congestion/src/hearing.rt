@@ -4,8 +4,8 @@ ghost use Rattle.std.specs.Prelude.{◌≡◌, ◌+◌, ◌-◌, ◌<◌, ◌≤
 ghost use Rattle.spx_congestion.specs.Pacing.{MendsOn, WaitsOn, behind, is_double, waited_since};
 ghost use Rattle.spx_congestion.specs.Pacing.{with_outstanding};
 
-use crate::pacer::Pacer;
 use crate::loss_recovery::LossRecovery;
+use crate::pacer::Pacer;
 use crate::window::UNIT;
 use spx_link::Numbers;
 

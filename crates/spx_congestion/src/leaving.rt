@@ -3,8 +3,8 @@
 ghost use Rattle.std.specs.Prelude.{◌≡◌};
 ghost use Rattle.spx_congestion.specs.Pacing.{MendsOn};
 
-use crate::pacer::Pacer;
 use crate::loss_recovery::LossRecovery;
+use crate::pacer::Pacer;
 
 /// How many units that came behind the first outstanding one say that it is missing.
 const MISSING: u16 = 3;

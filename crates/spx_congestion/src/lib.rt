@@ -5,21 +5,21 @@
 //! What comes of a plan in speed is measured, and nothing of it is proved.
 #![tactic(auto)]
 
-mod send_budget;
 mod cubic;
 mod due;
-mod sent_kind;
 mod giving;
 mod hearing;
 mod leaving;
-mod send_times;
+mod loss_recovery;
 mod pacer;
 mod plan;
 mod planning;
-mod loss_recovery;
 mod round_trip;
+mod send_budget;
+mod send_times;
+mod sent_kind;
 mod window;
 
-pub use sent_kind::SentKind;
 pub use pacer::Pacer;
 pub use plan::Plan;
+pub use sent_kind::SentKind;

@@ -5,10 +5,10 @@ ghost use Rattle.spx_congestion.specs.Measured.{trip_of};
 ghost use Rattle.spx_congestion.specs.Pacing.{PacerView, flight, made_pacer, place_again};
 ghost use Rattle.spx_congestion.specs.Pacing.{with_outstanding};
 
-use crate::send_budget::SendBudget;
-use crate::send_times::SendTimes;
 use crate::loss_recovery::LossRecovery;
 use crate::round_trip::RoundTrip;
+use crate::send_budget::SendBudget;
+use crate::send_times::SendTimes;
 use crate::window::{UNIT, Window};
 use ipx_wire::OutOfMemory;
 use std::alloc::Global;

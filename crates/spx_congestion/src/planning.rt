@@ -4,9 +4,9 @@ ghost use Rattle.std.specs.Prelude.{◌≡◌, ◌+◌, ◌<◌, ◌≤◌, IfSo
 ghost use Rattle.spx_congestion.specs.Pacing.{holds_back, is_over, plan_of, spare, tended};
 ghost use Rattle.spx_congestion.specs.Pacing.{waits_till, with_outstanding};
 
+use crate::loss_recovery::LossRecovery;
 use crate::pacer::Pacer;
 use crate::plan::Plan;
-use crate::loss_recovery::LossRecovery;
 use spx_link::{MAX_UNITS, Numbers};
 
 impl Pacer {

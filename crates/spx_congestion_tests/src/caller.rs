@@ -1,8 +1,8 @@
 //! How a host tells a pacer what its link read and gave.
 
 use ipx_wire::{Address, Fragment, Network, Node, Socket, SpxHeader};
+use spx_congestion::{Pacer, Plan, SentKind};
 use spx_link::{Link, Received, Unit};
-use spx_congestion::{SentKind, Pacer, Plan};
 use std::test::Fail;
 
 /// A link, and the pacer beside it.

@@ -1,7 +1,7 @@
 //! A line between a sender that is paced and a listener, with a clock of its own.
 
+use spx_congestion::{Pacer, SentKind};
 use spx_link::Numbers;
-use spx_congestion::{SentKind, Pacer};
 use std::alloc::Global;
 use std::collections::VecDeque;
 use std::test::Fail;
@@ -195,7 +195,8 @@ impl Course {
             self.there.put(self.now, UNIT, self.next)?;
             self.next += 1;
             self.sent += 1;
-            self.pacer.gave(SentKind::Unit, self.numbers(), self.now / MS);
+            self.pacer
+                .gave(SentKind::Unit, self.numbers(), self.now / MS);
             return Ok(true);
         }
         let Some(place) = plan.again else {

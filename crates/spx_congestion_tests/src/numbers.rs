@@ -1,7 +1,7 @@
 //! The numbers of a link, and a pacer beside one.
 
+use spx_congestion::{Pacer, Plan, SentKind};
 use spx_link::Numbers;
-use spx_congestion::{SentKind, Pacer, Plan};
 use std::alloc::Global;
 use std::test::Fail;
 

@@ -2,7 +2,7 @@
 
 use crate::numbers::numbers;
 use ipx_wire::OutOfMemory;
-use spx_congestion::{SentKind, Pacer};
+use spx_congestion::{Pacer, SentKind};
 use std::test::Fail;
 
 /// The two requests for memory of a pacer: where one is refused, no pacer is made, and the same

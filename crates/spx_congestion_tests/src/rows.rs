@@ -1,8 +1,8 @@
 //! Worked rows: moment, window and place.
 
 use crate::numbers::{Paced, again, numbers, window};
+use spx_congestion::{Pacer, SentKind};
 use spx_link::{Numbers, Sent};
-use spx_congestion::{SentKind, Pacer};
 use std::test::Fail;
 
 /// A window of 27 units, of which ten go at once, and the others spread over the round trip: of
