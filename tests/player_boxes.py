@@ -280,8 +280,8 @@ def kill(it, box, other):
 
 def check_figures(it):
     """What the status files say of it."""
-    clients = 'ipx_lobby_clients{port="2"}'
-    for router, wanted in zip(it.routers, ({clients: 3, "ipx_lobby_strangers_total": 1}, {clients: 3})):
+    clients = 'ipx_ipxnet_clients{port="2"}'
+    for router, wanted in zip(it.routers, ({clients: 3, "ipx_ipxnet_unknown_senders_total": 1}, {clients: 3})):
         found = router.figures(wanted)
         it.run.check(f"{router.name} counts its clients, and what came from who is not named", found == wanted,
                      "" if found == wanted else str(found))

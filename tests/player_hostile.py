@@ -33,7 +33,7 @@ REASONS = ["malformed", "unregistered", "other_source", "too_long", "no_such_nod
 
 def dropped_for(reason):
     """The figure of what a port dropped for a cause."""
-    return f'ipx_lobby_dropped_total{{port="1",reason="{reason}"}}'
+    return f'ipx_ipxnet_dropped_total{{port="1",reason="{reason}"}}'
 
 
 def wait_for(client, seconds=2):
@@ -103,7 +103,7 @@ class Forged:
         self.run = run
         self.place = (FORGED_AT, free_port([FORGED_AT, FLOODED_AT]))
         more = f'accept = "any"\nclients = {ROOM_FOR + 3}\n'
-        self.router = Router(run, "forged", [lobby_table(NETWORK, self.place, more)])
+        self.router = Router(run, "spoofed_source", [lobby_table(NETWORK, self.place, more)])
         self.pair = Pair([registered((ip, 0), self.place) for ip in PLAYERS])
         self.forger, self.stranger = registered((FORGER, 0), self.place), Client((STRANGER, 0), self.place)
         run.check("two players and a third one are answered", all(it.is_answered for it in [*self.pair.clients, self.forger]))
@@ -221,7 +221,7 @@ def check_counts(it, many):
                  f"{answered} answers, {it.refused()} refused, of {many.sent}")
     found = it.router.figures(wanted := {
         dropped_for("other_source"): it.forged, dropped_for("unregistered"): it.forged,
-        'ipx_lobby_clients{port="1"}': ROOM_FOR + 3})
+        'ipx_ipxnet_clients{port="1"}': ROOM_FOR + 3})
     it.run.check("what was forged is counted", found == wanted, "" if found == wanted else str(found))
 
 

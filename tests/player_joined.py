@@ -54,7 +54,7 @@ class Site:
         found, wanted = {}, {dropped_for(reason): self.dropped[reason] for reason in ("unregistered", "not_behind", "no_such_node")}
 
         def are_one():
-            wanted["ipx_lobby_sent_total"] = self.sent
+            wanted["ipx_ipxnet_transmit_packets_total"] = self.sent
             figures = self.router.run.world.figures(f"{self.name}.prom")
             found.update({key: figures.get(key) for key in wanted})
             time.sleep(0.1)
@@ -158,7 +158,7 @@ class Sites:
         wrong, sent = [], 0
         for site in self.sites.values():
             found, wanted = site.figures()
-            sent += wanted["ipx_lobby_sent_total"]
+            sent += wanted["ipx_ipxnet_transmit_packets_total"]
             wrong += [f"{site.name} counts {found}, not {wanted}"] if found != wanted else []
         run.check(f"{self.title}: they sent no more than that, and dropped what came by a way that is not joined", not wrong,
                   "; ".join(wrong) or f"{sent} sent")
@@ -330,8 +330,8 @@ class Guarded:
     def check_figures(self):
         """What the routers counted of it."""
         for router in self.routers:
-            wanted = {dropped_for("unregistered"): self.forged, "ipx_lobby_strangers_total": self.forged,
-                      dropped_for("not_behind"): self.not_behind, 'ipx_lobby_clients{port="1"}': 1}
+            wanted = {dropped_for("unregistered"): self.forged, "ipx_ipxnet_unknown_senders_total": self.forged,
+                      dropped_for("not_behind"): self.not_behind, 'ipx_ipxnet_clients{port="1"}': 1}
             found = router.figures(wanted)
             self.run.check(f"{router.name} counts what was forged, by where it came from", found == wanted,
                            "" if found == wanted else f"{found}, not {wanted}")

@@ -78,9 +78,9 @@ def check_counts(run, routers, rows):
     """What each port dropped, by cause."""
     dropped = collections.Counter((word, what) for _, lines in rows for word, what, _ in lines if word.startswith("drop"))
     for word, router, port, known, strangers in COUNTED:
-        wanted = {f'ipx_lobby_dropped_total{{port="{port}",reason="{what}"}}': count for (some, what), count in dropped.items()
+        wanted = {f'ipx_ipxnet_dropped_total{{port="{port}",reason="{what}"}}': count for (some, what), count in dropped.items()
                   if some == word}
-        wanted |= {f'ipx_lobby_clients{{port="{port}"}}': known, "ipx_lobby_strangers_total": strangers}
+        wanted |= {f'ipx_ipxnet_clients{{port="{port}"}}': known, "ipx_ipxnet_unknown_senders_total": strangers}
         found = routers[router].figures(wanted)
         run.check(f"port {port} of {routers[router].name} counts what was dropped, by cause", found == wanted,
                   "" if found == wanted else f"{found}, not {wanted}")

@@ -45,7 +45,7 @@ class Router:
 
     def __init__(self, run, name, tables):
         self.run, self.name = run, name
-        file = run.world.write(f"{name}.toml", f'status = "{run.world.path(name + ".prom")}"\n{"".join(tables)}')
+        file = run.world.write(f"{name}.toml", f'metrics_file = "{run.world.path(name + ".prom")}"\n{"".join(tables)}')
         self.process = run.world.start(name, "route", file)
         until(lambda: len(self.process.said()) >= len(tables), 10)
 

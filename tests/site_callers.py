@@ -28,7 +28,7 @@ def start_from(sites):
     ends = {}
     for name, (listener, sender) in FROM.items():
         sites.host(f"{name}-listener", NETWORK, listener, "127.0.1.89", "4002",
-                   listed("from", NAMED[name]) + listed("peers", [sender]))
+                   listed("allow", NAMED[name]) + listed("peers", [sender]))
         sites.host(f"{name}-sender", NETWORK, sender, "127.0.1.89", "4003")
         data = some_bytes(sites.seed + 9, 20_000)
         ends[name] = (sites.start_listener("--once", name=f"{name}-listener"),
@@ -99,7 +99,7 @@ def start_silent(sites):
     """Listeners that are called by some who never speak, and then by a true sender."""
     named = [f"{NETWORK} {node(ip)}" for ip in [ONCE[1], *SILENT[:2]]]
     sites.host("once-listener", NETWORK, ONCE[0], "127.0.1.89", "4002",
-               listed("peers", [ONCE[1], *SILENT]) + listed("from", named))
+               listed("peers", [ONCE[1], *SILENT]) + listed("allow", named))
     for name, sender in {"once": ONCE[1], "crowded": SENDER}.items():
         sites.host(f"{name}-sender", NETWORK, sender, "127.0.1.89", "4003")
     data, ends = some_bytes(sites.seed + 10, 20_000), [(bound(ip, sites.port), ip) for ip in SILENT]

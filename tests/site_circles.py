@@ -15,7 +15,7 @@ PEER, STRANGER, SENDERS = "127.0.1.163", "127.0.1.164", ["127.0.1.165", "127.0.1
 CIRCLES = [NAMES, NOBODY, ANY, PEER, STRANGER, *SENDERS]
 WAITING, CALLS = 100, 100
 TOLD = r"\[WARN  ipx\] (\d+) datagrams {} \((\d+) since the start\), the last from {}"
-STRANGERS, FORGED, NO_ROUTER = "came from nobody who is heard", "spoke for another node", "were no router's to send"
+STRANGERS, FORGED, NO_ROUTER = "came from nobody who is heard", "with a spoofed source node", "routed or RIP/SAP from a host not listed in routers"
 
 
 def start_circles(sites):

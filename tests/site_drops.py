@@ -82,7 +82,7 @@ def start_usual(sites):
 def start_drops(sites):
     """Sends the routers what they drop, and answers when it did so."""
     start_usual(sites)
-    text = f'status = "{sites.world.path(NAME + ".prom")}"\n'
+    text = f'metrics_file = "{sites.world.path(NAME + ".prom")}"\n'
     for network, address, peer in PORTS:
         text += port_table(network, address, sites.port, [peer])
     sites.world.write(f"{NAME}.toml", text)
@@ -134,13 +134,13 @@ def check_drops_figures(sites, figures):
 def check_guard_figures(sites, figures):
     """What guards kept back by each port of that router, and of each router by all together; and what waits."""
     of_router = figures[NAME]
-    wanted = {"strangers": STRANGERS, "refused": REFUSED}
+    wanted = {"unknown_senders": STRANGERS, "egress_filtered": REFUSED}
     by_port = {cause: [of_router.get(f'ipx_port_{cause}_total{{port="{number}"}}') for number in (1, 2)] for cause in wanted}
     sites.check("it counts strangers, and what was for no peer, by port", by_port == wanted, str(by_port))
     apart = {(name, cause): it for name, it in figures.items() for cause in wanted
              if it.get(f"ipx_port_{cause}_total", 0) != it.get(f"ipx_{cause}_total")}
     sites.check("of each router the ports make up the whole", not apart, str(list(apart)) if apart else f"{len(figures)} routers")
-    waiting = {name: it.get("ipx_queue") for name, it in figures.items()}
+    waiting = {name: it.get("ipx_send_queue_packets") for name, it in figures.items()}
     sites.check("each router says how many packets wait", None not in waiting.values(), str(waiting))
 
 

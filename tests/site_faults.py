@@ -13,12 +13,12 @@ peers = ["127.0.1.20"]
 """
 SECOND = PORT.replace("11", "22").replace("1.1", "1.2")
 WIRE = """[[port]]
-kind = "frames"
+kind = "ethernet"
 network = "00000022"
-frame = "802.2"
+encapsulation = "802.2"
 address = "127.0.1.1"
 udp_port = 20999
-ends = ["127.0.1.3:20998"]
+remotes = ["127.0.1.3:20998"]
 """
 PLAYERS = """[[port]]
 kind = "ipxnet"
@@ -32,12 +32,12 @@ router = "127.0.1.1"
 udp_port = 20999
 socket = "4002"
 """
-KEYS = ("a router has status, tables, port, route and service, a host network, address, router, udp_port, socket, buffers, peers, routers, from and "
+KEYS = ("a router has metrics_file, tables_file, port, route and service, a host network, address, router, udp_port, socket, buffers, peers, routers, allow and "
         "accept")
 PORT_KEYS = ('the keys are kind, network, address, udp_port, cost, for kind = "rfc1234" also peers, routers and accept, '
-             'for kind = "frames" frame, ends, node and hub, for kind = "ipxnet" node, clients, accept, peers and join')
+             'for kind = "ethernet" encapsulation, remotes, node and switch, for kind = "ipxnet" node, clients, accept, peers and join')
 RFC1234_KEYS = "its keys are kind, network, address, udp_port, cost, peers, routers, accept"
-FRAMES_KEYS = "its keys are kind, network, frame, address, udp_port, cost, ends, node, hub"
+FRAMES_KEYS = "its keys are kind, network, encapsulation, address, udp_port, cost, remotes, node, switch"
 IPXNET_KEYS = "its keys are kind, network, address, udp_port, cost, node, clients, accept, peers, join"
 NETWORK = 'eight hex digits, neither all 0 nor all f, as "00000011"'
 ADDRESS = 'an IP address of this machine, as "192.0.2.10"'
@@ -53,14 +53,14 @@ FROM = ('a list of at most 256 networks, each alone or with a node behind it, as
 FEW_PEERS = 'a list of at most 256 IP addresses, as ["198.51.100.7", "203.0.113.9"]'
 ROUTERS = "a list of at most 256 IP addresses among peers"
 ACCEPT = '"peers" or "any"'
-KIND = '"rfc1234", "frames" or "ipxnet"'
+KIND = '"rfc1234", "ethernet" or "ipxnet"'
 FRAME = '"802.3", "802.2", "snap" or "ethernet-ii"'
 ENDS = 'a list of 1 to 256 places, as ["127.0.0.1:24001"]'
 STATION = 'the address of one station, as "02:00:00:00:00:22"'
-ROUTE_KEYS = "the keys are port, next, network, hops and ticks"
-SERVICE_KEYS = "the keys are port, next, type, name, at and hops"
+ROUTE_KEYS = "the keys are port, next_hop, network, hops and ticks"
+SERVICE_KEYS = "the keys are port, next_hop, type, name, ipx_address and hops"
 ROUTES, SERVICES = (f"at most 256 tables, each begun by [[{key}]]" for key in ("route", "service"))
-A_PORT = 'the number of a port here of kind "rfc1234" or "frames", as 1'
+A_PORT = 'the number of a port here of kind "rfc1234" or "ethernet", as 1'
 NEXT = ('another node of the port\'s network: an IP address among its peers, as "198.51.100.7", or on a wire a station, as '
         '"02:00:00:00:00:33"')
 BEHIND = 'eight hex digits from 00000001 to fffffffd, as "000000aa"'
@@ -69,22 +69,22 @@ TYPE = 'four hex digits, neither all 0 nor all f, as "0640"'
 NAME = '1 to 47 characters of ASCII that print, without blanks, as "BACKUP"'
 AT = 'a network, a node and a socket, as "00000011 00000a010014 4002"'
 STATUS = 'the name of a file, as "/run/ipx/hq/hq.prom"'
-TABLES = 'the name of a file, not that of status, as "/run/ipx/hq/hq.tables"'
+TABLES = 'the name of a file, not that of metrics_file, as "/run/ipx/hq/hq.tables"'
 
 
 # A route and a service by hand, behind a port with the peers .20 and .1, which is itself.
 TWO_PEERS = PORT.replace('["127.0.1.20"]', '["127.0.1.20", "127.0.1.1"]')
 ROUTE = """[[route]]
 port = 1
-next = "127.0.1.20"
+next_hop = "127.0.1.20"
 network = "000000aa"
 """
 SERVICE = """[[service]]
 port = 1
-next = "127.0.1.20"
+next_hop = "127.0.1.20"
 type = "0640"
 name = "BACKUP"
-at = "00000011 00000a010014 4002"
+ipx_address = "00000011 00000a010014 4002"
 """
 
 
@@ -119,12 +119,12 @@ ROUTER_FILES = [
     ("port = 1\n", f"port is to be {PORTS}"),
     ("port = [1]\n", f"port 1: port is to be {PORTS}"),
     ("".join(PORT.replace("11", f"{number:02x}") for number in range(1, 18)), f"port is to be {PORTS}"),
-    ("status = 1\n" + PORT, f"status is to be {STATUS}"),
-    ('status = ""\n' + PORT, f"status is to be {STATUS}"),
-    ('status = "/run/ipx/h\\u0000q"\n' + PORT, f"status is to be {STATUS}"),
-    ("tables = []\nport = 1", f"tables is to be {TABLES}"),
-    ('tables = ""\n' + PORT, f"tables is to be {TABLES}"),
-    ('status = "hq"\ntables = "hq"\n' + PORT, f"tables is to be {TABLES}"),
+    ("metrics_file = 1\n" + PORT, f"metrics_file is to be {STATUS}"),
+    ('metrics_file = ""\n' + PORT, f"metrics_file is to be {STATUS}"),
+    ('metrics_file = "/run/ipx/h\\u0000q"\n' + PORT, f"metrics_file is to be {STATUS}"),
+    ("tables_file = []\nport = 1", f"tables_file is to be {TABLES}"),
+    ('tables_file = ""\n' + PORT, f"tables_file is to be {TABLES}"),
+    ('metrics_file = "hq"\ntables_file = "hq"\n' + PORT, f"tables_file is to be {TABLES}"),
     ("peers = []\n" + PORT, f"peers is no key here: {KEYS}"),
     (PORT + "peer = []\n", f"port 1: peer is no key here: {PORT_KEYS}"),
     (PORT + SECOND + "Accept = \"any\"\n", f"port 2: Accept is no key here: {PORT_KEYS}"),
@@ -156,34 +156,34 @@ ROUTER_FILES = [
     (PORT + WIRE.replace("00000022", "00000011"), "port 2: network 00000011 is already that of port 1"),
     (PORT + "kind = \"dosbox\"\npeer = []\n", f"port 1: kind is to be {KIND}"),
     (PORT + "kind = 1\n", f"port 1: kind is to be {KIND}"),
-    (PORT + "hub = true\n", f'port 1: hub is no key of kind "rfc1234": {RFC1234_KEYS}'),
+    (PORT + "switch = true\n", f'port 1: switch is no key of kind "rfc1234": {RFC1234_KEYS}'),
     (PLAYERS, f"port 1: peers is missing: it is to be {PEERS}"),
     (PLAYERS + 'accept = "any"\nclients = 151\n', "port 1: clients is to be a number from 1 to 150, as 64"),
     (PLAYERS + 'accept = "any"\nrouters = []\n', f'port 1: routers is no key of kind "ipxnet": {IPXNET_KEYS}'),
-    (PORT + "kind = \"rfc1234\"\nends = []\n", f'port 1: ends is no key of kind "rfc1234": {RFC1234_KEYS}'),
-    (WIRE + "accept = \"any\"\n", f'port 1: accept is no key of kind "frames": {FRAMES_KEYS}'),
-    (PORT + WIRE + "routers = []\n", f'port 2: routers is no key of kind "frames": {FRAMES_KEYS}'),
+    (PORT + "kind = \"rfc1234\"\nremotes = []\n", f'port 1: remotes is no key of kind "rfc1234": {RFC1234_KEYS}'),
+    (WIRE + "accept = \"any\"\n", f'port 1: accept is no key of kind "ethernet": {FRAMES_KEYS}'),
+    (PORT + WIRE + "routers = []\n", f'port 2: routers is no key of kind "ethernet": {FRAMES_KEYS}'),
     (WIRE + "end = []\n", f"port 1: end is no key here: {PORT_KEYS}"),
     (without(WIRE, "network"), f"port 1: network is missing: it is to be {NETWORK}"),
-    (without(WIRE, "frame"), f"port 1: frame is missing: it is to be {FRAME}"),
+    (without(WIRE, "encapsulation"), f"port 1: encapsulation is missing: it is to be {FRAME}"),
     (without(WIRE, "address"), f"port 1: address is missing: it is to be {ADDRESS}"),
     (without(WIRE, "udp_port"), f"port 1: udp_port is missing: it is to be {NUMBER}"),
-    (without(WIRE, "ends"), f"port 1: ends is missing: it is to be {ENDS}"),
-    (changed(WIRE, "frame", '"raw"'), f"port 1: frame is to be {FRAME}"),
-    (changed(WIRE, "frame", "802.2"), f"port 1: frame is to be {FRAME}"),
+    (without(WIRE, "remotes"), f"port 1: remotes is missing: it is to be {ENDS}"),
+    (changed(WIRE, "encapsulation", '"raw"'), f"port 1: encapsulation is to be {FRAME}"),
+    (changed(WIRE, "encapsulation", "802.2"), f"port 1: encapsulation is to be {FRAME}"),
     (changed(WIRE, "udp_port", "0"), f"port 1: udp_port is to be {NUMBER}"),
     (WIRE + "cost = 65536\n", f"port 1: cost is to be {COST}"),
-    (changed(WIRE, "ends", "[]"), f"port 1: ends is to be {ENDS}"),
-    (changed(WIRE, "ends", '"127.0.1.3:20998"'), f"port 1: ends is to be {ENDS}"),
-    (changed(WIRE, "ends", '["127.0.1.3"]'), f"port 1: ends is to be {ENDS}"),
-    (changed(WIRE, "ends", '["127.0.1.3:20998", "localhost:20998"]'), f"port 1: ends is to be {ENDS}"),
-    (changed(WIRE, "ends", '["0.0.0.0:20998"]'), f"port 1: ends is to be {ENDS}"),
-    (changed(WIRE, "ends", '["127.0.1.3:0"]'), f"port 1: ends is to be {ENDS}"),
-    (changed(WIRE, "ends", str(["127.0.1.3:20998"] * 257).replace("'", '"')), f"port 1: ends is to be {ENDS}"),
+    (changed(WIRE, "remotes", "[]"), f"port 1: remotes is to be {ENDS}"),
+    (changed(WIRE, "remotes", '"127.0.1.3:20998"'), f"port 1: remotes is to be {ENDS}"),
+    (changed(WIRE, "remotes", '["127.0.1.3"]'), f"port 1: remotes is to be {ENDS}"),
+    (changed(WIRE, "remotes", '["127.0.1.3:20998", "localhost:20998"]'), f"port 1: remotes is to be {ENDS}"),
+    (changed(WIRE, "remotes", '["0.0.0.0:20998"]'), f"port 1: remotes is to be {ENDS}"),
+    (changed(WIRE, "remotes", '["127.0.1.3:0"]'), f"port 1: remotes is to be {ENDS}"),
+    (changed(WIRE, "remotes", str(["127.0.1.3:20998"] * 257).replace("'", '"')), f"port 1: remotes is to be {ENDS}"),
     (WIRE + "node = \"020000000022\"\n", f"port 1: node is to be {STATION}"),
     (WIRE + "node = \"03:00:00:00:00:22\"\n", f"port 1: node is to be {STATION}"),
-    (WIRE + "node = \"00:00:00:00:00:00\"\nhub = 1\n", f"port 1: node is to be {STATION}"),
-    (WIRE + "hub = \"true\"\n", "port 1: hub is to be true or false"),
+    (WIRE + "node = \"00:00:00:00:00:00\"\nswitch = 1\n", f"port 1: node is to be {STATION}"),
+    (WIRE + "switch = \"true\"\n", "port 1: switch is to be true or false"),
 ]
 
 # So of routes and services by hand, behind a port.
@@ -198,10 +198,10 @@ ROUTER_FILES += [(TWO_PEERS + text, line) for text, line in (
     (changed(ROUTE, "port", "0"), f"route 1: port is to be {A_PORT}"),
     (changed(ROUTE, "port", "17"), f"route 1: port is to be {A_PORT}"),
     (changed(ROUTE, "port", '"1"'), f"route 1: port is to be {A_PORT}"),
-    (without(ROUTE, "next"), f"route 1: next is missing: it is to be {NEXT}"),
-    (changed(ROUTE, "next", '"127.0.1.21"'), f"route 1: next is to be {NEXT}"),
-    (changed(ROUTE, "next", '"127.0.1.1"'), f"route 1: next is to be {NEXT}"),
-    (changed(ROUTE, "next", '"00007f000114"'), f"route 1: next is to be {NEXT}"),
+    (without(ROUTE, "next_hop"), f"route 1: next_hop is missing: it is to be {NEXT}"),
+    (changed(ROUTE, "next_hop", '"127.0.1.21"'), f"route 1: next_hop is to be {NEXT}"),
+    (changed(ROUTE, "next_hop", '"127.0.1.1"'), f"route 1: next_hop is to be {NEXT}"),
+    (changed(ROUTE, "next_hop", '"00007f000114"'), f"route 1: next_hop is to be {NEXT}"),
     (without(ROUTE, "network"), f"route 1: network is missing: it is to be {BEHIND}"),
     (changed(ROUTE, "network", '"00000000"'), f"route 1: network is to be {BEHIND}"),
     (changed(ROUTE, "network", '"fffffffe"'), f"route 1: network is to be {BEHIND}"),
@@ -211,7 +211,7 @@ ROUTER_FILES += [(TWO_PEERS + text, line) for text, line in (
     (ROUTE + "hops = 15\n", f"route 1: hops is to be {HOPS}"),
     (ROUTE + "ticks = 0\n", f"route 1: ticks is to be {COST}"),
     (ROUTE + "ticks = 65536\n", f"route 1: ticks is to be {COST}"),
-    (ROUTE + ROUTE.replace("aa", "ab") + ROUTE + "hops = 2\n", "route 3: port, next and network are those of route 1"),
+    (ROUTE + ROUTE.replace("aa", "ab") + ROUTE + "hops = 2\n", "route 3: port, next_hop and network are those of route 1"),
     (without(SERVICE, "type"), f"service 1: type is missing: it is to be {TYPE}"),
     (changed(SERVICE, "type", '"0000"'), f"service 1: type is to be {TYPE}"),
     (changed(SERVICE, "type", '"ffff"'), f"service 1: type is to be {TYPE}"),
@@ -220,22 +220,22 @@ ROUTER_FILES += [(TWO_PEERS + text, line) for text, line in (
     (changed(SERVICE, "name", '""'), f"service 1: name is to be {NAME}"),
     (changed(SERVICE, "name", '"' + "A" * 48 + '"'), f"service 1: name is to be {NAME}"),
     (changed(SERVICE, "name", '"BACK UP"'), f"service 1: name is to be {NAME}"),
-    (without(SERVICE, "at"), f"service 1: at is missing: it is to be {AT}"),
-    (changed(SERVICE, "at", '"00000011 00000a010014"'), f"service 1: at is to be {AT}"),
-    (changed(SERVICE, "at", '"00000011 00000a010014 4002 1"'), f"service 1: at is to be {AT}"),
-    (changed(SERVICE, "at", '"00000000 00000a010014 4002"'), f"service 1: at is to be {AT}"),
-    (changed(SERVICE, "at", '"00000011 ffffffffffff 4002"'), f"service 1: at is to be {AT}"),
-    (changed(SERVICE, "at", '"00000011 00000a010014 0000"'), f"service 1: at is to be {AT}"),
+    (without(SERVICE, "ipx_address"), f"service 1: ipx_address is missing: it is to be {AT}"),
+    (changed(SERVICE, "ipx_address", '"00000011 00000a010014"'), f"service 1: ipx_address is to be {AT}"),
+    (changed(SERVICE, "ipx_address", '"00000011 00000a010014 4002 1"'), f"service 1: ipx_address is to be {AT}"),
+    (changed(SERVICE, "ipx_address", '"00000000 00000a010014 4002"'), f"service 1: ipx_address is to be {AT}"),
+    (changed(SERVICE, "ipx_address", '"00000011 ffffffffffff 4002"'), f"service 1: ipx_address is to be {AT}"),
+    (changed(SERVICE, "ipx_address", '"00000011 00000a010014 0000"'), f"service 1: ipx_address is to be {AT}"),
     (SERVICE + "hops = 15\n", f"service 1: hops is to be {HOPS}"),
-    (ROUTE + SERVICE + SERVICE.replace("00000011", "00000012"), "service 2: port, next, type and name are those of service 1"),
-    (ROUTE + without(SERVICE, "next"), f"service 1: next is missing: it is to be {NEXT}"),
+    (ROUTE + SERVICE + SERVICE.replace("00000011", "00000012"), "service 2: port, next_hop, type and name are those of service 1"),
+    (ROUTE + without(SERVICE, "next_hop"), f"service 1: next_hop is missing: it is to be {NEXT}"),
 )] + [
     (ROUTE, f"port is missing: it is to be {PORTS}"),
     ("route = 1\n" + PORT, f"route is to be {ROUTES}"),
     ("service = [1]\n" + PORT, f"service 1: service is to be {SERVICES}"),
-    (WIRE + ROUTE, f"route 1: next is to be {NEXT}"),
-    (WIRE + changed(ROUTE, "next", '"03:00:00:00:00:33"'), f"route 1: next is to be {NEXT}"),
-    (WIRE + 'node = "02:00:00:00:00:22"\n' + changed(ROUTE, "next", '"02:00:00:00:00:22"'), f"route 1: next is to be {NEXT}"),
+    (WIRE + ROUTE, f"route 1: next_hop is to be {NEXT}"),
+    (WIRE + changed(ROUTE, "next_hop", '"03:00:00:00:00:33"'), f"route 1: next_hop is to be {NEXT}"),
+    (WIRE + 'node = "02:00:00:00:00:22"\n' + changed(ROUTE, "next_hop", '"02:00:00:00:00:22"'), f"route 1: next_hop is to be {NEXT}"),
     (PLAYERS + 'accept = "any"\n' + ROUTE, f"route 1: port is to be {A_PORT}"),
 ]
 
@@ -254,17 +254,17 @@ HOST_FILES = [
     (changed(HOST, "udp_port", "-1"), f"udp_port is to be {NUMBER}"),
     (HOST + "buffers = 0\n", f"buffers is to be {BUFFERS}"),
     (HOST + "buffers = 8193\n", f"buffers is to be {BUFFERS}"),
-    (HOST + "from = \"00000033\"\n", f"from is to be {FROM}"),
-    (HOST + "from = [33]\n", f"from is to be {FROM}"),
-    (HOST + "from = [\"00000033\", \"33\"]\n", f"from is to be {FROM}"),
-    (HOST + "from = [\"00000000\"]\n", f"from is to be {FROM}"),
-    (HOST + "from = [\"ffffffff\"]\n", f"from is to be {FROM}"),
-    (HOST + "from = [\"0000002g\"]\n", f"from is to be {FROM}"),
-    (HOST + "from = [\"00000022 00000a02001\"]\n", f"from is to be {FROM}"),
-    (HOST + "from = [\"00000022-00000a02001e\"]\n", f"from is to be {FROM}"),
-    (HOST + "from = [\"00000000 00000a02001e\"]\n", f"from is to be {FROM}"),
-    (HOST + f"from = {['00000033'] * 257}\n".replace("'", '"'), f"from is to be {FROM}"),
-    (HOST + "buffers = 0\nfrom = 1\n", f"buffers is to be {BUFFERS}"),
+    (HOST + "allow = \"00000033\"\n", f"allow is to be {FROM}"),
+    (HOST + "allow = [33]\n", f"allow is to be {FROM}"),
+    (HOST + "allow = [\"00000033\", \"33\"]\n", f"allow is to be {FROM}"),
+    (HOST + "allow = [\"00000000\"]\n", f"allow is to be {FROM}"),
+    (HOST + "allow = [\"ffffffff\"]\n", f"allow is to be {FROM}"),
+    (HOST + "allow = [\"0000002g\"]\n", f"allow is to be {FROM}"),
+    (HOST + "allow = [\"00000022 00000a02001\"]\n", f"allow is to be {FROM}"),
+    (HOST + "allow = [\"00000022-00000a02001e\"]\n", f"allow is to be {FROM}"),
+    (HOST + "allow = [\"00000000 00000a02001e\"]\n", f"allow is to be {FROM}"),
+    (HOST + f"allow = {['00000033'] * 257}\n".replace("'", '"'), f"allow is to be {FROM}"),
+    (HOST + "buffers = 0\nallow = 1\n", f"buffers is to be {BUFFERS}"),
     (HOST + "peers = \"127.0.1.30\"\n", f"peers is to be {FEW_PEERS}"),
     (HOST + "peers = [\"127.0.1.30\", \"b\"]\n", f"peers is to be {FEW_PEERS}"),
     (HOST + "peers = [\"0.0.0.0\"]\n", f"peers is to be {FEW_PEERS}"),
@@ -277,9 +277,9 @@ HOST_FILES = [
     (HOST + "accept = \"all\"\n", f"accept is to be {ACCEPT}"),
     (HOST + "buffers = 0\npeers = 1\n", f"buffers is to be {BUFFERS}"),
     (HOST + "peers = 1\nrouters = 1\n", f"peers is to be {FEW_PEERS}"),
-    (HOST + "routers = 1\nfrom = 1\n", f"routers is to be {ROUTERS}"),
-    (HOST + "from = 1\naccept = 1\n", f"from is to be {FROM}"),
-    (HOST + "status = \"a\"\n", f"status is no key here: {KEYS}"),
+    (HOST + "routers = 1\nallow = 1\n", f"routers is to be {ROUTERS}"),
+    (HOST + "allow = 1\naccept = 1\n", f"allow is to be {FROM}"),
+    (HOST + "metrics_file = \"a\"\n", f"metrics_file is no key here: {KEYS}"),
 ]
 
 
@@ -348,8 +348,8 @@ def check_faults(sites):
 
 # Files without a fault, and what --check says of them: two ports with a status file; one port of which
 # all is to be remarked; two ports that are reached at one place, and so on wires; a host, and one that is its own router.
-OWN = """status = "/run/ipx/h q\\u001b.prom"
-tables = "/run/ipx/hq.tables"
+OWN = """metrics_file = "/run/ipx/h q\\u001b.prom"
+tables_file = "/run/ipx/hq.tables"
 
 [[port]]
 network = "00000001"
@@ -371,23 +371,23 @@ peers = ["10.1.0.20", "10.1.0.1", "10.1.0.20", "10.1.0.21"]
 """
 SHARED = ODD + ODD.replace("00000011", "00000022").replace('"10.1.0.20", "10.1.0.1", ', "")
 WIRES = """[[port]]
-kind = "frames"
+kind = "ethernet"
 network = "00000022"
-frame = "802.2"
+encapsulation = "802.2"
 address = "127.0.0.1"
 udp_port = 24002
-ends = ["127.0.0.1:24001", "127.0.0.1:24002", "127.0.0.1:24001"]
+remotes = ["127.0.0.1:24001", "127.0.0.1:24002", "127.0.0.1:24001"]
 node = "02:00:00:00:00:22"
 
 [[port]]
-kind = "frames"
+kind = "ethernet"
 network = "00000033"
-frame = "ethernet-ii"
+encapsulation = "ethernet-ii"
 address = "127.0.0.1"
 udp_port = 24002
 cost = 6
-ends = ["192.0.2.10:258"]
-hub = false
+remotes = ["192.0.2.10:258"]
+switch = false
 """
 OPEN = """[[port]]
 kind = "ipxnet"
@@ -411,7 +411,7 @@ HANDED = OWN + "".join((ROUTE.replace("127.0.1.20", "198.51.100.7"),
                         ROUTE.replace("127.0.1.20", "203.0.113.9").replace("aa", "AA") + "hops = 14\nticks = 65535\n",
                         SERVICE.replace("127.0.1.20", "198.51.100.7"),
                         SERVICE.replace("127.0.1.20", "203.0.113.9").replace("BACKUP", "!A~").replace("0640", "000A") + "hops = 3\n"))
-WIRED = WIRES + changed(ROUTE.replace("= 1", "= 2"), "next", '"02:00:00:00:00:33"')
+WIRED = WIRES + changed(ROUTE.replace("= 1", "= 2"), "next_hop", '"02:00:00:00:00:33"')
 JOINED = OPEN.replace("203.0.113.5:2131", "127.0.0.1:24002")
 PORT_11 = "port 1 network 00000011 node 00000a010001 udp 10.1.0.1:213 cost 1 peers 4"
 REMARKS = ["port 1: peer 10.1.0.1 is its own address", "port 1: peer 10.1.0.20 stands twice"]

@@ -131,7 +131,7 @@ def hand_on(sites, listener):
     """A host whose router is not the one that is next: that one hands its packets on along the network.
     What comes back is the other one's to send, whom the host names among its routers."""
     data = some_bytes(sites.seed + 8, 20_000)
-    ready = until(lambda: any("network 00000055 known" in line for line in sites.routers["h1"].said()), 15)
+    ready = until(lambda: any("network 00000055 via" in line for line in sites.routers["h1"].said()), 15)
     sites.check("the router that is not next knows the way", ready)
     sender = sites.start_sender("handed-sender", [data], "00000055", HANDED[1])
     sites.check_transfer("a host that names the router that is not next", listener, sender, data)
@@ -149,12 +149,12 @@ def check_forged(sites, ends, listener):
 
 def check_forged_figures(sites, figures):
     """The figures of the routers, once they were written."""
-    count = 'ipx_kept_back_total{reason="forged"}'
+    count = 'ipx_filtered_total{reason="spoofed_source"}'
     # Two routes, one request, and the bursts, of which a slow machine loses many.
     least, most = 3 + WAITING + FAST // 10, 3 + WAITING + FAST
     got = figures["f1"].get(count, 0)
     sites.check("what was forged is counted", least <= got <= most, f"{got}, at least {least}")
-    line = re.compile(r"\[WARN  ipx\] \d+ datagrams spoke for another node \(\d+ since the start\), the last from "
+    line = re.compile(r"\[WARN  ipx\] \d+ datagrams with a spoofed source node \(\d+ since the start\), the last from "
                       + re.escape(FORGER))
     said = sites.routers["f1"].said()
     told = any(line.fullmatch(it) for it in said)

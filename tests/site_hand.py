@@ -16,14 +16,14 @@ ENTRIES = f"""
 [[route]]
 network = "000000aa"
 port = 1
-next = "{SILENT}"
+next_hop = "{SILENT}"
 
 [[service]]
 type = "0640"
 name = "BACKUP"
-at = "000000aa 00000a010014 4002"
+ipx_address = "000000aa 00000a010014 4002"
 port = 1
-next = "{SILENT}"
+next_hop = "{SILENT}"
 hops = 2
 """
 # By hand: each router that tells adds a hop, and the cost of the port that it tells on: 5, and then 2. The route that
@@ -42,7 +42,7 @@ WRITTEN = [f"000000aa port 1 next {node(SILENT)} hops 1 ticks 6 heard ",
 
 
 def write_router(sites, name, more=""):
-    tables = f'tables = "{sites.world.path(name + ".tables")}"\n'
+    tables = f'tables_file = "{sites.world.path(name + ".tables")}"\n'
     sites.world.write(f"{name}.toml", tables + "".join(
         port_table(network, address, sites.port, peers) + f"cost = {cost}\n" for network, address, peers, cost in HANDS[name]) + more)
 

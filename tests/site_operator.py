@@ -98,7 +98,7 @@ def start_operator(sites):
     """The routers, of which the middle one is the last; and what the servers and the teller say to theirs."""
     start_unwritten(sites)
     for name, ports in CHAIN.items():
-        tables = f'tables = "{sites.world.path(name + ".tables")}"\n'
+        tables = f'tables_file = "{sites.world.path(name + ".tables")}"\n'
         sites.world.write(f"{name}.toml", tables + "".join(port_table(network, address, sites.port, peers) + f"cost = {cost}\n"
                                                            for network, address, peers, cost in ports))
     for name, network, address, router in (("near-asker", "00000071", NEAR_HOST, NEAR), ("far-asker", "00000074", FAR_HOST, FAR),

@@ -50,7 +50,7 @@ def start_ping(sites):
             ("pinger", NEAR, PINGER, FIRST, "4003", ""), ("patient", NEAR, PATIENT, FIRST, "4003", ""),
             ("pressing", NEAR, PRESSING, FIRST, "4003", ""), ("sending", NEAR, SENDING, FIRST, "4003", ""),
             ("pinged", FAR, LISTENER, LAST, "4002", listed("peers", CALLERS)), ("pressed", FAR, PRESSED, LAST, "4002", ""),
-            ("barring", FAR, BARRING, LAST, "4002", listed("from", ["00000099"])),
+            ("barring", FAR, BARRING, LAST, "4002", listed("allow", ["00000099"])),
             ("next", MIDDLE, NEXT, "127.0.1.204", "4002", "")):
         sites.host(name, network, address, router, number, more)
     for name in PING_CHAIN:

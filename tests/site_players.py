@@ -62,7 +62,7 @@ def start_players(sites):
     first = Client(FIRST, near)
     for name in NAMES:
         own, address, peer = ports[name]
-        sites.world.write(f"{name}.toml", f'status = "{sites.world.path(name + ".prom")}"\n'
+        sites.world.write(f"{name}.toml", f'metrics_file = "{sites.world.path(name + ".prom")}"\n'
                           + port_table("00000081", address, sites.port, [peer])
                           + ipxnet_table(NETWORKS[name], own, sites.port, more[name]))
         sites.start_router(name)
@@ -149,7 +149,7 @@ def check_again(sites, second):
 def check_lines(sites, clients):
     """Each client that came is told once, by its port of the router, its place and its node, and nobody else is."""
     for name, came in clients.items():
-        lines = [f"port 2: client {it.ip}:{it.port} came as {it.node}" for it in came]
+        lines = [f"port 2: client {it.ip}:{it.port} connected as {it.node}" for it in came]
 
         def told(name=name):
             return [line.partition("] ")[2] for line in sites.routers[name].said() if ": client " in line]
@@ -165,7 +165,7 @@ def check_players(sites, clients):
     check_ping(sites, first, second, third, unnamed)
     check_packets(sites, first, second, third, unnamed)
     # In another's name, and of who is not known.
-    first.send(ipx(4, (NETWORKS["p1"], second.node, "4001"), (NETWORKS["p1"], second.node, "4001"), b"forged"))
+    first.send(ipx(4, (NETWORKS["p1"], second.node, "4001"), (NETWORKS["p1"], second.node, "4001"), b"spoofed_source"))
     unnamed.send(ipx(4, (NETWORKS["p1"], second.node, "4001"), (NETWORKS["p1"], unnamed.node, "4001"), b"unknown"))
     got = all_came(second, first, third, unnamed, wanted=0)
     sites.check("what speaks in another's name goes nowhere, nor what is of nobody", got == [[], [], [], []], str(got))
@@ -177,9 +177,9 @@ def check_players(sites, clients):
 
 def check_players_figures(sites, figures):
     """Who is known, what was dropped and who was not heard is counted, once the figures were written."""
-    wanted = {"p1": {'ipx_lobby_clients{port="2"}': 2, 'ipx_lobby_dropped_total{port="2",reason="other_source"}': 1,
-                     'ipx_lobby_strangers_total': 2},
-              "p2": {'ipx_lobby_clients{port="2"}': 1, 'ipx_lobby_strangers_total': 0}}
+    wanted = {"p1": {'ipx_ipxnet_clients{port="2"}': 2, 'ipx_ipxnet_dropped_total{port="2",reason="other_source"}': 1,
+                     'ipx_ipxnet_unknown_senders_total': 2},
+              "p2": {'ipx_ipxnet_clients{port="2"}': 1, 'ipx_ipxnet_unknown_senders_total': 0}}
     for name, counts in wanted.items():
         got = {key: figures[name].get(key) for key in counts}
         sites.check(f"the clients of {name} are counted", got == counts, "" if got == counts else str(got))

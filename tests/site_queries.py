@@ -85,12 +85,12 @@ def check_queries(sites, ends):
 
 def check_query_figures(sites, figures, seconds):
     """The figures of the router, once they were written."""
-    got = figures["q1"].get('ipx_kept_back_total{reason="too_often"}', 0)
+    got = figures["q1"].get('ipx_filtered_total{reason="rate_limited"}', 0)
     asked = ROUNDS * QUERIES
     sites.check("what came too often is counted", asked - 9 - seconds <= got <= asked - 8, f"{got} of {asked}")
     full = figures["q1"].get('ipx_dropped_total{reason="queue_full"}')
     sites.check("and no packet found no room to wait", full == 0, str(full))
-    line = re.compile(r"\[WARN  ipx\] \d+ queries came too often \(\d+ since the start\), the last from "
+    line = re.compile(r"\[WARN  ipx\] \d+ queries rate-limited \(\d+ since the start\), the last from "
                       + re.escape(ASKER))
     said = sites.routers["q1"].said()
     told = any(line.fullmatch(it) for it in said)

@@ -18,7 +18,7 @@ KEPT = 6
 
 def start_routers(sites):
     """Starts the router, and binds the three that speak to it."""
-    text = (f'status = "{sites.world.path(NAME + ".prom")}"\n'
+    text = (f'metrics_file = "{sites.world.path(NAME + ".prom")}"\n'
             + port_table("00000061", NEAR, sites.port, [NAMED, HOST]) + f'routers = ["{NAMED}"]\n'
             + port_table("00000062", FAR, sites.port, [AWAY]) + "routers = []\n")
     sites.world.write(f"{NAME}.toml", text)
@@ -96,10 +96,10 @@ def check_routers(sites, ends):
 
 def check_routers_figures(sites, figures):
     """What was no router's to send is counted and told, once the figures were written."""
-    count = 'ipx_kept_back_total{reason="no_router"}'
+    count = 'ipx_filtered_total{reason="not_a_router"}'
     got = figures[NAME].get(count)
     sites.check("what was no router's to send is counted", got == KEPT, str(got))
-    line = re.compile(r"\[WARN  ipx\] \d+ datagrams were no router's to send \(\d+ since the start\), the last from "
+    line = re.compile(r"\[WARN  ipx\] \d+ datagrams routed or RIP/SAP from a host not listed in routers \(\d+ since the start\), the last from "
                       + re.escape(HOST))
     said = sites.routers[NAME].said()
     told = any(line.fullmatch(it) for it in said)

@@ -20,7 +20,7 @@ MUCH_OFFERED = [("0004", f"S{number:04}", "00000099", 1, TELLER) for number in r
 UNWRITTEN, ITS_ADDRESS = "u1", "127.0.1.185"
 FAULT = "[WARN  ipx] 1 times a file could not be written (1 since the start)"
 OLD = r"{}: tables are (\d+) seconds old: does the router run\?"
-NO_TABLES = "{}: tables is missing: {} reads what the router writes there"
+NO_TABLES = "{}: tables_file is missing: {} reads what the router writes there"
 HALF = "{}: the file is not all that a router writes of its tables"
 GONE = "{}: there is no such file"
 
@@ -85,14 +85,14 @@ def check_refused(sites, name, command, line):
 
 def start_unwritten(sites):
     """That router, which writes its figures meanwhile."""
-    sites.world.write(f"{UNWRITTEN}.toml", f'tables = "{sites.world.path("gone")}/{UNWRITTEN}.tables"\n'
-                      f'status = "{sites.world.path(UNWRITTEN)}.prom"\n' + port_table("0000007b", ITS_ADDRESS, sites.port, []))
+    sites.world.write(f"{UNWRITTEN}.toml", f'tables_file = "{sites.world.path("gone")}/{UNWRITTEN}.tables"\n'
+                      f'metrics_file = "{sites.world.path(UNWRITTEN)}.prom"\n' + port_table("0000007b", ITS_ADDRESS, sites.port, []))
     sites.start_router(UNWRITTEN)
 
 
 def faults_of(sites):
     """How often it could not write, by its figures."""
-    return sites.world.figures(f"{UNWRITTEN}.prom").get('ipx_faults_total{of="status_file"}', 0)
+    return sites.world.figures(f"{UNWRITTEN}.prom").get('ipx_errors_total{kind="metrics_file"}', 0)
 
 
 def check_unwritten(sites):
@@ -142,7 +142,7 @@ def check_tables(sites, has_room):
     for command in LINES:
         check_refused(sites, "no-tables", command, NO_TABLES.format(path, command))
     place = sites.world.path("half.tables")
-    sites.world.write("half.toml", f'tables = "{place}"\n{port}')
+    sites.world.write("half.toml", f'tables_file = "{place}"\n{port}')
     check_refused(sites, "half", "networks", GONE.format(place))
     with open(sites.world.path("o1.tables"), encoding="ascii") as it:
         whole = it.read()

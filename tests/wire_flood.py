@@ -116,7 +116,7 @@ class Flood:
     @staticmethod
     def counts(found):
         """What became of frames at the port that is flooded, by the figures."""
-        return {fate: found.get(f'ipx_frames_total{{port="1",fate="{fate}"}}', 0) for fate in FATES}
+        return {fate: found.get(f'ipx_frames_total{{port="1",outcome="{fate}"}}', 0) for fate in FATES}
 
     def memory(self):
         """The router's memory in kB."""

@@ -81,7 +81,7 @@ class Machines:
 def check_frames(it):
     """The figures of the router, and the frames at the cards."""
     wires = it.wires
-    figures = [f'ipx_frames_total{{port="{at}",fate="other_type"}}' for at in range(1, 5)]
+    figures = [f'ipx_frames_total{{port="{at}",outcome="other_type"}}' for at in range(1, 5)]
     found = it.router.figures(lambda found: all(map(found.get, figures)), SECONDS)
     wires.check("frames of iPXE are counted as of other types", all(map(found.get, figures)),
                 str(list(map(found.get, figures))))

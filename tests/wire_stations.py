@@ -225,7 +225,7 @@ def check_hub(it, kind, joined):
         giver.send(header(EVERYBODY, sources[0], 0x8100) + it.rng.randbytes(size - 14), "broken")
     giver.send(header(others[-1].station, giver.port.node, 0x0800) + bytes(46), "own")
     it.settle("from one end of a wire to the others: each frame as it came, to one where that is known, nothing back" if joined
-              else "hub = false: nothing goes from one end to another")
+              else "switch = false: nothing goes from one end to another")
     # A station that is plugged in elsewhere is known there from then on.
     others[-1].send(header(EVERYBODY, sources[0], 0x0806) + bytes(46), "other_type")
     packet = it.packet(it.host, (giver.port.network, sources[0]), b"where it was last")
@@ -237,7 +237,7 @@ def check_hub(it, kind, joined):
 
 def check_told(it, strangers):
     """What the router counts, and says."""
-    wanted = {"ipx_frames_strangers_total": strangers}
+    wanted = {"ipx_frames_unknown_senders_total": strangers}
     for number, port in enumerate(it.wires_of, 1):
         wanted.update(port.figures(number))
     found = it.router.figures(lambda found: all(found.get(name) == value for name, value in wanted.items()))
@@ -252,7 +252,7 @@ def check_told(it, strangers):
             end.take()
         return sum(end.count for end in ends)
 
-    sent = it.router.figures(lambda found: found.get("ipx_frames_sent_total") == taken()).get("ipx_frames_sent_total")
+    sent = it.router.figures(lambda found: found.get("ipx_transmit_frames_total") == taken()).get("ipx_transmit_frames_total")
     it.wires.check("each frame that it sent is counted, and came", sent == taken(), f"{sent} of {taken()}")
 
 

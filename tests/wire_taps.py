@@ -202,7 +202,7 @@ def check_four(wires):
         knock(f"10.99.{one.name[3:]}.2")
     time.sleep(0.3)
     check_dumps(wires, router, devices, dumps, wire)
-    figures = [f'ipx_frames_total{{port="{at}",fate="other_type"}}' for at in range(1, 5)]
+    figures = [f'ipx_frames_total{{port="{at}",outcome="other_type"}}' for at in range(1, 5)]
     found = router.figures(lambda found: all(map(found.get, figures)))
     wires.check("ARP of Linux at a TAP is counted as of another type", all(map(found.get, figures)),
                 str(list(map(found.get, figures))))

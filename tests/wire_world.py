@@ -42,11 +42,11 @@ class WirePort:
         self.said = set()
 
     def table(self):
-        text = (f'[[port]]\nkind = "frames"\nnetwork = "{self.network}"\nframe = "{self.kind}"\naddress = "{self.place[0]}"\n'
-                f"udp_port = {self.place[1]}\ncost = {self.cost}\n" + listed("ends", map(text_of, self.places)))
+        text = (f'[[port]]\nkind = "ethernet"\nnetwork = "{self.network}"\nencapsulation = "{self.kind}"\naddress = "{self.place[0]}"\n'
+                f"udp_port = {self.place[1]}\ncost = {self.cost}\n" + listed("remotes", map(text_of, self.places)))
         if self.named:
             text += f'node = "{with_colons(self.named)}"\n'
-        return text if self.joined else text + "hub = false\n"
+        return text if self.joined else text + "switch = false\n"
 
     def line(self):
         return (f"network {self.network} node {self.node} frames {self.kind} udp {text_of(self.place)} cost {self.cost} "
@@ -76,8 +76,8 @@ class WirePort:
     def figures(self, number):
         """What the status file is to say of it."""
         port = f'port="{number}"'
-        return {f"ipx_frames_passed_total{{{port}}}": self.passed, f"ipx_frames_refused_total{{{port}}}": self.refused,
-                **{f'ipx_frames_total{{{port},fate="{fate}"}}': self.fates[fate] for fate in FATES}}
+        return {f"ipx_frames_forwarded_total{{{port}}}": self.passed, f"ipx_frames_refused_total{{{port}}}": self.refused,
+                **{f'ipx_frames_total{{{port},outcome="{fate}"}}': self.fates[fate] for fate in FATES}}
 
 
 FATES = ["handed_on", "broken", "own", "not_ours", "tagged", "other_type", "other_llc", "no_packet", "other_network",
@@ -165,7 +165,7 @@ class Router:
             port.said = {port.sends(EVERYBODY, packet)
                          for packet in own_packets(port.network, port.node, port.cost, others)}
         tables = "".join(port.table() for port in ports)
-        self.file = wires.world.write(f"{name}.toml", f'status = "{wires.world.path(name + ".prom")}"\n{tables}')
+        self.file = wires.world.write(f"{name}.toml", f'metrics_file = "{wires.world.path(name + ".prom")}"\n{tables}')
         self.process = None
 
     def start(self):

@@ -49,7 +49,7 @@ impl Port {
         let node = station.map(|byte| format!("{byte:02x}")).join(":");
         let ends = self.peers.iter().map(|peer| format!("{peer}:{udp_port}"));
         format!(
-            "{place}kind = \"frames\"\nframe = \"802.2\"\nnode = \"{node}\"\nends = {:?}\n",
+            "{place}kind = \"ethernet\"\nencapsulation = \"802.2\"\nnode = \"{node}\"\nremotes = {:?}\n",
             ends.collect::<Vec<_>>()
         )
     }
@@ -156,7 +156,7 @@ impl World {
     /// Starts a router of these ports.
     pub fn router(&self, name: &str, ports: &[Port]) -> io::Result<Process> {
         let status = self.folder.join(format!("{name}.prom"));
-        let mut text = format!("status = \"{}\"\n", status.display());
+        let mut text = format!("metrics_file = \"{}\"\n", status.display());
         for port in ports {
             text += &port.table(self.port);
         }

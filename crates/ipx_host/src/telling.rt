@@ -40,8 +40,11 @@ fn warnings_in(counts: Counts) -> [Warning; CAUSES]
             kept.unknown_senders,
             "datagrams came from nobody who is heard",
         ),
-        Warning::from(kept.spoofed, "datagrams spoke for another node"),
-        Warning::from(kept.not_a_router, "datagrams were no router's to send"),
+        Warning::from(kept.spoofed, "datagrams with a spoofed source node"),
+        Warning::from(
+            kept.not_a_router,
+            "datagrams routed or RIP/SAP from a host not listed in routers",
+        ),
         Warning::of_nobody(counts.rejected, "requests came from nobody who may connect"),
         Warning::of_nobody(counts.system, "datagrams the system refused"),
         Warning::of_nobody(counts.memory, "times memory was refused"),

@@ -18,7 +18,7 @@ fn tell_no_tables<R: Eprint>(rt: &R, path: &str, command: &str) -> u8
     ensures { result ≡ 2 }
 {
     let _ = eprintln!(rt;
-        "{path}: tables is missing: {command} reads what the router writes there"
+        "{path}: tables_file is missing: {command} reads what the router writes there"
     );
     2
 }

@@ -51,15 +51,15 @@ is_any_guarded port_indices kept = list_any (λ s. is_some (kept_at_port_index k
 -- what came from nobody who is heard, and what was to go to nobody, at each port that has a guard
 abbrev pub unknown_senders_text : List PortIndex → List PortFilterDrops → List ℕ
 unknown_senders_text port_indices kept =
-    family_text (codes "ipx_port_strangers_total")
+    family_text (codes "ipx_port_unknown_senders_total")
     (codes "Datagrams that came from no peer, by the port that they came by") (codes "counter")
-    ++ access_list_metrics (codes "ipx_port_strangers_total") UnknownSenders port_indices kept
+    ++ access_list_metrics (codes "ipx_port_unknown_senders_total") UnknownSenders port_indices kept
 
 abbrev pub refused_text : List PortIndex → List PortFilterDrops → List ℕ
 refused_text port_indices kept =
-    family_text (codes "ipx_port_refused_total")
+    family_text (codes "ipx_port_egress_filtered_total")
     (codes "Datagrams that were to go to no peer, by the port that was to send them") (codes "counter")
-    ++ access_list_metrics (codes "ipx_port_refused_total") Refused port_indices kept
+    ++ access_list_metrics (codes "ipx_port_egress_filtered_total") Refused port_indices kept
 
 -- both; nothing, where no port has one
 abbrev pub access_list_text : List PortIndex → List PortFilterDrops → List ℕ

@@ -60,10 +60,10 @@ IsAccept d a = as_str d ≡ Some (accept_text a)
 
 abbrev pub kind_text : Kind → List ℕ
 kind_text Rfc1234 = codes "rfc1234"
-kind_text Frames = codes "frames"
+kind_text Frames = codes "ethernet"
 kind_text Ipxnet = codes "ipxnet"
 
--- the string "rfc1234", the string "frames" or the string "ipxnet"
+-- the string "rfc1234", the string "ethernet" or the string "ipxnet"
 abbrev pub IsKind : Data → Kind → Type 0
 IsKind d k = as_str d ≡ Some (kind_text k)
 

@@ -9,13 +9,13 @@ use crate::router_ports::PortIndex;
 use std::alloc::{AllocError, Global};
 
 const UNKNOWN_SENDERS: Family = Family {
-    name: "ipx_port_strangers_total",
+    name: "ipx_port_unknown_senders_total",
     help: "Datagrams that came from no peer, by the port that they came by",
     kind: "counter",
 };
 
 const REFUSED: Family = Family {
-    name: "ipx_port_refused_total",
+    name: "ipx_port_egress_filtered_total",
     help: "Datagrams that were to go to no peer, by the port that was to send them",
     kind: "counter",
 };

@@ -194,7 +194,7 @@ fn tell_gone<R: Log>(rt: &R, gone: &[PortClient]) {
         let port = client.port;
         let [a, b, c, d] = client.place.ip;
         let udp_port = client.place.udp_port;
-        info!(rt; target: "ipx", "port {port}: client {a}.{b}.{c}.{d}:{udp_port} is gone");
+        info!(rt; target: "ipx", "port {port}: client {a}.{b}.{c}.{d}:{udp_port} timed out");
     }
 }
 
@@ -205,7 +205,7 @@ fn tell_come<R: Log>(rt: &R, came: &[PortClient]) {
         let [a, b, c, d] = client.place.ip;
         let udp_port = client.place.udp_port;
         let node = client.node;
-        info!(rt; target: "ipx", "port {port}: client {a}.{b}.{c}.{d}:{udp_port} came as {node}");
+        info!(rt; target: "ipx", "port {port}: client {a}.{b}.{c}.{d}:{udp_port} connected as {node}");
     }
 }
 

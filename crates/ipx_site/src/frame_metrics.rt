@@ -24,7 +24,7 @@ const FRAMES: Family = Family {
 };
 
 const PASSED: Family = Family {
-    name: "ipx_frames_passed_total",
+    name: "ipx_frames_forwarded_total",
     help: "Frames that were to go on from one end to others",
     kind: "counter",
 };
@@ -36,13 +36,13 @@ const REFUSED: Family = Family {
 };
 
 const UNKNOWN_SENDERS: Family = Family {
-    name: "ipx_frames_strangers_total",
+    name: "ipx_frames_unknown_senders_total",
     help: "Datagrams that came from no end of a wire",
     kind: "counter",
 };
 
 const SENT: Family = Family {
-    name: "ipx_frames_sent_total",
+    name: "ipx_transmit_frames_total",
     help: "Frames that the system took to be sent",
     kind: "counter",
 };
@@ -70,7 +70,7 @@ fn put_outcomes(text: &mut String, number: usize, counts: FrameCounters) -> Resu
     for (fate, count) in metrics {
         write!(
             text,
-            "ipx_frames_total{{port=\"{number}\",fate=\"{fate}\"}} {count}\n"
+            "ipx_frames_total{{port=\"{number}\",outcome=\"{fate}\"}} {count}\n"
         )?;
     }
     Ok(())
@@ -85,7 +85,7 @@ fn put_encapsulations(
         let count = came_in(counts, encapsulation);
         write!(
             text,
-            "ipx_frames_total{{port=\"{number}\",fate=\"in_{encapsulation}\"}} {count}\n"
+            "ipx_frames_total{{port=\"{number}\",outcome=\"in_{encapsulation}\"}} {count}\n"
         )?;
     }
     Ok(())

@@ -7,25 +7,25 @@ use ipxnet_server::{IpxnetServer, ServerCounts};
 use std::alloc::AllocError;
 
 const CLIENTS: Family = Family {
-    name: "ipx_lobby_clients",
+    name: "ipx_ipxnet_clients",
     help: "Clients that are known",
     kind: "gauge",
 };
 
 const DROPPED: Family = Family {
-    name: "ipx_lobby_dropped_total",
+    name: "ipx_ipxnet_dropped_total",
     help: "Datagrams of clients and packets for them that were dropped, by reason",
     kind: "counter",
 };
 
 const UNKNOWN_SENDERS: Family = Family {
-    name: "ipx_lobby_strangers_total",
+    name: "ipx_ipxnet_unknown_senders_total",
     help: "Datagrams that came from nobody who may register",
     kind: "counter",
 };
 
 const SENT: Family = Family {
-    name: "ipx_lobby_sent_total",
+    name: "ipx_ipxnet_transmit_packets_total",
     help: "Datagrams for clients that the system took to be sent",
     kind: "counter",
 };
@@ -60,7 +60,7 @@ pub fn put_drops(text: &mut String, number: usize, counts: ServerCounts) -> Resu
     for (reason, count) in metrics {
         write!(
             text,
-            "ipx_lobby_dropped_total{{port=\"{number}\",reason=\"{reason}\"}} {count}\n"
+            "ipx_ipxnet_dropped_total{{port=\"{number}\",reason=\"{reason}\"}} {count}\n"
         )?;
     }
     Ok(())

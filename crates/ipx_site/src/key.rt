@@ -45,8 +45,8 @@ impl Key {
         ensures { result.now ≡ key_text self.now }
     {
         match self {
-            Key::Status => "status",
-            Key::Tables => "tables",
+            Key::Status => "metrics_file",
+            Key::Tables => "tables_file",
             Key::Port => "port",
             Key::Network => "network",
             Key::Address => "address",
@@ -58,22 +58,22 @@ impl Key {
             Key::Router => "router",
             Key::Socket => "socket",
             Key::Buffers => "buffers",
-            Key::From => "from",
+            Key::From => "allow",
             Key::Kind => "kind",
-            Key::Frame => "frame",
-            Key::Ends => "ends",
+            Key::Frame => "encapsulation",
+            Key::Ends => "remotes",
             Key::Node => "node",
-            Key::Switch => "hub",
+            Key::Switch => "switch",
             Key::Clients => "clients",
             Key::Join => "join",
             Key::Route => "route",
             Key::Service => "service",
-            Key::Next => "next",
+            Key::Next => "next_hop",
             Key::Hops => "hops",
             Key::Ticks => "ticks",
             Key::ServiceType => "type",
             Key::Name => "name",
-            Key::At => "at",
+            Key::At => "ipx_address",
         }
     }
 
@@ -81,7 +81,8 @@ impl Key {
     pub(crate) fn right(&self) -> &'static str {
         match self {
             Key::Status => "the name of a file, as \"/run/ipx/hq/hq.prom\"",
-            Key::Tables => "the name of a file, not that of status, as \"/run/ipx/hq/hq.tables\"",
+            Key::Tables =>
+                "the name of a file, not that of metrics_file, as \"/run/ipx/hq/hq.tables\"",
             Key::Port => "one to sixteen tables, each begun by [[port]]",
             Key::Network => "eight hex digits, neither all 0 nor all f, as \"00000011\"",
             Key::Address => "an IP address of this machine, as \"192.0.2.10\"",
@@ -97,7 +98,7 @@ impl Key {
                 "a list of at most 256 networks, each alone or with a node behind it, as \
                  [\"00000022 00000a02001e\", \"00000033\"]"
             }
-            Key::Kind => "\"rfc1234\", \"frames\" or \"ipxnet\"",
+            Key::Kind => "\"rfc1234\", \"ethernet\" or \"ipxnet\"",
             Key::Frame => "\"802.3\", \"802.2\", \"snap\" or \"ethernet-ii\"",
             Key::Ends => "a list of 1 to 256 places, as [\"127.0.0.1:24001\"]",
             Key::Node => "the address of one station, as \"02:00:00:00:00:22\"",

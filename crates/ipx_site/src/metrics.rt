@@ -42,19 +42,19 @@ pub struct Metrics {
 }
 
 const HEARD: Family = Family {
-    name: "ipx_heard_total",
+    name: "ipx_receive_packets_total",
     help: "Datagrams that were heard",
     kind: "counter",
 };
 
 const SENT: Family = Family {
-    name: "ipx_sent_total",
+    name: "ipx_transmit_packets_total",
     help: "Datagrams that the system took to be sent",
     kind: "counter",
 };
 
 const OUTCOMES: Family = Family {
-    name: "ipx_fates_total",
+    name: "ipx_outcomes_total",
     help: "What became of the datagrams that were heard, and were not dropped",
     kind: "counter",
 };
@@ -66,31 +66,31 @@ const DROPPED: Family = Family {
 };
 
 const UNKNOWN_SENDERS: Family = Family {
-    name: "ipx_strangers_total",
+    name: "ipx_unknown_senders_total",
     help: "Datagrams that came from no peer, and were not heard",
     kind: "counter",
 };
 
 const FILTERED: Family = Family {
-    name: "ipx_kept_back_total",
+    name: "ipx_filtered_total",
     help: "Other datagrams that were not heard, by reason",
     kind: "counter",
 };
 
 const REFUSED: Family = Family {
-    name: "ipx_refused_total",
+    name: "ipx_egress_filtered_total",
     help: "Datagrams that were to go to no peer, and were not sent",
     kind: "counter",
 };
 
 const FAULTS: Family = Family {
-    name: "ipx_faults_total",
+    name: "ipx_errors_total",
     help: "How often the system refused",
     kind: "counter",
 };
 
 const QUEUE: Family = Family {
-    name: "ipx_queue",
+    name: "ipx_send_queue_packets",
     help: "Packets that wait to be sent",
     kind: "gauge",
 };
@@ -108,7 +108,7 @@ const SERVICES: Family = Family {
 };
 
 const SECONDS: Family = Family {
-    name: "ipx_seconds",
+    name: "ipx_uptime_seconds",
     help: "Seconds since the start",
     kind: "gauge",
 };
@@ -119,7 +119,7 @@ fn put_outcomes(text: &mut String, outcomes: &OutcomeCounters) -> Result<(), All
         ("answered", outcomes.answered),
         ("heard", outcomes.heard),
     ];
-    put_each(text, &OUTCOMES, "fate", &metrics)
+    put_each(text, &OUTCOMES, "outcome", &metrics)
 }
 
 fn put_dropped(text: &mut String, metrics: &Metrics) -> Result<(), AllocError> {
@@ -142,9 +142,9 @@ fn put_faults(text: &mut String, metrics: &Metrics) -> Result<(), AllocError> {
     let metrics = [
         ("device", metrics.device_faults),
         ("memory", metrics.memory_faults),
-        ("status_file", metrics.file_faults),
+        ("metrics_file", metrics.file_faults),
     ];
-    put_each(text, &FAULTS, "of", &metrics)
+    put_each(text, &FAULTS, "kind", &metrics)
 }
 
 impl Metrics {
@@ -161,9 +161,9 @@ impl Metrics {
             &FILTERED,
             "reason",
             &[
-                ("forged", self.kept.spoofed.count),
-                ("no_router", self.kept.not_a_router.count),
-                ("too_often", self.rate_limited.count),
+                ("spoofed_source", self.kept.spoofed.count),
+                ("not_a_router", self.kept.not_a_router.count),
+                ("rate_limited", self.rate_limited.count),
             ],
         )?;
         put_one(&mut text, &REFUSED, self.refused)?;

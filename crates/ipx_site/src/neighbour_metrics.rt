@@ -19,7 +19,7 @@ const SERVICES: Family = Family {
 };
 
 const HEARD: Family = Family {
-    name: "ipx_neighbour_heard_seconds",
+    name: "ipx_neighbour_last_heard_seconds",
     help: "Seconds since the last of these was heard",
     kind: "gauge",
 };

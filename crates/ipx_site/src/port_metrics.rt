@@ -6,25 +6,25 @@ use ipx_metrics::{MeteredRouter, PortCounts};
 use std::alloc::AllocError;
 
 const HEARD: Family = Family {
-    name: "ipx_port_heard_total",
+    name: "ipx_port_receive_packets_total",
     help: "Datagrams that were heard, by the port that they came by",
     kind: "counter",
 };
 
 const HEARD_BYTES: Family = Family {
-    name: "ipx_port_heard_bytes_total",
+    name: "ipx_port_receive_bytes_total",
     help: "Bytes of these",
     kind: "counter",
 };
 
 const SENT: Family = Family {
-    name: "ipx_port_sent_total",
+    name: "ipx_port_transmit_packets_total",
     help: "Packets that were handed to a port to be sent",
     kind: "counter",
 };
 
 const SENT_BYTES: Family = Family {
-    name: "ipx_port_sent_bytes_total",
+    name: "ipx_port_transmit_bytes_total",
     help: "Bytes of these",
     kind: "counter",
 };

@@ -45,7 +45,7 @@ impl Told for Network {
         let hops = offered.hops;
         let ticks = offered.ticks;
         info!(rt; target: "ipx",
-            "network {network} known by port {port} node {node} hops {hops} ticks {ticks}");
+            "route added: network {network} via port {port} node {node} hops {hops} ticks {ticks}");
     }
 
     fn tell_lost<R: Log>(&self, rt: &R) {
@@ -66,7 +66,7 @@ impl Told for ServiceKey {
         let port = source.port;
         let hops = offered.hops;
         info!(rt; target: "ipx",
-            "service {kind:04x} {name} at {at} known by port {port} hops {hops}");
+            "service added: {kind:04x} {name} at {at} via port {port} hops {hops}");
     }
 
     fn tell_lost<R: Log>(&self, rt: &R) {

@@ -15,18 +15,18 @@ const LAST_ROUTE: usize = 272;
 /// The keys of a table, by its number.
 fn keys_of(table: usize) -> &'static str {
     if table == 0 {
-        return "a router has status, tables, port, route and service, \
-            a host network, address, router, udp_port, socket, buffers, peers, routers, from and \
+        return "a router has metrics_file, tables_file, port, route and service, \
+            a host network, address, router, udp_port, socket, buffers, peers, routers, allow and \
             accept";
     }
     if table > LAST_ROUTE {
-        return "the keys are port, next, type, name, at and hops";
+        return "the keys are port, next_hop, type, name, ipx_address and hops";
     }
     if table > LAST_PORT {
-        return "the keys are port, next, network, hops and ticks";
+        return "the keys are port, next_hop, network, hops and ticks";
     }
     "the keys are kind, network, address, udp_port, cost, for kind = \"rfc1234\" also peers, \
-        routers and accept, for kind = \"frames\" frame, ends, node and hub, \
+        routers and accept, for kind = \"ethernet\" encapsulation, remotes, node and switch, \
         for kind = \"ipxnet\" node, clients, accept, peers and join"
 }
 
@@ -34,7 +34,7 @@ fn keys_of(table: usize) -> &'static str {
 fn word_of_kind(kind: Kind) -> &'static str {
     match kind {
         Kind::Rfc1234 => "rfc1234",
-        Kind::Frames => "frames",
+        Kind::Frames => "ethernet",
         Kind::Ipxnet => "ipxnet",
     }
 }
@@ -43,7 +43,8 @@ fn word_of_kind(kind: Kind) -> &'static str {
 fn keys_of_port(kind: Kind) -> &'static str {
     match kind {
         Kind::Rfc1234 => "kind, network, address, udp_port, cost, peers, routers, accept",
-        Kind::Frames => "kind, network, frame, address, udp_port, cost, ends, node, hub",
+        Kind::Frames =>
+            "kind, network, encapsulation, address, udp_port, cost, remotes, node, switch",
         Kind::Ipxnet => {
             "kind, network, address, udp_port, cost, node, clients, accept, peers, join"
         },
@@ -53,7 +54,7 @@ fn keys_of_port(kind: Kind) -> &'static str {
 /// What the value of a key of a route or a service is to be: those name a port, and no own network.
 fn valid_statics(key: Key) -> &'static str {
     match key {
-        Key::Port => "the number of a port here of kind \"rfc1234\" or \"frames\", as 1",
+        Key::Port => "the number of a port here of kind \"rfc1234\" or \"ethernet\", as 1",
         Key::Network => "eight hex digits from 00000001 to fffffffd, as \"000000aa\"",
         _ => key.right(),
     }
@@ -98,9 +99,9 @@ fn write_place<W: fmt::Write>(f: &mut fmt::Formatter<W>, table: usize) -> fmt::R
 /// What routes, or services, have alike that say the same.
 fn alike(table: usize) -> &'static str {
     if table <= LAST_ROUTE {
-        "port, next and network"
+        "port, next_hop and network"
     } else {
-        "port, next, type and name"
+        "port, next_hop, type and name"
     }
 }
 

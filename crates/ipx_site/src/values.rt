@@ -73,7 +73,7 @@ pub fn kind_of(value: &Value) -> Option<Kind>
 {
     match value.as_str()? {
         "rfc1234" => Some(Kind::Rfc1234),
-        "frames" => Some(Kind::Frames),
+        "ethernet" => Some(Kind::Frames),
         "ipxnet" => Some(Kind::Ipxnet),
         _ => None,
     }

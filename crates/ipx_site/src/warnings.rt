@@ -111,10 +111,13 @@ fn warnings_in(f: &Metrics) -> [Warning; CAUSES]
     ensures { counts_of result ≡ counts_told (happened_in f.now) }
 {
     [
-        Warning::from(f.kept.unknown_senders, "datagrams came from no peer"),
-        Warning::from(f.kept.spoofed, "datagrams spoke for another node"),
-        Warning::from(f.kept.not_a_router, "datagrams were no router's to send"),
-        Warning::from(f.rate_limited, "queries came too often"),
+        Warning::from(f.kept.unknown_senders, "datagrams from unknown senders"),
+        Warning::from(f.kept.spoofed, "datagrams with a spoofed source node"),
+        Warning::from(
+            f.kept.not_a_router,
+            "datagrams routed or RIP/SAP from a host not listed in routers",
+        ),
+        Warning::from(f.rate_limited, "queries rate-limited"),
         Warning::of_nobody(f.refused, "datagrams were to go to no peer"),
         Warning::of_nobody(f.outcomes.table_full, "responses found a table full"),
         Warning::of_nobody(f.queue_full, "packets found no room to wait"),
@@ -123,7 +126,7 @@ fn warnings_in(f: &Metrics) -> [Warning; CAUSES]
         Warning::of_nobody(f.file_faults, "times a file could not be written"),
         Warning::of_nobody(
             f.frame_unknown_senders,
-            "datagrams came from no end of a wire",
+            "datagrams from no remote of an Ethernet port",
         ),
         Warning::of_nobody(f.unframed, "packets no frame could carry"),
         Warning::of_nobody(f.other_encapsulation, "frames of another encapsulation"),

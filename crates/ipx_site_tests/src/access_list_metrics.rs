@@ -25,15 +25,15 @@ const KEPT: [PortFilterDrops; 2] = [
 ];
 
 const TEXT: &str = "\
-# HELP ipx_port_strangers_total Datagrams that came from no peer, by the port that they came by.
-# TYPE ipx_port_strangers_total counter
-ipx_port_strangers_total{port=\"2\"} 3
-ipx_port_strangers_total{port=\"4\"} 7
-# HELP ipx_port_refused_total Datagrams that were to go to no peer, by the port that \
+# HELP ipx_port_unknown_senders_total Datagrams that came from no peer, by the port that they came by.
+# TYPE ipx_port_unknown_senders_total counter
+ipx_port_unknown_senders_total{port=\"2\"} 3
+ipx_port_unknown_senders_total{port=\"4\"} 7
+# HELP ipx_port_egress_filtered_total Datagrams that were to go to no peer, by the port that \
 was to send them.
-# TYPE ipx_port_refused_total counter
-ipx_port_refused_total{port=\"2\"} 5
-ipx_port_refused_total{port=\"4\"} 11
+# TYPE ipx_port_egress_filtered_total counter
+ipx_port_egress_filtered_total{port=\"2\"} 5
+ipx_port_egress_filtered_total{port=\"4\"} 11
 ";
 
 #[test]
@@ -58,7 +58,7 @@ fn no_metrics_without_access_lists(rt: HostRuntime) -> Result<(), AllocError> {
 }
 
 /// What stands before the figures of guards.
-const BEFORE: &str = "ipx_seconds 7\n";
+const BEFORE: &str = "ipx_uptime_seconds 7\n";
 
 /// That text, made once more where memory was refused.
 fn text_before(alloc: Global) -> Result<String, AllocError> {

@@ -32,39 +32,39 @@ const SITES: [(&str, &str); 15] = [
     ),
     (
         "Status = \"a\"",
-        "Status is no key here: a router has status, tables, port, route and service, a host network, address, router, udp_port, socket, buffers, peers, routers, from and accept",
+        "Status is no key here: a router has metrics_file, tables_file, port, route and service, a host network, address, router, udp_port, socket, buffers, peers, routers, allow and accept",
     ),
     (
-        "status = 1",
-        "status is to be the name of a file, as \"/run/ipx/hq/hq.prom\"",
+        "metrics_file = 1",
+        "metrics_file is to be the name of a file, as \"/run/ipx/hq/hq.prom\"",
     ),
     (
-        "status = \"\"",
-        "status is to be the name of a file, as \"/run/ipx/hq/hq.prom\"",
+        "metrics_file = \"\"",
+        "metrics_file is to be the name of a file, as \"/run/ipx/hq/hq.prom\"",
     ),
     (
-        "status = \"/run/ipx/h\\u0000q\"",
-        "status is to be the name of a file, as \"/run/ipx/hq/hq.prom\"",
+        "metrics_file = \"/run/ipx/h\\u0000q\"",
+        "metrics_file is to be the name of a file, as \"/run/ipx/hq/hq.prom\"",
     ),
     (
-        "tables = 1\nport = 1",
-        "tables is to be the name of a file, not that of status, as \"/run/ipx/hq/hq.tables\"",
+        "tables_file = 1\nport = 1",
+        "tables_file is to be the name of a file, not that of metrics_file, as \"/run/ipx/hq/hq.tables\"",
     ),
     (
-        "tables = \"\"\nport = 1",
-        "tables is to be the name of a file, not that of status, as \"/run/ipx/hq/hq.tables\"",
+        "tables_file = \"\"\nport = 1",
+        "tables_file is to be the name of a file, not that of metrics_file, as \"/run/ipx/hq/hq.tables\"",
     ),
     (
-        "status = \"/run/ipx/hq\"\ntables = \"/run/ipx/hq\"\nport = 1",
-        "tables is to be the name of a file, not that of status, as \"/run/ipx/hq/hq.tables\"",
+        "metrics_file = \"/run/ipx/hq\"\ntables_file = \"/run/ipx/hq\"\nport = 1",
+        "tables_file is to be the name of a file, not that of metrics_file, as \"/run/ipx/hq/hq.tables\"",
     ),
     (
-        "status = \"/run/ipx/hq\"\ntables = \"/run/ipx/hq.\"\nport = 1",
+        "metrics_file = \"/run/ipx/hq\"\ntables_file = \"/run/ipx/hq.\"\nport = 1",
         "port is to be one to sixteen tables, each begun by [[port]]",
     ),
     (
         "[[port]]\npeer = []",
-        "port 1: peer is no key here: the keys are kind, network, address, udp_port, cost, for kind = \"rfc1234\" also peers, routers and accept, for kind = \"frames\" frame, ends, node and hub, for kind = \"ipxnet\" node, clients, accept, peers and join",
+        "port 1: peer is no key here: the keys are kind, network, address, udp_port, cost, for kind = \"rfc1234\" also peers, routers and accept, for kind = \"ethernet\" encapsulation, remotes, node and switch, for kind = \"ipxnet\" node, clients, accept, peers and join",
     ),
     (
         "[[port]]\nnetwork = \"ffffffff\"",
@@ -128,7 +128,7 @@ const HOSTS: [(&str, &str); 3] = [
     ),
     (
         "port = 1",
-        "port is no key here: a router has status, tables, port, route and service, a host network, address, router, udp_port, socket, buffers, peers, routers, from and accept",
+        "port is no key here: a router has metrics_file, tables_file, port, route and service, a host network, address, router, udp_port, socket, buffers, peers, routers, allow and accept",
     ),
 ];
 
@@ -158,11 +158,11 @@ const CIRCLES: [(&str, &str); 8] = [
         "routers is to be a list of at most 256 IP addresses among peers",
     ),
     (
-        "routers = 1\nfrom = []\npeers = 1",
+        "routers = 1\nallow = []\npeers = 1",
         "peers is to be a list of at most 256 IP addresses, as [\"198.51.100.7\", \"203.0.113.9\"]",
     ),
     (
-        "from = 1\naccept = 1\nrouters = 1",
+        "allow = 1\naccept = 1\nrouters = 1",
         "routers is to be a list of at most 256 IP addresses among peers",
     ),
     ("accept = \"all\"", "accept is to be \"peers\" or \"any\""),

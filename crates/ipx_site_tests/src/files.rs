@@ -6,8 +6,8 @@ use ipx_wire::{Address, Network, Node, Socket};
 
 const SITE: &str = "\
 # the router of one site
-status = \"/run/ipx/hq/hq.prom\"
-tables = \"/run/ipx/hq/hq.tables\"
+metrics_file = \"/run/ipx/hq/hq.prom\"
+tables_file = \"/run/ipx/hq/hq.tables\"
 
 [[port]]
 network = \"00000001\"
@@ -37,7 +37,7 @@ network = \"00000011\"
 address = \"10.1.0.20\"
 router = \"10.1.0.1\"
 socket = \"4002\"
-from = [\"00000022 00000A02001e\", \"00000033\"]
+allow = [\"00000022 00000A02001e\", \"00000033\"]
 ";
 
 /// A host that says whom it hears.

@@ -256,7 +256,7 @@ fn metrics_by_cause(rt: HostRuntime) -> Result<(), Fail> {
         for reason in REASONS {
             let count = u8::from(reason == row.reason);
             let line = format!(in alloc;
-                "ipx_lobby_dropped_total{{port=\"2\",reason=\"{reason}\"}} {count}\n"
+                "ipx_ipxnet_dropped_total{{port=\"2\",reason=\"{reason}\"}} {count}\n"
             )?;
             wanted.push_str(&line)?;
         }

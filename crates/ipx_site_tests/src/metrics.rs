@@ -55,11 +55,11 @@ pub const METRICS: Metrics = Metrics {
 
 /// Lines that stand in it.
 const LINES: [&str; 26] = [
-    "ipx_heard_total 1\n",
-    "ipx_sent_total 2\n",
-    "ipx_fates_total{fate=\"forwarded\"} 3\n",
-    "ipx_fates_total{fate=\"answered\"} 4\n",
-    "ipx_fates_total{fate=\"heard\"} 5\n",
+    "ipx_receive_packets_total 1\n",
+    "ipx_transmit_packets_total 2\n",
+    "ipx_outcomes_total{outcome=\"forwarded\"} 3\n",
+    "ipx_outcomes_total{outcome=\"answered\"} 4\n",
+    "ipx_outcomes_total{outcome=\"heard\"} 5\n",
     "ipx_dropped_total{reason=\"bad\"} 6\n",
     "ipx_dropped_total{reason=\"propagated\"} 7\n",
     "ipx_dropped_total{reason=\"not_ours\"} 8\n",
@@ -69,24 +69,24 @@ const LINES: [&str; 26] = [
     "ipx_dropped_total{reason=\"table_full\"} 12\n",
     "ipx_dropped_total{reason=\"queue_full\"} 13\n",
     "ipx_dropped_total{reason=\"unmapped\"} 14\n",
-    "ipx_strangers_total 15\n",
-    "ipx_kept_back_total{reason=\"forged\"} 23\n",
-    "ipx_kept_back_total{reason=\"no_router\"} 24\n",
-    "ipx_kept_back_total{reason=\"too_often\"} 25\n",
-    "ipx_refused_total 16\n",
-    "ipx_faults_total{of=\"device\"} 17\n",
-    "ipx_faults_total{of=\"memory\"} 18\n",
-    "ipx_faults_total{of=\"status_file\"} 19\n",
-    "ipx_queue 29\n",
+    "ipx_unknown_senders_total 15\n",
+    "ipx_filtered_total{reason=\"spoofed_source\"} 23\n",
+    "ipx_filtered_total{reason=\"not_a_router\"} 24\n",
+    "ipx_filtered_total{reason=\"rate_limited\"} 25\n",
+    "ipx_egress_filtered_total 16\n",
+    "ipx_errors_total{kind=\"device\"} 17\n",
+    "ipx_errors_total{kind=\"memory\"} 18\n",
+    "ipx_errors_total{kind=\"metrics_file\"} 19\n",
+    "ipx_send_queue_packets 29\n",
     "ipx_routes 20\n",
     "ipx_services 21\n",
-    "ipx_seconds 22\n",
+    "ipx_uptime_seconds 22\n",
 ];
 
 const START: &str = "\
-# HELP ipx_heard_total Datagrams that were heard.
-# TYPE ipx_heard_total counter
-ipx_heard_total 1
+# HELP ipx_receive_packets_total Datagrams that were heard.
+# TYPE ipx_receive_packets_total counter
+ipx_receive_packets_total 1
 ";
 
 #[test]

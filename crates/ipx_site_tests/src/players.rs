@@ -171,7 +171,7 @@ const PLAYERS: [(&str, &str); 21] = [
     ),
     (
         "accept = \"any\"\nplayers = 4",
-        "port 1: players is no key here: the keys are kind, network, address, udp_port, cost, for kind = \"rfc1234\" also peers, routers and accept, for kind = \"frames\" frame, ends, node and hub, for kind = \"ipxnet\" node, clients, accept, peers and join",
+        "port 1: players is no key here: the keys are kind, network, address, udp_port, cost, for kind = \"rfc1234\" also peers, routers and accept, for kind = \"ethernet\" encapsulation, remotes, node and switch, for kind = \"ipxnet\" node, clients, accept, peers and join",
     ),
 ];
 
@@ -195,8 +195,8 @@ const KINDS: [(&str, &str); 4] = [
         "port 1: join is no key of kind \"rfc1234\": its keys are kind, network, address, udp_port, cost, peers, routers, accept",
     ),
     (
-        "kind = \"frames\"\nclients = 4",
-        "port 1: clients is no key of kind \"frames\": its keys are kind, network, frame, address, udp_port, cost, ends, node, hub",
+        "kind = \"ethernet\"\nclients = 4",
+        "port 1: clients is no key of kind \"ethernet\": its keys are kind, network, encapsulation, address, udp_port, cost, remotes, node, switch",
     ),
     (
         "kind = \"ipxnet\"\nnetwork = \"0000d05b\"\naddress = \"192.0.2.10\"",

@@ -88,10 +88,10 @@ fn ports_make_up_the_whole(rt: HostRuntime) -> Result<(), Fail> {
 }
 
 const LINES: [&str; 8] = [
-    "ipx_port_heard_total{port=\"1\",network=\"00000011\"} 7\n",
-    "ipx_port_heard_total{port=\"2\",network=\"00000022\"} 3\n",
-    "ipx_port_heard_bytes_total{port=\"1\",network=\"00000011\"} 195\n",
-    "ipx_port_heard_bytes_total{port=\"2\",network=\"00000022\"} 96\n",
+    "ipx_port_receive_packets_total{port=\"1\",network=\"00000011\"} 7\n",
+    "ipx_port_receive_packets_total{port=\"2\",network=\"00000022\"} 3\n",
+    "ipx_port_receive_bytes_total{port=\"1\",network=\"00000011\"} 195\n",
+    "ipx_port_receive_bytes_total{port=\"2\",network=\"00000022\"} 96\n",
     "ipx_port_dropped_total{port=\"1\",reason=\"no_route\"} 1\n",
     "ipx_port_dropped_total{port=\"2\",reason=\"no_route\"} 1\n",
     "ipx_port_dropped_total{port=\"1\",reason=\"hop_limit\"} 1\n",
@@ -198,8 +198,8 @@ const TOLD: [&str; 6] = [
     "ipx_neighbour_networks{port=\"1\",node=\"00000a010004\"} 1\n",
     "ipx_neighbour_services{port=\"1\",node=\"00000a010003\"} 0\n",
     "ipx_neighbour_services{port=\"1\",node=\"00000a010004\"} 0\n",
-    "ipx_neighbour_heard_seconds{port=\"1\",node=\"00000a010003\"} 7\n",
-    "ipx_neighbour_heard_seconds{port=\"1\",node=\"00000a010004\"} 8\n",
+    "ipx_neighbour_last_heard_seconds{port=\"1\",node=\"00000a010003\"} 7\n",
+    "ipx_neighbour_last_heard_seconds{port=\"1\",node=\"00000a010004\"} 8\n",
 ];
 
 #[test]
@@ -286,7 +286,7 @@ fn refused_metrics_of_neighbours(rt: HostRuntime) -> Result<(), Fail> {
         text = String::new(alloc);
         put_neighbour_metrics(&mut text, alloc, core.router(), 10_500)?;
     }
-    let end = "ipx_neighbour_heard_seconds{port=\"1\",node=\"00000a010003\"} 9\n";
+    let end = "ipx_neighbour_last_heard_seconds{port=\"1\",node=\"00000a010003\"} 9\n";
     assert!(rt; text.as_str().ends_with(end), "{text}");
     Ok(())
 }

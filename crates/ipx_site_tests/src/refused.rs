@@ -5,8 +5,8 @@ use ipx_site::{ConfigError, PortConfig, read_host, read_site, silent_of};
 
 /// A router with two ports, one on a wire and one for clients of ipxnet, and what it hears by hand.
 const SITE: &str = "\
-status = \"/run/ipx/hq.prom\"
-tables = \"/run/ipx/hq.tables\"
+metrics_file = \"/run/ipx/hq.prom\"
+tables_file = \"/run/ipx/hq.tables\"
 
 [[port]]
 network = \"00000001\"
@@ -22,12 +22,12 @@ address = \"10.1.0.1\"
 peers = [\"10.1.0.20\"]
 
 [[port]]
-kind = \"frames\"
+kind = \"ethernet\"
 network = \"00000033\"
-frame = \"802.3\"
+encapsulation = \"802.3\"
 address = \"127.0.0.1\"
 udp_port = 24002
-ends = [\"127.0.0.1:24001\", \"127.0.0.1:24003\"]
+remotes = [\"127.0.0.1:24001\", \"127.0.0.1:24003\"]
 
 [[port]]
 kind = \"ipxnet\"
@@ -39,14 +39,14 @@ peers = [\"198.51.100.7\", \"203.0.113.9\"]
 [[route]]
 network = \"000000aa\"
 port = 1
-next = \"198.51.100.7\"
+next_hop = \"198.51.100.7\"
 
 [[service]]
 type = \"0640\"
 name = \"BACKUP\"
-at = \"00000011 00000a010014 4002\"
+ipx_address = \"00000011 00000a010014 4002\"
 port = 2
-next = \"10.1.0.20\"
+next_hop = \"10.1.0.20\"
 ";
 
 const HOST: &str = "\
@@ -56,7 +56,7 @@ router = \"10.1.0.1\"
 socket = \"4002\"
 peers = [\"10.1.0.2\", \"10.1.0.21\"]
 routers = [\"10.1.0.2\"]
-from = [\"00000022 00000a02001e\", \"00000033\"]
+allow = [\"00000022 00000a02001e\", \"00000033\"]
 ";
 
 /// A key that a host does not have.

@@ -124,6 +124,6 @@ fn refused_batch(rt: HostRuntime) {
 #[test]
 fn refused_metrics(rt: HostRuntime) {
     if let Ok(text) = METRICS.text(rt.alloc()) {
-        assert!(rt; text.as_str().ends_with("ipx_seconds 22\n"));
+        assert!(rt; text.as_str().ends_with("ipx_uptime_seconds 22\n"));
     }
 }

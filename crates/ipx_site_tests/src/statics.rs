@@ -15,12 +15,12 @@ address = \"192.0.2.10\"
 cost = 6
 peers = [\"198.51.100.7\", \"192.0.2.10\", \"203.0.113.9\"]
 [[port]]
-kind = \"frames\"
+kind = \"ethernet\"
 network = \"00000022\"
-frame = \"802.2\"
+encapsulation = \"802.2\"
 address = \"127.0.0.1\"
 udp_port = 24002
-ends = [\"127.0.0.1:24001\"]
+remotes = [\"127.0.0.1:24001\"]
 node = \"02:00:00:00:00:22\"
 [[port]]
 kind = \"ipxnet\"
@@ -35,30 +35,30 @@ const ENTRIES: &str = "\
 [[service]]
 type = \"0640\"
 name = \"BACKUP\"
-at = \"00000011 00000a010014 4002\"
+ipx_address = \"00000011 00000a010014 4002\"
 port = 1
-next = \"198.51.100.7\"
+next_hop = \"198.51.100.7\"
 [[route]]
 network = \"000000aa\"
 port = 1
-next = \"198.51.100.7\"
+next_hop = \"198.51.100.7\"
 [[route]]
 network = \"000000aa\"
 port = 2
-next = \"02:00:00:00:00:33\"
+next_hop = \"02:00:00:00:00:33\"
 hops = 14
 ticks = 3
 [[route]]
 network = \"fffffffd\"
 port = 1
-next = \"198.51.100.7\"
+next_hop = \"198.51.100.7\"
 hops = 2
 [[service]]
 type = \"FFFE\"
 name = \"!~abcdefghijklmnopqrstuvwxyzabcdefghijklmnopqrs\"
-at = \"000000aa 000000000001 ffff\"
+ipx_address = \"000000aa 000000000001 ffff\"
 port = 2
-next = \"02:00:00:00:00:33\"
+next_hop = \"02:00:00:00:00:33\"
 hops = 3
 ";
 
@@ -173,7 +173,7 @@ fn routes(alloc: Global, count: u32) -> Result<String, AllocError> {
     for place in 0..count {
         let network = 0x1000 + place;
         let route = format!(in alloc;
-            "[[route]]\nport = 1\nnext = \"203.0.113.9\"\nnetwork = \"{network:08x}\"\n"
+            "[[route]]\nport = 1\nnext_hop = \"203.0.113.9\"\nnetwork = \"{network:08x}\"\n"
         )?;
         text.push_str(&route)?;
     }
@@ -199,7 +199,7 @@ fn reads_256_routes(rt: HostRuntime) -> Result<(), AllocError> {
 }
 
 /// A route up to its network, and what follows with what is printed of it.
-const ROUTE: &str = "[[route]]\nport = 1\nnext = \"198.51.100.7\"\n";
+const ROUTE: &str = "[[route]]\nport = 1\nnext_hop = \"198.51.100.7\"\n";
 
 const ROUTES: [(&str, &str); 11] = [
     ("network = \"000000aa\"", "none"),
@@ -233,53 +233,53 @@ const ROUTES: [(&str, &str); 11] = [
     ),
     (
         "network = \"000000aa\"\nname = \"A\"",
-        "route 1: name is no key here: the keys are port, next, network, hops and ticks",
+        "route 1: name is no key here: the keys are port, next_hop, network, hops and ticks",
     ),
     (
-        "network = \"000000aa\"\n[[route]]\nport = 1\nnext = \"203.0.113.9\"\nnetwork = \"000000aa\"",
+        "network = \"000000aa\"\n[[route]]\nport = 1\nnext_hop = \"203.0.113.9\"\nnetwork = \"000000aa\"",
         "none",
     ),
     (
-        "network = \"000000aa\"\n[[route]]\nport = 1\nnext = \"198.51.100.7\"\nnetwork = \"000000aa\"",
-        "route 2: port, next and network are those of route 1",
+        "network = \"000000aa\"\n[[route]]\nport = 1\nnext_hop = \"198.51.100.7\"\nnetwork = \"000000aa\"",
+        "route 2: port, next_hop and network are those of route 1",
     ),
 ];
 
 /// By whom a route to AA is heard, and what is printed of it.
 const NEXT: [(&str, &str); 8] = [
-    ("port = 2\nnext = \"02:00:00:00:00:33\"", "none"),
+    ("port = 2\nnext_hop = \"02:00:00:00:00:33\"", "none"),
     (
-        "port = 4\nnext = \"198.51.100.7\"",
-        "route 1: port is to be the number of a port here of kind \"rfc1234\" or \"frames\", as 1",
+        "port = 4\nnext_hop = \"198.51.100.7\"",
+        "route 1: port is to be the number of a port here of kind \"rfc1234\" or \"ethernet\", as 1",
     ),
     (
-        "port = 3\nnext = \"198.51.100.7\"",
-        "route 1: port is to be the number of a port here of kind \"rfc1234\" or \"frames\", as 1",
+        "port = 3\nnext_hop = \"198.51.100.7\"",
+        "route 1: port is to be the number of a port here of kind \"rfc1234\" or \"ethernet\", as 1",
     ),
     (
-        "next = \"198.51.100.7\"",
-        "route 1: port is missing: it is to be the number of a port here of kind \"rfc1234\" or \"frames\", as 1",
+        "next_hop = \"198.51.100.7\"",
+        "route 1: port is missing: it is to be the number of a port here of kind \"rfc1234\" or \"ethernet\", as 1",
     ),
     (
         "port = 1",
-        "route 1: next is missing: it is to be another node of the port's network: an IP address among its peers, as \"198.51.100.7\", or on a wire a station, as \"02:00:00:00:00:33\"",
+        "route 1: next_hop is missing: it is to be another node of the port's network: an IP address among its peers, as \"198.51.100.7\", or on a wire a station, as \"02:00:00:00:00:33\"",
     ),
     (
-        "port = 1\nnext = \"198.51.100.8\"",
-        "route 1: next is to be another node of the port's network: an IP address among its peers, as \"198.51.100.7\", or on a wire a station, as \"02:00:00:00:00:33\"",
+        "port = 1\nnext_hop = \"198.51.100.8\"",
+        "route 1: next_hop is to be another node of the port's network: an IP address among its peers, as \"198.51.100.7\", or on a wire a station, as \"02:00:00:00:00:33\"",
     ),
     (
-        "port = 1\nnext = \"192.0.2.10\"",
-        "route 1: next is to be another node of the port's network: an IP address among its peers, as \"198.51.100.7\", or on a wire a station, as \"02:00:00:00:00:33\"",
+        "port = 1\nnext_hop = \"192.0.2.10\"",
+        "route 1: next_hop is to be another node of the port's network: an IP address among its peers, as \"198.51.100.7\", or on a wire a station, as \"02:00:00:00:00:33\"",
     ),
     (
-        "port = 2\nnext = \"02:00:00:00:00:22\"",
-        "route 1: next is to be another node of the port's network: an IP address among its peers, as \"198.51.100.7\", or on a wire a station, as \"02:00:00:00:00:33\"",
+        "port = 2\nnext_hop = \"02:00:00:00:00:22\"",
+        "route 1: next_hop is to be another node of the port's network: an IP address among its peers, as \"198.51.100.7\", or on a wire a station, as \"02:00:00:00:00:33\"",
     ),
 ];
 
 /// A service up to its type, and what follows with what is printed of it.
-const SERVICE: &str = "[[service]]\nport = 1\nnext = \"198.51.100.7\"\n";
+const SERVICE: &str = "[[service]]\nport = 1\nnext_hop = \"198.51.100.7\"\n";
 
 const SERVICES: [(&str, &str); 9] = [
     (
@@ -303,20 +303,20 @@ const SERVICES: [(&str, &str); 9] = [
         "service 1: name is to be 1 to 47 characters of ASCII that print, without blanks, as \"BACKUP\"",
     ),
     (
-        "type = \"0640\"\nname = \"A\"\nat = \"00000011 00000a010014\"",
-        "service 1: at is to be a network, a node and a socket, as \"00000011 00000a010014 4002\"",
+        "type = \"0640\"\nname = \"A\"\nipx_address = \"00000011 00000a010014\"",
+        "service 1: ipx_address is to be a network, a node and a socket, as \"00000011 00000a010014 4002\"",
     ),
     (
-        "type = \"0640\"\nname = \"A\"\nat = \"00000011 01000a010014 4002\"",
-        "service 1: at is to be a network, a node and a socket, as \"00000011 00000a010014 4002\"",
+        "type = \"0640\"\nname = \"A\"\nipx_address = \"00000011 01000a010014 4002\"",
+        "service 1: ipx_address is to be a network, a node and a socket, as \"00000011 00000a010014 4002\"",
     ),
     (
-        "type = \"0640\"\nname = \"A\"\nat = \"00000011 00000a010014 4002\"\nhops = 0",
+        "type = \"0640\"\nname = \"A\"\nipx_address = \"00000011 00000a010014 4002\"\nhops = 0",
         "service 1: hops is to be a number from 1 to 14, as 1",
     ),
     (
-        "type = \"0640\"\nname = \"A\"\nat = \"00000011 00000a010014 4002\"\nticks = 1",
-        "service 1: ticks is no key here: the keys are port, next, type, name, at and hops",
+        "type = \"0640\"\nname = \"A\"\nipx_address = \"00000011 00000a010014 4002\"\nticks = 1",
+        "service 1: ticks is no key here: the keys are port, next_hop, type, name, ipx_address and hops",
     ),
 ];
 
@@ -350,13 +350,13 @@ fn lines_of_services(rt: HostRuntime) -> Result<(), AllocError> {
 /// A service of one name and type stands once for a neighbour, wherever it is.
 #[test]
 fn line_of_a_service_again(rt: HostRuntime) -> Result<(), AllocError> {
-    let service = "type = \"0640\"\nname = \"A\"\nat = \"000000";
+    let service = "type = \"0640\"\nname = \"A\"\nipx_address = \"000000";
     let entries = format!(in rt.alloc();
         "{SERVICE}{service}11 00000a010014 4002\"\n{SERVICE}{service}12 00000a010014 4003\"\n"
     )?;
     assert_eq!(rt;
         line(rt.alloc(), &entries)?.as_str(),
-        "service 2: port, next, type and name are those of service 1"
+        "service 2: port, next_hop, type and name are those of service 1"
     );
     Ok(())
 }

@@ -15,23 +15,23 @@ address = \"10.1.0.1\"
 peers = []
 
 [[port]]
-kind = \"frames\"
+kind = \"ethernet\"
 network = \"00000022\"
-frame = \"802.2\"
+encapsulation = \"802.2\"
 address = \"127.0.0.1\"
 udp_port = 24002
-ends = [\"127.0.0.1:24001\", \"127.0.0.1:24003\"]
+remotes = [\"127.0.0.1:24001\", \"127.0.0.1:24003\"]
 
 [[port]]
-kind = \"frames\"
+kind = \"ethernet\"
 network = \"00000033\"
-frame = \"ethernet-ii\"
+encapsulation = \"ethernet-ii\"
 address = \"192.0.2.10\"
 udp_port = 258
 cost = 6
-ends = [\"198.51.100.7:65535\"]
+remotes = [\"198.51.100.7:65535\"]
 node = \"02:00:00:00:0A:fe\"
-hub = false
+switch = false
 ";
 
 /// The port on a wire with this index.
@@ -110,77 +110,77 @@ fn reads_addresses_on_ethernet(rt: HostRuntime) {
 /// A wire up to its ends, and what follows with what is printed of it.
 const START: &str = "\
 [[port]]
-kind = \"frames\"
+kind = \"ethernet\"
 network = \"00000022\"
-frame = \"snap\"
+encapsulation = \"snap\"
 address = \"127.0.0.1\"
 udp_port = 24002
 ";
 
 const ETHERNET: [(&str, &str); 17] = [
-    ("ends = [\"127.0.0.1:24001\"]", "none"),
+    ("remotes = [\"127.0.0.1:24001\"]", "none"),
     (
         "",
-        "port 1: ends is missing: it is to be a list of 1 to 256 places, as [\"127.0.0.1:24001\"]",
+        "port 1: remotes is missing: it is to be a list of 1 to 256 places, as [\"127.0.0.1:24001\"]",
     ),
     (
-        "ends = []",
-        "port 1: ends is to be a list of 1 to 256 places, as [\"127.0.0.1:24001\"]",
+        "remotes = []",
+        "port 1: remotes is to be a list of 1 to 256 places, as [\"127.0.0.1:24001\"]",
     ),
     (
-        "ends = \"127.0.0.1:24001\"",
-        "port 1: ends is to be a list of 1 to 256 places, as [\"127.0.0.1:24001\"]",
+        "remotes = \"127.0.0.1:24001\"",
+        "port 1: remotes is to be a list of 1 to 256 places, as [\"127.0.0.1:24001\"]",
     ),
     (
-        "ends = [\"127.0.0.1\"]",
-        "port 1: ends is to be a list of 1 to 256 places, as [\"127.0.0.1:24001\"]",
+        "remotes = [\"127.0.0.1\"]",
+        "port 1: remotes is to be a list of 1 to 256 places, as [\"127.0.0.1:24001\"]",
     ),
     (
-        "ends = [\"127.0.0.1:24001\", \"0.0.0.0:24001\"]",
-        "port 1: ends is to be a list of 1 to 256 places, as [\"127.0.0.1:24001\"]",
+        "remotes = [\"127.0.0.1:24001\", \"0.0.0.0:24001\"]",
+        "port 1: remotes is to be a list of 1 to 256 places, as [\"127.0.0.1:24001\"]",
     ),
     (
-        "ends = [\"127.0.0.1:0\"]",
-        "port 1: ends is to be a list of 1 to 256 places, as [\"127.0.0.1:24001\"]",
+        "remotes = [\"127.0.0.1:0\"]",
+        "port 1: remotes is to be a list of 1 to 256 places, as [\"127.0.0.1:24001\"]",
     ),
     (
-        "ends = [\"127.0.0.1:65536\"]",
-        "port 1: ends is to be a list of 1 to 256 places, as [\"127.0.0.1:24001\"]",
+        "remotes = [\"127.0.0.1:65536\"]",
+        "port 1: remotes is to be a list of 1 to 256 places, as [\"127.0.0.1:24001\"]",
     ),
     (
-        "ends = [\"127.0.0.1:24001\"]\nnode = \"020000000022\"",
+        "remotes = [\"127.0.0.1:24001\"]\nnode = \"020000000022\"",
         "port 1: node is to be the address of one station, as \"02:00:00:00:00:22\"",
     ),
     (
-        "ends = [\"127.0.0.1:24001\"]\nnode = \"02-00-00-00-00-22\"",
+        "remotes = [\"127.0.0.1:24001\"]\nnode = \"02-00-00-00-00-22\"",
         "port 1: node is to be the address of one station, as \"02:00:00:00:00:22\"",
     ),
     (
-        "ends = [\"127.0.0.1:24001\"]\nnode = \"01:00:00:00:00:22\"",
+        "remotes = [\"127.0.0.1:24001\"]\nnode = \"01:00:00:00:00:22\"",
         "port 1: node is to be the address of one station, as \"02:00:00:00:00:22\"",
     ),
     (
-        "ends = [\"127.0.0.1:24001\"]\nnode = \"00:00:00:00:00:00\"",
+        "remotes = [\"127.0.0.1:24001\"]\nnode = \"00:00:00:00:00:00\"",
         "port 1: node is to be the address of one station, as \"02:00:00:00:00:22\"",
     ),
     (
-        "ends = [\"127.0.0.1:24001\"]\nhub = 1",
-        "port 1: hub is to be true or false",
+        "remotes = [\"127.0.0.1:24001\"]\nswitch = 1",
+        "port 1: switch is to be true or false",
     ),
     (
-        "hub = 1\nnode = 1\nends = [\"127.0.0.1:24001\"]",
+        "switch = 1\nnode = 1\nremotes = [\"127.0.0.1:24001\"]",
         "port 1: node is to be the address of one station, as \"02:00:00:00:00:22\"",
     ),
     (
-        "ends = 1\nwire = 1\npeers = []",
-        "port 1: peers is no key of kind \"frames\": its keys are kind, network, frame, address, udp_port, cost, ends, node, hub",
+        "remotes = 1\nwire = 1\npeers = []",
+        "port 1: peers is no key of kind \"ethernet\": its keys are kind, network, encapsulation, address, udp_port, cost, remotes, node, switch",
     ),
     (
-        "ends = 1\npeers = []\nend = []",
-        "port 1: end is no key here: the keys are kind, network, address, udp_port, cost, for kind = \"rfc1234\" also peers, routers and accept, for kind = \"frames\" frame, ends, node and hub, for kind = \"ipxnet\" node, clients, accept, peers and join",
+        "remotes = 1\npeers = []\nend = []",
+        "port 1: end is no key here: the keys are kind, network, address, udp_port, cost, for kind = \"rfc1234\" also peers, routers and accept, for kind = \"ethernet\" encapsulation, remotes, node and switch, for kind = \"ipxnet\" node, clients, accept, peers and join",
     ),
     (
-        "ends = [\"127.0.0.1:24001\"]\nhub = true\nnode = \"02:00:00:00:00:22\"",
+        "remotes = [\"127.0.0.1:24001\"]\nswitch = true\nnode = \"02:00:00:00:00:22\"",
         "none",
     ),
 ];
@@ -198,30 +198,30 @@ fn lines_of_ethernet(rt: HostRuntime) -> Result<(), AllocError> {
 const KINDS: [(&str, &str); 7] = [
     (
         "peer = 1\nkind = \"ethernet\"",
-        "port 1: kind is to be \"rfc1234\", \"frames\" or \"ipxnet\"",
+        "port 1: kind is to be \"rfc1234\", \"ethernet\" or \"ipxnet\"",
     ),
     (
         "kind = 1",
-        "port 1: kind is to be \"rfc1234\", \"frames\" or \"ipxnet\"",
+        "port 1: kind is to be \"rfc1234\", \"ethernet\" or \"ipxnet\"",
     ),
     (
         "kind = \"rfc1234\"\nnode = 1",
         "port 1: node is no key of kind \"rfc1234\": its keys are kind, network, address, udp_port, cost, peers, routers, accept",
     ),
     (
-        "frame = \"802.3\"",
-        "port 1: frame is no key of kind \"rfc1234\": its keys are kind, network, address, udp_port, cost, peers, routers, accept",
+        "encapsulation = \"802.3\"",
+        "port 1: encapsulation is no key of kind \"rfc1234\": its keys are kind, network, address, udp_port, cost, peers, routers, accept",
     ),
     (
-        "kind = \"frames\"\nnetwork = \"00000022\"",
-        "port 1: frame is missing: it is to be \"802.3\", \"802.2\", \"snap\" or \"ethernet-ii\"",
+        "kind = \"ethernet\"\nnetwork = \"00000022\"",
+        "port 1: encapsulation is missing: it is to be \"802.3\", \"802.2\", \"snap\" or \"ethernet-ii\"",
     ),
     (
-        "kind = \"frames\"\nnetwork = \"00000022\"\nframe = \"raw\"",
-        "port 1: frame is to be \"802.3\", \"802.2\", \"snap\" or \"ethernet-ii\"",
+        "kind = \"ethernet\"\nnetwork = \"00000022\"\nencapsulation = \"raw\"",
+        "port 1: encapsulation is to be \"802.3\", \"802.2\", \"snap\" or \"ethernet-ii\"",
     ),
     (
-        "kind = \"frames\"\nnetwork = \"00000022\"\nframe = \"802.3\"\naddress = \"127.0.0.1\"",
+        "kind = \"ethernet\"\nnetwork = \"00000022\"\nencapsulation = \"802.3\"\naddress = \"127.0.0.1\"",
         "port 1: udp_port is missing: it is to be a number from 1 to 65535, as 213",
     ),
 ];
@@ -237,7 +237,7 @@ fn lines_of_kinds(rt: HostRuntime) -> Result<(), AllocError> {
 
 /// A list of so many ends.
 fn ends(rt: &HostRuntime, count: usize) -> Result<String, AllocError> {
-    let mut text = format!(in rt.alloc(); "{START}ends = [")?;
+    let mut text = format!(in rt.alloc(); "{START}remotes = [")?;
     for _ in 0..count {
         text.push_str("\"127.0.0.1:24001\", ")?;
     }
@@ -261,7 +261,7 @@ fn lines_of_many_ends(rt: HostRuntime) -> Result<(), AllocError> {
 #[test]
 fn lines_of_twins_of_two_kinds(rt: HostRuntime) -> Result<(), AllocError> {
     let first = "[[port]]\nnetwork = \"00000022\"\naddress = \"10.1.0.1\"\npeers = []\n";
-    let text = format!(in rt.alloc(); "{first}{START}ends = [\"127.0.0.1:24001\"]\n")?;
+    let text = format!(in rt.alloc(); "{first}{START}remotes = [\"127.0.0.1:24001\"]\n")?;
     assert_eq!(rt;
         site_line(rt.alloc(), text.as_str())?.as_str(),
         "port 2: network 00000022 is already that of port 1"

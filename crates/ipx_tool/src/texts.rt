@@ -137,13 +137,13 @@ Reads the file SITE, in TOML: a table [[port]] for each network that it joins, w
   routers   those of them that may pass on and tell, each where it is left out
   accept    \"peers\", as where it is left out, or \"any\": who is heard
 or for a wire, which is an Ethernet frame in each datagram,
-  kind      \"frames\"
+  kind      \"ethernet\"
   network, address and cost as above
-  frame     \"802.3\", \"802.2\", \"snap\" or \"ethernet-ii\"
+  encapsulation  \"802.3\", \"802.2\", \"snap\" or \"ethernet-ii\"
   udp_port  where frames come in
-  ends      a list of places, as [\"127.0.0.1:24001\"]: where they come from and go
+  remotes   a list of places, as [\"127.0.0.1:24001\"]: where they come from and go
   node      its address, as \"02:00:00:00:00:22\"; made of its place where it is left out
-  hub       true, as where it is left out: each end hears the others; or false
+  switch    true, as where it is left out: each end hears the others; or false
 or for clients of DOSBox, which connect by ipxnet,
   kind      \"ipxnet\"
   network, address, cost and node as above
@@ -154,19 +154,19 @@ or for clients of DOSBox, which connect by ipxnet,
   join      a list of places, as [\"198.51.100.7:2130\"]: other routers' such ports,
             on the same network, whose players are in one game with those here
 and before the first port, if figures are wanted, or what it knows,
-  status    the name of a file of figures, which it writes anew every ten seconds
-  tables    the name of another, of what it knows, which it writes so too: networks and
+  metrics_file  the name of a file of figures, which it writes anew every ten seconds
+  tables_file  the name of another, of what it knows, which it writes so too: networks and
             services read it
 and behind the ports, of what speaks no RIP or SAP, up to 256 tables [[route]] with
   port      the number of a port, the first of which is 1
-  next      an IP address among its peers, or on a wire a station: where it is reached
+  next_hop  an IP address among its peers, or on a wire a station: where it is reached
   network   eight hex digits
   hops      1 to 14, 1 where it is left out
   ticks     the port's cost where it is left out
-and [[service]] with port, next and hops as above and
+and [[service]] with port, next_hop and hops as above and
   type      four hex digits
   name      1 to 47 characters without blanks
-  at        a network, a node and a socket, as \"00000011 00000a010014 4002\"
+  ipx_address  a network, a node and a socket, as \"00000011 00000a010014 4002\"
 It tells each port, and what becomes known or is lost, on standard error.";
 
 pub const ROUTE_STATUSES: &str = "\
@@ -194,7 +194,7 @@ Reads the file HOST, in TOML:
   buffers   of each connection, 1024 where it is left out
   peers     a list of IP addresses: who is heard besides the router
   routers   those of them that are routers too
-  from      a list of networks, each alone or with a node: who may connect
+  allow     a list of networks, each alone or with a node: who may connect
   accept    \"peers\", as where it is left out, or \"any\": who is heard
 The bytes of each message go to standard output when it is whole, with nothing between them. Up to
 16 connections are held at once. Where standard output is not read, those who send have to wait, and
