@@ -61,7 +61,8 @@ class Process:
     """A process, what it wrote, and its end. Only the main thread starts one, since the system ends
     it with the thread that did."""
 
-    def __init__(self, world, name, words, stdin=False, stdout=subprocess.PIPE, stderr=None, environment=None, program=None):
+    def __init__(self, world, name, words, stdin=False, stdout=subprocess.PIPE, stderr=None, environment=None, program=None,
+                 before=None):
         self.name = name
         self.log = world.path(f"{name}.{len(world.processes)}.log")
         self.out = bytearray()
@@ -72,7 +73,7 @@ class Process:
             self.started = time.monotonic()
             self.popen = subprocess.Popen(
                 [program or world.program, *words], stdin=subprocess.PIPE if stdin else subprocess.DEVNULL,
-                stdout=stdout, stderr=stderr or log, bufsize=0, preexec_fn=die_with_the_parent,
+                stdout=stdout, stderr=stderr or log, bufsize=0, preexec_fn=lambda: (die_with_the_parent(), before and before()),
                 env={**os.environ, **(environment or {})})
         world.processes.append(self)
         self.reader = threading.Thread(target=self.read, daemon=True)

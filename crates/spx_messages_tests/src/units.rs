@@ -23,7 +23,7 @@ fn counts(alloc: Global, length: usize) -> Result<(usize, usize), Fail> {
 
 /// Messages of 0, 534, 535 and 65,535 bytes.
 #[test]
-fn cut_rows(rt: HostRuntime) -> Result<(), Fail> {
+fn cut_into_units(rt: HostRuntime) -> Result<(), Fail> {
     assert_eq!(rt; counts(rt.alloc(), 0)?, (1, 0));
     assert_eq!(rt; counts(rt.alloc(), 534)?, (1, 534));
     assert_eq!(rt; counts(rt.alloc(), 535)?, (2, 1));
