@@ -1,10 +1,10 @@
 -- The origins of parcels, by the entries that make and carry them, are those of their marks.
-use Rattle.std.proofs.Common.{◌≡◌, ◌+◌, ◌<◌, ℕ, zero, suc, List, [], ◌∷◌, ◌++◌, length, get_or, Some, None, refl, sym, ◌∙◌, ap, subst, arith, length-append, inl, inr}
+use Rattle.std.proofs.Common.{◌≡◌, ◌<◌, ℕ, zero, suc, List, [], ◌∷◌, ◌++◌, length, get_or, Some, refl, sym, ◌∙◌, ap, subst, arith, length-append, inl, inr}
 use Rattle.std.specs.Prelude.{Contains}
 use Rattle.std.proofs.lemmas.Bool.{cases_lt}
 use Rattle.std.proofs.lemmas.List.Elements.{Contains-append_right}
 use Rattle.spx_theory.specs.LogPremises.{ComesFrom, IsMadeBy, carried, itself, makes_new}
-use Rattle.spx_theory.specs.Note.{Note, Opened, Accepted, Joined, HandsIn, HandsOut, TakesUnit, AsksEnd, Got, Released, SendsUnit, SendsAgain, SendsSystem, Told, Carried, Injected}
+use Rattle.spx_theory.specs.Note.{Note, SendsUnit, SendsAgain, SendsSystem, Told, Carried, Injected}
 use Rattle.spx_theory.specs.Numbered.{IsNumbered}
 use Rattle.spx_theory.specs.Peers.{end_of}
 use Rattle.spx_theory.specs.Scan.{ByRouter, BySystem, ByUnit, FromOutside, Maker, Mark, Scan, one_further, scan, seen, seen_all, unread}

@@ -1,5 +1,5 @@
 -- The peers of ends, by the entries that made and joined them, are those of their roles.
-use Rattle.std.proofs.Common.{◌≡◌, ◌+◌, ◌<◌, ◌⊎◌, ℕ, zero, Bool, true, false, List, [], ◌∷◌, ◌++◌, length, set, Option, Some, None, refl, sym, ◌∙◌, ap, subst, arith, inl, inr, length-append}
+use Rattle.std.proofs.Common.{◌≡◌, ◌<◌, ◌⊎◌, ℕ, zero, Bool, true, false, List, [], ◌∷◌, ◌++◌, length, set, Option, Some, None, refl, sym, ◌∙◌, ap, subst, arith, inl, inr, length-append}
 use Rattle.std.specs.Prelude.{Contains, slice_get}
 use Rattle.std.proofs.lemmas.Bool.{cond-true, cond-false}
 use Rattle.std.proofs.lemmas.List.Elements.{Contains-append_right}
@@ -11,23 +11,22 @@ use Rattle.spx_units.specs.Message.{MessageView}
 use Rattle.spx_theory.specs.Below.{LawsBelow}
 use Rattle.spx_theory.specs.Deeds.{Deed, DoesDeed, Dials, Accepts, Reads, OwesReply, Paces, AsksAgain, Gives, Rests, Sends, Takes, Overruns, Closes, Releases, Carries, Tells, Injects, Reached, begun, happened}
 use Rattle.spx_theory.specs.LogPremises.{AreConnected, IsSystemOf}
-use Rattle.spx_theory.specs.Note.{Note, Opened, Accepted, Joined, HandsIn, HandsOut, TakesUnit, AsksEnd, Got, Released, SendsUnit, SendsAgain, SendsSystem, Told, Carried, Injected}
+use Rattle.spx_theory.specs.Note.{Note, Opened, Accepted, Joined, HandsOut, TakesUnit, Got, SendsUnit, SendsAgain, SendsSystem, Told, Carried, Injected}
 use Rattle.spx_theory.specs.Numbered.{IsNumbered}
-use Rattle.spx_theory.specs.PacketsOnWay.{note_of, notes_of, out_notes}
+use Rattle.spx_theory.specs.PacketsOnWay.{note_of, out_notes}
 use Rattle.spx_theory.specs.Peers.{AreJoined}
 use Rattle.spx_theory.specs.Scan.{ByRouter, BySystem, ByUnit, FromOutside, Maker, Mark, Role, Scan, asker, joined_by, mark_of, no_role, role_of, scan, seen, seen_all, unread}
 use Rattle.spx_theory.specs.Scene.{Scene}
 use Rattle.spx_theory.proofs.Along.{facts_along}
 use Rattle.spx_theory.proofs.Fields.{log_of}
-use Rattle.spx_theory.proofs.Folding.{seen_all-append}
 use Rattle.spx_theory.proofs.Growing.{mark_in, marks_after}
 use Rattle.spx_theory.proofs.Held.{set_here}
 use Rattle.spx_theory.proofs.HeldReads.{notes_cases}
 use Rattle.spx_theory.proofs.Lists.{get_here, get_last, get_set}
-use Rattle.spx_theory.proofs.LogOrigins.{all_sourced, contains_at, later, mark_later, mark_maker, numbered_in, parts, system_stands}
+use Rattle.spx_theory.proofs.LogOrigins.{all_sourced, later, mark_later, mark_maker, numbered_in, parts, system_stands}
 use Rattle.spx_theory.proofs.NextFacts.{FactsAt}
 use Rattle.spx_theory.proofs.Numbering.{AllNumbered, are_numbered}
-use Rattle.spx_theory.proofs.PairPremises.{RoleLater, all_grew}
+use Rattle.spx_theory.proofs.PairPremises.{all_grew}
 use Rattle.spx_theory.proofs.Tied.{mark_at}
 
 -- ---- from roles to entries
@@ -291,7 +290,7 @@ unjoined_called log marks who r says unjoined =
       | inr others ↦ elim others [ inl j ↦ j.called | inr a ↦ absurd (cc (a.joined, unjoined)) ]
     ]
 
-numbered_front : (s : Scan) (xs ys : List Note) → AllNumbered s (xs ++ ys) → AllNumbered s xs
+pub numbered_front : (s : Scan) (xs ys : List Note) → AllNumbered s (xs ++ ys) → AllNumbered s xs
 numbered_front s [] ys all = tt
 numbered_front s (x ∷ xs) ys all = (all.0, numbered_front (seen s x) xs ys all.1)
 

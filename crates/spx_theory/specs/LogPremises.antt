@@ -1,7 +1,7 @@
 -- The premises of the headline, and what they rest on, as the entries of a log say them: where a
 -- packet comes from, which ends are peers (Novell SPX: request and reply), and what ends read.
 use Rattle.std.specs.Prelude.{ℕ, ◌≡◌, ◌<◌, ◌+◌, ◌==◌, ◌⊎◌, List, [], ◌∷◌, ◌++◌, Option, Some, None, Contains, if◌then◌else◌}
-use Rattle.spx_theory.specs.Note.{Note, Opened, Accepted, Joined, Got, SendsUnit, SendsAgain, SendsSystem, Told, Carried, Injected}
+use Rattle.spx_theory.specs.Note.{Note, Accepted, Joined, Got, SendsUnit, SendsAgain, SendsSystem, Told, Carried, Injected}
 
 -- the parcel that an entry makes anew: sent by an end, told by a router, or injected
 abbrev pub makes_new : Note → Option ℕ
