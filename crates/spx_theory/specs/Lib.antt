@@ -21,3 +21,5 @@ pub mod Scene
 pub mod SentUnits
 pub mod UnitsOfEnds
 pub mod InSteps
+pub mod LogPremises
+pub mod PremisesRead

@@ -11,6 +11,7 @@
 mod below;
 mod ends;
 mod laws;
+mod premises;
 
 pub use ends::{
     ends_are_told, ends_stay, entries_tell_ends, gone_sends_nothing, numbers_are_in_order,
@@ -22,3 +23,4 @@ pub use laws::{
     pairs_take_steps, peers_are_in_step, peers_are_named, peers_are_there, peers_follow,
     positions_are_greatest, routers_alter_hops_alone, units_are_sent_in_order, within_allocation,
 };
+pub use premises::{between_is_read, origins_are_read, peers_are_read, premises_are_read};
