@@ -1,5 +1,5 @@
 -- With `once` a host hears one connection out, which is the first that is heard.
-use Rattle.std.proofs.Common.{◌≡◌, ◌≢◌, ◌∙◌, ◌⊎◌, ◌+◌, ◌-◌, ◌<◌, ◌==◌, ◌||◌, ◌&&◌, inl, inr, slice_get, ℕ, zero, suc, Bool, true, false, not, cond, List, [], ◌∷◌, ◌++◌, length, set, get_or, Option, Some, None, map, Result, Ok, Err, refl, sym, ap, subst, arith, append_assoc, append-nil}
+use Rattle.std.proofs.Common.{◌≡◌, ◌≢◌, ◌∙◌, ◌⊎◌, ◌-◌, ◌<◌, ◌==◌, ◌||◌, ◌&&◌, inl, inr, slice_get, ℕ, zero, suc, Bool, true, false, not, cond, List, [], ◌∷◌, ◌++◌, length, get_or, Option, Some, None, map, Result, Ok, Err, refl, sym, ap, subst, arith, append_assoc, append-nil}
 use Rattle.std.proofs.lemmas.Iterator.Adapters.{position_from-zero}
 use Rattle.std.proofs.lemmas.List.Elements.{All-append, All-cons, All-nil, All-push}
 use Rattle.std.proofs.lemmas.List.Folds.{list_any-append}
@@ -12,10 +12,10 @@ use Rattle.ipx_wire.specs.declared.address.Address.{Address}
 use Rattle.spx_messages.specs.EndpointView.{EndpointView, Held, held_at}
 use Rattle.spx_messages.specs.Taking.{TakenView, Nothing, Part, PeerEnd, Whole, take_end}
 use Rattle.spx_messages.specs.declared.fault.EndFault.{EndFault}
-use Rattle.ipx_host.specs.Hosting.{HearsAndNotesAll, HearsOneOut, Host, IsOneIfHeard, NotesIf, Serves, StepView, Steps, StepsWithoutStop, WritesAndPasses, end_of, takes_of}
+use Rattle.ipx_host.specs.Hosting.{HearsOneOut, Host, IsOneIfHeard, NotesIf, Serves, StepView, Steps, StepsWithoutStop, WritesAndPasses, end_of, takes_of}
 use Rattle.ipx_host.specs.Passing.{PassesEach, PassesFrom, Take, TakesWhileOpen, held_after, phase_after, phase_with, takes_after, takes_each, takes_from}
 use Rattle.ipx_host.specs.SessionActions.{ends, is_unheard, phase_heard}
-use Rattle.ipx_host.specs.Sessions.{Admits, Asks as IsAsked, DoesNoted, HasNoPlaceFor, LetsLinkGo, LetsLinksGo, has_spoken, heard_by, is_ended, is_overdue, once_heard, session_of}
+use Rattle.ipx_host.specs.Sessions.{Admits, Asks as IsAsked, DoesNoted, LetsLinkGo, LetsLinksGo, has_spoken, heard_by, is_ended, is_overdue, once_heard, session_of}
 use Rattle.ipx_host.specs.Tending.{DoesAction, TendsFirst, TendsOn}
 use Rattle.ipx_host.specs.declared.listening.ListenOutcome.{ListenOutcome}
 use Rattle.ipx_host.specs.declared.listening.ListenOutcome.TheVariants as Stops
@@ -27,7 +27,7 @@ use Rattle.ipx_host.specs.declared.sessions.Phase.TheVariants as Standings
 use Rattle.ipx_host.specs.declared.sessions.Session.{Session}
 use Rattle.ipx_host.specs.declared.sessions.SessionAction.{SessionAction}
 use Rattle.ipx_host.specs.declared.sessions.SessionAction.TheVariants.{Stays, Asks, Over, GivenUp}
-use Rattle.ipx_host.proofs.Holding.{after_heard, any_at, any_ended, any_heard_by, any_removed, any_set, asked_ends, asked_unheard, done_ends, each_heard, either, none_heard, or_left, parted_some, same_some}
+use Rattle.ipx_host.proofs.Holding.{after_heard, any_at, any_ended, any_heard_by, any_removed, any_set, asked_ends, asked_unheard, done_ends, each_heard, none_heard, or_left, parted_some, same_some}
 
 -- ---- one connection alone, of an id and from an address, which was heard
 
@@ -56,8 +56,8 @@ or_none true y e = absurd (cc)
 or_none false y e = (refl, e)
 
 none_by : (x y : Bool) → (x ≡ true → y ≡ true) → y ≡ false → x ≡ false
-none_by true y up no = sym (up refl) ∙ no
-none_by false y up no = refl
+none_by true y up off = sym (up refl) ∙ off
+none_by false y up off = refl
 
 -- ---- what is heard, where one is the only one
 
@@ -180,26 +180,26 @@ abbrev take_by : ℕ → Result TakenView EndFault → Take
 take_by id r = record { id = id; gave = r }
 
 tells_push : (id : ℕ) (takes : List Take) (r : Result TakenView EndFault) (s : Phase) → ends s ≡ false → All IsNoEnd takes → Tells id (ends (phase_with r s)) (takes ++ take_by id r ∷ [])
-tells_push id takes (Ok Nothing) s no all = subst (λ b. Tells id b (takes ++ take_by id (Ok Nothing) ∷ [])) (sym no) (All-push IsNoEnd takes (take_by id (Ok Nothing)) all (λ e. cc))
-tells_push id takes (Ok Part) s no all = subst (λ b. Tells id b (takes ++ take_by id (Ok Part) ∷ [])) (sym no) (All-push IsNoEnd takes (take_by id (Ok Part)) all (λ e. cc))
-tells_push id takes (Ok (Whole m)) s no all = subst (λ b. Tells id b (takes ++ take_by id (Ok (Whole m)) ∷ [])) (sym no) (All-push IsNoEnd takes (take_by id (Ok (Whole m))) all (λ e. cc))
-tells_push id takes (Ok PeerEnd) s no all = (takes, refl, all)
-tells_push id takes (Err f) s no all = subst (λ b. Tells id b (takes ++ take_by id (Err f) ∷ [])) (sym no) (All-push IsNoEnd takes (take_by id (Err f)) all (λ e. cc))
+tells_push id takes (Ok Nothing) s off all = subst (λ b. Tells id b (takes ++ take_by id (Ok Nothing) ∷ [])) (sym off) (All-push IsNoEnd takes (take_by id (Ok Nothing)) all (λ e. cc))
+tells_push id takes (Ok Part) s off all = subst (λ b. Tells id b (takes ++ take_by id (Ok Part) ∷ [])) (sym off) (All-push IsNoEnd takes (take_by id (Ok Part)) all (λ e. cc))
+tells_push id takes (Ok (Whole m)) s off all = subst (λ b. Tells id b (takes ++ take_by id (Ok (Whole m)) ∷ [])) (sym off) (All-push IsNoEnd takes (take_by id (Ok (Whole m))) all (λ e. cc))
+tells_push id takes (Ok PeerEnd) s off all = (takes, refl, all)
+tells_push id takes (Err f) s off all = subst (λ b. Tells id b (takes ++ take_by id (Err f) ∷ [])) (sym off) (All-push IsNoEnd takes (take_by id (Err f)) all (λ e. cc))
 
 not_ended : (s : Phase) → s ≢ Standings.Ended → ends s ≡ false
-not_ended Standings.New no = refl
-not_ended Standings.NewProbed no = refl
-not_ended Standings.Open no = refl
-not_ended Standings.KeepaliveSent no = refl
-not_ended Standings.Ended no = absurd (no refl)
+not_ended Standings.New other = refl
+not_ended Standings.NewProbed other = refl
+not_ended Standings.Open other = refl
+not_ended Standings.KeepaliveSent other = refl
+not_ended Standings.Ended other = absurd (other refl)
 
 tells_after : (id n : ℕ) (h : Held) (s : Phase) (before : List Take) → TakesWhileOpen n h s → Tells id (ends s) before → Tells id (ends (phase_after n h s)) (before ++ takes_after id n h)
-tells_after id zero h s before open told = subst (Tells id (ends s)) (sym (append-nil before)) told
-tells_after id (suc n) h s before open told =
+tells_after id zero h s before opened told = subst (Tells id (ends s)) (sym (append-nil before)) told
+tells_after id (suc n) h s before opened told =
     let at = phase_after n h s in
     let r = (take_end (held_after n h)).0 in
-    let no : ends at ≡ false = not_ended at open.1 in
-    let so : All IsNoEnd (before ++ takes_after id n h) = subst (λ b. Tells id b (before ++ takes_after id n h)) no (tells_after id n h s before open.0 told) in
+    let no : ends at ≡ false = not_ended at opened.1 in
+    let so : All IsNoEnd (before ++ takes_after id n h) = subst (λ b. Tells id b (before ++ takes_after id n h)) no (tells_after id n h s before opened.0 told) in
     subst (Tells id (ends (phase_with r at))) (append_assoc before (takes_after id n h) (take_by id r ∷ [])) (tells_push id (before ++ takes_after id n h) r at no so)
 
 abbrev IsOf : ℕ → Take → Type 0
@@ -443,7 +443,7 @@ ends_so old new tells peers s steps st so =
     let t = st.tidied in
     let f = t.5 in
     let among : So t.3 (steps ++ s ∷ []) = tended_so t.0 st.moved t.2 st.still t.3 (steps ++ s ∷ []) t.4 (heard_and_passed old new (Some Stops.Ended) tells peers s steps st so) in
-    last_so t.3 f.place f.session (steps ++ s ∷ []) f.there (done_ends t.2.moment f.session f.place f.tends.0 t.2.endpoint new.endpoint t.3 new.sessions f.tends.2) among
+    last_so t.3 f.place f.session (steps ++ s ∷ []) f.there (done_ends t.2.moment f.session f.place f.tends.0 t.2.endpoint new.core.endpoint t.3 new.sessions f.tends.2) among
 
 pub heard_out : {K : Type 0} (old new : Host K) (once : Bool) (tells : K → ℕ → K → Type 0) (peers : Peers) (steps : List StepView)
     → once ≡ true → old.sessions ≡ [] → Serves old new once Stops.Ended tells peers steps → (id : ℕ) × (from : Address) × HearsOneOut steps id from

@@ -74,7 +74,7 @@ some_more old new x z a d was now i p = (
 
 -- ---- one that was heard is the only one, and its end leaves nothing to write
 
-pub either : (b : Bool) → (b ≡ true) ⊎ (b ≡ false)
+either : (b : Bool) → (b ≡ true) ⊎ (b ≡ false)
 either true = inl refl
 either false = inr refl
 

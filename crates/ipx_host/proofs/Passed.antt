@@ -43,6 +43,7 @@ from_start (Some h) x a c =
     (0, refl, subst (λ (l : List ℕ). Writes l x a a) (sym (append-nil x)) (writes_none x a), refl, tt)
 
 takes_start : (o : Option Held) (x : List ℕ) (a : Option (List ℕ)) (c : Session) → takes_from o o x x a a c c (from_start o x a c) ≡ []
+unfolding from_start
 takes_start None x a c = refl
 takes_start (Some h) x a c = refl
 
@@ -68,6 +69,7 @@ from_written (Some h) after x y z a b d c c' p wrote =
 
 takes_written : (o after : Option Held) (x y z : List ℕ) (a b d : Option (List ℕ)) (c c' : Session) (p : PassesFrom o after x y a b c c') (wrote : Writes y z b d)
     → takes_from o after x z a d c c' (from_written o after x y z a b d c c' p wrote) ≡ takes_from o after x y a b c c' p
+unfolding from_written
 takes_written None after x y z a b d c c' p wrote = refl
 takes_written (Some h) after x y z a b d c c' p wrote = refl
 
@@ -107,9 +109,7 @@ from_taken (Some h) old new output output' x a b c c' c'' none not p there took 
       takes.held.held,
       (front, sym (append_assoc x (bodies_after count h) body) ∙ ap (λ l. l ++ body) all ∙ ap (λ l. front ++ l) (sym is), p.2.2),
       takes.noted ∙ ap (λ (k : Session). record k { phase = phase_with (take_end now).0 k.phase }) p.3,
-      p.4,
-      subst (λ (k : Session). k.phase ≢ Standings.Ended) p.3 not,
-      takes.something,
+      (p.4, subst (λ (k : Session). k.phase ≢ Standings.Ended) p.3 not, takes.something),
     )
 
 behind_taken : (o : Option Held) (old new : EndpointView) (output output' : Outlet) (c c' : Session)
