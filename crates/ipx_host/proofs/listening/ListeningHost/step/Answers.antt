@@ -17,8 +17,8 @@ returns-in_err-reap-clause-steps g c =
     let stop = c.in_err-reap.field-0.0 in
     let p = err_from_is_err_and c.from_residual-in_err-reap.result c.from_residual-in_err-reap.ensures.1 in
     rw (p.1, p.2) (
-      moves.0,
+      record { there = heard.sessions.held.items; takes = moves.0 },
       tidied_to (listening_at old (held c.args.writer.now))
-          (listening_at (record heard { station = station; sessions = new }) (held c.pass.new.writer)) old.sessions.once stop _ _ moves.0
+          (listening_at (record heard { station = station; sessions = new }) (held c.pass.new.writer)) old.sessions.once stop _ _ _
           (stepped old.station.clock heard.station.clock heard.station.clock station.clock old.station.core heard.station.core core station.core old.sessions.held.items heard.sessions.held.items passed.held.items new.held.items old.sessions.output heard.sessions.output passed.output new.output old.sessions.once passed.once (held c.args.writer.now) (held c.pass.new.writer) (Some stop) _ _ moves.0 c.hear-turn.ensures.hears c.hear-turn.ensures.output refl (c.pass.ensures.once ∙ c.hear-turn.ensures.once) moves.1 c.reap.ensures.clock c.reap.ensures.output c.in_err-reap.ensures.tidies),
     )
