@@ -1,6 +1,6 @@
-//! Which packets of a router leave first where it gives what it forwards first, with literal values.
+//! Which packets of a router leave first, with literal values: in order, or first what is forwarded.
 
-use crate::fixture::{one_peer_each, one_turn, two_ports_by_priority};
+use crate::fixture::{one_peer_each, one_turn, two_ports, two_ports_by_priority};
 use ipx_carrier::{Core, Datagrams, MemoryDatagrams, PriorityRouterCore};
 use ipx_wire::Node;
 use std::alloc::Global;
@@ -15,7 +15,7 @@ const REQUEST: &[u8] =
     b"ffff0028000100000011ffffffffffff04530000001100007f00000304530001ffffffffffffffff";
 
 /// Lets port 0 hear bytes so many times.
-fn hear(alloc: Global, core: &mut PriorityRouterCore, text: &[u8], times: u32) -> Result<(), Fail> {
+fn hear<C: Core>(alloc: Global, core: &mut C, text: &[u8], times: u32) -> Result<(), Fail> {
     let bytes = hex::decode(alloc, text)?;
     for _ in 0..times {
         if core.ports() > 0 {
@@ -38,13 +38,28 @@ fn kind_of(given: Option<(usize, Node, usize)>) -> char {
 }
 
 /// The kinds of what so many calls give.
-fn given(alloc: Global, core: &mut PriorityRouterCore, calls: u32) -> Result<String, Fail> {
+fn given<C: Core>(alloc: Global, core: &mut C, calls: u32) -> Result<String, Fail> {
     let mut kinds = String::new(alloc);
     let mut room = [0; 1536];
     for _ in 0..calls {
         kinds.push(kind_of(core.next(alloc, 0, &mut room)?))?;
     }
     Ok(kinds)
+}
+
+/// Of one queue all leave in the order in which they came to wait, the six packets of its start at the
+/// first call, and none is given only once none waits.
+#[test]
+fn what_came_first_leaves_first(rt: HostRuntime) -> Result<(), Fail> {
+    let alloc = rt.alloc();
+    let mut core = two_ports(alloc)?;
+    hear(alloc, &mut core, REQUEST, 9)?;
+    hear(alloc, &mut core, ONWARD, 2)?;
+    hear(alloc, &mut core, REQUEST, 1)?;
+    assert_eq!(rt; given(alloc, &mut core, 11)?.as_str(), "rrrrrrrrrff");
+    hear(alloc, &mut core, ONWARD, 1)?;
+    assert_eq!(rt; given(alloc, &mut core, 9)?.as_str(), "rssssssf-");
+    Ok(())
 }
 
 /// Fourteen replies and the six packets of its start leave in order, eight in a row, and what is
