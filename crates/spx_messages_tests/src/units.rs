@@ -108,7 +108,12 @@ fn end_between_two_units(rt: HostRuntime) -> Result<(), Fail> {
     }
     let mut inbox = Inbox::new(alloc);
     let mut got = vec![in alloc;]?;
-    for unit in units.iter().take(1).chain(ends.iter()).chain(units.iter().skip(1)) {
+    for unit in units
+        .iter()
+        .take(1)
+        .chain(ends.iter())
+        .chain(units.iter().skip(1))
+    {
         got.push(inbox.push(alloc, unit)?)?;
     }
     let none = got.iter().take(2).all(Option::is_none);
