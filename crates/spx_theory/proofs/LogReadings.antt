@@ -32,7 +32,7 @@ unit_counted : (e : ℕ) (n : Note) → times e (unit_sender n) ≡ unit_by e n
 unit_counted e (SendsUnit who parcel) = omega arith
 unit_counted e n = refl
 
-units_counted : (e : ℕ) (ns : List Note) → times e (senders ns) ≡ units_sent e ns
+pub units_counted : (e : ℕ) (ns : List Note) → times e (senders ns) ≡ units_sent e ns
 units_counted e [] = refl
 units_counted e (n ∷ ns) = omega (arith, times-append e (unit_sender n) (senders ns), unit_counted e n, units_counted e ns)
 

@@ -9,11 +9,11 @@ use Rattle.spx_theory.specs.LogPremises.{ComesFrom, HavePeer, IsMadeBy, IsSentBy
 use Rattle.spx_theory.specs.Note.{Note, Got, Injected}
 use Rattle.spx_theory.specs.PremisesRead.{BetweenIsRead, IsMarked, OriginsAreRead, PeersAreRead, PremisesAreRead}
 use Rattle.spx_theory.specs.Peers.{ArePeersIn, FromOwnPeer, IsFresh, NothingInjected, Premises, end_of, units_between}
-use Rattle.spx_theory.specs.Scan.{FromOutside, Mark, Reading, Scan, is_now, scan, unread}
+use Rattle.spx_theory.specs.Scan.{FromOutside, Mark, Reading, Scan, is_now, role_of, scan, unread}
 use Rattle.spx_theory.specs.Scene.{Scene}
 use Rattle.spx_theory.proofs.LogOrigins.{all_sourced, comes_marked, contains_at, end_stands, injected_stands, made_makes, mark_later, mark_maker, numbered_in, parts}
 use Rattle.spx_theory.proofs.LogReadings.{IsReadAt, after_first, between_counts, comes_later, first_after, joined_split, reading_at, reading_from, reading_there}
-use Rattle.spx_theory.proofs.LogRoles.{AllOnce, are_once, connected_joined, joined_connected, numbered_front}
+use Rattle.spx_theory.proofs.LogRoles.{AllOnce, are_once, connected_joined, end_made, end_there, joined_connected, numbered_front}
 use Rattle.spx_theory.proofs.Numbering.{AllNumbered, are_numbered}
 use Rattle.spx_theory.proofs.Tied.{mark_at}
 
@@ -41,14 +41,14 @@ origins_are_read laws s reached =
       read = λ origin parcel passed. (to_mark s.log a.all origin parcel passed, from_mark s.log a.all origin parcel passed);
     }
 
-to_peers : (log : List Note) → AllNumbered unread log → AllOnce unread log → (c d : ℕ) → HavePeer log c d → ArePeersIn (scan log) c d
+pub to_peers : (log : List Note) → AllNumbered unread log → AllOnce unread log → (c d : ℕ) → HavePeer log c d → ArePeersIn (scan log) c d
 to_peers log all once c d peers =
     elim peers [
       | inl one ↦ inl (connected_joined log all once c d one)
       | inr two ↦ inr (connected_joined log all once d c two)
     ]
 
-from_peers : (log : List Note) → AllNumbered unread log → (c d : ℕ) → ArePeersIn (scan log) c d → HavePeer log c d
+pub from_peers : (log : List Note) → AllNumbered unread log → (c d : ℕ) → ArePeersIn (scan log) c d → HavePeer log c d
 from_peers log all c d peers =
     elim peers [
       | inl one ↦ inl (joined_connected log all c d one)
@@ -63,6 +63,7 @@ peers_are_read laws found s reached =
     let all = (are_numbered laws reached).all in
     let once = are_once laws reached in
     record {
+      ends = λ who. (λ e. end_there s.log all who e.0 e.1, λ within. ((role_of (scan s.log) who).buffers, end_made s.log all who within));
       one = λ c d e first other.
           let at = (found (scan s.log) c d).there (to_peers s.log all once c d first) in
           let at' = (found (scan s.log) c e).there (to_peers s.log all once c e other) in
@@ -172,7 +173,7 @@ module _ (log : List Note) (all : AllNumbered unread log) (once : AllOnce unread
       let counts = between_counts log all before between after making who parcel origin passed is (made_makes making peer origin made).0 comes in
       (omega (arith, counts who, near.0), omega (arith, counts peer, near.1))
 
-  to_premises : LogPremises log → Premises log
+  pub to_premises : LogPremises log → Premises log
   to_premises p = record { nothing_injected = to_injected p.nothing_injected; from_own_peer = to_own p.own_peer; fresh = to_recent p.recent }
 
   from_premises : Premises log → LogPremises log

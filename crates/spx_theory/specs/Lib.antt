@@ -23,3 +23,4 @@ pub mod UnitsOfEnds
 pub mod InSteps
 pub mod LogPremises
 pub mod PremisesRead
+pub mod LogHeadline

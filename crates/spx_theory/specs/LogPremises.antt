@@ -1,7 +1,23 @@
 -- The premises of the headline, and what they rest on, as the entries of a log say them: where a
 -- packet comes from, which ends are peers (Novell SPX: request and reply), and what ends read.
 use Rattle.std.specs.Prelude.{ℕ, ◌≡◌, ◌<◌, ◌+◌, ◌==◌, ◌⊎◌, List, [], ◌∷◌, ◌++◌, Option, Some, None, Contains, if◌then◌else◌}
-use Rattle.spx_theory.specs.Note.{Note, Accepted, Joined, Got, SendsUnit, SendsAgain, SendsSystem, Told, Carried, Injected}
+use Rattle.spx_theory.specs.Note.{Note, Opened, Accepted, Joined, Got, SendsUnit, SendsAgain, SendsSystem, Told, Carried, Injected}
+
+-- the entry opens the end, or makes it by a request, with so many buffers
+abbrev pub MakesEnd : Note → ℕ → ℕ → Type 0
+MakesEnd n who buffers =
+    ((host : ℕ) × (n ≡ Opened who host buffers))
+    ⊎ ((parcel : ℕ) × (n ≡ Accepted who parcel buffers))
+
+-- there is an end of this number, made with so many buffers
+pub record IsEndOf (log : List Note) (who buffers : ℕ) : Type 0 where
+  pub making : Note
+  pub stands : Contains log making
+  pub makes : MakesEnd making who buffers
+
+-- there is an end of this number
+abbrev pub IsEnd : List Note → ℕ → Type 0
+IsEnd log who = (buffers : ℕ) × IsEndOf log who buffers
 
 -- the parcel that an entry makes anew: sent by an end, told by a router, or injected
 abbrev pub makes_new : Note → Option ℕ

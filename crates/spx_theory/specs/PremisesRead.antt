@@ -1,7 +1,7 @@
 -- What is read off a log from its beginning is what its entries say: the origins of parcels, the
 -- peers of ends, the units between a sending and a reading, and the premises of the headline.
 use Rattle.std.specs.Prelude.{ℕ, ◌≡◌, ◌<◌, ◌↔◌, List, ◌∷◌, ◌++◌, length, Some, slice_get}
-use Rattle.spx_theory.specs.LogPremises.{AreConnected, ComesFrom, HavePeer, LogPremises, ReadsNothingInjected, ReadsOwnPeer, ReadsRecent, makes_new, units_sent}
+use Rattle.spx_theory.specs.LogPremises.{AreConnected, ComesFrom, HavePeer, IsEnd, LogPremises, ReadsNothingInjected, ReadsOwnPeer, ReadsRecent, makes_new, units_sent}
 use Rattle.spx_theory.specs.Note.{Note, Got}
 use Rattle.spx_theory.specs.Peers.{AreJoined, FromOwnPeer, IsFresh, NothingInjected, Premises, units_between}
 use Rattle.spx_theory.specs.Scan.{Reading, mark_of, scan}
@@ -24,6 +24,8 @@ pub record OriginsAreRead (s : Scene) : Type 0 where
       → ComesFrom s.log origin parcel passed ↔ IsMarked s.log origin parcel passed
 
 pub record PeersAreRead (s : Scene) : Type 0 where
+  -- the ends that there are
+  pub ends : (who : ℕ) → IsEnd s.log who ↔ (who < length (scan s.log).roles)
   -- each end has at most one peer
   pub one : (c d e : ℕ) → HavePeer s.log c d → HavePeer s.log c e → d ≡ e
   pub read : (c d : ℕ) → AreConnected s.log c d ↔ AreJoined (scan s.log) c d

@@ -1,11 +1,13 @@
 //! Laws of the premises: what is read off a log from its beginning is what its entries say.
 
 ghost use Rattle.spx_theory.specs.Deeds.{Reached};
+ghost use Rattle.spx_theory.specs.LogHeadline.{LogHeadline};
 ghost use Rattle.spx_theory.specs.PremisesRead.{BetweenIsRead, OriginsAreRead, PeersAreRead, PremisesAreRead};
 ghost use Rattle.spx_theory.specs.Scene.{Scene};
 
 use crate::below::laws_below;
-use crate::ends::{numbers_are_in_order, peer_is_found};
+use crate::ends::peer_is_found;
+use crate::laws::{alone_reads_nothing, peers_are_in_step, within_allocation};
 
 /// Each parcel has one origin, to which the entries of routers that carried it lead.
 pub fn origins_are_read()
@@ -35,4 +37,14 @@ pub fn premises_are_read()
     ensures { (s : Scene) → Reached s → PremisesAreRead s }
 {
     laws_below();
+}
+
+/// The headline, in the words of the entries alone.
+pub fn headline_of_log()
+    ensures { (s : Scene) → Reached s → LogHeadline s.log }
+{
+    laws_below();
+    peers_are_in_step();
+    alone_reads_nothing();
+    within_allocation();
 }
