@@ -9,7 +9,7 @@ use Rattle.ipx_site.specs.KindPorts.{ArePortsBound}
 use Rattle.ipx_site.specs.Loading.{IsFileText}
 use Rattle.ipx_site.specs.PortsView.{kept_in_ports, ways_in}
 use Rattle.ipx_site.specs.RouterRounds.{IsRound, SleepsBehind}
-use Rattle.ipx_site.specs.RouterRuns.{EndsRouter, EndsRouting, Rounds, RunsRouter, RunsTo, StartsBy, TakesRound}
+use Rattle.ipx_site.specs.RoutingRuns.{EndsRouter, EndsRouting, Rounds, RunsRouter, RunsTo, StartsBy, TakesRound}
 use Rattle.ipx_site.specs.Site.{IsSiteText}
 use Rattle.ipx_site.specs.SiteMarks.{marks_in, numbers_come}
 use Rattle.ipx_site.specs.SitePorts.{access_by, router_ports}

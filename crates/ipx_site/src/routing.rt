@@ -9,7 +9,7 @@ ghost use Rattle.ipx_carrier.specs.Counting.{counted};
 ghost use Rattle.ipx_site.specs.KindPorts.{ArePortsBound, datagram_ports, port_indices_of};
 ghost use Rattle.ipx_site.specs.StaticLists.{HearsAtPorts};
 ghost use Rattle.ipx_site.specs.StaticNeighbours.{IsToHear};
-ghost use Rattle.ipx_site.specs.RouterRuns.{EndsRouter, EndsRouting, RunsRouter, RunsTo};
+ghost use Rattle.ipx_site.specs.RoutingRuns.{EndsRouter, EndsRouting, RunsRouter, RunsTo};
 ghost use Rattle.ipx_site.specs.declared.running_router.RunningRouter.{RunningRouter as Running};
 ghost use Rattle.ipx_site.specs.SitePorts.{AccessListPorts, access_by, access_of, heard_at_port, named, router_ports, site_peers, udp_ports};
 

@@ -10,7 +10,7 @@ ghost use Rattle.ipx_site.specs.KnownFile.{TellsKnown};
 ghost use Rattle.ipx_site.specs.SitePorts.{access_by};
 ghost use Rattle.ipx_site.specs.PortsView.{kept_in_ports, ways_in};
 ghost use Rattle.ipx_site.specs.RouterRounds.{AsksAgain, IsRound, SleepsBehind};
-ghost use Rattle.ipx_site.specs.RouterRuns.{RunsTo};
+ghost use Rattle.ipx_site.specs.RoutingRuns.{RunsTo};
 ghost use Rattle.ipx_site.specs.SiteMarks.{marks_in, numbers_come};
 ghost use Rattle.ipx_site.specs.Steady.{NeverGoesBack, StopsThere};
 
