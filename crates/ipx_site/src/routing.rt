@@ -352,9 +352,13 @@ fn route_started<R: Net + Log + Files + SystemClock>(
     ensures unstarted { OnErr started.entry (is_ok result ≡ false) }
     ensures runs { IfOk started.entry (λ s. (last : Running R) × RunsTo s last (is_ok result)) }
 {
-    let mut router = started?;
-    router.run(rt, alloc)?;
-    Ok(())
+    match started {
+        Ok(mut router) => {
+            router.run(rt, alloc)?;
+            Ok(())
+        }
+        Err(fault) => Err(fault),
+    }
 }
 
 /// Runs a router of a file for as long as it can.
@@ -366,7 +370,7 @@ fn route<R: Net + Log + Files + SystemClock>(
     requires own { All IsOwnNetwork (router_ports site.ports.items) }
     requires there { HearsAtPorts site }
     // If it started, it ran from there.
-    ensures runs { (is_ok result ≡ false) ⊎ RunsRouter R site (is_ok result) }
+    ensures { (is_ok result ≡ false) ⊎ RunsRouter R site (is_ok result) }
 {
     let started = start(rt, alloc, site);
     route_started(rt, alloc, started)
