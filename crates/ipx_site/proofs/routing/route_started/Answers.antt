@@ -1,4 +1,4 @@
-use Rattle.std.proofs.Common.{false, true}
+use Rattle.std.proofs.Common.{false, rules, true}
 use Rattle.std.proofs.lemmas.Result.{err_from_is_err_and}
 use Rattle.ipx_site.proofs.RanRounds.{ran_so}
 use Rattle.ipx_site.proofs.routing.route_started.Goals as goal
