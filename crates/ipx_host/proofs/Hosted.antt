@@ -10,7 +10,7 @@ use Rattle.ipx_site.specs.AllowedPeers.{named_in}
 use Rattle.ipx_site.specs.declared.host.HostConfig.{HostConfig}
 use Rattle.ipx_wire.specs.declared.address.Socket.{Socket}
 use Rattle.spx_messages.specs.EndpointView.{EndpointView, Held, buffers_at, held_at}
-use Rattle.ipx_host.specs.Hosting.{HearsAndNotesAll, Host, ListensWell, WritesAndPasses, MovesSome, Serves, ServesWell, StepView, Steps, StepsWithoutStop, StepsTo, bytes_of, host, takes_of}
+use Rattle.ipx_host.specs.Hosting.{HearsAndNotesAll, Host, ListensWell, WritesAndPasses, MovesSome, Serves, ServesWell, StepView, Steps, StepsWithoutStop, StepsTo, WriterBreaksOff, bytes_of, host, takes_of}
 use Rattle.ipx_host.specs.HostOutput.{Writes, left_of}
 use Rattle.ipx_host.specs.Passing.{PassesEach, PassesFrom, PassesSome, Take, bodies_after, bodies_of, held_after, left_with, takes_after, takes_each, takes_from}
 use Rattle.ipx_host.specs.ListenOutcomes.{parted, stop_status}
@@ -171,6 +171,17 @@ stepped {K} clock clock1 clock2 clock3 core core1 core2 core3 cs cs1 cs2 cs3 o o
           (subst (λ (k : Outlet). WritesAndPasses core1 core2 cs1 cs2 (left_of o1) (left_of k) a b takes) (sym unwritten) moves);
       tidied = subst (λ (k : Bool). Tidies k core2 core3 cs2 cs3 stop) same tidies;
     }
+
+-- and one that the writer breaks off
+pub broken_off : {K : Type 0} (clock clock1 : K) (core core1 core2 : PacedHostCore) (cs cs1 cs2 : List Session) (o o1 o2 : Outlet) (once : Bool) (a b : Option (List ℕ))
+    (tells : K → ℕ → K → Type 0) (peers : Peers) (takes : List Take) → HearsAndNotesAll clock clock1 core core1 cs cs1 once tells peers → o1 ≡ o
+    → MovesSome core1 core2 cs1 cs2 (left_of o1) (left_of o2) a b takes
+    → WriterBreaksOff (host clock core cs (left_of o) a) (host clock1 core2 cs2 (left_of o2) b) once tells peers (record { there = cs1; takes = takes })
+broken_off clock clock1 core core1 core2 cs cs1 cs2 o o1 o2 once a b tells peers takes hears unheard moves = record {
+  heard = core1;
+  hears = hears;
+  moves = subst (λ (k : Outlet). MovesSome core1 core2 cs1 cs2 (left_of k) (left_of o2) a b takes) unheard moves;
+}
 
 -- a step that is tidied stops the host so
 pub tidied_to : {K : Type 0} (old new : Host K) (once : Bool) (stop : ListenOutcome) (tells : K → ℕ → K → Type 0) (peers : Peers) (step : StepView)

@@ -9,7 +9,7 @@ use Rattle.ipx_site.specs.KindPorts.{ArePortsBound}
 use Rattle.ipx_site.specs.Loading.{IsFileText}
 use Rattle.ipx_site.specs.PortsView.{kept_in_ports, ways_in}
 use Rattle.ipx_site.specs.RouterRounds.{IsRound, SleepsBehind}
-use Rattle.ipx_site.specs.RouterRuns.{EndsRouter, EndsRouting, Rounds, RunsRouter, RunsTo, StartsBy, TakesRound}
+use Rattle.ipx_site.specs.RoutingRuns.{EndsRouter, EndsRouting, Rounds, RunsRouter, RunsTo, StartsBy, TakesRound}
 use Rattle.ipx_site.specs.Site.{IsSiteText}
 use Rattle.ipx_site.specs.SiteMarks.{marks_in, numbers_come}
 use Rattle.ipx_site.specs.SitePorts.{access_by, router_ports}
@@ -52,6 +52,11 @@ rounds_more n first before last run one well =
     let next : suc n ≡ n + 1 = omega arith in
     subst (λ (k : ℕ). Rounds k first last) next (before, run, one, well)
 
+-- a router that was started ran so
+pub ran_so : {R E : Type 0} (started : Result (RunningRouter R) E) (s last : RunningRouter R) (ok : Bool) → started ≡ Ok s → RunsTo s last ok
+    → IfOk started (λ s. (last : RunningRouter R) × RunsTo s last ok)
+ran_so {R} {E} started s last ok is runs = subst (λ (r : Result (RunningRouter R) E). IfOk r (λ s. (last : RunningRouter R) × RunsTo s last ok)) (sym is) (last, runs)
+
 -- what was started and ran is a run of a router of its file
 pub ran : {R E : Type 0} (site : RouterConfig) (started : Result (RunningRouter R) E) (ok : Bool) → IfOk started (λ s. StartsBy site s) → OnErr started (ok ≡ false)
     → IfOk started (λ s. (last : RunningRouter R) × RunsTo s last ok) → (ok ≡ false) ⊎ RunsRouter R site ok
@@ -70,13 +75,13 @@ started_by site (Err e) ports statics queriers bound clock asked = tt
 
 -- its status
 pub ends_by : {R : Type 0} (site : RouterConfig) (ok : Bool) (status : ℕ) → status ≡ (if ok then 0 else 1) → (ok ≡ false) ⊎ RunsRouter R site ok → EndsRouter R site status
-ends_by site true status is (inl no) = absurd (cc)
-ends_by site false status is (inl no) = inl is
+ends_by site true status is (inl off) = absurd (cc)
+ends_by site false status is (inl off) = inl is
 ends_by site ok status is (inr run) = inr (ok, is, run)
 
 -- and that of a file which was loaded, or was not
-pub ends_loaded : (R : Type 0) (loaded : Result RouterConfig ℕ) (status : ℕ) → IfErr loaded (λ s. (s ≡ 1) ⊎ (s ≡ 2)) → IfOk loaded (λ s. (text : List ℕ) × IsFileText text × IsSiteText text s)
+pub ends_loaded : {R : Type 0} (loaded : Result RouterConfig ℕ) (status : ℕ) → IfErr loaded (λ s. (s ≡ 1) ⊎ (s ≡ 2)) → IfOk loaded (λ s. (text : List ℕ) × IsFileText text × IsSiteText text s)
     → IfErr loaded (λ s. status ≡ s) → IfOk loaded (λ site. EndsRouter R site status) → EndsRouting R status
-ends_loaded R (Ok site) status fault text unread ends = inr (text.0, site, text.1, text.2, ends)
-ends_loaded R (Err s) status (inl one) text unread ends = inl (inl (unread ∙ one))
-ends_loaded R (Err s) status (inr two) text unread ends = inl (inr (unread ∙ two))
+ends_loaded (Ok site) status fault text unread ends = inr (text.0, site, text.1, text.2, ends)
+ends_loaded (Err s) status (inl one) text unread ends = inl (inl (unread ∙ one))
+ends_loaded (Err s) status (inr two) text unread ends = inl (inr (unread ∙ two))

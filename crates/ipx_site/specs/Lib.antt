@@ -40,4 +40,4 @@ pub mod SiteMarks
 pub mod ClientLog
 pub mod KnownFile
 pub mod ConfigFile
-pub mod RouterRuns
+pub mod RoutingRuns

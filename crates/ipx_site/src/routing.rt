@@ -9,7 +9,7 @@ ghost use Rattle.ipx_carrier.specs.Counting.{counted};
 ghost use Rattle.ipx_site.specs.KindPorts.{ArePortsBound, datagram_ports, port_indices_of};
 ghost use Rattle.ipx_site.specs.StaticLists.{HearsAtPorts};
 ghost use Rattle.ipx_site.specs.StaticNeighbours.{IsToHear};
-ghost use Rattle.ipx_site.specs.RouterRuns.{EndsRouter, EndsRouting, RunsRouter, RunsTo};
+ghost use Rattle.ipx_site.specs.RoutingRuns.{EndsRouter, EndsRouting, RunsRouter, RunsTo};
 ghost use Rattle.ipx_site.specs.declared.running_router.RunningRouter.{RunningRouter as Running};
 ghost use Rattle.ipx_site.specs.SitePorts.{AccessListPorts, access_by, access_of, heard_at_port, named, router_ports, site_peers, udp_ports};
 
@@ -352,9 +352,13 @@ fn route_started<R: Net + Log + Files + SystemClock>(
     ensures unstarted { OnErr started.entry (is_ok result ≡ false) }
     ensures runs { IfOk started.entry (λ s. (last : Running R) × RunsTo s last (is_ok result)) }
 {
-    let mut router = started?;
-    router.run(rt, alloc)?;
-    Ok(())
+    match started {
+        Ok(mut router) => {
+            router.run(rt, alloc)?;
+            Ok(())
+        }
+        Err(fault) => Err(fault),
+    }
 }
 
 /// Runs a router of a file for as long as it can.
@@ -366,7 +370,7 @@ fn route<R: Net + Log + Files + SystemClock>(
     requires own { All IsOwnNetwork (router_ports site.ports.items) }
     requires there { HearsAtPorts site }
     // If it started, it ran from there.
-    ensures runs { (is_ok result ≡ false) ⊎ RunsRouter R site (is_ok result) }
+    ensures { (is_ok result ≡ false) ⊎ RunsRouter R site (is_ok result) }
 {
     let started = start(rt, alloc, site);
     route_started(rt, alloc, started)

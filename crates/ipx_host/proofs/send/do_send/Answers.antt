@@ -1,12 +1,8 @@
 use Rattle.std.proofs.Common.{◌≡◌, ◌<◌, ◌≤◌, ◌⊎◌, ℕ, Bool, true, false, List, Option, Result, Ok, Err, inl, inr, refl, arith}
 use Rattle.std.specs.Prelude.{IfErr, IfOk}
-use Rattle.toml.specs.Data.{Members}
-use Rattle.ipx_site.specs.Fields.{HoldsOr}
 use Rattle.ipx_site.specs.Host.{IsHostText}
 use Rattle.ipx_site.specs.Loading.{IsFileText}
-use Rattle.ipx_site.specs.Values.{IsCount}
 use Rattle.ipx_site.specs.declared.host.HostConfig.{HostConfig}
-use Rattle.ipx_site.specs.declared.key.Key.TheVariants as Key
 use Rattle.ipx_wire.specs.declared.address.Address.{Address}
 use Rattle.ipx_host.specs.Access.{far_address, is_nowhere}
 use Rattle.ipx_host.specs.Sent.{HasBuffers, SendsWholeInput}
@@ -42,12 +38,12 @@ untouched_of X is_nowhere (Ok h) r told few unloaded two = untouched_from X (is_
 untouched_of X is_nowhere (Err s) r told few unloaded two = unloaded.1
 
 -- a file has 1 to 8,192 buffers, or says nothing of them
-in_range : (ms : Members) (n : ℕ) → HoldsOr (IsCount 8192) Key.Buffers ms 1024 n → (0 < n) × (n ≤ 8192)
-in_range ms n (inl p) = (omega (arith, p.1), omega (arith, p.1))
-in_range ms n (inr p) = (omega (arith, p.2.1), p.2.2)
+in_range : {X A : Type 0} {P Q : A → Type 0} (n : ℕ) → (X × (n ≡ 1024)) ⊎ ((d : A) × P d × Q d × (1 ≤ n) × (n ≤ 8192)) → (0 < n) × (n ≤ 8192)
+in_range n (inl p) = (omega (arith, p.1), omega (arith, p.1))
+in_range n (inr p) = (omega (arith, p.3), p.4)
 
 buffers_of : (text : List ℕ) (h : HostConfig) → IsHostText text h → HasBuffers h
-buffers_of text h is = in_range is.0 h.buffers is.2.buffers
+buffers_of text h is = in_range h.buffers is.2.buffers
 
 -- what was sent, and by which file
 sent_of : {K : Type 0} (X : Type 0) (t : Target) (to : Address) (known left : Option (List ℕ)) (tells : K → ℕ → K → Type 0) (loaded : Result HostConfig ℕ) (r : ℕ)

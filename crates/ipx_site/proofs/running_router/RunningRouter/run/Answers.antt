@@ -1,4 +1,4 @@
-use Rattle.std.proofs.Common.{◌∙◌, arith, refl, sym}
+use Rattle.std.proofs.Common.{arith, refl, rules}
 use Rattle.std.proofs.lemmas.Result.{err_from_is_err_and}
 use Rattle.ipx_site.proofs.RanRounds.{rounds_more, took_round}
 use Rattle.ipx_site.proofs.running_router.RunningRouter.run.Goals as goal
@@ -14,8 +14,8 @@ loop-round-preserved g c =
     rounds_more c.loop-round._round c.args.self.now now new c.loop-round.invariant
     (took_round now new c.step.result e.core e.fault e.moments e.transmissions e.peers e.port_indices e.access) (first_of (search rules, cc))
 
-pub returns-in_err-step-clause-runs : goal.returns-in_err-step-clause-runs
-returns-in_err-step-clause-runs g c =
+pub returns-in_err-step : goal.returns-in_err-step
+returns-in_err-step g c =
     let now = c.loop-round.self in
     let new = c.step.new.self in
     let e = c.step.ensures in
@@ -28,5 +28,5 @@ returns-in_err-step-clause-runs g c =
       first_of (search rules, cc),
     )
 
-pub returns-clause-runs : goal.returns-clause-runs
-returns-clause-runs g c = (c.loop-round._round, omega (arith, c.loop-round-test.false, c.loop-round.auto._round-end), c.loop-round.invariant)
+pub returns : goal.returns
+returns g c = (c.loop-round._round, omega (arith, c.loop-round-test.false, c.loop-round.auto._round-end), c.loop-round.invariant)

@@ -1,4 +1,4 @@
-use Rattle.ipx_site.specs.RouterRuns.{Rounds}
+use Rattle.ipx_site.specs.RoutingRuns.{Rounds}
 use Rattle.ipx_site.proofs.running_router.RunningRouter.run.Given as goal
 
 -- so many rounds were taken
