@@ -26,9 +26,9 @@ def words_of(line):
 def port_of(text):
     """The port of a file that has one."""
     table, = tomllib.loads(text)["port"]
-    ends = [(address, int(port)) for address, port in (end.split(":") for end in table["ends"])]
-    return WirePort(table["network"], table["frame"], (table["address"], table["udp_port"]), ends,
-                    table["node"].replace(":", ""), table.get("hub", True), table.get("cost", 1))
+    ends = [(address, int(port)) for address, port in (end.split(":") for end in table["remotes"])]
+    return WirePort(table["network"], table["encapsulation"], (table["address"], table["udp_port"]), ends,
+                    table["node"].replace(":", ""), table.get("switch", True), table.get("cost", 1))
 
 
 def line_of_unit(name, router, end):
