@@ -71,9 +71,9 @@ def of_a_listener(system, number):
     yield from wait(sender.is_over, 40)
     took, status, said = time.monotonic() - since, sender.status(0), sender.said()
     found = LOST.fullmatch(said[0]) if len(said) == 1 else None
-    system.check(f"{name} to a listener: its sender ends with status 1 after 5 to 31 s, and says how much was acknowledged",
+    system.check(f"{name} to a listener: its sender ends with status 1 after 5 to 32 s, and says how much was acknowledged",
                  status == 1 and found and SIZE // 4 <= int(found[1]) <= SIZE // 2 + 1024 * 534 and int(found[2]) == SIZE
-                 and 5 <= took <= 31 and data.startswith(listener.out), f"status {status}, {took:.1f} s, {said}")
+                 and 5 <= took <= 32 and data.startswith(listener.out), f"status {status}, {took:.1f} s, {said}")
     sender.end()
 
 
