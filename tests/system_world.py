@@ -115,22 +115,17 @@ def fragments_of(name):
 
 
 class System:
-    """The run: its world, and what was found and left out so far."""
+    """The run: its world, and what was found so far."""
 
     def __init__(self, program):
         self.world = World(program)
-        self.passed = self.failed = self.left_out = 0
+        self.passed = self.failed = 0
 
     def check(self, name, good, said=""):
         """Counts a check, and says what it found."""
         self.passed, self.failed = self.passed + bool(good), self.failed + (not good)
         print(f"{'ok' if good else 'failed'}: {name}{': ' if said else ''}{said}", flush=True)
         return good
-
-    def leave_out(self, name, why):
-        """Counts a part that can't be done here, and says why."""
-        self.left_out += 1
-        print(f"left out: {name}: {why}", flush=True)
 
     def start(self, name, network, command, *words, **how):
         """Starts the program with a file of the world, in a network."""
