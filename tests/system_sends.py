@@ -40,11 +40,16 @@ def unreachable(system):
     peer = bound_in(pair.far, far, PORT)
     system.router("unreachable", ports(pair, [far, NO_WAY]), PORT)
     router = system.start("unreachable", pair.near, "route")
-    yield from wait(lambda: system.is_written_after("unreachable", 10) and says_refused(router), 25)
-    metrics, got = system.metrics("unreachable"), came(peer)
+    got = []
+
+    def are_alike():
+        got.extend(came(peer))
+        metrics = system.metrics("unreachable")
+        return metrics.get("ipx_uptime_seconds", 0) >= 10 and metrics.get(DEVICE) == metrics.get(HANDED) == len(got) >= 3
+
+    good = yield from wait(are_alike, 35)
     system.check("ENETUNREACH at one of two peers: the other one gets each broadcast, the refused ones are counted",
-                 len(got) >= 3 and metrics.get(DEVICE) == metrics.get(HANDED) == len(got) and not router.is_over(),
-                 f"{len(got)} came, {metrics.get(DEVICE)} refused")
+                 good and not router.is_over(), f"{len(got)} came, {system.metrics('unreachable').get(DEVICE)} refused")
     system.check("ENETUNREACH is told in one line", says_refused(router), str(router.said()[-1:]))
     router.end()
     pair.remove()
@@ -69,12 +74,14 @@ def filtered(system):
     arrived = [size for size in sizes if packet_to(pair, size, hops=1) in found]
     system.check("EPERM by nftables: what it drops is lost, and what comes after it goes out", arrived == [100, 400],
                  f"of {sizes} bytes those of {arrived} arrive")
-    yield from wait(lambda: says_refused(router) and system.metrics("filtered").get(DEVICE, 0) >= 2, 25)
-    yield from wait(lambda: system.is_written_after("filtered", 10), 25)
-    metrics = system.metrics("filtered")
-    found += came(peer)
-    system.check("EPERM: each packet either arrived or is counted", metrics.get(DEVICE, 0) >= 2
-                 and metrics.get(HANDED) == metrics.get(DEVICE) + len(found) and not router.is_over(),
+
+    def are_all_there():
+        found.extend(came(peer))
+        metrics = system.metrics("filtered")
+        return metrics.get(DEVICE, 0) >= 2 and metrics.get(HANDED) == metrics.get(DEVICE) + len(found)
+
+    good, metrics = (yield from wait(are_all_there, 35)), system.metrics("filtered")
+    system.check("EPERM: each packet either arrived or is counted", good and not router.is_over(),
                  f"{metrics.get(HANDED)} handed to the port, {len(found)} came, {metrics.get(DEVICE)} refused")
     system.check("EPERM is told in one line", says_refused(router), str(router.said()[-1:]))
     router.end()
@@ -82,14 +89,14 @@ def filtered(system):
 
 
 def gather(one, size):
-    """What comes to a socket, until a packet of so many bytes does, or for half a second."""
+    """What comes to a socket, until a packet of so many bytes does, or for a second and a half."""
     found = []
 
     def is_there():
         found.extend(came(one))
         return any(len(packet) == size for packet in found)
 
-    yield from wait(is_there, 0.5)
+    yield from wait(is_there, 1.5)
     return found
 
 

@@ -71,9 +71,9 @@ def of_a_listener(system, number):
     yield from wait(sender.is_over, 40)
     took, status, said = time.monotonic() - since, sender.status(0), sender.said()
     found = LOST.fullmatch(said[0]) if len(said) == 1 else None
-    system.check(f"{name} to a listener: its sender ends with status 1 after 5 to 31 s, and says how much was acknowledged",
+    system.check(f"{name} to a listener: its sender ends with status 1 after 5 to 32 s, and says how much was acknowledged",
                  status == 1 and found and SIZE // 4 <= int(found[1]) <= SIZE // 2 + 1024 * 534 and int(found[2]) == SIZE
-                 and 5 <= took <= 31 and data.startswith(listener.out), f"status {status}, {took:.1f} s, {said}")
+                 and 5 <= took <= 32 and data.startswith(listener.out), f"status {status}, {took:.1f} s, {said}")
     sender.end()
 
 
@@ -105,6 +105,31 @@ def of_a_router(system, number):
     router.end()
 
 
+def of_the_only_router(system, number):
+    """The router ends for good: the sender says so within half a minute, the listener has a beginning and goes on."""
+    name, (near, far, listens, sends) = signal.Signals(number).name, addresses(50 + number, 4)
+    port, data, gone = free_port([near, far, listens, sends]), some_bytes(number, SIZE), threading.Event()
+    system.router(f"{name}-only", [("00000011", near, [listens]), ("00000022", far, [sends])], port)
+    system.host(f"{name}-hears", "00000011", listens, near, port)
+    system.host(f"{name}-calls", "00000022", sends, far, port)
+    router, listener = system.start(f"{name}-only", None, "route"), system.start(f"{name}-hears", None, "listen")
+    sender = system.start(f"{name}-calls", None, "send", "00000011", node(listens), "4002", stdin=True)
+    sender.feed([data[:SIZE // 2], gone, data[SIZE // 2:]])
+    yield from wait(lambda: len(listener.out) > SIZE // 4 or sender.is_over(), 10)
+    good, since = (yield from is_ended(router, number)), time.monotonic()
+    gone.set()
+    yield from wait(sender.is_over, 40)
+    took, status, said = time.monotonic() - since, sender.status(0), sender.said()
+    found = LOST.fullmatch(said[0]) if len(said) == 1 else None
+    system.check(f"{name} to the only router: the sender ends with status 1 after 5 to 32 s, the listener goes on", good
+                 and status == 1 and found and int(found[1]) < int(found[2]) == SIZE and 5 <= took <= 32
+                 and not listener.is_over() and data.startswith(listener.out) and len(listener.out) > SIZE // 4,
+                 f"status {status}, {took:.1f} s, {said}, {len(listener.out)} bytes")
+    listener.end()
+    sender.end()
+
+
 def signals(system):
-    """Each of the signals to each of the three, one part for each."""
-    return [part(system, number) for number in SIGNALS for part in (of_a_sender, of_a_listener, of_a_router)]
+    """Each of the signals to each of these, one part for each."""
+    return [part(system, number) for number in SIGNALS
+            for part in (of_a_sender, of_a_listener, of_a_router, of_the_only_router)]

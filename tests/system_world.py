@@ -148,10 +148,6 @@ class System:
     def metrics(self, name):
         return self.world.figures(f"{name}.prom")
 
-    def is_written_after(self, name, seconds):
-        """Whether the metrics of a router are of that many seconds after its start, or later."""
-        return self.metrics(name).get("ipx_uptime_seconds", -1) >= seconds
-
 
 def without(*programs):
     """Why a part can't be done here, where it wants root and these programs; else nothing."""
