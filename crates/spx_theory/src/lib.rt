@@ -23,4 +23,6 @@ pub use laws::{
     pairs_take_steps, peers_are_in_step, peers_are_named, peers_are_there, peers_follow,
     positions_are_greatest, routers_alter_hops_alone, units_are_sent_in_order, within_allocation,
 };
-pub use premises::{between_is_read, headline_of_log, origins_are_read, peers_are_read, premises_are_read};
+pub use premises::{
+    between_is_read, headline_of_log, origins_are_read, peers_are_read, premises_are_read,
+};
