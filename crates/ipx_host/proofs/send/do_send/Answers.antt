@@ -38,12 +38,11 @@ untouched_of X is_nowhere (Ok h) r told few unloaded two = untouched_from X (is_
 untouched_of X is_nowhere (Err s) r told few unloaded two = unloaded.1
 
 -- a file has 1 to 8,192 buffers, or says nothing of them
-in_range : {X A : Type 0} {P Q : A → Type 0} (n : ℕ) → (X × (n ≡ 1024)) ⊎ ((d : A) × P d × Q d × (1 ≤ n) × (n ≤ 8192)) → (0 < n) × (n ≤ 8192)
-in_range n (inl p) = (omega (arith, p.1), omega (arith, p.1))
-in_range n (inr p) = (omega (arith, p.3), p.4)
-
 buffers_of : (text : List ℕ) (h : HostConfig) → IsHostText text h → HasBuffers h
-buffers_of text h is = in_range h.buffers is.2.buffers
+buffers_of text h is = elim is.2.buffers [
+  | inl p ↦ (omega (arith, p.1), omega (arith, p.1))
+  | inr p ↦ (omega (arith, p.2.1), p.2.2)
+]
 
 -- what was sent, and by which file
 sent_of : {K : Type 0} (X : Type 0) (t : Target) (to : Address) (known left : Option (List ℕ)) (tells : K → ℕ → K → Type 0) (loaded : Result HostConfig ℕ) (r : ℕ)
