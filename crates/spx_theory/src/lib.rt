@@ -1,8 +1,9 @@
 //! What is so of every network of ends and routers, whatever is delivered to it and in whatever
 //! order: theory over its log, without code.
 //!
-//! `specs/` has the definitions: the entries of a log (`Note`), what is read off it (`Scan`), peers
-//! and the premises (`Peers`), what ends hand in, take and hand out (`Handed`), the machine of two
+//! `specs/` has the definitions: the entries of a log (`Note`), the premises and peers by its entries
+//! (`LogPremises`), the headline (`LogHeadline`), what is read off a log (`Scan`), peers and the
+//! premises by that (`Peers`), what ends hand in, take and hand out (`Handed`), the machine of two
 //! peers (`PairLog`), the ends with what lies between them (`Scene`, `Packets`), everything that
 //! can happen to them (`Deeds`), and a file for each theorem. Each function here is a law over
 //! every scene that some list of deeds reaches.
@@ -23,4 +24,6 @@ pub use laws::{
     pairs_take_steps, peers_are_in_step, peers_are_named, peers_are_there, peers_follow,
     positions_are_greatest, routers_alter_hops_alone, units_are_sent_in_order, within_allocation,
 };
-pub use premises::{between_is_read, headline_of_log, origins_are_read, peers_are_read, premises_are_read};
+pub use premises::{
+    between_is_read, headline_of_log, origins_are_read, peers_are_read, premises_are_read,
+};
