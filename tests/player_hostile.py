@@ -11,7 +11,7 @@ import time
 from player_world import (EVERYBODY, NETWORKS, REGISTRATION, ROUTER_NODE, STATUS_SECONDS, Client, Router, answer_to, join_line,
                           lobby_table)
 from site_packets import ipx
-from site_world import die_with_the_parent, free_port, until
+from site_world import Watch, die_with_the_parent, free_port, until
 
 FORGED_AT, FLOODED_AT = "127.0.6.41", "127.0.6.42"
 PLAYERS, FORGER, STRANGER, MANY = ["127.0.6.43", "127.0.6.44"], "127.0.6.45", "127.0.6.46", "127.0.6.47"
@@ -23,10 +23,13 @@ FORGERIES = 500
 PLACES, ROOM_FOR, IN_A_SECOND = 1_000, 20, 10
 PER_TURN, REGISTER_SECONDS = 20, 3.5
 PER_SECOND, SECONDS, PLAYED, AT_ONCE = 10_000, 10, 400, 64
-SHARE, TRIES = 0.9, 3
+# So many datagrams are a flood, at this share of the rate or more, without the time for which the machine denied a processor
+# to the router or to who sends.
+DATAGRAMS, SHARE = PER_SECOND * SECONDS, 0.9
 # So many bytes of a socket's room may one datagram want, with what the system adds.
 OF_ROOM = 4096
-MEMORY_KB, LEVEL_KB = 8192, 1024
+# How much memory it may take more as its tables fill, and how much more in the second half, of 50,000 datagrams.
+MEMORY_KB, LEVEL_KB = 8192, 256
 REASONS = ["malformed", "unregistered", "other_source", "too_long", "no_such_node", "to_itself", "ping_elsewhere",
            "broadcast_elsewhere", "from_elsewhere", "response"]
 
@@ -278,9 +281,11 @@ def flood(port, joined, seed, window, *nodes):
     each = max(window // 4, 8)
     print("ready", flush=True)
     sys.stdin.readline()
-    start, sent, answered = time.monotonic(), 0, 0
-    while (passed := time.monotonic() - start) < SECONDS:
-        due = min(int(passed * PER_SECOND) + 1, (answered + 4) * each)
+    watch, start, sent, answered = Watch(os.getpid()), time.monotonic(), 0, 0
+    while sent < DATAGRAMS and (passed := time.monotonic() - start) < 6 * SECONDS:
+        due = min(int(passed * PER_SECOND) + 1, (answered + 4) * each, DATAGRAMS)
+        if sent < DATAGRAMS // 2 <= due:
+            print("half", flush=True)
         for number in range(sent, due):
             place = number % PER_SECOND
             datagram = REGISTRATION if number % each == each - 1 else datagrams[place]
@@ -291,7 +296,7 @@ def flood(port, joined, seed, window, *nodes):
         for client in [pace, *clients]:
             client.take()
             client.got = []
-    print(sent, flush=True)
+    print(sent, watch.seconds(), flush=True)
 
 
 class Flooded:
@@ -320,40 +325,37 @@ class Flooded:
             self.pair.take()
         self.pair.all_came(SECONDS)
 
-    def attempt(self):
-        """Floods once. How many datagrams that was, and the memory before, in the middle and at the end."""
+    def flood(self):
+        """Floods it. How many datagrams that was, in how many seconds without those that the machine denied, and the memory
+        before, in the middle and at the end."""
         flooder = subprocess.Popen(self.words, stdin=subprocess.PIPE, stdout=subprocess.PIPE, text=True,
                                    preexec_fn=die_with_the_parent)
         flooder.stdout.readline()
         memory = [self.router.process.memory()[0]]
         flooder.stdin.write("go\n")
         flooder.stdin.flush()
-        half = time.monotonic() + SECONDS / 2
-        self.play(lambda: time.monotonic() > half)
-        memory.append(self.router.process.memory()[0])
-        self.play(lambda: select.select([flooder.stdout], [], [], 0)[0])
-        memory.append(self.router.process.memory()[0])
-        return int(flooder.communicate(timeout=60)[0]), memory
+        watch = Watch(self.router.process.popen.pid)
+        for _ in ("half", "all"):
+            self.play(lambda: select.select([flooder.stdout], [], [], 0)[0])
+            memory.append(self.router.process.memory()[0])
+            line = os.read(flooder.stdout.fileno(), 100).split()
+        flooder.communicate(timeout=60)
+        return int(line[0]), float(line[1]) - watch.denied(), memory
 
 
 def check_flood(run, it, who, reasons):
-    """In each try nothing of theirs is lost and memory stays; the rate of the flood is reached in one of them."""
-    came = []
+    """Nothing of theirs is lost, memory stays, and the flood comes at its rate."""
     name = f"while {PER_SECOND} random datagrams a second come {who}for {SECONDS} seconds"
-    while len(came) < TRIES and max(came, default=0) < SHARE * PER_SECOND * SECONDS:
-        sent, memory = it.attempt()
-        came.append(sent)
-        good = it.pair.is_whole()
-        level = memory[2] - memory[0] < MEMORY_KB and memory[2] - memory[1] < LEVEL_KB
-        if not good or not level:
-            break
-    run.check(f"{name}, each packet of the players comes, in order and once", good,
+    sent, took, memory = it.flood()
+    run.check(f"{name}, each packet of the players comes, in order and once", it.pair.is_whole(),
               f"{sum(map(len, it.pair.sent))} packets, {it.pair.missing()} missing")
+    level = memory[2] - memory[0] < MEMORY_KB and memory[2] - memory[1] < LEVEL_KB
     run.check(f"{name}, the router's memory stays level", level, f"{memory} kB")
-    run.check("so many came, or nine tenths, in one of the tries", max(came) >= SHARE * PER_SECOND * SECONDS, str(came))
-    found = dropped(run, it.router, sum(came) / 2, reasons)
+    run.check("so many came, at nine tenths of that rate or more", sent == DATAGRAMS and took <= SECONDS / SHARE,
+              f"{sent} in {took:.2f} s")
+    found = dropped(run, it.router, sent / 2, reasons)
     run.check("of the flood most is dropped, and for each cause that there is", all(found.values()) and
-              sum(found.values()) >= sum(came) / 2, f"of {sum(came)}: {found}")
+              sum(found.values()) >= sent / 2, f"of {sent}: {found}")
     end_all(run, it.router, it.pair.clients)
 
 

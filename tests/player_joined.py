@@ -6,7 +6,7 @@ import re
 import signal
 import time
 
-from player_boxes import TRIES, Box, Boxes, shown, table
+from player_boxes import Box, Boxes, shown, table
 from player_hostile import (FLOODED_AT, JOINED_FLOODER, Flooded, Pair, check_flood, dropped_for, end_all, forgeries, in_name_of,
                             registered)
 from player_world import (EVERYBODY, NETWORKS, REGISTRATION, STATUS_SECONDS, Client, Router, answer_to, join_line, lobby_table,
@@ -231,10 +231,7 @@ class JoinedBoxes(Boxes):
         """`ipxnet ping` shows the router at hand and all others."""
         for box in boxes:
             wanted = {shown(self.near(box)), *(shown(it.node) for it in self.boxes if it is not box)}
-            for _ in range(TRIES):
-                found = box.pings()
-                if found == wanted or not found <= wanted:
-                    break
+            found = box.pings()
             self.run.check(f"ipxnet ping of {box.name} shows its router and the players of both", found == wanted,
                            "" if found == wanted else str(found))
 

@@ -51,7 +51,7 @@ class Router:
 
     def knows(self, network):
         """Whether it says that it knows this network, in some time."""
-        return until(lambda: f"network {network} known" in "\n".join(self.process.said()), 20)
+        return until(lambda: f"route added: network {network} via" in "\n".join(self.process.said()), 20)
 
     def figures(self, wanted):
         """Of the figures of its status file those that are wanted, once they are so, or as they are some time later."""

@@ -1,4 +1,5 @@
 """A router of which one port is kept busy, while datagrams come to another, for tests/sites."""
+import os
 import select
 import socket
 import subprocess
@@ -6,7 +7,7 @@ import sys
 import time
 
 from site_packets import ipx
-from site_world import Sleeper, bound, die_with_the_parent, node, until
+from site_world import Watch, bound, die_with_the_parent, node, until
 
 # A router with four ports: all that the first peer sends goes to the second, and what the third sends to the fourth.
 FLOODER, FLOODED, SENDER, RECEIVER = "127.0.1.225", "127.0.1.226", "127.0.1.227", "127.0.1.228"
@@ -14,10 +15,9 @@ NAME = "busy"
 BUSY = {NAME: [("00000061", "127.0.1.221", [FLOODER]), ("00000062", "127.0.1.222", [FLOODED]),
                ("00000063", "127.0.1.223", [SENDER]), ("00000064", "127.0.1.224", [RECEIVER])]}
 BUSY_ADDRESSES = [address for ports in BUSY.values() for _, address, _ in ports] + [FLOODER, FLOODED, SENDER, RECEIVER]
-# So many packets go while the port is busy, and half of them come within so many milliseconds: the others may wait for
-# the machine, which has other work. It gets so many tries; where a process that only sleeps woke late by so many seconds in
-# each, half of them are to come within MOST_MS_LATE.
-PACKETS, MOST_MS, MOST_MS_LATE, TRIES, LATE = 100, 5, 50, 4, 0.005
+# So many packets go while the port is busy, and half of them come within so many milliseconds, without those for which the
+# machine denied a processor to the router, or to who sends and receives.
+PACKETS, MOST_MS = 100, 5
 
 
 def packet(number, to, source):
@@ -34,24 +34,23 @@ def flood(udp_port):
             one.sendto(datagram, (BUSY[NAME][0][1], udp_port))
 
 
-def passed_in(sender, receiver, number, udp_port):
+def passed_in(sender, receiver, number, udp_port, router):
     """After how many milliseconds a packet came that is sent now, or None."""
     sent = packet(number, ("00000064", RECEIVER), ("00000063", SENDER))
-    start = time.monotonic()
+    watch = Watch(router, os.getpid())
     sender.sendto(sent, (BUSY[NAME][2][1], udp_port))
     while select.select([receiver], [], [], 1)[0]:
         came = receiver.recv(2000)
         if came[30:34] == sent[30:34] and came[16:18] == b"\x40\x02":
-            return 1000 * (time.monotonic() - start)
+            return 1000 * watch.seconds()
     return None
 
 
-def came_of(ends, udp_port, first):
-    """What the packets took that came, of those numbered from the first on, the quickest first. None is sent behind one that
-    did not come."""
+def came_of(ends, udp_port, router):
+    """What the packets took that came, the quickest first. None is sent after one that did not come."""
     took = []
-    for number in range(first, first + PACKETS):
-        took.append(passed_in(ends[SENDER], ends[RECEIVER], number, udp_port))
+    for number in range(PACKETS):
+        took.append(passed_in(ends[SENDER], ends[RECEIVER], number, udp_port, router))
         if took[-1] is None:
             return sorted(took[:-1])
         time.sleep(0.005)
@@ -66,20 +65,13 @@ def check_busy(sites):
     flooding = [sys.executable, __file__, str(sites.port)]
     with subprocess.Popen(flooding, preexec_fn=die_with_the_parent) as flooder:
         time.sleep(0.5)
-        late = []
-        while len(late) < TRIES:
-            sleeper = Sleeper()
-            came = came_of(ends, sites.port, PACKETS * len(late))
-            late.append(sleeper.ended() > LATE)
-            if len(came) == PACKETS and came[PACKETS // 2] <= MOST_MS:
-                break
+        watch = Watch(sites.routers[NAME].popen.pid)
+        came = came_of(ends, sites.port, sites.routers[NAME].popen.pid)
         flooder.kill()
     sites.check(f"{PACKETS} packets of one port pass while another is flooded", len(came) == PACKETS, f"{len(came)} came")
-    most = MOST_MS_LATE if all(late) else MOST_MS
     if came:
-        sites.check(f"half of them within {most} ms", came[len(came) // 2] <= most,
-                    f"half in {came[len(came) // 2]:.2f} ms, all in {came[-1]:.2f} ms, try {len(late)}, "
-                    f"{sum(late)} of them on a busy machine")
+        sites.check(f"half of them within {MOST_MS} ms", came[len(came) // 2] <= MOST_MS,
+                    f"half in {came[len(came) // 2]:.2f} ms, all in {came[-1]:.2f} ms; the router was denied {watch.denied():.2f} s")
 
 
 if __name__ == "__main__":

@@ -4,7 +4,7 @@ import struct
 import time
 
 from site_packets import ipx
-from site_world import bound, listed, node, some_bytes, until
+from site_world import Watch, bound, listed, node, some_bytes, until
 
 # A listener and a sender on a network without a router; the last listener is asked by somebody who is not named.
 NETWORK = "00000044"
@@ -15,10 +15,11 @@ NAMED = {"by-node": [f"{NETWORK} {node('127.0.1.131')}", "00000045"], "by-networ
 # Listeners that are called by some who never speak: one that takes one connection, called by two of SILENT whom
 # it names and by two who are strangers to it, and some whose places are all taken.
 ONCE, SENDER = ("127.0.1.136", "127.0.1.137"), "127.0.1.139"
-CROWDED = ["127.0.1.138", "127.0.1.140", "127.0.1.141"]
+CROWDED = "127.0.1.138"
 SILENT, ASKING = [f"127.0.1.{number}" for number in range(142, 146)], "127.0.1.146"
-CALLING = [address for pair in [*FROM.values(), ONCE] for address in pair] + [SENDER, *CROWDED, *SILENT, ASKING]
-# One that asks each half second is in within so many seconds, where all places are taken by some who never speak.
+CALLING = [address for pair in [*FROM.values(), ONCE] for address in pair] + [SENDER, CROWDED, *SILENT, ASKING]
+# One that asks each half second is in within so many seconds, where all places are taken by some who never speak; without
+# those for which the machine denied the listener a processor.
 SOON = 2
 BARRED = r"\[WARN  ipx\] \d+ requests came from nobody who may connect \(\d+ since the start\)"
 
@@ -63,36 +64,26 @@ def comes(one):
         return False
 
 
-def ask(ip, listener, port):
+def ask(ip, listener, port, process):
     """Asks for a connection each half second, as a sender does: how many seconds it takes until it is answered.
-    How long a process takes to start is left out so."""
-    one, began = bound(ip, port), time.monotonic()
-    while time.monotonic() < began + 5:
+    How long a process takes to start is not in it."""
+    one, watch = bound(ip, port), Watch(process.popen.pid)
+    while watch.seconds() < 5:
         call(one, ip, listener, port, 99)
         if until(lambda: comes(one), 0.5):
             break
     one.close()
-    return time.monotonic() - began
+    return watch.seconds()
 
 
 def crowd(sites, ends):
-    """A listener that sixteen call who never speak, and after how many seconds one that asks is in. On a busy machine
-    a process may wait for its turn longer than anything takes here, so of three listeners, one after another, the
-    soonest counts."""
-    found = []
-    for place, address in enumerate(CROWDED):
-        name = f"crowded-listener{place}"
-        sites.host(name, NETWORK, address, "127.0.1.89", "4002", listed("peers", [SENDER, *SILENT, ASKING]))
-        listener = sites.start_listener(name=name)
-        until(listener.said, 5)  # pylint: disable=cell-var-from-loop
-        for number in range(1, 17):
-            call(*ends[number % 4], address, sites.port, number)
-        found.append((ask(ASKING, address, sites.port), listener, address))
-        if found[-1][0] < SOON:
-            break
-    for _, listener, _ in sorted(found, key=lambda one: one[0])[1:]:
-        listener.end()
-    return min(found, key=lambda one: one[0])
+    """A listener that sixteen call who never speak, and after how many seconds one that asks is in."""
+    sites.host("crowded-listener", NETWORK, CROWDED, "127.0.1.89", "4002", listed("peers", [SENDER, *SILENT, ASKING]))
+    listener = sites.start_listener(name="crowded-listener")
+    until(listener.said, 5)
+    for number in range(1, 17):
+        call(*ends[number % 4], CROWDED, sites.port, number)
+    return ask(ASKING, CROWDED, sites.port, listener), listener
 
 
 def start_silent(sites):
@@ -111,8 +102,8 @@ def start_silent(sites):
     for number in range(101, 201):
         call(*ends[number % 4], ONCE[0], sites.port, number)
         time.sleep(0.005)
-    took, crowded, address = crowd(sites, ends)
-    true = sites.start_sender("crowded-sender", [data], NETWORK, address)
+    took, crowded = crowd(sites, ends)
+    true = sites.start_sender("crowded-sender", [data], NETWORK, CROWDED)
     return data, ends, (once, first), (crowded, true, took)
 
 

@@ -7,7 +7,7 @@ import subprocess
 import time
 
 from site_packets import ipx
-from site_world import bound, node, port_table, until
+from site_world import bound, leave_out, node, port_table, until
 
 # What the peer of a port sends comes to its address: the network, the address, the peer.
 PORTS = [("000000d1", "127.0.1.100", "127.0.1.101"), ("000000d2", "127.0.1.102", "127.0.1.103")]
@@ -147,7 +147,7 @@ def check_guard_figures(sites, figures):
 def check_promtool(sites):
     """What promtool says of all status files, where it is installed."""
     if not shutil.which("promtool"):
-        print("left out: what promtool finds in status files: it is not installed (apt-get install prometheus)")
+        leave_out("what promtool finds in metrics files", "it is not installed (apt-get install prometheus)")
         return
     found = {}
     for path in glob.glob(sites.world.path("*.prom")):

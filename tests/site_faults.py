@@ -126,6 +126,13 @@ ROUTER_FILES = [
     ('tables_file = ""\n' + PORT, f"tables_file is to be {TABLES}"),
     ('metrics_file = "hq"\ntables_file = "hq"\n' + PORT, f"tables_file is to be {TABLES}"),
     ("peers = []\n" + PORT, f"peers is no key here: {KEYS}"),
+    ('status = "a"\n' + PORT, "`status` is now `metrics_file`"),
+    ('tables = "a"\n' + PORT, "`tables` is now `tables_file`"),
+    (PORT + "ends = []\n", "port 1: `ends` is now `remotes`"),
+    (PORT + 'frame = "802.3"\n', "port 1: `frame` is now `encapsulation`"),
+    (WIRE + "hub = true\n", "port 1: `hub` is now `switch`"),
+    (ROUTE + 'next = "00000a010014"\n', "route 1: `next` is now `next_hop`"),
+    (ROUTE + SERVICE + 'at = "a"\n', "service 1: `at` is now `ipx_address`"),
     (PORT + "peer = []\n", f"port 1: peer is no key here: {PORT_KEYS}"),
     (PORT + SECOND + "Accept = \"any\"\n", f"port 2: Accept is no key here: {PORT_KEYS}"),
     (PORT + '"a\\nb\\u001b" = 1\n', f"port 1: a.b. is no key here: {PORT_KEYS}"),
@@ -279,6 +286,7 @@ HOST_FILES = [
     (HOST + "peers = 1\nrouters = 1\n", f"peers is to be {FEW_PEERS}"),
     (HOST + "routers = 1\nallow = 1\n", f"routers is to be {ROUTERS}"),
     (HOST + "allow = 1\naccept = 1\n", f"allow is to be {FROM}"),
+    (HOST + "from = []\n", "`from` is now `allow`"),
     (HOST + "metrics_file = \"a\"\n", f"metrics_file is no key here: {KEYS}"),
 ]
 

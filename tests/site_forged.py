@@ -5,7 +5,7 @@ import struct
 import time
 
 from site_packets import ipx, rip_response
-from site_world import bound, listed, node, some_bytes, until
+from site_world import bound, listed, node, some_bytes, until, waiting_bytes
 
 # A router with two peers on one network, of which the first speaks for others, and one on another.
 FORGER, NAMED, FAR = "127.0.1.112", "127.0.1.113", "127.0.1.114"
@@ -18,8 +18,9 @@ FORGED = {
 }
 ADDRESSES = [address for ports in FORGED.values() for _, address, _ in ports] + [FORGER, NAMED, FAR, *HANDED]
 EVERY_NODE = "f" * 12
-# As many datagrams as wait in a socket at once with the room of most systems, and as many as come fast.
-WAITING, FAST = 100, 10_000
+# As many datagrams as wait in a socket at once with the room of most systems, and as many as come fast, so many at once. Who
+# sends them waits while so many bytes wait in the router's socket, which has room for more on all systems: it loses none.
+WAITING, FAST, AT_ONCE, ROOM = 100, 10_000, 50, 50_000
 
 
 def request(source):
@@ -99,12 +100,9 @@ def ask(sites, ends):
 
 
 def is_answered(ends, port):
-    """Whether a true request is answered within a second, the first or, where its socket has no room yet, one of two more."""
-    for _ in range(3):
-        ends[FORGER].sendto(request(node(FORGER)), port)
-        if until(lambda: came_to(ends[FORGER], FORGER), 1):
-            return True
-    return False
+    """Whether a true request is answered within a second."""
+    ends[FORGER].sendto(request(node(FORGER)), port)
+    return until(lambda: came_to(ends[FORGER], FORGER), 1)
 
 
 def burst(sites, ends):
@@ -117,11 +115,10 @@ def burst(sites, ends):
     router.send_signal(signal.SIGCONT)
     sites.check(f"{WAITING} forged datagrams wait, and the true one behind them is heard at once",
                 until(lambda: came_to(ends[FORGER], FORGER), 1))
-    for number in range(FAST):
-        ends[FORGER].sendto(request(node(NAMED)), port)
-        if number % 50 == 0:
-            time.sleep(0.002)
-    time.sleep(0.05)
+    for _ in range(0, FAST, AT_ONCE):
+        until(lambda: waiting_bytes(*port) < ROOM, 10)
+        for _ in range(AT_ONCE):
+            ends[FORGER].sendto(request(node(NAMED)), port)
     sites.check(f"{FAST} forged datagrams come fast, and the true one behind them is heard at once",
                 is_answered(ends, port))
     sites.check("the peer that they named got nothing", not came_to(ends[NAMED], NAMED))
@@ -150,10 +147,9 @@ def check_forged(sites, ends, listener):
 def check_forged_figures(sites, figures):
     """The figures of the routers, once they were written."""
     count = 'ipx_filtered_total{reason="spoofed_source"}'
-    # Two routes, one request, and the bursts, of which a slow machine loses many.
-    least, most = 3 + WAITING + FAST // 10, 3 + WAITING + FAST
-    got = figures["f1"].get(count, 0)
-    sites.check("what was forged is counted", least <= got <= most, f"{got}, at least {least}")
+    # Two routes, one request, and the bursts.
+    sent, got = 3 + WAITING + FAST, figures["f1"].get(count, 0)
+    sites.check("what was forged is counted, each once", got == sent, f"{got} of {sent}")
     line = re.compile(r"\[WARN  ipx\] \d+ datagrams with a spoofed source node \(\d+ since the start\), the last from "
                       + re.escape(FORGER))
     said = sites.routers["f1"].said()

@@ -58,7 +58,7 @@ def start_ping(sites):
     listeners = [sites.start_listener(name=name) for name in ("pinged", "barring", "next")]
     pressed = sites.start_listener("--once", name="pressed")
     until(lambda: all(listener.said() for listener in (*listeners, pressed)), 5)
-    until(lambda: all(any(f"network {network} known" in line for line in sites.routers[name].said())
+    until(lambda: all(any(f"route added: network {network} via" in line for line in sites.routers[name].said())
                       for name, network in (("pings1", FAR), ("pings3", NEAR))), 10)
     patient = ping(sites, "patient", FAR, node(LISTENER), "4002", "-c", str(MANY))
     pressing = ping(sites, "pressing", FAR, node(PRESSED), "4002", "-c", "10")

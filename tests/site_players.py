@@ -112,7 +112,7 @@ def check_packets(sites, first, second, third, unnamed):
     """What goes to all nodes goes to the other client there, what goes to one to that one, and what goes to a
     node of another network over both routers, which know each other's by now."""
     for name, other in (("p1", "p2"), ("p2", "p1")):
-        line = f"network {NETWORKS[other]} known"
+        line = f"route added: network {NETWORKS[other]} via"
         until(lambda name=name, line=line: line in "\n".join(sites.routers[name].said()), 15)
     to_all = ipx(4, (NETWORKS["p1"], EVERY_NODE, "4001"), (NETWORKS["p1"], first.node, "4001"), b"to all")
     first.send(to_all)

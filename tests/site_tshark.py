@@ -4,7 +4,7 @@ import socket
 import struct
 import subprocess
 
-from site_world import bound, node
+from site_world import bound, leave_out, node
 
 # A router that answers nothing, what hosts of its network ask, and how often each does in vain.
 ROUTER, NETWORK = "127.0.1.236", "00000088"
@@ -89,7 +89,7 @@ def check_tshark(sites, one, asking):
             break
     one.close()
     if not shutil.which("tshark"):
-        print("left out: what tshark reads of queries and pings: it is not installed (apt-get install tshark)")
+        leave_out("what tshark reads of queries and pings", "it is not installed (apt-get install tshark)")
         return
     path = sites.world.path("sent.pcap")
     write_pcap(path, sent)

@@ -19,6 +19,28 @@ TOP = os.path.dirname(os.path.dirname(os.path.abspath(__file__)))
 IPX = os.path.join(TOP, "crates/ipx_tool/out/ipx_tool")
 LIBC = ctypes.CDLL(None)
 PR_SET_PDEATHSIG = 1
+LEFT_OUT = []
+
+
+def leave_out(what, why):
+    """Says that something is not tested here, and counts it."""
+    LEFT_OUT.append(what)
+    print(f"left out: {what}: {why}", flush=True)
+
+
+def last_line(passed, failed):
+    """The last line of a script, which tests/run reads."""
+    skipped = f", {len(LEFT_OUT)} skipped" if LEFT_OUT else ""
+    return f"{passed} passed, {failed} failed{skipped}"
+
+
+def before_others():
+    """This process and all that it starts get the processors before what else runs on the machine, if the system permits it
+    (root may). A process that still has to wait is measured by `waited`."""
+    try:
+        os.sched_setscheduler(0, os.SCHED_RR, os.sched_param(1))
+    except OSError:
+        pass
 
 
 def die_with_the_parent():
@@ -61,18 +83,21 @@ class Process:
     """A process, what it wrote, and its end. Only the main thread starts one, since the system ends
     it with the thread that did."""
 
-    def __init__(self, world, name, words, stdin=False, stdout=subprocess.PIPE, stderr=None, environment=None, program=None):
+    def __init__(self, world, name, words, stdin=False, stdout=subprocess.PIPE, stderr=None, environment=None, program=None,
+                 before=None):
         self.name = name
         self.log = world.path(f"{name}.{len(world.processes)}.log")
         self.out = bytearray()
         self.first_byte = self.last_byte = None
+        # When how much was there, after each read.
+        self.marks = []
         self.reading = threading.Event()
         self.reading.set()
         with open(self.log, "wb") as log:
             self.started = time.monotonic()
             self.popen = subprocess.Popen(
                 [program or world.program, *words], stdin=subprocess.PIPE if stdin else subprocess.DEVNULL,
-                stdout=stdout, stderr=stderr or log, bufsize=0, preexec_fn=die_with_the_parent,
+                stdout=stdout, stderr=stderr or log, bufsize=0, preexec_fn=lambda: (die_with_the_parent(), before and before()),
                 env={**os.environ, **(environment or {})})
         world.processes.append(self)
         self.reader = threading.Thread(target=self.read, daemon=True)
@@ -85,6 +110,7 @@ class Process:
                 self.first_byte = time.monotonic()
             self.out += chunk
             self.last_byte = time.monotonic()
+            self.marks.append((self.last_byte, len(self.out)))
 
     def feed(self, pieces):
         """Gives its standard input these bytes, one after another, and ends it. A piece may be an
@@ -205,36 +231,44 @@ def bound(ip, port):
     return one
 
 
-# A process that wants hardly anything, each thousandth of a second: how late it was at most, once it is ended.
-SLEEPER = """import signal, sys, time
-late = 0.0
-signal.signal(signal.SIGTERM, lambda *_: sys.exit(print(late, flush=True)))
-print("ready", flush=True)
-while True:
-    due = time.monotonic() + 0.001
-    time.sleep(0.001)
-    late = max(late, time.monotonic() - due)
-"""
+def waited(*pids):
+    """For how many seconds these processes were ready so far, and had no processor: what the machine denied them. Of a process
+    with several threads it is that of the first."""
+    total = 0
+    for pid in pids:
+        with open(f"/proc/{pid}/schedstat", encoding="ascii") as file:
+            total += int(file.read().split()[1])
+    return total / 1e9
 
 
-def waited(pid):
-    """For how many seconds a process was ready so far, and had no processor."""
-    with open(f"/proc/{pid}/schedstat", encoding="ascii") as file:
-        return int(file.read().split()[1]) / 1e9
+class Watch:
+    """Measures time, without what the machine denied to some processes meanwhile."""
+
+    def __init__(self, *pids):
+        self.pids = pids
+        self.start, self.waited = time.monotonic(), waited(*pids)
+
+    def seconds(self):
+        """How long it has been, without what was denied."""
+        return time.monotonic() - self.start - self.denied()
+
+    def denied(self):
+        return waited(*self.pids) - self.waited
 
 
-class Sleeper:
-    """Says of a machine how long it keeps a process waiting that wants a processor."""
+def compiled(world):
+    """The program of tests/plain.c, or None where there is no gcc."""
+    if not shutil.which("gcc"):
+        return None
+    subprocess.run(["gcc", "-O2", "-o", world.path("plain"), os.path.join(TOP, "tests/plain.c")], check=True)
+    return world.path("plain")
 
-    def __init__(self):
-        self.popen = subprocess.Popen([sys.executable, "-c", SLEEPER], stdout=subprocess.PIPE, text=True,
-                                      preexec_fn=die_with_the_parent)
-        self.popen.stdout.readline()
 
-    def ended(self):
-        """How late it was at most, in seconds."""
-        self.popen.terminate()
-        return float(self.popen.communicate(timeout=10)[0])
+def waiting_bytes(address, udp_port):
+    """How many bytes of datagrams wait in the socket at an address of UDP, as the kernel counts them."""
+    place = f"{int.from_bytes(socket.inet_aton(address), sys.byteorder):08X}:{udp_port:04X}"
+    with open("/proc/net/udp", encoding="ascii") as file:
+        return sum(int(words[4].split(":")[1], 16) for words in map(str.split, file) if words[1] == place)
 
 
 def broken_pipe():

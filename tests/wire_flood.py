@@ -8,23 +8,24 @@ import sys
 import time
 
 from site_packets import ipx, some_datagram
-from site_world import Sleeper, bound, die_with_the_parent, free_port, until, waited
+from site_world import Watch, bound, die_with_the_parent, free_port, until
 from wire_frames import EVERYBODY, KINDS, LINKS, frame, header, passed_on
 from wire_world import FATES, End, Router, WirePort
 
-ROUTER, FLOODER, OTHERS = "127.0.3.1", "127.0.3.9", ["127.0.3.10", "127.0.3.11"]
+ROUTER, FLOODER, SINK, OTHERS = "127.0.3.1", "127.0.3.9", "127.0.3.8", ["127.0.3.10", "127.0.3.11"]
 FLOODED, NETWORKS = "00000001", ["00000031", "00000032"]
 FLOODER_STATION, STATIONS = "02000000f100", ["02000000f101", "02000000f102"]
-PER_SECOND, SECONDS, BEFORE = 10_000, 10, 4
-# How many packets of others are sent a second, at most so many at once, and how many tries a machine that is loaded gets.
-OFFERED, AT_ONCE, TRIES = 10_000, 64, 5
-SHARE, SHARE_LATE = 0.9, 0.1
-# How many of the frames the router reads at least, by whether the machine kept processes waiting: for longer than LATE, in
-# seconds, or the router for WAITED of its time. What it has no time for, the kernel drops, and counts.
-READ, READ_LATE, LATE, WAITED = 0.9, 0.1, 0.005, 0.02
-# How much memory it may take more as its tables fill, and how much more in the second half, when they are full.
+# In each round the frames go for so many seconds to a socket that nobody reads, and then for so many to the router: the others'
+# rate beside the first is what that of the others beside the second is compared with, since both times as much else is done.
+PER_SECOND, ROUNDS, APART, FLOODED_SECONDS = 10_000, 4, 1, 2.5
+# How many packets of others are sent a second, at most so many at once; and which share of them goes on beside the flood.
+OFFERED, AT_ONCE, SHARE = 10_000, 64, 0.9
+# How many of the frames the router reads at least. What it has no time for, the kernel drops, and counts.
+READ = 0.9
+# How much memory it may take more as its tables fill, and how much more in the second half, of 50,000 frames, when they are
+# full.
 PAGES = os.sysconf("SC_PAGESIZE") // 1024
-MEMORY_KB, LEVEL_KB = 8192, 1024
+MEMORY_KB, LEVEL_KB = 8192, 256
 
 
 def random_frame(rng, own):
@@ -52,20 +53,21 @@ def dropped(address, port):
 
 
 def flood(port, seed, own):
-    """Sends them to the router, so many a second, until its input ends, and says how many those were, and how long that
-    took. Where it is behind, since the machine is loaded, it sends few at once."""
+    """Sends them to an address, so many a second, until its input has a line with another one, or ends; and says how many went
+    to each, and how long that took. Where it is behind, since the machine is loaded, it sends few at once."""
     rng, one = random.Random(seed), bound(FLOODER, port)
     frames = [random_frame(rng, own) for _ in range(PER_SECOND)]
     print("ready", flush=True)
-    sys.stdin.readline()
-    start, sent = time.monotonic(), 0
-    while not select.select([sys.stdin], [], [], 0.002)[0]:
-        due = min(int((time.monotonic() - start) * PER_SECOND) + 1, sent + AT_ONCE)
-        while sent < due:
-            if select.select([], [one], [], 1)[1]:
-                one.sendto(frames[sent % PER_SECOND], (ROUTER, port))
-                sent += 1
-    print(sent, time.monotonic() - start, flush=True)
+    while address := sys.stdin.readline().strip():
+        start, sent = time.monotonic(), 0
+        while not select.select([sys.stdin], [], [], 0.002)[0]:
+            due = min(int((time.monotonic() - start) * PER_SECOND) + 1, sent + AT_ONCE)
+            while sent < due:
+                if select.select([], [one], [], 1)[1]:
+                    one.sendto(frames[(sent + seed) % PER_SECOND], (address, port))
+                    sent += 1
+        seed += sent
+        print(sent, time.monotonic() - start, flush=True)
 
 
 class Flood:
@@ -73,7 +75,8 @@ class Flood:
 
     def __init__(self, wires):
         self.wires, self.sent = wires, 0
-        self.udp_port = free_port([ROUTER, FLOODER, *OTHERS], 3)
+        self.udp_port = free_port([ROUTER, FLOODER, SINK, *OTHERS], 3)
+        self.sink = bound(SINK, self.udp_port)
         ends = [(address, self.udp_port) for address in OTHERS]
         flooders = [(FLOODER, self.udp_port), (FLOODER, self.udp_port + 1)]
         ports = [WirePort(FLOODED, "802.2", (ROUTER, self.udp_port), flooders, "0200000000f0")]
@@ -124,24 +127,23 @@ class Flood:
             return int(file.read().split()[1]) * PAGES
 
     def flooded(self):
-        """The rates before and while it is flooded, the memory before, in the middle and at the end, how many frames a second
-        were sent, and whether the machine kept processes waiting."""
-        sleeper, router = Sleeper(), self.router.process.popen.pid
-        start, lost = time.monotonic(), waited(router)
-        flooder = subprocess.Popen(self.words(), stdin=subprocess.PIPE, stdout=subprocess.PIPE, text=True,
-                                   preexec_fn=die_with_the_parent)
-        flooder.stdout.readline()
-        before, memory = self.rate(BEFORE), [self.memory()]
-        flooder.stdin.write("go\n")
-        flooder.stdin.flush()
-        rates = []
-        for _ in range(2):
-            rates.append(self.rate(SECONDS / 2 - 0.2))
-            memory.append(self.memory())
-        sent, took = flooder.communicate(timeout=60)[0].split()
-        self.sent += int(sent)
-        lost = (waited(router) - lost) / (time.monotonic() - start)
-        return before, sum(rates) / 2, memory, int(sent) / float(took), sleeper.ended() > LATE or lost > WAITED
+        """The others' rates beside the flood elsewhere and beside that of the router; the memory before, in the middle and at
+        the end; and how many frames a second were sent to the router."""
+        with subprocess.Popen(self.words(), stdin=subprocess.PIPE, stdout=subprocess.PIPE, text=True, bufsize=1,
+                              preexec_fn=die_with_the_parent) as flooder:
+            flooder.stdout.readline()
+            rates, took, memory = {SINK: [], ROUTER: []}, 0.0, [self.memory()]
+            for number in range(1, ROUNDS + 1):
+                for address, seconds in ((SINK, APART), (ROUTER, FLOODED_SECONDS)):
+                    flooder.stdin.write(address + "\n")
+                    rates[address].append(self.rate(seconds))
+                if number in (ROUNDS // 2, ROUNDS):
+                    memory.append(self.memory())
+            flooder.stdin.close()
+            for number, line in enumerate(flooder.stdout):
+                if number % 2:
+                    self.sent, took = self.sent + int(line.split()[0]), took + float(line.split()[1])
+        return sum(rates[SINK]) / ROUNDS, sum(rates[ROUTER]) / ROUNDS, memory, self.sent / took
 
 
 def check_frames(wires, it, least):
@@ -161,23 +163,19 @@ def check_frames(wires, it, least):
 
 
 def check_flood(wires):
-    """The rate of the others, in one of five tries; the memory; and that the frames came."""
+    """The rate of the others, the memory, and that the frames came."""
     it = Flood(wires)
     it.router.start()
     until(lambda: it.taker.take() is not None and it.taker.heard, 10)
     it.rate(1)
-    late = []
-    while len(late) < TRIES:
-        before, during, memory, sent, is_late = it.flooded()
-        late.append(is_late)
-        if before and during >= SHARE * before:
-            break
-    share = SHARE_LATE if all(late) else SHARE
-    name = f"others' packets, while {PER_SECOND} random frames a second come from an end for {SECONDS} seconds"
-    wires.check(f"{name}: at least {share} of their rate", before and during >= share * before,
-                f"{during:.0f} of {before:.0f} a second, {sent:.0f} frames a second, try {len(late)}, {sum(late)} of them on a busy machine")
+    watch = Watch(it.router.process.popen.pid)
+    apart, during, memory, sent = it.flooded()
+    name = f"others' packets, while {PER_SECOND} random frames a second come from an end"
+    wires.check(f"{name}: at least {SHARE} of their rate while as many go elsewhere", apart and during >= SHARE * apart,
+                f"{during:.0f} of {apart:.0f} a second, {sent:.0f} frames a second; the router was denied {watch.denied():.2f} s")
     level = memory[2] - memory[0] < MEMORY_KB and memory[2] - memory[1] < LEVEL_KB
     wires.check("the router's memory stays level meanwhile", level, f"{memory} kB")
-    check_frames(wires, it, READ_LATE if any(late) else READ)
+    check_frames(wires, it, READ)
     wires.check("the router goes on behind them", not it.router.process.is_over() and it.rate(0.5) > 0)
     it.router.process.end()
+    it.sink.close()

@@ -3,7 +3,7 @@ docs/INSTALL.md."""
 import random
 
 from site_packets import ipx
-from site_world import free_port, node, until
+from site_world import free_port, leave_out, node, until
 from wire_deploy import blocks, with_ports, words_of
 from wire_frames import KINDS, passed_on
 from wire_taps import frames_of
@@ -107,7 +107,7 @@ def check_machines(wires):
     if not until(lambda: all(machine.is_up() for machine in it.machines) or any(one.is_over() for one in processes), 20):
         wires.check("five machines start", False, str([one.said()[:1] for one in processes]))
     elif any("romfile" in line for one in processes for line in one.said()):
-        wires.leave_out("cards of QEMU", "ipxe-qemu is not installed")
+        leave_out("cards of QEMU", "ipxe-qemu is not installed")
     else:
         it.router.start()
         until(lambda: it.host.take() is not None and it.host.heard, 10)

@@ -11,7 +11,7 @@ import subprocess
 import time
 
 from site_packets import ipx
-from site_world import LIBC, node, port_table, until
+from site_world import LIBC, leave_out, node, port_table, until
 from wire_deploy import blocks, line_of_unit, port_of, with_ports, words_of
 from wire_frames import ALL_ROUTES, EVERYBODY, KINDS, MOST, RIP, frame, routes
 from wire_world import End, Router, UdpPort, WirePort, difference, text_of, with_colons
@@ -251,4 +251,4 @@ def check_taps(wires):
             check_four(wires)
             check_bridge(wires)
         else:
-            wires.leave_out(what, "a network of one's own, or /dev/net/tun, is not permitted here")
+            leave_out(what, "a network of one's own, or /dev/net/tun, is not permitted here")

@@ -35,7 +35,7 @@ class Transfers:
     def knows(self, at):
         """Whether the router of a site knows the networks of the others."""
         said = "\n".join(self.routers[at + 1].process.said())
-        return all(f"network {INNER[other]} known" in said for other in range(4) if other != at)
+        return all(f"route added: network {INNER[other]} via" in said for other in range(4) if other != at)
 
     def carry(self, pairs):
         """Carries a file for each pair at once; each has its own."""

@@ -8,7 +8,7 @@ import struct
 import time
 
 from site_packets import ipx
-from site_world import World, bound, free_port, listed, node, port_table, until
+from site_world import World, bound, free_port, leave_out, listed, node, port_table, until
 from wire_frames import EVERYBODY, frame, own_packets, passed_on
 
 ROOM = 4_194_304
@@ -206,14 +206,12 @@ class Wires:
         print(f"{'ok' if good else 'failed'}: {name}{': ' if said else ''}{said}", flush=True)
         return good
 
-    def leave_out(self, what, why):
-        print(f"left out: {what}: {why}", flush=True)
-
-    def lacks(self, what, *programs):
-        """Whether one of these is not installed, which it says then."""
+    @staticmethod
+    def lacks(what, *programs):
+        """Whether one of these is not installed: that is left out then."""
         missing = [it for it in programs if not shutil.which(it)]
         if missing:
-            self.leave_out(what, f"not installed: {' '.join(missing)}")
+            leave_out(what, f"not installed: {' '.join(missing)}")
         return bool(missing)
 
 

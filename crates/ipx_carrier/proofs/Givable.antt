@@ -7,7 +7,7 @@ use Rattle.ipx_router.specs.RouterPackets.{AreOwn, IsOwn, SendingView}
 use Rattle.ipx_router.specs.Ports.{AreOnPorts, IsPortNumber}
 use Rattle.ipx_router.specs.OutcomeView.{Dropped, Forward, Heard, IsOnPort, OutcomeView, Replies, replies_of}
 use Rattle.ipx_router.specs.Forwarded.{ForwardsOneHopOn}
-use Rattle.ipx_carrier.specs.RouterCore.{AreGivable, CanBeSent, one_forwarded}
+use Rattle.ipx_carrier.specs.RouterQueues.{AreGivable, CanBeSent, one_forwarded}
 
 -- no packet is longer than 1,500 bytes
 packet_fits : (p : PacketView) (bytes : List ℕ) → IsIpx p bytes [] → length bytes ≤ 1500

@@ -3,9 +3,11 @@ pub mod Asking
 pub mod Sends
 pub mod Courses
 pub mod Givable
+pub mod Queueing
 pub mod Putting
+pub mod PriorityPutting
 pub mod Waiting
 pub mod Draining
 pub mod Bursting
-pub mod Staying
-pub mod Leaving
+pub mod PriorityStaying
+pub mod PriorityLeaving

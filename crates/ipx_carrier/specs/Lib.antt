@@ -13,9 +13,12 @@ pub mod Stepped
 pub mod Counting
 pub mod ReadySet
 pub mod OutcomeCounters
+pub mod RouterQueues
 pub mod RouterCore
+pub mod PriorityRouterCore
 pub mod HostCore
 pub mod HostLends
 pub mod Queued
+pub mod PriorityQueued
 pub mod Memory
 pub mod Driving

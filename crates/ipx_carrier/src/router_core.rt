@@ -1,8 +1,7 @@
 //! A router as a core.
 
-ghost use Rattle.std.specs.Prelude.{◌≡◌, ◌≤◌, ◌+◌, false, length};
+ghost use Rattle.std.specs.Prelude.{◌≡◌, ◌≤◌, [], false, length};
 ghost use Rattle.ipx_carrier.specs.OutcomeCounters.{none};
-ghost use Rattle.ipx_carrier.specs.RouterCore.{ForwardedLeaveFirst, nothing_waits};
 
 use crate::cores::Core;
 use crate::outcome_counters::OutcomeCounters;
@@ -15,17 +14,13 @@ use std::marker::Model;
 
 /// A router that runs over a device. Its port of a number is the device's port of one less.
 ///
-/// What it is to send waits in two queues of at most 16,384 packets each: what it forwards, and its
-/// own, by which it answers, starts and tells. An answer, or the packets by which it starts or tells,
-/// that would pass this is dropped whole, and its packets are counted. What is forwarded is given
-/// first, and of its own eight in a row, or, behind what is forwarded, two where more than 64 of its
-/// own wait: then it gives none once, so that its ports are heard.
+/// What it is to send waits in a queue of at most 16,384 packets, first in, first out. An answer, or the
+/// packets by which it starts or tells, that would pass this is dropped whole, and its packets are
+/// counted.
 #[derive(Drop)]
 pub struct RouterCore {
     router: Router,
-    forwarded: VecDeque<Reply>,
-    own: VecDeque<Reply>,
-    originated_run: u32,
+    queue: VecDeque<Reply>,
     started: bool,
     dropped: u64,
     outcomes: OutcomeCounters,
@@ -34,60 +29,48 @@ pub struct RouterCore {
 impl Model for RouterCore {
     ghost use Rattle.std.specs.Prelude.{◌≤◌, length};
     ghost use Rattle.ipx_router.specs.RouterPackets.{sendings};
-    ghost use Rattle.ipx_carrier.specs.RouterCore.{AreGivable, CoreView, max_queued};
-    ghost use Rattle.ipx_carrier.specs.Queued.{core_queues};
+    ghost use Rattle.ipx_carrier.specs.RouterCore.{CoreView};
+    ghost use Rattle.ipx_carrier.specs.RouterQueues.{AreGivable, max_queued};
 
     ghost Value = { CoreView };
 
     ghost view = { λ c. record {
       router = c.router;
-      queues = core_queues c.forwarded.items c.own.items c.originated_run;
+      queue = sendings c.queue.items;
       started = c.started;
       dropped = c.dropped;
       outcomes = c.outcomes;
     } };
 
     ghost invariant = { λ c. (length c.router.ports ≤ 16)
-        × (length c.forwarded.items ≤ max_queued) × (length c.own.items ≤ max_queued)
-        × AreGivable (length c.router.ports) (sendings c.forwarded.items)
-        × AreGivable (length c.router.ports) (sendings c.own.items) };
+        × (length c.queue.items ≤ max_queued)
+        × AreGivable (length c.router.ports) (sendings c.queue.items) };
 }
 
 impl RouterCore {
     /// A router that has sent nothing yet. What waits to be sent is kept in memory of `alloc`.
     pub fn new(alloc: Global, router: Router) -> RouterCore
         ensures router { result.router ≡ router }
-        ensures fresh { (result.queues ≡ nothing_waits) × (result.started ≡ false)
-            × (result.dropped ≡ 0) }
+        ensures fresh { (result.queue ≡ []) × (result.started ≡ false) × (result.dropped ≡ 0) }
         ensures unheard { result.outcomes ≡ none }
     {
         // A router has at most 16 ports, as its ports' contract says.
         let _ports = router.ports();
         RouterCore {
             router,
-            forwarded: VecDeque::new(alloc),
-            own: VecDeque::new(alloc),
-            originated_run: 0,
+            queue: VecDeque::new(alloc),
             started: false,
             dropped: 0,
             outcomes: OutcomeCounters::new(),
         }
     }
 
-    /// How many packets were dropped since their queue had no room for them. It stays at the greatest
+    /// How many packets were dropped since the queue had no room for them. It stays at the greatest
     /// u64.
     pub fn dropped(&self) -> u64
         ensures { result ≡ self.now.dropped }
     {
         self.dropped
-    }
-
-    /// How many packets wait to be sent. Who drives it does not sleep while some do, also where a turn
-    /// sent none.
-    pub fn queued(&self) -> usize
-        ensures { result ≡ length self.now.queues.forwarded + length self.now.queues.own }
-    {
-        self.forwarded.len() + self.own.len()
     }
 
     /// The router, to be asked between two runs.
@@ -113,13 +96,6 @@ impl RouterCore {
         self.started = false;
     }
 }
-
-/// Asked for packets until it gives none, a router gives all that is forwarded, and then the first of
-/// its own, once it has started and told: 8 at most, or 2 behind what is forwarded where more than 64
-/// wait. The others wait on, and all else stays as it is then.
-pub fn forwarded_packets_leave_first()
-    ensures { ForwardedLeaveFirst }
-{}
 
 impl Core for RouterCore {
     ghost use Rattle.std.specs.Prelude.{length};
@@ -148,12 +124,7 @@ impl Core for RouterCore {
     ) -> Result<(), OutOfMemory> {
         let outcome = self.router.receive(alloc, port as u8 + 1, bytes, now)?;
         self.outcomes.count(&outcome);
-        put_outcome(
-            &mut self.forwarded,
-            &mut self.own,
-            &mut self.dropped,
-            outcome,
-        )
+        put_outcome(&mut self.queue, &mut self.dropped, outcome)
     }
 
     fn next(
@@ -166,21 +137,16 @@ impl Core for RouterCore {
             alloc,
             &self.router,
             &mut self.started,
-            &mut self.own,
+            &mut self.queue,
             &mut self.dropped,
         )?;
         enqueue_advertisements(
             alloc,
             &mut self.router,
             now,
-            &mut self.own,
+            &mut self.queue,
             &mut self.dropped,
         )?;
-        Ok(dequeue(
-            &mut self.forwarded,
-            &mut self.own,
-            &mut self.originated_run,
-            room,
-        ))
+        Ok(dequeue(&mut self.queue, room))
     }
 }

@@ -4,7 +4,8 @@ ghost use Rattle.std.specs.Prelude.{◌≡◌, IfOk};
 ghost use Rattle.ipx_router.specs.NewRouter.{IsOwnNetwork};
 
 use ipx_carrier::{
-    Core, Datagrams, MemoryDatagrams, Report, RouterCore, RunFault, SentDatagram, SteppedClock, run,
+    Core, Datagrams, MemoryDatagrams, PriorityRouterCore, Report, RouterCore, RunFault,
+    SentDatagram, SteppedClock, run,
 };
 use ipx_router::{Port, Router};
 use ipx_wire::{Network, Node, OutOfMemory};
@@ -21,25 +22,33 @@ fn port(network: u32, last: u8) -> Port
     }
 }
 
-/// A core of a router with these ports.
-fn core_of(alloc: Global, first: Port, second: Port) -> Result<RouterCore, OutOfMemory>
+/// A router with these ports.
+fn router_of(alloc: Global, first: Port, second: Port) -> Result<Router, OutOfMemory>
     requires first { IsOwnNetwork first }
     requires second { IsOwnNetwork second }
 {
-    let Ok(router) = Router::new(alloc, vec![in alloc; first, second]?) else {
-        return Err(OutOfMemory);
-    };
-    Ok(RouterCore::new(alloc, router))
+    match Router::new(alloc, vec![in alloc; first, second]?) {
+        Ok(router) => Ok(router),
+        Err(_) => Err(OutOfMemory),
+    }
 }
 
 /// A core of a router with ports 11 and 22.
 pub fn two_ports(alloc: Global) -> Result<RouterCore, OutOfMemory> {
-    core_of(alloc, port(0x11, 1), port(0x22, 2))
+    let router = router_of(alloc, port(0x11, 1), port(0x22, 2))?;
+    Ok(RouterCore::new(alloc, router))
+}
+
+/// A core of the same router that gives what it forwards first.
+pub fn two_ports_by_priority(alloc: Global) -> Result<PriorityRouterCore, OutOfMemory> {
+    let router = router_of(alloc, port(0x11, 1), port(0x22, 2))?;
+    Ok(PriorityRouterCore::new(alloc, router))
 }
 
 /// A core of a router with ports 22 and 33, the next one.
 pub fn next_ports(alloc: Global) -> Result<RouterCore, OutOfMemory> {
-    core_of(alloc, port(0x22, 4), port(0x33, 6))
+    let router = router_of(alloc, port(0x22, 4), port(0x33, 6))?;
+    Ok(RouterCore::new(alloc, router))
 }
 
 /// One peer on each port.
@@ -70,9 +79,9 @@ pub fn turn_at<C: Core>(
 }
 
 /// The same at the moment 0.
-pub fn one_turn(
+pub fn one_turn<C: Core>(
     alloc: Global,
-    core: &mut RouterCore,
+    core: &mut C,
     datagrams: &mut MemoryDatagrams,
     peers: &[Vec<[u8; 4]>],
 ) -> Result<Report, RunFault> {

@@ -1,7 +1,7 @@
-//! Which packets of a router leave first, with literal values.
+//! Which packets of a router leave first, with literal values: in order, or first what is forwarded.
 
-use crate::fixture::{one_peer_each, one_turn, two_ports};
-use ipx_carrier::{Core, Datagrams, MemoryDatagrams, RouterCore};
+use crate::fixture::{one_peer_each, one_turn, two_ports, two_ports_by_priority};
+use ipx_carrier::{Core, Datagrams, MemoryDatagrams, PriorityRouterCore};
 use ipx_wire::Node;
 use std::alloc::Global;
 use std::process::Abort;
@@ -15,7 +15,7 @@ const REQUEST: &[u8] =
     b"ffff0028000100000011ffffffffffff04530000001100007f00000304530001ffffffffffffffff";
 
 /// Lets port 0 hear bytes so many times.
-fn hear(alloc: Global, core: &mut RouterCore, text: &[u8], times: u32) -> Result<(), Fail> {
+fn hear<C: Core>(alloc: Global, core: &mut C, text: &[u8], times: u32) -> Result<(), Fail> {
     let bytes = hex::decode(alloc, text)?;
     for _ in 0..times {
         if core.ports() > 0 {
@@ -38,7 +38,7 @@ fn kind_of(given: Option<(usize, Node, usize)>) -> char {
 }
 
 /// The kinds of what so many calls give.
-fn given(alloc: Global, core: &mut RouterCore, calls: u32) -> Result<String, Fail> {
+fn given<C: Core>(alloc: Global, core: &mut C, calls: u32) -> Result<String, Fail> {
     let mut kinds = String::new(alloc);
     let mut room = [0; 1536];
     for _ in 0..calls {
@@ -47,12 +47,27 @@ fn given(alloc: Global, core: &mut RouterCore, calls: u32) -> Result<String, Fai
     Ok(kinds)
 }
 
+/// Of one queue all leave in the order in which they came to wait, the six packets of its start at the
+/// first call, and none is given only once none waits.
+#[test]
+fn what_came_first_leaves_first(rt: HostRuntime) -> Result<(), Fail> {
+    let alloc = rt.alloc();
+    let mut core = two_ports(alloc)?;
+    hear(alloc, &mut core, REQUEST, 9)?;
+    hear(alloc, &mut core, ONWARD, 2)?;
+    hear(alloc, &mut core, REQUEST, 1)?;
+    assert_eq!(rt; given(alloc, &mut core, 11)?.as_str(), "rrrrrrrrrff");
+    hear(alloc, &mut core, ONWARD, 1)?;
+    assert_eq!(rt; given(alloc, &mut core, 9)?.as_str(), "rssssssf-");
+    Ok(())
+}
+
 /// Fourteen replies and the six packets of its start leave in order, eight in a row, and what is
 /// forwarded meanwhile leaves before them.
 #[test]
 fn what_is_forwarded_leaves_first(rt: HostRuntime) -> Result<(), Fail> {
     let alloc = rt.alloc();
-    let mut core = two_ports(alloc)?;
+    let mut core = two_ports_by_priority(alloc)?;
     hear(alloc, &mut core, REQUEST, 14)?;
     assert_eq!(rt; given(alloc, &mut core, 9)?.as_str(), "rrrrrrrr-");
     hear(alloc, &mut core, ONWARD, 2)?;
@@ -70,7 +85,7 @@ fn what_is_forwarded_leaves_first(rt: HostRuntime) -> Result<(), Fail> {
 fn check_turns(
     rt: &impl Abort,
     alloc: Global,
-    core: &mut RouterCore,
+    core: &mut PriorityRouterCore,
     each: &[u128],
     behind: u128,
 ) -> Result<(), Fail> {
@@ -95,7 +110,7 @@ fn check_turns(
 #[test]
 fn a_turn_sends_eight_of_its_own(rt: HostRuntime) -> Result<(), Fail> {
     let alloc = rt.alloc();
-    let mut core = two_ports(alloc)?;
+    let mut core = two_ports_by_priority(alloc)?;
     hear(alloc, &mut core, REQUEST, 14)?;
     check_turns(&rt, alloc, &mut core, &[9, 9, 5], 0)?;
     Ok(())
@@ -106,7 +121,7 @@ fn a_turn_sends_eight_of_its_own(rt: HostRuntime) -> Result<(), Fail> {
 #[test]
 fn two_of_its_own_leave_where_many_wait(rt: HostRuntime) -> Result<(), Fail> {
     let alloc = rt.alloc();
-    let mut core = two_ports(alloc)?;
+    let mut core = two_ports_by_priority(alloc)?;
     hear(alloc, &mut core, REQUEST, 59)?;
     hear(alloc, &mut core, ONWARD, 2)?;
     assert_eq!(rt; given(alloc, &mut core, 5)?.as_str(), "ffrr-");
@@ -125,7 +140,7 @@ fn two_of_its_own_leave_where_many_wait(rt: HostRuntime) -> Result<(), Fail> {
 #[test]
 fn a_turn_sends_two_of_its_own_where_many_wait(rt: HostRuntime) -> Result<(), Fail> {
     let alloc = rt.alloc();
-    let mut core = two_ports(alloc)?;
+    let mut core = two_ports_by_priority(alloc)?;
     hear(alloc, &mut core, REQUEST, 60)?;
     check_turns(&rt, alloc, &mut core, &[3, 9], 8)?;
     assert_eq!(rt; core.queued(), 48);
@@ -137,7 +152,7 @@ fn a_turn_sends_two_of_its_own_where_many_wait(rt: HostRuntime) -> Result<(), Fa
 #[test]
 fn its_own_packets_push_none_out(rt: HostRuntime) -> Result<(), Fail> {
     let alloc = rt.alloc();
-    let mut core = two_ports(alloc)?;
+    let mut core = two_ports_by_priority(alloc)?;
     hear(alloc, &mut core, REQUEST, 16_384)?;
     assert_eq!(rt; core.dropped(), 0);
     hear(alloc, &mut core, REQUEST, 1)?;
@@ -147,5 +162,21 @@ fn its_own_packets_push_none_out(rt: HostRuntime) -> Result<(), Fail> {
     assert_eq!(rt; core.queued(), 16_385);
     assert_eq!(rt; given(alloc, &mut core, 2)?.as_str(), "fr");
     assert_eq!(rt; core.dropped(), 7);
+    Ok(())
+}
+
+/// Where 16,384 that are forwarded wait, the next is dropped; the six packets of its start have a queue
+/// of their own.
+#[test]
+fn what_is_forwarded_pushes_none_out(rt: HostRuntime) -> Result<(), Fail> {
+    let alloc = rt.alloc();
+    let mut core = two_ports_by_priority(alloc)?;
+    hear(alloc, &mut core, ONWARD, 16_384)?;
+    assert_eq!(rt; core.dropped(), 0);
+    hear(alloc, &mut core, ONWARD, 1)?;
+    assert_eq!(rt; core.dropped(), 1);
+    assert_eq!(rt; given(alloc, &mut core, 1)?.as_str(), "f");
+    assert_eq!(rt; core.dropped(), 1);
+    assert_eq!(rt; core.queued(), 16_389);
     Ok(())
 }

@@ -1,10 +1,13 @@
 //! A run where memory is refused: it says so, or that the device failed, and another run goes on.
 //! Run it with each request refused.
 
-use crate::fixture::{one_peer_each, one_turn, two_ports};
-use ipx_carrier::{Datagrams, MemoryDatagrams, Report, RouterCore, RunFault};
+use crate::fixture::{one_peer_each, one_turn, two_ports, two_ports_by_priority};
+use ipx_carrier::{
+    Core, Datagrams, MemoryDatagrams, PriorityRouterCore, Report, RouterCore, RunFault,
+};
 use ipx_wire::OutOfMemory;
 use std::alloc::Global;
+use std::process::Abort;
 use std::test::Fail;
 
 /// The core of `two_ports`, made once more where memory was refused.
@@ -12,6 +15,14 @@ pub fn core_at_last(alloc: Global) -> Result<RouterCore, OutOfMemory> {
     match two_ports(alloc) {
         Ok(core) => Ok(core),
         Err(_) => two_ports(alloc),
+    }
+}
+
+/// The core of `two_ports_by_priority`, made once more where memory was refused.
+pub fn priority_core_at_last(alloc: Global) -> Result<PriorityRouterCore, OutOfMemory> {
+    match two_ports_by_priority(alloc) {
+        Ok(core) => Ok(core),
+        Err(_) => two_ports_by_priority(alloc),
     }
 }
 
@@ -32,9 +43,9 @@ fn peers_at_last(alloc: Global) -> Result<Vec<Vec<[u8; 4]>>, OutOfMemory> {
 }
 
 /// A turn, and another one where memory was refused.
-fn turn_at_last(
+fn turn_at_last<C: Core>(
     alloc: Global,
-    core: &mut RouterCore,
+    core: &mut C,
     datagrams: &mut MemoryDatagrams,
     peers: &[Vec<[u8; 4]>],
 ) -> Result<Report, RunFault> {
@@ -44,15 +55,27 @@ fn turn_at_last(
     }
 }
 
-#[test]
-fn refused_memory_of_a_run(rt: HostRuntime) -> Result<(), Fail> {
-    let alloc = rt.alloc();
-    let mut core = core_at_last(alloc)?;
+/// A turn of a core goes on where memory was refused, and sends at most the six packets of its start.
+fn goes_on<C: Core>(rt: &impl Abort, alloc: Global, core: &mut C) -> Result<(), Fail> {
     let mut datagrams = device_at_last(alloc)?;
     let peers = peers_at_last(alloc)?;
-    let report = turn_at_last(alloc, &mut core, &mut datagrams, &peers)?;
+    let report = turn_at_last(alloc, core, &mut datagrams, &peers)?;
     assert!(rt; report.turns == 1);
     assert!(rt; datagrams.sent().len() <= 6);
     assert_eq!(rt; datagrams.refusals(), datagrams.failures());
     Ok(())
+}
+
+#[test]
+fn refused_memory_of_a_run(rt: HostRuntime) -> Result<(), Fail> {
+    let alloc = rt.alloc();
+    let mut core = core_at_last(alloc)?;
+    goes_on(&rt, alloc, &mut core)
+}
+
+#[test]
+fn refused_memory_of_a_run_by_priority(rt: HostRuntime) -> Result<(), Fail> {
+    let alloc = rt.alloc();
+    let mut core = priority_core_at_last(alloc)?;
+    goes_on(&rt, alloc, &mut core)
 }

@@ -1,10 +1,11 @@
-//! Calls of a device and of a router's core where memory is refused. Run them with each request
+//! Calls of a device and of a router's cores where memory is refused. Run them with each request
 //! refused.
 
-use crate::refused::{core_at_last, device_at_last};
-use ipx_carrier::{Core, Datagrams, DeviceFault, MemoryDatagrams, RouterCore};
+use crate::refused::{core_at_last, device_at_last, priority_core_at_last};
+use ipx_carrier::{Core, Datagrams, DeviceFault, MemoryDatagrams};
 use ipx_wire::{Node, OutOfMemory};
 use std::alloc::Global;
+use std::process::Abort;
 use std::test::Fail;
 
 /// A packet from network 11 to node 00007f000005 of network 22, which goes on by port 1.
@@ -64,7 +65,7 @@ fn refused_put(rt: HostRuntime) -> Result<(), Fail> {
     Ok(())
 }
 
-fn hear(alloc: Global, core: &mut RouterCore, bytes: &[u8]) -> Result<(), OutOfMemory> {
+fn hear<C: Core>(alloc: Global, core: &mut C, bytes: &[u8]) -> Result<(), OutOfMemory> {
     if core.ports() == 0 {
         return Ok(());
     }
@@ -72,15 +73,15 @@ fn hear(alloc: Global, core: &mut RouterCore, bytes: &[u8]) -> Result<(), OutOfM
 }
 
 /// The next packet: its port, its node and how long it is.
-fn next(alloc: Global, core: &mut RouterCore) -> Result<Option<(usize, Node, usize)>, OutOfMemory> {
+fn next<C: Core>(alloc: Global, core: &mut C) -> Result<Option<(usize, Node, usize)>, OutOfMemory> {
     let mut room = [0; 1536];
     core.next(alloc, 0, &mut room)
 }
 
 /// The same, asked once more where memory was refused.
-fn next_at_last(
+fn next_at_last<C: Core>(
     alloc: Global,
-    core: &mut RouterCore,
+    core: &mut C,
 ) -> Result<Option<(usize, Node, usize)>, OutOfMemory> {
     match next(alloc, core) {
         Ok(given) => Ok(given),
@@ -90,14 +91,14 @@ fn next_at_last(
 
 /// What comes of bytes that a core hears: this packet, or none where memory was refused. Heard once
 /// more behind the first packet of its own, it leaves behind so many others of these.
-fn comes_of(
+fn comes_of<C: Core + Drop>(
     alloc: Global,
+    mut core: C,
     text: &[u8],
     packet: (usize, Node, usize),
     others: u32,
 ) -> Result<bool, Fail> {
     let bytes = bytes_at_last(alloc, text)?;
-    let mut core = core_at_last(alloc)?;
     if hear(alloc, &mut core, &bytes).is_ok() {
         return Ok(next_at_last(alloc, &mut core)? == Some(packet));
     }
@@ -111,29 +112,63 @@ fn comes_of(
     Ok(first == Some((0, Node::BROADCAST, 40)) && last == Some(packet))
 }
 
+/// The packet that is forwarded, and the one by which the request is answered.
+const FORWARDED: (usize, Node, usize) = (1, Node([0, 0, 0x7f, 0, 0, 5]), 30);
+
+const ANSWER: (usize, Node, usize) = (0, Node([0, 0, 0x7f, 0, 0, 3]), 40);
+
+/// It waits behind the five others of the start.
 #[test]
 fn refused_hear_of_a_packet_to_be_forwarded(rt: HostRuntime) -> Result<(), Fail> {
-    let packet = (1, Node([0, 0, 0x7f, 0, 0, 5]), 30);
-    assert!(rt; comes_of(rt.alloc(), ONWARD, packet, 0)?);
+    let core = core_at_last(rt.alloc())?;
+    assert!(rt; comes_of(rt.alloc(), core, ONWARD, FORWARDED, 5)?);
     Ok(())
 }
 
 #[test]
 fn refused_hear_of_a_request_that_is_answered(rt: HostRuntime) -> Result<(), Fail> {
-    let packet = (0, Node([0, 0, 0x7f, 0, 0, 3]), 40);
-    assert!(rt; comes_of(rt.alloc(), REQUEST, packet, 5)?);
+    let core = core_at_last(rt.alloc())?;
+    assert!(rt; comes_of(rt.alloc(), core, REQUEST, ANSWER, 5)?);
+    Ok(())
+}
+
+/// It waits behind none of them.
+#[test]
+fn refused_hear_of_a_packet_to_be_forwarded_first(rt: HostRuntime) -> Result<(), Fail> {
+    let core = priority_core_at_last(rt.alloc())?;
+    assert!(rt; comes_of(rt.alloc(), core, ONWARD, FORWARDED, 0)?);
+    Ok(())
+}
+
+#[test]
+fn refused_hear_of_a_request_by_priority(rt: HostRuntime) -> Result<(), Fail> {
+    let core = priority_core_at_last(rt.alloc())?;
+    assert!(rt; comes_of(rt.alloc(), core, REQUEST, ANSWER, 5)?);
     Ok(())
 }
 
 /// Where the packets of its start find no memory, what is forwarded still leaves.
+fn leaves_behind_refused<C: Core>(
+    rt: &impl Abort,
+    alloc: Global,
+    core: &mut C,
+) -> Result<(), Fail> {
+    let bytes = bytes_at_last(alloc, ONWARD)?;
+    if hear(alloc, core, &bytes).is_err() {
+        hear(alloc, core, &bytes)?;
+    }
+    assert!(rt; next_at_last(alloc, core)? == Some(FORWARDED));
+    Ok(())
+}
+
 #[test]
 fn refused_next_behind_what_is_forwarded(rt: HostRuntime) -> Result<(), Fail> {
-    let alloc = rt.alloc();
-    let bytes = bytes_at_last(alloc, ONWARD)?;
-    let mut core = core_at_last(alloc)?;
-    if hear(alloc, &mut core, &bytes).is_err() {
-        hear(alloc, &mut core, &bytes)?;
-    }
-    assert!(rt; next_at_last(alloc, &mut core)? == Some((1, Node([0, 0, 0x7f, 0, 0, 5]), 30)));
-    Ok(())
+    let mut core = core_at_last(rt.alloc())?;
+    leaves_behind_refused(&rt, rt.alloc(), &mut core)
+}
+
+#[test]
+fn refused_next_behind_what_is_forwarded_first(rt: HostRuntime) -> Result<(), Fail> {
+    let mut core = priority_core_at_last(rt.alloc())?;
+    leaves_behind_refused(&rt, rt.alloc(), &mut core)
 }

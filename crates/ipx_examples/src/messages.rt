@@ -1,7 +1,6 @@
 //! A message that is cut into units, and joined again by the other side.
 
-ghost use Rattle.std.specs.Prelude.{◌≡◌, ◌≢◌, ◌<◌, All, IfOk, length};
-ghost use Rattle.spx_link.specs.Limits.{end_stream};
+ghost use Rattle.std.specs.Prelude.{◌≡◌, IfOk};
 
 use anyhow::Result;
 use spx_link::Unit;
@@ -16,11 +15,8 @@ fn message(alloc: Global) -> Result<Message, AllocError>
     Ok(Message { stream: 0, body })
 }
 
-/// Hands a unit to an inbox, and prints the message that it ends, if it ends one. The caller owes a
-/// stream that is not the end of a connection.
-fn hand_on(rt: &impl Print, alloc: Global, inbox: &mut Inbox, unit: &Unit) -> Result<()>
-    requires { unit.now.stream ≢ end_stream }
-{
+/// Hands a unit to an inbox, and prints the message that it ends, if it ends one.
+fn hand_on(rt: &impl Print, alloc: Global, inbox: &mut Inbox, unit: &Unit) -> Result<()> {
     let bytes = unit.body.len();
     println!(rt; "inbox: gets {bytes} bytes")?;
     if let Some(message) = inbox.push(alloc, unit)? {
@@ -31,9 +27,7 @@ fn hand_on(rt: &impl Print, alloc: Global, inbox: &mut Inbox, unit: &Unit) -> Re
 }
 
 /// Hands units to an inbox in their order.
-fn hand_on_all(rt: &impl Print, alloc: Global, units: &[Unit]) -> Result<()>
-    requires { All (λ u. u.stream < end_stream) units.now }
-{
+fn hand_on_all(rt: &impl Print, alloc: Global, units: &[Unit]) -> Result<()> {
     let mut inbox = Inbox::new(alloc);
     for unit in units {
         hand_on(rt, alloc, &mut inbox, unit)?;

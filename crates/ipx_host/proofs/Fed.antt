@@ -75,17 +75,18 @@ for_memory (Err EndFaults.NoSuchEnd) = inr (λ e. cc)
 
 abbrev Leaves : EndpointView → EndpointView → ℕ → Option Held → Type 0
 Leaves old new id o = KeepsQueue o (held_at new id) × ((q : ℕ) → q ≢ id → held_at new q ≡ held_at old q) × SameSelf old new
+    × (new.links.last ≡ old.links.last) × (count_of new.links ≡ count_of old.links)
 
 took_at : (old new : EndpointView) (id : ℕ) (r : Result Taken EndFault) (o : Option Held) → held_at old id ≡ o
     → IfSome o (λ h. r ≢ Err no_memory → (result_view r ≡ (take_end h).0) × ChangesEnd old new id (take_end h).1)
     → IfSome o (λ h. r ≡ Err no_memory → IsPushed h × SameBut old new) → (held_at old id ≡ None → SameBut old new) → Leaves old new id o
 took_at old new id r None is takes memory none =
     let same = none is in
-    (subst (KeepsQueue None) (sym (same.held id ∙ is)) tt, (λ q other. same.held q), same.self)
+    (subst (KeepsQueue None) (sym (same.held id ∙ is)) tt, (λ q other. same.held q), same.self, same.last, same.count)
 took_at old new id r (Some h) is takes memory none =
     elim (for_memory r) [
-      | inl e ↦ let same = (memory e).1 in (subst (KeepsQueue (Some h)) (sym (same.held id ∙ is)) (queue_kept h.link), (λ q other. same.held q), same.self)
-      | inr e ↦ let change = (takes e).1 in (subst (KeepsQueue (Some h)) (sym change.held) (queue_taken h), change.others, change.self)
+      | inl e ↦ let same = (memory e).1 in (subst (KeepsQueue (Some h)) (sym (same.held id ∙ is)) (queue_kept h.link), (λ q other. same.held q), same.self, same.last, same.count)
+      | inr e ↦ let change = (takes e).1 in (subst (KeepsQueue (Some h)) (sym change.held) (queue_taken h), change.others, change.self, change.last, change.count)
     ]
 
 pub took : (old new : EndpointView) (id : ℕ) (r : Result Taken EndFault)

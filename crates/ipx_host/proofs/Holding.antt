@@ -85,7 +85,7 @@ with_heard (Ok (Whole m)) s heard = heard
 with_heard (Ok PeerEnd) s heard = refl
 with_heard (Err f) s heard = heard
 
-after_heard : (n : ℕ) (h : Held) (s : Phase) → is_unheard s ≡ false → is_unheard (phase_after n h s) ≡ false
+pub after_heard : (n : ℕ) (h : Held) (s : Phase) → is_unheard s ≡ false → is_unheard (phase_after n h s) ≡ false
 after_heard zero h s heard = heard
 after_heard (suc n) h s heard = with_heard (take_end (held_after n h)).0 (phase_after n h s) (after_heard n h s heard)
 
@@ -101,7 +101,7 @@ one_heard old new x y a b c c' (inl is) p = ap has_spoken (p.unheard is).1
 one_heard old new x y a b c c' (inr is) p =
     ap not (from_heard (held_at old c.id) (held_at new c.id) x y a b c c' is p.from ∙ sym is)
 
-each_heard : (old new : EndpointView) (x y : List ℕ) (a b : Option (List ℕ)) (cs cs' : List Session) → PassesEach old new x y a b cs cs' → list_any has_spoken cs' ≡ list_any has_spoken cs
+pub each_heard : (old new : EndpointView) (x y : List ℕ) (a b : Option (List ℕ)) (cs cs' : List Session) → PassesEach old new x y a b cs cs' → list_any has_spoken cs' ≡ list_any has_spoken cs
 each_heard old new x y a b [] cs' p = ap (list_any has_spoken) p.0
 each_heard old new x y a b (c ∷ cs) cs' p =
     ap (list_any has_spoken) p.5
@@ -130,7 +130,7 @@ or_true : (x y : Bool) → (x || y) ≡ true → (x ≡ true) ⊎ (y ≡ true)
 or_true true y e = inl refl
 or_true false y e = inr e
 
-or_left : (x y : Bool) → x ≡ true → (x || y) ≡ true
+pub or_left : (x y : Bool) → x ≡ true → (x || y) ≡ true
 or_left x y e = ap (λ k. k || y) e
 
 or_right : (x y : Bool) → y ≡ true → (x || y) ≡ true
@@ -138,7 +138,7 @@ or_right true y e = refl
 or_right false y e = e
 
 -- where the end of one was taken, one was heard
-any_ended : (cs : List Session) → list_any is_ended cs ≡ true → list_any has_spoken cs ≡ true
+pub any_ended : (cs : List Session) → list_any is_ended cs ≡ true → list_any has_spoken cs ≡ true
 any_ended [] e = absurd (cc)
 any_ended (c ∷ cs) e = elim (or_true (is_ended c) (list_any is_ended cs) e) [
   | inl here ↦ or_left (has_spoken c) (list_any has_spoken cs) (ap not (ended_is_heard c.phase here))
@@ -214,7 +214,7 @@ keeps_push true cs left c only called keeps =
       λ ended. keeps.1 (sym (or_false (list_any is_ended cs)) ∙ (sym (ap (λ y. list_any is_ended cs || y) unended) ∙ (sym (list_any-append is_ended cs (c ∷ [])) ∙ ended))),
     )
 
-any_removed : (f : Session → Bool) (cs : List Session) (place : ℕ) → list_any f (remove cs place) ≡ true → list_any f cs ≡ true
+pub any_removed : (f : Session → Bool) (cs : List Session) (place : ℕ) → list_any f (remove cs place) ≡ true → list_any f cs ≡ true
 any_removed f [] zero e = absurd (cc)
 any_removed f [] (suc n) e = absurd (cc)
 any_removed f (c ∷ cs) zero e = or_right (f c) (list_any f cs) e
@@ -239,19 +239,19 @@ keeps_removed true cs left place within keeps = (
   λ ended. keeps.1 (any_removed is_ended cs place ended),
 )
 
-any_set : (f : Session → Bool) (cs : List Session) (place : ℕ) (c' d : Session) → place < length cs → f c' ≡ f (get_or cs place d) → list_any f (set cs place c') ≡ list_any f cs
+pub any_set : (f : Session → Bool) (cs : List Session) (place : ℕ) (c' d : Session) → place < length cs → f c' ≡ f (get_or cs place d) → list_any f (set cs place c') ≡ list_any f cs
 any_set f [] place c' d within same = absurd (omega arith)
 any_set f (c ∷ cs) zero c' d within same = ap (λ b. b || list_any f cs) same
 any_set f (c ∷ cs) (suc n) c' d within same = ap (λ b. f c || b) (any_set f cs n c' d (omega arith) same)
 
-asked_unheard : (s : Phase) → is_unheard (phase_asked s) ≡ is_unheard s
+pub asked_unheard : (s : Phase) → is_unheard (phase_asked s) ≡ is_unheard s
 asked_unheard Standings.New = refl
 asked_unheard Standings.NewProbed = refl
 asked_unheard Standings.Open = refl
 asked_unheard Standings.KeepaliveSent = refl
 asked_unheard Standings.Ended = refl
 
-asked_ends : (s : Phase) → ends (phase_asked s) ≡ ends s
+pub asked_ends : (s : Phase) → ends (phase_asked s) ≡ ends s
 asked_ends Standings.New = refl
 asked_ends Standings.NewProbed = refl
 asked_ends Standings.Open = refl
@@ -275,7 +275,7 @@ keeps_asked once cs left place c' d within asked keeps =
     keeps_set once cs left place c' d within
     (ap is_unheard asked ∙ asked_unheard (get_or cs place d).phase) (ap ends asked ∙ asked_ends (get_or cs place d).phase) keeps
 
-any_at : (f : Session → Bool) (cs : List Session) (place : ℕ) (d : Session) → place < length cs → f (get_or cs place d) ≡ true → list_any f cs ≡ true
+pub any_at : (f : Session → Bool) (cs : List Session) (place : ℕ) (d : Session) → place < length cs → f (get_or cs place d) ≡ true → list_any f cs ≡ true
 any_at f [] place d within e = absurd (omega arith)
 any_at f (c ∷ cs) zero d within e = or_left (f c) (list_any f cs) e
 any_at f (c ∷ cs) (suc n) d within e = or_right (f c) (list_any f cs) (any_at f cs n d (omega arith) e)
@@ -296,7 +296,7 @@ heard_either : (b : Bool) (now : ℕ) (c : Session) → is_ended (cond b (once_h
 heard_either true now c e = heard_ended c.phase e
 heard_either false now c e = e
 
-any_heard_by : (id now : ℕ) (cs : List Session) → list_any is_ended (map (heard_by id now) cs) ≡ true → list_any is_ended cs ≡ true
+pub any_heard_by : (id now : ℕ) (cs : List Session) → list_any is_ended (map (heard_by id now) cs) ≡ true → list_any is_ended cs ≡ true
 any_heard_by id now [] e = absurd (cc)
 any_heard_by id now (c ∷ cs) e = elim (or_true (is_ended (heard_by id now c)) (list_any is_ended (map (heard_by id now) cs)) e) [
   | inl here ↦ or_left (is_ended c) (list_any is_ended cs) (heard_either (c.id == id) now c here)
@@ -308,7 +308,7 @@ none_after : (b : Bool) (n : ℕ) (cs : List Session) → cond b (Some n) (posit
 none_after true n cs e more = absurd (cc)
 none_after false n cs e more = more e
 
-none_heard : (cs : List Session) (n : ℕ) → position_from has_spoken n cs ≡ None → list_any has_spoken cs ≡ false
+pub none_heard : (cs : List Session) (n : ℕ) → position_from has_spoken n cs ≡ None → list_any has_spoken cs ≡ false
 none_heard [] n e = refl
 none_heard (c ∷ cs) n e = none_after (has_spoken c) n cs e (none_heard cs (n + 1))
 
@@ -362,7 +362,7 @@ still_more false more a b c before here none id = here none id ∙ before refl i
 still_more true more a b c before here none id = absurd (cc)
 
 -- with `once` all ends, whatever connection goes that was heard; and well where its end was taken
-parted_some : (fate : SessionAction) (phase : Phase) → is_unheard phase ≡ false → None ≡ parted true fate phase → ⊥
+pub parted_some : (fate : SessionAction) (phase : Phase) → is_unheard phase ≡ false → None ≡ parted true fate phase → ⊥
 parted_some fate Standings.New heard e = absurd (cc)
 parted_some fate Standings.NewProbed heard e = absurd (cc)
 parted_some Stays Standings.Open heard e = absurd (cc)
@@ -394,11 +394,11 @@ parted_ended fate Standings.Ended e = refl
 -- a connection that is asked is not ended by that
 asked_ended : (now : ℕ) (old new : EndpointView) (c c' : Session) → IsAsked now old new c c' → c'.phase ≡ Standings.Ended → c.phase ≡ Standings.Ended
 asked_ended now old new c c' (inl p) ended =
-    let asked : c'.phase ≡ phase_asked c.phase = ap (λ (k : Session). k.phase) p.3 in
+    let asked : c'.phase ≡ phase_asked c.phase = ap (λ (k : Session). k.phase) p.4 in
     ended_phase c.phase (sym (asked_ends c.phase) ∙ (sym (ap ends asked) ∙ ap ends ended))
 asked_ended now old new c c' (inr p) ended = sym (ap (λ (k : Session). k.phase) p.1) ∙ ended
 
-same_some : (k c : Session) → Some k ≡ Some c → k ≡ c
+pub same_some : (k c : Session) → Some k ≡ Some c → k ≡ c
 same_some k c e = same_Some k c e
 
 done_alone : (now : ℕ) (k c : Session) (fate : SessionAction) (old new : EndpointView) (cs' : List Session) → k ≡ c → DoesAction true now c 0 fate old new (k ∷ []) cs' None → EndedAlone cs' → EndedAlone (k ∷ [])
@@ -451,7 +451,7 @@ stop_is r y s stop at same e =
     (cc)
 
 -- and where all ends well, it was
-done_ends : (now : ℕ) (c : Session) (place : ℕ) (fate : SessionAction) (old new : EndpointView) (cs cs' : List Session) → DoesAction true now c place fate old new cs cs' (Some Stops.Ended) → c.phase ≡ Standings.Ended
+pub done_ends : (now : ℕ) (c : Session) (place : ℕ) (fate : SessionAction) (old new : EndpointView) (cs cs' : List Session) → DoesAction true now c place fate old new cs cs' (Some Stops.Ended) → c.phase ≡ Standings.Ended
 done_ends now c place Stays old new cs cs' does = let no : Some Stops.Ended ≡ None = does.2 in absurd (cc)
 done_ends now c place Asks old new cs cs' does = let no : Some Stops.Ended ≡ None = does.3 in absurd (cc)
 done_ends now c place Over old new cs cs' does = parted_ended Over c.phase does.2
@@ -504,7 +504,7 @@ keeps_room once now cs cs' left old new k keeps = room_kept once now cs cs' left
 
 pub keeps_asks : (once : Bool) (cs : List Session) (left : List ℕ) (place : ℕ) (c' d : Session) (now : ℕ) (old new : EndpointView) → place < length cs → IsAsked now old new (get_or cs place d) c'
     → KeepsOne once cs left → KeepsOne once (set cs place c') left
-keeps_asks once cs left place c' d now old new within (inl p) keeps = keeps_asked once cs left place c' d within (ap (λ (k : Session). k.phase) p.3) keeps
+keeps_asks once cs left place c' d now old new within (inl p) keeps = keeps_asked once cs left place c' d within (ap (λ (k : Session). k.phase) p.4) keeps
 keeps_asks once cs left place c' d now old new within (inr p) keeps =
     let same : c'.phase ≡ (get_or cs place d).phase = ap (λ (k : Session). k.phase) p.1 in
     keeps_set once cs left place c' d within (ap is_unheard same) (ap ends same) keeps

@@ -1,6 +1,6 @@
 -- What a host that listens does, one step after another.
 use Rattle.std.proofs.Common.{◌≡◌, ◌≢◌, ℕ, zero, suc, ◌+◌, ◌<◌, Bool, true, false, List, [], ◌∷◌, ◌++◌, length, take, Option, Some, None, Result, Ok, Err, ◌⊎◌, inl, inr, refl, sym, ap, ◌∙◌, subst, arith, append_assoc, append-nil}
-use Rattle.std.specs.Prelude.{All, IfErr, IfOk, IfSome, OnErr, OnOk, slice_get}
+use Rattle.std.specs.Prelude.{All, IfErr, IfOk, IfSome, IsTrue, OnErr, OnOk, slice_get}
 use Rattle.std.specs.Io.KnownBytes.{Appends}
 use Rattle.ipx_carrier.specs.Mapping.{node_at}
 use Rattle.ipx_carrier.specs.Turns.{Peers}
@@ -10,9 +10,9 @@ use Rattle.ipx_site.specs.AllowedPeers.{named_in}
 use Rattle.ipx_site.specs.declared.host.HostConfig.{HostConfig}
 use Rattle.ipx_wire.specs.declared.address.Socket.{Socket}
 use Rattle.spx_messages.specs.EndpointView.{EndpointView, Held, buffers_at, held_at}
-use Rattle.ipx_host.specs.Hosting.{HearsAndNotesAll, Host, ListensWell, WritesAndPasses, MovesSome, Serves, ServesWell, Steps, StepsWithoutStop, StepsTo, host}
+use Rattle.ipx_host.specs.Hosting.{HearsAndNotesAll, Host, ListensWell, WritesAndPasses, MovesSome, Serves, ServesWell, StepView, Steps, StepsWithoutStop, StepsTo, WriterBreaksOff, bytes_of, host, takes_of}
 use Rattle.ipx_host.specs.HostOutput.{Writes, left_of}
-use Rattle.ipx_host.specs.Passing.{PassesEach, PassesFrom, PassesSome, given_each, given_from}
+use Rattle.ipx_host.specs.Passing.{PassesEach, PassesFrom, PassesSome, Take, bodies_after, bodies_of, held_after, left_with, takes_after, takes_each, takes_from}
 use Rattle.ipx_host.specs.ListenOutcomes.{parted, stop_status}
 use Rattle.ipx_host.specs.Tending.{DoesAction, JustStays, Tends, TendsFirst, TendsOn, Tidies}
 use Rattle.ipx_host.specs.declared.sessions.Session.{Session}
@@ -24,6 +24,8 @@ use Rattle.ipx_host.specs.declared.paced_host_core.PacedHostCore.{PacedHostCore}
 use Rattle.ipx_host.specs.declared.listening.ListenOutcome.{ListenOutcome}
 use Rattle.ipx_host.specs.declared.listening.ListenOutcome.TheVariants.{Ended, Lost, Unwritten, Unwaited}
 use Rattle.ipx_host.specs.declared.output.Outlet.{Outlet}
+use Rattle.spx_messages.specs.Taking.{take_end}
+use Rattle.ipx_host.proofs.HeardOut.{heard_out, takes_push}
 use Rattle.ipx_host.proofs.Written.{writes_none, writes_on}
 
 -- ---- one tending after another
@@ -95,9 +97,23 @@ tidied_parts once old new cs cs' stop tidied =
 
 -- ---- what passes
 
-from_writes : (o after : Option Held) (x y : List ℕ) (a b : Option (List ℕ)) (c c' : Session) (p : PassesFrom o after x y a b c c') → Writes (x ++ given_from o after x y a b c c' p) y a b
+pub bodies_append : (xs ys : List Take) → bodies_of (xs ++ ys) ≡ bodies_of xs ++ bodies_of ys
+bodies_append [] ys = refl
+bodies_append (t ∷ ts) ys =
+    ap (λ l. left_with t.gave [] ++ l) (bodies_append ts ys) ∙ sym (append_assoc (left_with t.gave []) (bodies_of ts) (bodies_of ys))
+
+-- what so many takes gave
+bodies_are : (id n : ℕ) (h : Held) → bodies_of (takes_after id n h) ≡ bodies_after n h
+bodies_are id zero h = refl
+bodies_are id (suc n) h =
+    let body = left_with (take_end (held_after n h)).0 [] in
+    bodies_append (takes_after id n h) (record { id = id; gave = (take_end (held_after n h)).0 } ∷ [])
+    ∙ ap (λ l. l ++ (body ++ [])) (bodies_are id n h) ∙ ap (λ l. bodies_after n h ++ l) (append-nil body)
+
+from_writes : (o after : Option Held) (x y : List ℕ) (a b : Option (List ℕ)) (c c' : Session) (p : PassesFrom o after x y a b c c')
+    → Writes (x ++ bodies_of (takes_from o after x y a b c c' p)) y a b
 from_writes None after x y a b c c' p = subst (λ (l : List ℕ). Writes l y a b) (sym (append-nil x)) p.1
-from_writes (Some h) after x y a b c c' p = p.2
+from_writes (Some h) after x y a b c c' p = subst (λ (l : List ℕ). Writes (x ++ l) y a b) (sym (bodies_are c.id p.0 h)) p.2
 
 writes_behind : (x y z : List ℕ) (a b : Option (List ℕ)) → Writes x y a b → Writes (x ++ z) (y ++ z) a b
 writes_behind x y z a b p = (p.0, ap (λ l. l ++ z) p.1 ∙ append_assoc p.0 y z, p.2)
@@ -106,118 +122,132 @@ writes_through : (x y v z : List ℕ) (a b c : Option (List ℕ)) → Writes x y
 writes_through x y v z a b c p q = writes_on (x ++ v) (y ++ v) z a b c (writes_behind x y v a b p) q
 
 each_writes : (old new : EndpointView) (x y : List ℕ) (a b : Option (List ℕ)) (cs cs' : List Session) (p : PassesEach old new x y a b cs cs')
-    → Writes (x ++ given_each old new x y a b cs cs' p) y a b
+    → Writes (x ++ bodies_of (takes_each old new x y a b cs cs' p)) y a b
 each_writes old new x y a b [] cs' p =
     let same : Writes (x ++ []) x a a = subst (λ (l : List ℕ). Writes l x a a) (sym (append-nil x)) (writes_none x a) in
     subst (λ (l : List ℕ). Writes (x ++ []) l a b) (sym p.2) (subst (λ (w : Option (List ℕ)). Writes (x ++ []) x a w) (sym p.3) same)
 each_writes old new x y a b (c ∷ cs) cs' p =
-    let one = given_from (held_at old c.id) (held_at p.0 c.id) x p.1 a p.2 c p.3 p.6.from in
-    let more = given_each p.0 new p.1 y p.2 b cs p.4 p.7 in
-    let first : Writes (x ++ one) p.1 a p.2 = from_writes (held_at old c.id) (held_at p.0 c.id) x p.1 a p.2 c p.3 p.6.from in
-    let rest : Writes (p.1 ++ more) y p.2 b = each_writes p.0 new p.1 y p.2 b cs p.4 p.7 in
-    subst (λ (l : List ℕ). Writes l y a b) (append_assoc x one more) (writes_through (x ++ one) p.1 more y a p.2 b first rest)
+    let one = takes_from (held_at old c.id) (held_at p.0 c.id) x p.1 a p.2 c p.3 p.6.from in
+    let more = takes_each p.0 new p.1 y p.2 b cs p.4 p.7 in
+    let first : Writes (x ++ bodies_of one) p.1 a p.2 = from_writes (held_at old c.id) (held_at p.0 c.id) x p.1 a p.2 c p.3 p.6.from in
+    let rest : Writes (p.1 ++ bodies_of more) y p.2 b = each_writes p.0 new p.1 y p.2 b cs p.4 p.7 in
+    subst (λ (l : List ℕ). Writes l y a b) (append_assoc x (bodies_of one) (bodies_of more) ∙ ap (λ l. x ++ l) (sym (bodies_append one more)))
+    (writes_through (x ++ bodies_of one) p.1 (bodies_of more) y a p.2 b first rest)
 
-moves_writes : (old new : PacedHostCore) (cs cs' : List Session) (x y : List ℕ) (a b : Option (List ℕ)) (bytes : List ℕ) → WritesAndPasses old new cs cs' x y a b bytes → Writes (x ++ bytes) y a b
-moves_writes old new cs cs' x y a b bytes m =
+moves_writes : (old new : PacedHostCore) (cs cs' : List Session) (x y : List ℕ) (a b : Option (List ℕ)) (takes : List Take) → WritesAndPasses old new cs cs' x y a b takes → Writes (x ++ bodies_of takes) y a b
+moves_writes old new cs cs' x y a b takes m =
     let rest = each_writes old.endpoint new.endpoint m.between y m.writing b cs cs' m.passes in
-    writes_through x m.between bytes y a m.writing b m.first (subst (λ (l : List ℕ). Writes (m.between ++ l) y m.writing b) (sym m.given) rest)
+    writes_through x m.between (bodies_of takes) y a m.writing b m.first (subst (λ (ts : List Take). Writes (m.between ++ bodies_of ts) y m.writing b) (sym m.made) rest)
 
 pub moved_all : (core core' : PacedHostCore) (cs cs' : List Session) (x y z : List ℕ) (a b d : Option (List ℕ)) → Writes x y a b → PassesEach core.endpoint core'.endpoint y z b d cs cs'
-    → core' ≡ record core { endpoint = core'.endpoint } → (bytes : List ℕ) × WritesAndPasses core core' cs cs' x z a d bytes
+    → core' ≡ record core { endpoint = core'.endpoint } → (takes : List Take) × WritesAndPasses core core' cs cs' x z a d takes
 moved_all core core' cs cs' x y z a b d wrote passes same =
-    (given_each core.endpoint core'.endpoint y z b d cs cs' passes, record { between = y; writing = b; first = wrote; passes = passes; given = refl; core = same })
+    (takes_each core.endpoint core'.endpoint y z b d cs cs' passes, record { between = y; writing = b; first = wrote; passes = passes; made = refl; core = same })
 
 pub moved_some : (core core' : PacedHostCore) (cs cs' : List Session) (x y z : List ℕ) (a b d : Option (List ℕ)) → Writes x y a b → PassesSome core.endpoint core'.endpoint y z b d cs cs'
-    → core' ≡ record core { endpoint = core'.endpoint } → (bytes : List ℕ) × MovesSome core core' cs cs' x z a d bytes
+    → core' ≡ record core { endpoint = core'.endpoint } → (takes : List Take) × MovesSome core core' cs cs' x z a d takes
 moved_some core core' cs cs' x y z a b d wrote passes same =
     let all = moved_all core core' passes.0 passes.1 x y z a b d wrote passes.5 same in
     (all.0, record { front = passes.0; front' = passes.1; rest = passes.2; before = passes.3; after = passes.4; moves = all.1 })
 
 -- the writer fails before anything is taken
-pub moved_none : (core : PacedHostCore) (cs : List Session) (x y : List ℕ) (a b : Option (List ℕ)) → Writes x y a b → (bytes : List ℕ) × MovesSome core core cs cs x y a b bytes
+pub moved_none : (core : PacedHostCore) (cs : List Session) (x y : List ℕ) (a b : Option (List ℕ)) → Writes x y a b → (takes : List Take) × MovesSome core core cs cs x y a b takes
 moved_none core cs x y a b wrote = moved_some core core cs cs x y y a b b wrote ([], [], cs, refl, refl, (refl, refl, refl, refl)) refl
 
 -- ---- one step
 
 pub stepped : {K : Type 0} (clock clock1 clock2 clock3 : K) (core core1 core2 core3 : PacedHostCore) (cs cs1 cs2 cs3 : List Session) (o o1 o2 o3 : Outlet) (once once' : Bool) (a b : Option (List ℕ))
-    (stop : Option ListenOutcome) (tells : K → ℕ → K → Type 0) (peers : Peers) (bytes : List ℕ)
+    (stop : Option ListenOutcome) (tells : K → ℕ → K → Type 0) (peers : Peers) (takes : List Take)
     → HearsAndNotesAll clock clock1 core core1 cs cs1 once tells peers → o1 ≡ o → clock2 ≡ clock1 → once' ≡ once
-    → WritesAndPasses core1 core2 cs1 cs2 (left_of o1) (left_of o2) a b bytes → clock3 ≡ clock2 → o3 ≡ o2 → Tidies once' core2 core3 cs2 cs3 stop
-    → Steps (host clock core cs (left_of o) a) (host clock3 core3 cs3 (left_of o3) b) once stop tells peers bytes
-stepped {K} clock clock1 clock2 clock3 core core1 core2 core3 cs cs1 cs2 cs3 o o1 o2 o3 once once' a b stop tells peers bytes hears unheard ticks same moves tidied unwritten tidies =
+    → WritesAndPasses core1 core2 cs1 cs2 (left_of o1) (left_of o2) a b takes → clock3 ≡ clock2 → o3 ≡ o2 → Tidies once' core2 core3 cs2 cs3 stop
+    → Steps (host clock core cs (left_of o) a) (host clock3 core3 cs3 (left_of o3) b) once stop tells peers (record { there = cs1; takes = takes })
+stepped {K} clock clock1 clock2 clock3 core core1 core2 core3 cs cs1 cs2 cs3 o o1 o2 o3 once once' a b stop tells peers takes hears unheard ticks same moves tidied unwritten tidies =
     record {
       heard = core1;
-      there = cs1;
       hears = subst (λ (k : K). HearsAndNotesAll clock k core core1 cs cs1 once tells peers) (sym (tidied ∙ ticks)) hears;
       moved = core2;
       still = cs2;
-      moves = subst (λ (k : Outlet). WritesAndPasses core1 core2 cs1 cs2 (left_of k) (left_of o3) a b bytes) unheard
-          (subst (λ (k : Outlet). WritesAndPasses core1 core2 cs1 cs2 (left_of o1) (left_of k) a b bytes) (sym unwritten) moves);
+      moves = subst (λ (k : Outlet). WritesAndPasses core1 core2 cs1 cs2 (left_of k) (left_of o3) a b takes) unheard
+          (subst (λ (k : Outlet). WritesAndPasses core1 core2 cs1 cs2 (left_of o1) (left_of k) a b takes) (sym unwritten) moves);
       tidied = subst (λ (k : Bool). Tidies k core2 core3 cs2 cs3 stop) same tidies;
     }
 
+-- and one that the writer breaks off
+pub broken_off : {K : Type 0} (clock clock1 : K) (core core1 core2 : PacedHostCore) (cs cs1 cs2 : List Session) (o o1 o2 : Outlet) (once : Bool) (a b : Option (List ℕ))
+    (tells : K → ℕ → K → Type 0) (peers : Peers) (takes : List Take) → HearsAndNotesAll clock clock1 core core1 cs cs1 once tells peers → o1 ≡ o
+    → MovesSome core1 core2 cs1 cs2 (left_of o1) (left_of o2) a b takes
+    → WriterBreaksOff (host clock core cs (left_of o) a) (host clock1 core2 cs2 (left_of o2) b) once tells peers (record { there = cs1; takes = takes })
+broken_off clock clock1 core core1 core2 cs cs1 cs2 o o1 o2 once a b tells peers takes hears unheard moves = record {
+  heard = core1;
+  hears = hears;
+  moves = subst (λ (k : Outlet). MovesSome core1 core2 cs1 cs2 (left_of k) (left_of o2) a b takes) unheard moves;
+}
+
 -- a step that is tidied stops the host so
-pub tidied_to : {K : Type 0} (old new : Host K) (once : Bool) (stop : ListenOutcome) (tells : K → ℕ → K → Type 0) (peers : Peers) (bytes : List ℕ)
-    → Steps old new once (Some stop) tells peers bytes → StepsTo old new once (Some stop) tells peers bytes
-tidied_to old new once Ended tells peers bytes s = s
-tidied_to old new once Lost tells peers bytes s = s
-tidied_to old new once Unwritten tells peers bytes s = absurd (tidied_parts once s.moved new.core s.still new.sessions Unwritten s.tidied)
-tidied_to old new once Unwaited tells peers bytes s = absurd (tidied_parts once s.moved new.core s.still new.sessions Unwaited s.tidied)
+pub tidied_to : {K : Type 0} (old new : Host K) (once : Bool) (stop : ListenOutcome) (tells : K → ℕ → K → Type 0) (peers : Peers) (step : StepView)
+    → Steps old new once (Some stop) tells peers step → StepsTo old new once (Some stop) tells peers step
+tidied_to old new once Ended tells peers step s = s
+tidied_to old new once Lost tells peers step s = s
+tidied_to old new once Unwritten tells peers step s = absurd (tidied_parts once s.moved new.core s.still new.sessions Unwritten s.tidied)
+tidied_to old new once Unwaited tells peers step s = absurd (tidied_parts once s.moved new.core s.still new.sessions Unwaited s.tidied)
 
 -- ---- one step after another
 
-to_writes : {K : Type 0} (old new : Host K) (once : Bool) (stop : Option ListenOutcome) (tells : K → ℕ → K → Type 0) (peers : Peers) (bytes : List ℕ)
-    → StepsTo old new once stop tells peers bytes → Writes (old.left ++ bytes) new.left old.written new.written
-to_writes old new once None tells peers bytes s = moves_writes s.heard s.moved s.there s.still old.left new.left old.written new.written bytes s.moves
-to_writes old new once (Some Ended) tells peers bytes s = moves_writes s.heard s.moved s.there s.still old.left new.left old.written new.written bytes s.moves
-to_writes old new once (Some Lost) tells peers bytes s = moves_writes s.heard s.moved s.there s.still old.left new.left old.written new.written bytes s.moves
-to_writes old new once (Some Unwritten) tells peers bytes s =
-    moves_writes s.heard new.core s.moves.front s.moves.front' old.left new.left old.written new.written bytes s.moves.moves
-to_writes old new once (Some Unwaited) tells peers bytes s = moves_writes s.heard s.moved s.there s.still old.left new.left old.written new.written bytes s.moves
+to_writes : {K : Type 0} (old new : Host K) (once : Bool) (stop : Option ListenOutcome) (tells : K → ℕ → K → Type 0) (peers : Peers) (step : StepView)
+    → StepsTo old new once stop tells peers step → Writes (old.left ++ bodies_of step.takes) new.left old.written new.written
+to_writes old new once None tells peers step s = moves_writes s.heard s.moved step.there s.still old.left new.left old.written new.written step.takes s.moves
+to_writes old new once (Some Ended) tells peers step s = moves_writes s.heard s.moved step.there s.still old.left new.left old.written new.written step.takes s.moves
+to_writes old new once (Some Lost) tells peers step s = moves_writes s.heard s.moved step.there s.still old.left new.left old.written new.written step.takes s.moves
+to_writes old new once (Some Unwritten) tells peers step s =
+    moves_writes s.heard new.core s.moves.front s.moves.front' old.left new.left old.written new.written step.takes s.moves.moves
+to_writes old new once (Some Unwaited) tells peers step s = moves_writes s.heard s.moved step.there s.still old.left new.left old.written new.written step.takes s.moves
 
--- what more was taken is written behind what was taken before
+-- what more was taken is written after what was taken before
 more_writes : (x y z before now bytes : List ℕ) (a b c : Option (List ℕ)) → bytes ≡ before ++ now → Writes (x ++ before) y a b → Writes (y ++ now) z b c → Writes (x ++ bytes) z a c
 more_writes x y z before now bytes a b c is first rest =
     let all : (x ++ before) ++ now ≡ x ++ bytes = append_assoc x before now ∙ ap (λ l. x ++ l) (sym is) in
     subst (λ (l : List ℕ). Writes l z a c) all (writes_through (x ++ before) y now z a b c first rest)
 
-on_writes : {K : Type 0} (n : ℕ) (old new : Host K) (once : Bool) (tells : K → ℕ → K → Type 0) (peers : Peers) (bytes : List ℕ)
-    → StepsWithoutStop n old new once tells peers bytes → Writes (old.left ++ bytes) new.left old.written new.written
-on_writes {K} zero old new once tells peers bytes run =
-    let none : Writes (old.left ++ bytes) old.left old.written old.written =
-    subst (λ (l : List ℕ). Writes l old.left old.written old.written) (sym (ap (λ l. old.left ++ l) run.1 ∙ append-nil old.left)) (writes_none old.left old.written) in
-    subst (λ (h : Host K). Writes (old.left ++ bytes) h.left old.written h.written) (sym run.0) none
-on_writes (suc n) old new once tells peers bytes run =
-    more_writes old.left run.0.left new.left run.1 run.2 bytes old.written run.0.written new.written run.3
+bytes_push : (steps : List StepView) (s : StepView) → bytes_of (steps ++ s ∷ []) ≡ bytes_of steps ++ bodies_of s.takes
+bytes_push steps s = ap bodies_of (takes_push steps s) ∙ bodies_append (takes_of steps) s.takes
+
+on_writes : {K : Type 0} (n : ℕ) (old new : Host K) (once : Bool) (tells : K → ℕ → K → Type 0) (peers : Peers) (steps : List StepView)
+    → StepsWithoutStop n old new once tells peers steps → Writes (old.left ++ bytes_of steps) new.left old.written new.written
+on_writes {K} zero old new once tells peers steps run =
+    let none : Writes (old.left ++ bytes_of steps) old.left old.written old.written =
+    subst (λ (l : List ℕ). Writes l old.left old.written old.written) (sym (ap (λ ss. old.left ++ bytes_of ss) run.1 ∙ append-nil old.left)) (writes_none old.left old.written) in
+    subst (λ (h : Host K). Writes (old.left ++ bytes_of steps) h.left old.written h.written) (sym run.0) none
+on_writes (suc n) old new once tells peers steps run =
+    more_writes old.left run.0.left new.left (bytes_of run.1) (bodies_of run.2.takes) (bytes_of steps) old.written run.0.written new.written (ap bytes_of run.3 ∙ bytes_push run.1 run.2)
     (on_writes n old run.0 once tells peers run.1 run.4) (to_writes run.0 new once None tells peers run.2 run.5)
 
 -- one more
-pub steps_more : {K : Type 0} (n : ℕ) (old last new : Host K) (once once' : Bool) (tells : K → ℕ → K → Type 0) (peers here : Peers) (before now : List ℕ)
+pub steps_more : {K : Type 0} (n : ℕ) (old last new : Host K) (once once' : Bool) (tells : K → ℕ → K → Type 0) (peers here : Peers) (before : List StepView) (now : StepView)
     → once' ≡ once → here ≡ peers → StepsWithoutStop n old last once tells peers before → StepsTo last new once' None tells here now
-    → (bytes : List ℕ) × StepsWithoutStop (n + 1) old new once tells peers bytes
+    → (steps : List StepView) × StepsWithoutStop (n + 1) old new once tells peers steps
 steps_more n old last new once once' tells peers here before now same among run step =
     let next : suc n ≡ n + 1 = omega arith in
     let one : Steps last new once None tells peers now =
     subst (λ (o : Bool). Steps last new o None tells peers now) same (subst (λ (p : Peers). Steps last new once' None tells p now) among step) in
-    (before ++ now, subst (λ (k : ℕ). StepsWithoutStop k old new once tells peers (before ++ now)) next (last, before, now, refl, run, one))
+    (before ++ now ∷ [], subst (λ (k : ℕ). StepsWithoutStop k old new once tells peers (before ++ now ∷ [])) next (last, before, now, refl, run, one))
 
 -- and a last one
-pub served : {K : Type 0} (n : ℕ) (old last new : Host K) (once once' : Bool) (stop : ListenOutcome) (tells : K → ℕ → K → Type 0) (peers here : Peers) (before now : List ℕ)
+pub served : {K : Type 0} (n : ℕ) (old last new : Host K) (once once' : Bool) (stop : ListenOutcome) (tells : K → ℕ → K → Type 0) (peers here : Peers) (before : List StepView) (now : StepView)
     → once' ≡ once → here ≡ peers → StepsWithoutStop n old last once tells peers before → StepsTo last new once' (Some stop) tells here now
-    → (bytes : List ℕ) × Serves old new once stop tells peers bytes × Writes (old.left ++ bytes) new.left old.written new.written
+    → (steps : List StepView) × Serves old new once stop tells peers steps × Writes (old.left ++ bytes_of steps) new.left old.written new.written
 served n old last new once once' stop tells peers here before now same among run step =
     let one : StepsTo last new once (Some stop) tells peers now =
     subst (λ (o : Bool). StepsTo last new o (Some stop) tells peers now) same (subst (λ (p : Peers). StepsTo last new once' (Some stop) tells p now) among step) in (
-      before ++ now,
+      before ++ now ∷ [],
       inl (n, last, before, now, refl, run, one),
-      more_writes old.left last.left new.left before now (before ++ now) old.written last.written new.written refl
+      more_writes old.left last.left new.left (bytes_of before) (bodies_of now.takes) (bytes_of (before ++ now ∷ [])) old.written last.written new.written (bytes_push before now)
           (on_writes n old last once tells peers before run) (to_writes last new once (Some stop) tells peers now one),
     )
 
-pub served_long : {K : Type 0} (n : ℕ) (old new : Host K) (once : Bool) (tells : K → ℕ → K → Type 0) (peers : Peers) (bytes : List ℕ) → n ≡ 18446744073709551615
-    → StepsWithoutStop n old new once tells peers bytes
-    → (bytes : List ℕ) × Serves old new once Lost tells peers bytes × Writes (old.left ++ bytes) new.left old.written new.written
-served_long n old new once tells peers bytes long run = (bytes, inr (refl, n, long, run), on_writes n old new once tells peers bytes run)
+pub served_long : {K : Type 0} (n : ℕ) (old new : Host K) (once : Bool) (tells : K → ℕ → K → Type 0) (peers : Peers) (steps : List StepView) → n ≡ 18446744073709551615
+    → StepsWithoutStop n old new once tells peers steps
+    → (steps : List StepView) × Serves old new once Lost tells peers steps × Writes (old.left ++ bytes_of steps) new.left old.written new.written
+served_long n old new once tells peers steps long run = (steps, inr (refl, n, long, run), on_writes n old new once tells peers steps run)
 
 -- ---- and so the host ends well
 
@@ -226,13 +256,13 @@ all_written x y a b p none =
     let all : p.0 ≡ x = sym (p.1 ∙ ap (λ l. p.0 ++ l) none ∙ append-nil p.0) in
     subst (Appends a b) all p.2
 
-pub ended_well : {K : Type 0} (old new : Host K) (once : Bool) (stop : ListenOutcome) (tells : K → ℕ → K → Type 0) (peers : Peers) (bytes : List ℕ)
-    → Serves old new once stop tells peers bytes → Writes (old.left ++ bytes) new.left old.written new.written → stop_status stop ≡ 0 → new.left ≡ []
-    → ServesWell old once new.written tells peers bytes
-ended_well old new once Ended tells peers bytes serves wrote status none = (new, serves, none, refl, all_written (old.left ++ bytes) new.left old.written new.written wrote none)
-ended_well old new once Lost tells peers bytes serves wrote status none = absurd (cc)
-ended_well old new once Unwritten tells peers bytes serves wrote status none = absurd (cc)
-ended_well old new once Unwaited tells peers bytes serves wrote status none = absurd (cc)
+pub ended_well : {K : Type 0} (old new : Host K) (once : Bool) (stop : ListenOutcome) (tells : K → ℕ → K → Type 0) (peers : Peers) (steps : List StepView)
+    → Serves old new once stop tells peers steps → Writes (old.left ++ bytes_of steps) new.left old.written new.written → stop_status stop ≡ 0 → new.left ≡ []
+    → ServesWell old once new.written tells peers steps
+ended_well old new once Ended tells peers steps serves wrote status none = (new, serves, none, refl, all_written (old.left ++ bytes_of steps) new.left old.written new.written wrote none)
+ended_well old new once Lost tells peers steps serves wrote status none = absurd (cc)
+ended_well old new once Unwritten tells peers steps serves wrote status none = absurd (cc)
+ended_well old new once Unwaited tells peers steps serves wrote status none = absurd (cc)
 
 -- one that was started has no connection yet, and nothing to write
 pub begun : {K T E : Type 0} (file : HostConfig) (X : Type 0) (started : Result T E) (at : T → Host K) (its : T → Bool) (among : T → Peers) (once : Bool) (a b : Option (List ℕ)) (tells : K → ℕ → K → Type 0) (status : ℕ)
@@ -243,18 +273,19 @@ pub begun : {K T E : Type 0} (file : HostConfig) (X : Type 0) (started : Result 
     → IfOk started (λ l. (id : ℕ) → held_at (at l).core.endpoint id ≡ None) → IfOk started (λ l. (at l).core.came ≡ None) → IfOk started (λ l. (at l).core.paced ≡ None)
     → IfOk started (λ l. named_in (at l).core.from ≡ named_in file.from) → IfOk started (λ l. (at l).core.network ≡ file.network)
     → IfOk started (λ l. (at l).sessions ≡ []) → IfOk started (λ l. (at l).left ≡ []) → IfOk started (λ l. its l ≡ once) → ((l : T) → (at l).written ≡ a)
-    → OnErr started ((status ≡ 1) × X) → (status ≡ 0 → IfOk started (λ l. (bytes : List ℕ) × ServesWell (at l) (its l) b tells (among l) bytes)) → status ≡ 0
+    → OnErr started ((status ≡ 1) × X) → (status ≡ 0 → IfOk started (λ l. IsTrue (its l))) → (status ≡ 0 → IfOk started (λ l. (steps : List StepView) × ServesWell (at l) (its l) b tells (among l) steps)) → status ≡ 0
     → ListensWell file once a b tells
-begun file X (Err e) at its among once a b tells status network node router routed listens alone links accepted unpaced from own nobody nothing same written unstarted well ends =
+begun file X (Err e) at its among once a b tells status network node router routed listens alone links accepted unpaced from own nobody nothing same written unstarted only well ends =
     absurd (omega (arith, unstarted.0, ends))
-begun {K} file X (Ok l) at its among once a b tells status network node router routed listens alone links accepted unpaced from own nobody nothing same written unstarted well ends =
+begun {K} file X (Ok l) at its among once a b tells status network node router routed listens alone links accepted unpaced from own nobody nothing same written unstarted only well ends =
     let run = well ends in
-    let took : Appends (at l).written b ((at l).left ++ run.0) = run.1.4 in
-    let bare : Appends (at l).written b run.0 = subst (λ (x : List ℕ). Appends (at l).written b (x ++ run.0)) nothing took in
+    let took : Appends (at l).written b ((at l).left ++ bytes_of run.0) = run.1.4 in
+    let bare : Appends (at l).written b (bytes_of run.0) = subst (λ (x : List ℕ). Appends (at l).written b (x ++ bytes_of run.0)) nothing took in
+    let one = heard_out (at l) run.1.0 (its l) tells (among l) run.0 (only ends) nobody run.1.1 in
     record {
       start = at l;
       peers = among l;
-      bytes = run.0;
+      steps = run.0;
       begins = record {
         network = network;
         node = node;
@@ -272,7 +303,10 @@ begun {K} file X (Ok l) at its among once a b tells status network node router r
         known = written l;
       };
       serves = subst (λ (o : Bool). ServesWell (at l) o b tells (among l) run.0) same run.1;
-      took = subst (λ (w : Option (List ℕ)). Appends w b run.0) (written l) bare;
+      id = one.0;
+      from = one.1;
+      one = one.2;
+      took = subst (λ (w : Option (List ℕ)). Appends w b (bytes_of run.0)) (written l) bare;
     }
 
 -- the status of a file that can't be loaded is 1 or 2

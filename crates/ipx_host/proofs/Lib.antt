@@ -7,6 +7,7 @@ pub mod Written
 pub mod Turning
 pub mod Acknowledged
 pub mod Fed
+pub mod HeardOut
 pub mod Hosted
 pub mod Dropped
 pub mod Dialed

@@ -7,7 +7,7 @@ use Rattle.spx_messages.specs.Taking.{TakenView, Nothing, Part, PeerEnd, Whole, 
 use Rattle.spx_messages.specs.declared.fault.EndFault.{EndFault}
 use Rattle.ipx_host.specs.SessionActions.{is_unheard}
 use Rattle.ipx_host.specs.HostOutput.{Writes, left_of}
-use Rattle.ipx_host.specs.Passing.{PassesHeld, PassesEach, PassesFrom, PassesOne, SameOthers, Takes, TakesNothing, bodies_after, held_after, left_with, phase_with}
+use Rattle.ipx_host.specs.Passing.{PassesHeld, PassesEach, PassesFrom, PassesOne, SameOthers, Takes, TakesNothing, bodies_after, held_after, left_with, phase_with, takes_from}
 use Rattle.ipx_host.specs.declared.sessions.Session.{Session}
 use Rattle.ipx_host.specs.declared.sessions.Phase.{Phase}
 use Rattle.ipx_host.specs.declared.sessions.Phase.TheVariants as Standings
@@ -25,6 +25,8 @@ same_self_on a b c p q = record {
 pub same_others_on : (a b c : EndpointView) (id : ℕ) → SameOthers a b id → SameOthers b c id → SameOthers a c id
 same_others_on a b c id p q = record {
   others = λ k ne. q.others k ne ∙ p.others k ne;
+  last = q.last ∙ p.last;
+  count = q.count ∙ p.count;
   self = same_self_on a b c p.self q.self;
   heard = q.heard ∙ p.heard;
 }
@@ -38,17 +40,24 @@ from_id (Some h) after x y a b c c' p = ap (λ (k : Session). k.id) p.3
 pub from_start : (o : Option Held) (x : List ℕ) (a : Option (List ℕ)) (c : Session) → PassesFrom o o x x a a c c
 from_start None x a c = (refl, writes_none x a, refl)
 from_start (Some h) x a c =
-    (0, refl, subst (λ (l : List ℕ). Writes l x a a) (sym (append-nil x)) (writes_none x a), refl)
+    (0, refl, subst (λ (l : List ℕ). Writes l x a a) (sym (append-nil x)) (writes_none x a), refl, tt)
+
+takes_start : (o : Option Held) (x : List ℕ) (a : Option (List ℕ)) (c : Session) → takes_from o o x x a a c c (from_start o x a c) ≡ []
+unfolding from_start
+takes_start None x a c = refl
+takes_start (Some h) x a c = refl
 
 pub one_start : (e : EndpointView) (x : List ℕ) (a : Option (List ℕ)) (c : Session) → PassesOne e e x x a a c c
 one_start e x a c = record {
   from = from_start (held_at e c.id) x a c;
   others = record {
     others = λ q ne. refl;
+    last = refl;
+    count = refl;
     self = record { network = refl; node = refl; router = refl; buffers = λ socket. refl };
     heard = refl;
   };
-  unheard = λ is. (refl, refl);
+  unheard = λ is. (refl, refl, takes_start (held_at e c.id) x a c);
   behind = λ none ended. none ended;
 }
 
@@ -56,13 +65,21 @@ one_start e x a c = record {
 pub from_written : (o after : Option Held) (x y z : List ℕ) (a b d : Option (List ℕ)) (c c' : Session) → PassesFrom o after x y a b c c' → Writes y z b d → PassesFrom o after x z a d c c'
 from_written None after x y z a b d c c' p wrote = (p.0, writes_on x y z a b d p.1 wrote, p.2)
 from_written (Some h) after x y z a b d c c' p wrote =
-    (p.0, p.1, writes_on (x ++ bodies_after p.0 h) y z a b d p.2 wrote, p.3)
+    (p.0, p.1, writes_on (x ++ bodies_after p.0 h) y z a b d p.2 wrote, p.3, p.4)
+
+takes_written : (o after : Option Held) (x y z : List ℕ) (a b d : Option (List ℕ)) (c c' : Session) (p : PassesFrom o after x y a b c c') (wrote : Writes y z b d)
+    → takes_from o after x z a d c c' (from_written o after x y z a b d c c' p wrote) ≡ takes_from o after x y a b c c' p
+unfolding from_written
+takes_written None after x y z a b d c c' p wrote = refl
+takes_written (Some h) after x y z a b d c c' p wrote = refl
 
 pub one_written : (old new : EndpointView) (x y z : List ℕ) (a b d : Option (List ℕ)) (c c' : Session) → PassesOne old new x y a b c c' → Writes y z b d → PassesOne old new x z a d c c'
 one_written old new x y z a b d c c' p wrote = record {
   from = from_written (held_at old c.id) (held_at new c.id) x y z a b d c c' p.from wrote;
   others = p.others;
-  unheard = p.unheard;
+  unheard = λ is.
+      let u = p.unheard is in
+      (u.0, u.1, takes_written (held_at old c.id) (held_at new c.id) x y z a b d c c' p.from wrote ∙ u.2);
   behind = λ none ended. writes_nothing y z b d wrote (p.behind none ended);
 }
 
@@ -76,11 +93,11 @@ ends_left (Err f) phase left not ended = refl
 
 -- one more was taken where nothing was left to write
 pub from_taken : (o : Option Held) (old new : EndpointView) (output output' : Outlet) (x : List ℕ) (a b : Option (List ℕ)) (c c' c'' : Session)
-    → left_of output ≡ [] → PassesFrom o (held_at old c'.id) x (left_of output) a b c c'
+    → left_of output ≡ [] → c'.phase ≢ Standings.Ended → PassesFrom o (held_at old c'.id) x (left_of output) a b c c'
     → (held_at old c'.id ≡ None → ⊥) → IfSome (held_at old c'.id) (λ h. Takes h old new output output' c' c'')
     → PassesFrom o (held_at new c'.id) x (left_of output') a b c c''
-from_taken None old new output output' x a b c c' c'' none p there took = absurd (there p.0)
-from_taken (Some h) old new output output' x a b c c' c'' none p there took =
+from_taken None old new output output' x a b c c' c'' none not p there took = absurd (there p.0)
+from_taken (Some h) old new output output' x a b c c' c'' none not p there took =
     let count = p.0 in
     let now = held_after count h in
     let takes : Takes now old new output output' c' c'' = subst (λ (k : Option Held). IfSome k (λ k. Takes k old new output output' c' c'')) p.1 took in
@@ -92,6 +109,7 @@ from_taken (Some h) old new output output' x a b c c' c'' none p there took =
       takes.held.held,
       (front, sym (append_assoc x (bodies_after count h) body) ∙ ap (λ l. l ++ body) all ∙ ap (λ l. front ++ l) (sym is), p.2.2),
       takes.noted ∙ ap (λ (k : Session). record k { phase = phase_with (take_end now).0 k.phase }) p.3,
+      (p.4, subst (λ (k : Session). k.phase ≢ Standings.Ended) p.3 not, takes.something),
     )
 
 behind_taken : (o : Option Held) (old new : EndpointView) (output output' : Outlet) (c c' : Session)
@@ -107,7 +125,7 @@ pub one_taken : (old mid new : EndpointView) (output output' : Outlet) (x : List
     → PassesOne old new x (left_of output') a b c c''
 one_taken old mid new output output' x a b c c' c'' heard none not same p there took others = record {
   from = subst (λ (k : ℕ). PassesFrom (held_at old c.id) (held_at new k) x (left_of output') a b c c'') same
-      (from_taken (held_at old c.id) mid new output output' x a b c c' c'' none
+      (from_taken (held_at old c.id) mid new output output' x a b c c' c'' none not
       (subst (λ (k : ℕ). PassesFrom (held_at old c.id) (held_at mid k) x (left_of output) a b c c') (sym same) p.from) there took);
   others = same_others_on old mid new c.id p.others (subst (λ (k : ℕ). SameOthers mid new k) same others);
   unheard = λ is. absurd (cc);

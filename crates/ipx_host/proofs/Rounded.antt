@@ -12,7 +12,7 @@ use Rattle.ipx_host.specs.Books.{EntersAcknowledged}
 use Rattle.ipx_host.specs.Access.{is_nowhere}
 use Rattle.ipx_host.specs.Feeding.{Feeds, FeedState}
 use Rattle.ipx_host.specs.SendRounds.{IsSendStep, LastRound, SendState, Round, Rounds, Transfers, feeding_of}
-use Rattle.ipx_host.specs.Sent.{IsDialing, SendsWholeInput}
+use Rattle.ipx_host.specs.Sent.{HasBuffers, IsDialing, SendsWholeInput}
 use Rattle.ipx_host.specs.SendSteps.{GoesOnOrEnds, IsStepFault, Sees}
 use Rattle.ipx_host.specs.Transfer.{state_at}
 use Rattle.ipx_host.specs.Turning.{TakesHostTurn}
@@ -147,12 +147,12 @@ transfers_end old new tells peers id t was =
 -- what was opened and ran well is a transfer of the host of a file
 pub sends : {S E K : Type 0} (X : Type 0) (opened : Result S E) (r : ℕ) (file : HostConfig) (to : Address) (known left : Option (List ℕ)) (tells : K → ℕ → K → Type 0) (at : S → Option (List ℕ) → SendState K) (among : S → Peers) (id : S → ℕ)
     → is_nowhere file to ≡ false → ((s : S) (k : Option (List ℕ)) → (at s k).known ≡ k)
-    → IfOk opened (λ s. (k : Option (List ℕ)) → IsDialing file to (at s k) (among s) (id s))
+    → HasBuffers file → IfOk opened (λ s. HasBuffers file → (k : Option (List ℕ)) → IsDialing file to (at s k) (among s) (id s))
     → IfOk opened (λ s. r ≡ 0 → (last : SendState K) × Transfers (at s known) last tells (among s) (id s) × (last.known ≡ left))
     → OnErr opened ((r ≡ 1) × X) → r ≡ 0 → SendsWholeInput file to known left tells
-sends X (Ok s) r file to known left tells at among id goes begins dials ran failed zero =
+sends X (Ok s) r file to known left tells at among id goes begins buffers dials ran failed zero =
     let run = ran zero in
-    let dial = dials known in
+    let dial = dials buffers known in
     record {
       goes = goes;
       id = id s;
@@ -166,7 +166,7 @@ sends X (Ok s) r file to known left tells at among id goes begins dials ran fail
       all = subst (λ k. IsAtEnd k) run.2 (transfers_end (at s known) run.0 tells (among s) (id s) run.1 (λ read. absurd (let no = sym dial.unread ∙ read in cc)));
       whole = run.1.whole;
     }
-sends X (Err e) r file to known left tells at among id goes begins dials ran failed zero = absurd (omega (arith, failed.0, zero))
+sends X (Err e) r file to known left tells at among id goes begins buffers dials ran failed zero = absurd (omega (arith, failed.0, zero))
 
 -- what is so of a value that succeeded
 pub on_ok : {S E : Type 0} (P : S → Type 0) (o : Result S E) (s : S) → o ≡ Ok s → P s → IfOk o P

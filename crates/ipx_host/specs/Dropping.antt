@@ -1,6 +1,7 @@
 -- What becomes of what the peer of a host that sends gives it: it is taken and let go. All of it is
 -- own.
 use Rattle.std.specs.Prelude.{◌≡◌, ◌≢◌, ◌<◌, ◌⊎◌, ℕ, [], Option, Some, None, Err}
+use Rattle.spx_link.specs.Links.{count_of}
 use Rattle.spx_messages.specs.Changes.{SameSelf}
 use Rattle.spx_messages.specs.EndpointView.{EndpointView, Held, held_at}
 use Rattle.spx_messages.specs.Taking.{IsPushed, overlong, take_end}
@@ -26,9 +27,11 @@ DropsFrom most None after = after ≡ None
 DropsFrom most (Some h) after = Drops most h after
 
 -- what came under an id is let go, up to 65,535 units: what is queued there stays, and what is held
--- under any other id, and what listens
+-- under any other id, how many links are held, the id last given, and what listens
 pub record DropsCame (old new : EndpointView) (id : ℕ) : Type 0 where
   pub drops : DropsFrom 65535 (held_at old id) (held_at new id)
   pub queue : KeepsQueue (held_at old id) (held_at new id)
   pub others : (q : ℕ) → q ≢ id → held_at new q ≡ held_at old q
+  pub last : new.links.last ≡ old.links.last
+  pub count : count_of new.links ≡ count_of old.links
   pub self : SameSelf old new

@@ -1,6 +1,6 @@
 -- How what a host that sends reads becomes messages of its link, and how its end comes behind them.
 -- The entry point is `Feeds`, of one step; Rounds says it of one after another. All of it is own.
-use Rattle.std.specs.Prelude.{◌≡◌, ◌⊎◌, ℕ, Bool, true, false, List, [], ◌∷◌, Option, Some, None}
+use Rattle.std.specs.Prelude.{◌≡◌, ◌≤◌, ◌⊎◌, ℕ, Bool, true, false, List, [], ◌∷◌, length, Option, Some, None}
 use Rattle.std.specs.Io.KnownBytes.{Consumes, IsAtEnd}
 use Rattle.spx_link.specs.LinkView.{LinkView}
 use Rattle.spx_link.specs.Offer.{end_link, offer_link}
@@ -11,8 +11,10 @@ use Rattle.spx_messages.specs.EndpointView.{EndpointView, Held, held_at}
 use Rattle.ipx_host.specs.Books.{EntersRead}
 use Rattle.ipx_host.specs.declared.acked_bytes.Ledger.{Ledger}
 
--- bytes are handed in as one message, behind all that was handed in before, to a link that is Live
+-- bytes, at most 65,535 of them, are handed in as one message, after all that was handed in before, to a
+-- link that is Live
 pub record HandsIn (old new : EndpointView) (id : ℕ) (bytes : List ℕ) : Type 0 where
+  pub short : length bytes ≤ 65535
   pub held : Held
   pub before : held_at old id ≡ Some held
   pub live : held.link.state ≡ States.Live

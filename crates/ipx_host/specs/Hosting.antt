@@ -1,17 +1,19 @@
 -- What a host that listens does, one step after another: each is a turn, of which it notes what came;
 -- then what waits is written, the connections pass what they hold, and they are tidied. The entry point
 -- is `Serves`, of a whole run, and for one that ends well `ListensWell`. All of it is own.
-use Rattle.std.specs.Prelude.{◌≡◌, ◌≢◌, ◌⊎◌, ◌-◌, ◌^◌, ℕ, zero, suc, Bool, true, false, List, [], ◌∷◌, ◌++◌, Option, Some, None}
+use Rattle.std.specs.Prelude.{◌≡◌, ◌≢◌, ◌⊎◌, ◌-◌, ◌^◌, ℕ, zero, suc, Bool, true, false, All, List, [], ◌∷◌, ◌++◌, Option, Some, None, Ok}
 use Rattle.std.specs.Io.KnownBytes.{Appends}
 use Rattle.ipx_carrier.specs.Mapping.{node_at}
 use Rattle.ipx_carrier.specs.Turns.{Peers}
 use Rattle.ipx_site.specs.AllowedPeers.{named_in}
 use Rattle.ipx_site.specs.declared.host.HostConfig.{HostConfig}
+use Rattle.ipx_wire.specs.declared.address.Address.{Address}
 use Rattle.ipx_wire.specs.declared.address.Socket.{Socket}
 use Rattle.spx_messages.specs.EndpointView.{buffers_at, held_at}
-use Rattle.ipx_host.specs.Sessions.{NotesHeard}
+use Rattle.spx_messages.specs.Taking.{PeerEnd}
+use Rattle.ipx_host.specs.Sessions.{NotesHeard, has_spoken}
 use Rattle.ipx_host.specs.HostOutput.{Writes}
-use Rattle.ipx_host.specs.Passing.{PassesEach, given_each}
+use Rattle.ipx_host.specs.Passing.{PassesEach, Take, bodies_of, takes_each}
 use Rattle.ipx_host.specs.Tending.{Tidies}
 use Rattle.ipx_host.specs.Turning.{TakesHostTurn}
 use Rattle.ipx_host.specs.declared.sessions.Session.{Session}
@@ -46,75 +48,103 @@ pub record HearsAndNotesAll {K : Type 0} (clock clock' : K) (old new : PacedHost
   pub turned : TakesHostTurn clock clock' tells peers old seen turn
   pub noted : NotesIf turn.heard once seen new sessions sessions'
 
--- what waits is written, and then each connection passes what it holds: these bytes in all
+-- what waits is written, and then each connection passes what it holds, by these takes in all
 pub record WritesAndPasses (old new : PacedHostCore) (sessions sessions' : List Session) (waiting left : List ℕ)
-    (written writes : Option (List ℕ)) (bytes : List ℕ) : Type 0 where
+    (written writes : Option (List ℕ)) (takes : List Take) : Type 0 where
   pub between : List ℕ
   pub writing : Option (List ℕ)
   pub first : Writes waiting between written writing
   pub passes : PassesEach old.endpoint new.endpoint between left writing writes sessions sessions'
-  pub given : bytes ≡ given_each old.endpoint new.endpoint between left writing writes sessions sessions' passes
+  pub made : takes ≡ takes_each old.endpoint new.endpoint between left writing writes sessions sessions' passes
   pub core : new ≡ record old { endpoint = new.endpoint }
 
 -- the same, of the first connections; the others are as before
 pub record MovesSome (old new : PacedHostCore) (sessions sessions' : List Session) (waiting left : List ℕ)
-    (written writes : Option (List ℕ)) (bytes : List ℕ) : Type 0 where
+    (written writes : Option (List ℕ)) (takes : List Take) : Type 0 where
   pub front : List Session
   pub front' : List Session
   pub rest : List Session
   pub before : sessions ≡ front ++ rest
   pub after : sessions' ≡ front' ++ rest
-  pub moves : WritesAndPasses old new front front' waiting left written writes bytes
+  pub moves : WritesAndPasses old new front front' waiting left written writes takes
+
+-- what a step has: the connections once it noted what came, and the takes of them
+pub record StepView : Type 0 where
+  pub there : List Session
+  pub takes : List Take
 
 -- one step
 pub record Steps {K : Type 0} (old new : Host K) (once : Bool) (stop : Option ListenOutcome)
-    (tells : K → ℕ → K → Type 0) (peers : Peers) (bytes : List ℕ) : Type 0 where
+    (tells : K → ℕ → K → Type 0) (peers : Peers) (step : StepView) : Type 0 where
   pub heard : PacedHostCore
-  pub there : List Session
-  pub hears : HearsAndNotesAll old.clock new.clock old.core heard old.sessions there once tells peers
+  pub hears : HearsAndNotesAll old.clock new.clock old.core heard old.sessions step.there once tells peers
   pub moved : PacedHostCore
   pub still : List Session
-  pub moves : WritesAndPasses heard moved there still old.left new.left old.written new.written bytes
+  pub moves : WritesAndPasses heard moved step.there still old.left new.left old.written new.written step.takes
   pub tidied : Tidies once moved new.core still new.sessions stop
 
 -- one that the writer breaks off
 pub record WriterBreaksOff {K : Type 0} (old new : Host K) (once : Bool) (tells : K → ℕ → K → Type 0)
-    (peers : Peers) (bytes : List ℕ) : Type 0 where
+    (peers : Peers) (step : StepView) : Type 0 where
   pub heard : PacedHostCore
-  pub there : List Session
-  pub hears : HearsAndNotesAll old.clock new.clock old.core heard old.sessions there once tells peers
-  pub moves : MovesSome heard new.core there new.sessions old.left new.left old.written new.written bytes
+  pub hears : HearsAndNotesAll old.clock new.clock old.core heard old.sessions step.there once tells peers
+  pub moves : MovesSome heard new.core step.there new.sessions old.left new.left old.written new.written step.takes
 
--- what a step does by why it stops the host, if it does; the wait behind a step changes nothing
-abbrev pub StepsTo : {K : Type 0} → Host K → Host K → Bool → Option ListenOutcome → (K → ℕ → K → Type 0) → Peers → List ℕ → Type 0
-StepsTo old new once None tells peers bytes = Steps old new once None tells peers bytes
-StepsTo old new once (Some Ended) tells peers bytes = Steps old new once (Some Ended) tells peers bytes
-StepsTo old new once (Some Lost) tells peers bytes = Steps old new once (Some Lost) tells peers bytes
-StepsTo old new once (Some Unwritten) tells peers bytes = WriterBreaksOff old new once tells peers bytes
-StepsTo old new once (Some Unwaited) tells peers bytes = Steps old new once None tells peers bytes
+-- what a step does by why it stops the host, if it does; the wait after a step changes nothing
+abbrev pub StepsTo : {K : Type 0} → Host K → Host K → Bool → Option ListenOutcome → (K → ℕ → K → Type 0) → Peers → StepView → Type 0
+StepsTo old new once None tells peers step = Steps old new once None tells peers step
+StepsTo old new once (Some Ended) tells peers step = Steps old new once (Some Ended) tells peers step
+StepsTo old new once (Some Lost) tells peers step = Steps old new once (Some Lost) tells peers step
+StepsTo old new once (Some Unwritten) tells peers step = WriterBreaksOff old new once tells peers step
+StepsTo old new once (Some Unwaited) tells peers step = Steps old new once None tells peers step
 
--- so many steps, one after another, none of which stops the host: these bytes in all
-abbrev pub StepsWithoutStop : {K : Type 0} → ℕ → Host K → Host K → Bool → (K → ℕ → K → Type 0) → Peers → List ℕ → Type 0
-StepsWithoutStop zero old new once tells peers bytes = (new ≡ old) × (bytes ≡ [])
-StepsWithoutStop {K} (suc n) old new once tells peers bytes = (last : Host K) × (before now : List ℕ)
-    × (bytes ≡ before ++ now) × StepsWithoutStop n old last once tells peers before
-    × Steps last new once None tells peers now
+-- so many steps, one after another, none of which stops the host
+abbrev pub StepsWithoutStop : {K : Type 0} → ℕ → Host K → Host K → Bool → (K → ℕ → K → Type 0) → Peers → List StepView → Type 0
+StepsWithoutStop zero old new once tells peers steps = (new ≡ old) × (steps ≡ [])
+StepsWithoutStop {K} (suc n) old new once tells peers steps = (last : Host K) × (before : List StepView)
+    × (now : StepView) × (steps ≡ before ++ now ∷ [])
+    × StepsWithoutStop n old last once tells peers before × Steps last new once None tells peers now
 
 -- a whole run: steps, and one that stops the host. Lost is told, too, where none of 2^64 - 1 steps did
-abbrev pub Serves : {K : Type 0} → Host K → Host K → Bool → ListenOutcome → (K → ℕ → K → Type 0) → Peers → List ℕ → Type 0
-Serves {K} old new once stop tells peers bytes =
-    ((count : ℕ) × (last : Host K) × (before now : List ℕ) × (bytes ≡ before ++ now)
-    × StepsWithoutStop count old last once tells peers before
+abbrev pub Serves : {K : Type 0} → Host K → Host K → Bool → ListenOutcome → (K → ℕ → K → Type 0) → Peers → List StepView → Type 0
+Serves {K} old new once stop tells peers steps =
+    ((count : ℕ) × (last : Host K) × (before : List StepView) × (now : StepView)
+    × (steps ≡ before ++ now ∷ []) × StepsWithoutStop count old last once tells peers before
     × StepsTo last new once (Some stop) tells peers now)
     ⊎ ((stop ≡ Lost) × (count : ℕ) × (count ≡ 2 ^ 64 - 1)
-    × StepsWithoutStop count old new once tells peers bytes)
+    × StepsWithoutStop count old new once tells peers steps)
 
--- a run that ends well: its writer took what was left to write, and then these bytes, and nothing is
--- left
-abbrev pub ServesWell : {K : Type 0} → Host K → Bool → Option (List ℕ) → (K → ℕ → K → Type 0) → Peers → List ℕ → Type 0
-ServesWell {K} old once writes tells peers bytes = (new : Host K)
-    × Serves old new once Ended tells peers bytes × (new.left ≡ []) × (new.written ≡ writes)
-    × Appends old.written writes (old.left ++ bytes)
+-- the takes of all steps, one after the other, and the bodies that they gave
+abbrev pub takes_of : List StepView → List Take
+takes_of [] = []
+takes_of (s ∷ ss) = s.takes ++ takes_of ss
+
+abbrev pub bytes_of : List StepView → List ℕ
+bytes_of steps = bodies_of (takes_of steps)
+
+-- a run that ends well: its writer took what was left to write, and then the bodies that its takes gave,
+-- and nothing is left
+abbrev pub ServesWell : {K : Type 0} → Host K → Bool → Option (List ℕ) → (K → ℕ → K → Type 0) → Peers → List StepView → Type 0
+ServesWell {K} old once writes tells peers steps = (new : Host K)
+    × Serves old new once Ended tells peers steps × (new.left ≡ []) × (new.written ≡ writes)
+    × Appends old.written writes (old.left ++ bytes_of steps)
+
+-- a connection that was heard is the one of this id, from this address
+abbrev pub IsOneIfHeard : ℕ → Address → Session → Type 0
+IsOneIfHeard id from c = has_spoken c ≡ true → (c.id ≡ id) × (c.from ≡ from)
+
+-- the take of the end of its peer
+abbrev pub end_of : ℕ → Take
+end_of id = record { id = id; gave = Ok PeerEnd }
+
+-- in all steps no connection was heard but this one, and all that was taken is of it: last of all the end
+-- of its peer, and no end before
+pub record HearsOneOut (steps : List StepView) (id : ℕ) (from : Address) : Type 0 where
+  pub only : All (λ s. All (IsOneIfHeard id from) s.there) steps
+  pub of_it : All (λ t. t.id ≡ id) (takes_of steps)
+  pub earlier : List Take
+  pub last : takes_of steps ≡ earlier ++ end_of id ∷ []
+  pub no_other : All (λ t. t.gave ≢ Ok PeerEnd) earlier
 
 -- a host as its file says it, which listens at the socket of that, and nowhere else, and paces no
 -- connection. It has none yet, and nothing to write
@@ -135,13 +165,17 @@ pub record BeginsListening {K : Type 0} (file : HostConfig) (start : Host K) (pe
   pub nothing : start.left ≡ []
   pub known : start.written ≡ written
 
--- such a host has run until it ended well, and its writer took the bodies that were taken, one behind
--- the other, and nothing else
+-- such a host has run until it ended well. It heard one connection out, the first that was heard, since no
+-- other ever was; and its writer took the bodies of the messages of that one, one after the other, and
+-- nothing else
 pub record ListensWell {K : Type 0} (file : HostConfig) (once : Bool)
     (written writes : Option (List ℕ)) (tells : K → ℕ → K → Type 0) : Type 0 where
   pub start : Host K
   pub peers : Peers
-  pub bytes : List ℕ
+  pub steps : List StepView
   pub begins : BeginsListening file start peers written
-  pub serves : ServesWell start once writes tells peers bytes
-  pub took : Appends written writes bytes
+  pub serves : ServesWell start once writes tells peers steps
+  pub id : ℕ
+  pub from : Address
+  pub one : HearsOneOut steps id from
+  pub took : Appends written writes (bytes_of steps)

@@ -1,5 +1,6 @@
 -- What passes from a connection to an outlet, by takes one after another. All of it is own.
 use Rattle.std.specs.Prelude.{◌≡◌, ◌≢◌, ℕ, zero, suc, true, List, [], ◌∷◌, ◌++◌, Option, Some, None, Result, Ok, Err}
+use Rattle.spx_link.specs.Links.{count_of}
 use Rattle.spx_messages.specs.Changes.{ChangesEnd, SameBut, SameSelf}
 use Rattle.spx_messages.specs.EndpointView.{EndpointView, Held, held_at}
 use Rattle.spx_messages.specs.Taking.{TakenView, Nothing, Part, PeerEnd, Whole, take_end}
@@ -67,8 +68,15 @@ phase_after zero h phase = phase
 phase_after (suc n) h phase =
     phase_with (take_end (held_after n h)).0 (phase_after n h phase)
 
+-- so many takes were made while the end of the peer was not taken, and each of them gave something
+abbrev pub TakesWhileOpen : ℕ → Held → Phase → Type 0
+TakesWhileOpen zero h phase = Unit {0}
+TakesWhileOpen (suc n) h phase = TakesWhileOpen n h phase
+    × (phase_after n h phase ≢ Standings.Ended) × ((take_end (held_after n h)).0 ≢ Ok Nothing)
+
 -- what passes from a connection whose id holds this, if anything: its takes pass to the outlet and the
--- writer, and tell how it stands; of one whose link is gone nothing is taken
+-- writer, and tell how it stands; the end of its peer is the last one. Of one whose link is gone nothing
+-- is taken
 abbrev pub PassesFrom : Option Held → Option Held → List ℕ → List ℕ → Option (List ℕ) → Option (List ℕ) → Session → Session → Type 0
 PassesFrom None after waiting left written writes session session' =
     (after ≡ None) × Writes waiting left written writes × (session' ≡ session)
@@ -76,20 +84,47 @@ PassesFrom (Some h) after waiting left written writes session session' = (count 
     × (after ≡ Some (held_after count h))
     × Writes (waiting ++ bodies_after count h) left written writes
     × (session' ≡ record session { phase = phase_after count h session.phase })
+    × TakesWhileOpen count h session.phase
 
--- what is held under any other id, and what listens, is as before
+-- one take: of the connection of which id, and what it gave
+pub record Take : Type 0 where
+  pub id : ℕ
+  pub gave : Result TakenView EndFault
+
+-- the bodies of the messages that takes gave, one after the other
+abbrev pub bodies_of : List Take → List ℕ
+bodies_of [] = []
+bodies_of (t ∷ ts) = left_with t.gave [] ++ bodies_of ts
+
+-- so many takes of what is held under an id
+abbrev pub takes_after : ℕ → ℕ → Held → List Take
+takes_after id zero h = []
+takes_after id (suc n) h =
+    takes_after id n h ++ record { id = id; gave = (take_end (held_after n h)).0 } ∷ []
+
+-- the takes of one connection
+abbrev pub takes_from : (before after : Option Held) (waiting left : List ℕ) (written writes : Option (List ℕ)) (session session' : Session)
+    → PassesFrom before after waiting left written writes session session' → List Take
+takes_from None after waiting left written writes session session' p = []
+takes_from (Some h) after waiting left written writes session session' p = takes_after session.id p.0 h
+
+-- what is held under any other id, how many links are held, the id last given, and what listens are as
+-- before
 pub record SameOthers (old new : EndpointView) (id : ℕ) : Type 0 where
   pub others : (q : ℕ) → q ≢ id → held_at new q ≡ held_at old q
+  pub last : new.links.last ≡ old.links.last
+  pub count : count_of new.links ≡ count_of old.links
   pub self : SameSelf old new
   pub heard : new.heard ≡ old.heard
 
--- what passes from one connection of a host: nothing where it was not heard. Where an end that was taken
+-- what passes from one connection of a host: nothing if it was not heard. Where an end that was taken
 -- before left nothing to write, one that is taken now leaves nothing, either
 pub record PassesOne (old new : EndpointView) (waiting left : List ℕ)
     (written writes : Option (List ℕ)) (session session' : Session) : Type 0 where
   pub from : PassesFrom (held_at old session.id) (held_at new session.id) waiting left written writes session session'
   pub others : SameOthers old new session.id
   pub unheard : is_unheard session.phase ≡ true → (new ≡ old) × (session' ≡ session)
+      × (takes_from (held_at old session.id) (held_at new session.id) waiting left written writes session session' from ≡ [])
   pub behind : (session.phase ≡ Standings.Ended → waiting ≡ [])
       → session'.phase ≡ Standings.Ended → left ≡ []
 
@@ -108,16 +143,10 @@ PassesSome old new waiting left written writes sessions sessions' =
     (first first' rest : List Session) × (sessions ≡ first ++ rest) × (sessions' ≡ first' ++ rest)
     × PassesEach old new waiting left written writes first first'
 
--- the bodies of the messages that passed from one connection, one behind the other
-abbrev pub given_from : (before after : Option Held) (waiting left : List ℕ) (written writes : Option (List ℕ)) (session session' : Session)
-    → PassesFrom before after waiting left written writes session session' → List ℕ
-given_from None after waiting left written writes session session' p = []
-given_from (Some h) after waiting left written writes session session' p = bodies_after p.0 h
-
--- and from connections, one behind the other
-abbrev pub given_each : (old new : EndpointView) (waiting left : List ℕ) (written writes : Option (List ℕ)) (sessions sessions' : List Session)
-    → PassesEach old new waiting left written writes sessions sessions' → List ℕ
-given_each old new waiting left written writes [] sessions' p = []
-given_each old new waiting left written writes (c ∷ cs) sessions' p =
-    given_from (held_at old c.id) (held_at p.0 c.id) waiting p.1 written p.2 c p.3 p.6.from
-    ++ given_each p.0 new p.1 left p.2 writes cs p.4 p.7
+-- the takes of connections, one after the other
+abbrev pub takes_each : (old new : EndpointView) (waiting left : List ℕ) (written writes : Option (List ℕ)) (sessions sessions' : List Session)
+    → PassesEach old new waiting left written writes sessions sessions' → List Take
+takes_each old new waiting left written writes [] sessions' p = []
+takes_each old new waiting left written writes (c ∷ cs) sessions' p =
+    takes_from (held_at old c.id) (held_at p.0 c.id) waiting p.1 written p.2 c p.3 p.6.from
+    ++ takes_each p.0 new p.1 left p.2 writes cs p.4 p.7

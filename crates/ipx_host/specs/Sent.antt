@@ -1,11 +1,12 @@
 -- What `ipx send` has done where it ends well. The entry point is `SendsWholeInput`. All of it is own.
-use Rattle.std.specs.Prelude.{◌≡◌, ◌≢◌, ℕ, false, List, [], ◌∷◌, Option, Some, None}
+use Rattle.std.specs.Prelude.{◌≡◌, ◌≢◌, ◌<◌, ◌≤◌, ℕ, false, List, [], ◌∷◌, Option, Some, None}
 use Rattle.std.specs.Io.KnownBytes.{IsAtEnd}
 use Rattle.ipx_carrier.specs.Mapping.{node_at}
 use Rattle.ipx_carrier.specs.Turns.{Peers}
 use Rattle.ipx_site.specs.declared.host.HostConfig.{HostConfig}
 use Rattle.ipx_wire.specs.declared.address.Address.{Address}
 use Rattle.ipx_wire.specs.declared.address.Socket.{Socket}
+use Rattle.spx_link.specs.Links.{count_of}
 use Rattle.spx_link.specs.Offer.{dialed}
 use Rattle.spx_messages.specs.EndpointView.{buffers_at, held_at}
 use Rattle.spx_congestion.specs.Pacing.{made_pacer}
@@ -15,8 +16,13 @@ use Rattle.ipx_host.specs.SendRounds.{SendState, Transfers}
 use Rattle.ipx_host.specs.SendSteps.{noted}
 use Rattle.ipx_host.specs.Transfer.{IsWholeAt}
 
+-- a file gives a connection 1 to 8,192 buffers
+abbrev pub HasBuffers : HostConfig → Type 0
+HasBuffers file = (0 < file.buffers) × (file.buffers ≤ 8192)
+
 -- a host as its file says it, which listens nowhere, and whose one link asks for a connection to an
--- address, and is paced. Nothing was seen of it, and nothing is read or counted
+-- address, and is paced. Its id is the one last given, and neither 0 nor FFFF; it has the buffers of its
+-- file. Nothing was seen of it, and nothing is read or counted
 pub record IsDialing {K : Type 0} (file : HostConfig) (to : Address) (p : SendState K) (peers : Peers)
     (id : ℕ) : Type 0 where
   pub network : p.core.endpoint.network ≡ file.network
@@ -25,6 +31,10 @@ pub record IsDialing {K : Type 0} (file : HostConfig) (to : Address) (p : SendSt
   pub among : peers ≡ (file.router ∷ []) ∷ []
   pub link : held_at p.core.endpoint id
       ≡ Some (record { link = dialed id file.socket to file.buffers 0; rest = None })
+  pub range : (0 < id) × (id < 65535)
+  pub last : p.core.endpoint.links.last ≡ id
+  pub count : count_of p.core.endpoint.links ≡ 1
+  pub buffers : HasBuffers file
   pub alone : (q : ℕ) → q ≢ id → held_at p.core.endpoint q ≡ None
   pub deaf : (s : Socket) → buffers_at p.core.endpoint s ≡ None
   pub paced : p.core.paced ≡ Some (record { id = id; pacer = made_pacer })

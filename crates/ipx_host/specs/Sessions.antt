@@ -1,5 +1,5 @@
 -- The connections that a listening host holds, as they come, are heard, and go. All of it is own.
-use Rattle.std.specs.Prelude.{◌≡◌, ◌≢◌, ◌≤◌, ◌⊎◌, ◌==◌, ◌&&◌, ◌-◌, ℕ, Bool, true, false, not, IsTrue, List, [], ◌∷◌, ◌++◌, length, map, position, remove, count_by, slice_get, slice_set, nat_eq, nat_le, Option, Some, None, IfSome, MatchOption, if◌then◌else◌}
+use Rattle.std.specs.Prelude.{◌≡◌, ◌≤◌, ◌⊎◌, ◌==◌, ◌&&◌, ◌-◌, ℕ, Bool, true, false, not, IsTrue, List, [], ◌∷◌, ◌++◌, length, map, position, remove, count_by, slice_get, slice_set, nat_eq, nat_le, Option, Some, None, IfSome, MatchOption, if◌then◌else◌}
 use Rattle.std.specs.List.{list_any}
 use Rattle.std.specs.Cmp.Lexicographic.{pointwise}
 use Rattle.std.specs.Coded.{Unit-prop}
@@ -10,7 +10,7 @@ use Rattle.spx_units.specs.declared.fault.MessageFault.TheVariants as MessageFau
 use Rattle.spx_messages.specs.declared.fault.EndFault.{EndFault}
 use Rattle.spx_messages.specs.declared.fault.EndFault.TheVariants as EndFaults
 use Rattle.spx_units.specs.Cut.{cut_of}
-use Rattle.spx_messages.specs.Changes.{ChangesEnd, SameBut, SameSelf}
+use Rattle.spx_messages.specs.Changes.{ChangesEnd, ReleasesEnd, SameBut}
 use Rattle.spx_messages.specs.EndpointView.{EndpointView, Held, held_at}
 use Rattle.ipx_carrier.specs.Counting.{raised}
 use Rattle.ipx_site.specs.AllowedPeers.{home_network}
@@ -36,11 +36,11 @@ heard_by id now c = if c.id == id then once_heard now c else c
 abbrev pub session_of : Accepted → ℕ → Session
 session_of a now = record { id = a.id; from = a.from; heard = now; phase = Standings.New }
 
--- the link of an id is forgotten, and nothing else changes
+-- the link of an id is forgotten, with its part of a message, and nothing else changes; where there is
+-- none, nothing does
 pub record LetsLinkGo (old new : EndpointView) (id : ℕ) : Type 0 where
-  pub gone : held_at new id ≡ None
-  pub others : (q : ℕ) → q ≢ id → held_at new q ≡ held_at old q
-  pub self : SameSelf old new
+  pub goes : ReleasesEnd old new id ⊎ ((held_at old id ≡ None) × SameBut old new)
+  pub said : new.said ≡ old.said
   pub heard : new.heard ≡ old.heard
 
 -- two addresses are of one node of one network, for a host of this one
@@ -112,10 +112,11 @@ NotesHeard once old new sessions sessions' =
     (new ≡ record old { endpoint = new.endpoint; came = None })
     × DoesNoted once old.came old.moment old.endpoint new.endpoint sessions sessions'
 
--- a connection is asked whether it is there: a message of no bytes is queued on its link
+-- a connection is asked whether it is there: a message of no bytes is queued on its link, which is Live
 abbrev pub QueuesNothing : EndpointView → EndpointView → Session → Session → Type 0
 QueuesNothing old new c c' =
-    (h : Held) × (held_at old c.id ≡ Some h) × ChangesEnd old new c.id
+    (h : Held) × (held_at old c.id ≡ Some h) × (refusal h.link.state ≡ None)
+    × ChangesEnd old new c.id
     (record h { link = offer_link h.link (cut_of (record { stream = 0; body = [] })) })
     × (c' ≡ record c { phase = phase_asked c.phase })
 

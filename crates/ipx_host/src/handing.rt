@@ -1,6 +1,7 @@
 //! What a host that sends hands in, and what it lets go.
 
 ghost use Rattle.std.specs.Prelude.{◌≡◌, ◌≢◌, ℕ, [], false, true, IfSome, OnErr, OnOk, None, Some};
+ghost use Rattle.spx_link.specs.Links.{count_of};
 ghost use Rattle.spx_messages.specs.Changes.{SameSelf};
 ghost use Rattle.spx_messages.specs.EndpointView.{held_at};
 ghost use Rattle.spx_messages.specs.Taking.{take_end};
@@ -37,6 +38,8 @@ fn drop_first(alloc: Global, endpoint: &mut Endpoint, id: u16) -> bool
     ensures none { held_at endpoint.old id ≡ None → result ≡ false }
     ensures queue { KeepsQueue (held_at endpoint.old id) (held_at endpoint.new id) }
     ensures others { (q : ℕ) → q ≢ id → held_at endpoint.new q ≡ held_at endpoint.old q }
+    ensures last { endpoint.new.links.last ≡ endpoint.old.links.last }
+    ensures count { count_of endpoint.new.links ≡ count_of endpoint.old.links }
     ensures host { SameSelf endpoint.old endpoint.new }
 {
     let taken = endpoint.take(alloc, id);

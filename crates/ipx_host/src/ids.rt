@@ -76,6 +76,10 @@ pub fn dialed(
     // Where it held no link, and the ids do not begin anew.
     ensures id { count_of endpoint.old.links ≡ 0 → endpoint.old.links.last + count < 65534
         → IfOk result (λ id. id ≡ endpoint.old.links.last + count + 1) }
+    // It is neither 0 nor FFFF, and the one last given.
+    ensures range { IfOk result (λ id. (0 < id) × (id < 65535)) }
+    ensures last { IfOk result (λ id. endpoint.new.links.last ≡ id) }
+    ensures count { OnOk result (count_of endpoint.new.links ≡ count_of endpoint.old.links + 1) }
     ensures others { IfOk result (λ id. (q : ℕ) → q ≢ id
         → held_at endpoint.new q ≡ held_at endpoint.old q) }
     ensures unchanged { OnErr result ((q : ℕ)

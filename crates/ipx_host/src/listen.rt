@@ -7,7 +7,7 @@ ghost use Rattle.ipx_site.specs.Loading.{IsFileText};
 ghost use Rattle.ipx_site.specs.Steady.{NeverGoesBack};
 ghost use Rattle.ipx_site.specs.declared.host.HostConfig.{HostConfig as AHostFile};
 ghost use Rattle.ipx_site.specs.declared.clock.SteadyClock.{SteadyClock};
-ghost use Rattle.ipx_host.specs.Hosting.{ListensWell, ServesWell};
+ghost use Rattle.ipx_host.specs.Hosting.{ListensWell, ServesWell, StepView};
 ghost use Rattle.ipx_host.specs.Midway.{listening_at};
 
 use crate::checking::listener_to_text;
@@ -38,10 +38,10 @@ fn run_listening<R: Net + Log + Clock + Eprint, W: Write>(
 ) -> u8
     ensures unstarted { OnErr started.entry ((result ≡ 1) × (writer.new ≡ writer.old)) }
     // Where it ends well, the writer took the bodies that the takes gave, one behind the other.
-    ensures well { result ≡ 0 → IfOk started.entry (λ l. (bytes : List ℕ) × ServesWell
+    ensures well { result ≡ 0 → IfOk started.entry (λ l. (steps : List StepView) × ServesWell
         (listening_at l (W.contents writer.old))
         l.sessions.once (W.contents writer.new)
-        NeverGoesBack (peers_of l.station.host_socket.peers.items) bytes) }
+        NeverGoesBack (peers_of l.station.host_socket.peers.items) steps) }
     ensures few { result ≤ 1 }
     ensures once { result ≡ 0 → IfOk started.entry (λ l. IsTrue l.sessions.once) }
 {
@@ -69,7 +69,7 @@ fn listen_by<R: Net + Log + Clock + Eprint, W: Write>(
     // Without `once` a host that was loaded never ends well.
     ensures once { OnOk loaded (result ≡ 0 → IsTrue once) }
     // Where it ends well, the host of the file has run, and its writer took the bodies that the
-    // takes gave, one behind the other.
+    // takes of one connection gave, one after the other.
     ensures well { IfOk loaded (λ file. result ≡ 0 → ListensWell {K = SteadyClock R} file once
         (W.contents writer.old) (W.contents writer.new) NeverGoesBack) }
 {
@@ -100,8 +100,8 @@ pub fn do_listen<R: Net + Log + Files + Clock + Eprint, W: Write>(
     // Without `once` it never ends well.
     ensures once { result ≡ 0 → IsTrue once }
     // Where it ends well, a host as some text of a file says it has run, from no connection and
-    // nothing to write, and its writer took the bodies of the messages that were taken, one behind
-    // the other, and nothing else.
+    // nothing to write. It heard one connection, the first, and took its end last; its writer took
+    // the bodies of the messages of that one, one after the other, and nothing else.
     ensures well { result ≡ 0 → (text : List ℕ) × (file : AHostFile)
         × IsFileText text × IsHostText text file
         × ListensWell {K = SteadyClock R} file once (W.contents writer.old) (W.contents writer.new)

@@ -10,7 +10,7 @@ ghost use Rattle.ipx_site.specs.Steady.{NeverGoesBack};
 ghost use Rattle.ipx_wire.specs.declared.address.Socket.{Socket};
 ghost use Rattle.spx_messages.specs.EndpointView.{buffers_at, held_at};
 ghost use Rattle.ipx_host.specs.Access.{guarded_host};
-ghost use Rattle.ipx_host.specs.Hosting.{HearsAndNotesAll, Serves, StepsTo};
+ghost use Rattle.ipx_host.specs.Hosting.{HearsAndNotesAll, Serves, StepView, StepsTo, bytes_of};
 ghost use Rattle.ipx_host.specs.HostOutput.{Writes, left_of};
 ghost use Rattle.ipx_host.specs.Sleeping.{MayRest};
 ghost use Rattle.ipx_host.specs.ListenOutcomes.{stop_in, stop_status};
@@ -169,10 +169,10 @@ impl<'a, R: Net + Log + Clock> ListeningHost<'a, R> {
         // Behind what was kept back more may lie.
         ensures kept { kept_in self.old.station.host_socket.device.kept
             < kept_in self.new.station.host_socket.device.kept → IfOk result IsTrue }
-        ensures steps { (bytes : List ℕ) × StepsTo (listening_at self.old (W.contents writer.old))
+        ensures steps { (step : StepView) × StepsTo (listening_at self.old (W.contents writer.old))
             (listening_at self.new (W.contents writer.new))
             self.old.sessions.once (stop_in result)
-            NeverGoesBack (peers_of self.old.station.host_socket.peers.items) bytes }
+            NeverGoesBack (peers_of self.old.station.host_socket.peers.items) step }
         ensures peers { self.new.station.host_socket.peers ≡ self.old.station.host_socket.peers }
         ensures access { map access_by self.new.station.host_socket.device.access_lists.items
             ≡ map access_by self.old.station.host_socket.device.access_lists.items }
@@ -198,10 +198,10 @@ impl<'a, R: Net + Log + Clock> ListeningHost<'a, R> {
         ensures kept { kept_in self.old.station.host_socket.device.kept
             < kept_in self.new.station.host_socket.device.kept →
             self.new.station.poller.asked ≡ self.old.station.poller.asked }
-        ensures steps { (bytes : List ℕ) × StepsTo (listening_at self.old (W.contents writer.old))
+        ensures steps { (step : StepView) × StepsTo (listening_at self.old (W.contents writer.old))
             (listening_at self.new (W.contents writer.new))
             self.old.sessions.once (stop_in result)
-            NeverGoesBack (peers_of self.old.station.host_socket.peers.items) bytes }
+            NeverGoesBack (peers_of self.old.station.host_socket.peers.items) step }
         ensures peers { self.new.station.host_socket.peers ≡ self.old.station.host_socket.peers }
         ensures access { map access_by self.new.station.host_socket.device.access_lists.items
             ≡ map access_by self.old.station.host_socket.device.access_lists.items }
@@ -223,11 +223,12 @@ impl<'a, R: Net + Log + Clock> ListeningHost<'a, R> {
     fn serve<W: Write>(&mut self, rt: &R, alloc: Global, writer: &mut W) -> ListenOutcome
         // What was left to write, and then the bodies that the takes gave, are what the writer
         // took, and then what is left to write: also from one step to the next.
-        ensures serves { (bytes : List ℕ) × Serves (listening_at self.old (W.contents writer.old))
+        ensures serves { (steps : List StepView) × Serves (listening_at self.old (W.contents writer.old))
             (listening_at self.new (W.contents writer.new))
             self.old.sessions.once result
-            NeverGoesBack (peers_of self.old.station.host_socket.peers.items) bytes
-            × Writes (left_of self.old.sessions.output ++ bytes) (left_of self.new.sessions.output)
+            NeverGoesBack (peers_of self.old.station.host_socket.peers.items) steps
+            × Writes (left_of self.old.sessions.output ++ bytes_of steps)
+            (left_of self.new.sessions.output)
             (W.contents writer.old) (W.contents writer.new) }
         ensures written { result ≡ Stops.Ended
             → IsTrue self.new.sessions.once × (left_of self.new.sessions.output ≡ []) }
@@ -248,12 +249,14 @@ impl<'a, R: Net + Log + Clock + Eprint> ListeningHost<'a, R> {
     /// Runs until it is to end, prints why it ends, and answers the status: 0 only with `once`, and
     /// where all that was taken is written.
     pub fn finish<W: Write>(&mut self, rt: &R, alloc: Global, writer: &mut W) -> u8
-        ensures serves { (stop : AStop) × (result ≡ stop_status stop) × (bytes : List ℕ) × Serves
+        ensures serves { (stop : AStop) × (result ≡ stop_status stop)
+            × (steps : List StepView) × Serves
             (listening_at self.old (W.contents writer.old))
             (listening_at self.new (W.contents writer.new))
             self.old.sessions.once stop
-            NeverGoesBack (peers_of self.old.station.host_socket.peers.items) bytes
-            × Writes (left_of self.old.sessions.output ++ bytes) (left_of self.new.sessions.output)
+            NeverGoesBack (peers_of self.old.station.host_socket.peers.items) steps
+            × Writes (left_of self.old.sessions.output ++ bytes_of steps)
+            (left_of self.new.sessions.output)
             (W.contents writer.old) (W.contents writer.new) }
         ensures written { result ≡ 0
             → IsTrue self.new.sessions.once × (left_of self.new.sessions.output ≡ []) }

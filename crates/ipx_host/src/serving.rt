@@ -8,7 +8,7 @@ ghost use Rattle.ipx_host.specs.SessionActions.{is_unheard};
 ghost use Rattle.ipx_host.specs.Hosting.{MovesSome, WritesAndPasses};
 ghost use Rattle.ipx_host.specs.ListenOutcomes.{parted, stop_in};
 ghost use Rattle.ipx_host.specs.HostOutput.{left_of};
-ghost use Rattle.ipx_host.specs.Passing.{PassesEach, PassesSome};
+ghost use Rattle.ipx_host.specs.Passing.{PassesEach, PassesSome, Take};
 ghost use Rattle.ipx_host.specs.Tending.{IsFateOf, Tends, Tidies};
 ghost use Rattle.ipx_host.specs.declared.sessions.Session.{Session};
 ghost use Rattle.ipx_host.specs.declared.sessions.SessionAction.TheVariants as Fates;
@@ -127,15 +127,15 @@ impl Sessions {
         core: &mut PacedHostCore,
         writer: &mut W,
     ) -> Result<bool, WriteFault>
-        ensures all { OnOk result ((bytes : List ℕ) × WritesAndPasses core.old core.new
+        ensures all { OnOk result ((takes : List Take) × WritesAndPasses core.old core.new
             self.old.held.items self.new.held.items
             (left_of self.old.output) (left_of self.new.output)
-            (W.contents writer.old) (W.contents writer.new) bytes) }
+            (W.contents writer.old) (W.contents writer.new) takes) }
         // Where the writer fails, so it is of the first ones, and the others are as they were.
-        ensures some { OnErr result ((bytes : List ℕ) × MovesSome core.old core.new
+        ensures some { OnErr result ((takes : List Take) × MovesSome core.old core.new
             self.old.held.items self.new.held.items
             (left_of self.old.output) (left_of self.new.output)
-            (W.contents writer.old) (W.contents writer.new) bytes) }
+            (W.contents writer.old) (W.contents writer.new) takes) }
         ensures once { self.new.once ≡ self.old.once }
     {
         let wrote = self.output.write(writer)?;

@@ -2,7 +2,8 @@
 
 use crate::fixture::{ANSWER, FIRST, PORT, REGISTRATION, SECOND, server};
 use ipx_carrier::{
-    Core, PortDriver, PortDriverFilters, RouterCore, SteppedClock, run_batch, run_once_over_ports,
+    Core, PortDriver, PortDriverFilters, PriorityRouterCore, SteppedClock, run_batch,
+    run_once_over_ports,
 };
 use ipx_ipxnet_ports::{MemoryDatagram, MemoryPlaces, Servers};
 use ipx_router::{Port, Router};
@@ -58,7 +59,7 @@ const TELLS: [u8; 32] = [
 ];
 
 /// A router of both ports.
-fn core(alloc: Global) -> Result<RouterCore, Fail> {
+fn core(alloc: Global) -> Result<PriorityRouterCore, Fail> {
     let mut ports = Vec::new(alloc);
     for port in [PORT, OTHER] {
         ports.push(Port {
@@ -67,7 +68,7 @@ fn core(alloc: Global) -> Result<RouterCore, Fail> {
             cost: 1,
         })?;
     }
-    Ok(RouterCore::new(alloc, Router::new(alloc, ports)?))
+    Ok(PriorityRouterCore::new(alloc, Router::new(alloc, ports)?))
 }
 
 /// Both ports: the first player registers at the first one, asks, and sends to the second player, who

@@ -4,7 +4,7 @@ use Rattle.std.specs.Result.{OnErr, OnOk}
 use Rattle.std.proofs.lemmas.List.{length-take-le}
 use Rattle.ipx_router.specs.OutcomeView.{OutcomeView, Forward, Replies, Heard, Dropped}
 use Rattle.ipx_carrier.specs.OutcomeCounters.{outcome_counted}
-use Rattle.ipx_carrier.specs.RouterCore.{CoreView, Misses, RouterGives, RouterHears, Withholds, put_answer}
+use Rattle.ipx_carrier.specs.PriorityRouterCore.{PriorityCoreView, PriorityMisses, PriorityGives, PriorityHears, PriorityWithholds, put_by_priority}
 use Rattle.ipx_carrier.specs.Turns.{Given}
 use Rattle.ipx_carrier.specs.declared.outcome_counters.OutcomeCounters.{OutcomeCounters}
 use Rattle.ipx_wire.specs.declared.address.Node.{Node}
@@ -16,7 +16,7 @@ use Rattle.ipx_metrics.specs.declared.last_drops.LastDrops.{LastDrops}
 use Rattle.ipx_metrics.specs.declared.port_counts.PortCounts.{PortCounts}
 use Rattle.ipx_metrics.proofs.Sums.{AreFew, NoneFell, none_fell}
 
-abbrev pub counted_of : CoreView → List PortCounts → LastDrops → CountedView
+abbrev pub counted_of : PriorityCoreView → List PortCounts → LastDrops → CountedView
 counted_of k ports last = record {
   router = k.router;
   queues = k.queues;
@@ -36,7 +36,7 @@ err_with (Ok x) P Q q p = tt
 err_with (Err e) P Q q p = (p, q)
 
 -- what a port counts of what came, and what was dropped last
-pub heard_counted : (k k' : CoreView) (ports lent ports' items' : List PortCounts) (last last' : LastDrops) (port : ℕ) (bytes : List ℕ) (before after : OutcomeCounters)
+pub heard_counted : (k k' : PriorityCoreView) (ports lent ports' items' : List PortCounts) (last last' : LastDrops) (port : ℕ) (bytes : List ℕ) (before after : OutcomeCounters)
     → before ≡ k.outcomes → after ≡ k'.outcomes → lent ≡ ports → ports' ≡ changed_at lent port (with_heard_there before after (length bytes)) → items' ≡ ports'
     → AreNoted before after port bytes last last' → IsCountedHeard (counted_of k ports last) port bytes (counted_of k' items' last')
 heard_counted k k' ports lent ports' items' last last' port bytes before after b a l e i n = record {
@@ -46,7 +46,7 @@ heard_counted k k' ports lent ports' items' last last' port bytes before after b
 }
 
 -- what an answer puts into a queue leaves the counts
-answer_outcomes : (a : OutcomeView) (k : CoreView) → (put_answer a k).outcomes ≡ k.outcomes
+answer_outcomes : (a : OutcomeView) (k : PriorityCoreView) → (put_by_priority a k).outcomes ≡ k.outcomes
 answer_outcomes (Forward port next bytes) k = refl
 answer_outcomes (Replies sent) k = refl
 answer_outcomes (Heard n) k = refl
@@ -66,34 +66,34 @@ same_outcomes f = record {
   table_full = omega arith;
 }
 
-heard_fell : (k k' : CoreView) (port : ℕ) (bytes : List ℕ) (now : ℕ) → AreFew k.outcomes → RouterHears k port bytes now k' → NoneFell k.outcomes k'.outcomes
+heard_fell : (k k' : PriorityCoreView) (port : ℕ) (bytes : List ℕ) (now : ℕ) → AreFew k.outcomes → PriorityHears k port bytes now k' → NoneFell k.outcomes k'.outcomes
 heard_fell k k' port bytes now few h =
-    let is = ap (λ (v : CoreView). v.outcomes) h.3 ∙ answer_outcomes h.0 (record k { router = h.1; outcomes = outcome_counted h.0 k.outcomes }) in
+    let is = ap (λ (v : PriorityCoreView). v.outcomes) h.3 ∙ answer_outcomes h.0 (record k { router = h.1; outcomes = outcome_counted h.0 k.outcomes }) in
     subst (NoneFell k.outcomes) (sym is) (none_fell h.0 k.outcomes few)
 
-missed_fell : (k k' : CoreView) (port : ℕ) (bytes : List ℕ) (now : ℕ) → AreFew k.outcomes → Misses k port bytes now k' → NoneFell k.outcomes k'.outcomes
-missed_fell k k' port bytes now few (router, inl x) = subst (NoneFell k.outcomes) (sym (ap (λ (v : CoreView). v.outcomes) x.0)) (same_outcomes k.outcomes)
-missed_fell k k' port bytes now few (router, inr y) = subst (NoneFell k.outcomes) (sym (ap (λ (v : CoreView). v.outcomes) y.1)) (none_fell y.0 k.outcomes few)
+missed_fell : (k k' : PriorityCoreView) (port : ℕ) (bytes : List ℕ) (now : ℕ) → AreFew k.outcomes → PriorityMisses k port bytes now k' → NoneFell k.outcomes k'.outcomes
+missed_fell k k' port bytes now few (router, inl x) = subst (NoneFell k.outcomes) (sym (ap (λ (v : PriorityCoreView). v.outcomes) x.0)) (same_outcomes k.outcomes)
+missed_fell k k' port bytes now few (router, inr y) = subst (NoneFell k.outcomes) (sym (ap (λ (v : PriorityCoreView). v.outcomes) y.1)) (none_fell y.0 k.outcomes few)
 
 -- no count of a router falls as it hears
-pub fell_by : {T E : Type 0} (r : Result T E) (k k' : CoreView) (port : ℕ) (bytes : List ℕ) (now : ℕ) → AreFew k.outcomes → OnOk r (RouterHears k port bytes now k') → OnErr r (Misses k port bytes now k') → NoneFell k.outcomes k'.outcomes
+pub fell_by : {T E : Type 0} (r : Result T E) (k k' : PriorityCoreView) (port : ℕ) (bytes : List ℕ) (now : ℕ) → AreFew k.outcomes → OnOk r (PriorityHears k port bytes now k') → OnErr r (PriorityMisses k port bytes now k') → NoneFell k.outcomes k'.outcomes
 fell_by (Ok x) k k' port bytes now few p q = heard_fell k k' port bytes now few p
 fell_by (Err e) k k' port bytes now few p q = missed_fell k k' port bytes now few q
 
 -- nor does any change as it gives
-pub given_same : (k k' : CoreView) (now : ℕ) (given : Option Given) → RouterGives k now given k' → k'.outcomes ≡ k.outcomes
-given_same k k' now given h = ap (λ (v : CoreView). v.outcomes) h.2.1 ∙ ap (λ (v : CoreView). v.outcomes) h.1.5
+pub given_same : (k k' : PriorityCoreView) (now : ℕ) (given : Option Given) → PriorityGives k now given k' → k'.outcomes ≡ k.outcomes
+given_same k k' now given h = ap (λ (v : PriorityCoreView). v.outcomes) h.2.1 ∙ ap (λ (v : PriorityCoreView). v.outcomes) h.1.5
 
-pub withheld_same : (k k' : CoreView) (now : ℕ) → Withholds k now k' → k'.outcomes ≡ k.outcomes
-withheld_same k k' now (inl h) = ap (λ (v : CoreView). v.outcomes) h.1
-withheld_same k k' now (inr h) = ap (λ (v : CoreView). v.outcomes) h.3
+pub withheld_same : (k k' : PriorityCoreView) (now : ℕ) → PriorityWithholds k now k' → k'.outcomes ≡ k.outcomes
+withheld_same k k' now (inl h) = ap (λ (v : PriorityCoreView). v.outcomes) h.1
+withheld_same k k' now (inr h) = ap (λ (v : PriorityCoreView). v.outcomes) h.3
 
 pub some_is : {X : Type 0} (o : Option X) (x : X) (P : X → Type 0) → o ≡ Some x → IfSome o P → P x
 some_is o x P e h = subst (λ it. IfSome it P) e h
 
 -- a packet that is given is counted at its port
-pub given_counted : (k k' : CoreView) (ports lent ports' items' : List PortCounts) (last : LastDrops) (now : ℕ) (room : List ℕ) (given : Option (ℕ × Node × ℕ)) (port count : ℕ) (node : Node)
-    → given ≡ Some (port, node, count) → count ≤ length room → RouterGives k now (given_in room given) k' → lent ≡ ports → ports' ≡ changed_at lent port (with_sent_there count) → items' ≡ ports'
+pub given_counted : (k k' : PriorityCoreView) (ports lent ports' items' : List PortCounts) (last : LastDrops) (now : ℕ) (room : List ℕ) (given : Option (ℕ × Node × ℕ)) (port count : ℕ) (node : Node)
+    → given ≡ Some (port, node, count) → count ≤ length room → PriorityGives k now (given_in room given) k' → lent ≡ ports → ports' ≡ changed_at lent port (with_sent_there count) → items' ≡ ports'
     → CountsAsItGives (counted_of k ports last) now (given_in room given) (counted_of k' items' last)
 given_counted k k' ports lent ports' items' last now room given port count node is few h l e i = (
   h,
@@ -103,6 +103,6 @@ given_counted k k' ports lent ports' items' last now room given port count node 
 )
 
 -- and where none is, nothing is counted
-pub none_counted : (k k' : CoreView) (ports : List PortCounts) (last : LastDrops) (now : ℕ) (room : List ℕ) (given : Option (ℕ × Node × ℕ)) → given ≡ None
-    → RouterGives k now (given_in room given) k' → CountsAsItGives (counted_of k ports last) now (given_in room given) (counted_of k' ports last)
+pub none_counted : (k k' : PriorityCoreView) (ports : List PortCounts) (last : LastDrops) (now : ℕ) (room : List ℕ) (given : Option (ℕ × Node × ℕ)) → given ≡ None
+    → PriorityGives k now (given_in room given) k' → CountsAsItGives (counted_of k ports last) now (given_in room given) (counted_of k' ports last)
 none_counted k k' ports last now room given is h = (h, ap (λ g. with_given (given_in room g) ports) (sym is), refl)

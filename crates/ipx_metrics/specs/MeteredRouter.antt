@@ -1,7 +1,7 @@
 -- A router as a core, which counts at each of its ports, and keeps what it dropped last. All of it is own.
 use Rattle.std.specs.Prelude.{◌≡◌, ℕ, Bool, List, length, Option, Some, None}
 use Rattle.ipx_router.specs.RouterView.{RouterView}
-use Rattle.ipx_carrier.specs.RouterCore.{CoreQueues, CoreView, Misses, RouterGives, RouterHears, Withholds}
+use Rattle.ipx_carrier.specs.PriorityRouterCore.{PriorityQueues, PriorityCoreView, PriorityMisses, PriorityGives, PriorityHears, PriorityWithholds}
 use Rattle.ipx_carrier.specs.Turns.{Given}
 use Rattle.ipx_carrier.specs.declared.outcome_counters.OutcomeCounters.{OutcomeCounters}
 use Rattle.ipx_metrics.specs.LastDrops.{AreNoted}
@@ -12,7 +12,7 @@ use Rattle.ipx_metrics.specs.declared.port_counts.PortCounts.{PortCounts}
 -- what a router is as a core, and what it counted at each port and dropped last
 pub record CountedView : Type 0 where
   pub router : RouterView
-  pub queues : CoreQueues
+  pub queues : PriorityQueues
   pub started : Bool
   pub dropped : ℕ
   pub outcomes : OutcomeCounters
@@ -20,7 +20,7 @@ pub record CountedView : Type 0 where
   pub last : LastDrops
 
 -- without the latter
-abbrev pub without_counts : CountedView → CoreView
+abbrev pub without_counts : CountedView → PriorityCoreView
 without_counts c = record {
   router = c.router;
   queues = c.queues;
@@ -38,12 +38,12 @@ pub record IsCountedHeard (old : CountedView) (port : ℕ) (bytes : List ℕ) (n
 
 -- it hears what the router does
 abbrev pub CountsHeard : CountedView → ℕ → List ℕ → ℕ → CountedView → Type 0
-CountsHeard old port bytes now new = RouterHears (without_counts old) port bytes now (without_counts new)
+CountsHeard old port bytes now new = PriorityHears (without_counts old) port bytes now (without_counts new)
     × IsCountedHeard old port bytes new
 
 -- memory is refused to it as it hears. What came is counted
 abbrev pub CountsMissed : CountedView → ℕ → List ℕ → ℕ → CountedView → Type 0
-CountsMissed old port bytes now new = Misses (without_counts old) port bytes now (without_counts new)
+CountsMissed old port bytes now new = PriorityMisses (without_counts old) port bytes now (without_counts new)
     × IsCountedHeard old port bytes new
 
 -- a packet that is given is counted at its port, and at no other
@@ -53,10 +53,10 @@ with_given (Some g) ports = changed_at ports g.port (with_sent_there (length g.b
 
 -- it gives what the router does
 abbrev pub CountsAsItGives : CountedView → ℕ → Option Given → CountedView → Type 0
-CountsAsItGives old now given new = RouterGives (without_counts old) now given (without_counts new)
+CountsAsItGives old now given new = PriorityGives (without_counts old) now given (without_counts new)
     × (new.port_counters ≡ with_given given old.port_counters) × (new.last ≡ old.last)
 
 -- memory is refused to it as it is asked, and nothing is counted
 abbrev pub CountsWithheld : CountedView → ℕ → CountedView → Type 0
-CountsWithheld old now new = Withholds (without_counts old) now (without_counts new)
+CountsWithheld old now new = PriorityWithholds (without_counts old) now (without_counts new)
     × (new.port_counters ≡ old.port_counters) × (new.last ≡ old.last)

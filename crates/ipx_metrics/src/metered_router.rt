@@ -2,24 +2,24 @@
 
 ghost use Rattle.std.specs.Prelude.{◌≡◌, ◌+◌, false, length, replicate, IfOk};
 ghost use Rattle.ipx_carrier.specs.OutcomeCounters.{none};
-ghost use Rattle.ipx_carrier.specs.RouterCore.{nothing_waits};
+ghost use Rattle.ipx_carrier.specs.PriorityRouterCore.{nothing_waits};
 ghost use Rattle.ipx_metrics.specs.LastDrops.{nothing_dropped};
 ghost use Rattle.ipx_metrics.specs.PortCounts.{changed_at, outcomes_over, no_traffic, with_heard_there, with_sent_there};
 
 use crate::last_drops::LastDrops;
 use crate::port_counts::PortCounts;
-use ipx_carrier::{Core, OutcomeCounters, RouterCore};
+use ipx_carrier::{Core, OutcomeCounters, PriorityRouterCore};
 use ipx_router::Router;
 use ipx_wire::{Node, OutOfMemory};
 use std::alloc::{AllocError, Global};
 use std::marker::Model;
 
-/// A router that runs over a device, as `RouterCore` is, and counts at each of its ports what passes
-/// and what becomes of it. What became of datagrams by all ports is what the router counts, and what
-/// it dropped last for a reason is kept.
+/// A router that runs over a device, as `PriorityRouterCore` is, and counts at each of its ports what
+/// passes and what becomes of it. What became of datagrams by all ports is what the router counts, and
+/// what it dropped last for a reason is kept.
 #[derive(Drop)]
 pub struct MeteredRouter {
-    core: RouterCore,
+    core: PriorityRouterCore,
     ports: Vec<PortCounts>,
     last: LastDrops,
 }
@@ -81,7 +81,7 @@ impl MeteredRouter {
     {
         let ports = vec![in alloc; PortCounts::new(); router.ports().len()]?;
         Ok(MeteredRouter {
-            core: RouterCore::new(alloc, router),
+            core: PriorityRouterCore::new(alloc, router),
             ports,
             last: LastDrops::new(),
         })
@@ -132,7 +132,7 @@ impl MeteredRouter {
         self.last
     }
 
-    /// The router asks its neighbours once more, as `RouterCore::restart_discovery` says.
+    /// The router asks its neighbours once more, as `PriorityRouterCore::restart_discovery` says.
     pub fn restart_discovery(&mut self)
         ensures { self.new ≡ record self.old { started = false } }
     {

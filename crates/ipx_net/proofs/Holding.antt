@@ -6,7 +6,7 @@ use Rattle.ipx_wire.specs.declared.address.Network.{Network}
 use Rattle.spx_units.specs.WrittenPackets.{Home}
 use Rattle.spx_messages.specs.EndpointView.{Held}
 use Rattle.spx_theory.specs.Addresses.{AddressesTellPeers}
-use Rattle.spx_theory.specs.Allocation.{AloneReadsNothing, WithinAllocation}
+use Rattle.spx_theory.specs.Allocation.{AloneReadsNothing}
 use Rattle.spx_theory.specs.Carried.{RoutersAlterHopsAlone}
 use Rattle.spx_theory.specs.Close.{AcknowledgedIsRead, ConfirmedIsRead, EndTakenIsWhole}
 use Rattle.spx_theory.specs.Deeds.{Reached}
@@ -15,8 +15,10 @@ use Rattle.spx_theory.specs.EntriesOfEnds.{EntriesTellEnds}
 use Rattle.spx_theory.specs.HandedOut.{HandsOutWhatItTook}
 use Rattle.spx_theory.specs.InStep.{PeersAreInStep}
 use Rattle.spx_theory.specs.InSteps.{PairsTakeSteps}
+use Rattle.spx_theory.specs.LogHeadline.{LogHeadline}
 use Rattle.spx_theory.specs.Note.{Note}
 use Rattle.spx_theory.specs.Numbered.{NumbersAreInOrder}
+use Rattle.spx_theory.specs.PremisesRead.{OriginsAreRead, PeersAreRead, PremisesAreRead}
 use Rattle.spx_theory.specs.Scene.{Scene, Stand}
 use Rattle.spx_theory.specs.SentUnits.{LinksSendInOrder, UnitsAreSentInOrder}
 use Rattle.spx_theory.specs.UnitsOfEnds.{UnitsAreCuts}
@@ -24,7 +26,7 @@ use Rattle.ipx_recovery.specs.Stuck.{NoPairIsStuck, NoStateIsStuck, NothingIsStu
 use Rattle.theory_steps.specs.World.{EndNow, InOrder, HostState, World, bytes_of, held_in, held_of, home_at, scene_of, segment_of, stand_of, stand_with}
 use Rattle.ipx_net.specs.NetReach.{GoesOn, IsKept}
 use Rattle.ipx_net.specs.NetView.{NetView}
-use Rattle.ipx_net.specs.Theorems.{AloneHandsOutNothing, AreNumbered, AreReleasedByLog, AreWhereOpened, LinkTheorems, PeersHandOn, Theorems}
+use Rattle.ipx_net.specs.Theorems.{AreNumbered, AreReleasedByLog, AreWhereOpened, LinkTheorems, Theorems}
 
 abbrev pub IsLaw : (Scene → Type 0) → Type 0
 IsLaw P = (s : Scene) → Reached s → P s
@@ -33,7 +35,10 @@ IsLaw P = (s : Scene) → Reached s → P s
 pub record SceneLaws : Type 0 where
   pub carried : IsLaw RoutersAlterHopsAlone
   pub sent : IsLaw UnitsAreSentInOrder
-  pub allowed : IsLaw WithinAllocation
+  pub headline : (s : Scene) → Reached s → LogHeadline s.log
+  pub origins : IsLaw OriginsAreRead
+  pub peers : IsLaw PeersAreRead
+  pub premises : IsLaw PremisesAreRead
   pub in_step : IsLaw PeersAreInStep
   pub alone : IsLaw AloneReadsNothing
   pub addresses : IsLaw AddressesTellPeers
@@ -69,11 +74,20 @@ in_order law w spent kept =
     let at : UnitsAreSentInOrder (lain (map bytes_of w.parcels) (map segment_of w.parcels) w.log) = always UnitsAreSentInOrder (λ s r. record { first = (law s r).first; again = (law s r).again }) w spent kept in
     record { first = at.first; again = at.again }
 
-hands_on : IsLaw PeersAreInStep → (w : World) (spent : Bool) → IsKept w spent → PeersHandOn (scene_of w)
-hands_on law w spent kept = always PeersHandOn (λ s r premises c d joined. ((law s r premises c d joined).0.prefix, (law s r premises c d joined).1.prefix)) w spent kept
+origins : IsLaw OriginsAreRead → (w : World) (spent : Bool) → IsKept w spent → OriginsAreRead (scene_of w)
+origins law w spent kept =
+    let at : OriginsAreRead (lain (map bytes_of w.parcels) (map segment_of w.parcels) w.log) = always OriginsAreRead (λ s r. record { each = (law s r).each; one = (law s r).one; read = (law s r).read }) w spent kept in
+    record { each = at.each; one = at.one; read = at.read }
 
-alone_hands : IsLaw AloneReadsNothing → (w : World) (spent : Bool) → IsKept w spent → AloneHandsOutNothing (scene_of w)
-alone_hands law w spent kept = always AloneHandsOutNothing (λ s r premises who alone. let x = law s r premises who alone in (x.0, x.1)) w spent kept
+peers : IsLaw PeersAreRead → (w : World) (spent : Bool) → IsKept w spent → PeersAreRead (scene_of w)
+peers law w spent kept =
+    let at : PeersAreRead (lain (map bytes_of w.parcels) (map segment_of w.parcels) w.log) = always PeersAreRead (λ s r. record { ends = (law s r).ends; one = (law s r).one; read = (law s r).read }) w spent kept in
+    record { ends = at.ends; one = at.one; read = at.read }
+
+premises : IsLaw PremisesAreRead → (w : World) (spent : Bool) → IsKept w spent → PremisesAreRead (scene_of w)
+premises law w spent kept =
+    let at : PremisesAreRead (lain (map bytes_of w.parcels) (map segment_of w.parcels) w.log) = always PremisesAreRead (λ s r. let p = law s r in record { injected = p.injected; own = p.own; recent = p.recent; all = p.all }) w spent kept in
+    record { injected = at.injected; own = at.own; recent = at.recent; all = at.all }
 
 -- ---- of what speaks of addresses and log alone
 abbrev pub addressed : List Home → List Note → Scene
@@ -173,9 +187,10 @@ theorems laws v kept =
     record {
       alters = always RoutersAlterHopsAlone laws.carried w v.spent kept;
       in_order = in_order laws.sent w v.spent kept;
-      allowed = always WithinAllocation laws.allowed w v.spent kept;
-      hands_on = hands_on laws.in_step w v.spent kept;
-      alone_hands = alone_hands laws.alone w v.spent kept;
+      headline = always (λ s. LogHeadline s.log) laws.headline w v.spent kept;
+      origins = origins laws.origins w v.spent kept;
+      peers = peers laws.peers w v.spent kept;
+      premises = premises laws.premises w v.spent kept;
       addresses = addresses laws.addresses w v.spent kept;
       machine = always PairsTakeSteps laws.machine w v.spent kept;
       end_taken = always EndTakenIsWhole laws.end_taken w v.spent kept;

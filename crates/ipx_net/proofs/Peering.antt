@@ -10,13 +10,13 @@ use Rattle.spx_theory.specs.Scan.{Each, Scan, scan}
 use Rattle.spx_theory.specs.Peers.{ArePeers, IsFresh, IsRecent}
 use Rattle.spx_theory.specs.Handed.{handed_in, handed_out, IsBeginning}
 use Rattle.spx_theory.specs.EndsTold.{PeerIsFound, peer_in, peer_of}
-use Rattle.ipx_net.specs.Begins.{Begins}
+use Rattle.ipx_net.specs.Begins.{BeginsAsRead}
 use Rattle.ipx_net.specs.Sights.{reading_view, scan_of}
 use Rattle.ipx_net.specs.declared.log_index.LogIndex.{LogIndex}
 
 -- of an end with this peer
 pub with_peer : (log : List Note) (end peer : ℕ) → ((s : Scan) (c d : ℕ) → PeerIsFound s c d) → end < length (scan log).roles → peer_of log end ≡ Some peer
-    → Begins log end ↔ IsBeginning (handed_out end log) (handed_in peer log)
+    → BeginsAsRead log end ↔ IsBeginning (handed_out end log) (handed_in peer log)
 with_peer log end peer found made is =
     let are : ArePeers log end peer = (found (scan log) end peer).only is in (
       λ b. b.begins peer are,
@@ -30,7 +30,7 @@ with_peer log end peer found made is =
 
 -- of one without
 pub without_peer : (log : List Note) (end : ℕ) → ((s : Scan) (c d : ℕ) → PeerIsFound s c d) → end < length (scan log).roles → peer_of log end ≡ None
-    → Begins log end ↔ (handed_out end log ≡ [])
+    → BeginsAsRead log end ↔ (handed_out end log ≡ [])
 without_peer log end found made is =
     let none : (d : ℕ) → ArePeers log end d → ⊥ = λ d peers. let same : None ≡ Some d = sym is ∙ (found (scan log) end d).there peers in cc in
     (λ b. b.alone none, λ e. record { made = made; begins = λ d peers. absurd (none d peers); alone = λ _. e })
@@ -62,7 +62,7 @@ fresh_by P log kept same answer =
 
 -- whether what an end with a peer handed out is a beginning, by what is kept of the log
 pub begins_with : (P : Type 0) (log : List Note) (kept : LogIndex) (end peer : ℕ) → ((s : Scan) (c d : ℕ) → PeerIsFound s c d) → scan log ≡ scan_of kept → end < length kept.roles.items
-    → peer_in (scan_of kept) end ≡ Some peer → (P ↔ IsBeginning (handed_out end log) (handed_in peer log)) → P ↔ Begins log end
+    → peer_in (scan_of kept) end ≡ Some peer → (P ↔ IsBeginning (handed_out end log) (handed_in peer log)) → P ↔ BeginsAsRead log end
 begins_with P log kept end peer found same within is answer =
     let there : end < length (scan_of kept).roles = rw length-map within in
     let made : end < length (scan log).roles = subst (λ (s : Scan). end < length s.roles) (sym same) there in

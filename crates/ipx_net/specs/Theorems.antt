@@ -1,19 +1,19 @@
 -- What is so of every network: one list of its theorems, each a field. They are read off its log and
 -- its parcels alone, or, while no memory was refused, off its links too.
-use Rattle.std.specs.Prelude.{ℕ, ◌≡◌, ◌↔◌, true, false, List, [], ◌∷◌, ◌++◌, Some, Contains, slice_get}
+use Rattle.std.specs.Prelude.{ℕ, ◌≡◌, ◌↔◌, true, false, List, ◌∷◌, ◌++◌, Some, Contains, slice_get}
 use Rattle.spx_theory.specs.Addresses.{AddressesTellPeers}
-use Rattle.spx_theory.specs.Allocation.{AloneReadsNothing, HasNoPeer, WithinAllocation}
+use Rattle.spx_theory.specs.Allocation.{AloneReadsNothing}
 use Rattle.spx_theory.specs.Carried.{RoutersAlterHopsAlone}
 use Rattle.spx_theory.specs.Close.{AcknowledgedIsRead, ConfirmedIsRead, EndTakenIsWhole}
 use Rattle.spx_theory.specs.EndsTold.{EndsAreTold}
 use Rattle.spx_theory.specs.EntriesOfEnds.{QueuedWereAsked}
-use Rattle.spx_theory.specs.Handed.{IsBeginning, handed_in, handed_out, taken_of}
 use Rattle.spx_theory.specs.HandedOut.{HandsOutWhatItTook}
 use Rattle.spx_theory.specs.InStep.{PeersAreInStep}
 use Rattle.spx_theory.specs.InSteps.{PairsTakeSteps}
+use Rattle.spx_theory.specs.LogHeadline.{LogHeadline}
 use Rattle.spx_theory.specs.Note.{Note, Opened, Released}
 use Rattle.spx_theory.specs.Numbered.{IsNumbered, NumbersAreInOrder}
-use Rattle.spx_theory.specs.Peers.{AreJoined, Premises}
+use Rattle.spx_theory.specs.PremisesRead.{OriginsAreRead, PeersAreRead, PremisesAreRead}
 use Rattle.spx_theory.specs.Scan.{scan}
 use Rattle.spx_theory.specs.Scene.{Scene}
 use Rattle.spx_theory.specs.SentUnits.{LinksSendInOrder, UnitsAreSentInOrder}
@@ -21,18 +21,6 @@ use Rattle.spx_theory.specs.UnitsOfEnds.{UnitsAreCuts}
 use Rattle.ipx_recovery.specs.Stuck.{NoPairIsStuck, NoStateIsStuck, NothingIsStuckByAddresses}
 use Rattle.theory_steps.specs.World.{EndNow, InOrder, World, scene_of}
 use Rattle.ipx_net.specs.NetView.{NetView}
-
--- if nothing injected is read, and each end reads its own peer alone and lately, then what an end
--- handed out begins what its peer handed in, either way
-abbrev pub PeersHandOn : Scene → Type 0
-PeersHandOn s = Premises s.log → (c d : ℕ) → AreJoined (scan s.log) c d
-    → IsBeginning (handed_out c s.log) (handed_in d s.log)
-    × IsBeginning (handed_out d s.log) (handed_in c s.log)
-
--- under the same premises an end without a peer took no unit and handed out nothing
-abbrev pub AloneHandsOutNothing : Scene → Type 0
-AloneHandsOutNothing s = Premises s.log → (who : ℕ) → HasNoPeer s who
-    → (taken_of who s.log ≡ []) × (handed_out who s.log ≡ [])
 
 -- each entry of a log names what is there
 abbrev pub AreNumbered : List Note → Type 0
@@ -75,9 +63,11 @@ pub record LinkTheorems (w : World) : Type 0 where
 pub record Theorems (v : NetView) : Type 0 where
   pub alters : RoutersAlterHopsAlone (scene_of v.now.world)
   pub in_order : UnitsAreSentInOrder (scene_of v.now.world)
-  pub allowed : WithinAllocation (scene_of v.now.world)
-  pub hands_on : PeersHandOn (scene_of v.now.world)
-  pub alone_hands : AloneHandsOutNothing (scene_of v.now.world)
+  pub headline : LogHeadline v.now.world.log
+  -- what is read off the log is what its entries say
+  pub origins : OriginsAreRead (scene_of v.now.world)
+  pub peers : PeersAreRead (scene_of v.now.world)
+  pub premises : PremisesAreRead (scene_of v.now.world)
   pub addresses : AddressesTellPeers (scene_of v.now.world)
   pub machine : PairsTakeSteps (scene_of v.now.world)
   pub end_taken : EndTakenIsWhole (scene_of v.now.world)

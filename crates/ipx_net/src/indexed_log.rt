@@ -3,7 +3,7 @@
 ghost use Rattle.std.specs.Prelude.{◌≡◌, ◌+◌, ◌++◌, ◌<◌, ◌≤◌, ◌↔◌, IsTrue, OnErr, OnOk, length, vec_capacity, vec_len};
 ghost use Rattle.spx_theory.specs.EndsTold.{peer_of};
 ghost use Rattle.spx_theory.specs.Peers.{IsFresh};
-ghost use Rattle.ipx_net.specs.Begins.{Begins};
+ghost use Rattle.ipx_net.specs.Begins.{BeginsAsRead};
 ghost use Rattle.ipx_net.specs.IndexedLogView.{IndexedLogView, blank, written_on};
 ghost use Rattle.ipx_net.specs.LogEntries.{entry_notes};
 ghost use Rattle.ipx_net.specs.Parcels.{parcel_views};
@@ -104,7 +104,7 @@ impl IndexedLog {
     /// Whether what an end handed out is a beginning of what its peer handed in. Without a peer: it
     /// handed out nothing. It is false for a number of no end.
     pub fn begins(&self, end: usize) -> bool
-        ensures { IsTrue result ↔ Begins self.now.log end }
+        ensures { IsTrue result ↔ BeginsAsRead self.now.log end }
     {
         peer_is_found();
         if end >= self.scanned.roles.len() {

@@ -1,8 +1,7 @@
 //! A network in memory, step by step.
 
 ghost use Rattle.std.specs.Prelude.{◌≡◌, ◌≢◌, ◌<◌, ◌↔◌, All, Err, IfErr, IfOk, IsTrue, None, OnOk, Some, false, length, true, unwrap_or};
-ghost use Rattle.spx_theory.specs.Peers.{IsFresh, Premises};
-ghost use Rattle.spx_theory.specs.Scan.{scan};
+ghost use Rattle.spx_theory.specs.LogPremises.{IsEnd, LogPremises, ReadsRecent};
 ghost use Rattle.ipx_router.specs.declared.fault.NewFault.TheVariants as NewFaults;
 ghost use Rattle.ipx_net.specs.AnswerView.{answer_view};
 ghost use Rattle.ipx_net.specs.NetBeginnings.{ArePortsOwed, IsHostOwed, IsNewNet, first_refusal};
@@ -201,8 +200,8 @@ impl Net {
         ensures begins { IsTrue result ↔ Begins self.now.now.world.log end }
         // The headline, also after want of memory: under its premises each end that there is
         // begins.
-        ensures headline { Premises self.now.now.world.log
-            → end < length (scan self.now.now.world.log).roles → IsTrue result }
+        ensures headline { LogPremises self.now.now.world.log → IsEnd self.now.now.world.log end
+            → IsTrue result }
         ensures theorems { Theorems self.now }
     {
         self.course.holds();
@@ -212,7 +211,7 @@ impl Net {
     /// Whether each packet that an end read of its peer was sent fewer than 32,768 units of each of
     /// the two before.
     pub fn fresh(&self) -> bool
-        ensures fresh { IsTrue result ↔ IsFresh self.now.now.world.log }
+        ensures fresh { IsTrue result ↔ ReadsRecent self.now.now.world.log }
         ensures theorems { Theorems self.now }
     {
         self.course.holds();

@@ -6,7 +6,7 @@ ghost use Rattle.spx_theory.specs.Peers.{IsFresh};
 ghost use Rattle.ipx_router.specs.declared.fault.NewFault.TheVariants as NewFaults;
 ghost use Rattle.ipx_net.specs.AnswerView.{answer_view};
 ghost use Rattle.ipx_net.specs.NetBeginnings.{ArePortsOwed, IsHostOwed, IsNewNet, first_refusal};
-ghost use Rattle.ipx_net.specs.Begins.{Begins};
+ghost use Rattle.ipx_net.specs.Begins.{BeginsAsRead};
 ghost use Rattle.ipx_net.specs.Ends.{TellsLog};
 ghost use Rattle.ipx_net.specs.LogEntries.{entry_notes};
 ghost use Rattle.ipx_net.specs.NetEvents.{Happens, IsOwed};
@@ -36,9 +36,10 @@ use ipx_recovery::{no_pair_is_stuck, no_state_is_stuck, nothing_is_stuck_by_addr
 use ipx_router::{NewFault, Port};
 use spx_theory::{
     acknowledged_end_is_read, addresses_tell_peers, alone_reads_nothing, confirmed_is_read,
-    end_taken_is_whole, ends_are_told, entries_tell_ends, hands_out_what_it_took,
-    links_send_in_order, numbers_are_in_order, pairs_take_steps, peers_are_in_step,
-    routers_alter_hops_alone, units_are_cuts, units_are_sent_in_order, within_allocation,
+    end_taken_is_whole, ends_are_told, entries_tell_ends, hands_out_what_it_took, headline_of_log,
+    links_send_in_order, numbers_are_in_order, origins_are_read, pairs_take_steps,
+    peers_are_in_step, peers_are_read, premises_are_read, routers_alter_hops_alone, units_are_cuts,
+    units_are_sent_in_order,
 };
 use std::alloc::Global;
 use std::marker::Model;
@@ -200,7 +201,10 @@ impl NetState {
         let _spent = &self.spent;
         routers_alter_hops_alone();
         units_are_sent_in_order();
-        within_allocation();
+        headline_of_log();
+        origins_are_read();
+        peers_are_read();
+        premises_are_read();
         peers_are_in_step();
         alone_reads_nothing();
         addresses_tell_peers();
@@ -235,7 +239,7 @@ impl NetState {
 
     /// Whether what an end handed out is a beginning of what its peer handed in.
     pub fn begins(&self, end: usize) -> bool
-        ensures { IsTrue result ↔ Begins self.now.now.world.log end }
+        ensures { IsTrue result ↔ BeginsAsRead self.now.now.world.log end }
     {
         self.indexed_log.begins(end)
     }

@@ -1,5 +1,5 @@
 -- The hosts of a network and their ends, by their numbers; and the world that they are a part of.
-use Rattle.std.specs.Prelude.{ℕ, ◌≡◌, Bool, false, true, not, List, ◌++◌, length, map, set, Option, Some, None, Result, Ok, Err, slice_get}
+use Rattle.std.specs.Prelude.{ℕ, ◌≡◌, ◌≤◌, ◌⊎◌, Bool, false, true, not, List, ◌++◌, length, map, set, Option, Some, None, Result, Ok, Err, slice_get}
 use Rattle.ipx_wire.specs.declared.address.Node.{Node}
 use Rattle.spx_messages.specs.Arrives.{Arrives}
 use Rattle.spx_messages.specs.Polls.{Polls}
@@ -42,6 +42,13 @@ stands_now (Some e) = not e.released
 -- hosts keep their addresses, whatever is called and whatever is refused
 abbrev pub SameHomes : HostsView → HostsView → Type 0
 SameHomes old new = map home_at new.stations ≡ map home_at old.stations
+
+-- whatever is called and whatever is refused, no end goes, and an end of which a message grew too
+-- long stays so: one of which none did is new, or had none before
+abbrev pub StaysOverlong : HostsView → HostsView → Type 0
+StaysOverlong old new = (who : ℕ) (n : EndNow) → slice_get new.ends who ≡ Some n
+    → n.overlong ≡ false → (length old.ends ≤ who)
+    ⊎ ((o : EndNow) × (slice_get old.ends who ≡ Some o) × (o.overlong ≡ false))
 
 -- there is such an end, and it is not released
 abbrev pub stands : HostsView → ℕ → Bool

@@ -14,3 +14,5 @@ mod polled;
 mod refused;
 #[cfg(test)]
 mod spent;
+#[cfg(test)]
+mod two_routers;

@@ -113,7 +113,7 @@ fn event(alloc: Global, number: usize) -> Result<Event, AllocError>
 const LENGTHS: [usize; 13] = [0, 1, 2, 3, 5, 6, 7, 9, 10, 11, 12, 13, 15];
 
 /// An entry: what it is; its end, or the parcel that was carried on; and two numbers more.
-type Told = (&'static str, usize, usize, usize);
+pub type Told = (&'static str, usize, usize, usize);
 
 /// The usual log. The byte of the message is 97.
 const USUAL: [Told; 15] = [
@@ -134,15 +134,17 @@ const USUAL: [Told; 15] = [
     ("handed out", 1, 0, 97),
 ];
 
-/// The byte of a body of one byte.
-fn byte_of(body: &[u8]) -> usize {
-    match body.first() {
-        Some(byte) if body.len() == 1 => *byte as usize,
-        _ => usize::MAX,
+/// The bytes of a body as one number, the first byte first.
+fn number_of(body: &[u8]) -> usize {
+    let mut number: usize = 0;
+    for byte in body {
+        number = number.wrapping_mul(256).wrapping_add(*byte as usize);
     }
+    number
 }
 
-fn told(entry: &Entry) -> Told {
+/// An entry of a log as those of `USUAL`.
+pub fn told(entry: &Entry) -> Told {
     match entry {
         Entry::Opened { who, host, buffers } => ("opened", *who, *host, *buffers as usize),
         Entry::Accepted {
@@ -155,6 +157,7 @@ fn told(entry: &Entry) -> Told {
         Entry::Unit { who, parcel } => ("unit", *who, *parcel, 0),
         Entry::System { who, parcel } => ("system", *who, *parcel, 0),
         Entry::Carried { from, parcel } => ("carried", *from, *parcel, 0),
+        Entry::Told { router, parcel } => ("told", *router, *parcel, 0),
         _ => told_of_a_message(entry),
     }
 }
@@ -166,7 +169,7 @@ fn told_of_a_message(entry: &Entry) -> Told {
                 "handed in",
                 *who,
                 message.stream as usize,
-                byte_of(&message.body),
+                number_of(&message.body),
             )
         }
         Entry::HandOut { who, message } => {
@@ -174,7 +177,7 @@ fn told_of_a_message(entry: &Entry) -> Told {
                 "handed out",
                 *who,
                 message.stream as usize,
-                byte_of(&message.body),
+                number_of(&message.body),
             )
         }
         Entry::UnitTaken { who, unit } => {
@@ -182,7 +185,7 @@ fn told_of_a_message(entry: &Entry) -> Told {
                 "taken",
                 *who,
                 unit.stream as usize,
-                byte_of(unit.body.as_slice()),
+                number_of(unit.body.as_slice()),
             )
         }
         _ => ("another", 0, 0, 0),
@@ -215,7 +218,7 @@ fn goes_on(rt: &impl Abort, alloc: Global, net: &mut Net, number: usize) -> Resu
 }
 
 /// Whether a network is spent: no further step is taken, not even of the moment.
-fn is_spent(net: &mut Net, alloc: Global) -> bool {
+pub fn is_spent(net: &mut Net, alloc: Global) -> bool {
     let ticked = net.step(alloc, Event::Tick { now: 5 });
     let taken = net.step(alloc, Event::Take { who: 0 });
     matches!(ticked, Err(NetFault::Spent)) && matches!(taken, Err(NetFault::Spent))

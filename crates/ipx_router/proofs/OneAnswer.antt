@@ -141,9 +141,15 @@ routes_asked_one : Facts → (ports : List Port) (routes : Routes) (at : PortNow
 unfolding RoutesAsked
 routes_asked_one f ports routes at asked xs ys x y = routes_asked_by f (asks_all asked) ports routes at asked xs ys x y
 
-route_packets_one : Facts → (to : Recipient) (entries : List RipEntry) (ss ts : List SendingView) → AreRoutePackets to entries ss → AreRoutePackets to entries ts → ss ≡ ts
-route_packets_one f to = cuts_one 50 (λ (part : List RipEntry). IsRipPacket to (rip.Response part)) (λ part.
-    own_packet_one f.ipx_bytes to 1 rip_socket (λ (body : List ℕ). IsRip (rip.Response part) body []) (λ x y in_x in_y is_x is_y. f.rip_bytes (rip.Response part) x y [] in_x in_y is_x is_y))
+-- a packet with a message is one
+pub rip_packet_one : Facts → (to : Recipient) (m : RipView) (s t : SendingView) → IsRipPacket to m s → IsRipPacket to m t → s ≡ t
+rip_packet_one f to m = own_packet_one f.ipx_bytes to 1 rip_socket (λ (body : List ℕ). IsRip m body []) (λ x y in_x in_y is_x is_y. f.rip_bytes m x y [] in_x in_y is_x is_y)
+
+pub sap_packet_one : Facts → (to : Recipient) (m : SapView) (s t : SendingView) → IsSapPacket to m s → IsSapPacket to m t → s ≡ t
+sap_packet_one f to m = own_packet_one f.ipx_bytes to 4 sap_socket (λ (body : List ℕ). IsSap m body []) (λ x y in_x in_y is_x is_y. f.sap_bytes m x y [] in_x in_y is_x is_y)
+
+pub route_packets_one : Facts → (to : Recipient) (entries : List RipEntry) (ss ts : List SendingView) → AreRoutePackets to entries ss → AreRoutePackets to entries ts → ss ≡ ts
+route_packets_one f to = cuts_one 50 (λ (part : List RipEntry). IsRipPacket to (rip.Response part)) (λ part. rip_packet_one f to (rip.Response part))
 
 replies_routes_one : Facts → (ports : List Port) (routes : Routes) (at : PortNow) (to : Recipient) (asked : List RipEntry) (ss ts : List SendingView) → RepliesRoutes ports routes at to asked ss → RepliesRoutes ports routes at to asked ts → ss ≡ ts
 replies_routes_one f ports routes at to asked ss ts x y =
@@ -194,16 +200,15 @@ are_nearest_one IsTold kind (e ∷ es) (g ∷ gs) x y =
     let rest : es ≡ gs = x.1 ∙ sym y.1 in
     λ i. first i ∷ rest i
 
-key_total : IsTotalOrder service_key_cmp
+pub key_total : IsTotalOrder service_key_cmp
 key_total = then_total (on_total (λ (k : ServiceKey). k.kind) nat_cmp_total) (on_total (λ (k : ServiceKey). k.name) nat_list_cmp_total)
 
 services_asked_one : (services : Services) (at : PortNow) (nearest : Bool) (kind : ℕ) (xs ys : List ServiceEntry) → AreServicesAsked services at nearest kind xs → AreServicesAsked services at nearest kind ys → xs ≡ ys
 services_asked_one services at true kind xs ys x y = are_nearest_one (IsToldService services at) kind xs ys x y
 services_asked_one services at false kind xs ys x y = list_is_one key_total key_of_service _ xs ys x y
 
-service_packets_one : Facts → (to : Recipient) (nearest : Bool) (entries : List ServiceEntry) (ss ts : List SendingView) → AreServicePackets to nearest entries ss → AreServicePackets to nearest entries ts → ss ≡ ts
-service_packets_one f to nearest = cuts_one 7 (λ (part : List ServiceEntry). IsSapPacket to (sap.Response nearest part)) (λ part.
-    own_packet_one f.ipx_bytes to 4 sap_socket (λ (body : List ℕ). IsSap (sap.Response nearest part) body []) (λ x y in_x in_y is_x is_y. f.sap_bytes (sap.Response nearest part) x y [] in_x in_y is_x is_y))
+pub service_packets_one : Facts → (to : Recipient) (nearest : Bool) (entries : List ServiceEntry) (ss ts : List SendingView) → AreServicePackets to nearest entries ss → AreServicePackets to nearest entries ts → ss ≡ ts
+service_packets_one f to nearest = cuts_one 7 (λ (part : List ServiceEntry). IsSapPacket to (sap.Response nearest part)) (λ part. sap_packet_one f to (sap.Response nearest part))
 
 replies_services_one : Facts → (services : Services) (at : PortNow) (to : Recipient) (nearest : Bool) (kind : ℕ) (ss ts : List SendingView) → RepliesServices services at to nearest kind ss → RepliesServices services at to nearest kind ts → ss ≡ ts
 replies_services_one f services at to nearest kind ss ts x y =

@@ -46,7 +46,7 @@ same_routes routes new other x y p = x p ∙ sym (y p)
 same_services : (services : Services) (new other : Table ServiceKey ServiceMetric) → HoldsServices new services → HoldsServices other services → SameServices new other
 same_services services new other x y p = x p ∙ sym (y p)
 
-same_known : (k : Known) (new other : Tables) → HoldsKnown k new → HoldsKnown k other → Same new other
+pub same_known : (k : Known) (new other : Tables) → HoldsKnown k new → HoldsKnown k other → Same new other
 same_known k new other x y = (same_routes k.routes new.0 other.0 x.routes y.routes, same_services k.services new.1 other.1 x.services y.services)
 
 module _ (f : Facts) (ports : List Port) (routes : Routes) (source : Source) (now : ℕ) (entries : List RipEntry) where

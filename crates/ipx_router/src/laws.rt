@@ -5,6 +5,7 @@ ghost use Rattle.ipx_router.specs.Knowledge.{HoldsRoutes, HoldsServices, routes_
 ghost use Rattle.ipx_router.specs.RouterView.{RouterView};
 ghost use Rattle.ipx_router.specs.OutcomeView.{OutcomeView};
 ghost use Rattle.ipx_router.specs.Answer.{Receives};
+ghost use Rattle.ipx_router.specs.OneValue.{IsOneHolding, IsOneStart, IsOneTelling};
 
 use ipx_control::{
     bytes_are_one_rip, bytes_are_one_sap, rip_is_one_list_of_bytes, sap_is_one_list_of_bytes,
@@ -37,6 +38,39 @@ pub fn offers_are_one()
         → Receives old port bytes now a new → Receives old port bytes now b other
         → HoldsRoutes new.routes (routes_in other.routes)
         × HoldsServices new.services (services_in other.services) }
+{
+    bytes_are_one_packet();
+    packet_is_one_list_of_bytes();
+    bytes_are_one_rip();
+    rip_is_one_list_of_bytes();
+    bytes_are_one_sap();
+    sap_is_one_list_of_bytes();
+    one_best::<Network, RouteMetric>();
+    content_counts::<Network, RouteMetric>();
+    content_counts::<ServiceKey, ServiceMetric>();
+}
+
+/// What a router tells is one, byte for byte and in one order, and so is when it told last then:
+/// whoever knows the same of each network and service, and told last at the same time, tells the
+/// same. What it holds after that is one too.
+pub fn telling_is_one()
+    ensures packets { IsOneTelling }
+    ensures holds { IsOneHolding }
+{
+    bytes_are_one_packet();
+    packet_is_one_list_of_bytes();
+    bytes_are_one_rip();
+    rip_is_one_list_of_bytes();
+    bytes_are_one_sap();
+    sap_is_one_list_of_bytes();
+    one_best::<Network, RouteMetric>();
+    content_counts::<Network, RouteMetric>();
+    content_counts::<ServiceKey, ServiceMetric>();
+}
+
+/// What it asks as it starts is one.
+pub fn start_is_one()
+    ensures { IsOneStart }
 {
     bytes_are_one_packet();
     packet_is_one_list_of_bytes();

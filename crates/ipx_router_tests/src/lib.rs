@@ -7,6 +7,8 @@ mod alike;
 #[cfg(test)]
 mod all_asked;
 #[cfg(test)]
+mod cut;
+#[cfg(test)]
 mod fixture;
 #[cfg(test)]
 mod full;

@@ -31,3 +31,4 @@ pub mod MarksApart
 pub mod Present
 pub mod StationFaults
 pub mod ListedClients
+pub mod RanRounds

@@ -8,7 +8,7 @@ use Rattle.ipx_router.specs.Hearing.{is_heard, route_metric, service_metric}
 use Rattle.ipx_router.specs.Knowledge.{routes_in, services_in}
 use Rattle.ipx_router.specs.Telling.{is_due}
 use Rattle.ipx_router.specs.Told.{key_of_service}
-use Rattle.ipx_carrier.specs.RouterCore.{CoreView}
+use Rattle.ipx_carrier.specs.PriorityRouterCore.{PriorityCoreView}
 use Rattle.ipx_static.specs.declared.neighbour.StaticNeighbour.{StaticNeighbour}
 use Rattle.ipx_static.specs.WithStatics.{WithStaticsView}
 use Rattle.ipx_static.specs.StaticOffers.{IsAnotherNode}
@@ -21,7 +21,7 @@ use Rattle.ipx_site.specs.SitePorts.{router_ports}
 use Rattle.ipx_site.proofs.StandingEntries.{files_stand}
 
 -- it is such a run of the silent neighbours
-run_of : (s : RouterConfig) (start : ℕ) (calls : List StaticCallAt) (old new : WithStaticsView CoreView) → RunsByFile s start calls old new
+run_of : (s : RouterConfig) (start : ℕ) (calls : List StaticCallAt) (old new : WithStaticsView PriorityCoreView) → RunsByFile s start calls old new
     → (ns : List StaticNeighbour) → AreWordsOf ns old.words → is_due old.said start ≡ true
     → All (IsAnotherNode (router_ports s.ports.items)) ns → RunsWithStatics ns start calls old new
 run_of s start calls old new run ns words due others = record {

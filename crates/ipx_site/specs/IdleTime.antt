@@ -14,7 +14,7 @@ use Rattle.ipx_site.specs.PortsView.{SitePortsRun}
 use Rattle.ipx_site.specs.declared.warnings.Warning.{Warning}
 use Rattle.ipx_site.specs.declared.warnings.Warnings.{Warnings}
 use Rattle.ipx_carrier.specs.Counting.{counted}
-use Rattle.ipx_carrier.specs.RouterCore.{CoreQueues}
+use Rattle.ipx_carrier.specs.PriorityRouterCore.{PriorityQueues}
 use Rattle.ipx_site.specs.Moments.{HasPassed, IsOneDue, IsToAskAgain}
 use Rattle.ipx_site.specs.SiteCore.{SiteCore}
 use Rattle.ipx_site.specs.EthernetTotals.{encapsulated_otherwise_in, unframed_in}
@@ -116,7 +116,7 @@ abbrev pub look_after : ℕ → ℕ → ℕ
 look_after heard responses = if heard == responses then 10000 else 1000
 
 -- packets wait to be sent
-abbrev pub IsToSend : CoreQueues → Type 0
+abbrev pub IsToSend : PriorityQueues → Type 0
 IsToSend q = 0 < length q.forwarded + length q.own
 
 -- there is something to do: to send what waits, to ask again, to tell the neighbours, to hear by hand, to

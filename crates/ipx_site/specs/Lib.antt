@@ -40,3 +40,4 @@ pub mod SiteMarks
 pub mod ClientLog
 pub mod KnownFile
 pub mod ConfigFile
+pub mod RoutingRuns

@@ -10,7 +10,7 @@ use Rattle.ipx_router.specs.declared.port.Port.{Port}
 use Rattle.ipx_router.specs.Hearing.{is_heard, route_metric, service_metric}
 use Rattle.ipx_router.specs.Knowledge.{routes_in, services_in}
 use Rattle.ipx_router.specs.Told.{key_of_service, route_key}
-use Rattle.ipx_carrier.specs.RouterCore.{CoreView}
+use Rattle.ipx_carrier.specs.PriorityRouterCore.{PriorityCoreView}
 use Rattle.ipx_carrier.specs.Turns.{Given}
 use Rattle.ipx_static.specs.declared.neighbour.StaticNeighbour.{StaticNeighbour}
 use Rattle.ipx_static.specs.WithStatics.{WithStaticsView}
@@ -53,11 +53,11 @@ FilesMayStand = (text : List ℕ) (s : RouterConfig) → IsSiteText text s
 
 -- a router that counts nothing by port and keeps nothing back, with the ports of a file, which is to hear by
 -- hand what that says, is asked at first, and over all calls never finds a table full
-pub record RunsByFile (s : RouterConfig) (start : ℕ) (calls : List StaticCallAt) (old new : WithStaticsView CoreView) : Type 0 where
+pub record RunsByFile (s : RouterConfig) (start : ℕ) (calls : List StaticCallAt) (old new : WithStaticsView PriorityCoreView) : Type 0 where
   pub to_hear : IsToHear s.statics.items old
   pub ports : old.core.router.ports ≡ router_ports s.ports.items
   pub given : Option Given
-  pub first : WithStaticsView CoreView
+  pub first : WithStaticsView PriorityCoreView
   pub begins : DoesStaticCall start (Asked given) old first
   pub goes_on : DoStaticCalls calls first new
   pub room : new.core.outcomes.table_full ≡ old.core.outcomes.table_full
@@ -67,7 +67,7 @@ pub record RunsByFile (s : RouterConfig) (start : ℕ) (calls : List StaticCallA
 -- network itself, is an offer that counts, up to a minute after the last question
 abbrev pub RoutesOfFilesStand : Type 0
 RoutesOfFilesStand = (text : List ℕ) (s : RouterConfig) → IsSiteText text s → (start : ℕ) (calls : List StaticCallAt)
-    (old new : WithStaticsView CoreView) → RunsByFile s start calls old new
+    (old new : WithStaticsView PriorityCoreView) → RunsByFile s start calls old new
     → (h : StaticEntry) → Contains s.statics.items h → (e : RipEntry) → h.word ≡ Route e
     → ((n : StaticNeighbour) → static_source n ≡ h.by
     → IsAskedEachMinute (λ port bytes. TellsItself n e.network port bytes → ⊥) calls start)
@@ -78,7 +78,7 @@ RoutesOfFilesStand = (text : List ℕ) (s : RouterConfig) → IsSiteText text s 
 -- and so is each service
 abbrev pub ServicesOfFilesStand : Type 0
 ServicesOfFilesStand = (text : List ℕ) (s : RouterConfig) → IsSiteText text s → (start : ℕ) (calls : List StaticCallAt)
-    (old new : WithStaticsView CoreView) → RunsByFile s start calls old new
+    (old new : WithStaticsView PriorityCoreView) → RunsByFile s start calls old new
     → (h : StaticEntry) → Contains s.statics.items h → (e : ServiceEntry) → h.word ≡ Service e
     → ((n : StaticNeighbour) → static_source n ≡ h.by
     → IsAskedEachMinute (λ port bytes. OffersItself n (key_of_service e) port bytes → ⊥) calls start)

@@ -1,6 +1,6 @@
 //! The command `route`.
 
-ghost use Rattle.std.specs.Prelude.{◌≡◌, ◌≤◌, ◌+◌, [], None, All, IfErr, IfOk, OnOk, is_ok, if◌then◌else◌, length, map};
+ghost use Rattle.std.specs.Prelude.{◌≡◌, ◌≤◌, ◌⊎◌, ◌+◌, [], false, None, All, IfErr, IfOk, OnErr, OnOk, is_ok, if◌then◌else◌, length, map};
 ghost use Rattle.ipx_router.specs.NewRouter.{IsOwnNetwork};
 ghost use Rattle.ipx_router.specs.Ports.{IsPortNumber};
 ghost use Rattle.ipx_static.specs.StaticAdvertisements.{AreWordsOf};
@@ -9,6 +9,8 @@ ghost use Rattle.ipx_carrier.specs.Counting.{counted};
 ghost use Rattle.ipx_site.specs.KindPorts.{ArePortsBound, datagram_ports, port_indices_of};
 ghost use Rattle.ipx_site.specs.StaticLists.{HearsAtPorts};
 ghost use Rattle.ipx_site.specs.StaticNeighbours.{IsToHear};
+ghost use Rattle.ipx_site.specs.RoutingRuns.{EndsRouter, EndsRouting, RunsRouter, RunsTo};
+ghost use Rattle.ipx_site.specs.declared.running_router.RunningRouter.{RunningRouter as Running};
 ghost use Rattle.ipx_site.specs.SitePorts.{AccessListPorts, access_by, access_of, heard_at_port, named, router_ports, site_peers, udp_ports};
 
 use crate::bind_fault::BindFault;
@@ -341,6 +343,24 @@ fn start<'a, R: Net + Log + SystemClock>(
     Ok(RunningRouter::new(alloc, parts))
 }
 
+/// Runs a router that was started, for as long as it can. Why one was not is passed on.
+fn route_started<R: Net + Log + Files + SystemClock>(
+    rt: &R,
+    alloc: Global,
+    started: Result<RunningRouter<'_, R>, RouteFault>,
+) -> Result<(), RouteFault>
+    ensures unstarted { OnErr started.entry (is_ok result ≡ false) }
+    ensures runs { IfOk started.entry (λ s. (last : Running R) × RunsTo s last (is_ok result)) }
+{
+    match started {
+        Ok(mut router) => {
+            router.run(rt, alloc)?;
+            Ok(())
+        }
+        Err(fault) => Err(fault),
+    }
+}
+
 /// Runs a router of a file for as long as it can.
 fn route<R: Net + Log + Files + SystemClock>(
     rt: &R,
@@ -349,12 +369,11 @@ fn route<R: Net + Log + Files + SystemClock>(
 ) -> Result<(), RouteFault>
     requires own { All IsOwnNetwork (router_ports site.ports.items) }
     requires there { HearsAtPorts site }
+    // If it started, it ran from there.
+    ensures { (is_ok result ≡ false) ⊎ RunsRouter R site (is_ok result) }
 {
-    let mut station = start(rt, alloc, site)?;
-    for _step in 0..u64::MAX {
-        station.step(rt, alloc)?;
-    }
-    Ok(())
+    let started = start(rt, alloc, site);
+    route_started(rt, alloc, started)
 }
 
 /// The status of a router that ended by itself, whose fault is told.
@@ -381,6 +400,7 @@ fn route_loaded<R: Net + Log + Files + SystemClock + Eprint>(
     requires there { IfOk loaded HearsAtPorts }
     ensures unread { IfErr loaded (λ status. result ≡ status) }
     ensures routed { OnOk loaded (result ≤ 1) }
+    ensures ends { IfOk loaded (λ site. EndsRouter R site result) }
 {
     match loaded {
         Ok(site) => tell_end(rt, path, route(rt, alloc, site)),
@@ -399,7 +419,10 @@ pub fn do_route<R: Net + Log + Files + SystemClock + Eprint>(
     alloc: Global,
     path: &str,
 ) -> u8
-    ensures { result ≤ 2 }
+    ensures few { result ≤ 2 }
+    // If it started, as some text of a file says, it went through rounds, each from where the last
+    // one left it, until a wait failed. So it never ends well before 2^64 - 1 rounds.
+    ensures ends { EndsRouting R result }
 {
     let loaded = load_site(rt, alloc, path);
     route_loaded(rt, alloc, path, loaded)

@@ -51,6 +51,21 @@ fn keys_of_port(kind: Kind) -> &'static str {
     }
 }
 
+/// The key that a name of an earlier version is called now.
+fn new_name(name: &str) -> Option<Key> {
+    match name {
+        "status" => Some(Key::Status),
+        "tables" => Some(Key::Tables),
+        "from" => Some(Key::From),
+        "frame" => Some(Key::Frame),
+        "ends" => Some(Key::Ends),
+        "hub" => Some(Key::Switch),
+        "next" => Some(Key::Next),
+        "at" => Some(Key::At),
+        _ => None,
+    }
+}
+
 /// What the value of a key of a route or a service is to be: those name a port, and no own network.
 fn valid_statics(key: Key) -> &'static str {
     match key {
@@ -119,6 +134,9 @@ impl fmt::Display for ConfigError {
             ConfigError::NotToml(line, error) => { write!(f, "line {line}: {}", error.message()) }
             ConfigError::Unknown(table, name) => {
                 write_place(f, *table)?;
+                if let Some(key) = new_name(name.as_str()) {
+                    return write!(f, "`{name}` is now `{key}`");
+                }
                 let name = Escaped(name.as_bytes());
                 write!(f, "{name} is no key here: {}", keys_of(*table))
             }

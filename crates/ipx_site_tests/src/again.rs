@@ -1,6 +1,6 @@
 //! Routers below `QueryLimiter` that ask their neighbours once more.
 
-use ipx_carrier::{Core, RouterCore};
+use ipx_carrier::Core;
 use ipx_metrics::MeteredRouter;
 use ipx_router::{Port, Router};
 use ipx_site::QueryLimiter;
@@ -55,11 +55,8 @@ fn asks_again<C: RestartDiscovery + Drop>(alloc: Global, core: C) -> Result<bool
 #[test]
 fn asks_again_below_turns(rt: HostRuntime) -> Result<(), Fail> {
     let alloc = rt.alloc();
-    assert!(rt; asks_again(alloc, RouterCore::new(alloc, router(alloc)?))?);
     assert!(rt; asks_again(alloc, counted(alloc)?)?);
     let statics = WithStatics::new(alloc, counted(alloc)?, &[])?;
-    assert!(rt; asks_again(alloc, statics)?);
-    let statics = WithStatics::new(alloc, RouterCore::new(alloc, router(alloc)?), &[])?;
     assert!(rt; asks_again(alloc, statics)?);
     Ok(())
 }

@@ -1,7 +1,7 @@
 //! Random internetworks in memory, drawn from a seed: several routers on one network, and hosts that
 //! name any of theirs. Each guard names the routers. Nobody forges there, and nothing is kept back.
 
-use ipx_carrier::{Datagrams, DeviceFault, RouterCore, SteppedClock, batch, node_of};
+use ipx_carrier::{Datagrams, DeviceFault, PriorityRouterCore, SteppedClock, batch, node_of};
 use ipx_router::{Port, Router};
 use ipx_site::{AccessList, Senders, SourceFilter};
 use ipx_wire::{Address, IpxHeader, Network, Node, Packet, Socket, decode, encode_into};
@@ -122,7 +122,7 @@ impl Senders for Post {
 /// that number.
 #[derive(Drop)]
 struct Stand {
-    core: Option<RouterCore>,
+    core: Option<PriorityRouterCore>,
     router: usize,
     networks: Vec<usize>,
     came: VecDeque<Letter>,
@@ -190,7 +190,7 @@ impl Internetwork {
         }
         let router = Router::new(self.alloc, ports)?;
         self.stands.push(Stand {
-            core: Some(RouterCore::new(self.alloc, router)),
+            core: Some(PriorityRouterCore::new(self.alloc, router)),
             router: number,
             networks,
             came: VecDeque::new(self.alloc),
@@ -492,7 +492,7 @@ fn what_waits_behind_forged_datagrams_is_heard(rt: HostRuntime) -> Result<(), Fa
         node: node_of([10, 0, 0, 8]),
         cost: 1,
     };
-    let mut core = RouterCore::new(alloc, Router::new(alloc, vec![in alloc; port]?)?);
+    let mut core = PriorityRouterCore::new(alloc, Router::new(alloc, vec![in alloc; port]?)?);
     let peers = vec![in alloc; Vec::new(alloc)]?;
     let mut clock = SteppedClock::new(0, 0);
     let batch = batch(alloc, &mut core, &mut device, &peers, &mut clock, 20_000);

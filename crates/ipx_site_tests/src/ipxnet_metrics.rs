@@ -1,6 +1,6 @@
 //! The figures of a port for clients by cause: what is sent through a router, and which one it raises.
 
-use ipx_carrier::{RouterCore, SteppedClock, run_batch};
+use ipx_carrier::{PriorityRouterCore, SteppedClock, run_batch};
 use ipx_ipxnet_ports::{MemoryPlaces, Servers};
 use ipx_router::{Port, Router};
 use ipx_site::put_drops;
@@ -204,14 +204,14 @@ fn put(sockets: &mut MemoryPlaces, from: Place, sent: Sent) -> Result<(), Fail> 
 }
 
 /// A router with the port.
-fn core(alloc: Global) -> Result<RouterCore, Fail> {
+fn core(alloc: Global) -> Result<PriorityRouterCore, Fail> {
     let mut ports = Vec::new(alloc);
     ports.push(Port {
         network: PORT.network,
         node: PORT.own,
         cost: 1,
     })?;
-    Ok(RouterCore::new(alloc, Router::new(alloc, ports)?))
+    Ok(PriorityRouterCore::new(alloc, Router::new(alloc, ports)?))
 }
 
 /// The lobby of a row.

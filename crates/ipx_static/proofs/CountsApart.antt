@@ -2,7 +2,7 @@
 use Rattle.std.proofs.Common.{◌≡◌, ℕ, Bool, true, false, List, [], ◌∷◌, Some, ap, MatchBool}
 use Rattle.ipx_router.specs.RouterPackets.{SendingView}
 use Rattle.ipx_router.specs.Telling.{is_due}
-use Rattle.ipx_carrier.specs.RouterCore.{RouterHears}
+use Rattle.ipx_carrier.specs.PriorityRouterCore.{PriorityHears}
 use Rattle.ipx_metrics.specs.MeteredRouter.{CountedView, CountsHeard, without_counts}
 use Rattle.ipx_static.specs.WithStatics.{WithStaticsView, HearsIfDue, HearsWords}
 use Rattle.ipx_static.specs.StaticRuns.{Asked, AsksOnceMore, Comes, StaticsAreCountedApart, uncounted}
@@ -12,15 +12,15 @@ either P Q R S true f g h = f h
 either P Q R S false f g h = g h
 
 advertisements : (now : ℕ) (ws : List SendingView) (old new : CountedView) → HearsWords CountsHeard now ws old new
-    → HearsWords RouterHears now ws (without_counts old) (without_counts new)
+    → HearsWords PriorityHears now ws (without_counts old) (without_counts new)
 advertisements now [] old new is = ap without_counts is
 advertisements now (w ∷ ws) old new h = (without_counts h.0, h.1.0, advertisements now ws h.0 new h.2)
 
 if_due : (old new : WithStaticsView CountedView) (now : ℕ) → HearsIfDue CountsHeard old now new
-    → HearsIfDue RouterHears (uncounted old) now (uncounted new)
+    → HearsIfDue PriorityHears (uncounted old) now (uncounted new)
 if_due old new now h = either
     (HearsWords CountsHeard now old.advertisements old.core new.core × (new ≡ record old { core = new.core; said = Some now })) (new ≡ old)
-    (HearsWords RouterHears now old.advertisements (without_counts old.core) (without_counts new.core)
+    (HearsWords PriorityHears now old.advertisements (without_counts old.core) (without_counts new.core)
     × (uncounted new ≡ record (uncounted old) { core = without_counts new.core; said = Some now })) (uncounted new ≡ uncounted old)
     (is_due old.said now) (λ said. (advertisements now old.advertisements old.core new.core said.0, ap uncounted said.1)) (λ is. ap uncounted is) h
 

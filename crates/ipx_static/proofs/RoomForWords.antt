@@ -9,18 +9,18 @@ use Rattle.ipx_router.specs.Telling.{is_due}
 use Rattle.ipx_carrier.specs.declared.outcome_counters.OutcomeCounters.{OutcomeCounters}
 use Rattle.ipx_carrier.specs.Counting.{raised}
 use Rattle.ipx_carrier.specs.OutcomeCounters.{outcome_counted}
-use Rattle.ipx_carrier.specs.RouterCore.{CoreView, RouterHears, put_answer}
+use Rattle.ipx_carrier.specs.PriorityRouterCore.{PriorityCoreView, PriorityHears, put_by_priority}
 use Rattle.ipx_static.specs.WithStatics.{WithStaticsView, HearsIfDue, HearsWords}
 use Rattle.ipx_static.proofs.EachWord.{FindsRoomForEach}
 
 -- the queues are nothing to the router and its counts
-answer_router : (a : OutcomeView) (c : CoreView) → (put_answer a c).router ≡ c.router
+answer_router : (a : OutcomeView) (c : PriorityCoreView) → (put_by_priority a c).router ≡ c.router
 answer_router (Forward port next bytes) c = refl
 answer_router (Replies sent) c = refl
 answer_router (Heard n) c = refl
 answer_router (Dropped reason) c = refl
 
-answer_outcomes : (a : OutcomeView) (c : CoreView) → (put_answer a c).outcomes ≡ c.outcomes
+answer_outcomes : (a : OutcomeView) (c : PriorityCoreView) → (put_by_priority a c).outcomes ≡ c.outcomes
 answer_outcomes (Forward port next bytes) c = refl
 answer_outcomes (Replies sent) c = refl
 answer_outcomes (Heard n) c = refl
@@ -39,14 +39,14 @@ full_or_not (Dropped HopLimit) f = inl (λ e. cc, refl)
 full_or_not (Dropped (BadControl fault)) f = inl (λ e. cc, refl)
 full_or_not (Dropped TableFull) f = inr refl
 
-abbrev pub full : CoreView → ℕ
+abbrev pub full : PriorityCoreView → ℕ
 full c = c.outcomes.table_full
 
-heard_outcomes : (old new : CoreView) (port : ℕ) (bytes : List ℕ) (now : ℕ) (h : RouterHears old port bytes now new) → full new ≡ (outcome_counted h.0 old.outcomes).table_full
+heard_outcomes : (old new : PriorityCoreView) (port : ℕ) (bytes : List ℕ) (now : ℕ) (h : PriorityHears old port bytes now new) → full new ≡ (outcome_counted h.0 old.outcomes).table_full
 heard_outcomes old new port bytes now h = ap full h.3 ∙ ap (λ (f : OutcomeCounters). f.table_full) (answer_outcomes h.0 (record old { router = h.1; outcomes = outcome_counted h.0 old.outcomes }))
 
-pub heard_router : (old new : CoreView) (port : ℕ) (bytes : List ℕ) (now : ℕ) (h : RouterHears old port bytes now new) → new.router ≡ h.1
-heard_router old new port bytes now h = ap (λ (c : CoreView). c.router) h.3 ∙ answer_router h.0 (record old { router = h.1; outcomes = outcome_counted h.0 old.outcomes })
+pub heard_router : (old new : PriorityCoreView) (port : ℕ) (bytes : List ℕ) (now : ℕ) (h : PriorityHears old port bytes now new) → new.router ≡ h.1
+heard_router old new port bytes now h = ap (λ (c : PriorityCoreView). c.router) h.3 ∙ answer_router h.0 (record old { router = h.1; outcomes = outcome_counted h.0 old.outcomes })
 
 raised_by : (n : ℕ) → n < 2 ^ 64 → (n ≤ raised n) × (raised n < 2 ^ 64)
 raised_by n less = (omega (arith, less), omega (arith, less))
@@ -55,7 +55,7 @@ raised_one : (n : ℕ) → n + 1 < 2 ^ 64 → raised n ≡ n + 1
 raised_one n less = omega (arith, less)
 
 -- the count never goes down
-pub one_on : (old new : CoreView) (port : ℕ) (bytes : List ℕ) (now : ℕ) → RouterHears old port bytes now new → full old < 2 ^ 64 → (full old ≤ full new) × (full new < 2 ^ 64)
+pub one_on : (old new : PriorityCoreView) (port : ℕ) (bytes : List ℕ) (now : ℕ) → PriorityHears old port bytes now new → full old < 2 ^ 64 → (full old ≤ full new) × (full new < 2 ^ 64)
 one_on old new port bytes now h less =
     let is = heard_outcomes old new port bytes now h in
     elim (full_or_not h.0 old.outcomes) [
@@ -63,15 +63,15 @@ one_on old new port bytes now h less =
       | inr up ↦ let by = raised_by (full old) less in (omega (arith, is, up, by.0), omega (arith, is, up, by.1))
     ]
 
-pub all_on : (now : ℕ) (ws : List SendingView) (old new : CoreView) → HearsWords RouterHears now ws old new → full old < 2 ^ 64 → (full old ≤ full new) × (full new < 2 ^ 64)
+pub all_on : (now : ℕ) (ws : List SendingView) (old new : PriorityCoreView) → HearsWords PriorityHears now ws old new → full old < 2 ^ 64 → (full old ≤ full new) × (full new < 2 ^ 64)
 all_on now [] old new is less = (omega (arith, ap full is), omega (arith, ap full is, less))
 all_on now (w ∷ ws) old new h less =
     let first = one_on old h.0 (w.port - 1) w.bytes now h.1 less in
     let rest = all_on now ws h.0 new h.2 first.1 in
     (omega (arith, first.0, rest.0), rest.1)
 
-pub room_for_each : (now : ℕ) (ws : List SendingView) (old new : CoreView) → HearsWords RouterHears now ws old new → full old + 1 < 2 ^ 64 → full new ≡ full old → FindsRoomForEach now ws old.router new.router
-room_for_each now [] old new is less same = ap (λ (c : CoreView). c.router) is
+pub room_for_each : (now : ℕ) (ws : List SendingView) (old new : PriorityCoreView) → HearsWords PriorityHears now ws old new → full old + 1 < 2 ^ 64 → full new ≡ full old → FindsRoomForEach now ws old.router new.router
+room_for_each now [] old new is less same = ap (λ (c : PriorityCoreView). c.router) is
 room_for_each now (w ∷ ws) old new h less same =
     let mid = h.0 in
     let outcomes = heard_outcomes old mid (w.port - 1) w.bytes now h.1 in
@@ -89,9 +89,9 @@ pub of_true : (P Q : Type 0) (b : Bool) → b ≡ true → MatchBool b P Q → P
 of_true P Q true e h = h
 of_true P Q false e h = cc
 
-pub heard_words : (old new : WithStaticsView CoreView) (now : ℕ) → is_due old.said now ≡ true → HearsIfDue RouterHears old now new → HearsWords RouterHears now old.advertisements old.core new.core
+pub heard_words : (old new : WithStaticsView PriorityCoreView) (now : ℕ) → is_due old.said now ≡ true → HearsIfDue PriorityHears old now new → HearsWords PriorityHears now old.advertisements old.core new.core
 heard_words old new now due h =
-    (of_true (HearsWords RouterHears now old.advertisements old.core new.core × (new ≡ record old { core = new.core; said = Some now })) (new ≡ old) (is_due old.said now) due h).0
+    (of_true (HearsWords PriorityHears now old.advertisements old.core new.core × (new ≡ record old { core = new.core; said = Some now })) (new ≡ old) (is_due old.said now) due h).0
 
 pub of_false : (P Q : Type 0) (b : Bool) → b ≡ false → MatchBool b P Q → Q
 of_false P Q true e h = cc

@@ -9,7 +9,8 @@ use Rattle.ipx_router.specs.OutcomeView.{OutcomeView}
 use Rattle.ipx_router.specs.RouterPackets.{SendingView}
 use Rattle.ipx_router.specs.RouterView.{RouterView}
 use Rattle.ipx_router.specs.Telling.{is_due}
-use Rattle.ipx_carrier.specs.RouterCore.{CoreView, RouterGives, RouterHears, TellsNow}
+use Rattle.ipx_carrier.specs.RouterQueues.{TellsNow}
+use Rattle.ipx_carrier.specs.PriorityRouterCore.{PriorityCoreView, PriorityGives, PriorityHears}
 use Rattle.ipx_carrier.specs.Turns.{Given}
 use Rattle.ipx_static.specs.WithStatics.{WithStaticsView, GivesWithStatics, HearsIfDue, HearsUnder, HearsWords}
 use Rattle.ipx_static.specs.StaticRuns.{Asked, AsksOnceMore, ComesAs, DoStaticCalls, DoesStaticCall, StaticCall, StaticCallAt, IsAskedEachMinute, asked_by, asked_in, Comes}
@@ -21,40 +22,40 @@ bool_cases false = inr refl
 
 -- ---- what calls leave of the ports, and of the count of full tables
 
-words_ports : (now : ℕ) (ws : List SendingView) (old new : CoreView) → HearsWords RouterHears now ws old new → new.router.ports ≡ old.router.ports
-words_ports now [] old new is = ap (λ (c : CoreView). c.router.ports) is
+words_ports : (now : ℕ) (ws : List SendingView) (old new : PriorityCoreView) → HearsWords PriorityHears now ws old new → new.router.ports ≡ old.router.ports
+words_ports now [] old new is = ap (λ (c : PriorityCoreView). c.router.ports) is
 words_ports now (w ∷ ws) old new h =
     words_ports now ws h.0 new h.2 ∙ ap (λ (r : RouterView). r.ports) (heard_router old h.0 (w.port - 1) w.bytes now h.1) ∙ h.1.2.rest.ports
 
-gives_router : (old new : CoreView) (now : ℕ) (given : Option Given) (h : RouterGives old now given new) → new.router ≡ h.1.2
-gives_router old new now given h = ap (λ (c : CoreView). c.router) h.2.1 ∙ ap (λ (c : CoreView). c.router) h.1.5
+gives_router : (old new : PriorityCoreView) (now : ℕ) (given : Option Given) (h : PriorityGives old now given new) → new.router ≡ h.1.2
+gives_router old new now given h = ap (λ (c : PriorityCoreView). c.router) h.2.1 ∙ ap (λ (c : PriorityCoreView). c.router) h.1.5
 
-gives_full : (old new : CoreView) (now : ℕ) (given : Option Given) → RouterGives old now given new → full new ≡ full old
+gives_full : (old new : PriorityCoreView) (now : ℕ) (given : Option Given) → PriorityGives old now given new → full new ≡ full old
 gives_full old new now given h = ap full h.2.1 ∙ ap full h.1.5
 
-due_full : (old new : WithStaticsView CoreView) (now : ℕ) → HearsIfDue RouterHears old now new → full old.core < 2 ^ 64 → (full old.core ≤ full new.core) × (full new.core < 2 ^ 64)
+due_full : (old new : WithStaticsView PriorityCoreView) (now : ℕ) → HearsIfDue PriorityHears old now new → full old.core < 2 ^ 64 → (full old.core ≤ full new.core) × (full new.core < 2 ^ 64)
 due_full old new now h less = elim (bool_cases (is_due old.said now)) [
   | inl due ↦
-      let said = of_true (HearsWords RouterHears now old.advertisements old.core new.core × (new ≡ record old { core = new.core; said = Some now })) (new ≡ old) (is_due old.said now) due h in
+      let said = of_true (HearsWords PriorityHears now old.advertisements old.core new.core × (new ≡ record old { core = new.core; said = Some now })) (new ≡ old) (is_due old.said now) due h in
       all_on now old.advertisements old.core new.core said.0 less
   | inr not_due ↦
-      let is = of_false (HearsWords RouterHears now old.advertisements old.core new.core × (new ≡ record old { core = new.core; said = Some now })) (new ≡ old) (is_due old.said now) not_due h in
-      let same = ap (λ (v : WithStaticsView CoreView). full v.core) is in
+      let is = of_false (HearsWords PriorityHears now old.advertisements old.core new.core × (new ≡ record old { core = new.core; said = Some now })) (new ≡ old) (is_due old.said now) not_due h in
+      let same = ap (λ (v : WithStaticsView PriorityCoreView). full v.core) is in
       (omega (arith, same), omega (arith, same, less))
 ]
 
-call_full : (now : ℕ) (c : StaticCall) (old new : WithStaticsView CoreView) → DoesStaticCall now c old new → full old.core < 2 ^ 64 → (full old.core ≤ full new.core) × (full new.core < 2 ^ 64)
+call_full : (now : ℕ) (c : StaticCall) (old new : WithStaticsView PriorityCoreView) → DoesStaticCall now c old new → full old.core < 2 ^ 64 → (full old.core ≤ full new.core) × (full new.core < 2 ^ 64)
 call_full now (Comes port bytes) old new h less = one_on old.core new.core port bytes now h.0 less
 call_full now (Asked given) old new h less =
     let first = due_full old h.0 now h.1 less in
     let same = gives_full h.0.core new.core now given h.2 in
     (omega (arith, first.0, same), omega (arith, first.1, same))
 call_full now AsksOnceMore old new h less =
-    let same : full new.core ≡ full old.core = ap (λ (v : WithStaticsView CoreView). full v.core) h in
+    let same : full new.core ≡ full old.core = ap (λ (v : WithStaticsView PriorityCoreView). full v.core) h in
     (omega (arith, same), omega (arith, same, less))
 
-calls_full : (cs : List StaticCallAt) (old new : WithStaticsView CoreView) → DoStaticCalls cs old new → full old.core < 2 ^ 64 → full old.core ≤ full new.core
-calls_full [] old new is less = omega (arith, ap (λ (v : WithStaticsView CoreView). full v.core) is)
+calls_full : (cs : List StaticCallAt) (old new : WithStaticsView PriorityCoreView) → DoStaticCalls cs old new → full old.core < 2 ^ 64 → full old.core ≤ full new.core
+calls_full [] old new is less = omega (arith, ap (λ (v : WithStaticsView PriorityCoreView). full v.core) is)
 calls_full (c ∷ cs) old new h less =
     let first = call_full c.moment c.call old h.0 h.1 less in
     omega (arith, first.0, calls_full cs h.0 new h.2 first.1)
@@ -64,10 +65,10 @@ calls_full (c ∷ cs) old new h less =
 module _ {M : Type 0} (metric : M) (ports : List Port) (advertisements : List SendingView) (value : RouterView → Option (M × ℕ)) (IsSuch : ℕ → List ℕ → Type 0)
     (receives : (old new : RouterView) (port : ℕ) (bytes : List ℕ) (now : ℕ) (a : OutcomeView) → IsSuch port bytes → Receives old (port + 1) bytes now a new → value new ≡ still now (value old))
     (tells : (old new : RouterView) (now : ℕ) (told : List SendingView) → TellsNow old now told new → value new ≡ still now (value old))
-    (says : (old new : WithStaticsView CoreView) (now : ℕ) → old.core.router.ports ≡ ports → old.advertisements ≡ advertisements → is_due old.said now ≡ true → HearsIfDue RouterHears old now new
+    (says : (old new : WithStaticsView PriorityCoreView) (now : ℕ) → old.core.router.ports ≡ ports → old.advertisements ≡ advertisements → is_due old.said now ≡ true → HearsIfDue PriorityHears old now new
     → full new.core ≡ full old.core → full old.core + 1 < 2 ^ 64 → value new.core.router ≡ Some (metric, now)) where
   -- it was heard since words were said last, which is under a minute before the last question
-  pub record Stays (v : WithStaticsView CoreView) (asked : ℕ) : Type 0 where
+  pub record Stays (v : WithStaticsView PriorityCoreView) (asked : ℕ) : Type 0 where
     pub last : ℕ
     pub is_last : v.said ≡ Some last
     pub lately : asked - last < 60000
@@ -84,39 +85,39 @@ module _ {M : Type 0} (metric : M) (ports : List Port) (advertisements : List Se
   still_there now heard o is young = ap (still now) is ∙ ap (λ b. cond b (Some (metric, heard)) None) young
 
   -- asked behind words, or where none were due
-  asked_behind : (v mid : WithStaticsView CoreView) (now : ℕ) (given : Option Given) → Stays v now → RouterGives v.core now given mid.core → mid ≡ record v { core = mid.core } → Stays mid now
+  asked_behind : (v mid : WithStaticsView PriorityCoreView) (now : ℕ) (given : Option Given) → Stays v now → PriorityGives v.core now given mid.core → mid ≡ record v { core = mid.core } → Stays mid now
   asked_behind v mid now given s h is =
       let router = gives_router v.core mid.core now given h in
       let young = young_within now now s.last s.heard s.lately s.since (omega arith) in
       record {
         last = s.last;
-        is_last = ap (λ (v : WithStaticsView CoreView). v.said) is ∙ s.is_last;
+        is_last = ap (λ (v : WithStaticsView PriorityCoreView). v.said) is ∙ s.is_last;
         lately = s.lately;
         heard = s.heard;
         since = s.since;
         stands = ap value router ∙ tells v.core.router h.1.2 now h.1.1 h.1.4 ∙ still_there now s.heard (value v.core.router) s.stands young;
         same_ports = ap (λ (r : RouterView). r.ports) router ∙ h.1.4.2.ports ∙ s.same_ports;
-        same_words = ap (λ (v : WithStaticsView CoreView). v.advertisements) is ∙ s.same_words;
+        same_words = ap (λ (v : WithStaticsView PriorityCoreView). v.advertisements) is ∙ s.same_words;
       }
 
   -- asked where words are due
-  asked_due : (v mid : WithStaticsView CoreView) (now : ℕ) (given : Option Given) → v.core.router.ports ≡ ports → v.advertisements ≡ advertisements → is_due v.said now ≡ true
-      → GivesWithStatics RouterHears RouterGives v now given mid → full mid.core ≡ full v.core → full v.core + 1 < 2 ^ 64 → Stays mid now
+  asked_due : (v mid : WithStaticsView PriorityCoreView) (now : ℕ) (given : Option Given) → v.core.router.ports ≡ ports → v.advertisements ≡ advertisements → is_due v.said now ≡ true
+      → GivesWithStatics PriorityHears PriorityGives v now given mid → full mid.core ≡ full v.core → full v.core + 1 < 2 ^ 64 → Stays mid now
   asked_due v mid now given same_ports same_words due h stays less =
       let heard = h.0 in
-      let said = of_true (HearsWords RouterHears now v.advertisements v.core heard.core × (heard ≡ record v { core = heard.core; said = Some now })) (heard ≡ v) (is_due v.said now) due h.1 in
+      let said = of_true (HearsWords PriorityHears now v.advertisements v.core heard.core × (heard ≡ record v { core = heard.core; said = Some now })) (heard ≡ v) (is_due v.said now) due h.1 in
       let bound = due_full v heard now h.1 (omega (arith, less)) in
       let gives = gives_full heard.core mid.core now given h.2 in
       let same : full heard.core ≡ full v.core = omega (arith, stays, gives) in
       let s : Stays heard now = record {
         last = now;
-        is_last = ap (λ (v : WithStaticsView CoreView). v.said) said.1;
+        is_last = ap (λ (v : WithStaticsView PriorityCoreView). v.said) said.1;
         lately = omega arith;
         heard = now;
         since = omega arith;
         stands = says v heard now same_ports same_words due h.1 same less;
         same_ports = words_ports now v.advertisements v.core heard.core said.0 ∙ same_ports;
-        same_words = ap (λ (v : WithStaticsView CoreView). v.advertisements) said.1 ∙ same_words;
+        same_words = ap (λ (v : WithStaticsView PriorityCoreView). v.advertisements) said.1 ∙ same_words;
       } in
       asked_behind heard mid now given s h.2 h.3
 
@@ -124,11 +125,11 @@ module _ {M : Type 0} (metric : M) (ports : List Port) (advertisements : List Se
   under_a_minute now last h = omega (arith, leb-false 60000 (now - last) h)
 
   -- asked where none are due
-  asked_early : (v mid : WithStaticsView CoreView) (asked now : ℕ) (given : Option Given) → Stays v asked → is_due v.said now ≡ false
-      → GivesWithStatics RouterHears RouterGives v now given mid → Stays mid now
+  asked_early : (v mid : WithStaticsView PriorityCoreView) (asked now : ℕ) (given : Option Given) → Stays v asked → is_due v.said now ≡ false
+      → GivesWithStatics PriorityHears PriorityGives v now given mid → Stays mid now
   asked_early v mid asked now given s not_due h =
       let heard = h.0 in
-      let is = of_false (HearsWords RouterHears now v.advertisements v.core heard.core × (heard ≡ record v { core = heard.core; said = Some now })) (heard ≡ v) (is_due v.said now) not_due h.1 in
+      let is = of_false (HearsWords PriorityHears now v.advertisements v.core heard.core × (heard ≡ record v { core = heard.core; said = Some now })) (heard ≡ v) (is_due v.said now) not_due h.1 in
       let here : Stays v now = record {
         last = s.last;
         is_last = s.is_last;
@@ -139,38 +140,38 @@ module _ {M : Type 0} (metric : M) (ports : List Port) (advertisements : List Se
         same_ports = s.same_ports;
         same_words = s.same_words;
       } in
-      asked_behind heard mid now given (subst (λ (v : WithStaticsView CoreView). Stays v now) (sym is) here) h.2 h.3
+      asked_behind heard mid now given (subst (λ (v : WithStaticsView PriorityCoreView). Stays v now) (sym is) here) h.2 h.3
 
-  comes_in : (v mid : WithStaticsView CoreView) (asked now port : ℕ) (bytes : List ℕ) → Stays v asked → now ≤ asked + 60000 → IsSuch port bytes
-      → HearsUnder RouterHears v port bytes now mid → Stays mid asked
+  comes_in : (v mid : WithStaticsView PriorityCoreView) (asked now port : ℕ) (bytes : List ℕ) → Stays v asked → now ≤ asked + 60000 → IsSuch port bytes
+      → HearsUnder PriorityHears v port bytes now mid → Stays mid asked
   comes_in v mid asked now port bytes s within such h =
       let router = heard_router v.core mid.core port bytes now h.0 in
       let young = young_within now asked s.last s.heard s.lately s.since within in
       record {
         last = s.last;
-        is_last = ap (λ (v : WithStaticsView CoreView). v.said) h.1 ∙ s.is_last;
+        is_last = ap (λ (v : WithStaticsView PriorityCoreView). v.said) h.1 ∙ s.is_last;
         lately = s.lately;
         heard = s.heard;
         since = s.since;
         stands = ap value router ∙ receives v.core.router h.0.1 port bytes now h.0.0 such h.0.2 ∙ still_there now s.heard (value v.core.router) s.stands young;
         same_ports = ap (λ (r : RouterView). r.ports) router ∙ h.0.2.rest.ports ∙ s.same_ports;
-        same_words = ap (λ (v : WithStaticsView CoreView). v.advertisements) h.1 ∙ s.same_words;
+        same_words = ap (λ (v : WithStaticsView PriorityCoreView). v.advertisements) h.1 ∙ s.same_words;
       }
 
   -- to ask its neighbours once more
-  asks_on : (v mid : WithStaticsView CoreView) (asked : ℕ) → Stays v asked → mid ≡ record v { core = record v.core { started = false } } → Stays mid asked
+  asks_on : (v mid : WithStaticsView PriorityCoreView) (asked : ℕ) → Stays v asked → mid ≡ record v { core = record v.core { started = false } } → Stays mid asked
   asks_on v mid asked s is = record {
     last = s.last;
-    is_last = ap (λ (v : WithStaticsView CoreView). v.said) is ∙ s.is_last;
+    is_last = ap (λ (v : WithStaticsView PriorityCoreView). v.said) is ∙ s.is_last;
     lately = s.lately;
     heard = s.heard;
     since = s.since;
-    stands = ap (λ (v : WithStaticsView CoreView). value v.core.router) is ∙ s.stands;
-    same_ports = ap (λ (v : WithStaticsView CoreView). v.core.router.ports) is ∙ s.same_ports;
-    same_words = ap (λ (v : WithStaticsView CoreView). v.advertisements) is ∙ s.same_words;
+    stands = ap (λ (v : WithStaticsView PriorityCoreView). value v.core.router) is ∙ s.stands;
+    same_ports = ap (λ (v : WithStaticsView PriorityCoreView). v.core.router.ports) is ∙ s.same_ports;
+    same_words = ap (λ (v : WithStaticsView PriorityCoreView). v.advertisements) is ∙ s.same_words;
   }
 
-  one_call : (now : ℕ) (c : StaticCall) (v mid : WithStaticsView CoreView) (asked : ℕ) → Stays v asked → now ≤ asked + 60000 → ComesAs IsSuch c → DoesStaticCall now c v mid
+  one_call : (now : ℕ) (c : StaticCall) (v mid : WithStaticsView PriorityCoreView) (asked : ℕ) → Stays v asked → now ≤ asked + 60000 → ComesAs IsSuch c → DoesStaticCall now c v mid
       → full mid.core ≡ full v.core → full v.core + 1 < 2 ^ 64 → Stays mid (asked_by now c asked)
   one_call now (Comes port bytes) v mid asked s within such h same less = comes_in v mid asked now port bytes s within such h
   one_call now (Asked given) v mid asked s within such h same less = elim (bool_cases (is_due v.said now)) [
@@ -179,9 +180,9 @@ module _ {M : Type 0} (metric : M) (ports : List Port) (advertisements : List Se
   ]
   one_call now AsksOnceMore v mid asked s within such h same less = asks_on v mid asked s h
 
-  all_calls : (cs : List StaticCallAt) (v new : WithStaticsView CoreView) (asked : ℕ) → Stays v asked → IsAskedEachMinute IsSuch cs asked → DoStaticCalls cs v new
+  all_calls : (cs : List StaticCallAt) (v new : WithStaticsView PriorityCoreView) (asked : ℕ) → Stays v asked → IsAskedEachMinute IsSuch cs asked → DoStaticCalls cs v new
       → full new.core ≡ full v.core → full v.core + 1 < 2 ^ 64 → Stays new (asked_in cs asked)
-  all_calls [] v new asked s each is same less = subst (λ (v : WithStaticsView CoreView). Stays v asked) (sym is) s
+  all_calls [] v new asked s each is same less = subst (λ (v : WithStaticsView PriorityCoreView). Stays v asked) (sym is) s
   all_calls (c ∷ cs) v new asked s each h same less =
       let mid = h.0 in
       let first = call_full c.moment c.call v mid h.1 (omega (arith, less)) in
@@ -190,7 +191,7 @@ module _ {M : Type 0} (metric : M) (ports : List Port) (advertisements : List Se
       all_calls cs mid new (asked_by c.moment c.call asked) (one_call c.moment c.call v mid asked s each.0 each.1 h.1 here less) each.2 h.2 (same ∙ sym here) (omega (arith, less, here))
 
   -- from a question at which words are due
-  pub whole_run : (start : ℕ) (given : Option Given) (cs : List StaticCallAt) (old first new : WithStaticsView CoreView) → old.core.router.ports ≡ ports → old.advertisements ≡ advertisements → is_due old.said start ≡ true
+  pub whole_run : (start : ℕ) (given : Option Given) (cs : List StaticCallAt) (old first new : WithStaticsView PriorityCoreView) → old.core.router.ports ≡ ports → old.advertisements ≡ advertisements → is_due old.said start ≡ true
       → DoesStaticCall start (Asked given) old first → DoStaticCalls cs first new → full new.core ≡ full old.core → full old.core + 1 < 2 ^ 64 → IsAskedEachMinute IsSuch cs start
       → (now : ℕ) → now ≤ asked_in cs start + 60000 → (heard : ℕ) × (value new.core.router ≡ Some (metric, heard)) × (is_young now heard ≡ true)
   whole_run start given cs old first new same_ports same_words due begins goes_on same less each now within =

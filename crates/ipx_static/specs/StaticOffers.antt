@@ -10,7 +10,7 @@ use Rattle.ipx_router.specs.Knowledge.{routes_in, services_in}
 use Rattle.ipx_router.specs.Ports.{IsPort}
 use Rattle.ipx_router.specs.Telling.{is_due}
 use Rattle.ipx_router.specs.Told.{key_of_service, route_key}
-use Rattle.ipx_carrier.specs.RouterCore.{CoreView, RouterHears}
+use Rattle.ipx_carrier.specs.PriorityRouterCore.{PriorityCoreView, PriorityHears}
 use Rattle.ipx_static.specs.declared.neighbour.StaticNeighbour.{StaticNeighbour}
 use Rattle.ipx_static.specs.WithStatics.{WithStaticsView, HearsIfDue}
 use Rattle.ipx_static.specs.StaticAdvertisements.{AreWordsOf}
@@ -25,11 +25,11 @@ IsAnotherNode ports n = (at : Port) × IsPort ports n.port at × (n.node ≢ at.
 
 -- a router hears the words of these neighbours, since it is time, and finds no table full: the count of
 -- that stays, and is not at its end
-pub record HearsWithStatics (ns : List StaticNeighbour) (now : ℕ) (old new : WithStaticsView CoreView) : Type 0 where
+pub record HearsWithStatics (ns : List StaticNeighbour) (now : ℕ) (old new : WithStaticsView PriorityCoreView) : Type 0 where
   pub advertisements : AreWordsOf ns old.advertisements
   pub others : All (IsAnotherNode old.core.router.ports) ns
   pub due : is_due old.said now ≡ true
-  pub heard : HearsIfDue RouterHears old now new
+  pub heard : HearsIfDue PriorityHears old now new
   pub room : new.core.outcomes.table_full ≡ old.core.outcomes.table_full
   pub countable : old.core.outcomes.table_full + 1 < 2 ^ 64
 
@@ -41,7 +41,7 @@ SaysNoOther {E} key_of metric_of entries e =
 -- then each route of a neighbour that the router may hear, under 16 hops away, is an offer of that
 -- neighbour, heard at this moment, where nothing else is said there of that network by hand
 abbrev pub StaticRoutesAreOffers : Type 0
-StaticRoutesAreOffers = (ns : List StaticNeighbour) (now : ℕ) (old new : WithStaticsView CoreView)
+StaticRoutesAreOffers = (ns : List StaticNeighbour) (now : ℕ) (old new : WithStaticsView PriorityCoreView)
     → HearsWithStatics ns now old new
     → (n : StaticNeighbour) → Contains ns n → (e : RipEntry) → Contains n.routes.items e
     → ((m : StaticNeighbour) → Contains ns m → static_source m ≡ static_source n
@@ -51,7 +51,7 @@ StaticRoutesAreOffers = (ns : List StaticNeighbour) (now : ℕ) (old new : WithS
 
 -- and so is each of its services
 abbrev pub StaticServicesAreOffers : Type 0
-StaticServicesAreOffers = (ns : List StaticNeighbour) (now : ℕ) (old new : WithStaticsView CoreView)
+StaticServicesAreOffers = (ns : List StaticNeighbour) (now : ℕ) (old new : WithStaticsView PriorityCoreView)
     → HearsWithStatics ns now old new
     → (n : StaticNeighbour) → Contains ns n → (e : ServiceEntry) → Contains n.services.items e
     → ((m : StaticNeighbour) → Contains ns m → static_source m ≡ static_source n

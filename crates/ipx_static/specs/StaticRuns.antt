@@ -16,7 +16,7 @@ use Rattle.ipx_router.specs.Hearing.{is_heard, route_metric, service_metric}
 use Rattle.ipx_router.specs.Knowledge.{routes_in, services_in}
 use Rattle.ipx_router.specs.Telling.{is_due}
 use Rattle.ipx_router.specs.Told.{key_of_service, route_key}
-use Rattle.ipx_carrier.specs.RouterCore.{CoreView, RouterGives, RouterHears}
+use Rattle.ipx_carrier.specs.PriorityRouterCore.{PriorityCoreView, PriorityGives, PriorityHears}
 use Rattle.ipx_carrier.specs.Turns.{Given}
 use Rattle.ipx_metrics.specs.MeteredRouter.{CountedView, CountsAsItGives, CountsHeard, without_counts}
 use Rattle.ipx_static.specs.declared.neighbour.StaticNeighbour.{StaticNeighbour}
@@ -36,14 +36,14 @@ pub record StaticCallAt : Type 0 where
   pub call : StaticCall
 
 -- what a call does, and what calls do, one after another
-abbrev pub DoesStaticCall : ℕ → StaticCall → WithStaticsView CoreView → WithStaticsView CoreView → Type 0
-DoesStaticCall now (Comes port bytes) old new = HearsUnder RouterHears old port bytes now new
-DoesStaticCall now (Asked given) old new = GivesWithStatics RouterHears RouterGives old now given new
+abbrev pub DoesStaticCall : ℕ → StaticCall → WithStaticsView PriorityCoreView → WithStaticsView PriorityCoreView → Type 0
+DoesStaticCall now (Comes port bytes) old new = HearsUnder PriorityHears old port bytes now new
+DoesStaticCall now (Asked given) old new = GivesWithStatics PriorityHears PriorityGives old now given new
 DoesStaticCall now AsksOnceMore old new = new ≡ record old { core = record old.core { started = false } }
 
-abbrev pub DoStaticCalls : List StaticCallAt → WithStaticsView CoreView → WithStaticsView CoreView → Type 0
+abbrev pub DoStaticCalls : List StaticCallAt → WithStaticsView PriorityCoreView → WithStaticsView PriorityCoreView → Type 0
 DoStaticCalls [] old new = new ≡ old
-DoStaticCalls (c ∷ cs) old new = (mid : WithStaticsView CoreView)
+DoStaticCalls (c ∷ cs) old new = (mid : WithStaticsView PriorityCoreView)
     × DoesStaticCall c.moment c.call old mid × DoStaticCalls cs mid new
 
 -- when it was asked last, by these calls
@@ -84,12 +84,12 @@ OffersItself n key port bytes = (port + 1 ≡ n.port) × (p : PacketView) × (ta
 
 -- a run that begins with a question at which words are due, and never finds a table full
 pub record RunsWithStatics (ns : List StaticNeighbour) (start : ℕ) (calls : List StaticCallAt)
-    (old new : WithStaticsView CoreView) : Type 0 where
+    (old new : WithStaticsView PriorityCoreView) : Type 0 where
   pub advertisements : AreWordsOf ns old.advertisements
   pub others : All (IsAnotherNode old.core.router.ports) ns
   pub due : is_due old.said start ≡ true
   pub given : Option Given
-  pub first : WithStaticsView CoreView
+  pub first : WithStaticsView PriorityCoreView
   pub begins : DoesStaticCall start (Asked given) old first
   pub goes_on : DoStaticCalls calls first new
   pub room : new.core.outcomes.table_full ≡ old.core.outcomes.table_full
@@ -100,7 +100,7 @@ pub record RunsWithStatics (ns : List StaticNeighbour) (start : ℕ) (calls : Li
 -- counts, up to a minute after the last question
 abbrev pub StaticRoutesHold : Type 0
 StaticRoutesHold = (ns : List StaticNeighbour) (start : ℕ) (calls : List StaticCallAt)
-    (old new : WithStaticsView CoreView) → RunsWithStatics ns start calls old new
+    (old new : WithStaticsView PriorityCoreView) → RunsWithStatics ns start calls old new
     → (n : StaticNeighbour) → Contains ns n → (e : RipEntry) → Contains n.routes.items e
     → ((m : StaticNeighbour) → Contains ns m → static_source m ≡ static_source n
     → SaysNoOther route_key route_metric m.routes.items e)
@@ -113,7 +113,7 @@ StaticRoutesHold = (ns : List StaticNeighbour) (start : ℕ) (calls : List Stati
 -- and so is each of its services
 abbrev pub StaticServicesHold : Type 0
 StaticServicesHold = (ns : List StaticNeighbour) (start : ℕ) (calls : List StaticCallAt)
-    (old new : WithStaticsView CoreView) → RunsWithStatics ns start calls old new
+    (old new : WithStaticsView PriorityCoreView) → RunsWithStatics ns start calls old new
     → (n : StaticNeighbour) → Contains ns n → (e : ServiceEntry) → Contains n.services.items e
     → ((m : StaticNeighbour) → Contains ns m → static_source m ≡ static_source n
     → SaysNoOther key_of_service service_metric m.services.items e)
@@ -124,7 +124,7 @@ StaticServicesHold = (ns : List StaticNeighbour) (start : ℕ) (calls : List Sta
     ≡ Some (service_metric e, heard)) × (is_young now heard ≡ true)
 
 -- a router that counts, without its counts
-abbrev pub uncounted : WithStaticsView CountedView → WithStaticsView CoreView
+abbrev pub uncounted : WithStaticsView CountedView → WithStaticsView PriorityCoreView
 uncounted s = record { core = without_counts s.core; advertisements = s.advertisements; said = s.said }
 
 -- what a call does to it

@@ -1,10 +1,9 @@
 //! Who can ask its neighbours once more.
 
 ghost use Rattle.std.specs.Prelude.{◌≡◌, false};
-ghost use Rattle.ipx_carrier.specs.RouterCore.{CoreView};
 ghost use Rattle.ipx_metrics.specs.MeteredRouter.{CountedView};
 
-use ipx_carrier::{Core, RouterCore};
+use ipx_carrier::Core;
 use ipx_metrics::MeteredRouter;
 
 /// A router, alone or below other cores, that can ask its neighbours once more.
@@ -12,18 +11,10 @@ pub trait RestartDiscovery: Core {
     /// What it is then.
     ghost asking_again: { Self → Self };
 
-    /// The router asks its neighbours once more, as `RouterCore::restart_discovery` says.
+    /// The router asks its neighbours once more, as `PriorityRouterCore::restart_discovery` says.
     fn restart_discovery(&mut self)
         ensures again { self.new ≡ asking_again self.old }
         ensures ports { Self.port_count self.new ≡ Self.port_count self.old };
-}
-
-impl RestartDiscovery for RouterCore {
-    ghost asking_again = { λ (c : CoreView). record c { started = false } };
-
-    fn restart_discovery(&mut self) {
-        RouterCore::restart_discovery(self);
-    }
 }
 
 impl RestartDiscovery for MeteredRouter {

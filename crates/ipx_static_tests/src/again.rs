@@ -2,7 +2,7 @@
 
 use crate::fixture::silent;
 use crate::routers::port;
-use ipx_carrier::{Core, RouterCore};
+use ipx_carrier::Core;
 use ipx_metrics::MeteredRouter;
 use ipx_router::Router;
 use ipx_static::{RestartDiscovery, WithStatics};
@@ -40,17 +40,13 @@ fn router(alloc: Global) -> Result<Router, Fail> {
 }
 
 /// A router asks for routes and services on each of two ports, and tells a network on each; then it
-/// asks for the four once more, alone, counted, and below words by hand, of which there are none.
+/// asks for the four once more, counted, and below words by hand, of which there are none.
 #[test]
 fn restarts_discovery_below_statics(rt: HostRuntime) -> Result<(), Fail> {
     let alloc = rt.alloc();
     let silent = [silent(alloc, 1, 0, 0)?];
-    let mut alone = RouterCore::new(alloc, router(alloc)?);
-    assert_eq!(rt; given_at_first_and_again(alloc, &mut alone)?, (6, 0, 4));
     let mut counted = MeteredRouter::new(alloc, router(alloc)?)?;
     assert_eq!(rt; given_at_first_and_again(alloc, &mut counted)?, (6, 0, 4));
-    let mut statics = WithStatics::new(alloc, RouterCore::new(alloc, router(alloc)?), &silent)?;
-    assert_eq!(rt; given_at_first_and_again(alloc, &mut statics)?, (6, 0, 4));
     let counted = MeteredRouter::new(alloc, router(alloc)?)?;
     let mut statics = WithStatics::new(alloc, counted, &silent)?;
     assert_eq!(rt; given_at_first_and_again(alloc, &mut statics)?, (6, 0, 4));

@@ -4,6 +4,7 @@ pub mod Pushed
 pub mod Rests
 pub mod Arriving
 pub mod Once
+pub mod OnePoll
 mod Polling
 mod Turning
 mod Written

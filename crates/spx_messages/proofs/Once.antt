@@ -41,12 +41,12 @@ both {A} {B} {C} {D} {E} (inl a) (inr d) f g h k = g a d
 both {A} {B} {C} {D} {E} (inr b) (inl c) f g h k = h b c
 both {A} {B} {C} {D} {E} (inr b) (inr d) f g h k = k b d
 
-none_or_some : {A X : Type 0} (o : Option X) (x : X) → o ≡ None → o ≡ Some x → A
+pub none_or_some : {A X : Type 0} (o : Option X) (x : X) → o ≡ None → o ≡ Some x → A
 none_or_some {A} {X} o x none some = absurd (cc (sym none ∙ some))
 
 -- ---- changes of one endpoint
 
-same_self : (old new other : EndpointView) → SameSelf old new → SameSelf old other → SameSelf new other
+pub same_self : (old new other : EndpointView) → SameSelf old new → SameSelf old other → SameSelf new other
 same_self old new other x y = record {
   network = y.network ∙ sym x.network;
   node = y.node ∙ sym x.node;
@@ -96,7 +96,7 @@ same_adds old new other id l x y = record {
 
 -- ---- ids
 
-below_or_not : (k m : ℕ) → (k ≤ m) ⊎ (m < k)
+pub below_or_not : (k m : ℕ) → (k ≤ m) ⊎ (m < k)
 below_or_not k m = by (leb_tells k m)
   where
     by : ((leb k m ≡ true) × (k ≤ m)) ⊎ ((leb k m ≡ false) × (m < k)) → (k ≤ m) ⊎ (m < k)

@@ -3,6 +3,7 @@ pub mod Changes
 pub mod Taking
 pub mod Arrives
 pub mod Polls
+pub mod OneValue
 pub mod EndpointFaults
 pub mod Pushing
 pub mod Readings

@@ -4,11 +4,12 @@ ghost use Rattle.std.specs.Prelude.{◌≡◌, ℕ, List};
 ghost use Rattle.spx_messages.specs.Arrives.{Arrives};
 ghost use Rattle.spx_messages.specs.Changes.{SameBut};
 ghost use Rattle.spx_messages.specs.EndpointView.{EndpointView};
+ghost use Rattle.spx_messages.specs.OneValue.{IsOnePoll};
 ghost use Rattle.spx_messages.specs.declared.arrived.Arrived.{Arrived};
 
 use ipx_wire::{
     bytes_are_one_packet, bytes_are_one_spx_packet, ipx_fault_is_of_no_packet,
-    spx_fault_is_of_no_spx_packet,
+    packet_is_one_list_of_bytes, spx_fault_is_of_no_spx_packet, spx_packet_is_one_list_of_bytes,
 };
 
 /// What a datagram does is one: the answer, what each id holds after it, and who heard it. So what
@@ -27,4 +28,13 @@ pub fn datagram_does_one_thing()
     bytes_are_one_spx_packet();
     ipx_fault_is_of_no_packet();
     spx_fault_is_of_no_spx_packet();
+}
+
+/// What a poll does is one: whether a packet is given, its bytes and its next node, whose it is and
+/// what for, and what each id holds after it.
+pub fn poll_is_one()
+    ensures { IsOnePoll }
+{
+    packet_is_one_list_of_bytes();
+    spx_packet_is_one_list_of_bytes();
 }

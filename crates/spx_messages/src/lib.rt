@@ -23,6 +23,6 @@ mod taking;
 pub use arrived::Arrived;
 pub use endpoint::Endpoint;
 pub use fault::EndFault;
-pub use laws::datagram_does_one_thing;
+pub use laws::{datagram_does_one_thing, poll_is_one};
 pub use spx_units::{Inbox, MAX_BYTES, Message, MessageFault, cut};
 pub use taken::Taken;

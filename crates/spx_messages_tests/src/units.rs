@@ -23,7 +23,7 @@ fn counts(alloc: Global, length: usize) -> Result<(usize, usize), Fail> {
 
 /// Messages of 0, 534, 535 and 65,535 bytes.
 #[test]
-fn cut_rows(rt: HostRuntime) -> Result<(), Fail> {
+fn cut_into_units(rt: HostRuntime) -> Result<(), Fail> {
     assert_eq!(rt; counts(rt.alloc(), 0)?, (1, 0));
     assert_eq!(rt; counts(rt.alloc(), 534)?, (1, 534));
     assert_eq!(rt; counts(rt.alloc(), 535)?, (2, 1));
@@ -91,6 +91,52 @@ fn join_rows(rt: HostRuntime) -> Result<(), Fail> {
     assert!(rt; comes_out(rt.alloc(), 0xfd, 534)?);
     assert!(rt; comes_out(rt.alloc(), 1, 535)?);
     assert!(rt; comes_out(rt.alloc(), 1, 65_535)?);
+    Ok(())
+}
+
+/// Three units: the two of a message of 535 bytes of stream 1, and between them one of stream FE
+/// with a byte of its own and the mark that ends a message. The inbox leaves that one out: the
+/// message that comes out with the third has the bytes of the first and the last alone.
+#[test]
+fn end_between_two_units(rt: HostRuntime) -> Result<(), Fail> {
+    let alloc = rt.alloc();
+    let sent = message(alloc, 1, 535)?;
+    let units = cut(alloc, &sent)?;
+    let mut ends = cut(alloc, &message(alloc, 0, 1)?)?;
+    if let Some(end) = ends.last_mut() {
+        end.stream = 0xfe;
+    }
+    let mut inbox = Inbox::new(alloc);
+    let mut got = vec![in alloc;]?;
+    for unit in units
+        .iter()
+        .take(1)
+        .chain(ends.iter())
+        .chain(units.iter().skip(1))
+    {
+        got.push(inbox.push(alloc, unit)?)?;
+    }
+    let none = got.iter().take(2).all(Option::is_none);
+    let whole = got.pop().flatten();
+    assert!(rt; none);
+    assert!(rt; got.len() == 2);
+    assert!(rt; whole.is_some_and(|m| m.stream == 1 && m.body == sent.body));
+    Ok(())
+}
+
+/// An inbox that holds nothing leaves out a unit of stream FE too.
+#[test]
+fn end_in_an_empty_inbox(rt: HostRuntime) -> Result<(), Fail> {
+    let alloc = rt.alloc();
+    let mut ends = cut(alloc, &message(alloc, 0, 1)?)?;
+    if let Some(end) = ends.last_mut() {
+        end.stream = 0xfe;
+    }
+    let mut inbox = Inbox::new(alloc);
+    for end in ends.iter() {
+        assert!(rt; inbox.push(alloc, end)?.is_none());
+    }
+    assert!(rt; joins_alone(alloc, &mut inbox)?);
     Ok(())
 }
 

@@ -9,7 +9,7 @@ use Rattle.spx_theory.specs.Note.{Note, HandsIn, TakesUnit, AsksEnd, Got, SendsU
 use Rattle.spx_theory.specs.Scan.{Scan, Mark, seen, scan, unread}
 use Rattle.spx_theory.specs.Handed.{taken_by, taken_of}
 use Rattle.spx_theory.specs.PairLog.{Half, Pair, half_after, pair_after, pair_from, pair_between, new_half, got_mail, mail_of, not_mine, posted, posted_next}
-use Rattle.spx_theory.specs.Allocation.{IsMadeBy}
+use Rattle.spx_theory.specs.LogPremises.{IsMadeBy}
 use Rattle.spx_theory.proofs.Lists.{get_last}
 use Rattle.spx_theory.proofs.Tied.{mark_at}
 use Rattle.spx_theory.proofs.Reading.{got_same}

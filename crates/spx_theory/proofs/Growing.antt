@@ -6,7 +6,8 @@ use Rattle.std.proofs.lemmas.Option.{slice_get_within, slice_get-get_or}
 use Rattle.spx_theory.specs.Note.{Note, Got, SendsUnit, SendsAgain, SendsSystem, Told, Carried, Injected}
 use Rattle.spx_theory.specs.Scan.{Scan, Mark, Role, seen, seen_all, scan, unread, mark_of, role_of, nowhere, no_role}
 use Rattle.spx_theory.specs.Handed.{taken_of}
-use Rattle.spx_theory.specs.Allocation.{IsMadeBy, IsAllowed}
+use Rattle.spx_theory.specs.Allocation.{IsAllowed}
+use Rattle.spx_theory.specs.LogPremises.{IsMadeBy}
 use Rattle.spx_theory.proofs.Lists.{get_before, read_there}
 use Rattle.spx_theory.proofs.Tied.{mark_at}
 use Rattle.spx_theory.proofs.Folding.{seen_all-append}

@@ -13,7 +13,7 @@ use Rattle.spx_theory.specs.Handed.{out_by, taken_by, gathered, handed_out, take
 use Rattle.spx_theory.specs.Scene.{Scene, Stand, linked}
 use Rattle.spx_theory.specs.Deeds.{Deed, DoesDeed, Dials, Accepts, Reads, OwesReply, Paces, AsksAgain, Gives, Rests, Sends, Takes, Overruns, Closes, Releases, Carries, Tells, Injects, Reached, begun, happened}
 use Rattle.spx_theory.specs.PacketsOnWay.{note_of, notes_of, out_notes}
-use Rattle.spx_theory.specs.HandedOut.{HandsOutWhatItTook}
+use Rattle.spx_theory.specs.HandedOut.{AbsentHandsOutNothing, HandsOutWhatItTook, HoldsWhatIsLeft}
 use Rattle.spx_theory.proofs.Lists.{get_last, get_set}
 use Rattle.spx_theory.proofs.Speaking.{eqb_same}
 use Rattle.spx_theory.proofs.Gathering.{gathered-append}
@@ -194,4 +194,10 @@ hands_over {s} (begun is) =
 hands_over {s} (happened old deed reached does) = next_handed old s deed does (hands_over reached)
 
 pub hands_out_what_it_took : (s : Scene) → Reached s → HandsOutWhatItTook s
-hands_out_what_it_took s reached who e at well = ((hands_over reached) who).made e at well
+hands_out_what_it_took s reached who e at well = (((hands_over reached) who).made e at well).0
+
+pub holds_what_is_left : (s : Scene) → Reached s → HoldsWhatIsLeft s
+holds_what_is_left s reached who e at well = (((hands_over reached) who).made e at well).1
+
+pub absent_hands_out_nothing : (s : Scene) → Reached s → AbsentHandsOutNothing s
+absent_hands_out_nothing s reached who past = ((hands_over reached) who).unmade past

@@ -21,7 +21,7 @@ use Rattle.spx_theory.specs.Handed.{taken_by, taken_of, handed_out}
 use Rattle.spx_theory.specs.Scene.{Scene, Stand, Stands, linked}
 use Rattle.spx_theory.specs.Deeds.{Deed, DoesDeed, DoesGive, Dials, Accepts, Reads, OwesReply, Paces, AsksAgain, Gives, Rests, Sends, Takes, Overruns, Closes, Releases, Carries, Tells, Injects, IsBegun, Reached, begun, happened}
 use Rattle.spx_theory.specs.PacketsOnWay.{note_of, notes_of, out_notes}
-use Rattle.spx_theory.specs.Allocation.{IsMadeBy}
+use Rattle.spx_theory.specs.LogPremises.{IsMadeBy}
 use Rattle.spx_theory.proofs.Lists.{get_last, get_here, read_there}
 use Rattle.spx_theory.proofs.Tied.{mark_at}
 use Rattle.spx_theory.proofs.Adding.{mark_before, mark_here}

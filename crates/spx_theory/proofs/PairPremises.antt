@@ -70,7 +70,7 @@ role_comes s t r sent readings roles good =
       within = λ w k x at. omega (arith, ap length sent, w k x (ap (λ rs. slice_get rs k) (sym readings) ∙ at));
     }
 
-joins_later : (m : Maker) (r : Role) → RoleLater r (joined_by m r)
+pub joins_later : (m : Maker) (r : Role) → RoleLater r (joined_by m r)
 joins_later m r =
     record {
       buffers = cond_both r.joined r (record r { joined = true; partner = asker m }) (λ (x : Role). x.buffers ≡ r.buffers) (λ y. refl) (λ n. refl);

@@ -12,7 +12,7 @@ found s c d r q one two there back differ =
     let test : (is_now q.partner c && is_other r.called q.called) ≡ true = ap (λ o. is_now o c && is_other r.called q.called) back ∙ ap (λ b. b && is_other r.called q.called) (eqb_same c) ∙ differ in
     ap (peer_by s c) one ∙ ap (peer_with s c r) there ∙ ap (peer_back c r d) two ∙ cond-true (is_now q.partner c && is_other r.called q.called) (Some d) None test
 
-now_is : (o : Option ℕ) (c : ℕ) → is_now o c ≡ true → o ≡ Some c
+pub now_is : (o : Option ℕ) (c : ℕ) → is_now o c ≡ true → o ≡ Some c
 now_is None c e = absurd (cc e)
 now_is (Some e) c is = ap Some (eqb-true e c is)
 

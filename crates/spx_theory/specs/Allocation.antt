@@ -1,18 +1,14 @@
 -- No unit exceeds an allocation (Novell SPX: the allocation number), and an end without a peer
 -- reads no unit.
-use Rattle.std.specs.Prelude.{ℕ, ◌≡◌, ◌<◌, ◌+◌, ◌⊎◌, List, [], ◌∷◌, ◌++◌, length}
-use Rattle.spx_theory.specs.Note.{Note, Got, SendsUnit, SendsAgain, SendsSystem}
+use Rattle.std.specs.Prelude.{ℕ, ◌≡◌, ◌<◌, ◌+◌, List, [], ◌∷◌, ◌++◌, length}
+use Rattle.spx_theory.specs.LogPremises.{IsMadeBy}
+use Rattle.spx_theory.specs.Note.{Note, Got, SendsUnit}
 use Rattle.spx_theory.specs.Scan.{scan, mark_of, role_of}
 use Rattle.spx_theory.specs.Peers.{ArePeers, Premises}
 use Rattle.spx_theory.specs.Handed.{handed_out, taken_of}
 use Rattle.spx_theory.specs.Scene.{Scene}
 use Rattle.spx_theory.specs.InStep.{IfStands}
 use Rattle.spx_theory.specs.SentUnits.{sent_by}
-
--- the entry by which an end f made a packet, and the end
-abbrev pub IsMadeBy : Note → ℕ → ℕ → Type 0
-IsMadeBy n f parcel =
-    (n ≡ SendsUnit f parcel) ⊎ (n ≡ SendsAgain f parcel) ⊎ (n ≡ SendsSystem f parcel)
 
 -- before this the end read a packet whose sender had, before its origin's entry, taken so many
 -- units that with its buffers they are more than n

@@ -21,3 +21,6 @@ pub mod Scene
 pub mod SentUnits
 pub mod UnitsOfEnds
 pub mod InSteps
+pub mod LogPremises
+pub mod PremisesRead
+pub mod LogHeadline

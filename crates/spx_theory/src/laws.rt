@@ -5,7 +5,7 @@ ghost use Rattle.spx_theory.specs.Allocation.{AloneReadsNothing, WithinAllocatio
 ghost use Rattle.spx_theory.specs.Carried.{RoutersAlterHopsAlone};
 ghost use Rattle.spx_theory.specs.Close.{AcknowledgedIsRead, ConfirmedIsRead, EndTakenIsWhole};
 ghost use Rattle.spx_theory.specs.Deeds.{Reached};
-ghost use Rattle.spx_theory.specs.HandedOut.{HandsOutWhatItTook};
+ghost use Rattle.spx_theory.specs.HandedOut.{AbsentHandsOutNothing, HandsOutWhatItTook, HoldsWhatIsLeft};
 ghost use Rattle.spx_theory.specs.InStep.{PeersAreInStep, PeersFollow};
 ghost use Rattle.spx_theory.specs.InSteps.{PairsTakeSteps};
 ghost use Rattle.spx_theory.specs.Named.{PeersAreNamed, PeersAreThere};
@@ -139,7 +139,9 @@ pub fn routers_alter_hops_alone()
 }
 
 /// What an end handed out, and what it has in part, are the units that it took, joined, as long as
-/// no message grew too long.
+/// no message grew too long. An end that is not there took nothing and handed out nothing.
 pub fn hands_out_what_it_took()
-    ensures { (s : Scene) → Reached s → HandsOutWhatItTook s }
+    ensures handed { (s : Scene) → Reached s → HandsOutWhatItTook s }
+    ensures left { (s : Scene) → Reached s → HoldsWhatIsLeft s }
+    ensures absent { (s : Scene) → Reached s → AbsentHandsOutNothing s }
 {}

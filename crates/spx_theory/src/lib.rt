@@ -11,6 +11,7 @@
 mod below;
 mod ends;
 mod laws;
+mod premises;
 
 pub use ends::{
     ends_are_told, ends_stay, entries_tell_ends, gone_sends_nothing, numbers_are_in_order,
@@ -21,4 +22,7 @@ pub use laws::{
     end_taken_is_whole, hands_out_what_it_took, ids_tell_peers, links_send_in_order,
     pairs_take_steps, peers_are_in_step, peers_are_named, peers_are_there, peers_follow,
     positions_are_greatest, routers_alter_hops_alone, units_are_sent_in_order, within_allocation,
+};
+pub use premises::{
+    between_is_read, headline_of_log, origins_are_read, peers_are_read, premises_are_read,
 };

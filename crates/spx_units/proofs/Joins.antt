@@ -1,8 +1,7 @@
 -- Units of messages, joined: the messages come out in order, and no part of one is longer than it.
-use Rattle.std.proofs.Common.{◌≡◌, ◌⊎◌, ◌+◌, ◌-◌, ◌≤◌, ◌<◌, ◌==◌, ℕ, zero, suc, Bool, true, false, cond, nat_le, nat_lt, List, [], ◌∷◌, ◌++◌, length, take, drop, Option, Some, None, refl, sym, ◌∙◌, inl, inr, ap, subst, arith, length-append, length-take, length-drop}
-use Rattle.std.specs.Prelude.{All, fold, slice_get}
-use Rattle.std.specs.List.{flat_map}
-use Rattle.std.proofs.lemmas.List.{append-nil, append_assoc, take-append-le, take-append-drop, take_all}
+use Rattle.std.proofs.Common.{◌≡◌, ◌⊎◌, ◌+◌, ◌-◌, ◌≤◌, ◌<◌, ◌==◌, ℕ, zero, suc, true, false, cond, List, [], ◌∷◌, ◌++◌, length, take, drop, Option, Some, None, refl, sym, ◌∙◌, inl, inr, ap, subst, arith, length-append, length-take, length-drop}
+use Rattle.std.specs.Prelude.{slice_get}
+use Rattle.std.proofs.lemmas.List.{append-nil, append_assoc, take-append-le, take-append-drop}
 use Rattle.std.proofs.lemmas.Bool.{cases_lt, cond_both, cond-false, le-ltb, ne_eqb}
 use Rattle.spx_link.specs.declared.unit.Unit.{Unit}
 use Rattle.spx_link.specs.LinkView.{is_end}
@@ -12,7 +11,7 @@ use Rattle.spx_units.specs.Cut.{unit_bytes, cut_of, pieces, unit_with}
 use Rattle.spx_units.specs.Joining.{AreSendable, IsSendable, Joining, added, is_overlong, join_all, join_unit, joined, units_of_messages}
 use Rattle.spx_units.proofs.Pieces.{All-head, All-tail, cut_more, more_pieces, one_piece}
 
-abbrev so_far : List MessageView → Option MessageView → Joining
+abbrev pub so_far : List MessageView → Option MessageView → Joining
 so_far ms rest = record { messages = ms; rest = rest }
 
 abbrev with_more : MessageView → List ℕ → MessageView

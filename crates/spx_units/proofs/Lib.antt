@@ -1,3 +1,4 @@
 pub mod Pieces
 pub mod Joins
 pub mod Filled
+pub mod Grouping

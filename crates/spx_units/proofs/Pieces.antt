@@ -1,5 +1,5 @@
 -- The units that a message is cut into: a message has just one list of them.
-use Rattle.std.proofs.Common.{◌≡◌, ◌⊎◌, ◌+◌, ◌-◌, ◌≤◌, ◌<◌, ℕ, zero, suc, Bool, true, false, cond, nat_le, List, [], ◌∷◌, ◌++◌, length, take, drop, refl, sym, ◌∙◌, inl, inr, ap, subst, arith, length-append, length-take, length-drop, get_or}
+use Rattle.std.proofs.Common.{◌≡◌, ◌⊎◌, ◌≤◌, ◌<◌, ℕ, zero, suc, true, false, nat_le, List, [], ◌∷◌, ◌++◌, length, take, drop, refl, sym, ◌∙◌, inl, inr, ap, subst, arith, length-append, length-drop}
 use Rattle.std.specs.Prelude.{All, IfOk, Result, Ok, Err}
 use Rattle.std.specs.List.{flat_map}
 use Rattle.std.proofs.lemmas.List.{append-nil, append_assoc, take_at, drop_at, take-append-drop, length-take-le}
@@ -18,7 +18,7 @@ pub All-cons : {E : Type 0} (P : E → Type 0) (e : E) (es : List E) → P e →
 All-cons P e es first rest zero d lt = first
 All-cons P e es first rest (suc k) d lt = rest k d (omega (arith, lt))
 
-All-none : {E : Type 0} (P : E → Type 0) → All P []
+pub All-none : {E : Type 0} (P : E → Type 0) → All P []
 All-none P k d lt = absurd (omega (arith, lt))
 
 -- ---- one piece, and one more

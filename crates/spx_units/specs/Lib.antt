@@ -1,4 +1,5 @@
 pub mod Message
 pub mod Cut
 pub mod Joining
+pub mod Groups
 pub mod WrittenPackets

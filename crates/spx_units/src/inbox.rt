@@ -1,8 +1,8 @@
 //! Units on their way to a message.
 
-ghost use Rattle.std.specs.Prelude.{◌≡◌, ◌≢◌, ◌≤◌, ◌+◌, Err, IfOk, IsOkUnless, None, OnErr, OnOk, Some, false, true, length, option_map};
+ghost use Rattle.std.specs.Prelude.{◌≡◌, ◌≢◌, ◌≤◌, ◌+◌, Err, IfOk, IsOkUnless, None, Ok, OnErr, OnOk, Some, [], false, true, length, option_map, option_to_list};
 ghost use Rattle.spx_link.specs.Limits.{end_stream};
-ghost use Rattle.spx_units.specs.Joining.{added, is_overlong};
+ghost use Rattle.spx_units.specs.Joining.{added, is_overlong, join_unit};
 ghost use Rattle.spx_units.specs.Cut.{unit_bytes};
 ghost use Rattle.spx_units.specs.Message.{length_of, message_view};
 ghost use Rattle.spx_units.specs.declared.fault.MessageFault.TheVariants as MessageFaults;
@@ -12,6 +12,9 @@ use crate::message::{MAX_BYTES, Message};
 use spx_link::Unit;
 use std::alloc::{AllocError, Global};
 use std::marker::Model;
+
+/// The datastream type of the end of a connection.
+const END_STREAM: u8 = 0xfe;
 
 /// The units of a message that has not ended yet, joined.
 ///
@@ -40,26 +43,33 @@ impl Inbox {
         Inbox { rest: None }
     }
 
-    /// Adds a unit, and hands out the message that it ends. The caller owes
-    /// another stream than FE, which ends a connection and is of no message.
+    /// Adds a unit, and hands out the message that it ends. A unit of stream FE is the end of a
+    /// connection and of no message: it leaves the inbox as it is.
     ///
     /// The message has the stream of its first unit. Where more than 65,535 bytes came of it, it is
     /// refused as `Overlong` and the inbox is empty. Where memory is refused, the inbox is as it
     /// was.
     #[inline(always)] // what it answers would else pass through memory for each unit
     pub fn push(&mut self, alloc: Global, unit: &Unit) -> Result<Option<Message>, MessageFault>
-        requires { unit.now.stream ≢ end_stream }
-        ensures overlong { is_overlong self.old unit.now ≡ true
+        ensures step { IfOk result (λ m.
+            join_unit (record { messages = []; rest = self.old }) unit.now
+            ≡ record { messages = option_to_list (option_map message_view m); rest = self.new }) }
+        ensures end { unit.now.stream ≡ end_stream → (result ≡ Ok None) × (self.new ≡ self.old) }
+        ensures overlong { unit.now.stream ≢ end_stream → is_overlong self.old unit.now ≡ true
             → (result ≡ Err MessageFaults.Overlong) × (self.new ≡ None) }
-        ensures whole { is_overlong self.old unit.now ≡ false → unit.now.last ≡ true
-            → IfOk result (λ m.
+        ensures whole { unit.now.stream ≢ end_stream → is_overlong self.old unit.now ≡ false
+            → unit.now.last ≡ true → IfOk result (λ m.
             (option_map message_view m ≡ Some (added self.old unit.now)) × (self.new ≡ None)) }
-        ensures part { is_overlong self.old unit.now ≡ false → unit.now.last ≡ false
+        ensures part { unit.now.stream ≢ end_stream → is_overlong self.old unit.now ≡ false
+            → unit.now.last ≡ false
             → IfOk result (λ m. (m ≡ None) × (self.new ≡ Some (added self.old unit.now))) }
-        ensures memory { is_overlong self.old unit.now ≡ false
+        ensures memory { unit.now.stream ≢ end_stream → is_overlong self.old unit.now ≡ false
             → IsOkUnless result MessageFaults.OutOfMemory }
         ensures unchanged { result ≡ Err MessageFaults.OutOfMemory → self.new ≡ self.old }
     {
+        if unit.stream == END_STREAM {
+            return Ok(None);
+        }
         if self.len() + unit.body.len() > MAX_BYTES {
             self.rest = None;
             return Err(MessageFault::Overlong);

@@ -1,15 +1,25 @@
 //! Laws of cutting and joining, which follow from their definitions.
 
-ghost use Rattle.std.specs.Prelude.{◌≡◌, ◌↔◌, ◌++◌, ℕ, List, [], ◌∷◌, None, Some, false, slice_get, take};
+ghost use Rattle.std.specs.Prelude.{◌≡◌, ◌↔◌, ◌++◌, ℕ, List, [], ◌∷◌, Option, None, Some, false, slice_get, take};
 ghost use Rattle.spx_link.specs.Offer.{the_end};
 ghost use Rattle.spx_link.specs.declared.unit.Unit.{Unit};
 ghost use Rattle.spx_units.specs.Cut.{IsCut, cut_of};
+ghost use Rattle.spx_units.specs.Groups.{UnitsJoinTo};
 ghost use Rattle.spx_units.specs.Joining.{AreSendable, is_overlong, joined, units_of_messages};
 ghost use Rattle.spx_units.specs.Message.{MessageView};
 
 /// A message is cut in one way.
 pub fn one_cut()
     ensures { (m : MessageView) (units : List Unit) → IsCut m units ↔ (units ≡ cut_of m) }
+{}
+
+/// What units are joined to is what the whole list of them says, and nothing else meets that.
+pub fn joined_is_the_one_value()
+    ensures meets { (units : List Unit)
+        → UnitsJoinTo units (joined units).messages (joined units).rest }
+    ensures only { (units : List Unit) (messages : List MessageView) (rest : Option MessageView)
+        → UnitsJoinTo units messages rest
+        → joined units ≡ record { messages = messages; rest = rest } }
 {}
 
 /// All units of messages, joined, are these messages and nothing else, with the end of the

@@ -7,7 +7,7 @@ use Rattle.ipx_host.proofs.Fed.{keeps_on, keeps_same}
 use Rattle.ipx_host.proofs.handing.drop_what_came.Goals as goal
 
 pub loop-init : goal.loop-init
-loop-init c = record { so = so_far (held_at c.args.endpoint.now c.args.id); queue = keeps_same (held_at c.args.endpoint.now c.args.id); others = λ q other. refl; self = same_self c.args.endpoint.now }
+loop-init c = record { so = so_far (held_at c.args.endpoint.now c.args.id); queue = keeps_same (held_at c.args.endpoint.now c.args.id); others = λ q other. refl; last = refl; count = refl; self = same_self c.args.endpoint.now }
 
 pub loop-preserved : goal.loop-preserved
 loop-preserved c =
@@ -19,6 +19,8 @@ loop-preserved c =
       so = one_more c.loop.counter (c.loop.counter + 1) o a b c.drop_first.result refl yes c.loop.invariant.so c.drop_first.ensures.drops c.drop_first.ensures.none;
       queue = keeps_on o a b c.loop.invariant.queue c.drop_first.ensures.queue;
       others = λ q other. c.drop_first.ensures.others q other ∙ c.loop.invariant.others q other;
+      last = c.drop_first.ensures.last ∙ c.loop.invariant.last;
+      count = c.drop_first.ensures.count ∙ c.loop.invariant.count;
       self = same_on c.args.endpoint.now c.loop.endpoint c.drop_first.new.endpoint c.loop.invariant.self c.drop_first.ensures.host;
     }
 
@@ -33,5 +35,7 @@ returns-then-not-drop_first c =
       drops = no_more c.loop.counter o a b c.drop_first.result few no c.loop.invariant.so c.drop_first.ensures.stops c.drop_first.ensures.queue;
       queue = keeps_on o a b c.loop.invariant.queue c.drop_first.ensures.queue;
       others = λ q other. c.drop_first.ensures.others q other ∙ c.loop.invariant.others q other;
+      last = c.drop_first.ensures.last ∙ c.loop.invariant.last;
+      count = c.drop_first.ensures.count ∙ c.loop.invariant.count;
       self = same_on c.args.endpoint.now c.loop.endpoint c.drop_first.new.endpoint c.loop.invariant.self c.drop_first.ensures.host;
     }

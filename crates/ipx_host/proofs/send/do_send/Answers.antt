@@ -5,7 +5,7 @@ use Rattle.ipx_site.specs.Loading.{IsFileText}
 use Rattle.ipx_site.specs.declared.host.HostConfig.{HostConfig}
 use Rattle.ipx_wire.specs.declared.address.Address.{Address}
 use Rattle.ipx_host.specs.Access.{far_address, is_nowhere}
-use Rattle.ipx_host.specs.Sent.{SendsWholeInput}
+use Rattle.ipx_host.specs.Sent.{HasBuffers, SendsWholeInput}
 use Rattle.ipx_host.specs.Target.{NamesAddress}
 use Rattle.ipx_host.specs.declared.target.Target.{Target}
 use Rattle.ipx_host.proofs.send.do_send.Goals as goal
@@ -37,12 +37,19 @@ untouched_of : {T : Type 0} (X : Type 0) (is_nowhere : T → Bool) (loaded : Res
 untouched_of X is_nowhere (Ok h) r told few unloaded two = untouched_from X (is_nowhere h) r told few two
 untouched_of X is_nowhere (Err s) r told few unloaded two = unloaded.1
 
+-- a file has 1 to 8,192 buffers, or says nothing of them
+buffers_of : (text : List ℕ) (h : HostConfig) → IsHostText text h → HasBuffers h
+buffers_of text h is = elim is.2.buffers [
+  | inl p ↦ (omega (arith, p.1), omega (arith, p.1))
+  | inr p ↦ (omega (arith, p.2.1), p.2.2)
+]
+
 -- what was sent, and by which file
 sent_of : {K : Type 0} (X : Type 0) (t : Target) (to : Address) (known left : Option (List ℕ)) (tells : K → ℕ → K → Type 0) (loaded : Result HostConfig ℕ) (r : ℕ)
     → IfErr loaded (λ s. (s ≡ 1) ⊎ (s ≡ 2)) → IfErr loaded (λ s. (r ≡ s) × X) → IfOk loaded (λ h. (text : List ℕ) × IsFileText text × IsHostText text h) → NamesAddress t to
-    → IfOk loaded (λ h. r ≡ 0 → SendsWholeInput h (far_address h to) known left tells) → r ≡ 0
+    → IfOk loaded (λ h. HasBuffers h → r ≡ 0 → SendsWholeInput h (far_address h to) known left tells) → r ≡ 0
     → (text : List ℕ) × (file : HostConfig) × (a : Address) × IsFileText text × IsHostText text file × NamesAddress t a × SendsWholeInput file (far_address file a) known left tells
-sent_of X t to known left tells (Ok h) r fault unloaded host named sent zero = (host.0, h, to, host.1, host.2, named, sent zero)
+sent_of X t to known left tells (Ok h) r fault unloaded host named sent zero = (host.0, h, to, host.1, host.2, named, sent (buffers_of host.0 h host.2) zero)
 sent_of X t to known left tells (Err s) r (inl e) unloaded host named sent zero = absurd (omega (arith, unloaded.0, e, zero))
 sent_of X t to known left tells (Err s) r (inr e) unloaded host named sent zero = absurd (omega (arith, unloaded.0, e, zero))
 

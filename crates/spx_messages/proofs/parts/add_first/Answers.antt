@@ -11,10 +11,10 @@ use Rattle.spx_messages.proofs.parts.add_first.Goals as goal
 pub returns-in_err-message-clause-pushes : goal.returns-in_err-message-clause-pushes
 returns-in_err-message-clause-pushes c =
     let p : Pushes c.new-inbox.result c.args.unit.now c.push.result c.push.new.self = record {
-      overlong = c.push.ensures.overlong;
-      whole = c.push.ensures.whole;
-      part = c.push.ensures.part;
-      memory = c.push.ensures.memory;
+      overlong = c.push.ensures.overlong c.requires.stream;
+      whole = c.push.ensures.whole c.requires.stream;
+      part = c.push.ensures.part c.requires.stream;
+      memory = c.push.ensures.memory c.requires.stream;
       unchanged = c.push.ensures.unchanged;
     } in
     let e = err_from_is_err_and c.from_residual.result c.from_residual.ensures.1 in
@@ -32,10 +32,10 @@ returns-in_err-push-clause-pushes c =
     subst P (sym c.in_err-push.ensures.items) (rest_nowhere c.args.parts.now.items c.args.id c.requires.none) in
     pushes_undone c.args.unit.now c.push.result c.from_residual-in_err-push.result c.in_ok-message.message c.push.new.self (rest_in c.push-2.new.self.items c.args.id)
     (pushes_along c.new-inbox.result None c.args.unit.now c.push.result c.push.new.self c.push.new.self (sym c.new-inbox.ensures) refl record {
-      overlong = c.push.ensures.overlong;
-      whole = c.push.ensures.whole;
-      part = c.push.ensures.part;
-      memory = c.push.ensures.memory;
+      overlong = c.push.ensures.overlong c.requires.stream;
+      whole = c.push.ensures.whole c.requires.stream;
+      part = c.push.ensures.part c.requires.stream;
+      memory = c.push.ensures.memory c.requires.stream;
       unchanged = c.push.ensures.unchanged;
     }) c.in_ok-message.was wants nothing
 
@@ -47,10 +47,10 @@ returns-clause-pushes c =
     subst P (sym c.in_ok-push.ensures.items) (rest_pushed c.args.parts.now.items c.args.id y c.requires.none refl) in
     let Q : PushAnswer → Type 0 = λ r. Pushes c.new-inbox.result c.args.unit.now r c.push.new.self in
     pushes_along c.new-inbox.result None c.args.unit.now (Ok c.in_ok-message.message) c.push.new.self (rest_in c.push-2.new.self.items c.args.id) (sym c.new-inbox.ensures) is (subst Q c.in_ok-message.was record {
-      overlong = c.push.ensures.overlong;
-      whole = c.push.ensures.whole;
-      part = c.push.ensures.part;
-      memory = c.push.ensures.memory;
+      overlong = c.push.ensures.overlong c.requires.stream;
+      whole = c.push.ensures.whole c.requires.stream;
+      part = c.push.ensures.part c.requires.stream;
+      memory = c.push.ensures.memory c.requires.stream;
       unchanged = c.push.ensures.unchanged;
     })
 

@@ -9,10 +9,10 @@ pub returns-in-Some-clause-pushes : goal.returns-in-Some-clause-pushes
 returns-in-Some-clause-pushes c =
     let at : IsPlace c.args.parts.now.items c.args.id c.in-Some.place = cc in
     pushes_at c.args.parts.now.items c.args.id c.in-Some.place c.index_mut.result.now (record { id = c.index_mut.result.now.id; inbox = c.push.new.self }) c.args.unit.now c.push.result at c.index_mut.ensures.value refl record {
-      overlong = c.push.ensures.overlong;
-      whole = c.push.ensures.whole;
-      part = c.push.ensures.part;
-      memory = c.push.ensures.memory;
+      overlong = c.push.ensures.overlong c.requires;
+      whole = c.push.ensures.whole c.requires;
+      part = c.push.ensures.part c.requires;
+      memory = c.push.ensures.memory c.requires;
       unchanged = c.push.ensures.unchanged;
     }
 

@@ -1,7 +1,7 @@
 use Rattle.std.proofs.Common.{◌∙◌, ◌++◌, ap}
 use Rattle.std.specs.Option.{option_to_list}
-use Rattle.ipx_carrier.proofs.Leaving.{behind_none, forwarded_leaves}
-use Rattle.ipx_carrier.proofs.queue.take_next.Goals as goal
+use Rattle.ipx_carrier.proofs.PriorityLeaving.{behind_none, forwarded_leaves}
+use Rattle.ipx_carrier.proofs.priority_queue.take_next.Goals as goal
 
 pub returns-in_default : goal.returns-in_default
 returns-in_default c =

@@ -1,6 +1,6 @@
 use Rattle.std.proofs.Common.{◌+◌, arith, refl}
-use Rattle.ipx_carrier.proofs.Leaving.{none_leaves, own_leaves, row_ends}
-use Rattle.ipx_carrier.proofs.queue.take_own.Goals as goal
+use Rattle.ipx_carrier.proofs.PriorityLeaving.{none_leaves, own_leaves, row_ends}
+use Rattle.ipx_carrier.proofs.priority_queue.take_own.Goals as goal
 
 pub returns-then-count-ge-MAX_ORIGINATED_RUN : goal.returns-then-count-ge-MAX_ORIGINATED_RUN
 returns-then-count-ge-MAX_ORIGINATED_RUN c = row_ends c.args.own.now.items c.args.originated_run.now 0 (omega arith) refl

@@ -9,7 +9,8 @@ use Rattle.ipx_router.specs.RouterPackets.{SendingView}
 use Rattle.ipx_router.specs.RouterView.{RouterView}
 use Rattle.ipx_router.specs.Starting.{AreStarts}
 use Rattle.ipx_router.specs.Telling.{AreTellings, is_due}
-use Rattle.ipx_carrier.specs.RouterCore.{CoreQueues, CoreView, HoldsTheSame, KeepsAllButQueues, Dequeues, StartsAndTells, TellsNow, dropped_behind, max_queued, put_behind}
+use Rattle.ipx_carrier.specs.RouterQueues.{TellsNow, dropped_behind, max_queued, put_behind}
+use Rattle.ipx_carrier.specs.PriorityRouterCore.{PriorityQueues, PriorityCoreView, HoldsTheSame, KeepsAllButQueues, Dequeues, PriorityStartsAndTells}
 
 -- ---- what is told, and when
 
@@ -105,78 +106,78 @@ drops_nothing q d h = drops_nothing_by (nat_le (length q + 0) max_queued) q d re
 -- ---- a core that started and told is asked again
 
 -- its own are no more than they were
-pub no_more_own : (s : SendingView) (old new : CoreQueues) → Dequeues old (Some s) new → length new.own ≤ length old.own
-no_more_own s old new (inl h) = omega (arith, ap (λ (q : CoreQueues). length q.own) h.1)
+pub no_more_own : (s : SendingView) (old new : PriorityQueues) → Dequeues old (Some s) new → length new.own ≤ length old.own
+no_more_own s old new (inl h) = omega (arith, ap (λ (q : PriorityQueues). length q.own) h.1)
 no_more_own s old new (inr h) = omega (arith, ap length h.1)
 
 -- nothing is put behind its own
-puts_nothing : (now : ℕ) (old ready mid again : CoreView) → (h : StartsAndTells old now ready) → mid ≡ record ready { queues = mid.queues } → (g : StartsAndTells mid now again) → (g.0 ≡ []) × (g.1 ≡ [])
+puts_nothing : (now : ℕ) (old ready mid again : PriorityCoreView) → (h : PriorityStartsAndTells old now ready) → mid ≡ record ready { queues = mid.queues } → (g : PriorityStartsAndTells mid now again) → (g.0 ≡ []) × (g.1 ≡ [])
 puts_nothing now old ready mid again h m g =
-    let router : mid.router ≡ h.2 = ap (λ (c : CoreView). c.router) m ∙ ap (λ (c : CoreView). c.router) h.5 in
-    let started : mid.started ≡ true = ap (λ (c : CoreView). c.started) m ∙ ap (λ (c : CoreView). c.started) h.5 in
+    let router : mid.router ≡ h.2 = ap (λ (c : PriorityCoreView). c.router) m ∙ ap (λ (c : PriorityCoreView). c.router) h.5 in
+    let started : mid.started ≡ true = ap (λ (c : PriorityCoreView). c.started) m ∙ ap (λ (c : PriorityCoreView). c.started) h.5 in
     let late : is_due mid.router.told now ≡ false = ap (λ (v : RouterView). is_due v.told now) router ∙ not_due old.router h.2 now h.1 h.4 in
     (none_first mid.router.ports mid.started g.0 started g.3, (tells_nothing mid.router g.2 now g.1 late g.4).0)
 
 -- so its queues stay
-pub ready_once : (now : ℕ) (old ready mid again : CoreView) → StartsAndTells old now ready → mid ≡ record ready { queues = mid.queues } → StartsAndTells mid now again → again.queues ≡ mid.queues
+pub ready_once : (now : ℕ) (old ready mid again : PriorityCoreView) → PriorityStartsAndTells old now ready → mid ≡ record ready { queues = mid.queues } → PriorityStartsAndTells mid now again → again.queues ≡ mid.queues
 ready_once now old ready mid again h m g =
     let none = puts_nothing now old ready mid again h m g in
     let own : put_behind (put_behind mid.queues.own g.0) g.1 ≡ mid.queues.own =
     ap (λ (xs : List SendingView). put_behind (put_behind mid.queues.own xs) g.1) none.0
     ∙ ap (λ (xs : List SendingView). put_behind (put_behind mid.queues.own []) xs) none.1
     ∙ put_nothing (put_behind mid.queues.own []) ∙ put_nothing mid.queues.own in
-    ap (λ (c : CoreView). c.queues) g.5 ∙ ap (λ (xs : List SendingView). record mid.queues { own = xs }) own
+    ap (λ (c : PriorityCoreView). c.queues) g.5 ∙ ap (λ (xs : List SendingView). record mid.queues { own = xs }) own
 
 -- what was dropped stays
-dropped_once : (now : ℕ) (old ready mid again : CoreView) → StartsAndTells old now ready → mid ≡ record ready { queues = mid.queues } → StartsAndTells mid now again → length mid.queues.own ≤ length ready.queues.own → again.dropped ≡ mid.dropped
+dropped_once : (now : ℕ) (old ready mid again : PriorityCoreView) → PriorityStartsAndTells old now ready → mid ≡ record ready { queues = mid.queues } → PriorityStartsAndTells mid now again → length mid.queues.own ≤ length ready.queues.own → again.dropped ≡ mid.dropped
 dropped_once now old ready mid again h m g fewer =
     let none = puts_nothing now old ready mid again h m g in
     let q = mid.queues.own in
     let before : IsCounted ready.queues.own ready.dropped =
-    subst (λ (c : CoreView). IsCounted c.queues.own c.dropped) (sym h.5) (is_counted (put_behind old.queues.own h.0) h.1 (dropped_behind old.queues.own h.0 old.dropped)) in
+    subst (λ (c : PriorityCoreView). IsCounted c.queues.own c.dropped) (sym h.5) (is_counted (put_behind old.queues.own h.0) h.1 (dropped_behind old.queues.own h.0 old.dropped)) in
     let here : IsCounted q ready.dropped = counted_fewer ready.queues.own q ready.dropped fewer before in
-    let counted : IsCounted q mid.dropped = subst (IsCounted q) (sym (ap (λ (c : CoreView). c.dropped) m)) here in
+    let counted : IsCounted q mid.dropped = subst (IsCounted q) (sym (ap (λ (c : PriorityCoreView). c.dropped) m)) here in
     let d = mid.dropped in
-    ap (λ (c : CoreView). c.dropped) g.5
+    ap (λ (c : PriorityCoreView). c.dropped) g.5
     ∙ ap (λ (xs : List SendingView). dropped_behind (put_behind q xs) g.1 (dropped_behind q xs d)) none.0
     ∙ ap (λ (xs : List SendingView). dropped_behind (put_behind q []) xs (dropped_behind q [] d)) none.1
     ∙ ap (λ (xs : List SendingView). dropped_behind xs [] (dropped_behind q [] d)) (put_nothing q)
     ∙ ap (dropped_behind q []) (drops_nothing q d counted) ∙ drops_nothing q d counted
 
-rest_same : (old new : CoreView) → new.started ≡ old.started → new.dropped ≡ old.dropped → new.outcomes ≡ old.outcomes → new ≡ record old { router = new.router; queues = new.queues }
+rest_same : (old new : PriorityCoreView) → new.started ≡ old.started → new.dropped ≡ old.dropped → new.outcomes ≡ old.outcomes → new ≡ record old { router = new.router; queues = new.queues }
 rest_same old new s d f =
     ap (λ s. record new { started = s }) s ∙ ap (λ d. record new { started = old.started; dropped = d }) d
     ∙ ap (λ f. record new { started = old.started; dropped = old.dropped; outcomes = f }) f
 
 -- and all else does
-pub all_once : (now : ℕ) (old ready mid again : CoreView) → StartsAndTells old now ready → mid ≡ record ready { queues = mid.queues } → StartsAndTells mid now again → length mid.queues.own ≤ length ready.queues.own → KeepsAllButQueues ready again
+pub all_once : (now : ℕ) (old ready mid again : PriorityCoreView) → PriorityStartsAndTells old now ready → mid ≡ record ready { queues = mid.queues } → PriorityStartsAndTells mid now again → length mid.queues.own ≤ length ready.queues.own → KeepsAllButQueues ready again
 all_once now old ready mid again h m g fewer =
-    let ready_is : ready.router ≡ h.2 = ap (λ (c : CoreView). c.router) h.5 in
-    let mid_is : mid.router ≡ h.2 = ap (λ (c : CoreView). c.router) m ∙ ready_is in
-    let again_is : again.router ≡ g.2 = ap (λ (c : CoreView). c.router) g.5 in
+    let ready_is : ready.router ≡ h.2 = ap (λ (c : PriorityCoreView). c.router) h.5 in
+    let mid_is : mid.router ≡ h.2 = ap (λ (c : PriorityCoreView). c.router) m ∙ ready_is in
+    let again_is : again.router ≡ g.2 = ap (λ (c : PriorityCoreView). c.router) g.5 in
     let tells : TellsNow h.2 now g.1 g.2 = subst (λ (v : RouterView). TellsNow v now g.1 g.2) mid_is g.4 in
     let held : HoldsTheSame h.2 g.2 = told_again old.router h.2 g.2 now h.1 g.1 h.4 tells in
     let router : HoldsTheSame ready.router again.router = subst (λ (v : RouterView). HoldsTheSame v again.router) (sym ready_is) (subst (HoldsTheSame h.2) (sym again_is) held) in
-    let started : again.started ≡ ready.started = ap (λ (c : CoreView). c.started) g.5 ∙ sym (ap (λ (c : CoreView). c.started) h.5) in
-    let dropped : again.dropped ≡ ready.dropped = dropped_once now old ready mid again h m g fewer ∙ ap (λ (c : CoreView). c.dropped) m in
-    let outcomes : again.outcomes ≡ ready.outcomes = ap (λ (c : CoreView). c.outcomes) g.5 ∙ ap (λ (c : CoreView). c.outcomes) m in
+    let started : again.started ≡ ready.started = ap (λ (c : PriorityCoreView). c.started) g.5 ∙ sym (ap (λ (c : PriorityCoreView). c.started) h.5) in
+    let dropped : again.dropped ≡ ready.dropped = dropped_once now old ready mid again h m g fewer ∙ ap (λ (c : PriorityCoreView). c.dropped) m in
+    let outcomes : again.outcomes ≡ ready.outcomes = ap (λ (c : PriorityCoreView). c.outcomes) g.5 ∙ ap (λ (c : PriorityCoreView). c.outcomes) m in
     (router, rest_same ready again started dropped outcomes)
 
-pub keeps_on : (a b c : CoreView) → KeepsAllButQueues a b → KeepsAllButQueues b c → KeepsAllButQueues a c
+pub keeps_on : (a b c : PriorityCoreView) → KeepsAllButQueues a b → KeepsAllButQueues b c → KeepsAllButQueues a c
 keeps_on a b c h k = (
   holds_on a.router b.router c.router h.0 k.0,
   rest_same a c
-      (ap (λ (x : CoreView). x.started) k.1 ∙ ap (λ (x : CoreView). x.started) h.1)
-      (ap (λ (x : CoreView). x.dropped) k.1 ∙ ap (λ (x : CoreView). x.dropped) h.1)
-      (ap (λ (x : CoreView). x.outcomes) k.1 ∙ ap (λ (x : CoreView). x.outcomes) h.1),
+      (ap (λ (x : PriorityCoreView). x.started) k.1 ∙ ap (λ (x : PriorityCoreView). x.started) h.1)
+      (ap (λ (x : PriorityCoreView). x.dropped) k.1 ∙ ap (λ (x : PriorityCoreView). x.dropped) h.1)
+      (ap (λ (x : PriorityCoreView). x.outcomes) k.1 ∙ ap (λ (x : PriorityCoreView). x.outcomes) h.1),
 )
 
 -- where only the queues change, all else stays
-pub keeps_rest : (old new : CoreView) → new ≡ record old { queues = new.queues } → KeepsAllButQueues old new
+pub keeps_rest : (old new : PriorityCoreView) → new ≡ record old { queues = new.queues } → KeepsAllButQueues old new
 keeps_rest old new e =
-    let router : new.router ≡ old.router = ap (λ (c : CoreView). c.router) e in
+    let router : new.router ≡ old.router = ap (λ (c : PriorityCoreView). c.router) e in
     let same : HoldsTheSame old.router old.router =
     (record { routes = λ p. refl; services = λ p. refl }, record { ports = refl; most_routes = refl; most_services = refl }, refl) in (
       subst (HoldsTheSame old.router) (sym router) same,
-      rest_same old new (ap (λ (c : CoreView). c.started) e) (ap (λ (c : CoreView). c.dropped) e) (ap (λ (c : CoreView). c.outcomes) e),
+      rest_same old new (ap (λ (c : PriorityCoreView). c.started) e) (ap (λ (c : PriorityCoreView). c.dropped) e) (ap (λ (c : PriorityCoreView). c.outcomes) e),
     )

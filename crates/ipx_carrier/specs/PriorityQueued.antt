@@ -1,0 +1,26 @@
+-- Words of private functions: what putting packets into one of two queues leaves.
+use Rattle.std.specs.Prelude.{◌≡◌, ℕ, List}
+use Rattle.ipx_router.specs.declared.outcome.Reply.{Reply}
+use Rattle.ipx_router.specs.OutcomeView.{OutcomeView, Forward, Replies, Heard, Dropped}
+use Rattle.ipx_router.specs.RouterPackets.{SendingView, sendings}
+use Rattle.ipx_carrier.specs.PriorityRouterCore.{PriorityQueues}
+use Rattle.ipx_carrier.specs.Queued.{Puts}
+use Rattle.ipx_carrier.specs.RouterQueues.{one_forwarded}
+
+-- the two queues of packets, without where these lie in memory
+abbrev pub priority_queues : List Reply → List Reply → ℕ → PriorityQueues
+priority_queues forwarded own originated_run =
+    record { forwarded = sendings forwarded; own = sendings own; originated_run = originated_run }
+
+-- what a router answers was put into its queue, and the other one stays
+abbrev pub PutsByPriority : OutcomeView → List SendingView → List SendingView → ℕ
+    → List SendingView → List SendingView → ℕ → Type 0
+PutsByPriority (Forward port next bytes) forwarded own dropped forwarded_after own_after dropped_after =
+    Puts (one_forwarded port next bytes) forwarded dropped forwarded_after dropped_after
+    × (own_after ≡ own)
+PutsByPriority (Replies sent) forwarded own dropped forwarded_after own_after dropped_after =
+    Puts sent own dropped own_after dropped_after × (forwarded_after ≡ forwarded)
+PutsByPriority (Heard n) forwarded own dropped forwarded_after own_after dropped_after =
+    (forwarded_after ≡ forwarded) × (own_after ≡ own) × (dropped_after ≡ dropped)
+PutsByPriority (Dropped reason) forwarded own dropped forwarded_after own_after dropped_after =
+    (forwarded_after ≡ forwarded) × (own_after ≡ own) × (dropped_after ≡ dropped)

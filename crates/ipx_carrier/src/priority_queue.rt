@@ -1,0 +1,112 @@
+//! The packets of a router that are to be sent, in two queues: what it forwards leaves before its own.
+
+ghost use Rattle.std.specs.Prelude.{◌≡◌, ℕ, ◌<◌, ◌≤◌, [], length, option_map, OnOk, OnErr, IfSome};
+ghost use Rattle.ipx_router.specs.RouterPackets.{sending_of, sendings};
+ghost use Rattle.ipx_router.specs.OutcomeView.{router_outcome};
+ghost use Rattle.ipx_carrier.specs.GivenPackets.{given_in};
+ghost use Rattle.ipx_carrier.specs.PriorityQueued.{PutsByPriority, priority_queues};
+ghost use Rattle.ipx_carrier.specs.PriorityRouterCore.{GivesNext, IsRoomByPriority, Dequeues, row_behind};
+ghost use Rattle.ipx_carrier.specs.RouterQueues.{AreGivable, max_queued};
+
+use crate::queue::{enqueue_all, enqueue_one, write_to};
+use ipx_router::{Outcome, Reply};
+use ipx_wire::{Node, OutOfMemory};
+use std::collections::VecDeque;
+
+/// How many packets of its own a router gives in a row.
+const MAX_ORIGINATED_RUN: u32 = 8;
+
+/// Where more of its own than so many wait, fewer leave in a row behind a packet that is forwarded.
+const FEW_WAITING: usize = 64;
+
+/// How many leave in a row then.
+const LEAST_IN_A_ROW: u32 = 2;
+
+/// Puts what a router's answer gives to be sent into its queue.
+pub fn put_outcome(
+    forwarded: &mut VecDeque<Reply>,
+    own: &mut VecDeque<Reply>,
+    dropped: &mut u64,
+    outcome: Outcome,
+) -> Result<(), OutOfMemory>
+    requires forwarded { length forwarded.old.items ≤ max_queued }
+    requires own { length own.old.items ≤ max_queued }
+    ensures put { OnOk result (PutsByPriority (router_outcome outcome)
+        (sendings forwarded.old.items) (sendings own.old.items) dropped.old
+        (sendings forwarded.new.items) (sendings own.new.items) dropped.new) }
+    ensures refused { OnErr result ((forwarded.new.items ≡ forwarded.old.items)
+        × (own.new.items ≡ own.old.items) × (dropped.new ≡ dropped.old)) }
+    ensures lost { OnErr result (IsRoomByPriority
+        (sendings forwarded.old.items) (sendings own.old.items) (router_outcome outcome)) }
+{
+    match outcome {
+        Outcome::Forward(reply) => enqueue_one(forwarded, dropped, reply),
+        Outcome::Replies(replies) => enqueue_all(own, dropped, replies),
+        Outcome::Heard(_) | Outcome::Dropped(_) => Ok(()),
+    }
+}
+
+/// Takes the first of the router's own packets, unless so many left in a row. Where none leaves,
+/// another row begins.
+fn take_own(own: &mut VecDeque<Reply>, originated_run: &mut u32) -> Option<Reply>
+    ensures { Dequeues (priority_queues [] own.old.items originated_run.old) (option_map sending_of result)
+        (priority_queues [] own.new.items originated_run.new) }
+{
+    let count = *originated_run;
+    *originated_run = 0;
+    if count >= MAX_ORIGINATED_RUN {
+        return None;
+    }
+    let reply = own.pop_front()?;
+    *originated_run = count + 1;
+    Some(reply)
+}
+
+/// How many of the router's own count as having left in a row once a packet that is forwarded leaves.
+fn row_behind(own: &VecDeque<Reply>) -> u32
+    ensures { result ≡ row_behind (sendings own.now.items) }
+{
+    if own.len() > FEW_WAITING {
+        MAX_ORIGINATED_RUN - LEAST_IN_A_ROW
+    } else {
+        0
+    }
+}
+
+/// Takes the packet that leaves next: the first that is forwarded, and else one of the router's own.
+fn take_next(
+    forwarded: &mut VecDeque<Reply>,
+    own: &mut VecDeque<Reply>,
+    originated_run: &mut u32,
+) -> Option<Reply>
+    ensures { Dequeues (priority_queues forwarded.old.items own.old.items originated_run.old)
+        (option_map sending_of result)
+        (priority_queues forwarded.new.items own.new.items originated_run.new) }
+{
+    let Some(reply) = forwarded.pop_front() else {
+        return take_own(own, originated_run);
+    };
+    *originated_run = row_behind(own);
+    Some(reply)
+}
+
+/// Takes the packet that leaves next, and writes it to the front of the room.
+pub fn dequeue(
+    forwarded: &mut VecDeque<Reply>,
+    own: &mut VecDeque<Reply>,
+    originated_run: &mut u32,
+    room: &mut [u8],
+) -> Option<(usize, Node, usize)>
+    requires room { 1536 ≤ length room.old }
+    requires givable { (ports : ℕ) × AreGivable ports (sendings forwarded.old.items)
+        × AreGivable ports (sendings own.old.items) }
+    ensures given { GivesNext (priority_queues forwarded.old.items own.old.items originated_run.old)
+        (given_in room.new result)
+        (priority_queues forwarded.new.items own.new.items originated_run.new) }
+    ensures within { IfSome result (λ g. g.2 ≤ length room.old) }
+    ensures there { (ports : ℕ) → AreGivable ports (sendings forwarded.old.items)
+        → AreGivable ports (sendings own.old.items) → IfSome result (λ g. g.0 < ports) }
+{
+    let reply = take_next(forwarded, own, originated_run)?;
+    Some(write_to(reply, room))
+}

@@ -1,0 +1,84 @@
+-- What a router of a file does from its start until it ends: one round after another. The entry point is
+-- `EndsRouting`, of a status. All of it is own.
+use Rattle.std.specs.Prelude.{◌≡◌, ◌⊎◌, ◌^◌, ◌-◌, ℕ, zero, suc, Bool, true, false, List, [], map, if◌then◌else◌}
+use Rattle.ipx_carrier.specs.ReadySet.{AreMarked, is_any_marked}
+use Rattle.ipx_carrier.specs.Turns.{peers_of}
+use Rattle.ipx_carrier.specs.declared.report.Batch.{Batch}
+use Rattle.ipx_site.specs.IdleTime.{IsDue, deadlines, happened}
+use Rattle.ipx_site.specs.KindPorts.{ArePortsBound}
+use Rattle.ipx_site.specs.Loading.{IsFileText}
+use Rattle.ipx_site.specs.PortsView.{kept_in_ports, ways_in}
+use Rattle.ipx_site.specs.RouterRounds.{IsRound, SleepsBehind}
+use Rattle.ipx_site.specs.Site.{IsSiteText}
+use Rattle.ipx_site.specs.SiteMarks.{marks_in, numbers_come}
+use Rattle.ipx_site.specs.SitePorts.{access_by, router_ports}
+use Rattle.ipx_site.specs.StaticNeighbours.{IsToHear}
+use Rattle.ipx_site.specs.Steady.{NeverGoesBack, StopsThere}
+use Rattle.ipx_site.specs.declared.clock.SteadyClock.{SteadyClock}
+use Rattle.ipx_site.specs.declared.running_router.RunningRouter.{RunningRouter}
+use Rattle.ipx_site.specs.declared.site.RouterConfig.{RouterConfig}
+
+-- a router has started as its file says: it has the ports of that, each with its socket, and is to hear
+-- what it says by hand. Nobody has asked it for all that it knows, its clock begins at 0, and it has not
+-- asked its neighbours again
+pub record StartsBy {R : Type 0} (site : RouterConfig) (first : RunningRouter R) : Type 0 where
+  pub ports : first.core.core.core.router.ports ≡ router_ports site.ports.items
+  pub statics : IsToHear site.statics.items first.core.core
+  pub queriers : (first.core.ports ≡ router_ports site.ports.items)
+      × (first.core.queriers.queriers ≡ []) × (first.core.queriers.back ≡ 0)
+  pub bound : ArePortsBound site.ports.items first.ports
+  pub clock : first.clock.last ≡ 0
+  pub asked : first.asked ≡ 0
+
+-- one round, and the wait after it, for as long as there is nothing to do. If that does not fail, just the
+-- ports are marked then at which it says that something came. The ways of packets, where each port is and
+-- who may speak stay
+pub record TakesRound {R : Type 0} (old new : RunningRouter R) : Type 0 where
+  pub between : SteadyClock R
+  pub batch : Batch
+  pub marks : List Bool
+  pub round : IsRound old.clock between StopsThere NeverGoesBack (ways_in old.ports)
+      (kept_in_ports old.ports) (kept_in_ports new.ports) old.asked new.asked old.core new.core
+      new.ports.ethernet.moment batch
+  pub sleeps : SleepsBehind (IsDue (deadlines new.asked new.looked new.responses new.written new.core
+      new.warnings (happened new.totals new.core new.ports))) (is_any_marked marks)
+      between new.clock StopsThere new.ready.asked batch.fault batch.quiet
+  pub marked : new.ready.failed ≡ false
+      → AreMarked (numbers_come new.ready) marks (marks_in new.ports)
+  pub moments : new.ports.servers.moment ≡ new.ports.ethernet.moment
+  pub transmissions : ways_in new.ports ≡ ways_in old.ports
+  pub peers : peers_of new.ports.datagrams.peers.items ≡ peers_of old.ports.datagrams.peers.items
+  pub port_indices : new.ports.port_indices.items ≡ old.ports.port_indices.items
+  pub access : map access_by new.ports.datagrams.device.access_lists.items
+      ≡ map access_by old.ports.datagrams.device.access_lists.items
+
+-- so many rounds, each from where the last one left the router, and no wait after them fails
+abbrev pub Rounds : {R : Type 0} → ℕ → RunningRouter R → RunningRouter R → Type 0
+Rounds zero first last = last ≡ first
+Rounds {R} (suc n) first last = (before : RunningRouter R) × Rounds n first before
+    × TakesRound before last × (last.ready.failed ≡ false)
+
+-- a run: rounds, and one after which the wait fails; or it ends well, after 2^64 - 1 rounds
+abbrev pub RunsTo : {R : Type 0} → RunningRouter R → RunningRouter R → Bool → Type 0
+RunsTo {R} first last false = (count : ℕ) × (before : RunningRouter R) × Rounds count first before
+    × TakesRound before last × (last.ready.failed ≡ true)
+RunsTo first last true = (count : ℕ) × (count ≡ 2 ^ 64 - 1) × Rounds count first last
+
+-- the run of a router that started as its file says
+pub record RunsRouter (R : Type 0) (site : RouterConfig) (ok : Bool) : Type 0 where
+  pub first : RunningRouter R
+  pub starts : StartsBy site first
+  pub last : RunningRouter R
+  pub runs : RunsTo first last ok
+
+-- how a router of a file ends, by its status: it did not start, which is 1; or it ran, and ended well, which
+-- is 0, or by a wait that failed, which is 1
+abbrev pub EndsRouter : Type 0 → RouterConfig → ℕ → Type 0
+EndsRouter R site status = (status ≡ 1)
+    ⊎ ((ok : Bool) × (status ≡ if ok then 0 else 1) × RunsRouter R site ok)
+
+-- how the command ends: no file was read, which is 1 or 2; or the router of one that some text describes ended
+abbrev pub EndsRouting : Type 0 → ℕ → Type 0
+EndsRouting R status = ((status ≡ 1) ⊎ (status ≡ 2))
+    ⊎ ((text : List ℕ) × (site : RouterConfig) × IsFileText text × IsSiteText text site
+    × EndsRouter R site status)

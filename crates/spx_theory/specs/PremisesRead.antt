@@ -1,0 +1,49 @@
+-- What is read off a log from its beginning is what its entries say: the origins of parcels, the
+-- peers of ends, the units between a sending and a reading, and the premises of the headline.
+use Rattle.std.specs.Prelude.{ℕ, ◌≡◌, ◌<◌, ◌↔◌, List, ◌∷◌, ◌++◌, length, Some, slice_get}
+use Rattle.spx_theory.specs.LogPremises.{AreConnected, ComesFrom, HavePeer, IsEnd, LogPremises, ReadsNothingInjected, ReadsOwnPeer, ReadsRecent, makes_new, units_sent}
+use Rattle.spx_theory.specs.Note.{Note, Got}
+use Rattle.spx_theory.specs.Peers.{AreJoined, FromOwnPeer, IsFresh, NothingInjected, Premises, units_between}
+use Rattle.spx_theory.specs.Scan.{Reading, mark_of, scan}
+use Rattle.spx_theory.specs.Scene.{Scene}
+
+-- the origin of a parcel, and how many routers it passed, as they are read off the log
+pub record IsMarked (log : List Note) (origin parcel passed : ℕ) : Type 0 where
+  pub there : parcel < length (scan log).marks
+  pub origin_is : (mark_of (scan log) parcel).origin ≡ origin
+  pub passed_is : (mark_of (scan log) parcel).passed ≡ passed
+
+pub record OriginsAreRead (s : Scene) : Type 0 where
+  -- each parcel has one origin, and came over one number of routers
+  pub each : (parcel : ℕ) → parcel < length s.parcels
+      → (origin : ℕ) × (passed : ℕ) × ComesFrom s.log origin parcel passed
+  pub one : (parcel o o' p p' : ℕ) → ComesFrom s.log o parcel p → ComesFrom s.log o' parcel p'
+      → (o ≡ o') × (p ≡ p')
+  -- and they are those that are read
+  pub read : (origin parcel passed : ℕ)
+      → ComesFrom s.log origin parcel passed ↔ IsMarked s.log origin parcel passed
+
+pub record PeersAreRead (s : Scene) : Type 0 where
+  -- the ends that there are
+  pub ends : (who : ℕ) → IsEnd s.log who ↔ (who < length (scan s.log).roles)
+  -- each end has at most one peer
+  pub one : (c d e : ℕ) → HavePeer s.log c d → HavePeer s.log c e → d ≡ e
+  pub read : (c d : ℕ) → AreConnected s.log c d ↔ AreJoined (scan s.log) c d
+
+-- the units between the making of a parcel's origin and its reading are those of the entries
+-- between
+abbrev pub BetweenIsRead : Scene → Type 0
+BetweenIsRead s =
+    (before between after : List Note) (making : Note) (who parcel origin passed : ℕ)
+    → s.log ≡ before ++ making ∷ (between ++ Got who parcel ∷ after)
+    → makes_new making ≡ Some origin → ComesFrom s.log origin parcel passed
+    → (k : ℕ) × (r : Reading)
+    × (slice_get (scan s.log).readings k ≡ Some r) × (r.who ≡ who)
+    × ((e : ℕ) → units_between e (scan s.log).sent r ≡ units_sent e between)
+
+-- each premise, and all three
+pub record PremisesAreRead (s : Scene) : Type 0 where
+  pub injected : ReadsNothingInjected s.log ↔ NothingInjected s.log
+  pub own : ReadsOwnPeer s.log ↔ FromOwnPeer s.log
+  pub recent : ReadsRecent s.log ↔ IsFresh s.log
+  pub all : LogPremises s.log ↔ Premises s.log

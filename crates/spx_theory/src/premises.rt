@@ -1,0 +1,50 @@
+//! Laws of the premises: what is read off a log from its beginning is what its entries say.
+
+ghost use Rattle.spx_theory.specs.Deeds.{Reached};
+ghost use Rattle.spx_theory.specs.LogHeadline.{LogHeadline};
+ghost use Rattle.spx_theory.specs.PremisesRead.{BetweenIsRead, OriginsAreRead, PeersAreRead, PremisesAreRead};
+ghost use Rattle.spx_theory.specs.Scene.{Scene};
+
+use crate::below::laws_below;
+use crate::ends::peer_is_found;
+use crate::laws::{alone_reads_nothing, peers_are_in_step, within_allocation};
+
+/// Each parcel has one origin, to which the entries of routers that carried it lead.
+pub fn origins_are_read()
+    ensures { (s : Scene) → Reached s → OriginsAreRead s }
+{
+    laws_below();
+}
+
+/// Two ends are peers just where an entry of each names a packet without a unit of the other, and
+/// each end has at most one peer.
+pub fn peers_are_read()
+    ensures { (s : Scene) → Reached s → PeersAreRead s }
+{
+    laws_below();
+    peer_is_found();
+}
+
+/// The units between a sending and a reading are counted by the entries that stand between them.
+pub fn between_is_read()
+    ensures { (s : Scene) → Reached s → BetweenIsRead s }
+{
+    laws_below();
+}
+
+/// The three premises hold just where the entries of the log say so.
+pub fn premises_are_read()
+    ensures { (s : Scene) → Reached s → PremisesAreRead s }
+{
+    laws_below();
+}
+
+/// The headline, in the words of the entries alone.
+pub fn headline_of_log()
+    ensures { (s : Scene) → Reached s → LogHeadline s.log }
+{
+    laws_below();
+    peers_are_in_step();
+    alone_reads_nothing();
+    within_allocation();
+}
