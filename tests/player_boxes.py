@@ -1,5 +1,5 @@
 """DOSBox itself, without a screen, at ports for clients of ipxnet, for tests/players: four at two routers, with the port of
-docs/DEPLOY.md and a DOS program that sends and takes packets, tests/player_program.asm."""
+docs/PLAYERS.md and a DOS program that sends and takes packets, tests/player_program.asm."""
 import collections
 import os
 import re
@@ -138,8 +138,8 @@ def shown(node):
 
 
 def told_port():
-    """The port for players of docs/DEPLOY.md, which the file of examples/ has too."""
-    text, = blocks("13. Players: DOSBox", "toml")
+    """The port for players of docs/PLAYERS.md, which the file of examples/ has too."""
+    text, = blocks("Let in only your friends", "toml", os.path.join(TOP, "docs/PLAYERS.md"))
     return text
 
 
@@ -289,7 +289,7 @@ def check_boxes(run):
         example = re.sub(r" +#.*", "", file.read())
     checked = run.world.start("check", "route", "--check", EXAMPLE)
     status = checked.status(10)
-    run.check("examples/players.toml has the port of docs/DEPLOY.md, and no fault", told_port() in example and status == 0,
+    run.check("examples/players.toml has the port of docs/PLAYERS.md, and no fault", told_port() in example and status == 0,
               "" if status == 0 else str(checked.said()))
     if run.lacks("DOSBox", "dosbox", "nasm"):
         return

@@ -107,10 +107,10 @@ def read_only(system):
 
 
 def example():
-    """The file hq.toml of docs/DEPLOY.md, with the metrics file that its section on the service names."""
-    with open(os.path.join(TOP, "docs/DEPLOY.md"), encoding="utf-8") as file:
+    """The file hq.toml of docs/INSTALL.md, with the metrics file that its section on the service names."""
+    with open(os.path.join(TOP, "docs/INSTALL.md"), encoding="utf-8") as file:
         text = file.read()
-    block = re.search(r"`/etc/ipx/hq\.toml`, at HQ:\n\n```toml\n(.*?)```", text, re.S)[1]
+    block = re.search(r"At HQ, `/etc/ipx/hq\.toml`:\n\n```toml\n(.*?)```", text, re.S)[1]
     line = re.search(r'`(metrics_file = "/run/ipx/hq/hq\.prom")`', text)[1]
     return f"{line}\n{block}"
 
@@ -182,7 +182,7 @@ def unit(system):
     lines = [re.sub(r" room \d+$", "", line.removeprefix("[INFO  ipx] ")) for line in router.said() if "room" in line]
     wanted = ["port 1 network 00000001 node 0000c000020a udp 192.0.2.10:213 cost 6 peers 1",
               "port 2 network 00000011 node 00000a010001 udp 10.1.0.1:213 cost 1 peers 1"]
-    system.check("ExecStart, as nobody with the right to bind port 213: the ports of docs/DEPLOY.md", lines == wanted, str(router.said()))
+    system.check("ExecStart, as nobody with the right to bind port 213: the ports of docs/INSTALL.md", lines == wanted, str(router.said()))
     with open(f"/proc/{router.popen.pid}/status", encoding="ascii") as status:
         text = status.read()
     rights = re.findall(r"^Cap(?:Eff|Prm|Bnd):\s+(\S+)$", text, re.M)

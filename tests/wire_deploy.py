@@ -1,4 +1,4 @@
-"""The lines of docs/DEPLOY.md that reach wires, as tests/wires runs them."""
+"""The lines of docs/INSTALL.md that reach Ethernet ports, as tests/wires runs them."""
 import os
 import re
 import shlex
@@ -7,12 +7,12 @@ import tomllib
 from site_world import TOP
 from wire_world import WirePort
 
-PAGE, UNIT = os.path.join(TOP, "docs/DEPLOY.md"), os.path.join(TOP, "contrib/ipx-tap@.service")
+PAGE, UNIT = os.path.join(TOP, "docs/INSTALL.md"), os.path.join(TOP, "contrib/ipx-tap@.service")
 
 
-def blocks(heading, language):
-    """The blocks of code in a language that stand below a heading, up to the next one."""
-    with open(PAGE, encoding="utf-8") as page:
+def blocks(heading, language, path=PAGE):
+    """The blocks of code in a language that stand below a heading of a page, up to the next one."""
+    with open(path, encoding="utf-8") as page:
         parts = re.split(r"^#+ (.*)\n", page.read(), flags=re.M)
     text = dict(zip(parts[1::2], parts[2::2]))[heading]
     return re.findall(rf"^```{language}\n(.*?)^```$", text, flags=re.M | re.S)

@@ -1,5 +1,5 @@
 """Cards of QEMU at wires, for tests/wires: five machines, each with another card, start iPXE, by the lines of
-docs/DEPLOY.md."""
+docs/INSTALL.md."""
 import random
 
 from site_packets import ipx

@@ -1,5 +1,5 @@
 """TAPs by socat in a network of their own, for tests/wires: what Linux and tcpdump read there of a router's frames, and a
-bridge with another wire, by the lines of docs/DEPLOY.md."""
+bridge with another wire, by the lines of docs/INSTALL.md."""
 import contextlib
 import os
 import random
@@ -21,7 +21,7 @@ EVERY_TYPE = 3
 NETWORKS, OUTER = ["00000061", "00000062", "00000063", "00000064"], "00000011"
 ROUTER, HOST = "127.0.0.1", "127.0.0.20"
 UDP_PORT = 24100
-HEADING = "A TAP, and a real wire"
+HEADING = "TAP devices and physical networks"
 # As tcpdump prints the four.
 PRINTED = {"802.3": r", 802\.3, length \d+: IPX 802\.3: ", "802.2": r" ssap IPX \(0xe0\) Command, ctrl 0x03: IPX 802\.2: ",
            "snap": r" oui Ethernet \(0x000000\), ethertype IPX \(0x8137\), length \d+: \(NOV-ETHII\) ",
@@ -99,7 +99,7 @@ class Dump:
 
 
 def start_tap(wires, name, port):
-    """The line of docs/DEPLOY.md with the name, and the ports of UDP, of this one."""
+    """The line of docs/INSTALL.md with the name, and the ports of UDP, of this one."""
     line, = blocks(HEADING, "sh")[:1]
     ports = {"24002": port.place[1], "24001": port.places[0][1]}
     words = [word.replace("ipx0", name) for word in with_ports(words_of(line), ports)]
@@ -216,20 +216,20 @@ def end_all(*some):
 
 
 def check_bridge(wires):
-    """The port, the TAP and the bridge of docs/DEPLOY.md. A pair of devices stands for the card and what is plugged in
+    """The port, the TAP and the bridge of docs/INSTALL.md. A pair of devices stands for the card and what is plugged in
     there."""
-    text, = blocks("12. Wires", "toml")
+    text, = blocks("Ethernet ports", "toml")
     port, outer = port_of(text), UdpPort(OUTER, ROUTER, UDP_PORT + 50, [HOST])
     router = Router(wires, "bridged", [port, outer])
     wires.world.write("bridged.toml", text + port_table(OUTER, ROUTER, UDP_PORT + 50, [HOST]))
     line, bridge = blocks(HEADING, "sh")[:2]
     unit, words = line_of_unit("ipx0", text_of(port.place), text_of(port.places[0])), words_of(line)
     good = unit == [f"/usr/bin/{words[0]}", *words[1:]]
-    wires.check("the unit for a TAP runs the line of docs/DEPLOY.md", good, "" if good else str(unit))
+    wires.check("the unit for a TAP runs the line of docs/INSTALL.md", good, "" if good else str(unit))
     tap = start_tap(wires, "ipx0", port)
     subprocess.run("ip link add eth1 type veth peer name far && ip link set dev far up", shell=True, check=True)
     ran = subprocess.run(bridge, shell=True, capture_output=True, text=True, check=False)
-    wires.check("the lines of docs/DEPLOY.md for a bridge", ran.returncode == 0 and not ran.stderr, ran.stderr)
+    wires.check("the lines of docs/INSTALL.md for a bridge", ran.returncode == 0 and not ran.stderr, ran.stderr)
     host, far = End(outer, (HOST, UDP_PORT + 50), node(HOST)), Device(port, "far", "0200000d0001")
     router.start()
     told = until(far.is_told, 10)
