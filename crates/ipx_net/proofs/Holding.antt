@@ -1,8 +1,9 @@
 -- The laws of scenes that are reached, of a network.
-use Rattle.std.proofs.Common.{ℕ, zero, suc, ◌≡◌, ◌≢◌, List, [], ◌∷◌, Bool, true, false, map, None, Option, Some, refl, sym, ap, ◌∙◌, subst}
+use Rattle.std.proofs.Common.{ℕ, zero, suc, ◌≡◌, ◌≢◌, ◌≤◌, ◌⊎◌, inl, inr, length, List, [], ◌∷◌, Bool, true, false, map, None, Option, Some, refl, sym, ap, ◌∙◌, subst}
 use Rattle.std.specs.Prelude.{slice_get}
 use Rattle.std.proofs.lemmas.Bool.{cond-false}
 use Rattle.ipx_wire.specs.declared.address.Network.{Network}
+use Rattle.spx_units.specs.Joining.{joined}
 use Rattle.spx_units.specs.WrittenPackets.{Home}
 use Rattle.spx_messages.specs.EndpointView.{Held}
 use Rattle.spx_theory.specs.Addresses.{AddressesTellPeers}
@@ -12,7 +13,8 @@ use Rattle.spx_theory.specs.Close.{AcknowledgedIsRead, ConfirmedIsRead, EndTaken
 use Rattle.spx_theory.specs.Deeds.{Reached}
 use Rattle.spx_theory.specs.EndsTold.{EndsAreTold}
 use Rattle.spx_theory.specs.EntriesOfEnds.{EntriesTellEnds}
-use Rattle.spx_theory.specs.HandedOut.{HandsOutWhatItTook}
+use Rattle.spx_theory.specs.Handed.{handed_out, taken_of}
+use Rattle.spx_theory.specs.HandedOut.{AbsentHandsOutNothing, HandsOutWhatItTook, HoldsWhatIsLeft}
 use Rattle.spx_theory.specs.InStep.{PeersAreInStep}
 use Rattle.spx_theory.specs.InSteps.{PairsTakeSteps}
 use Rattle.spx_theory.specs.LogHeadline.{LogHeadline}
@@ -49,6 +51,8 @@ pub record SceneLaws : Type 0 where
   pub told : IsLaw EndsAreTold
   pub entries : IsLaw EntriesTellEnds
   pub joined : IsLaw HandsOutWhatItTook
+  pub left : IsLaw HoldsWhatIsLeft
+  pub absent : IsLaw AbsentHandsOutNothing
   pub confirmed : IsLaw ConfirmedIsRead
   pub acknowledged : IsLaw AcknowledgedIsRead
   pub sends : IsLaw LinksSendInOrder
@@ -118,6 +122,10 @@ stands_of w who e at = of w.ends who at
     of (x ∷ es) zero is = (x, refl, cc is)
     of (x ∷ es) (suc k) is = of es k is
 
+pub overlong_of_stand : (n : EndNow) (h : Option Held) → (stand_with n h).overlong ≡ n.overlong
+overlong_of_stand n None = refl
+overlong_of_stand n (Some h) = refl
+
 host_of_stand : (n : EndNow) (h : Option Held) → (stand_with n h).host ≡ n.host
 host_of_stand n None = refl
 host_of_stand n (Some h) = refl
@@ -152,6 +160,24 @@ released_by_log w order t who n at =
     let both = t.released who (stand_of w.hosts n) (stands_there w who n at) in
     (λ is. both.0 (released_end w n is), λ has. unreleased_end w order who n at n.released refl (both.1 has))
 
+-- ---- of what the log and the marks of ends say of messages
+
+-- what an end handed out, by what was so of it in a scene that was reached with the same log
+still_joined : IsLaw HandsOutWhatItTook → IsLaw AbsentHandsOutNothing → (s : Scene) → Reached s → (who : ℕ) → (length s.ends ≤ who) ⊎ ((e : Stand) × (slice_get s.ends who ≡ Some e) × (e.overlong ≡ false))
+    → handed_out who s.log ≡ (joined (taken_of who s.log)).messages
+still_joined law absent s r who (inl past) =
+    let none = absent s r who past in
+    none.1 ∙ ap (λ us. (joined us).messages) (sym none.0)
+still_joined law absent s r who (inr there) = law s r who there.0 there.1 there.2
+
+joined_messages : IsLaw HandsOutWhatItTook → IsLaw AbsentHandsOutNothing → (w : World) (spent : Bool) → IsKept w spent → HandsOutWhatItTook (scene_of w)
+joined_messages law absent w false kept = law (scene_of w) kept.reached
+joined_messages law absent w true kept = λ who e at well.
+    let n = stands_of w who e at in
+    let marked : n.0.overlong ≡ false = sym (overlong_of_stand n.0 (held_of w.hosts n.0)) ∙ ap (λ (x : Stand). x.overlong) n.2 ∙ well in
+    subst (λ (log : List Note). handed_out who log ≡ (joined (taken_of who log)).messages) kept.log
+    (still_joined law absent kept.scene kept.reached who (kept.overlong who n.0 n.1 marked))
+
 -- ---- all of it
 
 links : SceneLaws → (w : World) → GoesOn w → LinkTheorems w
@@ -167,7 +193,7 @@ links laws w going =
       released = released_by_log w going.order entries;
       asked = entries.asked;
       in_step = laws.in_step s r;
-      joined = laws.joined s r;
+      left = laws.left s r;
       alone = laws.alone s r;
       confirmed = laws.confirmed s r;
       acknowledged = laws.acknowledged s r;
@@ -196,5 +222,6 @@ theorems laws v kept =
       end_taken = always EndTakenIsWhole laws.end_taken w v.spent kept;
       numbered = always (λ s. AreNumbered s.log) (λ s r. (laws.numbers s r).entries) w v.spent kept;
       cuts = always UnitsAreCuts laws.cuts w v.spent kept;
+      joined = joined_messages laws.joined laws.absent w v.spent kept;
       links = links_going laws w v.spent kept;
     }

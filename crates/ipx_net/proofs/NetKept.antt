@@ -1,20 +1,24 @@
 -- A network that takes an event goes on.
-use Rattle.std.proofs.Common.{ℕ, ◌≡◌, ◌++◌, List, Bool, true, false, cond, Option, None, Some, Result, Ok, Err, OnOk, refl, sym, subst}
+use Rattle.std.proofs.Common.{ℕ, ◌≡◌, ◌≤◌, ◌⊎◌, ◌++◌, ◌∙◌, inl, inr, ap, arith, length, map, List, Bool, true, false, cond, Option, None, Some, Result, Ok, Err, OnErr, OnOk, refl, sym, subst}
+use Rattle.std.specs.Prelude.{slice_get}
+use Rattle.std.proofs.lemmas.List.{length-map}
 use Rattle.std.specs.Result.{is_err}
 use Rattle.spx_theory.specs.Deeds.{Reached}
 use Rattle.theory_steps.specs.WorldStep.{WorldStep}
-use Rattle.theory_steps.specs.World.{InOrder, World, scene_of}
-use Rattle.ipx_net_hosts.specs.Hosts.{HostsView, world_of}
+use Rattle.spx_theory.specs.Scene.{Stand}
+use Rattle.theory_steps.specs.World.{EndNow, InOrder, World, bytes_of, held_of, scene_of, segment_of, stand_of}
+use Rattle.ipx_net_hosts.specs.Hosts.{HostsView, SameHomes, StaysOverlong, world_of}
 use Rattle.ipx_net.specs.IndexedLogView.{IndexedLogView, written_on}
 use Rattle.ipx_net.specs.StepResultView.{StepResultView}
 use Rattle.ipx_net.specs.NetEvents.{Happens}
 use Rattle.ipx_net.specs.NetFaults.{first_fault}
-use Rattle.ipx_net.specs.NetReach.{GoesOn, IsKept}
+use Rattle.ipx_net.specs.NetReach.{GoesOn, IsKept, StandsStill}
 use Rattle.ipx_net.specs.NetView.{NetView, net_of}
 use Rattle.ipx_net.specs.declared.event.Event.{Event}
 use Rattle.ipx_net.specs.declared.fault.NetFault.{NetFault}
 use Rattle.ipx_net.specs.declared.fault.NetFault.TheVariants.{Spent}
 use Rattle.ipx_net.specs.declared.routers.RouterNow.{RouterNow}
+use Rattle.ipx_net.proofs.Holding.{overlong_of_stand, stands_there}
 use Rattle.ipx_net.proofs.NetSteps.{happens_step}
 
 not_first : (b : Bool) (rest : Option NetFault) → cond b (Some Spent) rest ≡ None → b ≡ false
@@ -27,6 +31,10 @@ not_spent v e is = not_first v.spent _ is
 pub ok_holds : {T E : Type 0} (r : Result T E) (P : Type 0) → is_err r ≡ false → OnOk r P → P
 ok_holds (Ok x) P is p = p
 ok_holds (Err y) P is p = absurd (cc is)
+
+pub err_holds : {T E : Type 0} (r : Result T E) (P : Type 0) → is_err r ≡ true → OnErr r P → P
+err_holds (Ok x) P is p = absurd (cc is)
+err_holds (Err y) P is p = p
 
 kept_going : (w : World) (spent : Bool) → spent ≡ false → IsKept w spent → GoesOn w
 kept_going w spent is kept = subst (IsKept w) is kept
@@ -45,3 +53,34 @@ goes_on hosts hosts' routers routers' b b' g now now' spent e order reached goin
     let is : GoesOn new = record { order = order old new was.order step; reached = reached old new was.order was.reached step } in
     let there : GoesOn (world_of hosts' b'.parcels b'.log now') = subst (λ (x : IndexedLogView). GoesOn (world_of hosts' x.parcels x.log now')) (sym written) is in
     subst (IsKept (world_of hosts' b'.parcels b'.log now')) (sym going) there
+
+-- ---- memory was refused
+
+-- what was so of each end, of its stand in the scene
+stood : (w : World) (who : ℕ) → (length w.ends ≤ who) ⊎ ((o : EndNow) × (slice_get w.ends who ≡ Some o) × (o.overlong ≡ false))
+    → (length (scene_of w).ends ≤ who) ⊎ ((e : Stand) × (slice_get (scene_of w).ends who ≡ Some e) × (e.overlong ≡ false))
+stood w who (inl past) = inl (omega (arith, past, length-map w.ends (stand_of w.hosts)))
+stood w who (inr there) =
+    inr (
+      stand_of w.hosts there.0,
+      stands_there w who there.0 there.1,
+      overlong_of_stand there.0 (held_of w.hosts there.0) ∙ there.2,
+    )
+
+-- it stands still, with its log and its parcels, and its hosts have the same addresses
+pub stands_still : (hosts hosts' : HostsView) (b b' : IndexedLogView) (now now' : ℕ) (spent : Bool)
+    → spent ≡ false → IsKept (world_of hosts b.parcels b.log now) spent
+    → SameHomes hosts hosts' → StaysOverlong hosts hosts' → b'.log ≡ b.log → b'.parcels ≡ b.parcels
+    → StandsStill (world_of hosts' b'.parcels b'.log now')
+stands_still hosts hosts' b b' now now' spent going kept homes stays log parcels =
+    let old : World = world_of hosts b.parcels b.log now in
+    let was : GoesOn old = kept_going old spent going kept in
+    record {
+      scene = scene_of old;
+      reached = was.reached;
+      homes = sym homes;
+      log = sym log;
+      parcels = ap (map bytes_of) (sym parcels);
+      segments = ap (map segment_of) (sym parcels);
+      overlong = λ who n at well. stood old who (stays who n at well);
+    }

@@ -162,9 +162,9 @@ module _ (old x y : World) where
       let id : two.end'.id ≡ one.end'.id = ap (λ (z : EndNow). z.id) e in
       let h : two.held ≡ one.held = same_Some one.held (sym two.holds ∙ ap (λ (z : HostState). held_at z.endpoint two.end'.id) b ∙ ap (held_at one.before.endpoint) id ∙ one.holds) in
       let changes : ChangesEnd one.before.endpoint two.after.endpoint one.end'.id (record one.held { link = f one.held.link }) =
-          subst (λ (z : HostState). ChangesEnd z.endpoint two.after.endpoint one.end'.id (record one.held { link = f one.held.link })) b
-          (subst (λ i. ChangesEnd two.before.endpoint two.after.endpoint i (record one.held { link = f one.held.link })) id
-          (subst (λ (z : Held). ChangesEnd two.before.endpoint two.after.endpoint two.end'.id (record z { link = f z.link })) h two.changes)) in
+      subst (λ (z : HostState). ChangesEnd z.endpoint two.after.endpoint one.end'.id (record one.held { link = f one.held.link })) b
+      (subst (λ i. ChangesEnd two.before.endpoint two.after.endpoint i (record one.held { link = f one.held.link })) id
+      (subst (λ (z : Held). ChangesEnd two.before.endpoint two.after.endpoint two.end'.id (record z { link = f z.link })) h two.changes)) in
       let alike : AreAlike one.after two.after = record {
         endpoint = changes_both one.before.endpoint one.after.endpoint two.after.endpoint one.end'.id _ one.changes changes;
         here = λ i. ap (λ ps. end_at ps i) (two.here ∙ ap (λ (z : HostState). z.here) b ∙ sym one.here);
@@ -186,9 +186,9 @@ module _ (old x y : World) where
       let id : two.end'.id ≡ one.end'.id = ap (λ (z : EndNow). z.id) e in
       let h : two.held ≡ one.held = same_Some one.held (sym two.holds ∙ ap (λ (z : HostState). held_at z.endpoint two.end'.id) b ∙ ap (held_at one.before.endpoint) id ∙ one.holds) in
       let changes : ChangesEnd one.before.endpoint two.after.endpoint one.end'.id (record one.held { link = f one.held.link }) =
-          subst (λ (z : HostState). ChangesEnd z.endpoint two.after.endpoint one.end'.id (record one.held { link = f one.held.link })) b
-          (subst (λ i. ChangesEnd two.before.endpoint two.after.endpoint i (record one.held { link = f one.held.link })) id
-          (subst (λ (z : Held). ChangesEnd two.before.endpoint two.after.endpoint two.end'.id (record z { link = f z.link })) h two.changes)) in
+      subst (λ (z : HostState). ChangesEnd z.endpoint two.after.endpoint one.end'.id (record one.held { link = f one.held.link })) b
+      (subst (λ i. ChangesEnd two.before.endpoint two.after.endpoint i (record one.held { link = f one.held.link })) id
+      (subst (λ (z : Held). ChangesEnd two.before.endpoint two.after.endpoint two.end'.id (record z { link = f z.link })) h two.changes)) in
       let alike : AreAlike one.after two.after = record {
         endpoint = changes_both one.before.endpoint one.after.endpoint two.after.endpoint one.end'.id _ one.changes changes;
         here = λ i. ap (λ ps. end_at ps i) (two.here ∙ ap (λ (z : HostState). z.here) b ∙ sym one.here);
@@ -228,8 +228,8 @@ module _ (old x y : World) where
       let b : two.before ≡ one.before = same_read old.hosts two.end'.host one.end'.host two.before one.before (ap (λ (z : EndNow). z.host) e) two.there one.there in
       let id : two.end'.id ≡ one.end'.id = ap (λ (z : EndNow). z.id) e in
       let gone : ReleasesEnd one.before.endpoint two.after.endpoint one.end'.id =
-          subst (λ (z : HostState). ReleasesEnd z.endpoint two.after.endpoint one.end'.id) b
-          (subst (λ i. ReleasesEnd two.before.endpoint two.after.endpoint i) id two.releases) in
+      subst (λ (z : HostState). ReleasesEnd z.endpoint two.after.endpoint one.end'.id) b
+      (subst (λ i. ReleasesEnd two.before.endpoint two.after.endpoint i) id two.releases) in
       let alike : AreAlike one.after two.after = record {
         endpoint = releases_both one.before.endpoint one.after.endpoint two.after.endpoint one.end'.id one.releases gone;
         here = λ q. elim (cases_eq q one.end'.id) [
@@ -277,33 +277,35 @@ module _ (old x y : World) where
       let h : two.held ≡ one.held = same_Some one.held (sym two.holds ∙ ap (λ (z : HostState). held_at z.endpoint two.end'.id) b ∙ ap (held_at one.before.endpoint) id ∙ one.holds) in
       let answer : r' ≡ r = two.answers ∙ ap (λ (z : Held). (take_end z).0) h ∙ sym one.answers in
       let changes : ChangesEnd one.before.endpoint two.after.endpoint one.end'.id (take_end one.held).1 =
-          subst (λ (z : HostState). ChangesEnd z.endpoint two.after.endpoint one.end'.id (take_end one.held).1) b
-          (subst (λ i. ChangesEnd two.before.endpoint two.after.endpoint i (take_end one.held).1) id
-          (subst (λ (z : Held). ChangesEnd two.before.endpoint two.after.endpoint two.end'.id (take_end z).1) h two.changes)) in
+      subst (λ (z : HostState). ChangesEnd z.endpoint two.after.endpoint one.end'.id (take_end one.held).1) b
+      (subst (λ i. ChangesEnd two.before.endpoint two.after.endpoint i (take_end one.held).1) id
+      (subst (λ (z : Held). ChangesEnd two.before.endpoint two.after.endpoint two.end'.id (take_end z).1) h two.changes)) in
       let alike : AreAlike one.after two.after = record {
         endpoint = changes_both one.before.endpoint one.after.endpoint two.after.endpoint one.end'.id _ one.changes changes;
         here = λ i. ap (λ ps. end_at ps i) (two.here ∙ ap (λ (z : HostState). z.here) b ∙ sym one.here);
       } in
-      let hosts : y.hosts ≡ set old.hosts one.end'.host two.after = two.hosts ∙ ap (λ k. set old.hosts k two.after) (ap (λ (z : EndNow). z.host) e) in
-      (answer, record {
-        count = count_both old.hosts x.hosts y.hosts one.end'.host one.after two.after one.hosts hosts;
-        hosts = hosts_both old.hosts x.hosts y.hosts one.end'.host one.after two.after one.hosts hosts alike;
-        ends = two.ends ∙ ap (λ z. set old.ends who (marked_over z two.end')) answer ∙ ap (λ z. set old.ends who (marked_over r z)) e ∙ sym one.ends;
-        parcels = two.parcels ∙ sym one.parcels;
-        log = two.log
-            ∙ ap (λ z. old.log ++ unit_notes z (first_of two.held.link.held) who ++ whole_notes z who) answer
-            ∙ ap (λ (z : Held). old.log ++ unit_notes r (first_of z.link.held) who ++ whole_notes r who) h
-            ∙ sym one.log;
-        moment = two.moment ∙ sym one.moment;
-      })
+      let hosts : y.hosts ≡ set old.hosts one.end'.host two.after = two.hosts ∙ ap (λ k. set old.hosts k two.after) (ap (λ (z : EndNow). z.host) e) in (
+        answer,
+        record {
+          count = count_both old.hosts x.hosts y.hosts one.end'.host one.after two.after one.hosts hosts;
+          hosts = hosts_both old.hosts x.hosts y.hosts one.end'.host one.after two.after one.hosts hosts alike;
+          ends = two.ends ∙ ap (λ z. set old.ends who (marked_over z two.end')) answer ∙ ap (λ z. set old.ends who (marked_over r z)) e ∙ sym one.ends;
+          parcels = two.parcels ∙ sym one.parcels;
+          log = two.log
+              ∙ ap (λ z. old.log ++ unit_notes z (first_of two.held.link.held) who ++ whole_notes z who) answer
+              ∙ ap (λ (z : Held). old.log ++ unit_notes r (first_of z.link.held) who ++ whole_notes r who) h
+              ∙ sym one.log;
+          moment = two.moment ∙ sym one.moment;
+        },
+      )
 
   dials : (host : ℕ) (socket : Socket) (to : Address) (buffers i j : ℕ) → DialsFrom old host socket to buffers i x → DialsFrom old host socket to buffers j y → AreSameWorlds x y
   dials host socket to buffers i j one two =
       let b : two.before ≡ one.before = same_read old.hosts host host two.before one.before refl two.there one.there in
       let id : j ≡ i = free_both one.before.endpoint.links j i (subst (λ (z : HostState). IsNextFree z.endpoint.links j) b two.free) one.free in
       let adds : AddsEnd one.before.endpoint two.after.endpoint i (dialed i socket to buffers old.moment) =
-          subst (λ (z : HostState). AddsEnd z.endpoint two.after.endpoint i (dialed i socket to buffers old.moment)) b
-          (subst (λ k. AddsEnd two.before.endpoint two.after.endpoint k (dialed k socket to buffers old.moment)) id two.adds) in
+      subst (λ (z : HostState). AddsEnd z.endpoint two.after.endpoint i (dialed i socket to buffers old.moment)) b
+      (subst (λ k. AddsEnd two.before.endpoint two.after.endpoint k (dialed k socket to buffers old.moment)) id two.adds) in
       let alike : AreAlike one.after two.after = record {
         endpoint = adds_both one.before.endpoint one.after.endpoint two.after.endpoint i _ one.adds adds;
         here = λ q. ap (λ ps. end_at ps q) (two.here ∙ ap (λ k. two.before.here ++ (k, length old.ends) ∷ []) id ∙ ap (λ (z : HostState). z.here ++ (i, length old.ends) ∷ []) b ∙ sym one.here);
@@ -415,14 +417,14 @@ calls_have_one_outcome (Events.Send who message) a b old x y call one two na nb 
     let m : MessageView = message_view message in
     let h : Option Held = held_under old.world who in
     let r = done_both old.world x.world y.world (λ v w. SendsTo v who m w) (λ w. send_fault (held_under w who) m) (λ w. SendIsRefused (held_under w who) m) who a b
-        (λ s t. link_both old.world x.world y.world who (λ l. offer_link l (cut_of m)) (Notes.HandsIn who m) s.changes t.changes) (sends_fault h m) na nb one.0 two.0 in
+    (λ s t. link_both old.world x.world y.world who (λ l. offer_link l (cut_of m)) (Notes.HandsIn who m) s.changes t.changes) (sends_fault h m) na nb one.0 two.0 in
     (r.0, same_nets old x y r.1 one.1 two.1)
 calls_have_one_outcome (Events.Take who) a b old x y call one two na nb =
     let r = take_both old.world x.world y.world who a b na nb one.0 two.0 in (r.0, same_nets old x y r.1 one.1 two.1)
 calls_have_one_outcome (Events.Close who) a b old x y call one two na nb =
     let h : Option Held = held_under old.world who in
     let r = done_both old.world x.world y.world (λ v w. Closes v who w) (λ w. close_fault (held_under w who)) (λ w. CloseIsRefused (held_under w who)) who a b
-        (λ s t. link_both old.world x.world y.world who end_link (Notes.AsksEnd who) s t) (closes_fault h) na nb one.0 two.0 in
+    (λ s t. link_both old.world x.world y.world who end_link (Notes.AsksEnd who) s t) (closes_fault h) na nb one.0 two.0 in
     (r.0, same_nets old x y r.1 one.1 two.1)
 calls_have_one_outcome (Events.Pace who window manual) a b old x y call one two na nb =
     (two.0.0 ∙ sym one.0.0, same_nets old x y (quiet_both old.world x.world y.world who (λ l. pace_link l window manual) one.0.1 two.0.1) one.1 two.1)

@@ -7,7 +7,7 @@ use Rattle.spx_theory.specs.Carried.{RoutersAlterHopsAlone}
 use Rattle.spx_theory.specs.Close.{AcknowledgedIsRead, ConfirmedIsRead, EndTakenIsWhole}
 use Rattle.spx_theory.specs.EndsTold.{EndsAreTold}
 use Rattle.spx_theory.specs.EntriesOfEnds.{QueuedWereAsked}
-use Rattle.spx_theory.specs.HandedOut.{HandsOutWhatItTook}
+use Rattle.spx_theory.specs.HandedOut.{HandsOutWhatItTook, HoldsWhatIsLeft}
 use Rattle.spx_theory.specs.InStep.{PeersAreInStep}
 use Rattle.spx_theory.specs.InSteps.{PairsTakeSteps}
 use Rattle.spx_theory.specs.LogHeadline.{LogHeadline}
@@ -49,7 +49,7 @@ pub record LinkTheorems (w : World) : Type 0 where
   pub asked : QueuedWereAsked (scene_of w)
   -- under the three premises, or without any
   pub in_step : PeersAreInStep (scene_of w)
-  pub joined : HandsOutWhatItTook (scene_of w)
+  pub left : HoldsWhatIsLeft (scene_of w)
   pub alone : AloneReadsNothing (scene_of w)
   pub confirmed : ConfirmedIsRead (scene_of w)
   pub acknowledged : AcknowledgedIsRead (scene_of w)
@@ -59,7 +59,8 @@ pub record LinkTheorems (w : World) : Type 0 where
   pub not_stuck_both_ways : NoPairIsStuck (scene_of w)
   pub not_stuck_by_addresses : NothingIsStuckByAddresses (scene_of w)
 
--- of log, parcels and the addresses of hosts, also after want of memory; and of links before it
+-- of log, parcels, the addresses of hosts and messages joined, also after want of memory; and of
+-- links before it
 pub record Theorems (v : NetView) : Type 0 where
   pub alters : RoutersAlterHopsAlone (scene_of v.now.world)
   pub in_order : UnitsAreSentInOrder (scene_of v.now.world)
@@ -73,4 +74,5 @@ pub record Theorems (v : NetView) : Type 0 where
   pub end_taken : EndTakenIsWhole (scene_of v.now.world)
   pub numbered : AreNumbered v.now.world.log
   pub cuts : UnitsAreCuts (scene_of v.now.world)
+  pub joined : HandsOutWhatItTook (scene_of v.now.world)
   pub links : v.spent ≡ false → LinkTheorems v.now.world

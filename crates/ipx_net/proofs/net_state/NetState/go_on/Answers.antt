@@ -1,7 +1,8 @@
-use Rattle.std.proofs.Common.{◌≡◌, ◌∙◌, ap, false, sym}
+use Rattle.std.proofs.Common.{◌≡◌, ◌∙◌, ap, false, refl, sym}
+use Rattle.ipx_net.specs.IndexedLogView.{IndexedLogView}
 use Rattle.ipx_net.specs.StepResultView.{step_result_view}
 use Rattle.ipx_net.specs.NetView.{NetView}
-use Rattle.ipx_net.proofs.NetKept.{goes_on, not_spent, ok_holds}
+use Rattle.ipx_net.proofs.NetKept.{err_holds, goes_on, not_spent, ok_holds, stands_still}
 use Rattle.ipx_net.proofs.net_state.NetState.go_on.Goals as goal
 
 pub returns-clause-going : goal.returns-clause-going
@@ -13,3 +14,23 @@ invariant_of-self-else-is_err-2 c =
     goes_on c.self.inside.hosts c.happen-grown.new.hosts _ _ c.self.inside.indexed_log c.append.new.self (step_result_view c.in-Ok.growth) c.self.inside.moment c.happen-grown.new.moment c.self.inside.spent c.args.event
     c.steps_are_deeds.ensures.order c.steps_are_deeds.ensures.reached going c.self.invariant c.in-Ok.ensures.happens
     (ok_holds c.append.result _ (sym c.is_err-2.ensures.value ∙ c.if-is_err-2.false) c.append.ensures.ok)
+
+pub invariant_of-self : goal.invariant_of-self
+invariant_of-self c =
+    let going : c.self.inside.spent ≡ false = ap (λ (v : NetView). v.spent) c.self.view_is ∙ not_spent c.args.self.now c.args.event c.requires.sound in
+    stands_still c.self.inside.hosts c.happen-grown.new.hosts c.self.inside.indexed_log c.self.inside.indexed_log c.self.inside.moment c.happen-grown.new.moment c.self.inside.spent
+    going c.self.invariant c.in_default.ensures.homes c.in_default.ensures.stays refl refl
+
+pub invariant_of-self-then-is_err : goal.invariant_of-self-then-is_err
+invariant_of-self-then-is_err c =
+    let going : c.self.inside.spent ≡ false = ap (λ (v : NetView). v.spent) c.self.view_is ∙ not_spent c.args.self.now c.args.event c.requires.sound in
+    stands_still c.self.inside.hosts c.happen-grown.new.hosts c.self.inside.indexed_log c.self.inside.indexed_log c.self.inside.moment c.happen-grown.new.moment c.self.inside.spent
+    going c.self.invariant c.in-Ok.ensures.homes c.in-Ok.ensures.stays refl refl
+
+pub invariant_of-self-then-is_err-2 : goal.invariant_of-self-then-is_err-2
+invariant_of-self-then-is_err-2 c =
+    let going : c.self.inside.spent ≡ false = ap (λ (v : NetView). v.spent) c.self.view_is ∙ not_spent c.args.self.now c.args.event c.requires.sound in
+    let same : c.append.new.self ≡ c.self.inside.indexed_log =
+    err_holds c.append.result _ (sym c.is_err-2.ensures.value ∙ c.if-is_err-2.true) c.append.ensures.unchanged in
+    stands_still c.self.inside.hosts c.happen-grown.new.hosts c.self.inside.indexed_log c.append.new.self c.self.inside.moment c.happen-grown.new.moment c.self.inside.spent
+    going c.self.invariant c.in-Ok.ensures.homes c.in-Ok.ensures.stays (ap (λ (b : IndexedLogView). b.log) same) (ap (λ (b : IndexedLogView). b.parcels) same)
