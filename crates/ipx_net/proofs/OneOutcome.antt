@@ -1,6 +1,6 @@
 -- A call on a host or an end, the clock, or a packet from outside has one outcome, unless memory
 -- ran out.
-use Rattle.std.proofs.Common.{ℕ, ◌≡◌, ◌≢◌, ◌<◌, ◌+◌, ◌⊎◌, inl, inr, Bool, true, false, List, [], ◌∷◌, ◌++◌, length, set, Option, Some, None, Result, Ok, Err, refl, sym, ◌∙◌, ap, arith, subst, length-set}
+use Rattle.std.proofs.Common.{ℕ, ◌≡◌, ◌≢◌, ◌⊎◌, inl, inr, true, false, List, [], ◌∷◌, ◌++◌, length, set, Option, Some, None, Result, Ok, Err, refl, sym, ◌∙◌, ap, arith, subst, length-set}
 use Rattle.std.specs.Prelude.{IsSome, slice_get}
 use Rattle.std.proofs.lemmas.Bool.{cases_eq, cases_lt}
 use Rattle.std.proofs.lemmas.Option.{same_Some}
@@ -8,11 +8,11 @@ use Rattle.ipx_wire.specs.declared.address.Address.{Address}
 use Rattle.ipx_wire.specs.declared.address.Network.{Network}
 use Rattle.ipx_wire.specs.declared.address.Node.{Node}
 use Rattle.ipx_wire.specs.declared.address.Socket.{Socket}
-use Rattle.ipx_net_hosts.specs.Refusing.{CloseIsRefused, DialIsRefused, SendIsRefused, close_fault, dial_fault, send_fault, want, want_of_link, want_of_queue}
+use Rattle.ipx_net_hosts.specs.Refusing.{CloseIsRefused, SendIsRefused, close_fault, send_fault}
 use Rattle.spx_link.specs.LinkView.{LinkView}
-use Rattle.spx_link.specs.Links.{IsLive, IsNextFree, LinksView, count_of, id_after, link_at}
+use Rattle.spx_link.specs.Links.{IsNextFree, LinksView, id_after, link_at}
 use Rattle.spx_messages.specs.Changes.{AddsEnd, ChangesEnd, ReleasesEnd, SameBut, SameSelf}
-use Rattle.spx_messages.specs.EndpointView.{EndpointView, Held, buffers_at, held_at}
+use Rattle.spx_messages.specs.EndpointView.{EndpointView, Held, held_at}
 use Rattle.spx_messages.specs.Taking.{TakenView, overlong, take_end}
 use Rattle.spx_messages.specs.declared.fault.EndFault.{EndFault}
 use Rattle.spx_link.specs.Offer.{again_link, dialed, end_link, first_of, offer_link, pace_link}
@@ -21,12 +21,10 @@ use Rattle.spx_units.specs.Message.{MessageView, message_view}
 use Rattle.theory_steps.specs.EndCalls.{ChangesLink, ChangesQuietly, Closes, DialsFrom, InjectsInto, RefusesAt, ReleasesOf, SendsTo, Ticks}
 use Rattle.theory_steps.specs.HostSteps.{TakesOf, marked_over, unit_notes, whole_notes}
 use Rattle.theory_steps.specs.World.{EndNow, HostState, World, end_at}
-use Rattle.ipx_net.specs.AnswerView.{AnswerView, Done, End, Refused, Taken}
-use Rattle.ipx_net.specs.HostEvents.{Dialling, IsDoneOrRefused, RefusedAt, RefusedOf, TakingFrom, held_under}
-use Rattle.ipx_net.specs.NetEvents.{Happens}
+use Rattle.ipx_net.specs.AnswerView.{AnswerView, Refused, Taken}
+use Rattle.ipx_net.specs.HostEvents.{Dialling, IsDoneOrRefused, RefusedOf, TakingFrom, held_under}
 use Rattle.ipx_net.specs.NetView.{NetNow}
-use Rattle.ipx_net.specs.OneOutcome.{AreAlike, AreSameNets, CallsHaveOneOutcome, IsCall, IsForMemory}
-use Rattle.ipx_net.specs.declared.event.Event.{Event}
+use Rattle.ipx_net.specs.OneOutcome.{AreAlike, AreSameNets, CallsHaveOneOutcome, IsForMemory}
 use Rattle.ipx_net.specs.declared.event.Event.TheVariants as Events
 use Rattle.ipx_net.proofs.TellingPeers.{get_beside, get_set_is}
 use Rattle.spx_theory.specs.Note as Notes
