@@ -1,7 +1,6 @@
 -- Under the premises of the headline each end begins what its peer handed in, in the words of the
 -- entries.
-use Rattle.std.proofs.Common.{◌≡◌, ◌↔◌, ◌<◌, List, [], ℕ, inl, inr, length}
-use Rattle.spx_theory.specs.Handed.{IsBeginning, handed_in, handed_out}
+use Rattle.std.proofs.Common.{◌↔◌, ℕ, inl, inr}
 use Rattle.spx_theory.specs.LogHeadline.{LogHeadline}
 use Rattle.spx_theory.specs.LogPremises.{HavePeer, IsEnd, LogPremises}
 use Rattle.spx_theory.specs.Peers.{ArePeers}

@@ -1,6 +1,6 @@
 -- A call on a host or an end, the clock, or a packet from outside has one outcome, unless memory
 -- ran out.
-use Rattle.std.proofs.Common.{ℕ, ◌≡◌, ◌≢◌, ◌<◌, ◌+◌, ◌⊎◌, inl, inr, Bool, true, false, List, [], ◌∷◌, ◌++◌, length, set, Option, Some, None, Result, Ok, Err, refl, sym, ◌∙◌, ap, arith, subst, length-set}
+use Rattle.std.proofs.Common.{ℕ, ◌≡◌, ◌≢◌, ◌⊎◌, inl, inr, true, false, List, [], ◌∷◌, ◌++◌, length, set, Option, Some, None, Result, Ok, Err, refl, sym, ◌∙◌, ap, arith, subst, length-set}
 use Rattle.std.specs.Prelude.{IsSome, slice_get}
 use Rattle.std.proofs.lemmas.Bool.{cases_eq, cases_lt}
 use Rattle.std.proofs.lemmas.Option.{same_Some}
@@ -8,11 +8,11 @@ use Rattle.ipx_wire.specs.declared.address.Address.{Address}
 use Rattle.ipx_wire.specs.declared.address.Network.{Network}
 use Rattle.ipx_wire.specs.declared.address.Node.{Node}
 use Rattle.ipx_wire.specs.declared.address.Socket.{Socket}
-use Rattle.ipx_net_hosts.specs.Refusing.{CloseIsRefused, DialIsRefused, SendIsRefused, close_fault, dial_fault, send_fault, want, want_of_link, want_of_queue}
+use Rattle.ipx_net_hosts.specs.Refusing.{CloseIsRefused, SendIsRefused, close_fault, send_fault}
 use Rattle.spx_link.specs.LinkView.{LinkView}
-use Rattle.spx_link.specs.Links.{IsLive, IsNextFree, LinksView, count_of, id_after, link_at}
+use Rattle.spx_link.specs.Links.{IsNextFree, LinksView, id_after, link_at}
 use Rattle.spx_messages.specs.Changes.{AddsEnd, ChangesEnd, ReleasesEnd, SameBut, SameSelf}
-use Rattle.spx_messages.specs.EndpointView.{EndpointView, Held, buffers_at, held_at}
+use Rattle.spx_messages.specs.EndpointView.{EndpointView, Held, held_at}
 use Rattle.spx_messages.specs.Taking.{TakenView, overlong, take_end}
 use Rattle.spx_messages.specs.declared.fault.EndFault.{EndFault}
 use Rattle.spx_link.specs.Offer.{again_link, dialed, end_link, first_of, offer_link, pace_link}
@@ -21,12 +21,10 @@ use Rattle.spx_units.specs.Message.{MessageView, message_view}
 use Rattle.theory_steps.specs.EndCalls.{ChangesLink, ChangesQuietly, Closes, DialsFrom, InjectsInto, RefusesAt, ReleasesOf, SendsTo, Ticks}
 use Rattle.theory_steps.specs.HostSteps.{TakesOf, marked_over, unit_notes, whole_notes}
 use Rattle.theory_steps.specs.World.{EndNow, HostState, World, end_at}
-use Rattle.ipx_net.specs.AnswerView.{AnswerView, Done, End, Refused, Taken}
-use Rattle.ipx_net.specs.HostEvents.{Dialling, IsDoneOrRefused, RefusedAt, RefusedOf, TakingFrom, held_under}
-use Rattle.ipx_net.specs.NetEvents.{Happens}
+use Rattle.ipx_net.specs.AnswerView.{AnswerView, Refused, Taken}
+use Rattle.ipx_net.specs.HostEvents.{Dialling, IsDoneOrRefused, RefusedOf, TakingFrom, held_under}
 use Rattle.ipx_net.specs.NetView.{NetNow}
-use Rattle.ipx_net.specs.OneOutcome.{AreAlike, AreSameNets, CallsHaveOneOutcome, IsCall, IsForMemory}
-use Rattle.ipx_net.specs.declared.event.Event.{Event}
+use Rattle.ipx_net.specs.OneOutcome.{AreAlike, AreSameNets, CallsHaveOneOutcome, IsForMemory}
 use Rattle.ipx_net.specs.declared.event.Event.TheVariants as Events
 use Rattle.ipx_net.proofs.TellingPeers.{get_beside, get_set_is}
 use Rattle.spx_theory.specs.Note as Notes
@@ -34,8 +32,11 @@ use Rattle.spx_theory.specs.Note.{Note}
 
 -- ---- endpoints
 
+one_some : {A : Type 0} {x y : A} → Some x ≡ Some y → x ≡ y
+one_some {A} {x} {y} is = same_Some x y is
+
 same_read : {A : Type 0} (xs : List A) (j k : ℕ) (x y : A) → j ≡ k → slice_get xs j ≡ Some x → slice_get xs k ≡ Some y → x ≡ y
-same_read xs j k x y same one two = same_Some y (sym one ∙ ap (slice_get xs) same ∙ two)
+same_read xs j k x y same one two = one_some (sym one ∙ ap (slice_get xs) same ∙ two)
 
 self_both : (e a b : EndpointView) → SameSelf e a → SameSelf e b → SameSelf a b
 self_both e a b x y =
@@ -108,12 +109,12 @@ hosts_both old xs ys host a b is is' alike k s t at at' =
       | inr differ ↦
           let one : slice_get old k ≡ Some s = sym (get_beside old host k a differ) ∙ ap (λ zs. slice_get zs k) (sym is) ∙ at in
           let two : slice_get old k ≡ Some t = sym (get_beside old host k b differ) ∙ ap (λ zs. slice_get zs k) (sym is') ∙ at' in
-          subst (AreAlike s) (same_Some t (sym one ∙ two)) (alike_refl s)
+          subst (AreAlike s) (one_some (sym one ∙ two)) (alike_refl s)
     ]
 
 hosts_same : (old xs ys : List HostState) → xs ≡ old → ys ≡ old → (k : ℕ) (s t : HostState) → slice_get xs k ≡ Some s → slice_get ys k ≡ Some t → AreAlike s t
 hosts_same old xs ys is is' k s t at at' =
-    subst (AreAlike s) (same_Some t (sym at ∙ ap (λ zs. slice_get zs k) (is ∙ sym is') ∙ at')) (alike_refl s)
+    subst (AreAlike s) (one_some (sym at ∙ ap (λ zs. slice_get zs k) (is ∙ sym is') ∙ at')) (alike_refl s)
 
 -- the worlds after one event, whose routers stay
 pub record AreSameWorlds (x y : World) : Type 0 where
@@ -133,7 +134,7 @@ count_both old xs ys host a b is is' = ap length is' ∙ length-set old host b �
 
 -- ---- ids
 
-same_ok : (t u : TakenView) → Ok t ≡ Ok u → t ≡ u
+same_ok : (t u : TakenView) → ◌≡◌ {A = Result TakenView EndFault} (Ok t) (Ok u) → t ≡ u
 same_ok t u is = cc is
 
 live_free : (o : Option LinkView) → IsSome o → o ≡ None → ⊥
@@ -160,7 +161,7 @@ module _ (old x y : World) where
       let e : two.end' ≡ one.end' = same_read old.ends who who two.end' one.end' refl two.at one.at in
       let b : two.before ≡ one.before = same_read old.hosts two.end'.host one.end'.host two.before one.before (ap (λ (z : EndNow). z.host) e) two.there one.there in
       let id : two.end'.id ≡ one.end'.id = ap (λ (z : EndNow). z.id) e in
-      let h : two.held ≡ one.held = same_Some one.held (sym two.holds ∙ ap (λ (z : HostState). held_at z.endpoint two.end'.id) b ∙ ap (held_at one.before.endpoint) id ∙ one.holds) in
+      let h : two.held ≡ one.held = one_some (sym two.holds ∙ ap (λ (z : HostState). held_at z.endpoint two.end'.id) b ∙ ap (held_at one.before.endpoint) id ∙ one.holds) in
       let changes : ChangesEnd one.before.endpoint two.after.endpoint one.end'.id (record one.held { link = f one.held.link }) =
       subst (λ (z : HostState). ChangesEnd z.endpoint two.after.endpoint one.end'.id (record one.held { link = f one.held.link })) b
       (subst (λ i. ChangesEnd two.before.endpoint two.after.endpoint i (record one.held { link = f one.held.link })) id
@@ -184,7 +185,7 @@ module _ (old x y : World) where
       let e : two.end' ≡ one.end' = same_read old.ends who who two.end' one.end' refl two.at one.at in
       let b : two.before ≡ one.before = same_read old.hosts two.end'.host one.end'.host two.before one.before (ap (λ (z : EndNow). z.host) e) two.there one.there in
       let id : two.end'.id ≡ one.end'.id = ap (λ (z : EndNow). z.id) e in
-      let h : two.held ≡ one.held = same_Some one.held (sym two.holds ∙ ap (λ (z : HostState). held_at z.endpoint two.end'.id) b ∙ ap (held_at one.before.endpoint) id ∙ one.holds) in
+      let h : two.held ≡ one.held = one_some (sym two.holds ∙ ap (λ (z : HostState). held_at z.endpoint two.end'.id) b ∙ ap (held_at one.before.endpoint) id ∙ one.holds) in
       let changes : ChangesEnd one.before.endpoint two.after.endpoint one.end'.id (record one.held { link = f one.held.link }) =
       subst (λ (z : HostState). ChangesEnd z.endpoint two.after.endpoint one.end'.id (record one.held { link = f one.held.link })) b
       (subst (λ i. ChangesEnd two.before.endpoint two.after.endpoint i (record one.held { link = f one.held.link })) id
@@ -274,7 +275,7 @@ module _ (old x y : World) where
       let e : two.end' ≡ one.end' = same_read old.ends who who two.end' one.end' refl two.at one.at in
       let b : two.before ≡ one.before = same_read old.hosts two.end'.host one.end'.host two.before one.before (ap (λ (z : EndNow). z.host) e) two.there one.there in
       let id : two.end'.id ≡ one.end'.id = ap (λ (z : EndNow). z.id) e in
-      let h : two.held ≡ one.held = same_Some one.held (sym two.holds ∙ ap (λ (z : HostState). held_at z.endpoint two.end'.id) b ∙ ap (held_at one.before.endpoint) id ∙ one.holds) in
+      let h : two.held ≡ one.held = one_some (sym two.holds ∙ ap (λ (z : HostState). held_at z.endpoint two.end'.id) b ∙ ap (held_at one.before.endpoint) id ∙ one.holds) in
       let answer : r' ≡ r = two.answers ∙ ap (λ (z : Held). (take_end z).0) h ∙ sym one.answers in
       let changes : ChangesEnd one.before.endpoint two.after.endpoint one.end'.id (take_end one.held).1 =
       subst (λ (z : HostState). ChangesEnd z.endpoint two.after.endpoint one.end'.id (take_end one.held).1) b
@@ -324,8 +325,8 @@ module _ (old x y : World) where
   refused_both : (who : ℕ) (f g : EndFault) (a b : AnswerView) → f ≡ g → RefusedOf who f a old x → RefusedOf who g b old y → (b ≡ a) × AreSameWorlds x y
   refused_both who f g a b same one two =
       let e : two.0 ≡ one.0 = same_read old.ends who who two.0 one.0 refl two.1 one.1 in (
-        two.2 ∙ ap Refused (sym same) ∙ sym one.2,
-        refuses_both one.0.host two.0.host (ap (λ (z : EndNow). z.host) e) one.3 two.3,
+        two.2.0 ∙ ap Refused (sym same) ∙ sym one.2.0,
+        refuses_both one.0.host two.0.host (ap (λ (z : EndNow). z.host) e) one.2.1 two.2.1,
       )
 
   done_both : (P : World → World → Type 0) (fault : World → Option EndFault) (IsRefused : World → EndFault → Type 0) (who : ℕ) (a b : AnswerView)
@@ -337,16 +338,16 @@ module _ (old x y : World) where
           | inl did' ↦ (did'.0 ∙ sym did.0, both did.2 did'.2)
           | inr left ↦ elim (is_fault left.0 left.1) [
             | inl meets ↦ absurd (cc (sym did.1 ∙ meets))
-            | inr memory ↦ absurd (nb (subst IsForMemory (sym left.2.2) memory))
+            | inr memory ↦ absurd (nb (subst IsForMemory (sym left.2.2.0) memory))
           ]
         ]
         | inr left ↦ elim (is_fault left.0 left.1) [
-          | inr memory ↦ absurd (na (subst IsForMemory (sym left.2.2) memory))
+          | inr memory ↦ absurd (na (subst IsForMemory (sym left.2.2.0) memory))
           | inl meets ↦ elim two [
             | inl did ↦ absurd (cc (sym did.1 ∙ meets))
             | inr left' ↦ elim (is_fault left'.0 left'.1) [
-              | inr memory ↦ absurd (nb (subst IsForMemory (sym left'.2.2) memory))
-              | inl meets' ↦ refused_both who left.0 left'.0 a b (same_Some left'.0 (sym meets ∙ meets')) left.2 left'.2
+              | inr memory ↦ absurd (nb (subst IsForMemory (sym left'.2.2.0) memory))
+              | inl meets' ↦ refused_both who left.0 left'.0 a b (one_some (sym meets ∙ meets')) left.2 left'.2
             ]
           ]
         ]
@@ -360,16 +361,16 @@ module _ (old x y : World) where
           | inl did' ↦ (did'.0 ∙ sym did.0, dials host socket to buffers did.2 did'.2 did.3 did'.3)
           | inr left ↦ elim left.1 [
             | inl meets ↦ absurd (cc (sym did.1 ∙ meets))
-            | inr memory ↦ absurd (nb (inr (inl (left.2 ∙ ap Refused memory.0))))
+            | inr memory ↦ absurd (nb (inr (inl (left.2.0 ∙ ap Refused memory.0))))
           ]
         ]
         | inr left ↦ elim left.1 [
-          | inr memory ↦ absurd (na (inr (inl (left.2 ∙ ap Refused memory.0))))
+          | inr memory ↦ absurd (na (inr (inl (left.2.0 ∙ ap Refused memory.0))))
           | inl meets ↦ elim two [
             | inl did ↦ absurd (cc (sym did.1 ∙ meets))
             | inr left' ↦ elim left'.1 [
-              | inr memory ↦ absurd (nb (inr (inl (left'.2 ∙ ap Refused memory.0))))
-              | inl meets' ↦ (left'.2 ∙ ap Refused (sym (same_Some left'.0 (sym meets ∙ meets'))) ∙ sym left.2, refuses_both host host refl left.3 left'.3)
+              | inr memory ↦ absurd (nb (inr (inl (left'.2.0 ∙ ap Refused memory.0))))
+              | inl meets' ↦ (left'.2.0 ∙ ap Refused (sym (one_some (sym meets ∙ meets'))) ∙ sym left.2.0, refuses_both host host refl left.2.1 left'.2.1)
             ]
           ]
         ]
@@ -382,16 +383,16 @@ module _ (old x y : World) where
           | inl u ↦ let r = takes who (Ok t.0) (Ok u.0) t.2 u.2 in (u.1 ∙ ap Taken (same_ok u.0 t.0 r.0) ∙ sym t.1, r.1)
           | inr rest ↦ elim rest [
             | inl over ↦ let r = takes who (Ok t.0) (Err overlong) t.2 over.1 in absurd (cc r.0)
-            | inr memory ↦ absurd (nb (inl memory.1.2))
+            | inr memory ↦ absurd (nb (inl memory.1.2.0))
           ]
         ]
         | inr rest ↦ elim rest [
-          | inr memory ↦ absurd (na (inl memory.1.2))
+          | inr memory ↦ absurd (na (inl memory.1.2.0))
           | inl over ↦ elim two [
             | inl u ↦ let r = takes who (Err overlong) (Ok u.0) over.1 u.2 in absurd (cc r.0)
             | inr rest' ↦ elim rest' [
               | inl over' ↦ let r = takes who (Err overlong) (Err overlong) over.1 over'.1 in (over'.0 ∙ sym over.0, r.1)
-              | inr memory ↦ absurd (nb (inl memory.1.2))
+              | inr memory ↦ absurd (nb (inl memory.1.2.0))
             ]
           ]
         ]

@@ -15,7 +15,6 @@ use Rattle.spx_theory.specs.Note.{Note, Opened, Released}
 use Rattle.spx_theory.specs.Numbered.{IsNumbered, NumbersAreInOrder}
 use Rattle.spx_theory.specs.PremisesRead.{OriginsAreRead, PeersAreRead, PremisesAreRead}
 use Rattle.spx_theory.specs.Scan.{scan}
-use Rattle.spx_theory.specs.Scene.{Scene}
 use Rattle.spx_theory.specs.SentUnits.{LinksSendInOrder, UnitsAreSentInOrder}
 use Rattle.spx_theory.specs.UnitsOfEnds.{UnitsAreCuts}
 use Rattle.ipx_recovery.specs.Stuck.{NoPairIsStuck, NoStateIsStuck, NothingIsStuckByAddresses}
