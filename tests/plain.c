@@ -1,9 +1,10 @@
-/* What tests/sites measures the program beside: plain sockets of UDP, nothing more. It is compiled by gcc -O2.
+/* What tests/sites and tests/speed measure the program beside: plain sockets of UDP, nothing more. It is compiled by gcc -O2.
 
    plain loop IN TO PORT                     hands each datagram that comes to the address IN on to the address TO
    plain load PORT FROM WAY HEX BYTES SINK   for each line of its input, 'COUNT': so many datagrams go from FROM to WAY, as
                                              HEX and zeroes up to BYTES bytes, and come to SINK, at most WINDOW at once;
                                              prints how many nanoseconds that took, or 0 where one did not come in a second
+   plain answer IN TO PORT COUNT BYTES       sends so many datagrams of so many bytes to TO, for each that comes to IN
    plain take ADDRESS PORT COUNT             acknowledges each eighth of COUNT datagrams, and prints when each piece of
                                              PIECE of them was there, in nanoseconds
    plain give ADDRESS PORT TO COUNT BYTES    sends them, at most WINDOW that are not acknowledged
@@ -62,6 +63,17 @@ static void loop(char **words) {
     ssize_t count = recvfrom(one, bytes, sizeof bytes, 0, (struct sockaddr *)&from, &size);
     if (count >= 0) give(one, bytes, count, &to);
   }
+}
+
+static void answer(char **words) {
+  char bytes[MOST] = {0};
+  int port = atoi(words[2]), one = bound(words[0], port), size = atoi(words[4]);
+  struct sockaddr_in to = at(words[1], port);
+  puts("ready");
+  fflush(stdout);
+  for (;;)
+    if (recv(one, bytes, sizeof bytes, 0) > 0)
+      for (long left = atol(words[3]); left > 0; left--) give(one, bytes, size, &to);
 }
 
 static long long carried(int from, int sink, struct sockaddr_in *way, const char *bytes, int size, long count) {
@@ -125,6 +137,7 @@ static int give_all(char **words) {
 
 int main(int count, char **words) {
   if (count == 5 && !strcmp(words[1], "loop")) loop(words + 2);
+  if (count == 7 && !strcmp(words[1], "answer")) answer(words + 2);
   if (count == 8 && !strcmp(words[1], "load")) return load(words + 2);
   if (count == 5 && !strcmp(words[1], "take")) return take(words + 2);
   if (count == 7 && !strcmp(words[1], "give")) return give_all(words + 2);

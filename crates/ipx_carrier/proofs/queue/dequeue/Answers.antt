@@ -1,5 +1,4 @@
-use Rattle.std.proofs.Common.{◌≡◌, ◌∙◌, ◌++◌, List, Some, None, [], drop, ap, refl}
-use Rattle.ipx_router.specs.declared.outcome.Reply.{Reply}
+use Rattle.std.proofs.Common.{Some, None, ap, refl}
 use Rattle.ipx_router.specs.RouterPackets.{sending_of, sendings}
 use Rattle.ipx_carrier.proofs.Putting.{front_givable, none_left}
 use Rattle.ipx_carrier.proofs.queue.dequeue.Goals as goal
