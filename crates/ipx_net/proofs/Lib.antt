@@ -21,3 +21,4 @@ pub mod CourseTells
 pub mod NetTells
 pub mod Beginnings
 pub mod Wanting
+pub mod OneOutcome

@@ -20,3 +20,4 @@ pub mod NetFaults
 pub mod NetReach
 pub mod Theorems
 pub mod NetBeginnings
+pub mod OneOutcome

@@ -4,7 +4,7 @@ use Rattle.std.specs.Prelude.{◌↔◌, IsTrue, OnOk}
 use Rattle.std.specs.Io.KnownBytes.{Appends}
 use Rattle.std.proofs.lemmas.List.{length-take, take_more}
 use Rattle.std.proofs.KnownBytes.{Appends-trans}
-use Rattle.spx_theory.specs.Peers.{IsFresh}
+use Rattle.spx_theory.specs.LogPremises.{ReadsRecent}
 use Rattle.ipx_net.specs.Ends.{TellsEnds}
 use Rattle.ipx_net.specs.Begins.{Begins}
 use Rattle.ipx_net.specs.NetView.{NetView}
@@ -43,7 +43,7 @@ written_more n names infos who info d b old before now lt is wrote begins more =
 
 -- and last whether all was fresh
 pub summarized : {A E : Type 0} (result : Result A E) (n : NetView) (names : List (List ℕ)) (fresh : Bool) (a b c : Option (List ℕ))
-    → ((infos : List EndInfo) × TellsEnds n infos × (lines : List ℕ) × AreEndLines n names 0 infos lines × Appends a b lines) → (IsTrue fresh ↔ IsFresh n.now.world.log)
+    → ((infos : List EndInfo) × TellsEnds n infos × (lines : List ℕ) × AreEndLines n names 0 infos lines × Appends a b lines) → (IsTrue fresh ↔ ReadsRecent n.now.world.log)
     → OnOk result (Appends b c (fresh_line fresh)) → OnOk result ((text : List ℕ) × Summarizes n names text × Appends a c text)
 summarized (Err e) n names fresh a b c ends is wrote = tt
 summarized (Ok x) n names fresh a b c ends is wrote = (

@@ -4,7 +4,7 @@ use Rattle.std.specs.Prelude.{ℕ, ◌≡◌, ◌+◌, ◌↔◌, Bool, IsTrue, 
 use Rattle.std.specs.Fmt.{decimal}
 use Rattle.std.specs.Int.{w16, to_be_bytes}
 use Rattle.hex.specs.Hex.{encode_lower}
-use Rattle.spx_theory.specs.Peers.{IsFresh}
+use Rattle.spx_theory.specs.LogPremises.{ReadsRecent}
 use Rattle.ipx_net.specs.Begins.{Begins}
 use Rattle.ipx_net.specs.Ends.{TellsEnds}
 use Rattle.ipx_net.specs.NetView.{NetView}
@@ -58,5 +58,5 @@ pub record Summarizes (n : NetView) (names : List (List ℕ)) (text : List ℕ) 
   pub lines : List ℕ
   pub are : AreEndLines n names 0 infos lines
   pub fresh : Bool
-  pub is_fresh : IsTrue fresh ↔ IsFresh n.now.world.log
+  pub is_fresh : IsTrue fresh ↔ ReadsRecent n.now.world.log
   pub whole : text ≡ lines ++ fresh_line fresh

@@ -1,23 +1,22 @@
 -- The headline over the entries of a log, from what is read off it.
-use Rattle.std.proofs.Common.{◌≡◌, ◌+◌, ◌<◌, ◌≤◌, ℕ, List, [], ◌∷◌, ◌++◌, length, Some, refl, sym, ◌∙◌, ap, subst, arith, inl, inr}
-use Rattle.std.proofs.lemmas.Option.{slice_get_within}
+use Rattle.std.proofs.Common.{◌≡◌, ◌<◌, ℕ, List, ◌∷◌, length, sym, ◌∙◌, ap, subst, inl, inr}
 use Rattle.spx_theory.specs.Allocation.{AloneReadsNothing, IsAllowed, WithinAllocation}
 use Rattle.spx_theory.specs.Below.{LawsBelow}
 use Rattle.spx_theory.specs.Deeds.{Reached}
 use Rattle.spx_theory.specs.Handed.{IsBeginning, handed_in, handed_out}
 use Rattle.spx_theory.specs.InStep.{PeersAreInStep}
 use Rattle.spx_theory.specs.LogHeadline.{AllowsUnit, LogHeadline}
-use Rattle.spx_theory.specs.LogPremises.{HavePeer, IsMadeBy, LogPremises, units_sent}
+use Rattle.spx_theory.specs.LogPremises.{IsMadeBy, units_sent}
 use Rattle.spx_theory.specs.Note.{Got, Note, SendsAgain, SendsSystem, SendsUnit}
 use Rattle.spx_theory.specs.Numbered.{IsNumbered}
 use Rattle.spx_theory.specs.Peers.{ArePeersIn, Premises}
-use Rattle.spx_theory.specs.Scan.{Mark, Scan, mark_of, role_of, scan, times, unread}
+use Rattle.spx_theory.specs.Scan.{Mark, Scan, role_of, scan, times, unread}
 use Rattle.spx_theory.specs.Scene.{Scene}
 use Rattle.spx_theory.specs.SentUnits.{sent_by}
 use Rattle.spx_theory.proofs.Growing.{role_stays}
 use Rattle.spx_theory.proofs.LogOrigins.{all_sourced, mark_later, numbered_in}
-use Rattle.spx_theory.proofs.LogReadings.{senders, sent_all, units_counted}
-use Rattle.spx_theory.proofs.LogRoles.{AllOnce, are_once, end_made, numbered_front}
+use Rattle.spx_theory.proofs.LogReadings.{sent_all, units_counted}
+use Rattle.spx_theory.proofs.LogRoles.{are_once, end_made, numbered_front}
 use Rattle.spx_theory.proofs.Numbering.{AllNumbered, are_numbered}
 use Rattle.spx_theory.proofs.PremisesRead.{from_peers, to_peers, to_premises}
 use Rattle.spx_theory.proofs.Tied.{mark_at}

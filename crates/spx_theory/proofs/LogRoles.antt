@@ -10,7 +10,7 @@ use Rattle.spx_link.specs.Receive.{receive_link}
 use Rattle.spx_units.specs.Message.{MessageView}
 use Rattle.spx_theory.specs.Below.{LawsBelow}
 use Rattle.spx_theory.specs.Deeds.{Deed, DoesDeed, Dials, Accepts, Reads, OwesReply, Paces, AsksAgain, Gives, Rests, Sends, Takes, Overruns, Closes, Releases, Carries, Tells, Injects, Reached, begun, happened}
-use Rattle.spx_theory.specs.LogPremises.{AreConnected, IsEndOf, IsSystemOf, MakesEnd}
+use Rattle.spx_theory.specs.LogPremises.{AreConnected, IsMadeWith, IsSystemOf, MakesEnd}
 use Rattle.spx_theory.specs.Note.{Note, Opened, Accepted, Joined, HandsOut, TakesUnit, Got, SendsUnit, SendsAgain, SendsSystem, Told, Carried, Injected}
 use Rattle.spx_theory.specs.Numbered.{IsNumbered}
 use Rattle.spx_theory.specs.PacketsOnWay.{note_of, out_notes}
@@ -336,26 +336,26 @@ are_once laws {s} (happened old deed reached does) =
 -- ---- the entries that make ends
 
 abbrev pub EndsMade : List Note → List Role → Type 0
-EndsMade log roles = (who : ℕ) (r : Role) → slice_get roles who ≡ Some r → IsEndOf log who r.buffers
+EndsMade log roles = (who : ℕ) (r : Role) → slice_get roles who ≡ Some r → IsMadeWith log who r.buffers
 
 made_on : (log : List Note) (s : Scan) (n : Note) → Contains log n → IsNumbered s n → EndsMade log s.roles → EndsMade log (seen s n).roles
 made_on log s (Opened who host buffers) has is old k r at =
     elim (get_last s.roles _ r k at) [
       | inl was ↦ old k r was
-      | inr new ↦ subst (λ (x : Role). IsEndOf log k x.buffers) new.1 (record { making = Opened who host buffers; stands = has; makes = inl (host, ap (λ j. Opened j host buffers) (is ∙ sym new.0)) })
+      | inr new ↦ subst (λ (x : Role). IsMadeWith log k x.buffers) new.1 (record { making = Opened who host buffers; stands = has; makes = inl (host, ap (λ j. Opened j host buffers) (is ∙ sym new.0)) })
     ]
 made_on log s (Accepted who parcel buffers) has is old k r at =
     elim (get_last s.roles _ r k at) [
       | inl was ↦ old k r was
-      | inr new ↦ subst (λ (x : Role). IsEndOf log k x.buffers) new.1 (record { making = Accepted who parcel buffers; stands = has; makes = inr (parcel, ap (λ j. Accepted j parcel buffers) (is.0 ∙ sym new.0)) })
+      | inr new ↦ subst (λ (x : Role). IsMadeWith log k x.buffers) new.1 (record { making = Accepted who parcel buffers; stands = has; makes = inr (parcel, ap (λ j. Accepted j parcel buffers) (is.0 ∙ sym new.0)) })
     ]
 made_on log s (Joined who parcel) has is old k r at =
     elim (get_set s.roles who k _ r at) [
       | inl here ↦
           let m : Maker = (mark_of s parcel).maker in
-          let was : IsEndOf log who (role_of s who).buffers = old who (role_of s who) (role_there s.roles s who is.0) in
+          let was : IsMadeWith log who (role_of s who).buffers = old who (role_of s who) (role_there s.roles s who is.0) in
           let same : r.buffers ≡ (role_of s who).buffers = ap (λ (x : Role). x.buffers) (sym here.1) ∙ (joins_later m (role_of s who)).buffers in
-          subst (λ j. IsEndOf log j r.buffers) here.0 (subst (IsEndOf log who) (sym same) was)
+          subst (λ j. IsMadeWith log j r.buffers) here.0 (subst (IsMadeWith log who) (sym same) was)
       | inr other ↦ old k r other.1
     ]
 made_on log s n has is old k r at = old k r at
@@ -365,7 +365,7 @@ made_all log s [] there all old = old
 made_all log s (n ∷ ns) there all old =
     made_all log (seen s n) ns (λ m has. there m (Contains-append_right (n ∷ []) ns m has)) all.1 (made_on log s n (there n (zero, omega arith, refl)) all.0 old)
 
-pub end_made : (log : List Note) → AllNumbered unread log → (who : ℕ) → who < length (scan log).roles → IsEndOf log who (role_of (scan log) who).buffers
+pub end_made : (log : List Note) → AllNumbered unread log → (who : ℕ) → who < length (scan log).roles → IsMadeWith log who (role_of (scan log) who).buffers
 end_made log all who within =
     made_all log unread log (λ n has. has) all (λ k r at. absurd (cc at)) who (role_of (scan log) who) (role_there [] (scan log) who within)
 
@@ -384,7 +384,7 @@ made_there s (Accepted e parcel buffers') who buffers is makes =
     (_, ap (slice_get (seen s (Accepted e parcel buffers')).roles) (sym same ∙ is.0) ∙ get_here s.roles _)
 made_there s n who buffers is makes = absurd (elim makes [ inl opens ↦ cc opens.1 | inr accepts ↦ cc accepts.1 ])
 
-pub end_there : (log : List Note) → AllNumbered unread log → (who buffers : ℕ) → IsEndOf log who buffers → who < length (scan log).roles
+pub end_there : (log : List Note) → AllNumbered unread log → (who buffers : ℕ) → IsMadeWith log who buffers → who < length (scan log).roles
 end_there log all who buffers e =
     let p = parts log e.making e.stands in
     let r = made_there (scan p.0) e.making who buffers (numbered_in log p.0 p.1 e.making all p.2) e.makes in

@@ -1,7 +1,7 @@
 -- The headline over the entries of a log (Novell SPX: sequence, acknowledge and allocation numbers).
 use Rattle.std.specs.Prelude.{ℕ, ◌≡◌, ◌<◌, ◌+◌, List, [], ◌∷◌, ◌++◌, length}
 use Rattle.spx_theory.specs.Handed.{IsBeginning, handed_in, handed_out, taken_of}
-use Rattle.spx_theory.specs.LogPremises.{ComesFrom, HavePeer, IsEndOf, IsMadeBy, LogPremises, units_sent}
+use Rattle.spx_theory.specs.LogPremises.{ComesFrom, HavePeer, IsMadeWith, IsMadeBy, LogPremises, units_sent}
 use Rattle.spx_theory.specs.Note.{Got, Note, SendsUnit}
 
 -- what an end handed out begins what its peer handed in
@@ -31,7 +31,7 @@ pub record AllowsUnit (before : List Note) (who n : ℕ) : Type 0 where
   pub comes : ComesFrom before origin parcel passed
   pub made : before ≡ past ++ making ∷ later
   pub by : IsMadeBy making sender origin
-  pub end : IsEndOf before sender buffers
+  pub end : IsMadeWith before sender buffers
   pub allows : n < length (taken_of sender past) + buffers
 
 -- each unit that an end sends was allowed

@@ -10,14 +10,14 @@ MakesEnd n who buffers =
     ⊎ ((parcel : ℕ) × (n ≡ Accepted who parcel buffers))
 
 -- there is an end of this number, made with so many buffers
-pub record IsEndOf (log : List Note) (who buffers : ℕ) : Type 0 where
+pub record IsMadeWith (log : List Note) (who buffers : ℕ) : Type 0 where
   pub making : Note
   pub stands : Contains log making
   pub makes : MakesEnd making who buffers
 
 -- there is an end of this number
 abbrev pub IsEnd : List Note → ℕ → Type 0
-IsEnd log who = (buffers : ℕ) × IsEndOf log who buffers
+IsEnd log who = (buffers : ℕ) × IsMadeWith log who buffers
 
 -- the parcel that an entry makes anew: sent by an end, told by a router, or injected
 abbrev pub makes_new : Note → Option ℕ

@@ -1,8 +1,9 @@
 //! What is so of every network of ends and routers, whatever is delivered to it and in whatever
 //! order: theory over its log, without code.
 //!
-//! `specs/` has the definitions: the entries of a log (`Note`), what is read off it (`Scan`), peers
-//! and the premises (`Peers`), what ends hand in, take and hand out (`Handed`), the machine of two
+//! `specs/` has the definitions: the entries of a log (`Note`), the premises and peers by its entries
+//! (`LogPremises`), the headline (`LogHeadline`), what is read off a log (`Scan`), peers and the
+//! premises by that (`Peers`), what ends hand in, take and hand out (`Handed`), the machine of two
 //! peers (`PairLog`), the ends with what lies between them (`Scene`, `Packets`), everything that
 //! can happen to them (`Deeds`), and a file for each theorem. Each function here is a law over
 //! every scene that some list of deeds reaches.
