@@ -197,7 +197,7 @@ fn lines_of_ethernet(rt: HostRuntime) -> Result<(), AllocError> {
 /// Ports, whose kind is told before all else, with what is printed of them.
 const KINDS: [(&str, &str); 7] = [
     (
-        "peer = 1\nkind = \"ethernet\"",
+        "peer = 1\nkind = \"frames\"",
         "port 1: kind is to be \"rfc1234\", \"ethernet\" or \"ipxnet\"",
     ),
     (
