@@ -36,11 +36,12 @@ def last_line(passed, failed):
 
 def before_others():
     """This process and all that it starts get the processors before what else runs on the machine, if the system permits it
-    (root may). A process that still has to wait is measured by `waited`."""
+    (root may). It answers whether it does. A process that still has to wait is measured by `waited`."""
     try:
         os.sched_setscheduler(0, os.SCHED_RR, os.sched_param(1))
+        return True
     except OSError:
-        pass
+        return False
 
 
 def die_with_the_parent():
