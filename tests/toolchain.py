@@ -74,7 +74,7 @@ def copy_tests(name, to):
 
 def copy_crates(to):
     """Copies the crates that are proved, without what was built of them and without their wrong bodies."""
-    leave = shutil.ignore_patterns("out", "must-fail", "wrong-bodies")
+    leave = shutil.ignore_patterns("out", "must-fail", "wrong-bodies.txt")
     names = listed(f"{TOP}/crates.txt")
     for name in names:
         shutil.copytree(f"{TOP}/crates/{name}", f"{to}/crates/{name}", ignore=leave)
