@@ -22,6 +22,40 @@ def command():
     return os.path.realpath(found) if found else None
 
 
+def kit():
+    """The folder of the toolchain."""
+    return os.path.dirname(os.path.dirname(command() or sys.exit("rt is not on the PATH")))
+
+
+def make_kit(at, others):
+    """Makes a toolchain of links to the files of the real one, and answers its `rt`, which works with these. Some files are
+    others: what stands there instead, by their paths. And `rattle`, which `rt try` runs beside the compilation only for a
+    hint on names, does nothing."""
+    own = {"bin/rt", "bin/rtlib.py", "bin/rattle", *others}
+    folders = {above for path in own for above in parents(path)}
+    for folder in sorted(folders):
+        os.makedirs(f"{at}/{folder}", exist_ok=True)
+        for name in os.listdir(f"{kit()}/{folder}"):
+            path = f"{folder}/{name}".lstrip("/")
+            if path not in own | folders:
+                os.symlink(f"{kit()}/{path}", f"{at}/{path}")
+    # (they look for the other files beside themselves)
+    for path in ("bin/rt", "bin/rtlib.py"):
+        shutil.copy(f"{kit()}/{path}", f"{at}/{path}")
+    os.symlink(shutil.which("true"), f"{at}/bin/rattle")
+    for path, text in others.items():
+        with open(f"{at}/{path}", "w", encoding="utf-8") as it:
+            it.write(text)
+        os.chmod(f"{at}/{path}", 0o755)
+    return f"{at}/bin/rt"
+
+
+def parents(path):
+    """The folders above a path, up to the first, which is named ""."""
+    above = os.path.dirname(path)
+    return {above} | (parents(above) if above else set())
+
+
 def load():
     """`rt` as a module; the one below it, with what it knows of crates, is its `rtlib`."""
     path = command() or sys.exit("rt is not on the PATH")
