@@ -22,10 +22,10 @@ use Rattle.ipx_site.proofs.StandingEntries.{files_stand}
 
 -- it is such a run of the silent neighbours
 run_of : (s : RouterConfig) (start : ℕ) (calls : List StaticCallAt) (old new : WithStaticsView PriorityCoreView) → RunsByFile s start calls old new
-    → (ns : List StaticNeighbour) → AreWordsOf ns old.words → is_due old.said start ≡ true
+    → (ns : List StaticNeighbour) → AreWordsOf ns old.advertisements → is_due old.said start ≡ true
     → All (IsAnotherNode (router_ports s.ports.items)) ns → RunsWithStatics ns start calls old new
 run_of s start calls old new run ns words due others = record {
-  words = words;
+  advertisements = words;
   others = subst (λ (ps : List Port). All (IsAnotherNode ps) ns) (sym run.ports) others;
   due = due;
   given = run.given;

@@ -52,5 +52,5 @@ AreSilent es ns = AllZip (IsSilent es) (named_sources [] es) ns
 
 -- a core is to hear the words of those, and has not yet
 abbrev pub IsToHear : {C : Type 0} → List StaticEntry → WithStaticsView C → Type 0
-IsToHear es c = (silent : List StaticNeighbour) × AreSilent es silent × AreWordsOf silent c.words
+IsToHear es c = (silent : List StaticNeighbour) × AreSilent es silent × AreWordsOf silent c.advertisements
     × (c.said ≡ None)

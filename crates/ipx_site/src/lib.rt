@@ -51,6 +51,7 @@ mod ready_ports;
 mod route_change_log;
 mod router_counts;
 mod router_ports;
+mod router_runs;
 mod routing;
 mod running_router;
 mod sameness;

@@ -76,7 +76,7 @@ fn hearing_statics(
 ) -> Result<WithStatics<MeteredRouter>, AllocError>
     requires { All (λ n. IsPortNumber (length router.ports) n.port) silent.now }
     ensures router { IfOk result (λ c. c.core.router ≡ router) }
-    ensures statics { IfOk result (λ c. AreWordsOf silent.now c.words × (c.said ≡ None)) }
+    ensures statics { IfOk result (λ c. AreWordsOf silent.now c.advertisements × (c.said ≡ None)) }
 {
     let counted = MeteredRouter::new(alloc, router)?;
     let Ok(core) = WithStatics::new(alloc, counted, silent) else {
@@ -94,7 +94,7 @@ fn core_of(
     requires own { All IsOwnNetwork (router_ports ports.now) }
     requires there { All (λ n. IsPortNumber (length ports.now) n.port) silent.now }
     ensures router { IfOk result (λ c. c.core.core.router.ports ≡ router_ports ports.now) }
-    ensures statics { IfOk result (λ c. AreWordsOf silent.now c.core.words
+    ensures statics { IfOk result (λ c. AreWordsOf silent.now c.core.advertisements
         × (c.core.said ≡ None)) }
     ensures ports { IfOk result (λ c. c.ports ≡ router_ports ports.now) }
     ensures fresh { IfOk result (λ c. (c.queriers.queriers ≡ []) × (c.queriers.back ≡ 0)) }
@@ -420,8 +420,8 @@ pub fn do_route<R: Net + Log + Files + SystemClock + Eprint>(
     path: &str,
 ) -> u8
     ensures few { result ≤ 2 }
-    // If it started, as some text of a file says, it went through rounds, each from where the last
-    // one left it, until a wait failed. So it never ends well before 2^64 - 1 rounds.
+    // It ends well, with 0, only if it started, as some text of a file says, and went through 2^64 - 1
+    // rounds, each from where the last one left it. Of 1 and 2 this says nothing.
     ensures ends { EndsRouting R result }
 {
     let loaded = load_site(rt, alloc, path);

@@ -10,7 +10,6 @@ ghost use Rattle.ipx_site.specs.KnownFile.{TellsKnown};
 ghost use Rattle.ipx_site.specs.SitePorts.{access_by};
 ghost use Rattle.ipx_site.specs.PortsView.{kept_in_ports, ways_in};
 ghost use Rattle.ipx_site.specs.RouterRounds.{AsksAgain, IsRound, SleepsBehind};
-ghost use Rattle.ipx_site.specs.RoutingRuns.{RunsTo};
 ghost use Rattle.ipx_site.specs.SiteMarks.{marks_in, numbers_come};
 ghost use Rattle.ipx_site.specs.Steady.{NeverGoesBack, StopsThere};
 
@@ -420,17 +419,6 @@ impl<'a, R: SystemClock> RunningRouter<'a, R> {
         let time = self.rest(batch);
         self.ready.wait(time)?;
         mark_ready(&mut self.ports, &self.ready);
-        Ok(())
-    }
-
-    /// Takes one round after another, until a wait fails.
-    pub fn run<S: Log + Files>(&mut self, rt: &S, alloc: Global) -> Result<(), WaitFault>
-        // It ends just with the round after which the wait failed, or well after 2^64 - 1 rounds.
-        ensures { RunsTo self.old self.new (is_ok result) }
-    {
-        for _round in 0..u64::MAX {
-            self.step(rt, alloc)?;
-        }
         Ok(())
     }
 }
