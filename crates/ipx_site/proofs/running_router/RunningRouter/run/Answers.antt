@@ -1,7 +1,7 @@
 use Rattle.std.proofs.Common.{arith, refl, rules}
 use Rattle.std.proofs.lemmas.Result.{err_from_is_err_and}
 use Rattle.ipx_site.proofs.RanRounds.{rounds_more, took_round}
-use Rattle.ipx_site.proofs.router_runs.RunningRouter.run.Goals as goal
+use Rattle.ipx_site.proofs.running_router.RunningRouter.run.Goals as goal
 
 pub loop-round-init : goal.loop-round-init
 loop-round-init g c = refl

@@ -1,5 +1,5 @@
 use Rattle.ipx_site.specs.RoutingRuns.{Rounds}
-use Rattle.ipx_site.proofs.router_runs.RunningRouter.run.Given as goal
+use Rattle.ipx_site.proofs.running_router.RunningRouter.run.Given as goal
 
 -- so many rounds were taken
 abbrev pub invariant-loop-round : goal.invariant-loop-round
