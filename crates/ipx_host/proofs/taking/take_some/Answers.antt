@@ -5,7 +5,7 @@ use Rattle.spx_messages.specs.EndpointView.{held_at}
 use Rattle.ipx_host.specs.SessionActions.{is_unheard}
 use Rattle.ipx_host.specs.HostOutput.{left_of}
 use Rattle.ipx_host.specs.declared.sessions.Phase.TheVariants as Standings
-use Rattle.ipx_host.proofs.Passed.{from_passes, one_idle, one_taken, one_written}
+use Rattle.ipx_host.proofs.Passed.{from_passes, one_idle, one_start, one_taken, one_written}
 use Rattle.ipx_host.proofs.taking.take_some.Goals as goal
 use Rattle.ipx_host.proofs.taking.take_some.Goals.{then-ended-via-then-ended, then-ended-via-else-ended+then-not-is_empty, then-ended-via-else-ended+else-not-is_empty+then-not-take_next}
 
@@ -77,3 +77,6 @@ returns-then-ended-clause-passes g c =
           (from_passes o (held_at w.take_next.new.endpoint c.args.session.now.id) waiting (left_of w.take_next.new.output) a b c.args.session.now w.take_next.new.session
           (one_idle first c.loop.endpoint w.take_next.new.endpoint c.write.new.self w.take_next.new.output waiting a b c.args.session.now c.loop.session w.take_next.new.session heard c.loop.invariant.id written (w.take_next.ensures.nothing none) w.take_next.ensures.others).from)
     ]
+
+pub returns-then-not-is_heard-clause-one : goal.returns-then-not-is_heard-clause-one
+returns-then-not-is_heard-clause-one g c = one_start c.args.endpoint.now (left_of c.args.output.now) (g.W.Write.contents c.args.writer.now) c.args.session.now
