@@ -1,5 +1,6 @@
 """Transfers on one machine with room in the sockets, for tests/sites: how many units may be out does not lose them."""
 import os
+import time
 
 from site_world import compiled, leave_out, listed, some_bytes, until
 
@@ -10,8 +11,8 @@ BUFFERS = {64: ("127.0.1.148", "127.0.1.149"), 512: ("127.0.1.150", "127.0.1.151
 MANY, SENDERS = "127.0.1.154", ["127.0.1.155", "127.0.1.156", "127.0.1.157"]
 PLAIN = "127.0.1.158", "127.0.1.159"
 TRANSFERRING = [*(address for pair in BUFFERS.values() for address in pair), MANY, *SENDERS, *PLAIN]
-# None takes so many seconds.
-LIMIT = 20
+# None takes so many seconds, and three at once less than so many.
+LIMIT, THREE_SECONDS = 20, 5
 # In each round plain datagrams of the size of a full unit go between two processes, by tests/plain.c, and then a transfer at
 # each number of buffers, of 20 MB in the first round. The quickest at a number has at least this share of the rate of the
 # quickest piece of plain ones.
@@ -93,11 +94,14 @@ def check_three(sites):
     sites.host("many-listener", NETWORK, MANY, "127.0.1.89", "4002", "buffers = 64\n" + listed("peers", SENDERS))
     thirds = [bytes(byte % 85 + 85 * number for byte in some_bytes(sites.seed + 11 + number, sites.size // 2))
               for number in range(3)]
-    listener, senders = sites.start_listener(name="many-listener"), []
+    listener, senders, start = sites.start_listener(name="many-listener"), [], time.monotonic()
     for number, (address, data) in enumerate(zip(SENDERS, thirds)):
         sites.host(f"many-sender{number}", NETWORK, address, "127.0.1.89", "4003", "buffers = 64\n")
         senders.append(sites.start_sender(f"many-sender{number}", [data], NETWORK, MANY))
-    check_thirds(sites, listener, senders, [sender.status(LIMIT) for sender in senders], thirds)
+    statuses = [sender.status(LIMIT) for sender in senders]
+    took = time.monotonic() - start
+    sites.check(f"three at once take under {THREE_SECONDS} s", took < THREE_SECONDS, f"{took:.1f} s")
+    check_thirds(sites, listener, senders, statuses, thirds)
 
 
 def check_thirds(sites, listener, senders, statuses, thirds):
