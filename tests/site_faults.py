@@ -34,11 +34,11 @@ socket = "4002"
 """
 KEYS = ("a router has metrics_file, tables_file, port, route and service, a host network, address, router, udp_port, socket, buffers, peers, routers, allow and "
         "accept")
-PORT_KEYS = ('the keys are kind, network, address, udp_port, cost, for kind = "rfc1234" also peers, routers and accept, '
+PORT_KEYS = ('the keys are kind, network, address, udp_port, cost, directed, for kind = "rfc1234" also peers, routers and accept, '
              'for kind = "ethernet" encapsulation, remotes, node and switch, for kind = "ipxnet" node, clients, accept, peers and join')
-RFC1234_KEYS = "its keys are kind, network, address, udp_port, cost, peers, routers, accept"
-FRAMES_KEYS = "its keys are kind, network, encapsulation, address, udp_port, cost, remotes, node, switch"
-IPXNET_KEYS = "its keys are kind, network, address, udp_port, cost, node, clients, accept, peers, join"
+RFC1234_KEYS = "its keys are kind, network, address, udp_port, cost, peers, routers, accept, directed"
+FRAMES_KEYS = "its keys are kind, network, encapsulation, address, udp_port, cost, remotes, node, switch, directed"
+IPXNET_KEYS = "its keys are kind, network, address, udp_port, cost, node, clients, accept, peers, join, directed"
 NETWORK = 'eight hex digits, neither all 0 nor all f, as "00000011"'
 ADDRESS = 'an IP address of this machine, as "192.0.2.10"'
 NUMBER = "a number from 1 to 65535, as 213"
@@ -53,6 +53,7 @@ FROM = ('a list of at most 256 networks, each alone or with a node behind it, as
 FEW_PEERS = 'a list of at most 256 IP addresses, as ["198.51.100.7", "203.0.113.9"]'
 ROUTERS = "a list of at most 256 IP addresses among peers"
 ACCEPT = '"peers" or "any"'
+DIRECTED = '"none", "few" or "all"'
 KIND = '"rfc1234", "ethernet" or "ipxnet"'
 FRAME = '"802.3", "802.2", "snap" or "ethernet-ii"'
 ENDS = 'a list of 1 to 256 places, as ["127.0.0.1:24001"]'
@@ -69,7 +70,7 @@ TYPE = 'four hex digits, neither all 0 nor all f, as "0640"'
 NAME = '1 to 47 characters of ASCII that print, without blanks, as "BACKUP"'
 AT = 'a network, a node and a socket, as "00000011 00000a010014 4002"'
 STATUS = 'the name of a file, as "/run/ipx/hq/hq.prom"'
-TABLES = 'the name of a file, not that of metrics_file, as "/run/ipx/hq/hq.tables"'
+TABLES = 'the name of a file, not that of metrics_file with or without .new, as "/run/ipx/hq/hq.tables"'
 
 
 # A route and a service by hand, behind a port with the peers .20 and .1, which is itself.
@@ -125,6 +126,8 @@ ROUTER_FILES = [
     ("tables_file = []\nport = 1", f"tables_file is to be {TABLES}"),
     ('tables_file = ""\n' + PORT, f"tables_file is to be {TABLES}"),
     ('metrics_file = "hq"\ntables_file = "hq"\n' + PORT, f"tables_file is to be {TABLES}"),
+    ('metrics_file = "hq"\ntables_file = "hq.new"\n' + PORT, f"tables_file is to be {TABLES}"),
+    ('metrics_file = "hq.new"\ntables_file = "hq"\n' + PORT, f"tables_file is to be {TABLES}"),
     ("peers = []\n" + PORT, f"peers is no key here: {KEYS}"),
     ('status = "a"\n' + PORT, "`status` is now `metrics_file`"),
     ('tables = "a"\n' + PORT, "`tables` is now `tables_file`"),

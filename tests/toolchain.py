@@ -106,14 +106,22 @@ def copy_tests(name, to):
         shutil.copy(f"{TOP}/crates/{name}/{path}", made)
 
 
+def without_static(text):
+    """The text of crates.txt without the static libraries. `rt ci` only checks these, and compiles none; tests/bench does both."""
+    return re.sub(r"(?m)^\w+ staticlib:.*\n", "", text)
+
+
 def copy_crates(to):
-    """Copies the crates that are proved, without what was built of them and without their wrong bodies."""
+    """Copies the crates that `rt ci` proves, without what was built of them and without their wrong bodies."""
     leave = shutil.ignore_patterns("out", "must-fail", "wrong-bodies.txt")
-    names = listed(f"{TOP}/crates.txt")
-    for name in names:
+    with open(f"{TOP}/crates.txt", encoding="utf-8") as it:
+        text = without_static(it.read())
+    os.makedirs(to, exist_ok=True)
+    with open(f"{to}/crates.txt", "w", encoding="utf-8") as it:
+        it.write(text)
+    for name in listed(f"{to}/crates.txt"):
         shutil.copytree(f"{TOP}/crates/{name}", f"{to}/crates/{name}", ignore=leave)
-    for file in ("crates.txt", "HANDLES"):
-        shutil.copy(f"{TOP}/{file}", to)
+    shutil.copy(f"{TOP}/HANDLES", to)
 
 
 def free():

@@ -14,6 +14,9 @@ const REPETITION: Duration = Duration::from_millis(2);
 const ROW: Duration = Duration::from_millis(600);
 const TIMES: u32 = 4;
 
+/// How often a loop is timed at first, where how many rounds it makes is found out.
+const TIMES_AT_FIRST: u32 = 5;
+
 /// How many rounds have their calls timed one by one, in which offers grow old more than once, and
 /// how often those rounds are gone through anew.
 const SINGLE_ROUNDS: u32 = 7;
@@ -25,6 +28,11 @@ fn time(calls: &Loop, rounds: u32) -> Duration {
     let start = Instant::now();
     std::hint::black_box(calls(std::hint::black_box(rounds)));
     start.elapsed()
+}
+
+/// The shortest of a few times, since what else runs lengthens one or another.
+fn shortest(calls: &Loop, rounds: u32) -> Duration {
+    (0..TIMES_AT_FIRST).map(|_| time(calls, rounds)).min().unwrap_or(Duration::ZERO)
 }
 
 /// One side of a row: its rounds, and the shortest times of a loop of no rounds, which only makes
@@ -39,12 +47,12 @@ struct Side<'a> {
 impl<'a> Side<'a> {
     fn new(calls: &'a Loop) -> Self {
         let mut rounds = 1;
-        let none = time(calls, 0);
+        let none = shortest(calls, 0);
         let least = REPETITION.max(none);
-        let mut all = time(calls, rounds);
+        let mut all = shortest(calls, rounds);
         while all.saturating_sub(none) < least {
             rounds *= 2;
-            all = time(calls, rounds);
+            all = shortest(calls, rounds);
         }
         Side {
             calls,

@@ -1,10 +1,12 @@
 -- A host as a core: its endpoint hears, and gives by a poll.
 -- The entry points are `HostHears` and `HostGives`, and `Misses` where memory is refused.
-use Rattle.std.specs.Prelude.{◌≡◌, ℕ, List, Option, Some, None}
+use Rattle.std.specs.Prelude.{◌≡◌, ◌≤◌, ℕ, List, Option, Some, None, length}
+use Rattle.ipx_wire.specs.Assigned.{spx_max_packet_size}
 use Rattle.ipx_wire.specs.declared.address.Node.{Node}
 use Rattle.spx_messages.specs.declared.arrived.Arrived.{Arrived}
 use Rattle.spx_messages.specs.Arrives.{Arrives, IsAcceptable, Unheard}
 use Rattle.spx_messages.specs.EndpointView.{EndpointView}
+use Rattle.spx_messages.specs.OneValue.{IsRoomStill}
 use Rattle.spx_messages.specs.Polls.{Polls}
 use Rattle.ipx_carrier.specs.Turns.{Given}
 use Rattle.ipx_carrier.specs.GivenPackets.{given_in}
@@ -22,7 +24,9 @@ abbrev pub at_port : Option (Node × ℕ) → Option (ℕ × Node × ℕ)
 at_port None = None
 at_port (Some r) = Some (0, r.0, r.1)
 
--- what a poll writes into some room is given
+-- what a poll writes into a room that is large enough is given. The room still has as many bytes, so the
+-- packet that is given is the one that this endpoint gives at this moment
 abbrev pub HostGives : EndpointView → ℕ → Option Given → EndpointView → Type 0
 HostGives old now given new = (polled : Option (Node × ℕ)) × (room written : List ℕ)
     × Polls old now polled room written new × (given ≡ given_in written (at_port polled))
+    × (spx_max_packet_size ≤ length room) × IsRoomStill room written

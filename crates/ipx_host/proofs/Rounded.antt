@@ -1,6 +1,7 @@
 -- The rounds of a host that sends, one after another.
-use Rattle.std.proofs.Common.{◌≡◌, ◌∙◌, ◌+◌, ℕ, true, false, List, [], ◌∷◌, ◌++◌, Option, Some, None, Result, Ok, Err, inl, inr, refl, sym, ap, subst, append_assoc, arith, length, length-append}
-use Rattle.std.specs.List.{concat}
+use Rattle.std.proofs.Common.{◌≡◌, ◌≤◌, ◌∙◌, ◌+◌, lit≤, ℕ, true, false, List, [], ◌∷◌, ◌++◌, Option, Some, None, Result, Ok, Err, inl, inr, refl, sym, ap, subst, append_assoc, arith, length, length-append}
+use Rattle.std.proofs.lemmas.List.Elements.{All-cons}
+use Rattle.std.specs.List.{All, concat}
 use Rattle.std.specs.Io.KnownBytes.{Consumes, IsAtEnd}
 use Rattle.std.specs.Prelude.{IfOk, OnErr}
 use Rattle.ipx_carrier.specs.Turns.{Peers}
@@ -10,9 +11,9 @@ use Rattle.spx_link.specs.declared.state.State.{State}
 use Rattle.spx_messages.specs.EndpointView.{EndpointView, held_at}
 use Rattle.ipx_host.specs.Books.{EntersAcknowledged}
 use Rattle.ipx_host.specs.Access.{is_nowhere}
-use Rattle.ipx_host.specs.Feeding.{Feeds, FeedState}
+use Rattle.ipx_host.specs.Feeding.{Feeds, FeedState, HandsOn}
 use Rattle.ipx_host.specs.SendRounds.{IsSendStep, LastRound, SendState, Round, Rounds, Transfers, feeding_of}
-use Rattle.ipx_host.specs.Sent.{HasBuffers, IsDialing, SendsWholeInput}
+use Rattle.ipx_host.specs.Sent.{IsDialing, SendsInput}
 use Rattle.ipx_host.specs.SendSteps.{GoesOnOrEnds, IsStepFault, Sees}
 use Rattle.ipx_host.specs.Transfer.{state_at}
 use Rattle.ipx_host.specs.Turning.{TakesHostTurn}
@@ -46,6 +47,27 @@ rounds_bytes old (bytes ∷ more) new tells peers id (next, round, rest) =
     consumes_on old.known next.known new.known bytes (concat more)
     (fed_bytes (record (feeding_of old) { endpoint = round.fed.dropped; acked_bytes = round.fed.acked_bytes }) (feeding_of next) id bytes round.fed.feeds)
     (rounds_bytes next more new tells peers id rest)
+
+-- a body is one message, or none
+handed_short : (old new : EndpointView) (id : ℕ) (bytes : List ℕ) → HandsOn old new id bytes → length bytes ≤ 65535
+handed_short old new id [] hands = lit≤ tt
+handed_short old new id (b ∷ bs) hands = hands.short
+
+none_short : (bytes : List ℕ) → bytes ≡ [] → length bytes ≤ 65535
+none_short bytes none = subst (λ (l : List ℕ). length l ≤ 65535) (sym none) (lit≤ tt)
+
+fed_short : (old new : FeedState) (id : ℕ) (bytes : List ℕ) → Feeds old new id bytes → length bytes ≤ 65535
+fed_short old new id bytes (inl reads) = handed_short old.endpoint new.endpoint id bytes reads.handed
+fed_short old new id bytes (inr (inl ends)) = none_short bytes ends.none
+fed_short old new id bytes (inr (inr rests)) = none_short bytes rests.none
+
+pub rounds_short : {K : Type 0} (old : SendState K) (bodies : List (List ℕ)) (new : SendState K) (tells : K → ℕ → K → Type 0) (peers : Peers) (id : ℕ)
+    → Rounds old bodies new tells peers id → All (λ b. length b ≤ 65535) bodies
+rounds_short old [] new tells peers id same = λ k d below. absurd (omega (arith, below))
+rounds_short old (bytes ∷ more) new tells peers id (next, round, rest) =
+    All-cons (λ b. length b ≤ 65535) bytes more
+    (fed_short (record (feeding_of old) { endpoint = round.fed.dropped; acked_bytes = round.fed.acked_bytes }) (feeding_of next) id bytes round.fed.feeds)
+    (rounds_short next more new tells peers id rest)
 
 -- where all is read, the reader is at its end
 fed_end : (old new : FeedState) (id : ℕ) (bytes : List ℕ) → Feeds old new id bytes → (old.read ≡ true → IsAtEnd old.known) → new.read ≡ true → IsAtEnd new.known
@@ -147,12 +169,12 @@ transfers_end old new tells peers id t was =
 -- what was opened and ran well is a transfer of the host of a file
 pub sends : {S E K : Type 0} (X : Type 0) (opened : Result S E) (r : ℕ) (file : HostConfig) (to : Address) (known left : Option (List ℕ)) (tells : K → ℕ → K → Type 0) (at : S → Option (List ℕ) → SendState K) (among : S → Peers) (id : S → ℕ)
     → is_nowhere file to ≡ false → ((s : S) (k : Option (List ℕ)) → (at s k).known ≡ k)
-    → HasBuffers file → IfOk opened (λ s. HasBuffers file → (k : Option (List ℕ)) → IsDialing file to (at s k) (among s) (id s))
+    → IfOk opened (λ s. (k : Option (List ℕ)) → IsDialing file to (at s k) (among s) (id s))
     → IfOk opened (λ s. r ≡ 0 → (last : SendState K) × Transfers (at s known) last tells (among s) (id s) × (last.known ≡ left))
-    → OnErr opened ((r ≡ 1) × X) → r ≡ 0 → SendsWholeInput file to known left tells
-sends X (Ok s) r file to known left tells at among id goes begins buffers dials ran failed zero =
+    → OnErr opened ((r ≡ 1) × X) → r ≡ 0 → SendsInput file to known left tells
+sends X (Ok s) r file to known left tells at among id goes begins dials ran failed zero =
     let run = ran zero in
-    let dial = dials buffers known in
+    let dial = dials known in
     record {
       goes = goes;
       id = id s;
@@ -166,7 +188,7 @@ sends X (Ok s) r file to known left tells at among id goes begins buffers dials 
       all = subst (λ k. IsAtEnd k) run.2 (transfers_end (at s known) run.0 tells (among s) (id s) run.1 (λ read. absurd (let no = sym dial.unread ∙ read in cc)));
       whole = run.1.whole;
     }
-sends X (Err e) r file to known left tells at among id goes begins buffers dials ran failed zero = absurd (omega (arith, failed.0, zero))
+sends X (Err e) r file to known left tells at among id goes begins dials ran failed zero = absurd (omega (arith, failed.0, zero))
 
 -- what is so of a value that succeeded
 pub on_ok : {S E : Type 0} (P : S → Type 0) (o : Result S E) (s : S) → o ≡ Ok s → P s → IfOk o P

@@ -1,9 +1,9 @@
 -- The rounds of a host that sends, one after another: each is a turn of its host, and then what came
 -- is dropped and the link is fed. The entry points are `Transfers`, of one that ended well, and
 -- `EndsWith`, of any verdict. All of it is own.
-use Rattle.std.specs.Prelude.{◌≡◌, ◌^◌, ◌-◌, ℕ, Bool, true, List, [], ◌∷◌, length, Option, Some, None, Result, Err}
+use Rattle.std.specs.Prelude.{◌≡◌, ◌≤◌, ◌^◌, ◌-◌, ℕ, Bool, true, List, [], ◌∷◌, length, Option, Some, None, Result, Err}
 use Rattle.std.specs.Io.KnownBytes.{Consumes}
-use Rattle.std.specs.List.{concat}
+use Rattle.std.specs.List.{All, concat}
 use Rattle.ipx_carrier.specs.Turns.{Peers}
 use Rattle.spx_link.specs.declared.state.State.{State}
 use Rattle.spx_messages.specs.EndpointView.{held_at}
@@ -87,12 +87,13 @@ abbrev pub RunsOut : {K : Type 0} → SendState K → List (List ℕ) → SendSt
 RunsOut {K} old bodies new tells peers id = (last : SendState K)
     × Rounds old bodies last tells peers id × LastRound last new tells peers id
 
--- a transfer that ended well: what left the reader is what was fed, one body behind the other; all is
--- read, the end is queued, and the peer has acknowledged all, that end too
+-- a transfer that ended well: what left the reader is what was fed, one body after the other, each of
+-- at most 65,535 bytes; all is read, the end is queued, and the peer has acknowledged all, that end too
 pub record Transfers {K : Type 0} (old new : SendState K) (tells : K → ℕ → K → Type 0) (peers : Peers)
     (id : ℕ) : Type 0 where
   pub bodies : List (List ℕ)
   pub runs : RunsOut old bodies new tells peers id
+  pub short : All (λ b. length b ≤ 65535) bodies
   pub fed : Consumes old.known new.known (concat bodies)
   pub read : new.read ≡ true
   pub closed : new.closed ≡ true

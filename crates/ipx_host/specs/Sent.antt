@@ -21,8 +21,8 @@ abbrev pub HasBuffers : HostConfig → Type 0
 HasBuffers file = (0 < file.buffers) × (file.buffers ≤ 8192)
 
 -- a host as its file says it, which listens nowhere, and whose one link asks for a connection to an
--- address, and is paced. Its id is the one last given, and neither 0 nor FFFF; it has the buffers of its
--- file. Nothing was seen of it, and nothing is read or counted
+-- address, and is paced. Its id is the one last given, and neither 0 nor FFFF; it has the buffers that its
+-- file says. Nothing was seen of it, and nothing is read or counted
 pub record IsDialing {K : Type 0} (file : HostConfig) (to : Address) (p : SendState K) (peers : Peers)
     (id : ℕ) : Type 0 where
   pub network : p.core.endpoint.network ≡ file.network
@@ -34,7 +34,6 @@ pub record IsDialing {K : Type 0} (file : HostConfig) (to : Address) (p : SendSt
   pub range : (0 < id) × (id < 65535)
   pub last : p.core.endpoint.links.last ≡ id
   pub count : count_of p.core.endpoint.links ≡ 1
-  pub buffers : HasBuffers file
   pub alone : (q : ℕ) → q ≢ id → held_at p.core.endpoint q ≡ None
   pub deaf : (s : Socket) → buffers_at p.core.endpoint s ≡ None
   pub paced : p.core.paced ≡ Some (record { id = id; pacer = made_pacer })
@@ -46,7 +45,7 @@ pub record IsDialing {K : Type 0} (file : HostConfig) (to : Address) (p : SendSt
 -- such a host has run a transfer to an address to which something goes. It ended well, from what a
 -- reader had to what it has left, which is nothing. Its link is there, its end is queued, and all that was
 -- queued on it is acknowledged
-pub record SendsWholeInput {K : Type 0} (file : HostConfig) (to : Address) (known left : Option (List ℕ))
+pub record SendsInput {K : Type 0} (file : HostConfig) (to : Address) (known left : Option (List ℕ))
     (tells : K → ℕ → K → Type 0) : Type 0 where
   pub goes : is_nowhere file to ≡ false
   pub id : ℕ
@@ -59,3 +58,9 @@ pub record SendsWholeInput {K : Type 0} (file : HostConfig) (to : Address) (know
   pub ends : last.known ≡ left
   pub all : IsAtEnd left
   pub whole : IsWholeAt last.core.endpoint id
+
+-- so it has, and the file gives its connection 1 to 8,192 buffers
+pub record SendsWholeInput {K : Type 0} (file : HostConfig) (to : Address) (known left : Option (List ℕ))
+    (tells : K → ℕ → K → Type 0) : Type 0 where
+  pub buffers : HasBuffers file
+  pub sends : SendsInput file to known left tells

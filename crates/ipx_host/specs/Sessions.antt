@@ -4,8 +4,9 @@ use Rattle.std.specs.List.{list_any}
 use Rattle.std.specs.Cmp.Lexicographic.{pointwise}
 use Rattle.std.specs.Coded.{Unit-prop}
 use Rattle.std.proofs.Props.{props}
-use Rattle.spx_link.specs.Offer.{offer_link, refusal}
+use Rattle.spx_link.specs.Offer.{offer_link}
 use Rattle.spx_link.specs.declared.fault.OfferFault.TheVariants as OfferFaults
+use Rattle.spx_link.specs.declared.state.State.TheVariants as States
 use Rattle.spx_units.specs.declared.fault.MessageFault.TheVariants as MessageFaults
 use Rattle.spx_messages.specs.declared.fault.EndFault.{EndFault}
 use Rattle.spx_messages.specs.declared.fault.EndFault.TheVariants as EndFaults
@@ -115,7 +116,7 @@ NotesHeard once old new sessions sessions' =
 -- a connection is asked whether it is there: a message of no bytes is queued on its link, which is Live
 abbrev pub QueuesNothing : EndpointView → EndpointView → Session → Session → Type 0
 QueuesNothing old new c c' =
-    (h : Held) × (held_at old c.id ≡ Some h) × (refusal h.link.state ≡ None)
+    (h : Held) × (held_at old c.id ≡ Some h) × (h.link.state ≡ States.Live)
     × ChangesEnd old new c.id
     (record h { link = offer_link h.link (cut_of (record { stream = 0; body = [] })) })
     × (c' ≡ record c { phase = phase_asked c.phase })
@@ -125,9 +126,9 @@ abbrev pub Asks : ℕ → EndpointView → EndpointView → Session → Session 
 Asks now old new c c' =
     QueuesNothing old new c c' ⊎ (SameBut old new × (c' ≡ record c { heard = now }))
 
--- the link of an id is open, so it takes messages
+-- the link of an id is Live, the one state in which it takes messages
 abbrev pub TakesMessages : EndpointView → ℕ → Type 0
-TakesMessages e id = (h : Held) × (held_at e id ≡ Some h) × (refusal h.link.state ≡ None)
+TakesMessages e id = (h : Held) × (held_at e id ≡ Some h) × (h.link.state ≡ States.Live)
 
 -- it is asked where its link takes messages, and memory was not refused
 abbrev pub IsAskedUnless : Bool → EndpointView → EndpointView → Session → Session → Type 0

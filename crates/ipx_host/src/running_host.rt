@@ -210,12 +210,13 @@ impl<'a, R: Net + Log + Clock> RunningHost<'a, R> {
             map access_by s.host_socket.device.access_lists.items ≡ guarded_host file.now dials ∷ []) }
     {
         check_streams(rt)?;
+        let clock = SteadyClock::new(rt)?;
         let core = core_of(alloc, file)?;
         let (host_socket, poller) = HostSocket::open(rt, alloc, file, dials)?;
         Ok(RunningHost {
             core,
             host_socket,
-            clock: SteadyClock::new(rt),
+            clock,
             poller,
             refused: 0,
             telling: Telling::new(),

@@ -11,7 +11,7 @@ ghost use Rattle.ipx_wire.specs.declared.address.Address.{Address};
 ghost use Rattle.ipx_host.specs.Access.{far_address, is_nowhere};
 ghost use Rattle.ipx_host.specs.Midway.{sending_at};
 ghost use Rattle.ipx_host.specs.SendRounds.{SendState, Transfers};
-ghost use Rattle.ipx_host.specs.Sent.{HasBuffers, SendsWholeInput};
+ghost use Rattle.ipx_host.specs.Sent.{SendsInput, SendsWholeInput};
 ghost use Rattle.ipx_host.specs.Target.{NamesAddress};
 
 use crate::access::{far_address, is_nowhere, tell_nowhere};
@@ -70,8 +70,8 @@ fn send_loaded<R: Net + Log + Clock + Eprint, I: Read>(
     ensures status { IfOk loaded (λ file. is_nowhere file (far_address file to) ≡ false
         → result < 2) }
     // Where it ends well, the host of the file sent to the address all that the reader had.
-    ensures sent { IfOk loaded (λ file. HasBuffers file → result ≡ 0
-        → SendsWholeInput {K = SteadyClock R} file (far_address file to)
+    ensures sent { IfOk loaded (λ file. result ≡ 0
+        → SendsInput {K = SteadyClock R} file (far_address file to)
         (I.remaining reader.old) (I.remaining reader.new) NeverGoesBack) }
     ensures unloaded { IfErr loaded (λ status. (result ≡ status) × (reader.new ≡ reader.old)) }
 {

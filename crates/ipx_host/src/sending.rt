@@ -11,7 +11,7 @@ ghost use Rattle.spx_messages.specs.EndpointView.{held_at};
 ghost use Rattle.ipx_host.specs.Books.{EntersAcknowledged};
 ghost use Rattle.ipx_host.specs.Access.{dialed_ip as ip_dialed, guarded_host};
 ghost use Rattle.ipx_host.specs.SendRounds.{EndsWith, IsSendStep, LastsOn, Transfers};
-ghost use Rattle.ipx_host.specs.Sent.{HasBuffers, IsDialing};
+ghost use Rattle.ipx_host.specs.Sent.{IsDialing};
 ghost use Rattle.ipx_host.specs.Sleeping.{MayWait, longest_wait};
 ghost use Rattle.ipx_host.specs.SendSteps.{IsFeedFault, IsStepFault};
 ghost use Rattle.ipx_host.specs.Transfer.{IsWaiting, IsWholeAt, joined_at, left_at, state_at};
@@ -80,8 +80,7 @@ impl<'a, R: Net + Log + Clock + Eprint> SendingHost<'a, R> {
         to: Address,
         shows: bool,
     ) -> Result<SendingHost<'a, R>, StartFault>
-        ensures dialing { IfOk result (λ s. HasBuffers file.now → (known : Option (List ℕ))
-            → IsDialing file.now to
+        ensures dialing { IfOk result (λ s. (known : Option (List ℕ)) → IsDialing file.now to
             (sending_at s known) (peers_of s.station.host_socket.peers.items) s.id) }
         // It hears and sends to whom its file says, and the node that it dials.
         ensures access_list { IfOk result (λ s. map access_by s.station.host_socket.device.access_lists.items

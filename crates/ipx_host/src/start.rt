@@ -2,7 +2,7 @@
 
 ghost use Rattle.std.specs.Prelude.{◌≡◌};
 
-use ipx_site::{BindErrorKind, BindFault, WaitFault};
+use ipx_site::{BindErrorKind, BindFault, ClockFault, WaitFault};
 use ipx_wire::OutOfMemory;
 use mio::Poll;
 use std::alloc::{AllocError, AllocFailed};
@@ -20,6 +20,8 @@ pub enum StartFault {
     Bind(BindErrorKind),
     /// The system has no way to wait.
     Wait,
+    /// The system does not tell the time.
+    Clock,
     /// Standard input, output or error is closed.
     Closed,
 }
@@ -51,6 +53,12 @@ impl From<BindFault> for StartFault {
     }
 }
 
+impl From<ClockFault> for StartFault {
+    fn from(_fault: ClockFault) -> StartFault {
+        StartFault::Clock
+    }
+}
+
 impl From<WaitFault> for StartFault {
     fn from(fault: WaitFault) -> StartFault {
         match fault {
@@ -78,6 +86,7 @@ pub fn tell_start<R: Eprint>(rt: &R, path: &str, fault: StartFault) -> u8
         StartFault::OutOfMemory => eprintln!(rt; "{path}: out of memory"),
         StartFault::Bind(obstacle) => eprintln!(rt; "{path}: {obstacle}"),
         StartFault::Wait => eprintln!(rt; "{path}: the system can't wait for the socket"),
+        StartFault::Clock => eprintln!(rt; "{path}: the system's clock can't be read"),
         StartFault::Closed => eprintln!(rt; "standard input, output or error is closed"),
     };
     1

@@ -1,7 +1,8 @@
 -- The laws of scenes that are reached, of a network.
-use Rattle.std.proofs.Common.{ℕ, zero, suc, ◌≡◌, ◌≢◌, ◌≤◌, ◌⊎◌, inl, inr, length, List, [], ◌∷◌, Bool, true, false, map, None, Option, Some, refl, sym, ap, ◌∙◌, subst}
+use Rattle.std.proofs.Common.{ℕ, zero, suc, ◌≡◌, ◌≢◌, ◌≤◌, ◌⊎◌, arith, inl, inr, length, List, [], ◌∷◌, ◌++◌, Bool, true, false, map, None, Option, Some, refl, sym, ap, ◌∙◌, subst}
 use Rattle.std.specs.Prelude.{slice_get}
 use Rattle.std.proofs.lemmas.Bool.{cond-false}
+use Rattle.std.proofs.lemmas.List.{length-map}
 use Rattle.ipx_wire.specs.declared.address.Network.{Network}
 use Rattle.spx_units.specs.Joining.{joined}
 use Rattle.spx_units.specs.WrittenPackets.{Home}
@@ -20,12 +21,13 @@ use Rattle.spx_theory.specs.InSteps.{PairsTakeSteps}
 use Rattle.spx_theory.specs.LogHeadline.{LogHeadline}
 use Rattle.spx_theory.specs.Note.{Note}
 use Rattle.spx_theory.specs.Numbered.{NumbersAreInOrder}
-use Rattle.spx_theory.specs.PremisesRead.{OriginsAreRead, PeersAreRead, PremisesAreRead}
+use Rattle.spx_theory.specs.PremisesRead.{AreMadeOnce, BetweenIsRead, OriginsAreRead, PeersAreRead, PremisesAreRead}
 use Rattle.spx_theory.specs.Scene.{Scene, Stand}
 use Rattle.spx_theory.specs.SentUnits.{LinksSendInOrder, UnitsAreSentInOrder}
 use Rattle.spx_theory.specs.UnitsOfEnds.{UnitsAreCuts}
 use Rattle.ipx_recovery.specs.Stuck.{NoPairIsStuck, NoStateIsStuck, NothingIsStuckByAddresses}
 use Rattle.theory_steps.specs.World.{EndNow, InOrder, HostState, World, bytes_of, held_in, held_of, home_at, scene_of, segment_of, stand_of, stand_with}
+use Rattle.ipx_net_hosts.specs.Hosts.{FollowsMarks, marks_of}
 use Rattle.ipx_net.specs.NetReach.{GoesOn, IsKept}
 use Rattle.ipx_net.specs.NetView.{NetView}
 use Rattle.ipx_net.specs.Theorems.{AreNumbered, AreReleasedByLog, AreWhereOpened, LinkTheorems, Theorems}
@@ -38,8 +40,10 @@ pub record SceneLaws : Type 0 where
   pub carried : IsLaw RoutersAlterHopsAlone
   pub sent : IsLaw UnitsAreSentInOrder
   pub headline : (s : Scene) → Reached s → LogHeadline s.log
+  pub made_once : (s : Scene) → Reached s → AreMadeOnce s.log
   pub origins : IsLaw OriginsAreRead
   pub peers : IsLaw PeersAreRead
+  pub between : IsLaw BetweenIsRead
   pub premises : IsLaw PremisesAreRead
   pub in_step : IsLaw PeersAreInStep
   pub alone : IsLaw AloneReadsNothing
@@ -162,6 +166,34 @@ released_by_log w order t who n at =
 
 -- ---- of what the log and the marks of ends say of messages
 
+-- a list of marks that follows another has its marks, and after them at most one
+last_or_before : (old : List Bool) (who : ℕ) → slice_get (old ++ false ∷ []) who ≡ Some false → (length old ≤ who) ⊎ (slice_get old who ≡ Some false)
+last_or_before [] who at = inl (omega arith)
+last_or_before (x ∷ xs) zero at = inr at
+last_or_before (x ∷ xs) (suc who) at = elim (last_or_before xs who at) [ inl past ↦ inl (omega (arith, past)) | inr there ↦ inr there ]
+
+unmarked_before : (old new : List Bool) (who : ℕ) → FollowsMarks old new → slice_get new who ≡ Some false → (length old ≤ who) ⊎ (slice_get old who ≡ Some false)
+unmarked_before old new who (inl same) at = inr (ap (λ l. slice_get l who) (sym same) ∙ at)
+unmarked_before old new who (inr more) at = last_or_before old who (ap (λ l. slice_get l who) (sym more) ∙ at)
+
+mark_there : (es : List EndNow) (who : ℕ) (n : EndNow) → slice_get es who ≡ Some n → n.overlong ≡ false → slice_get (marks_of es) who ≡ Some false
+mark_there [] who n at well = absurd (cc at)
+mark_there (e ∷ es) zero n at well = let same : e ≡ n = cc at in ap (λ (x : EndNow). Some x.overlong) same ∙ ap Some well
+mark_there (e ∷ es) (suc who) n at well = mark_there es who n at well
+
+stand_unmarked : (es : List Stand) (who : ℕ) → slice_get (map (λ (e : Stand). e.overlong) es) who ≡ Some false → (e : Stand) × (slice_get es who ≡ Some e) × (e.overlong ≡ false)
+stand_unmarked [] who at = absurd (cc at)
+stand_unmarked (e ∷ es) zero at = (e, refl, cc at)
+stand_unmarked (e ∷ es) (suc who) at = stand_unmarked es who at
+
+was_unmarked : (s : Scene) (es : List EndNow) → FollowsMarks (map (λ (e : Stand). e.overlong) s.ends) (marks_of es) → (who : ℕ) (n : EndNow) → slice_get es who ≡ Some n → n.overlong ≡ false
+    → (length s.ends ≤ who) ⊎ ((e : Stand) × (slice_get s.ends who ≡ Some e) × (e.overlong ≡ false))
+was_unmarked s es follows who n at well =
+    elim (unmarked_before (map (λ (e : Stand). e.overlong) s.ends) (marks_of es) who follows (mark_there es who n at well)) [
+      | inl past ↦ inl (omega (arith, past, length-map s.ends (λ (e : Stand). e.overlong)))
+      | inr there ↦ inr (stand_unmarked s.ends who there)
+    ]
+
 -- what an end handed out, by what was so of it in a scene that was reached with the same log
 still_joined : IsLaw HandsOutWhatItTook → IsLaw AbsentHandsOutNothing → (s : Scene) → Reached s → (who : ℕ) → (length s.ends ≤ who) ⊎ ((e : Stand) × (slice_get s.ends who ≡ Some e) × (e.overlong ≡ false))
     → handed_out who s.log ≡ (joined (taken_of who s.log)).messages
@@ -176,7 +208,7 @@ joined_messages law absent w true kept = λ who e at well.
     let n = stands_of w who e at in
     let marked : n.0.overlong ≡ false = sym (overlong_of_stand n.0 (held_of w.hosts n.0)) ∙ ap (λ (x : Stand). x.overlong) n.2 ∙ well in
     subst (λ (log : List Note). handed_out who log ≡ (joined (taken_of who log)).messages) kept.log
-    (still_joined law absent kept.scene kept.reached who (kept.overlong who n.0 n.1 marked))
+    (still_joined law absent kept.scene kept.reached who (was_unmarked kept.scene w.ends kept.marks who n.0 n.1 marked))
 
 -- ---- all of it
 
@@ -214,8 +246,10 @@ theorems laws v kept =
       alters = always RoutersAlterHopsAlone laws.carried w v.spent kept;
       in_order = in_order laws.sent w v.spent kept;
       headline = always (λ s. LogHeadline s.log) laws.headline w v.spent kept;
+      made_once = always (λ s. AreMadeOnce s.log) laws.made_once w v.spent kept;
       origins = origins laws.origins w v.spent kept;
       peers = peers laws.peers w v.spent kept;
+      between = always BetweenIsRead laws.between w v.spent kept;
       premises = premises laws.premises w v.spent kept;
       addresses = addresses laws.addresses w v.spent kept;
       machine = always PairsTakeSteps laws.machine w v.spent kept;

@@ -22,3 +22,4 @@ pub mod NetTells
 pub mod Beginnings
 pub mod Wanting
 pub mod OneOutcome
+pub mod MemberOutcomes

@@ -1,13 +1,15 @@
 -- A network that takes an event goes on.
-use Rattle.std.proofs.Common.{ℕ, ◌≡◌, ◌≤◌, ◌⊎◌, ◌++◌, ◌∙◌, inl, inr, ap, arith, length, map, List, Bool, true, false, cond, Option, None, Some, Result, Ok, Err, OnErr, OnOk, refl, sym, subst}
-use Rattle.std.specs.Prelude.{slice_get}
-use Rattle.std.proofs.lemmas.List.{length-map}
+use Rattle.std.proofs.Common.{ℕ, ◌≡◌, ◌<◌, ◌+◌, ◌++◌, ◌∙◌, ap, arith, length, map, List, [], ◌∷◌, Bool, true, false, cond, Option, None, Some, Result, Ok, Err, OnErr, OnOk, refl, sym, subst}
 use Rattle.std.specs.Result.{is_err}
+use Rattle.std.proofs.lemmas.List.{length-map}
 use Rattle.spx_theory.specs.Deeds.{Reached}
 use Rattle.theory_steps.specs.WorldStep.{WorldStep}
 use Rattle.spx_theory.specs.Scene.{Stand}
 use Rattle.theory_steps.specs.World.{EndNow, InOrder, World, bytes_of, held_of, scene_of, segment_of, stand_of}
-use Rattle.ipx_net_hosts.specs.Hosts.{HostsView, SameHomes, StaysOverlong, world_of}
+use Rattle.ipx_net_hosts.specs.Hosts.{FollowsMarks, HostsView, KeepsMarks, SameHomes, marks_of, world_of}
+use Rattle.ipx_net.specs.EventWants.{IsMade}
+use Rattle.ipx_net.specs.LogEntries.{entry_note}
+use Rattle.ipx_net.specs.Parcels.{parcel_view}
 use Rattle.ipx_net.specs.IndexedLogView.{IndexedLogView, written_on}
 use Rattle.ipx_net.specs.StepResultView.{StepResultView}
 use Rattle.ipx_net.specs.NetEvents.{Happens}
@@ -18,7 +20,8 @@ use Rattle.ipx_net.specs.declared.event.Event.{Event}
 use Rattle.ipx_net.specs.declared.fault.NetFault.{NetFault}
 use Rattle.ipx_net.specs.declared.fault.NetFault.TheVariants.{Spent}
 use Rattle.ipx_net.specs.declared.routers.RouterNow.{RouterNow}
-use Rattle.ipx_net.proofs.Holding.{overlong_of_stand, stands_there}
+use Rattle.ipx_net.specs.declared.step_result.StepResult.{StepResult}
+use Rattle.ipx_net.proofs.Holding.{overlong_of_stand}
 use Rattle.ipx_net.proofs.NetSteps.{happens_step}
 
 not_first : (b : Bool) (rest : Option NetFault) → cond b (Some Spent) rest ≡ None → b ≡ false
@@ -56,23 +59,27 @@ goes_on hosts hosts' routers routers' b b' g now now' spent e order reached goin
 
 -- ---- memory was refused
 
--- what was so of each end, of its stand in the scene
-stood : (w : World) (who : ℕ) → (length w.ends ≤ who) ⊎ ((o : EndNow) × (slice_get w.ends who ≡ Some o) × (o.overlong ≡ false))
-    → (length (scene_of w).ends ≤ who) ⊎ ((e : Stand) × (slice_get (scene_of w).ends who ≡ Some e) × (e.overlong ≡ false))
-stood w who (inl past) = inl (omega (arith, past, length-map w.ends (stand_of w.hosts)))
-stood w who (inr there) =
-    inr (
-      stand_of w.hosts there.0,
-      stands_there w who there.0 there.1,
-      overlong_of_stand there.0 (held_of w.hosts there.0) ∙ there.2,
-    )
+-- an event made something if it made entries, or parcels or entries
+pub entries_made : (g : StepResult) → 0 < length g.entries.items → IsMade (Ok g)
+entries_made g some = omega (arith, some, length-map g.entries.items entry_note)
+
+pub both_made : (g : StepResult) → 0 < length g.parcels.items + length g.entries.items → IsMade (Ok g)
+both_made g some = omega (arith, some, length-map g.entries.items entry_note, length-map g.parcels.items parcel_view)
+
+-- the marks of ends are those of their stands in the scene
+scene_marks : (w : World) → map (λ (e : Stand). e.overlong) (scene_of w).ends ≡ marks_of w.ends
+scene_marks w = of w.ends
+  where
+    of : (es : List EndNow) → map (λ (e : Stand). e.overlong) (map (stand_of w.hosts) es) ≡ marks_of es
+    of [] = refl
+    of (e ∷ es) = ap (λ b. b ∷ map (λ (x : Stand). x.overlong) (map (stand_of w.hosts) es)) (overlong_of_stand e (held_of w.hosts e)) ∙ ap (λ bs. e.overlong ∷ bs) (of es)
 
 -- it stands still, with its log and its parcels, and its hosts have the same addresses
 pub stands_still : (hosts hosts' : HostsView) (b b' : IndexedLogView) (now now' : ℕ) (spent : Bool)
     → spent ≡ false → IsKept (world_of hosts b.parcels b.log now) spent
-    → SameHomes hosts hosts' → StaysOverlong hosts hosts' → b'.log ≡ b.log → b'.parcels ≡ b.parcels
+    → SameHomes hosts hosts' → KeepsMarks hosts hosts' → b'.log ≡ b.log → b'.parcels ≡ b.parcels
     → StandsStill (world_of hosts' b'.parcels b'.log now')
-stands_still hosts hosts' b b' now now' spent going kept homes stays log parcels =
+stands_still hosts hosts' b b' now now' spent going kept homes marks log parcels =
     let old : World = world_of hosts b.parcels b.log now in
     let was : GoesOn old = kept_going old spent going kept in
     record {
@@ -82,5 +89,5 @@ stands_still hosts hosts' b b' now now' spent going kept homes stays log parcels
       log = sym log;
       parcels = ap (map bytes_of) (sym parcels);
       segments = ap (map segment_of) (sym parcels);
-      overlong = λ who n at well. stood old who (stays who n at well);
+      marks = subst (λ ms. FollowsMarks ms (marks_of hosts'.ends)) (sym (scene_marks old)) marks;
     }

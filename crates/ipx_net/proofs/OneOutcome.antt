@@ -24,18 +24,21 @@ use Rattle.theory_steps.specs.World.{EndNow, HostState, World, end_at}
 use Rattle.ipx_net.specs.AnswerView.{AnswerView, Refused, Taken}
 use Rattle.ipx_net.specs.HostEvents.{Dialling, IsDoneOrRefused, RefusedOf, TakingFrom, held_under}
 use Rattle.ipx_net.specs.NetView.{NetNow}
-use Rattle.ipx_net.specs.OneOutcome.{AreAlike, AreSameNets, CallsHaveOneOutcome, IsForMemory}
+use Rattle.ipx_net.specs.OneOutcome.{AreAlike, AreAlikeRouters, AreSameNets, IsForMemory}
+use Rattle.ipx_net.specs.NetEvents.{Happens}
+use Rattle.ipx_net.specs.declared.event.Event.{Event}
 use Rattle.ipx_net.specs.declared.event.Event.TheVariants as Events
+use Rattle.ipx_net.specs.declared.routers.RouterNow.{RouterNow}
 use Rattle.ipx_net.proofs.TellingPeers.{get_beside, get_set_is}
 use Rattle.spx_theory.specs.Note as Notes
 use Rattle.spx_theory.specs.Note.{Note}
 
 -- ---- endpoints
 
-one_some : {A : Type 0} {x y : A} → Some x ≡ Some y → x ≡ y
+pub one_some : {A : Type 0} {x y : A} → Some x ≡ Some y → x ≡ y
 one_some {A} {x} {y} is = same_Some x y is
 
-same_read : {A : Type 0} (xs : List A) (j k : ℕ) (x y : A) → j ≡ k → slice_get xs j ≡ Some x → slice_get xs k ≡ Some y → x ≡ y
+pub same_read : {A : Type 0} (xs : List A) (j k : ℕ) (x y : A) → j ≡ k → slice_get xs j ≡ Some x → slice_get xs k ≡ Some y → x ≡ y
 same_read xs j k x y same one two = one_some (sym one ∙ ap (slice_get xs) same ∙ two)
 
 self_both : (e a b : EndpointView) → SameSelf e a → SameSelf e b → SameSelf a b
@@ -98,7 +101,7 @@ but_both e a b x y =
 -- ---- hosts
 
 -- one host of a list changed in either
-hosts_both : (old xs ys : List HostState) (host : ℕ) (a b : HostState) → xs ≡ set old host a → ys ≡ set old host b → AreAlike a b
+pub hosts_both : (old xs ys : List HostState) (host : ℕ) (a b : HostState) → xs ≡ set old host a → ys ≡ set old host b → AreAlike a b
     → (k : ℕ) (s t : HostState) → slice_get xs k ≡ Some s → slice_get ys k ≡ Some t → AreAlike s t
 hosts_both old xs ys host a b is is' alike k s t at at' =
     elim (cases_eq host k) [
@@ -112,7 +115,7 @@ hosts_both old xs ys host a b is is' alike k s t at at' =
           subst (AreAlike s) (one_some (sym one ∙ two)) (alike_refl s)
     ]
 
-hosts_same : (old xs ys : List HostState) → xs ≡ old → ys ≡ old → (k : ℕ) (s t : HostState) → slice_get xs k ≡ Some s → slice_get ys k ≡ Some t → AreAlike s t
+pub hosts_same : (old xs ys : List HostState) → xs ≡ old → ys ≡ old → (k : ℕ) (s t : HostState) → slice_get xs k ≡ Some s → slice_get ys k ≡ Some t → AreAlike s t
 hosts_same old xs ys is is' k s t at at' =
     subst (AreAlike s) (one_some (sym at ∙ ap (λ zs. slice_get zs k) (is ∙ sym is') ∙ at')) (alike_refl s)
 
@@ -125,11 +128,43 @@ pub record AreSameWorlds (x y : World) : Type 0 where
   pub log : y.log ≡ x.log
   pub moment : y.moment ≡ x.moment
 
-same_nets : (old x y : NetNow) → AreSameWorlds x.world y.world → x.routers ≡ old.routers → y.routers ≡ old.routers → AreSameNets x y
-same_nets old x y w one two =
-    record { count = w.count; hosts = w.hosts; ends = w.ends; parcels = w.parcels; log = w.log; moment = w.moment; routers = two ∙ sym one }
+router_alike : (r : RouterNow) → AreAlikeRouters r r
+router_alike r =
+    record { kept = record { ports = refl; most_routes = refl; most_services = refl }; routes = λ p. refl; services = λ p. refl; told = refl; started = refl }
 
-count_both : (old xs ys : List HostState) (host : ℕ) (a b : HostState) → xs ≡ set old host a → ys ≡ set old host b → length ys ≡ length xs
+-- the same routers are alike
+pub routers_same : (xs ys : List RouterNow) → xs ≡ ys → (k : ℕ) (a b : RouterNow) → slice_get xs k ≡ Some a → slice_get ys k ≡ Some b → AreAlikeRouters a b
+routers_same xs ys is k a b at at' = subst (AreAlikeRouters a) (one_some (sym at ∙ ap (λ zs. slice_get zs k) is ∙ at')) (router_alike a)
+
+-- one router of a list changed in either
+pub routers_both : (old xs ys : List RouterNow) (router : ℕ) (a b : RouterNow) → xs ≡ set old router a → ys ≡ set old router b → AreAlikeRouters a b
+    → (k : ℕ) (s t : RouterNow) → slice_get xs k ≡ Some s → slice_get ys k ≡ Some t → AreAlikeRouters s t
+routers_both old xs ys router a b is is' alike k s t at at' =
+    elim (cases_eq router k) [
+      | inl same ↦
+          let one : s ≡ a = get_set_is old router a s (ap (λ zs. slice_get zs router) (sym is) ∙ ap (slice_get xs) same ∙ at) in
+          let two : t ≡ b = get_set_is old router b t (ap (λ zs. slice_get zs router) (sym is') ∙ ap (slice_get ys) same ∙ at') in
+          subst (λ z. AreAlikeRouters s z) (sym two) (subst (λ z. AreAlikeRouters z b) (sym one) alike)
+      | inr differ ↦
+          let one : slice_get old k ≡ Some s = sym (get_beside old router k a differ) ∙ ap (λ zs. slice_get zs k) (sym is) ∙ at in
+          let two : slice_get old k ≡ Some t = sym (get_beside old router k b differ) ∙ ap (λ zs. slice_get zs k) (sym is') ∙ at' in
+          subst (AreAlikeRouters s) (one_some (sym one ∙ two)) (router_alike s)
+    ]
+
+pub same_nets : (old x y : NetNow) → AreSameWorlds x.world y.world → x.routers ≡ old.routers → y.routers ≡ old.routers → AreSameNets x y
+same_nets old x y w one two =
+    record {
+      count = w.count;
+      hosts = w.hosts;
+      ends = w.ends;
+      parcels = w.parcels;
+      log = w.log;
+      moment = w.moment;
+      router_count = ap length (two ∙ sym one);
+      routers = routers_same x.routers y.routers (one ∙ sym two);
+    }
+
+pub count_both : (old xs ys : List HostState) (host : ℕ) (a b : HostState) → xs ≡ set old host a → ys ≡ set old host b → length ys ≡ length xs
 count_both old xs ys host a b is is' = ap length is' ∙ length-set old host b ∙ sym (length-set old host a) ∙ sym (ap length is)
 
 -- ---- ids
@@ -411,7 +446,13 @@ sends_fault h m f is =
       ]
     ]
 
-pub calls_have_one_outcome : CallsHaveOneOutcome
+-- every event but a poll and a delivery
+abbrev pub IsCall : Event → Type 0
+IsCall (Events.Poll member) = ⊥
+IsCall (Events.Deliver parcel place) = ⊥
+IsCall event = Unit {0}
+
+pub calls_have_one_outcome : (event : Event) (a b : AnswerView) (old x y : NetNow) → IsCall event → Happens event a old x → Happens event b old y → ¬ IsForMemory a → ¬ IsForMemory b → (b ≡ a) × AreSameNets x y
 calls_have_one_outcome (Events.Dial host socket to buffers) a b old x y call one two na nb =
     let r = dial_both old.world x.world y.world host socket to buffers a b na nb one.0 two.0 in (r.0, same_nets old x y r.1 one.1 two.1)
 calls_have_one_outcome (Events.Send who message) a b old x y call one two na nb =

@@ -1,6 +1,6 @@
--- A call on a host or an end, the clock, or a packet from outside has one outcome, unless memory
--- ran out.
+-- An event that is no poll of a host has one outcome, unless memory ran out.
 use Rattle.std.specs.Prelude.{ℕ, ◌≡◌, ◌⊎◌, length, Some, slice_get}
+use Rattle.ipx_router.specs.Knowledge.{HoldsRoutes, HoldsServices, KeepsAllButOffers, routes_in, services_in}
 use Rattle.ipx_net_hosts.specs.Refusing.{want, want_of_link, want_of_queue}
 use Rattle.spx_messages.specs.Changes.{SameBut}
 use Rattle.theory_steps.specs.World.{HostState, end_at}
@@ -9,23 +9,33 @@ use Rattle.ipx_net.specs.NetEvents.{Happens}
 use Rattle.ipx_net.specs.NetView.{NetNow}
 use Rattle.ipx_net.specs.declared.event.Event.{Event}
 use Rattle.ipx_net.specs.declared.event.Event.TheVariants as Events
+use Rattle.ipx_net.specs.declared.event.Member.TheVariants as Members
+use Rattle.ipx_net.specs.declared.routers.RouterNow.{RouterNow}
 
 -- an end refused because memory ran out
 abbrev pub IsForMemory : AnswerView → Type 0
 IsForMemory a = (a ≡ Refused want) ⊎ (a ≡ Refused want_of_link) ⊎ (a ≡ Refused want_of_queue)
 
--- every event but a poll and a delivery
-abbrev pub IsCall : Event → Type 0
-IsCall (Events.Poll member) = ⊥
-IsCall (Events.Deliver parcel place) = ⊥
-IsCall event = Unit {0}
+-- every event but a poll of a host
+abbrev pub IsNoHostPoll : Event → Type 0
+IsNoHostPoll (Events.Poll (Members.Host host)) = ⊥
+IsNoHostPoll event = Unit {0}
 
 -- two hosts with the same address and listeners, the same links under each id, and the same ends
 pub record AreAlike (x y : HostState) : Type 0 where
   pub endpoint : SameBut x.endpoint y.endpoint
   pub here : (id : ℕ) → end_at y.here id ≡ end_at x.here id
 
--- two networks with alike hosts that are the same beside
+-- two routers with the same ports, and the same offers of each network and each service. They told
+-- last at the same time, and both asked their neighbours as they started, or neither
+pub record AreAlikeRouters (x y : RouterNow) : Type 0 where
+  pub kept : KeepsAllButOffers x.router y.router
+  pub routes : HoldsRoutes x.router.routes (routes_in y.router.routes)
+  pub services : HoldsServices x.router.services (services_in y.router.services)
+  pub told : y.router.told ≡ x.router.told
+  pub started : y.started ≡ x.started
+
+-- two networks with alike hosts and alike routers that are the same beside
 pub record AreSameNets (x y : NetNow) : Type 0 where
   pub count : length y.world.hosts ≡ length x.world.hosts
   pub hosts : (k : ℕ) (a b : HostState) → slice_get x.world.hosts k ≡ Some a
@@ -34,10 +44,12 @@ pub record AreSameNets (x y : NetNow) : Type 0 where
   pub parcels : y.world.parcels ≡ x.world.parcels
   pub log : y.world.log ≡ x.world.log
   pub moment : y.world.moment ≡ x.world.moment
-  pub routers : y.routers ≡ x.routers
+  pub router_count : length y.routers ≡ length x.routers
+  pub routers : (k : ℕ) (a b : RouterNow) → slice_get x.routers k ≡ Some a
+      → slice_get y.routers k ≡ Some b → AreAlikeRouters a b
 
-abbrev pub CallsHaveOneOutcome : Type 0
-CallsHaveOneOutcome =
-    (event : Event) (a b : AnswerView) (old x y : NetNow) → IsCall event
+abbrev pub EventsHaveOneOutcome : Type 0
+EventsHaveOneOutcome =
+    (event : Event) (a b : AnswerView) (old x y : NetNow) → IsNoHostPoll event
     → Happens event a old x → Happens event b old y → ¬ IsForMemory a → ¬ IsForMemory b
     → (b ≡ a) × AreSameNets x y

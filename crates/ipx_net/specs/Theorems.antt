@@ -13,7 +13,7 @@ use Rattle.spx_theory.specs.InSteps.{PairsTakeSteps}
 use Rattle.spx_theory.specs.LogHeadline.{LogHeadline}
 use Rattle.spx_theory.specs.Note.{Note, Opened, Released}
 use Rattle.spx_theory.specs.Numbered.{IsNumbered, NumbersAreInOrder}
-use Rattle.spx_theory.specs.PremisesRead.{OriginsAreRead, PeersAreRead, PremisesAreRead}
+use Rattle.spx_theory.specs.PremisesRead.{AreMadeOnce, BetweenIsRead, OriginsAreRead, PeersAreRead, PremisesAreRead}
 use Rattle.spx_theory.specs.Scan.{scan}
 use Rattle.spx_theory.specs.SentUnits.{LinksSendInOrder, UnitsAreSentInOrder}
 use Rattle.spx_theory.specs.UnitsOfEnds.{UnitsAreCuts}
@@ -64,9 +64,12 @@ pub record Theorems (v : NetView) : Type 0 where
   pub alters : RoutersAlterHopsAlone (scene_of v.now.world)
   pub in_order : UnitsAreSentInOrder (scene_of v.now.world)
   pub headline : LogHeadline v.now.world.log
+  -- one entry makes each parcel, and one each end
+  pub made_once : AreMadeOnce v.now.world.log
   -- what is read off the log is what its entries say
   pub origins : OriginsAreRead (scene_of v.now.world)
   pub peers : PeersAreRead (scene_of v.now.world)
+  pub between : BetweenIsRead (scene_of v.now.world)
   pub premises : PremisesAreRead (scene_of v.now.world)
   pub addresses : AddressesTellPeers (scene_of v.now.world)
   pub machine : PairsTakeSteps (scene_of v.now.world)

@@ -4,7 +4,7 @@ ghost use Rattle.std.specs.Prelude.{◌≡◌, ◌<◌, ◌≤◌, ◌++◌, [],
 ghost use Rattle.spx_link.specs.Limits.{most_units};
 ghost use Rattle.spx_messages.specs.Taking.{taken_view};
 ghost use Rattle.spx_units.specs.Message.{message_view};
-ghost use Rattle.ipx_net_hosts.specs.Hosts.{FitTogether, SameHomes, StaysOverlong, stands};
+ghost use Rattle.ipx_net_hosts.specs.Hosts.{FitTogether, KeepsMarks, SameHomes, stands};
 ghost use Rattle.ipx_net_hosts.specs.Refusing.{close_fault, dial_fault, end_held, send_fault};
 ghost use Rattle.theory_steps.specs.HostSteps.{unit_notes, whole_notes};
 ghost use Rattle.ipx_net.specs.AnswerView as views;
@@ -39,7 +39,7 @@ pub fn dial(
         (Dialling host socket to buffers)) }
     ensures memory { IsMade result → dial_fault (slice_get hosts.old.stations host) ≡ None }
     ensures homes { SameHomes hosts.old hosts.new }
-    ensures stays { StaysOverlong hosts.old hosts.new }
+    ensures marks { KeepsMarks hosts.old hosts.new }
 {
     match hosts.dial(alloc, host, socket, to, buffers, now) {
         Ok(who) => noted(
@@ -68,7 +68,7 @@ pub fn send(
     ensures memory { IsMade result → send_fault
         (end_held hosts.old.stations hosts.old.ends who) (message_view message) ≡ None }
     ensures homes { SameHomes hosts.old hosts.new }
-    ensures stays { StaysOverlong hosts.old hosts.new }
+    ensures marks { KeepsMarks hosts.old hosts.new }
 {
     match hosts.send(alloc, who, &message, now) {
         Ok(()) => noted(alloc, Entry::HandIn { who, message }, Answer::Done),
@@ -91,7 +91,7 @@ pub fn close(
     ensures memory { IsMade result
         → close_fault (end_held hosts.old.stations hosts.old.ends who) ≡ None }
     ensures homes { SameHomes hosts.old hosts.new }
-    ensures stays { StaysOverlong hosts.old hosts.new }
+    ensures marks { KeepsMarks hosts.old hosts.new }
 {
     match hosts.close(alloc, who, now) {
         Ok(()) => noted(alloc, Entry::EndAsked { who }, Answer::Done),
@@ -115,7 +115,7 @@ pub fn pace(
         (Pacing who window manual) }
     ensures quiet { step_result_view result ≡ record { parcels = []; notes = []; answer = views.Done } }
     ensures homes { SameHomes hosts.old hosts.new }
-    ensures stays { StaysOverlong hosts.old hosts.new }
+    ensures marks { KeepsMarks hosts.old hosts.new }
 {
     hosts.pace(who, window, manual, now).unwrap();
     quiet(alloc, Answer::Done)
@@ -137,7 +137,7 @@ pub fn again(
         (AskingAgain who place) }
     ensures quiet { step_result_view result ≡ record { parcels = []; notes = []; answer = views.Done } }
     ensures homes { SameHomes hosts.old hosts.new }
-    ensures stays { StaysOverlong hosts.old hosts.new }
+    ensures marks { KeepsMarks hosts.old hosts.new }
 {
     hosts.again(who, place, now).unwrap();
     quiet(alloc, Answer::Done)
@@ -156,7 +156,7 @@ pub fn release(
     ensures grows { IfOk result
         (λ g. GrowsWorld hosts.old hosts.new first now (step_result_view g) (Releasing who)) }
     ensures homes { SameHomes hosts.old hosts.new }
-    ensures stays { StaysOverlong hosts.old hosts.new }
+    ensures marks { KeepsMarks hosts.old hosts.new }
 {
     hosts.release(who, now).unwrap();
     noted(alloc, Entry::Released { who }, Answer::Done)
@@ -233,7 +233,7 @@ pub fn take(
     ensures memory { IsMade result
         → TakeIsTold (end_held hosts.old.stations hosts.old.ends who) who }
     ensures homes { SameHomes hosts.old hosts.new }
-    ensures stays { StaysOverlong hosts.old hosts.new }
+    ensures marks { IsMade result → KeepsMarks hosts.old hosts.new }
 {
     let (unit, result) = hosts.take(alloc, who, now);
     match result {

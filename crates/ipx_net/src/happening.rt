@@ -1,7 +1,7 @@
 //! What an event does, with the book as it is: what is to be added to that.
 
 ghost use Rattle.std.specs.Prelude.{◌≡◌, ◌++◌, None, IfOk, slice_get};
-ghost use Rattle.ipx_net_hosts.specs.Hosts.{FitTogether, SameHomes, StaysOverlong};
+ghost use Rattle.ipx_net_hosts.specs.Hosts.{FitTogether, KeepsMarks, SameHomes};
 ghost use Rattle.ipx_net.specs.StepResultView.{step_result_view};
 ghost use Rattle.ipx_net.specs.NetEvents.{DeliversTo, Happens, IsOwed, PollsOf, injected};
 ghost use Rattle.ipx_net.specs.NetFaults.{fault_before, network_at, place_fault, poll_fault};
@@ -71,7 +71,7 @@ fn poll(
     ensures memory { IsMade result → PollWantsMemory
         (net_of hosts.old routers.old indexed_log.now.parcels indexed_log.now.log now) member }
     ensures homes { SameHomes hosts.old hosts.new }
-    ensures stays { StaysOverlong hosts.old hosts.new }
+    ensures marks { KeepsMarks hosts.old hosts.new }
 {
     let first = indexed_log.parcels().len();
     match member {
@@ -100,7 +100,7 @@ fn deliver(
         (net_of hosts.old routers.old indexed_log.now.parcels indexed_log.now.log now)
         (Events.Deliver parcel place) }
     ensures homes { SameHomes hosts.old hosts.new }
-    ensures stays { StaysOverlong hosts.old hosts.new }
+    ensures marks { KeepsMarks hosts.old hosts.new }
 {
     let parcels = indexed_log.parcels();
     let bytes = &parcels[parcel].bytes;
@@ -141,7 +141,7 @@ pub fn happen(
     ensures memory { IsMade result → EventWantsMemory
         (net_of hosts.old routers.old indexed_log.now.parcels indexed_log.now.log moment.old) event }
     ensures homes { SameHomes hosts.old hosts.new }
-    ensures stays { StaysOverlong hosts.old hosts.new }
+    ensures marks { IsMade result → KeepsMarks hosts.old hosts.new }
 {
     let now = *moment;
     let first = indexed_log.parcels().len();

@@ -46,7 +46,7 @@ pub use fault::NetFault;
 pub use host::Host;
 pub use indexed_log::IndexedLog;
 pub use net::Net;
-pub use outcome::calls_have_one_outcome;
+pub use outcome::events_have_one_outcome;
 pub use parcel::Parcel;
 pub use place::Place;
 pub use routers::RouterNow;

@@ -3,6 +3,7 @@
 
 ghost use Rattle.std.specs.Prelude.{◌≡◌, ◌≤◌, ◌+◌, ◌-◌, ◌↔◌, All, IfErr, IfOk, IsTrue, None, OnOk, false, length, take, true, unwrap_or, vec_capacity, vec_len};
 ghost use Rattle.spx_theory.specs.Peers.{IsFresh};
+ghost use Rattle.ipx_net_hosts.specs.Hosts.{FollowsMarks, marks_of};
 ghost use Rattle.ipx_router.specs.declared.fault.NewFault.TheVariants as NewFaults;
 ghost use Rattle.ipx_net.specs.AnswerView.{answer_view};
 ghost use Rattle.ipx_net.specs.NetBeginnings.{ArePortsOwed, IsHostOwed, IsNewNet, first_refusal};
@@ -35,11 +36,11 @@ use ipx_net_hosts::Hosts;
 use ipx_recovery::{no_pair_is_stuck, no_state_is_stuck, nothing_is_stuck_by_addresses};
 use ipx_router::{NewFault, Port};
 use spx_theory::{
-    acknowledged_end_is_read, addresses_tell_peers, alone_reads_nothing, confirmed_is_read,
-    end_taken_is_whole, ends_are_told, entries_tell_ends, hands_out_what_it_took, headline_of_log,
-    links_send_in_order, numbers_are_in_order, origins_are_read, pairs_take_steps,
-    peers_are_in_step, peers_are_read, premises_are_read, routers_alter_hops_alone, units_are_cuts,
-    units_are_sent_in_order,
+    acknowledged_end_is_read, addresses_tell_peers, alone_reads_nothing, between_is_read,
+    confirmed_is_read, end_taken_is_whole, ends_are_told, entries_tell_ends,
+    hands_out_what_it_took, headline_of_log, links_send_in_order, made_once, numbers_are_in_order,
+    origins_are_read, pairs_take_steps, peers_are_in_step, peers_are_read, premises_are_read,
+    routers_alter_hops_alone, units_are_cuts, units_are_sent_in_order,
 };
 use std::alloc::Global;
 use std::marker::Model;
@@ -156,6 +157,8 @@ impl NetState {
         ensures log { IfErr result (λ f. self.new.now.world.log ≡ self.old.now.world.log) }
         ensures parcels { IfErr result
             (λ f. self.new.now.world.parcels ≡ self.old.now.world.parcels) }
+        ensures marks { IfErr result (λ f. FollowsMarks (marks_of self.old.now.world.ends)
+            (marks_of self.new.now.world.ends)) }
         ensures spent { IfErr result (λ f. self.new.spent ≡ true) }
         ensures memory { IfErr result (λ f. EventWantsMemory self.old.now event) }
         ensures behind { OnOk result (take (length self.old.now.world.log) self.new.now.world.log
@@ -204,6 +207,8 @@ impl NetState {
         headline_of_log();
         origins_are_read();
         peers_are_read();
+        between_is_read();
+        made_once();
         premises_are_read();
         peers_are_in_step();
         alone_reads_nothing();

@@ -3,7 +3,7 @@
 ghost use Rattle.std.specs.Prelude.{◌≡◌, ◌<◌, ◌∷◌, [], IfOk, Some, length};
 ghost use Rattle.spx_theory.specs.PacketsOnWay.{note_of};
 ghost use Rattle.theory_steps.specs.World.{AtHost};
-ghost use Rattle.ipx_net_hosts.specs.Hosts.{SameHomes, StaysOverlong};
+ghost use Rattle.ipx_net_hosts.specs.Hosts.{KeepsMarks, SameHomes};
 ghost use Rattle.ipx_net.specs.AnswerView as views;
 ghost use Rattle.ipx_net.specs.LogEntries.{entry_note, entry_notes};
 ghost use Rattle.ipx_net.specs.StepResultView.{GrowsWorld, step_result_view};
@@ -109,7 +109,7 @@ pub fn poll_host(
         (PollingHost host)) }
     ensures memory { IsMade result → PollIsSent hosts.old host now }
     ensures homes { SameHomes hosts.old hosts.new }
-    ensures stays { StaysOverlong hosts.old hosts.new }
+    ensures marks { KeepsMarks hosts.old hosts.new }
 {
     let segment = hosts.network(host).unwrap();
     let mut room = [0; SPX_MAX_PACKET_SIZE];

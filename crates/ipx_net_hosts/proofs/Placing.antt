@@ -24,7 +24,7 @@ use Rattle.spx_theory.specs.Note.{Opened, Released}
 use Rattle.theory_steps.specs.EndCalls.{ChangesQuietly, DialsFrom, ReleasesOf}
 use Rattle.theory_steps.specs.HostSteps.{TakesOf, ends_after, here_after, marked_over, unit_notes, whole_notes}
 use Rattle.theory_steps.specs.World.{EndNow, HostState, StandsAt, end_at, held_in, held_of, home_at}
-use Rattle.ipx_net_hosts.specs.Hosts.{DeliveredAt, FitTogether, HostsView, LeftBy, LeftAs, LeftAt, Noting, Standing, StaysOverlong, is_lost, stands, stands_now}
+use Rattle.ipx_net_hosts.specs.Hosts.{DeliveredAt, FitTogether, HostsView, LeftBy, LeftAs, LeftAt, Noting, Standing, is_lost, stands, stands_now}
 use Rattle.ipx_net_hosts.specs.Refusing.{end_held, held_by, want}
 use Rattle.ipx_net_hosts.specs.HostStates.{ChangesAt, DialsAt, ReleasesAt, RefusalKeeps, StaysAt}
 use Rattle.ipx_net_hosts.specs.declared.refusal.Refusal.{Refusal}
@@ -354,41 +354,6 @@ station_there v ss es host x view read within =
 pub homes_set : (v : HostsView) (ss : List HostState) (es : List EndNow) (host : ℕ) (x y : HostState) → made ss es ≡ v → x ≡ get_or ss host x → home_at y ≡ home_at x → map home_at (set ss host y) ≡ map home_at v.stations
 homes_set v ss es host x y view read home =
     map-set_same home_at ss host y x (home ∙ ap home_at read) ∙ ap (λ (u : HostsView). map home_at u.stations) view
-
--- ---- ends of which a message grew too long
-
-pub stays_same : (v : HostsView) (ss : List HostState) (es es' : List EndNow) → made ss es ≡ v → es' ≡ es → StaysOverlong v (made ss es')
-stays_same v ss es es' view same who n at well =
-    inr (n, ap (λ (u : HostsView). slice_get u.ends who) (sym view) ∙ ap (λ us. slice_get us who) (sym same) ∙ at, well)
-
--- the last of them, or one before it
-last_or_before : (es : List EndNow) (e n : EndNow) (who : ℕ) → slice_get (es ++ e ∷ []) who ≡ Some n → (length es ≤ who) ⊎ (slice_get es who ≡ Some n)
-last_or_before [] e n who at = inl (omega arith)
-last_or_before (x ∷ es) e n zero at = inr at
-last_or_before (x ∷ es) e n (suc who) at = elim (last_or_before es e n who at) [ inl past ↦ inl (omega (arith, past)) | inr there ↦ inr there ]
-
-pub stays_pushed : (v : HostsView) (ss : List HostState) (es es' : List EndNow) (e : EndNow) → made ss es ≡ v → es' ≡ es ++ e ∷ [] → StaysOverlong v (made ss es')
-stays_pushed v ss es es' e view pushed who n at well =
-    elim (last_or_before es e n who (ap (λ us. slice_get us who) (sym pushed) ∙ at)) [
-      | inl past ↦ inl (subst (λ (u : HostsView). length u.ends ≤ who) view past)
-      | inr there ↦ inr (n, ap (λ (u : HostsView). slice_get u.ends who) (sym view) ∙ there, well)
-    ]
-
--- one becomes another, of which no message grew too long only if none did before
-one_changed : (es : List EndNow) (k : ℕ) (x y n : EndNow) (who : ℕ) → x ≡ get_or es k x → (y.overlong ≡ false → x.overlong ≡ false) → slice_get (set es k y) who ≡ Some n → n.overlong ≡ false
-    → (o : EndNow) × (slice_get es who ≡ Some o) × (o.overlong ≡ false)
-one_changed [] k x y n who read keeps at well = absurd (cc (at))
-one_changed (e ∷ es) zero x y n zero read keeps at well =
-    let same : y ≡ n = cc (at) in
-    (x, ap Some (sym read), keeps (ap (λ (z : EndNow). z.overlong) same ∙ well))
-one_changed (e ∷ es) zero x y n (suc who) read keeps at well = (n, at, well)
-one_changed (e ∷ es) (suc k) x y n zero read keeps at well = (n, at, well)
-one_changed (e ∷ es) (suc k) x y n (suc who) read keeps at well = one_changed es k x y n who read keeps at well
-
-pub stays_changed : (v : HostsView) (ss : List HostState) (es : List EndNow) (k : ℕ) (x y : EndNow) → made ss es ≡ v → x ≡ get_or es k x → (y.overlong ≡ false → x.overlong ≡ false) → StaysOverlong v (made ss (set es k y))
-stays_changed v ss es k x y view read keeps who n at well =
-    let was = one_changed es k x y n who read keeps at well in
-    inr (was.0, ap (λ (u : HostsView). slice_get u.ends who) (sym view) ∙ was.1, was.2)
 
 -- ---- deliver
 

@@ -1,14 +1,14 @@
 -- The hosts of a network and their ends, by their numbers; and the world that they are a part of.
-use Rattle.std.specs.Prelude.{ℕ, ◌≡◌, ◌≤◌, ◌⊎◌, Bool, false, true, not, List, ◌++◌, length, map, set, Option, Some, None, Result, Ok, Err, slice_get}
+use Rattle.std.specs.Prelude.{ℕ, ◌≡◌, ◌⊎◌, Bool, false, true, not, List, [], ◌∷◌, ◌++◌, length, map, set, Option, Some, None, Result, Ok, Err, slice_get}
 use Rattle.ipx_wire.specs.declared.address.Node.{Node}
 use Rattle.spx_messages.specs.Arrives.{Arrives}
-use Rattle.spx_messages.specs.Polls.{Polls}
 use Rattle.spx_messages.specs.Taking.{TakenView}
 use Rattle.spx_messages.specs.declared.arrived.Arrived.{Arrived}
 use Rattle.spx_messages.specs.declared.fault.EndFault.{EndFault}
 use Rattle.spx_messages.specs.declared.fault.EndFault.TheVariants as EndFaults
 use Rattle.spx_units.specs.declared.fault.MessageFault.TheVariants as MessageFaults
 use Rattle.spx_messages.specs.EndpointView.{Held, held_at}
+use Rattle.spx_messages.specs.Polls.{Polls}
 use Rattle.spx_theory.specs.Note.{Note}
 use Rattle.theory_steps.specs.EndCalls.{RefusesAt}
 use Rattle.theory_steps.specs.HostSteps.{ends_after, here_after}
@@ -43,12 +43,18 @@ stands_now (Some e) = not e.released
 abbrev pub SameHomes : HostsView → HostsView → Type 0
 SameHomes old new = map home_at new.stations ≡ map home_at old.stations
 
--- whatever is called and whatever is refused, no end goes, and an end of which a message grew too
--- long stays so: one of which none did is new, or had none before
-abbrev pub StaysOverlong : HostsView → HostsView → Type 0
-StaysOverlong old new = (who : ℕ) (n : EndNow) → slice_get new.ends who ≡ Some n
-    → n.overlong ≡ false → (length old.ends ≤ who)
-    ⊎ ((o : EndNow) × (slice_get old.ends who ≡ Some o) × (o.overlong ≡ false))
+-- of each end, in order, whether a message of it grew too long
+abbrev pub marks_of : List EndNow → List Bool
+marks_of ends = map (λ e. e.overlong) ends
+
+-- the same marks, or one more: of a new end, of which no message grew too long
+abbrev pub FollowsMarks : List Bool → List Bool → Type 0
+FollowsMarks old new = (new ≡ old) ⊎ (new ≡ old ++ false ∷ [])
+
+-- each end that was there is there, with its mark, and one end at most is new. So it is whatever is
+-- called and whatever is refused, but for a take that answers that a message grew too long
+abbrev pub KeepsMarks : HostsView → HostsView → Type 0
+KeepsMarks old new = FollowsMarks (marks_of old.ends) (marks_of new.ends)
 
 -- there is such an end, and it is not released
 abbrev pub stands : HostsView → ℕ → Bool

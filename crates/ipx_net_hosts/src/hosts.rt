@@ -14,7 +14,7 @@ ghost use Rattle.spx_messages.specs.Arrives.{IsAcceptable};
 ghost use Rattle.spx_messages.specs.Taking.{overlong, result_view};
 ghost use Rattle.ipx_net_hosts.specs.HostStates.{reader_of, speaker};
 ghost use Rattle.ipx_net_hosts.specs.EndTelling.{here_at, state_on_host};
-ghost use Rattle.ipx_net_hosts.specs.Hosts.{DeliveredAt, FitTogether, LeftAs, LeftBy, Noting, PolledAt, SameHomes, Standing, StaysOverlong, is_lost, stands};
+ghost use Rattle.ipx_net_hosts.specs.Hosts.{DeliveredAt, FitTogether, KeepsMarks, LeftAs, LeftBy, Noting, PolledAt, SameHomes, Standing, is_lost, stands};
 ghost use Rattle.ipx_net_hosts.specs.Refusing.{CloseIsRefused, DialIsLeft, Overruns, PushesTo, SendIsRefused, TakeIsRefused, close_fault, dial_fault, end_held, send_fault, want};
 
 use crate::end::EndNow;
@@ -113,7 +113,7 @@ impl Hosts {
         ensures fault { IfErr result (DialIsLeft (slice_get self.old.stations host)) }
         ensures refused { IfErr result (λ f. LeftBy f host self.old self.new now) }
         ensures homes { SameHomes self.old self.new }
-        ensures stays { StaysOverlong self.old self.new }
+        ensures marks { KeepsMarks self.old self.new }
     {
         let who = self.ends.len();
         let id = match self.stations[host].dial(alloc, who, socket, to, buffers, now) {
@@ -150,7 +150,7 @@ impl Hosts {
             (message_view message.now)) }
         ensures refused { OnErr result (LeftAs who self.old self.new now) }
         ensures homes { SameHomes self.old self.new }
-        ensures stays { StaysOverlong self.old self.new }
+        ensures marks { KeepsMarks self.old self.new }
     {
         let (host, id) = self.place(who);
         self.stations[host].send(alloc, id, message)
@@ -169,7 +169,7 @@ impl Hosts {
             (CloseIsRefused (end_held self.old.stations self.old.ends who)) }
         ensures refused { OnErr result (LeftAs who self.old self.new now) }
         ensures homes { SameHomes self.old self.new }
-        ensures stays { StaysOverlong self.old self.new }
+        ensures marks { KeepsMarks self.old self.new }
     {
         let (host, id) = self.place(who);
         self.stations[host].close(alloc, id)
@@ -183,7 +183,7 @@ impl Hosts {
             (λ w w'. PacesOf w who window manual w')) }
         ensures done { IsOk result }
         ensures homes { SameHomes self.old self.new }
-        ensures stays { StaysOverlong self.old self.new }
+        ensures marks { KeepsMarks self.old self.new }
     {
         let (host, id) = self.place(who);
         self.stations[host].pace(id, window, manual)
@@ -197,7 +197,7 @@ impl Hosts {
             (λ w w'. AsksAgainOf w who place w')) }
         ensures done { IsOk result }
         ensures homes { SameHomes self.old self.new }
-        ensures stays { StaysOverlong self.old self.new }
+        ensures marks { KeepsMarks self.old self.new }
     {
         let (host, id) = self.place(who);
         self.stations[host].again(id, place)
@@ -211,7 +211,7 @@ impl Hosts {
             (λ w w'. ReleasesOf w who w')) }
         ensures done { IsOk result }
         ensures homes { SameHomes self.old self.new }
-        ensures stays { StaysOverlong self.old self.new }
+        ensures marks { KeepsMarks self.old self.new }
     {
         let (host, id) = self.place(who);
         if let Err(fault) = self.stations[host].release(id) {
@@ -242,7 +242,7 @@ impl Hosts {
             → PushesTo (end_held self.old.stations self.old.ends who) }
         ensures refused { result.1 ≡ Err want → LeftAs who self.old self.new now }
         ensures homes { SameHomes self.old self.new }
-        ensures stays { StaysOverlong self.old self.new }
+        ensures marks { result.1 ≢ Err overlong → KeepsMarks self.old self.new }
     {
         let (host, id) = self.place(who);
         let (unit, taken) = self.stations[host].take(alloc, id);
@@ -259,7 +259,7 @@ impl Hosts {
         requires room { spx_max_packet_size ≤ length room.old }
         ensures polled { PolledAt self.old host now result room.old room.new self.new }
         ensures homes { SameHomes self.old self.new }
-        ensures stays { StaysOverlong self.old self.new }
+        ensures marks { KeepsMarks self.old self.new }
     {
         self.stations[host].poll(now, room)
     }
@@ -278,7 +278,7 @@ impl Hosts {
         ensures memory { OnErr result (IfSome (slice_get self.old.stations host)
             (λ s. IsAcceptable s.endpoint bytes.now)) }
         ensures homes { SameHomes self.old self.new }
-        ensures stays { StaysOverlong self.old self.new }
+        ensures marks { KeepsMarks self.old self.new }
     {
         let who = self.ends.len();
         let arrived = self.stations[host].deliver(alloc, bytes, now, who)?;

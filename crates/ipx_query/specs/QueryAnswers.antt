@@ -55,8 +55,9 @@ is_from_asked ask from = is_at_hand ask.own.network from.network
     && (list_any (was_asked from.node) ask.routers
     && (from.socket.0 == question_socket ask.question))
 
+-- and no router forwarded it: one that answers on its own network sends with no hops
 abbrev pub is_answer : AskView → IpxHeader → Bool
-is_answer ask h = is_to_querier ask h.to && is_from_asked ask h.from
+is_answer ask h = (h.hops == 0) && (is_to_querier ask h.to && is_from_asked ask h.from)
 
 -- ---- what is heard of one
 

@@ -213,11 +213,12 @@ impl QueryCore {
             && from.socket == socket_of(self.question)
     }
 
-    /// Whether a packet is to this host, from a router that was asked and the socket that it was asked at.
+    /// Whether a packet is to this host, from a router that was asked and the socket that it was asked at,
+    /// and no router forwarded it.
     fn is_answer(&self, header: IpxHeader) -> bool
         ensures { result ≡ is_answer self.now header }
     {
-        self.is_to_us(header.to) && self.is_from_router(header.from)
+        header.hops == 0 && self.is_to_us(header.to) && self.is_from_router(header.from)
     }
 
     /// The asking begins, if it has not yet. It answers how many rounds have begun by then.

@@ -2,7 +2,7 @@
 
 ghost use Rattle.std.specs.Prelude.{◌≡◌, ◌⊎◌};
 
-use ipx_site::{BindErrorKind, BindFault, WaitFault};
+use ipx_site::{BindErrorKind, BindFault, ClockFault, WaitFault};
 use ipx_wire::OutOfMemory;
 use std::alloc::{AllocError, AllocFailed};
 
@@ -14,6 +14,8 @@ pub enum AskFault {
     Bind(BindErrorKind),
     /// The system has no way to wait.
     Wait,
+    /// The system does not tell the time.
+    Clock,
     /// The writer fails.
     Unwritten,
 }
@@ -45,6 +47,12 @@ impl From<BindFault> for AskFault {
     }
 }
 
+impl From<ClockFault> for AskFault {
+    fn from(_fault: ClockFault) -> AskFault {
+        AskFault::Clock
+    }
+}
+
 impl From<WaitFault> for AskFault {
     fn from(fault: WaitFault) -> AskFault {
         match fault {
@@ -62,6 +70,7 @@ pub fn tell_fault<R: Eprint>(rt: &R, path: &str, fault: AskFault) -> u8
         AskFault::OutOfMemory => eprintln!(rt; "{path}: out of memory"),
         AskFault::Bind(obstacle) => eprintln!(rt; "{path}: {obstacle}"),
         AskFault::Wait => eprintln!(rt; "{path}: the system can't wait for the socket"),
+        AskFault::Clock => eprintln!(rt; "{path}: the system's clock can't be read"),
         AskFault::Unwritten => eprintln!(rt; "standard output can't be written"),
     };
     1

@@ -99,6 +99,7 @@ impl<'a, R: Net + Clock> PingingHost<'a, R> {
         ensures access_list { IfOk result (λ h.
             map access_by h.own_socket.device.access_lists.items ≡ guarded_pinger file.now to ∷ []) }
     {
+        let clock = SteadyClock::new(rt)?;
         let access_list = access_list_of(alloc, file, to)?;
         let (own_socket, poller) = QuerySocket::open(rt, alloc, file, access_list)?;
         let own = querier_address(file);
@@ -108,7 +109,7 @@ impl<'a, R: Net + Clock> PingingHost<'a, R> {
             to,
             times: Vec::new(alloc),
             own_socket,
-            clock: SteadyClock::new(rt),
+            clock,
             poller,
             watch: StopWatch::new(rt),
         })

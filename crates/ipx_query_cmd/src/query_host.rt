@@ -75,6 +75,7 @@ impl<'a, R: Net + Clock> QueryHost<'a, R> {
         ensures access_list { IfOk result (λ h.
             map access_by h.own_socket.device.access_lists.items ≡ guarded_querier file.now ∷ []) }
     {
+        let clock = SteadyClock::new(rt)?;
         let ips = asked_ips(alloc, file)?;
         let access_list = access_list_of(alloc, file, &ips)?;
         let (own_socket, poller) = QuerySocket::open(rt, alloc, file, access_list)?;
@@ -84,7 +85,7 @@ impl<'a, R: Net + Clock> QueryHost<'a, R> {
         Ok(QueryHost {
             core,
             own_socket,
-            clock: SteadyClock::new(rt),
+            clock,
             poller,
             times,
         })

@@ -14,8 +14,9 @@ const ANSWERS: [&str; 3] = [
 ];
 
 /// To another socket, node and network; to all nodes; from a node that was not asked, and from one
-/// of another network; from the socket of SAP; a request, an operation 3, no operation; a datagram that is cut, and none.
-const STRANGE: [&str; 12] = [
+/// of another network; from the socket of SAP; a request, an operation 3, no operation; a datagram that is cut, and none; and
+/// an answer that a router forwarded, and one that fifteen did.
+const STRANGE: [&str; 14] = [
     "ffff002800010000001100007f00000904530000001100007f000001045300020000002200020008",
     "ffff002800010000001100007f00000840030000001100007f000001045300020000002200020008",
     "ffff002800010000001200007f00000940030000001100007f000001045300020000002200020008",
@@ -28,6 +29,8 @@ const STRANGE: [&str; 12] = [
     "ffff001e00010000001100007f00000940030000001100007f0000010453",
     "ffff002800010000001100007f00000940030000001100007f0000010453000200000022000200",
     "",
+    "ffff002801010000001100007f00000940030000001100007f000001045300020000002200020008",
+    "ffff00280f010000000000007f00000940030000000000007f000001045300020000002200020008",
 ];
 
 fn has_heard(core: &QueryCore) -> bool {

@@ -2,9 +2,11 @@
 use Rattle.std.proofs.Common.{◌≡◌, ◌≤◌, ◌<◌, inl, inr, ◌∙◌, ℕ, zero, suc, ◌+◌, ◌-◌, ◌*◌, ◌/◌, true, List, [], ◌∷◌, max, sym, ap, subst, arith}
 use Rattle.std.proofs.lemmas.Bool.Decides.{nat_tests}
 use Rattle.ipx_site.specs.declared.querier.Querier.{Querier}
-use Rattle.ipx_site.specs.TokenBuckets.{TokenBucketsView, back_after, back_at, has_token, with_token_taken}
-use Rattle.ipx_site.specs.QueryLimiter.{HearsSparingly, QueryLimiterView}
-use Rattle.ipx_site.specs.QueryRate.{AreHeardOf, Coming, Course}
+use Rattle.ipx_site.specs.declared.token_buckets.Asking.{Asking}
+use Rattle.ipx_site.specs.TokenBucket.{back_after, has_token}
+use Rattle.ipx_site.specs.TokenBuckets.{TokenBucketsView, back_at, with_token_taken}
+use Rattle.ipx_site.specs.RateLimiter.{HearsSparingly, RateLimiterView}
+use Rattle.ipx_site.specs.QueryRate.{AreSuch, Coming, Course, IsHeardOf}
 use Rattle.ipx_site.proofs.Taken.{back_at_grows, back_at_own}
 
 has_own : (back now : ℕ) → has_token 8 back now ≡ true → back ≤ now + 7000
@@ -22,41 +24,51 @@ own t who now = back_at_own who now (back_after (back_at t.queriers who) now) t.
 
 module _ {C : Type 0} (hears : C → ℕ → List ℕ → ℕ → C → Type 0) where
   -- whatever comes
-  step : (who : Querier) (old : QueryLimiterView C) (port : ℕ) (bytes : List ℕ) (now : ℕ) (new : QueryLimiterView C) → HearsSparingly hears old port bytes now new → back_at old.queriers.queriers who ≤ max (back_at new.queriers.queriers who) now
+  step : (who : Querier) (old : RateLimiterView C) (port : ℕ) (bytes : List ℕ) (now : ℕ) (new : RateLimiterView C) → HearsSparingly hears old port bytes now new → back_at old.buckets.queriers who ≤ max (back_at new.buckets.queriers who) now
   step who old port bytes now new h =
-      let goal : TokenBucketsView → Type 0 = λ t. back_at old.queriers.queriers who ≤ max (back_at t.queriers who) now in
-      let same : goal old.queriers = omega arith in
-      let queriers : QueryLimiterView C → TokenBucketsView = λ v. v.queriers in
+      let goal : TokenBucketsView → Type 0 = λ t. back_at old.buckets.queriers who ≤ max (back_at t.queriers who) now in
+      let same : goal old.buckets = omega arith in
+      let buckets : RateLimiterView C → TokenBucketsView = λ v. v.buckets in
       elim h [
-        | inl x ↦
-            let is : new.queriers ≡ with_token_taken old.queriers x.0 now = ap queriers x.1.3 in
-            subst goal (sym is) (grows old.queriers x.0 who now)
+        | inl q ↦ elim q [
+          | inl x ↦
+              let is : new.buckets ≡ with_token_taken old.buckets x.0 now = ap buckets x.1.3 in
+              subst goal (sym is) (grows old.buckets x.0 who now)
+          | inr x ↦ let is : new.buckets ≡ old.buckets = ap buckets x.3 in subst goal (sym is) same
+        ]
         | inr y ↦ elim y [
-          | inl x ↦ let is : new.queriers ≡ old.queriers = ap queriers x.3 in subst goal (sym is) same
-          | inr x ↦ let is : new.queriers ≡ old.queriers = ap queriers x.2 in subst goal (sym is) same
+          | inl d ↦ elim d [
+            | inl x ↦
+                let queriers : RateLimiterView C → List Asking = λ v. v.buckets.queriers in
+                let asking : List Asking → Type 0 = λ xs. back_at old.buckets.queriers who ≤ max (back_at xs who) now in
+                let is : new.buckets.queriers ≡ old.buckets.queriers = ap queriers x.1.3 in
+                subst asking (sym is) same
+            | inr x ↦ let is : new.buckets ≡ old.buckets = ap buckets x.3 in subst goal (sym is) same
+          ]
+          | inr x ↦ let is : new.buckets ≡ old.buckets = ap buckets x.3 in subst goal (sym is) same
         ]
       ]
 
-  few : (who : Querier) (a b : ℕ) (course : List (Coming C)) (from : ℕ) (old : QueryLimiterView C) (n : ℕ) → Course hears from old course → AreHeardOf hears who a b course n → 0 < n → max (max (back_at old.queriers.queriers who) from) a + 1000 * n ≤ b + 8000
+  few : (who : Querier) (a b : ℕ) (course : List (Coming C)) (from : ℕ) (old : RateLimiterView C) (n : ℕ) → Course hears from old course → AreSuch (IsHeardOf hears who a b) course n → 0 < n → max (max (back_at old.buckets.queriers who) from) a + 1000 * n ≤ b + 8000
   few who a b [] from old n runs are some = absurd (omega arith)
   few who a b (c ∷ rest) from old n runs are some =
       let back : TokenBucketsView → ℕ = λ t. back_at t.queriers who in
-      let before : back c.before.queriers ≡ back old.queriers = ap back runs.1 in
+      let before : back c.before.buckets ≡ back old.buckets = ap back runs.1 in
       let later : from ≤ c.now = runs.0 in
       let then = few who a b rest c.now c.after in
       elim are [
         | inl x ↦
             let first : a ≤ c.now = x.0.0 in
             let last : c.now ≤ b = x.0.1 in
-            let turn : back c.before.queriers ≤ c.now + 7000 = has_own _ c.now x.0.2.1.own in
-            let queriers : QueryLimiterView C → TokenBucketsView = λ v. v.queriers in
-            let is : c.after.queriers ≡ with_token_taken c.before.queriers who c.now = ap queriers x.0.2.3 in
-            let taken : back c.after.queriers ≡ max (back c.before.queriers) c.now + 1000 = ap back is ∙ own c.before.queriers who c.now in
-            one_more (back old.queriers) (back c.before.queriers) (back c.after.queriers) from a b c.now n x.1 before later first last turn taken x.2 (λ more. then x.1 runs.3 x.3 more)
+            let turn : back c.before.buckets ≤ c.now + 7000 = has_own _ c.now x.0.2.1.own in
+            let buckets : RateLimiterView C → TokenBucketsView = λ v. v.buckets in
+            let is : c.after.buckets ≡ with_token_taken c.before.buckets who c.now = ap buckets x.0.2.3 in
+            let taken : back c.after.buckets ≡ max (back c.before.buckets) c.now + 1000 = ap back is ∙ own c.before.buckets who c.now in
+            one_more (back old.buckets) (back c.before.buckets) (back c.after.buckets) from a b c.now n x.1 before later first last turn taken x.2 (λ more. then x.1 runs.3 x.3 more)
         | inr x ↦
             let more = step who c.before c.port c.bytes c.now c.after runs.2 in
             let ih = then n runs.3 x.1 some in
-            none_more (back old.queriers) (back c.before.queriers) (back c.after.queriers) from a b c.now n before later more ih
+            none_more (back old.buckets) (back c.before.buckets) (back c.after.buckets) from a b c.now n before later more ih
       ]
     where
       one_more : (x y z from a b now n m : ℕ) → y ≡ x → from ≤ now → a ≤ now → now ≤ b → y ≤ now + 7000 → z ≡ max y now + 1000 → n ≡ m + 1 → (0 < m → max (max z now) a + 1000 * m ≤ b + 8000) → max (max x from) a + 1000 * n ≤ b + 8000
@@ -67,7 +79,7 @@ module _ {C : Type 0} (hears : C → ℕ → List ℕ → ℕ → C → Type 0) 
       none_more : (x y z from a b now n : ℕ) → y ≡ x → from ≤ now → y ≤ max z now → max (max z now) a + 1000 * n ≤ b + 8000 → max (max x from) a + 1000 * n ≤ b + 8000
       none_more x y z from a b now n e1 h1 h2 h3 = omega arith
 
-  pub seldom : (who : Querier) (from a b n : ℕ) (old : QueryLimiterView C) (course : List (Coming C)) → Course hears from old course → AreHeardOf hears who a b course n → n ≤ 8 + (b - a) / 1000
+  pub seldom : (who : Querier) (from a b n : ℕ) (old : RateLimiterView C) (course : List (Coming C)) → Course hears from old course → AreSuch (IsHeardOf hears who a b) course n → n ≤ 8 + (b - a) / 1000
   seldom who from a b zero old course runs are = omega arith
   seldom who from a b (suc n) old course runs are =
       let most = few who a b course from old (suc n) runs are (omega arith) in

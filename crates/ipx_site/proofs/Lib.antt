@@ -1,3 +1,4 @@
+pub mod ControlSent
 pub mod Each
 pub mod KeptSums
 pub mod Faults
@@ -21,6 +22,8 @@ pub mod StandingFiles
 pub mod StandingSites
 pub mod Taken
 pub mod Hearings
+pub mod PortRates
+pub mod PortTokens
 pub mod WireEnds
 pub mod WrittenStations
 pub mod Spots
@@ -32,3 +35,4 @@ pub mod Present
 pub mod StationFaults
 pub mod ListedClients
 pub mod RanRounds
+pub mod TemporaryNames

@@ -29,10 +29,11 @@ of_parts totals core kept refused faults switches unknown_senders ethernet_fault
   unknown_senders = kept.unknown_senders.count;
   spoofed = kept.spoofed.count;
   not_a_router = kept.not_a_router.count;
-  rate_limited = core.kept.count;
+  rate_limited = core.core.kept.count;
+  directed = core.core.directed.count;
   refused = refused;
-  table_full = core.core.core.outcomes.table_full;
-  queue_full = core.core.core.dropped;
+  table_full = core.core.core.core.outcomes.table_full;
+  queue_full = core.core.core.core.dropped;
   device = counted (totals.device_faults + (faults + ethernet_faults + server_faults));
   memory = totals.memory_faults;
   file = totals.file_faults;

@@ -1,15 +1,17 @@
 -- One round of a router after another.
 use Rattle.std.proofs.Common.{◌≡◌, ◌⊎◌, ◌+◌, ℕ, suc, Bool, true, false, List, [], Result, Ok, Err, inl, inr, arith, subst, sym, ◌∙◌}
-use Rattle.std.specs.Prelude.{IfErr, IfOk, OnErr, OnOk, is_err, is_ok, map, if◌then◌else◌}
+use Rattle.std.specs.Prelude.{◌==◌, IfErr, IfOk, OnOk, is_err, map}
 use Rattle.ipx_carrier.specs.ReadySet.{AreMarked, is_any_marked}
 use Rattle.ipx_carrier.specs.Turns.{peers_of}
 use Rattle.ipx_carrier.specs.declared.report.Batch.{Batch}
+use Rattle.ipx_source_checks.specs.SourceChecks.{nothing_dropped_yet}
 use Rattle.ipx_site.specs.IdleTime.{IsDue, deadlines, happened}
 use Rattle.ipx_site.specs.KindPorts.{ArePortsBound}
 use Rattle.ipx_site.specs.Loading.{IsFileText}
+use Rattle.ipx_site.specs.PortLimits.{limits_of}
 use Rattle.ipx_site.specs.PortsView.{kept_in_ports, ways_in}
 use Rattle.ipx_site.specs.RouterRounds.{IsRound, SleepsBehind}
-use Rattle.ipx_site.specs.RoutingRuns.{EndsRouter, EndsRouting, Rounds, RunsRouter, RunsTo, StartsBy, TakesRound}
+use Rattle.ipx_site.specs.RoutingRuns.{Rounds, RoutesWell, RunsTo, StartsBy, StartsByFile, TakesRound}
 use Rattle.ipx_site.specs.Site.{IsSiteText}
 use Rattle.ipx_site.specs.SiteMarks.{marks_in, numbers_come}
 use Rattle.ipx_site.specs.SitePorts.{access_by, router_ports}
@@ -52,36 +54,36 @@ rounds_more n first before last run one well =
     let next : suc n ≡ n + 1 = omega arith in
     subst (λ (k : ℕ). Rounds k first last) next (before, run, one, well)
 
--- a router that was started ran so
-pub ran_so : {R E : Type 0} (started : Result (RunningRouter R) E) (s last : RunningRouter R) (ok : Bool) → started ≡ Ok s → RunsTo s last ok
-    → IfOk started (λ s. (last : RunningRouter R) × RunsTo s last ok)
-ran_so {R} {E} started s last ok is runs = subst (λ (r : Result (RunningRouter R) E). IfOk r (λ s. (last : RunningRouter R) × RunsTo s last ok)) (sym is) (last, runs)
-
--- what was started and ran is a run of a router of its file
-pub ran : {R E : Type 0} (site : RouterConfig) (started : Result (RunningRouter R) E) (ok : Bool) → IfOk started (λ s. StartsBy site s) → OnErr started (ok ≡ false)
-    → IfOk started (λ s. (last : RunningRouter R) × RunsTo s last ok) → (ok ≡ false) ⊎ RunsRouter R site ok
-ran site (Ok s) ok starts unstarted runs = inr (record { first = s; starts = starts; last = runs.0; runs = runs.1 })
-ran site (Err e) ok starts unstarted runs = inl unstarted
-
 -- what is said of a start, in one
 pub started_by : {R E : Type 0} (site : RouterConfig) (started : Result (RunningRouter R) E)
-    → IfOk started (λ s. s.core.core.core.router.ports ≡ router_ports site.ports.items) → IfOk started (λ s. IsToHear site.statics.items s.core.core)
-    → IfOk started (λ s. (s.core.ports ≡ router_ports site.ports.items) × (s.core.queriers.queriers ≡ []) × (s.core.queriers.back ≡ 0))
+    → IfOk started (λ s. s.core.core.core.core.router.ports ≡ router_ports site.ports.items) → IfOk started (λ s. IsToHear site.statics.items s.core.core.core)
+    → IfOk started (λ s. (s.core.ports ≡ router_ports site.ports.items) × (s.core.drops ≡ nothing_dropped_yet))
+    → IfOk started (λ s. (s.core.core.ports ≡ router_ports site.ports.items) × (s.core.core.buckets.queriers ≡ []) × (s.core.core.buckets.ports ≡ limits_of site.ports.items))
     → IfOk started (λ s. ArePortsBound site.ports.items s.ports) → IfOk started (λ s. s.clock.last ≡ 0) → IfOk started (λ s. s.asked ≡ 0)
     → IfOk started (λ s. StartsBy site s)
-started_by site (Ok s) ports statics queriers bound clock asked =
-    record { ports = ports; statics = statics; queriers = queriers; bound = bound; clock = clock; asked = asked }
-started_by site (Err e) ports statics queriers bound clock asked = tt
+started_by site (Ok s) ports statics checks queriers bound clock asked =
+    record { ports = ports; statics = statics; checks = checks; queriers = queriers; bound = bound; clock = clock; asked = asked }
+started_by site (Err e) ports statics checks queriers bound clock asked = tt
 
--- its status
-pub ends_by : {R : Type 0} (site : RouterConfig) (ok : Bool) (status : ℕ) → status ≡ (if ok then 0 else 1) → (ok ≡ false) ⊎ RunsRouter R site ok → EndsRouter R site status
-ends_by site true status is (inl off) = absurd (cc)
-ends_by site false status is (inl off) = inl is
-ends_by site ok status is (inr run) = inr (ok, is, run)
+-- a router that started as its file says started as a file says
+pub starts_by_file : {R : Type 0} (loaded : Result RouterConfig ℕ) (result : Result (RunningRouter R) ℕ) → IfOk loaded (λ s. (text : List ℕ) × IsFileText text × IsSiteText text s)
+    → IfErr loaded (λ s. result ≡ Err s) → IfOk loaded (λ site. IfOk result (λ s. StartsBy site s)) → IfOk result (λ s. StartsByFile s)
+starts_by_file (Ok site) (Ok s) text unread starts = (text.0, site, text.1, text.2, starts)
+starts_by_file loaded (Err e) text unread starts = tt
+starts_by_file (Err e) (Ok s) text unread starts = absurd (cc)
 
--- and that of a file which was loaded, or was not
-pub ends_loaded : {R : Type 0} (loaded : Result RouterConfig ℕ) (status : ℕ) → IfErr loaded (λ s. (s ≡ 1) ⊎ (s ≡ 2)) → IfOk loaded (λ s. (text : List ℕ) × IsFileText text × IsSiteText text s)
-    → IfErr loaded (λ s. status ≡ s) → IfOk loaded (λ site. EndsRouter R site status) → EndsRouting R status
-ends_loaded (Ok site) status fault text unread ends = inr (text.0, site, text.1, text.2, ends)
-ends_loaded (Err s) status (inl one) text unread ends = inl (inl (unread ∙ one))
-ends_loaded (Err s) status (inr two) text unread ends = inl (inr (unread ∙ two))
+-- the status of a router that was not started
+pub start_refused : {R : Type 0} (loaded : Result RouterConfig ℕ) (result : Result (RunningRouter R) ℕ) → IfErr loaded (λ s. (s ≡ 1) ⊎ (s ≡ 2))
+    → IfErr loaded (λ s. result ≡ Err s) → OnOk loaded (IfErr result (λ s. s ≡ 1)) → IfErr result (λ s. (s ≡ 1) ⊎ (s ≡ 2))
+start_refused loaded (Ok s) fault unread refused = tt
+start_refused (Ok site) (Err e) fault unread refused = inl refused
+start_refused (Err l) (Err e) fault unread refused = let same : e ≡ l = cc in subst (λ (s : ℕ). (s ≡ 1) ⊎ (s ≡ 2)) (sym same) fault
+
+-- a run that ended well, of a router that started as a file says
+pub routes_well : {R : Type 0} (first last : RunningRouter R) (status : ℕ) → StartsByFile first → RunsTo first last (status == 0) → status ≡ 0 → RoutesWell R
+routes_well first last status starts runs well = (first, last, starts, subst (λ (n : ℕ). RunsTo first last (n == 0)) well runs)
+
+-- a router that was not started did not end well
+pub not_well : {P : Type 0} (status : ℕ) → (status ≡ 1) ⊎ (status ≡ 2) → status ≡ 0 → P
+not_well status (inl one) none = absurd (omega (arith, one, none))
+not_well status (inr two) none = absurd (omega (arith, two, none))

@@ -11,20 +11,20 @@ use Rattle.ipx_site.specs.RouterRounds.{AsksAgain, IsRound, SleepsBehind}
 
 -- a core that asks again has the ports that it had
 pub same_ports : (now times times_after : ℕ) (old mid : SiteCore) → AsksAgain now times times_after old mid
-    → length mid.core.core.router.ports ≡ length old.core.core.router.ports
-same_ports now times times_after old mid (inl h) = ap (λ (v : SiteCore). length v.core.core.router.ports) h.2
-same_ports now times times_after old mid (inr h) = ap (λ (v : SiteCore). length v.core.core.router.ports) h.2
+    → length mid.core.core.core.router.ports ≡ length old.core.core.core.router.ports
+same_ports now times times_after old mid (inl h) = ap (λ (v : SiteCore). length v.core.core.core.router.ports) h.2
+same_ports now times times_after old mid (inr h) = ap (λ (v : SiteCore). length v.core.core.core.router.ports) h.2
 
 pub is_round : {K A : Type 0} (stops tells : K → ℕ → K → Type 0) (clock told tick clock_after : K) (transmissions here : Ways A)
     (i j n : ℕ) (now moment times times_after : ℕ) (old mid new : SiteCore) (b : Batch) → stops clock now told → tick ≡ told → moment ≡ now
     → AsksAgain now times times_after old mid → here ≡ transmissions → j ≡ i
-    → BurstsBy SiteHears SiteMisses SiteGives SiteWithholds tells (length mid.core.core.router.ports) here 32 b j n tick clock_after mid new
+    → BurstsBy SiteHears SiteMisses SiteGives SiteWithholds tells (length mid.core.core.core.router.ports) here 32 b j n tick clock_after mid new
     → IsRound clock clock_after stops tells transmissions i n times times_after old new moment b
 is_round {A = A} stops tells clock told tick clock_after transmissions here i j n now moment times times_after old mid new b h e m asks f g bursts =
     let at = subst (λ ports. BurstsBy SiteHears SiteMisses SiteGives SiteWithholds tells ports here 32 b j n tick clock_after mid new)
     (same_ports now times times_after old mid asks) bursts in
-    let by = subst (λ (it : Ways A). BurstsBy SiteHears SiteMisses SiteGives SiteWithholds tells (length old.core.core.router.ports) it 32 b j n tick clock_after mid new) f at in
-    let kept = subst (λ it. BurstsBy SiteHears SiteMisses SiteGives SiteWithholds tells (length old.core.core.router.ports) transmissions 32 b it n tick clock_after mid new) g by in
+    let by = subst (λ (it : Ways A). BurstsBy SiteHears SiteMisses SiteGives SiteWithholds tells (length old.core.core.core.router.ports) it 32 b j n tick clock_after mid new) f at in
+    let kept = subst (λ it. BurstsBy SiteHears SiteMisses SiteGives SiteWithholds tells (length old.core.core.core.router.ports) transmissions 32 b it n tick clock_after mid new) g by in
     (now, tick, mid, subst (λ it. stops clock now it) (sym e) h, m, asks, kept)
 
 -- how long a router waits, by how its burst ended

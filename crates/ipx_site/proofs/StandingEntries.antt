@@ -308,6 +308,24 @@ found_in in_word s e x is = found_if in_word s e x (is_one_source e.by s) refl i
 finds_when : {E : Type 0} (b : Bool) (o : Option E) (x : E) → b ≡ true → o ≡ Some x → (if b then o else None) ≡ Some x
 finds_when b o x passes is = rw (passes, is) refl
 
+-- what a neighbour says is the word of an entry that is heard from it
+of_entry : {E : Type 0} (in_word : StaticItem → Option E) (word_of : E → StaticItem) (said_by : StaticNeighbour → List E) (reads : (w : StaticItem) (x : E) → in_word w ≡ Some x → w ≡ word_of x)
+    (es : List StaticEntry) (ns : List StaticNeighbour) → AreSilent es ns → ((s : Source) (n : StaticNeighbour) → IsSilent es s n → said_by n ≡ filter_map (Finds in_word s) es)
+    → (m : StaticNeighbour) → Contains ns m → (y : E) → Contains (said_by m) y → (g : StaticEntry) × Contains es g × (g.by ≡ static_source m) × (g.word ≡ word_of y)
+of_entry {E} in_word word_of said_by reads es ns silent said m among y there =
+    let (s, is) = of_right (IsSilent es) (named_sources [] es) ns silent m among in
+    let (f, inside, found) = made_of (Finds in_word s) es y (subst (λ (l : List E). Contains l y) (said s m is) there) in
+    let (from, reading) = found_in in_word s f y found in
+    (f, inside, from ∙ sym is.source, reads f.word y reading)
+
+pub route_entry : (es : List StaticEntry) (ns : List StaticNeighbour) → AreSilent es ns → (m : StaticNeighbour) → Contains ns m → (y : RipEntry) → Contains m.routes.items y
+    → (g : StaticEntry) × Contains es g × (g.by ≡ static_source m) × (g.word ≡ Says.Route y)
+route_entry es ns silent = of_entry route_in_word (λ (x : RipEntry). Says.Route x) (λ (m : StaticNeighbour). m.routes.items) is_route es ns silent (λ s m of. of.routes)
+
+pub service_entry : (es : List StaticEntry) (ns : List StaticNeighbour) → AreSilent es ns → (m : StaticNeighbour) → Contains ns m → (y : ServiceEntry) → Contains m.services.items y
+    → (g : StaticEntry) × Contains es g × (g.by ≡ static_source m) × (g.word ≡ Says.Service y)
+service_entry es ns silent = of_entry service_in_word (λ (x : ServiceEntry). Says.Service x) (λ (m : StaticNeighbour). m.services.items) is_service es ns silent (λ s m of. of.services)
+
 module _ {E K M : Type 0} (in_word : StaticItem → Option E) (word_of : E → StaticItem) (key_of : E → K) (metric_of : E → M) (said_by : StaticNeighbour → List E)
     (reads : (w : StaticItem) (x : E) → in_word w ≡ Some x → w ≡ word_of x) (in_own : (x : E) → in_word (word_of x) ≡ Some x)
     (alike : (x y : E) → key_of x ≡ key_of y → SayTheSame (word_of x) (word_of y))

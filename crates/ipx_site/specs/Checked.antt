@@ -17,6 +17,8 @@ use Rattle.ipx_site.specs.declared.statics.StaticItem.{StaticItem}
 use Rattle.ipx_site.specs.declared.statics.StaticItem.TheVariants.{Route, Service}
 use Rattle.ipx_site.specs.declared.site.Accept.{Accept}
 use Rattle.ipx_site.specs.declared.site.Accept.TheVariants.{Any, Peers}
+use Rattle.ipx_site.specs.declared.site.Directed.{Directed}
+use Rattle.ipx_site.specs.declared.site.Directed.TheVariants.{Never, Few, Always}
 use Rattle.ipx_site.specs.declared.site.EthernetPortConfig.{EthernetPortConfig}
 use Rattle.ipx_site.specs.declared.ipxnet_port.IpxnetPortConfig.{IpxnetPortConfig}
 use Rattle.ipx_site.specs.declared.site.PortConfig.{PortConfig}
@@ -64,11 +66,18 @@ abbrev pub routers_text : Option (Vec (List ℕ) Global) → List ℕ
 routers_text None = []
 routers_text (Some routers) = codes " routers " ++ decimal (length routers.items)
 
--- what it costs, to how many it sends, how many of them are routers, and who is heard
+-- which directed broadcasts leave by it, where they are not few
+abbrev pub directed_text : Directed → List ℕ
+directed_text Never = codes " directed none"
+directed_text Few = []
+directed_text Always = codes " directed all"
+
+-- what it costs, to how many it sends, how many of them are routers, who is heard, and which directed
+-- broadcasts leave by it
 abbrev pub dealings_text : Rfc1234PortConfig → List ℕ
 dealings_text p =
     codes "cost " ++ (decimal p.cost ++ (codes " peers " ++ (decimal (length p.peers.items)
-    ++ (routers_text p.routers ++ others_text p.accept))))
+    ++ (routers_text p.routers ++ (others_text p.accept ++ directed_text p.directed)))))
 
 -- a port of RFC 1234 with its number
 abbrev pub rfc1234_text : ℕ → Rfc1234PortConfig → List ℕ
@@ -84,11 +93,12 @@ ethernet_end_text end = codes " " ++ reached_text end.ip end.udp_port
 abbrev pub joined_text : Bool → List ℕ
 joined_text joined = if joined then [] else codes " apart"
 
--- what it costs, where the ends of its wire are, and whether it is their hub
+-- what it costs, where the ends of its wire are, whether it is their hub, and which directed broadcasts leave
+-- by it
 abbrev pub ethernet_text : EthernetPortConfig → List ℕ
 ethernet_text p =
     codes "cost " ++ (decimal p.cost ++ (codes " ends" ++ (flat_map ethernet_end_text p.ends.items
-    ++ joined_text p.joined)))
+    ++ (joined_text p.joined ++ directed_text p.directed))))
 
 -- a port on a wire with its number
 abbrev pub frames_text : ℕ → EthernetPortConfig → List ℕ
@@ -102,12 +112,13 @@ abbrev pub join_text : List Place → List ℕ
 join_text routers =
     if length routers == 0 then [] else codes " joined" ++ flat_map ethernet_end_text routers
 
--- what it costs, how many clients it may have, who may register, and what it is joined to
+-- what it costs, how many clients it may have, who may register, what it is joined to, and which directed
+-- broadcasts leave by it
 abbrev pub clients_text : IpxnetPortConfig → List ℕ
 clients_text p =
     codes "cost " ++ (decimal p.cost ++ (codes " clients " ++ (decimal p.clients
     ++ (codes " peers " ++ (decimal (length p.peers.items)
-    ++ (others_text p.accept ++ join_text p.join.items))))))
+    ++ (others_text p.accept ++ (join_text p.join.items ++ directed_text p.directed)))))))
 
 -- a port for clients of ipxnet with its number
 abbrev pub ipxnet_text : ℕ → IpxnetPortConfig → List ℕ

@@ -1,14 +1,15 @@
 -- When a router told what it dropped, and of what it warns. All of it is own.
-use Rattle.std.specs.Prelude.{ℕ, Bool, true, false, not, ◌==◌, ◌&&◌, Option, Some, None}
+use Rattle.std.specs.Prelude.{◌≡◌, ℕ, Bool, true, false, not, ◌==◌, ◌&&◌, Option, Some, None}
 use Rattle.ipx_wire.specs.Assigned.{rip_socket, sap_socket}
 use Rattle.ipx_wire.specs.declared.address.Address.{Address}
 use Rattle.ipx_router.specs.Classify.{is_node}
 use Rattle.ipx_router.specs.RouterPackets.{broadcast}
 use Rattle.ipx_metrics.specs.declared.last_drops.LastDrop.{LastDrop}
 use Rattle.ipx_carrier.specs.declared.outcome_counters.OutcomeCounters.{OutcomeCounters}
+use Rattle.ipx_source_checks.specs.declared.drops.SourceDrops.{SourceDrops}
 use Rattle.ipx_site.specs.declared.drop_log.DropLog.{DropLog}
 use Rattle.ipx_site.specs.declared.drop_log.DropReason.{DropReason}
-use Rattle.ipx_site.specs.declared.drop_log.DropReason.TheVariants.{Bad, NotOurs, NoRoute, HopLimit, BadControl}
+use Rattle.ipx_site.specs.declared.drop_log.DropReason.TheVariants.{Bad, NotOurs, NoRoute, HopLimit, BadControl, ForwardedControl, LoopedSource}
 use Rattle.ipx_site.specs.Moments.{IsToldIfDue, untold}
 
 -- nothing was told yet
@@ -19,15 +20,20 @@ no_drops_told = record {
   no_route = untold;
   hop_limit = untold;
   bad_control = untold;
+  forwarded_control = untold;
+  looped_source = untold;
 }
 
--- what was dropped for each of five reasons is told then, exactly where it is due
-pub record AreDropsTold (outcomes : OutcomeCounters) (now : ℕ) (old new : DropLog) : Type 0 where
+-- what was dropped for each of seven reasons is told then, exactly where it is due
+pub record AreDropsTold (outcomes : OutcomeCounters) (source : SourceDrops) (now : ℕ) (old new : DropLog) : Type 0 where
   pub bad : IsToldIfDue outcomes.bad now old.bad new.bad
   pub not_ours : IsToldIfDue outcomes.not_ours now old.not_ours new.not_ours
   pub no_route : IsToldIfDue outcomes.no_route now old.no_route new.no_route
   pub hop_limit : IsToldIfDue outcomes.hop_limit now old.hop_limit new.hop_limit
   pub bad_control : IsToldIfDue outcomes.bad_control now old.bad_control new.bad_control
+  pub forwarded_control :
+      IsToldIfDue source.forwarded_control.count now old.forwarded_control new.forwarded_control
+  pub looped_source : IsToldIfDue source.looped_source.count now old.looped_source new.looped_source
 
 -- the last datagram of a reason was sent to all nodes of a network, by neither RIP nor SAP, which routers hear
 abbrev pub is_for_all_nodes : Option Address → Bool
@@ -46,3 +52,17 @@ warns_of NotOurs last = not (is_of_all_nodes last)
 warns_of NoRoute last = true
 warns_of HopLimit last = true
 warns_of BadControl last = true
+warns_of ForwardedControl last = true
+warns_of LoopedSource last = true
+
+-- ---- words of the private functions
+
+-- what failed a source check is told so, and no other reason
+pub record AreSourceDropsTold (source : SourceDrops) (now : ℕ) (old new : DropLog) : Type 0 where
+  pub forwarded_control :
+      IsToldIfDue source.forwarded_control.count now old.forwarded_control new.forwarded_control
+  pub looped_source : IsToldIfDue source.looped_source.count now old.looped_source new.looped_source
+  pub rest : new ≡ record old {
+    forwarded_control = new.forwarded_control;
+    looped_source = new.looped_source;
+  }

@@ -4,6 +4,7 @@ use Rattle.toml.specs.Data.{Members}
 use Rattle.ipx_site.specs.declared.fault.ConfigError.{ConfigError}
 use Rattle.ipx_site.specs.declared.key.Key.TheVariants as Key
 use Rattle.ipx_site.specs.declared.site.EthernetPortConfig.{EthernetPortConfig}
+use Rattle.ipx_site.specs.declared.site.Directed.TheVariants as Directed
 use Rattle.ipx_site.specs.declared.site.Kind.{Kind}
 use Rattle.ipx_site.specs.declared.site.Kind.TheVariants as Of
 use Rattle.ipx_site.specs.declared.site.PortConfig.{PortConfig}
@@ -13,7 +14,7 @@ use Rattle.ipx_site.specs.IpxnetTable.{IsIpxnetFault, IsIpxnetTable}
 use Rattle.ipx_site.specs.Keys.{first_unknown, frames_keys}
 use Rattle.ipx_site.specs.Port.{IsPortFault, IsPortTable}
 use Rattle.ipx_site.specs.PortKinds.{kind_of_port}
-use Rattle.ipx_site.specs.Values.{IsCount, IsIpAddress, IsKind, IsNetwork}
+use Rattle.ipx_site.specs.Values.{IsCount, IsDirected, IsIpAddress, IsKind, IsNetwork}
 use Rattle.ipx_site.specs.EthernetValues.{AreEthernetEnds, IsEncapsulation, IsFlag, IsStation, made_station}
 
 -- a table is that of a port on a wire, if its kind is that
@@ -27,12 +28,14 @@ pub record IsFramesTable (ms : Members) (p : EthernetPortConfig) : Type 0 where
   pub ends : Holds AreEthernetEnds Key.Ends ms p.ends
   pub node : HoldsOr IsStation Key.Node ms (made_station p.address p.udp_port) p.node
   pub joined : HoldsOr IsFlag Key.Switch ms true p.joined
+  pub directed : HoldsOr IsDirected Key.Directed ms Directed.Few p.directed
 
 -- the first fault of the keys that say what the wire is: its ends, and what the port is to them
 abbrev pub IsEthernetFault : Members → ℕ → ConfigError → Type 0
 IsEthernetFault ms table f = IsFault AreEthernetEnds Key.Ends ms table f
     ⊎ (IsRight AreEthernetEnds Key.Ends ms × (IsWrong IsStation Key.Node ms table f
-    ⊎ (IsRightOr IsStation Key.Node ms × IsWrong IsFlag Key.Switch ms table f)))
+    ⊎ (IsRightOr IsStation Key.Node ms × (IsWrong IsFlag Key.Switch ms table f
+    ⊎ (IsRightOr IsFlag Key.Switch ms × IsWrong IsDirected Key.Directed ms table f)))))
 
 -- the first fault of the table: a name that is no key of this kind, and then the keys in order
 abbrev pub IsFramesFault : ℕ → Members → ConfigError → Type 0

@@ -25,6 +25,7 @@ pub record EventCounts : Type 0 where
   pub spoofed : ℕ
   pub not_a_router : ℕ
   pub rate_limited : ℕ
+  pub directed : ℕ
   pub refused : ℕ
   pub table_full : ℕ
   pub queue_full : ℕ
@@ -42,6 +43,7 @@ happened_in f = record {
   spoofed = f.kept.spoofed.count;
   not_a_router = f.kept.not_a_router.count;
   rate_limited = f.rate_limited.count;
+  directed = f.directed.count;
   refused = f.refused;
   table_full = f.outcomes.table_full;
   queue_full = f.queue_full;
@@ -64,10 +66,11 @@ happened totals core ports = record {
   unknown_senders = ports.datagrams.device.kept.unknown_senders.count;
   spoofed = ports.datagrams.device.kept.spoofed.count;
   not_a_router = ports.datagrams.device.kept.not_a_router.count;
-  rate_limited = core.kept.count;
+  rate_limited = core.core.kept.count;
+  directed = core.core.directed.count;
   refused = ports.datagrams.device.refused;
-  table_full = core.core.core.outcomes.table_full;
-  queue_full = core.core.core.dropped;
+  table_full = core.core.core.core.outcomes.table_full;
+  queue_full = core.core.core.core.dropped;
   device = counted (totals.device_faults + lost_in ports);
   memory = totals.memory_faults;
   file = totals.file_faults;
@@ -80,7 +83,7 @@ happened totals core ports = record {
 abbrev pub counts_told : EventCounts → List ℕ
 counts_told n = n.unknown_senders ∷ n.spoofed ∷ n.not_a_router ∷ n.rate_limited ∷ n.refused ∷ n.table_full
     ∷ n.queue_full ∷ n.device ∷ n.memory ∷ n.file ∷ n.frame_unknown_senders ∷ n.unframed
-    ∷ n.other_encapsulation ∷ []
+    ∷ n.other_encapsulation ∷ n.directed ∷ []
 
 -- a line of one of a router's causes is to be told
 abbrev pub IsLineDue : Warnings → EventCounts → ℕ → Type 0
@@ -122,11 +125,11 @@ IsToSend q = 0 < length q.forwarded + length q.own
 -- there is something to do: to send what waits, to ask again, to tell the neighbours, to hear by hand, to
 -- look, to write the figures, or to tell a line
 abbrev pub IsDue : Deadlines → ℕ → Type 0
-IsDue a now = IsToSend a.core.core.core.queues
+IsDue a now = IsToSend a.core.core.core.core.queues
     ⊎ IsToAskAgain a.asked now
-    ⊎ (is_due a.core.core.core.router.told now ≡ true)
-    ⊎ (is_due a.core.core.said now ≡ true)
-    ⊎ HasPassed (look_after a.core.core.core.outcomes.heard a.responses) a.looked now
+    ⊎ (is_due a.core.core.core.core.router.told now ≡ true)
+    ⊎ (is_due a.core.core.core.said now ≡ true)
+    ⊎ HasPassed (look_after a.core.core.core.core.outcomes.heard a.responses) a.looked now
     ⊎ HasPassed 10000 a.written now
     ⊎ IsLineDue a.warnings a.count now
 

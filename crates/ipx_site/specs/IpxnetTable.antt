@@ -9,11 +9,12 @@ use Rattle.ipx_site.specs.declared.fault.ConfigError.TheVariants.{Wrong}
 use Rattle.ipx_site.specs.declared.key.Key.TheVariants as Key
 use Rattle.ipx_site.specs.declared.site.Accept.{Accept}
 use Rattle.ipx_site.specs.declared.site.Accept.TheVariants as Who
+use Rattle.ipx_site.specs.declared.site.Directed.TheVariants as Directed
 use Rattle.ipx_site.specs.declared.ipxnet_port.IpxnetPortConfig.{IpxnetPortConfig}
 use Rattle.ipx_site.specs.declared.site.Kind.TheVariants as Of
 use Rattle.ipx_site.specs.Fields.{Holds, HoldsOr, IsFault, IsMissing, IsRight, IsRightOr, IsStray, IsWrong}
 use Rattle.ipx_site.specs.Keys.{first_unknown, ipxnet_keys, key_text}
-use Rattle.ipx_site.specs.Values.{AreAddressesOf, IsAccept, IsCount, IsIpAddress, IsNetwork}
+use Rattle.ipx_site.specs.Values.{AreAddressesOf, IsAccept, IsCount, IsDirected, IsIpAddress, IsNetwork}
 use Rattle.ipx_site.specs.EthernetValues.{AreEthernetEnds, IsStation, are_places_apart, made_station}
 
 -- who may register: the peers that are named, which must be where not everybody may
@@ -49,13 +50,19 @@ pub record IsIpxnetTable (ms : Members) (p : IpxnetPortConfig) : Type 0 where
   pub accept : HoldsOr IsAccept Key.Accept ms Who.Peers p.accept
   pub peers : ArePeersFor p.accept ms p.peers
   pub join : AreJoinedRouters ms p.join
+  pub directed : HoldsOr IsDirected Key.Directed ms Directed.Few p.directed
+
+-- the first fault of the last keys: to which routers it is joined, and which directed broadcasts leave by it
+abbrev pub IsLastFault : Members → ℕ → ConfigError → Type 0
+IsLastFault ms table f = IsJoinFault ms table f
+    ⊎ ((join : Vec Place Global) × AreJoinedRouters ms join × IsWrong IsDirected Key.Directed ms table f)
 
 -- the first fault of the keys that say who its clients may be, behind its node
 abbrev pub IsClientsFault : Members → ℕ → ConfigError → Type 0
 IsClientsFault ms table f = IsWrong (IsCount max_server_clients) Key.Clients ms table f
     ⊎ (IsRightOr (IsCount max_server_clients) Key.Clients ms × (IsWrong IsAccept Key.Accept ms table f
     ⊎ ((accept : Accept) × HoldsOr IsAccept Key.Accept ms Who.Peers accept × (IsPeersFault accept ms table f
-    ⊎ ((peers : Vec (List ℕ) Global) × ArePeersFor accept ms peers × IsJoinFault ms table f)))))
+    ⊎ ((peers : Vec (List ℕ) Global) × ArePeersFor accept ms peers × IsLastFault ms table f)))))
 
 -- the first fault of the table: a name that is no key of this kind, and then the keys in order
 abbrev pub IsIpxnetFault : ℕ → Members → ConfigError → Type 0

@@ -4,7 +4,7 @@ use Rattle.std.specs.List.{list_any}
 use Rattle.std.specs.Cmp.Lexicographic.{pointwise}
 use Rattle.toml.specs.Data.{Members, no_members, member}
 use Rattle.ipx_site.specs.declared.key.Key.{Key}
-use Rattle.ipx_site.specs.declared.key.Key.TheVariants.{Status, Tables, Port, Network, Address, UdpPort, Cost, Peers, Routers, Accept, Router, Socket, Buffers, From, Kind, Frame, Ends, Node, Switch, Clients, Join, Route, Service, Next, Hops, Ticks, ServiceType, Name, At}
+use Rattle.ipx_site.specs.declared.key.Key.TheVariants.{Status, Tables, Port, Network, Address, UdpPort, Cost, Peers, Routers, Accept, Router, Socket, Buffers, From, Kind, Frame, Ends, Node, Switch, Clients, Join, Directed, Route, Service, Next, Hops, Ticks, ServiceType, Name, At}
 use Rattle.ipx_site.specs.declared.site.Kind.{Kind as PortKind}
 use Rattle.ipx_site.specs.declared.site.Kind.TheVariants as Of
 
@@ -31,6 +31,7 @@ key_text Node = codes "node"
 key_text Switch = codes "switch"
 key_text Clients = codes "clients"
 key_text Join = codes "join"
+key_text Directed = codes "directed"
 key_text Route = codes "route"
 key_text Service = codes "service"
 key_text Next = codes "next_hop"
@@ -56,15 +57,15 @@ first_unknown keys (member name d ms) =
 
 -- the keys of the tables, in the order in which their faults are told
 abbrev pub port_keys : List Key
-port_keys = Kind ∷ Network ∷ Address ∷ UdpPort ∷ Cost ∷ Peers ∷ Routers ∷ Accept ∷ []
+port_keys = Kind ∷ Network ∷ Address ∷ UdpPort ∷ Cost ∷ Peers ∷ Routers ∷ Accept ∷ Directed ∷ []
 
 abbrev pub frames_keys : List Key
 frames_keys =
-    Kind ∷ Network ∷ Frame ∷ Address ∷ UdpPort ∷ Cost ∷ Ends ∷ Node ∷ Switch ∷ []
+    Kind ∷ Network ∷ Frame ∷ Address ∷ UdpPort ∷ Cost ∷ Ends ∷ Node ∷ Switch ∷ Directed ∷ []
 
 abbrev pub ipxnet_keys : List Key
 ipxnet_keys =
-    Kind ∷ Network ∷ Address ∷ UdpPort ∷ Cost ∷ Node ∷ Clients ∷ Accept ∷ Peers ∷ Join ∷ []
+    Kind ∷ Network ∷ Address ∷ UdpPort ∷ Cost ∷ Node ∷ Clients ∷ Accept ∷ Peers ∷ Join ∷ Directed ∷ []
 
 -- those of a port of this kind, and those of ports of the other kinds that are none of these
 abbrev pub keys_of_kind : PortKind → List Key

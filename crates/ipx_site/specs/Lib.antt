@@ -16,10 +16,15 @@ pub mod Host
 pub mod Loading
 pub mod Steady
 pub mod SourceFilter
+pub mod ControlSenders
 pub mod PortFilterDrops
 pub mod Neighbours
+pub mod TokenBucket
+pub mod PortBuckets
 pub mod TokenBuckets
-pub mod QueryLimiter
+pub mod DirectedBroadcasts
+pub mod PortLimits
+pub mod RateLimiter
 pub mod SiteCore
 pub mod QueryRate
 pub mod Moments

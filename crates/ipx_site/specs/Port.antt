@@ -6,10 +6,11 @@ use Rattle.ipx_carrier.specs.Mapping.{usual_port}
 use Rattle.ipx_site.specs.declared.fault.ConfigError.{ConfigError}
 use Rattle.ipx_site.specs.declared.key.Key.TheVariants as Key
 use Rattle.ipx_site.specs.declared.site.Accept.TheVariants as Accept
+use Rattle.ipx_site.specs.declared.site.Directed.TheVariants as Directed
 use Rattle.ipx_site.specs.declared.site.Kind.TheVariants as Kind
 use Rattle.ipx_site.specs.declared.site.Rfc1234PortConfig.{Rfc1234PortConfig}
 use Rattle.ipx_site.specs.Keys.{first_unknown, port_keys}
-use Rattle.ipx_site.specs.Values.{AreAddressesOf, AreRouterPeers, IsAccept, IsIpAddress, IsCount, IsNetwork}
+use Rattle.ipx_site.specs.Values.{AreAddressesOf, AreRouterPeers, IsAccept, IsIpAddress, IsCount, IsDirected, IsNetwork}
 use Rattle.ipx_site.specs.Fields.{Holds, HoldsIf, HoldsOr, IsFault, IsRight, IsRightOr, IsStray, IsWrong}
 
 -- a table is that of such a port, if its kind is that
@@ -22,12 +23,15 @@ pub record IsPortTable (ms : Members) (p : Rfc1234PortConfig) : Type 0 where
   pub peers : Holds AreAddressesOf Key.Peers ms p.peers
   pub routers : HoldsIf (AreRouterPeers p.peers.items) Key.Routers ms p.routers
   pub accept : HoldsOr IsAccept Key.Accept ms Accept.Peers p.accept
+  pub directed : HoldsOr IsDirected Key.Directed ms Directed.Few p.directed
 
--- the first fault of the keys behind its peers, which say who of them is a router and who is heard
+-- the first fault of the keys after its peers, which say who of them is a router, who is heard, and which
+-- directed broadcasts leave by it
 abbrev pub IsAccessFault : Members → ℕ → ConfigError → Type 0
 IsAccessFault ms table f = (peers : Vec (List ℕ) Global) × Holds AreAddressesOf Key.Peers ms peers
     × (IsWrong (AreRouterPeers peers.items) Key.Routers ms table f
-    ⊎ (IsRightOr (AreRouterPeers peers.items) Key.Routers ms × IsWrong IsAccept Key.Accept ms table f))
+    ⊎ (IsRightOr (AreRouterPeers peers.items) Key.Routers ms × (IsWrong IsAccept Key.Accept ms table f
+    ⊎ (IsRightOr IsAccept Key.Accept ms × IsWrong IsDirected Key.Directed ms table f))))
 
 -- the first fault of the table of a port: a name that is no key, and then the keys in order
 abbrev pub IsPortFault : ℕ → Members → ConfigError → Type 0

@@ -1,6 +1,7 @@
 -- What a port of any kind has in its file. All of it is own.
 use Rattle.ipx_wire.specs.declared.address.Network.{Network}
 use Rattle.ipx_ethernet_ports.specs.declared.sockets.Place.{Place}
+use Rattle.ipx_site.specs.declared.site.Directed.{Directed}
 use Rattle.ipx_site.specs.declared.site.Kind.{Kind}
 use Rattle.ipx_site.specs.declared.site.Kind.TheVariants as Of
 use Rattle.ipx_site.specs.declared.site.PortConfig.{PortConfig}
@@ -22,3 +23,9 @@ abbrev pub kind_of_port : PortConfig → Kind
 kind_of_port (Rfc1234 p) = Of.Rfc1234
 kind_of_port (Frames p) = Of.Frames
 kind_of_port (Ipxnet p) = Of.Ipxnet
+
+-- which directed broadcasts leave by it
+abbrev pub directed_of_kind : PortConfig → Directed
+directed_of_kind (Rfc1234 p) = p.directed
+directed_of_kind (Frames p) = p.directed
+directed_of_kind (Ipxnet p) = p.directed

@@ -40,14 +40,17 @@ with_batch b t = with_fault b.fault (record t { unmapped = counted (t.unmapped +
 -- which a line is told: by what it counts itself, what its core counts, what its device kept back, how many
 -- datagrams the system took of it, and what it knew as it looked last
 pub record AreMetrics {gd : OfDevice.Ghosts (SourceFilter UdpSockets)} {ge : OfSockets.Ghosts EthernetSockets} {gl : OfPlaces.Ghosts ServerSockets} (totals : RouterCounts) (core : SiteCore) (ports : SitePortsRun gd ge gl) (known : RouteChangeLog) (now : ℕ) (f : Metrics) : Type 0 where
-  -- each datagram that was heard became something. A query that came too often is none of them
-  pub heard : f.heard ≡ counted (outcomes_in core.core.core.outcomes)
-  pub outcomes : f.outcomes ≡ core.core.core.outcomes
-  pub rate_limited : f.rate_limited ≡ core.kept
+  -- each datagram that was heard became something. A query that came too often is none of them, and
+  -- no packet that failed a source check is
+  pub heard : f.heard ≡ counted (outcomes_in core.core.core.core.outcomes)
+  pub outcomes : f.outcomes ≡ core.core.core.core.outcomes
+  pub rate_limited : f.rate_limited ≡ core.core.kept
+  pub directed : f.directed ≡ core.core.directed
+  pub source_drops : f.source_drops ≡ core.drops
   pub filtered : f.kept ≡ ports.datagrams.device.kept
   pub sent_out : f.sent ≡ ports.datagrams.device.device.sent
   pub unmapped : f.unmapped ≡ totals.unmapped
-  pub queue : f.queue ≡ length core.core.core.queues.forwarded + length core.core.core.queues.own
+  pub queue : f.queue ≡ length core.core.core.core.queues.forwarded + length core.core.core.core.queues.own
   pub routes : f.routes ≡ length known.networks.items
   pub services : f.services ≡ length known.services.items
   pub seconds : f.seconds ≡ now / 1000

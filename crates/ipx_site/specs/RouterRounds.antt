@@ -18,13 +18,13 @@ AsksAgain now times times_after old new =
 -- one round, at the moment at which the clock is stopped: it asks again where it is time, and takes a burst of
 -- at most 32 turns, this one, of a clock so stopped, in which packets are sent these ways, and its ports keep
 -- back from the one count to the other; what comes and goes on its wires does so at that moment. Its core hears
--- by hand where that is due, and lets those who ask for all that it knows do so in turn
+-- by hand where that is due, drops what fails a source check, and lets those who ask for all that it knows do so in turn
 abbrev pub IsRound : {K A : Type 0} → K → K → (K → ℕ → K → Type 0) → (K → ℕ → K → Type 0) → Ways A → ℕ → ℕ → ℕ → ℕ → SiteCore → SiteCore → ℕ → Batch → Type 0
 IsRound {K} clock clock_after stops tells transmissions kept kept_after times times_after old new moment b = (now : ℕ) × (tick : K)
     × (mid : SiteCore) × stops clock now tick
     × (moment ≡ now) × AsksAgain now times times_after old mid
     × BurstsBy SiteHears SiteMisses SiteGives SiteWithholds tells
-    (length old.core.core.router.ports) transmissions 32 b kept kept_after tick clock_after mid new
+    (length old.core.core.core.router.ports) transmissions 32 b kept kept_after tick clock_after mid new
 
 -- how long it waits then, and when: 100 ms behind a fault; not at all behind a burst that was not quiet, in
 -- which it is told where something came; and behind a quiet one, at the moment at which the clock is stopped, as

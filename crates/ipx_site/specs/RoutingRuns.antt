@@ -1,12 +1,14 @@
--- What a router of a file does from its start until it ends: one round after another. The entry point is
--- `EndsRouting`, of a status. All of it is own.
-use Rattle.std.specs.Prelude.{◌≡◌, ◌⊎◌, ◌^◌, ◌-◌, ℕ, zero, suc, Bool, true, false, List, [], map, if◌then◌else◌}
+-- What a router of a file does from its start until it ends: one round after another. The entry points are
+-- `StartsByFile`, `RunsTo` and, of both, `RoutesWell`. All of it is own.
+use Rattle.std.specs.Prelude.{◌≡◌, ◌^◌, ◌-◌, ℕ, zero, suc, Bool, true, false, List, [], map}
 use Rattle.ipx_carrier.specs.ReadySet.{AreMarked, is_any_marked}
 use Rattle.ipx_carrier.specs.Turns.{peers_of}
 use Rattle.ipx_carrier.specs.declared.report.Batch.{Batch}
+use Rattle.ipx_source_checks.specs.SourceChecks.{nothing_dropped_yet}
 use Rattle.ipx_site.specs.IdleTime.{IsDue, deadlines, happened}
 use Rattle.ipx_site.specs.KindPorts.{ArePortsBound}
 use Rattle.ipx_site.specs.Loading.{IsFileText}
+use Rattle.ipx_site.specs.PortLimits.{limits_of}
 use Rattle.ipx_site.specs.PortsView.{kept_in_ports, ways_in}
 use Rattle.ipx_site.specs.RouterRounds.{IsRound, SleepsBehind}
 use Rattle.ipx_site.specs.Site.{IsSiteText}
@@ -19,13 +21,15 @@ use Rattle.ipx_site.specs.declared.running_router.RunningRouter.{RunningRouter}
 use Rattle.ipx_site.specs.declared.site.RouterConfig.{RouterConfig}
 
 -- a router has started as its file says: it has the ports of that, each with its socket, and is to hear
--- what it says by hand. Nobody has asked it for all that it knows, its clock begins at 0, and it has not
--- asked its neighbours again
+-- what it says by hand. It checks sources at its ports, and has dropped nothing. The limits at its ports are
+-- those of their kinds and of the file, and nobody has asked it for all that it knows. Its clock begins at 0,
+-- and it has not asked its neighbours again
 pub record StartsBy {R : Type 0} (site : RouterConfig) (first : RunningRouter R) : Type 0 where
-  pub ports : first.core.core.core.router.ports ≡ router_ports site.ports.items
-  pub statics : IsToHear site.statics.items first.core.core
-  pub queriers : (first.core.ports ≡ router_ports site.ports.items)
-      × (first.core.queriers.queriers ≡ []) × (first.core.queriers.back ≡ 0)
+  pub ports : first.core.core.core.core.router.ports ≡ router_ports site.ports.items
+  pub statics : IsToHear site.statics.items first.core.core.core
+  pub checks : (first.core.ports ≡ router_ports site.ports.items) × (first.core.drops ≡ nothing_dropped_yet)
+  pub queriers : (first.core.core.ports ≡ router_ports site.ports.items)
+      × (first.core.core.buckets.queriers ≡ []) × (first.core.core.buckets.ports ≡ limits_of site.ports.items)
   pub bound : ArePortsBound site.ports.items first.ports
   pub clock : first.clock.last ≡ 0
   pub asked : first.asked ≡ 0
@@ -64,21 +68,11 @@ RunsTo {R} first last false = (count : ℕ) × (before : RunningRouter R) × Rou
     × TakesRound before last × (last.ready.failed ≡ true)
 RunsTo first last true = (count : ℕ) × (count ≡ 2 ^ 64 - 1) × Rounds count first last
 
--- the run of a router that started as its file says
-pub record RunsRouter (R : Type 0) (site : RouterConfig) (ok : Bool) : Type 0 where
-  pub first : RunningRouter R
-  pub starts : StartsBy site first
-  pub last : RunningRouter R
-  pub runs : RunsTo first last ok
+-- a router has started as a file says that some text describes
+abbrev pub StartsByFile : {R : Type 0} → RunningRouter R → Type 0
+StartsByFile first = (text : List ℕ) × (site : RouterConfig) × IsFileText text × IsSiteText text site
+    × StartsBy site first
 
--- how a router of a file ends, by its status: it did not start, which is 1; or it ran, and ended well, which
--- is 0, or by a wait that failed, which is 1
-abbrev pub EndsRouter : Type 0 → RouterConfig → ℕ → Type 0
-EndsRouter R site status = (status ≡ 1)
-    ⊎ ((ok : Bool) × (status ≡ if ok then 0 else 1) × RunsRouter R site ok)
-
--- how the command ends: no file was read, which is 1 or 2; or the router of one that some text describes ended
-abbrev pub EndsRouting : Type 0 → ℕ → Type 0
-EndsRouting R status = ((status ≡ 1) ⊎ (status ≡ 2))
-    ⊎ ((text : List ℕ) × (site : RouterConfig) × IsFileText text × IsSiteText text site
-    × EndsRouter R site status)
+-- a router started as a file says, and its run from there ended well
+abbrev pub RoutesWell : Type 0 → Type 0
+RoutesWell R = (first last : RunningRouter R) × StartsByFile first × RunsTo first last true

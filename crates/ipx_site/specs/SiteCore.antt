@@ -1,29 +1,35 @@
 -- The core of a site's router: a router that counts, under what it hears by hand, under turns for those
--- who ask for all that it knows. All of it is own.
+-- who ask for all that it knows, under source checks. All of it is own.
 use Rattle.std.specs.Prelude.{◌≡◌, ℕ, false, List, Option}
 use Rattle.ipx_carrier.specs.Turns.{Given}
 use Rattle.ipx_metrics.specs.MeteredRouter.{CountedView, CountsAsItGives, CountsHeard, CountsMissed, CountsWithheld}
 use Rattle.ipx_static.specs.WithStatics.{WithStaticsView, GivesWithStatics, HearsUnder, MissesUnder, WithholdsWithStatics}
-use Rattle.ipx_site.specs.QueryLimiter.{GivesBelow, HearsSparingly, MissesBelow, QueryLimiterView, WithholdsBelow}
+use Rattle.ipx_source_checks.specs.SourceChecked.{GivesBelowChecks, HearsChecked, MissesChecked, SourceCheckedView, WithholdsBelowChecks}
+use Rattle.ipx_site.specs.RateLimiter.{GivesBelow, HearsSparingly, MissesBelow, RateLimiterView, WithholdsBelow}
 
 abbrev pub SiteCore : Type 0
-SiteCore = QueryLimiterView (WithStaticsView CountedView)
+SiteCore = SourceCheckedView (RateLimiterView (WithStaticsView CountedView))
 
 -- what comes in it hears, or misses where memory is refused
 abbrev pub SiteHears : SiteCore → ℕ → List ℕ → ℕ → SiteCore → Type 0
-SiteHears = HearsSparingly (HearsUnder CountsHeard)
+SiteHears = HearsChecked (HearsSparingly (HearsUnder CountsHeard))
 
 abbrev pub SiteMisses : SiteCore → ℕ → List ℕ → ℕ → SiteCore → Type 0
-SiteMisses = MissesBelow (MissesUnder CountsMissed)
+SiteMisses = MissesChecked (MissesBelow (MissesUnder CountsMissed))
 
 -- told to ask its neighbours once more, its router is to give the packets of its start again
 abbrev pub SiteAsksAgain : SiteCore → SiteCore → Type 0
 SiteAsksAgain old new =
-    new ≡ record old { core = record old.core { core = record old.core.core { started = false } } }
+    new ≡ record old {
+      core = record old.core {
+        core = record old.core.core { core = record old.core.core.core { started = false } };
+      };
+    }
 
 -- asked for a packet it gives one or none, or withholds it where memory is refused
 abbrev pub SiteGives : SiteCore → ℕ → Option Given → SiteCore → Type 0
-SiteGives = GivesBelow (GivesWithStatics CountsHeard CountsAsItGives)
+SiteGives = GivesBelowChecks (GivesBelow (GivesWithStatics CountsHeard CountsAsItGives))
 
 abbrev pub SiteWithholds : SiteCore → ℕ → SiteCore → Type 0
-SiteWithholds = WithholdsBelow (WithholdsWithStatics CountsHeard CountsMissed CountsWithheld)
+SiteWithholds = WithholdsBelowChecks
+    (WithholdsBelow (WithholdsWithStatics CountsHeard CountsMissed CountsWithheld))

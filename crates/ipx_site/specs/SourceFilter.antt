@@ -41,11 +41,23 @@ abbrev pub is_node_of : Node → Option (List ℕ) → Bool
 is_node_of node None = false
 is_node_of node (Some ip) = is_node node (node_at ip)
 
--- a packet that came from there speaks for its sender, where no router passed it on; and none speaks
--- for all nodes
+-- a network is that of the port, or left out
+abbrev pub is_local_to : Network → Network → Bool
+is_local_to network n = n.0 == 0 || n.0 == network.0
+
+-- RIP or SAP from the network of the port to that network, which a router forwarded all the same: each
+-- that does adds to the hops, and a neighbour sends its own with none
+abbrev pub is_forwarded_within : Network → IpxHeader → Bool
+is_forwarded_within network h = not (h.hops == 0)
+    && ((h.to.socket.0 == rip_socket || h.to.socket.0 == sap_socket)
+    && (is_local_to network h.to.network && is_local_to network h.from.network))
+
+-- a packet that came from there speaks for its sender, where no router passed it on; none speaks for
+-- all nodes, and none is RIP or SAP that a router forwarded within the network
 abbrev pub source_matches_sender : Network → Option (List ℕ) → IpxHeader → Bool
 source_matches_sender network from h =
-    not (is_node h.from.node broadcast) && (not (is_unrouted network h) || is_node_of h.from.node from)
+    not (is_node h.from.node broadcast) && not (is_forwarded_within network h)
+    && (not (is_unrouted network h) || is_node_of h.from.node from)
 
 -- so do bytes; those that are no packet speak for nobody
 abbrev pub IsOwnWord : Network → Option (List ℕ) → List ℕ → Type 0

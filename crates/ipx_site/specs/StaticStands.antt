@@ -2,10 +2,9 @@
 -- `StaticServicesHold` ask for, and so that it stands. All of it is own.
 -- The entry points are `FilesMayStand`, `RoutesOfFilesStand` and `ServicesOfFilesStand`, and
 -- `RoutesOfSitesStand` and `ServicesOfSitesStand`.
-use Rattle.std.specs.Prelude.{◌≡◌, ◌<◌, ◌≤◌, ◌+◌, ◌^◌, ℕ, true, List, [], ◌∷◌, All, Contains, Option, Some}
+use Rattle.std.specs.Prelude.{◌≡◌, ◌<◌, ◌≤◌, ◌+◌, ℕ, true, List, [], ◌∷◌, All, Contains, Option}
 use Rattle.ipx_control.specs.declared.rip.packet.RipEntry.{RipEntry}
 use Rattle.ipx_control.specs.declared.sap.packet.ServiceEntry.{ServiceEntry}
-use Rattle.ipx_tables.specs.Content.{is_young}
 use Rattle.ipx_router.specs.declared.port.Port.{Port}
 use Rattle.ipx_router.specs.Hearing.{is_heard, route_metric, service_metric}
 use Rattle.ipx_router.specs.Knowledge.{routes_in, services_in}
@@ -14,8 +13,8 @@ use Rattle.ipx_carrier.specs.PriorityRouterCore.{PriorityCoreView}
 use Rattle.ipx_carrier.specs.Turns.{Given}
 use Rattle.ipx_static.specs.declared.neighbour.StaticNeighbour.{StaticNeighbour}
 use Rattle.ipx_static.specs.WithStatics.{WithStaticsView}
-use Rattle.ipx_static.specs.StaticOffers.{IsAnotherNode, SaysNoOther, static_source}
-use Rattle.ipx_static.specs.StaticRuns.{Asked, AsksOnceMore, Comes, DoStaticCalls, DoesStaticCall, StaticCall, StaticCallAt, IsAskedEachMinute, OffersItself, TellsItself, asked_in}
+use Rattle.ipx_static.specs.StaticOffers.{Counts, FindsRoom, IsAnotherNode, IsSaidAlone, static_source}
+use Rattle.ipx_static.specs.StaticRuns.{Asked, AsksOnceMore, Comes, DoStaticCalls, DependsOn, DoesStaticCall, StaticCall, StaticCallAt, IsAskedEachMinute, OffersItself, TellsItself, asked_in, uncounted}
 use Rattle.ipx_site.specs.declared.statics.StaticEntry.{StaticEntry}
 use Rattle.ipx_site.specs.declared.statics.StaticItem.{StaticItem}
 use Rattle.ipx_site.specs.declared.statics.StaticItem.TheVariants.{Route, Service}
@@ -24,12 +23,6 @@ use Rattle.ipx_site.specs.StaticNeighbours.{AreSilent, IsToHear}
 use Rattle.ipx_site.specs.Site.{IsSiteText}
 use Rattle.ipx_site.specs.SiteCore.{SiteAsksAgain, SiteCore, SiteGives, SiteHears}
 use Rattle.ipx_site.specs.SitePorts.{router_ports}
-
--- whoever is heard as this neighbour says nothing else of the key of an entry
-abbrev pub IsSaidAlone : {E K M : Type 0} → (E → K) → (E → M) → (StaticNeighbour → List E)
-    → List StaticNeighbour → StaticNeighbour → E → Type 0
-IsSaidAlone key_of metric_of said_by ns n e = (m : StaticNeighbour) → Contains ns m
-    → static_source m ≡ static_source n → SaysNoOther key_of metric_of (said_by m) e
 
 -- a neighbour is to say a word, it alone, under 16 hops away, and a route of a network that is heard
 abbrev pub MayStand : List Port → List StaticNeighbour → StaticNeighbour → StaticItem → Type 0
@@ -52,7 +45,7 @@ FilesMayStand = (text : List ℕ) (s : RouterConfig) → IsSiteText text s
     × All (IsToStand (router_ports s.ports.items) ns) s.statics.items
 
 -- a router that counts nothing by port and keeps nothing back, with the ports of a file, which is to hear by
--- hand what that says, is asked at first, and over all calls never finds a table full
+-- hand what that says, is asked at first, and finds no table full then
 pub record RunsByFile (s : RouterConfig) (start : ℕ) (calls : List StaticCallAt) (old new : WithStaticsView PriorityCoreView) : Type 0 where
   pub to_hear : IsToHear s.statics.items old
   pub ports : old.core.router.ports ≡ router_ports s.ports.items
@@ -60,20 +53,32 @@ pub record RunsByFile (s : RouterConfig) (start : ℕ) (calls : List StaticCallA
   pub first : WithStaticsView PriorityCoreView
   pub begins : DoesStaticCall start (Asked given) old first
   pub goes_on : DoStaticCalls calls first new
-  pub room : new.core.outcomes.table_full ≡ old.core.outcomes.table_full
-  pub countable : old.core.outcomes.table_full + 1 < 2 ^ 64
+  pub room : FindsRoom old.core first.core
 
--- then each route of the file, while it is asked each minute and whoever is heard there tells nothing of that
--- network itself, is an offer that counts, up to a minute after the last question
+-- the static routes of a file on which one depends: itself, and if a table was full in between, all that
+-- are heard from the same neighbour
+abbrev pub DependsOnRoute : RouterConfig → (old new : WithStaticsView PriorityCoreView) → StaticEntry → RipEntry
+    → RipEntry → Type 0
+DependsOnRoute s old new h e x = DependsOn old new e x
+    × (g : StaticEntry) × Contains s.statics.items g × (g.by ≡ h.by) × (g.word ≡ Route x)
+
+abbrev pub DependsOnService : RouterConfig → (old new : WithStaticsView PriorityCoreView) → StaticEntry
+    → ServiceEntry → ServiceEntry → Type 0
+DependsOnService s old new h e x = DependsOn old new e x
+    × (g : StaticEntry) × Contains s.statics.items g × (g.by ≡ h.by) × (g.word ≡ Service x)
+
+-- then each route of the file, while it is asked each minute and whoever is heard there tells nothing itself
+-- of that network, and of those on whose routes it depends, is an offer that counts, up to a minute after the
+-- last question, however full tables are after the first
 abbrev pub RoutesOfFilesStand : Type 0
 RoutesOfFilesStand = (text : List ℕ) (s : RouterConfig) → IsSiteText text s → (start : ℕ) (calls : List StaticCallAt)
     (old new : WithStaticsView PriorityCoreView) → RunsByFile s start calls old new
     → (h : StaticEntry) → Contains s.statics.items h → (e : RipEntry) → h.word ≡ Route e
     → ((n : StaticNeighbour) → static_source n ≡ h.by
-    → IsAskedEachMinute (λ port bytes. TellsItself n e.network port bytes → ⊥) calls start)
-    → (now : ℕ) → now ≤ asked_in calls start + 60000 → (heard : ℕ)
-    × (routes_in new.core.router.routes (e.network, h.by) ≡ Some (route_metric e, heard))
-    × (is_young now heard ≡ true)
+    → IsAskedEachMinute (λ port bytes. (x : RipEntry) → DependsOnRoute s old new h e x
+    → TellsItself n x.network port bytes → ⊥) calls start)
+    → (now : ℕ) → now ≤ asked_in calls start + 60000
+    → Counts (route_metric e) now (routes_in new.core.router.routes (e.network, h.by))
 
 -- and so is each service
 abbrev pub ServicesOfFilesStand : Type 0
@@ -81,10 +86,10 @@ ServicesOfFilesStand = (text : List ℕ) (s : RouterConfig) → IsSiteText text 
     (old new : WithStaticsView PriorityCoreView) → RunsByFile s start calls old new
     → (h : StaticEntry) → Contains s.statics.items h → (e : ServiceEntry) → h.word ≡ Service e
     → ((n : StaticNeighbour) → static_source n ≡ h.by
-    → IsAskedEachMinute (λ port bytes. OffersItself n (key_of_service e) port bytes → ⊥) calls start)
-    → (now : ℕ) → now ≤ asked_in calls start + 60000 → (heard : ℕ)
-    × (services_in new.core.router.services (key_of_service e, h.by) ≡ Some (service_metric e, heard))
-    × (is_young now heard ≡ true)
+    → IsAskedEachMinute (λ port bytes. (x : ServiceEntry) → DependsOnService s old new h e x
+    → OffersItself n (key_of_service x) port bytes → ⊥) calls start)
+    → (now : ℕ) → now ≤ asked_in calls start + 60000
+    → Counts (service_metric e) now (services_in new.core.router.services (key_of_service e, h.by))
 
 -- bytes come in to the core of a site's router; or that is asked for a packet; or it is to ask its neighbours
 -- once more; and no memory is refused
@@ -100,14 +105,13 @@ DoSiteCalls (c ∷ cs) old new = (mid : SiteCore)
 
 -- so the router of a file runs, also where it asks its neighbours again
 pub record RunsAsSite (s : RouterConfig) (start : ℕ) (calls : List StaticCallAt) (old new : SiteCore) : Type 0 where
-  pub to_hear : IsToHear s.statics.items old.core
-  pub ports : old.core.core.router.ports ≡ router_ports s.ports.items
+  pub to_hear : IsToHear s.statics.items old.core.core
+  pub ports : old.core.core.core.router.ports ≡ router_ports s.ports.items
   pub given : Option Given
   pub first : SiteCore
   pub begins : DoesSiteCall start (Asked given) old first
   pub goes_on : DoSiteCalls calls first new
-  pub room : new.core.core.outcomes.table_full ≡ old.core.core.outcomes.table_full
-  pub countable : old.core.core.outcomes.table_full + 1 < 2 ^ 64
+  pub room : FindsRoom (uncounted old.core.core).core (uncounted first.core.core).core
 
 -- then each route and each service of the file stands in it as above
 abbrev pub RoutesOfSitesStand : Type 0
@@ -115,17 +119,19 @@ RoutesOfSitesStand = (text : List ℕ) (s : RouterConfig) → IsSiteText text s 
     (old new : SiteCore) → RunsAsSite s start calls old new
     → (h : StaticEntry) → Contains s.statics.items h → (e : RipEntry) → h.word ≡ Route e
     → ((n : StaticNeighbour) → static_source n ≡ h.by
-    → IsAskedEachMinute (λ port bytes. TellsItself n e.network port bytes → ⊥) calls start)
-    → (now : ℕ) → now ≤ asked_in calls start + 60000 → (heard : ℕ)
-    × (routes_in new.core.core.router.routes (e.network, h.by) ≡ Some (route_metric e, heard))
-    × (is_young now heard ≡ true)
+    → IsAskedEachMinute (λ port bytes. (x : RipEntry)
+    → DependsOnRoute s (uncounted old.core.core) (uncounted new.core.core) h e x
+    → TellsItself n x.network port bytes → ⊥) calls start)
+    → (now : ℕ) → now ≤ asked_in calls start + 60000
+    → Counts (route_metric e) now (routes_in new.core.core.core.router.routes (e.network, h.by))
 
 abbrev pub ServicesOfSitesStand : Type 0
 ServicesOfSitesStand = (text : List ℕ) (s : RouterConfig) → IsSiteText text s → (start : ℕ) (calls : List StaticCallAt)
     (old new : SiteCore) → RunsAsSite s start calls old new
     → (h : StaticEntry) → Contains s.statics.items h → (e : ServiceEntry) → h.word ≡ Service e
     → ((n : StaticNeighbour) → static_source n ≡ h.by
-    → IsAskedEachMinute (λ port bytes. OffersItself n (key_of_service e) port bytes → ⊥) calls start)
-    → (now : ℕ) → now ≤ asked_in calls start + 60000 → (heard : ℕ)
-    × (services_in new.core.core.router.services (key_of_service e, h.by) ≡ Some (service_metric e, heard))
-    × (is_young now heard ≡ true)
+    → IsAskedEachMinute (λ port bytes. (x : ServiceEntry)
+    → DependsOnService s (uncounted old.core.core) (uncounted new.core.core) h e x
+    → OffersItself n (key_of_service x) port bytes → ⊥) calls start)
+    → (now : ℕ) → now ≤ asked_in calls start + 60000
+    → Counts (service_metric e) now (services_in new.core.core.core.router.services (key_of_service e, h.by))

@@ -1,5 +1,5 @@
 -- What the value of a key means: a number of a network, an address, and so on.
-use Rattle.std.specs.Prelude.{String, Vec, string_bytes, ◌≡◌, ◌≢◌, ⊤, ℕ, suc, ◌==◌, ◌≤◌, pos, Bool, true, not, ◌&&◌, List, [], ◌∷◌, length, Option, Some, codes, MatchOption}
+use Rattle.std.specs.Prelude.{String, Vec, string_bytes, ◌≡◌, ◌≢◌, ⊤, ℕ, suc, ◌==◌, ◌≤◌, pos, Bool, true, not, ◌&&◌, List, [], ◌∷◌, ◌++◌, length, Option, Some, codes, MatchOption}
 use Rattle.std.specs.Global.{Global}
 use Rattle.std.specs.List.{list_all, list_any}
 use Rattle.std.specs.Net.Grammar.{IsDotted}
@@ -11,6 +11,8 @@ use Rattle.ipx_wire.specs.Assigned.{all_networks, local_network}
 use Rattle.ipx_site.specs.SourceFilter.{is_peer}
 use Rattle.ipx_site.specs.declared.site.Accept.{Accept}
 use Rattle.ipx_site.specs.declared.site.Accept.TheVariants.{Any, Peers}
+use Rattle.ipx_site.specs.declared.site.Directed.{Directed}
+use Rattle.ipx_site.specs.declared.site.Directed.TheVariants.{Never, Few, Always}
 use Rattle.ipx_site.specs.declared.site.Kind.{Kind}
 use Rattle.ipx_site.specs.declared.site.Kind.TheVariants.{Rfc1234, Frames, Ipxnet}
 
@@ -45,10 +47,18 @@ can_name_file text = not (length text == 0) && not (list_any (λ b. b == 0) text
 abbrev pub IsFileName : Data → String Global → Type 0
 IsFileName d name = (as_str d ≡ Some (string_bytes name)) × (can_name_file (string_bytes name) ≡ true)
 
--- so it is, and another name than this one, if there is one
+-- the name of the file to which one of this name is written first, before it is renamed
+abbrev pub temporary_name : List ℕ → List ℕ
+temporary_name name = name ++ codes ".new"
+
+-- files of these names are written apart: they are two, and neither is where the other is written first
+abbrev pub AreApart : List ℕ → List ℕ → Type 0
+AreApart one two = (one ≢ two) × (one ≢ temporary_name two) × (two ≢ temporary_name one)
+
+-- so it is, and a file of this other name is written apart, if there is one
 abbrev pub IsOtherFileName : Option (String Global) → Data → String Global → Type 0
 IsOtherFileName other d name = IsFileName d name
-    × MatchOption other ⊤ (λ it. string_bytes it ≢ string_bytes name)
+    × MatchOption other ⊤ (λ it. AreApart (string_bytes it) (string_bytes name))
 
 abbrev pub accept_text : Accept → List ℕ
 accept_text Peers = codes "peers"
@@ -57,6 +67,15 @@ accept_text Any = codes "any"
 -- the string "peers" or the string "any"
 abbrev pub IsAccept : Data → Accept → Type 0
 IsAccept d a = as_str d ≡ Some (accept_text a)
+
+abbrev pub directed_word : Directed → List ℕ
+directed_word Never = codes "none"
+directed_word Few = codes "few"
+directed_word Always = codes "all"
+
+-- the string "none", the string "few" or the string "all"
+abbrev pub IsDirected : Data → Directed → Type 0
+IsDirected d it = as_str d ≡ Some (directed_word it)
 
 abbrev pub kind_text : Kind → List ℕ
 kind_text Rfc1234 = codes "rfc1234"

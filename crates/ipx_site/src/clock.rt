@@ -1,11 +1,19 @@
 //! The system's clock.
 
-ghost use Rattle.std.specs.Prelude.{◌≡◌, false, true};
+ghost use Rattle.std.specs.Prelude.{◌≡◌, IfOk, false, true};
 ghost use Rattle.ipx_site.specs.Steady.{StopsThere};
 
 use ipx_carrier::Clock;
 use std::rt::Clock as SystemClock;
 use std::time::Instant;
+use thiserror::Error;
+
+/// The system does not tell the time, as it is asked for the first time.
+#[derive(Clone, Copy, Debug, PartialEq, Eq, Error)]
+pub enum ClockFault {
+    #[error("the system's clock can't be read")]
+    Unread,
+}
 
 /// The milliseconds since it was made, by the system's steady clock. It never goes back.
 ///
@@ -13,23 +21,27 @@ use std::time::Instant;
 #[derive(Drop)]
 pub struct SteadyClock<'a, R: SystemClock> {
     system: &'a R,
-    start: Option<Instant>,
+    start: Instant,
     last: u64,
     /// It tells the moment that it told last, and asks no more.
     stopped: bool,
 }
 
 impl<'a, R: SystemClock> SteadyClock<'a, R> {
-    /// A clock that begins at 0 now.
-    pub fn new(system: &'a R) -> SteadyClock<'a, R>
-        ensures begins { result.last ≡ 0 }
-        ensures goes { result.stopped ≡ false }
+    /// A clock that begins at 0 now. If the system does not tell the time there is none: one that stays
+    /// at 0 would never be due.
+    pub fn new(system: &'a R) -> Result<SteadyClock<'a, R>, ClockFault>
+        ensures begins { IfOk result (λ c. c.last ≡ 0) }
+        ensures goes { IfOk result (λ c. c.stopped ≡ false) }
     {
-        SteadyClock {
-            system,
-            start: Instant::now(system).ok(),
-            last: 0,
-            stopped: false,
+        match Instant::now(system) {
+            Ok(start) => Ok(SteadyClock {
+                system,
+                start,
+                last: 0,
+                stopped: false,
+            }),
+            Err(_) => Err(ClockFault::Unread),
         }
     }
 
@@ -47,7 +59,7 @@ impl<'a, R: SystemClock> SteadyClock<'a, R> {
 
     /// The milliseconds since the start, where the system tells them.
     fn since_start(&self) -> Option<u64> {
-        let passed = self.start?.elapsed(self.system).ok()?;
+        let passed = self.start.elapsed(self.system).ok()?;
         u64::try_from(passed.as_millis()).ok()
     }
 }

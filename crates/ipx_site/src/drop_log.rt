@@ -1,13 +1,14 @@
 //! The lines of what a router dropped: one a minute for each reason, with the last one of it.
 
 ghost use Rattle.std.specs.Prelude.{◌≡◌};
-ghost use Rattle.ipx_site.specs.DropLog.{AreDropsTold, is_for_all_nodes, is_of_all_nodes, no_drops_told, warns_of};
+ghost use Rattle.ipx_site.specs.DropLog.{AreDropsTold, AreSourceDropsTold, is_for_all_nodes, is_of_all_nodes, no_drops_told, warns_of};
 ghost use Rattle.ipx_site.specs.Moments.{IsToldIfDue};
 
 use crate::sameness::is_same_node;
 use crate::throttled_log::ThrottledLog;
 use ipx_carrier::OutcomeCounters;
 use ipx_metrics::{LastDrop, LastDrops};
+use ipx_source_checks::SourceDrops;
 use ipx_wire::{Address, Node, Socket};
 use log::{Log, info, warn};
 use std::fmt;
@@ -20,6 +21,8 @@ pub enum DropReason {
     NoRoute,
     HopLimit,
     BadControl,
+    ForwardedControl,
+    LoopedSource,
 }
 
 /// What a line says of a reason and of the last datagram of it. Of one to which no route leads it
@@ -30,7 +33,7 @@ pub struct DropSummary {
     pub last: Option<LastDrop>,
 }
 
-/// When a router told what it dropped, for each of five reasons.
+/// When a router told what it dropped, for each of seven reasons.
 #[derive(Clone, Copy, Debug, PartialEq, Eq)]
 pub struct DropLog {
     bad: ThrottledLog,
@@ -38,6 +41,8 @@ pub struct DropLog {
     no_route: ThrottledLog,
     hop_limit: ThrottledLog,
     bad_control: ThrottledLog,
+    forwarded_control: ThrottledLog,
+    looped_source: ThrottledLog,
 }
 
 fn write_reason<W: fmt::Write>(
@@ -50,6 +55,8 @@ fn write_reason<W: fmt::Write>(
         DropReason::NotOurs => f.write_str("not ours"),
         DropReason::HopLimit => f.write_str("hop limit"),
         DropReason::BadControl => f.write_str("bad control"),
+        DropReason::ForwardedControl => f.write_str("forwarded control"),
+        DropReason::LoopedSource => f.write_str("looped source"),
         DropReason::NoRoute => match last.and_then(|last| last.to) {
             Some(to) => write!(f, "no route {}", to.network),
             None => f.write_str("no route"),
@@ -98,8 +105,12 @@ impl DropSummary {
     {
         match self.reason {
             DropReason::NotOurs => !is_of_all_nodes(self.last),
-            DropReason::Bad | DropReason::NoRoute | DropReason::HopLimit | DropReason::BadControl =>
-                true,
+            DropReason::Bad
+            | DropReason::NoRoute
+            | DropReason::HopLimit
+            | DropReason::BadControl
+            | DropReason::ForwardedControl
+            | DropReason::LoopedSource => true,
         }
     }
 }
@@ -142,12 +153,21 @@ impl DropLog {
             no_route: ThrottledLog::new(),
             hop_limit: ThrottledLog::new(),
             bad_control: ThrottledLog::new(),
+            forwarded_control: ThrottledLog::new(),
+            looped_source: ThrottledLog::new(),
         }
     }
 
-    /// Tells those for which it is time.
-    pub fn tell<R: Log>(&mut self, rt: &R, outcomes: &OutcomeCounters, last: LastDrops, now: u64)
-        ensures { AreDropsTold outcomes.now now self.old self.new }
+    /// Tells those for which it is time: what the router dropped, and what failed a source check before.
+    pub fn tell<R: Log>(
+        &mut self,
+        rt: &R,
+        outcomes: &OutcomeCounters,
+        last: LastDrops,
+        source: SourceDrops,
+        now: u64,
+    )
+        ensures { AreDropsTold outcomes.now source now self.old self.new }
     {
         let bad = words(DropReason::Bad, last.bad);
         let not_ours = words(DropReason::NotOurs, last.not_ours);
@@ -165,5 +185,23 @@ impl DropLog {
             bad_control,
             now,
         );
+        self.tell_source_drops(rt, source, now);
+    }
+
+    fn tell_source_drops<R: Log>(&mut self, rt: &R, source: SourceDrops, now: u64)
+        ensures { AreSourceDropsTold source now self.old self.new }
+    {
+        let forwarded = source.forwarded_control;
+        let looped = source.looped_source;
+        let control = words(DropReason::ForwardedControl, forwarded.last);
+        let loops = words(DropReason::LoopedSource, looped.last);
+        tell(
+            rt,
+            &mut self.forwarded_control,
+            forwarded.count,
+            control,
+            now,
+        );
+        tell(rt, &mut self.looped_source, looped.count, loops, now);
     }
 }

@@ -7,17 +7,17 @@ ghost use Rattle.toml.specs.View.{table_view, view};
 ghost use Rattle.ipx_site.specs.Keys.{first_unknown, key_text, keys_of_kind};
 ghost use Rattle.ipx_site.specs.Neighbours.{AreAmong, AreNeighbours};
 ghost use Rattle.ipx_site.specs.AllowedPeers.{AreOrigins};
-ghost use Rattle.ipx_site.specs.Values.{AreAddressesOf, AreRouterPeers, IsAccept, IsIpAddress, IsCount, IsKind, IsNetwork, IsSocket, IsFileName, IsOtherFileName};
+ghost use Rattle.ipx_site.specs.Values.{AreAddressesOf, AreRouterPeers, IsAccept, IsIpAddress, IsCount, IsDirected, IsKind, IsNetwork, IsSocket, IsFileName, IsOtherFileName};
 ghost use Rattle.ipx_site.specs.Fields.{Gives, GivesIf, GivesOr, Holds, HoldsOr, IsMissing, IsStray, IsStrayName, IsUnknown, IsWrong};
 
 use crate::allowed_peer::{AllowedPeer, origins_of};
 use crate::fault::ConfigError;
 use crate::key::{Key, is_key, key_in, keys_of_kind, keys_of_other_kinds};
 use crate::neighbours::{among, neighbours_of};
-use crate::site::{Accept, Kind};
+use crate::site::{Accept, Directed, Kind};
 use crate::values::{
-    accept_of, count_of, file_name_of, kind_of, parse_address, parse_network, parse_peers,
-    parse_socket, routers_of,
+    accept_of, are_apart, count_of, directed_of, file_name_of, kind_of, parse_address,
+    parse_network, parse_peers, parse_socket, routers_of,
 };
 use ipx_wire::{Network, OutOfMemory, Socket};
 use std::alloc::Global;
@@ -187,6 +187,19 @@ pub fn accept_in(table: &Table, number: usize) -> Result<Accept, ConfigError>
     }
 }
 
+/// Which directed broadcasts leave by a port.
+pub fn directed_in(table: &Table, number: usize) -> Result<Directed, ConfigError>
+    ensures { GivesOr IsDirected Key.Directed (table_view table.now) number Directed.Few result }
+{
+    let Some(value) = held(table, Key::Directed) else {
+        return Ok(Directed::Few);
+    };
+    match directed_of(value) {
+        Some(directed) => Ok(directed),
+        None => Err(ConfigError::Wrong(number, Key::Directed)),
+    }
+}
+
 /// The kind of a port.
 pub fn kind_in(table: &Table, number: usize) -> Result<Kind, ConfigError>
     ensures { GivesOr IsKind Key.Kind (table_view table.now) number Kind.Rfc1234 result }
@@ -223,7 +236,8 @@ pub fn file_name_in(alloc: Global, table: &Table, key: Key) -> Result<Option<Str
     }
 }
 
-/// The name of a file of a key, if it is there. It is to be another than this one.
+/// The name of a file of a key, if it is there. Neither that file nor the other one may be written over
+/// the other.
 pub fn other_file_name_in(
     alloc: Global,
     table: &Table,
@@ -234,7 +248,7 @@ pub fn other_file_name_in(
 {
     let name = file_name_in(alloc, table, key)?;
     match (&name, other) {
-        (Some(one), Some(two)) if one.as_str() == two.as_str() => Err(ConfigError::Wrong(0, key)),
+        (Some(one), Some(two)) if !are_apart(one, two) => Err(ConfigError::Wrong(0, key)),
         _ => Ok(name),
     }
 }

@@ -1,5 +1,7 @@
 //! What a router counts of frames on its wires, as a text for Prometheus.
 
+ghost use Rattle.std.specs.Prelude.{◌≡◌};
+
 use crate::ethernet_totals::came_in;
 use crate::family::{Family, put_family, put_of_port, put_one};
 use crate::router_ports::{PortIndex, UdpRouterPorts};
@@ -7,7 +9,7 @@ use ipx_ethernet::{Encapsulation, FrameCounters};
 use ipx_ethernet_ports::EndSockets;
 use ipx_hub::Switch;
 use log::{Log, warn};
-use std::alloc::AllocError;
+use std::alloc::{AllocError, Global};
 
 /// The encapsulations, in the order in which they are told.
 const ALL: [Encapsulation; 4] = [
@@ -47,12 +49,68 @@ const SENT: Family = Family {
     kind: "counter",
 };
 
+/// What a router counts at an Ethernet port.
+#[derive(Clone, Copy, Debug, PartialEq, Eq)]
+pub struct EthernetPortMetrics {
+    /// The number of the port. The first one is 1.
+    pub number: usize,
+    /// The frames that arrived, by outcome.
+    pub frames: FrameCounters,
+    /// The frames that went on from one remote to others.
+    pub passed: u64,
+    /// The packets that no frame could carry.
+    pub refused: u64,
+}
+
+/// What a router counts at its Ethernet ports.
+#[derive(Drop)]
+pub struct EthernetMetrics {
+    pub ports: Vec<EthernetPortMetrics>,
+    /// The datagrams that came from no remote of any of these ports.
+    pub unknown_senders: u64,
+    /// The frames that the system took to be sent.
+    pub sent: u64,
+}
+
 /// The hub of a port that is on a wire.
 fn switch_at(ports: &UdpRouterPorts, port_index: PortIndex) -> Option<&Switch> {
     match port_index {
         PortIndex::Datagrams(_) | PortIndex::IpxnetServer(_) => None,
         PortIndex::Ethernet(place) => ports.ethernet().switches().get(place),
     }
+}
+
+fn metrics_of(number: usize, switch: &Switch) -> EthernetPortMetrics
+    ensures number { result.number ≡ number }
+    ensures frames { result.frames ≡ switch.now.counts }
+    ensures passed { result.passed ≡ switch.now.passed }
+    ensures refused { result.refused ≡ switch.now.refused }
+{
+    EthernetPortMetrics {
+        number,
+        frames: switch.counts(),
+        passed: switch.passed(),
+        refused: switch.refused(),
+    }
+}
+
+/// What a router counts at its Ethernet ports, in their order.
+pub fn ethernet_metrics(
+    alloc: Global,
+    ports: &UdpRouterPorts,
+) -> Result<EthernetMetrics, AllocError> {
+    let mut metrics = Vec::new(alloc);
+    for (place, port_index) in ports.port_indices().iter().enumerate() {
+        if let Some(switch) = switch_at(ports, *port_index) {
+            metrics.push(metrics_of(place + 1, switch))?;
+        }
+    }
+    let sockets = ports.ethernet().sockets();
+    Ok(EthernetMetrics {
+        ports: metrics,
+        unknown_senders: sockets.unknown_senders(),
+        sent: sockets.sent(),
+    })
 }
 
 fn put_outcomes(text: &mut String, number: usize, counts: FrameCounters) -> Result<(), AllocError> {
@@ -92,55 +150,43 @@ fn put_encapsulations(
 }
 
 /// Writes what became of the frames that came to each port.
-fn put_frames(text: &mut String, ports: &UdpRouterPorts) -> Result<(), AllocError> {
+fn put_frames(text: &mut String, ports: &[EthernetPortMetrics]) -> Result<(), AllocError> {
     put_family(text, &FRAMES)?;
-    for (place, port_index) in ports.port_indices().iter().enumerate() {
-        if let Some(switch) = switch_at(ports, *port_index) {
-            put_outcomes(text, place + 1, switch.counts())?;
-            put_encapsulations(text, place + 1, switch.counts())?;
-        }
+    for port in ports {
+        put_outcomes(text, port.number, port.frames)?;
+        put_encapsulations(text, port.number, port.frames)?;
     }
     Ok(())
 }
 
 /// Writes how many frames went on from one end of a wire to others.
-fn put_passed(text: &mut String, ports: &UdpRouterPorts) -> Result<(), AllocError> {
+fn put_passed(text: &mut String, ports: &[EthernetPortMetrics]) -> Result<(), AllocError> {
     put_family(text, &PASSED)?;
-    for (place, port_index) in ports.port_indices().iter().enumerate() {
-        if let Some(switch) = switch_at(ports, *port_index) {
-            put_of_port(text, &PASSED, place + 1, switch.passed())?;
-        }
+    for port in ports {
+        put_of_port(text, &PASSED, port.number, port.passed)?;
     }
     Ok(())
 }
 
 /// Writes how many packets of the router no frame could carry.
-fn put_refused(text: &mut String, ports: &UdpRouterPorts) -> Result<(), AllocError> {
+fn put_refused(text: &mut String, ports: &[EthernetPortMetrics]) -> Result<(), AllocError> {
     put_family(text, &REFUSED)?;
-    for (place, port_index) in ports.port_indices().iter().enumerate() {
-        if let Some(switch) = switch_at(ports, *port_index) {
-            put_of_port(text, &REFUSED, place + 1, switch.refused())?;
-        }
+    for port in ports {
+        put_of_port(text, &REFUSED, port.number, port.refused)?;
     }
     Ok(())
 }
 
-/// Writes what the sockets of all wires counted.
-fn put_ethernet_sockets(text: &mut String, ports: &UdpRouterPorts) -> Result<(), AllocError> {
-    let sockets = ports.ethernet().sockets();
-    put_one(text, &UNKNOWN_SENDERS, sockets.unknown_senders())?;
-    put_one(text, &SENT, sockets.sent())
-}
-
-/// Writes what a router counts of frames behind its other figures; nothing where it is on no wire.
-pub fn put_frame_metrics(text: &mut String, ports: &UdpRouterPorts) -> Result<(), AllocError> {
-    if ports.ethernet().switches().is_empty() {
+/// Writes what a router counts at its Ethernet ports after its other metrics; nothing if it has none.
+pub fn put_frame_metrics(text: &mut String, metrics: &EthernetMetrics) -> Result<(), AllocError> {
+    if metrics.ports.is_empty() {
         return Ok(());
     }
-    put_frames(text, ports)?;
-    put_passed(text, ports)?;
-    put_refused(text, ports)?;
-    put_ethernet_sockets(text, ports)
+    put_frames(text, &metrics.ports)?;
+    put_passed(text, &metrics.ports)?;
+    put_refused(text, &metrics.ports)?;
+    put_one(text, &UNKNOWN_SENDERS, metrics.unknown_senders)?;
+    put_one(text, &SENT, metrics.sent)
 }
 
 /// Tells which other encapsulations came to a port.

@@ -8,7 +8,7 @@ ghost use Rattle.ipx_site.specs.EthernetValues.{are_places_apart};
 use crate::ethernet_fields::{required_count_in, station_in};
 use crate::ethernet_values::{ends_of, station_at};
 use crate::fault::ConfigError;
-use crate::fields::{accept_in, address_in, count_in, held, network_in, refuse_stray};
+use crate::fields::{accept_in, address_in, count_in, directed_in, held, network_in, refuse_stray};
 use crate::ipxnet_port::IpxnetPortConfig;
 use crate::key::Key;
 use crate::site::{Accept, Kind};
@@ -101,6 +101,7 @@ pub fn ipxnet_port_in(
     let accept = accept_in(table, number)?;
     let peers = registering_in(alloc, table, number, accept)?;
     let join = joined_routers_in(alloc, table, number)?;
+    let directed = directed_in(table, number)?;
     Ok(IpxnetPortConfig {
         network,
         address,
@@ -111,5 +112,6 @@ pub fn ipxnet_port_in(
         accept,
         peers,
         join,
+        directed,
     })
 }

@@ -1,10 +1,12 @@
 //! What a router counts at its ports for clients of ipxnet, as a text for Prometheus.
 
+ghost use Rattle.std.specs.Prelude.{◌≡◌, length};
+
 use crate::family::{Family, put_family, put_of_port, put_one};
 use crate::router_ports::{PortIndex, UdpRouterPorts};
 use ipx_ipxnet_ports::PlaceSockets;
 use ipxnet_server::{IpxnetServer, ServerCounts};
-use std::alloc::AllocError;
+use std::alloc::{AllocError, Global};
 
 const CLIENTS: Family = Family {
     name: "ipx_ipxnet_clients",
@@ -30,12 +32,61 @@ const SENT: Family = Family {
     kind: "counter",
 };
 
+/// What a router counts at a port for ipxnet.
+#[derive(Clone, Copy, Debug, PartialEq, Eq)]
+pub struct IpxnetPortMetrics {
+    /// The number of the port. The first one is 1.
+    pub number: usize,
+    /// How many clients are registered.
+    pub clients: u64,
+    /// What was dropped, by reason.
+    pub drops: ServerCounts,
+}
+
+/// What a router counts at its ports for ipxnet.
+#[derive(Drop)]
+pub struct IpxnetMetrics {
+    pub ports: Vec<IpxnetPortMetrics>,
+    /// The datagrams that came from nobody who may register at any of these ports.
+    pub unknown_senders: u64,
+    /// The datagrams for clients that the system took to be sent.
+    pub sent: u64,
+}
+
 /// The lobby of a port that has one.
 fn server_at(ports: &UdpRouterPorts, port_index: PortIndex) -> Option<&IpxnetServer> {
     match port_index {
         PortIndex::Datagrams(_) | PortIndex::Ethernet(_) => None,
         PortIndex::IpxnetServer(place) => ports.servers().servers().get(place),
     }
+}
+
+fn metrics_of(number: usize, server: &IpxnetServer) -> IpxnetPortMetrics
+    ensures number { result.number ≡ number }
+    ensures clients { result.clients ≡ length server.now.clients }
+    ensures drops { result.drops ≡ server.now.counts }
+{
+    IpxnetPortMetrics {
+        number,
+        clients: server.clients().len() as u64,
+        drops: server.counts(),
+    }
+}
+
+/// What a router counts at its ports for ipxnet, in their order.
+pub fn ipxnet_metrics(alloc: Global, ports: &UdpRouterPorts) -> Result<IpxnetMetrics, AllocError> {
+    let mut metrics = Vec::new(alloc);
+    for (place, port_index) in ports.port_indices().iter().enumerate() {
+        if let Some(server) = server_at(ports, *port_index) {
+            metrics.push(metrics_of(place + 1, server))?;
+        }
+    }
+    let sockets = ports.servers().sockets();
+    Ok(IpxnetMetrics {
+        ports: metrics,
+        unknown_senders: sockets.from_nowhere(),
+        sent: sockets.sent(),
+    })
 }
 
 /// Writes what was dropped at a port with this number, by its cause.
@@ -67,36 +118,30 @@ pub fn put_drops(text: &mut String, number: usize, counts: ServerCounts) -> Resu
 }
 
 /// Writes how many clients each port has.
-fn put_clients(text: &mut String, ports: &UdpRouterPorts) -> Result<(), AllocError> {
+fn put_clients(text: &mut String, ports: &[IpxnetPortMetrics]) -> Result<(), AllocError> {
     put_family(text, &CLIENTS)?;
-    for (place, port_index) in ports.port_indices().iter().enumerate() {
-        if let Some(server) = server_at(ports, *port_index) {
-            put_of_port(text, &CLIENTS, place + 1, server.clients().len() as u64)?;
-        }
+    for port in ports {
+        put_of_port(text, &CLIENTS, port.number, port.clients)?;
     }
     Ok(())
 }
 
 /// Writes what each port dropped.
-fn put_dropped(text: &mut String, ports: &UdpRouterPorts) -> Result<(), AllocError> {
+fn put_dropped(text: &mut String, ports: &[IpxnetPortMetrics]) -> Result<(), AllocError> {
     put_family(text, &DROPPED)?;
-    for (place, port_index) in ports.port_indices().iter().enumerate() {
-        if let Some(server) = server_at(ports, *port_index) {
-            put_drops(text, place + 1, server.counts())?;
-        }
+    for port in ports {
+        put_drops(text, port.number, port.drops)?;
     }
     Ok(())
 }
 
-/// Writes what a router counts of clients behind its other figures; nothing where it has no port for
-/// them.
-pub fn put_ipxnet_metrics(text: &mut String, ports: &UdpRouterPorts) -> Result<(), AllocError> {
-    if ports.servers().servers().is_empty() {
+/// Writes what a router counts at its ports for ipxnet after its other metrics; nothing if it has none.
+pub fn put_ipxnet_metrics(text: &mut String, metrics: &IpxnetMetrics) -> Result<(), AllocError> {
+    if metrics.ports.is_empty() {
         return Ok(());
     }
-    put_clients(text, ports)?;
-    put_dropped(text, ports)?;
-    let sockets = ports.servers().sockets();
-    put_one(text, &UNKNOWN_SENDERS, sockets.from_nowhere())?;
-    put_one(text, &SENT, sockets.sent())
+    put_clients(text, &metrics.ports)?;
+    put_dropped(text, &metrics.ports)?;
+    put_one(text, &UNKNOWN_SENDERS, metrics.unknown_senders)?;
+    put_one(text, &SENT, metrics.sent)
 }

@@ -3,7 +3,7 @@
 ghost use Rattle.std.specs.Prelude.{◌≤◌};
 ghost use Rattle.ipxnet_server.specs.ServerClients.{max_server_clients};
 
-use crate::site::Accept;
+use crate::site::{Accept, Directed};
 use ipx_ethernet_ports::Place;
 use ipx_wire::{Network, Node};
 
@@ -28,6 +28,7 @@ pub struct IpxnetPortConfig {
     pub peers: Vec<[u8; 4]>,
     /// Where the routers are whose lobbies are one network with this one.
     pub join: Vec<Place>,
+    pub directed: Directed,
     // So a lobby may have as many.
     ghost few: { (1 ≤ clients) × (clients ≤ max_server_clients) },
 }

@@ -29,6 +29,7 @@ pub enum Key {
     Switch,
     Clients,
     Join,
+    Directed,
     Route,
     Service,
     Next,
@@ -66,6 +67,7 @@ impl Key {
             Key::Switch => "switch",
             Key::Clients => "clients",
             Key::Join => "join",
+            Key::Directed => "directed",
             Key::Route => "route",
             Key::Service => "service",
             Key::Next => "next_hop",
@@ -81,8 +83,10 @@ impl Key {
     pub(crate) fn right(&self) -> &'static str {
         match self {
             Key::Status => "the name of a file, as \"/run/ipx/hq/hq.prom\"",
-            Key::Tables =>
-                "the name of a file, not that of metrics_file, as \"/run/ipx/hq/hq.tables\"",
+            Key::Tables => {
+                "the name of a file, not that of metrics_file with or without .new, as \
+                 \"/run/ipx/hq/hq.tables\""
+            }
             Key::Port => "one to sixteen tables, each begun by [[port]]",
             Key::Network => "eight hex digits, neither all 0 nor all f, as \"00000011\"",
             Key::Address => "an IP address of this machine, as \"192.0.2.10\"",
@@ -105,6 +109,7 @@ impl Key {
             Key::Switch => "true or false",
             Key::Clients => "a number from 1 to 150, as 64",
             Key::Join => "a list of 1 to 256 places, each once, as [\"198.51.100.7:2130\"]",
+            Key::Directed => "\"none\", \"few\" or \"all\"",
             Key::Route => "at most 256 tables, each begun by [[route]]",
             Key::Service => "at most 256 tables, each begun by [[service]]",
             Key::Next => {
@@ -128,7 +133,7 @@ pub fn is_key(keys: &[Key], text: &str) -> bool
 }
 
 /// The keys of a port of RFC 1234, in the order in which their faults are told.
-const PORT_KEYS: [Key; 8] = [
+const PORT_KEYS: [Key; 9] = [
     Key::Kind,
     Key::Network,
     Key::Address,
@@ -137,10 +142,11 @@ const PORT_KEYS: [Key; 8] = [
     Key::Peers,
     Key::Routers,
     Key::Accept,
+    Key::Directed,
 ];
 
 /// Those of a port on a wire.
-const FRAMES_KEYS: [Key; 9] = [
+const FRAMES_KEYS: [Key; 10] = [
     Key::Kind,
     Key::Network,
     Key::Frame,
@@ -150,10 +156,11 @@ const FRAMES_KEYS: [Key; 9] = [
     Key::Ends,
     Key::Node,
     Key::Switch,
+    Key::Directed,
 ];
 
 /// And those of a port for clients of ipxnet.
-const IPXNET_KEYS: [Key; 10] = [
+const IPXNET_KEYS: [Key; 11] = [
     Key::Kind,
     Key::Network,
     Key::Address,
@@ -164,6 +171,7 @@ const IPXNET_KEYS: [Key; 10] = [
     Key::Accept,
     Key::Peers,
     Key::Join,
+    Key::Directed,
 ];
 
 /// The keys that ports of other kinds than RFC 1234 have besides its own, than wires, and than those

@@ -1,6 +1,7 @@
 //! What one installs at a site: a router or a host, by a short file.
 //!
-//! [`do_route`] is the command of a router, and [`check_site`] says what it would of its file.
+//! [`do_route`] is the command of a router: [`start_router`], and then [`run_router`]. [`check_site`]
+//! says what it would of its file.
 //! [`read_site`] reads the file of a router, [`read_host`] that of a host, and [`load_site`] and
 //! [`load_host`] where they lie. [`SourceFilter`] is a device that hears and sends to its peers alone,
 //! over any device that knows its [`Senders`], as [`UdpSockets`] are; [`Poller`] waits for
@@ -14,6 +15,7 @@ mod checking;
 mod client_log;
 mod clock;
 mod config_file;
+mod directed_broadcast;
 mod discovery;
 mod drop_log;
 mod escaped;
@@ -35,16 +37,19 @@ mod key;
 mod known_text;
 mod last_sender;
 mod metrics;
+mod metrics_page;
 mod moments;
 mod neighbour_metrics;
 mod neighbours;
 mod poller;
 mod port;
+mod port_buckets;
 mod port_filter_drops;
+mod port_limits;
 mod port_metrics;
 mod querier;
-mod query_limiter;
 mod query_rate;
+mod rate_limiter;
 mod rcvbuf;
 mod reading;
 mod ready_ports;
@@ -59,7 +64,9 @@ mod site;
 mod sockets;
 mod source_check;
 mod source_filter;
+mod source_laws;
 mod start_lines;
+mod starting;
 mod static_fields;
 mod static_laws;
 mod static_lines;
@@ -71,6 +78,7 @@ mod statics;
 mod status;
 mod text;
 mod throttled_log;
+mod token_bucket;
 mod token_buckets;
 mod toml_text;
 mod values;
@@ -81,34 +89,44 @@ pub use allowed_peer::AllowedPeer;
 pub use bind_fault::{BindErrorKind, BindFault};
 pub use checking::{check_site, peers_to_remarks, write_checked};
 pub use client_log::{ClientChanges, ClientLog, PortClient};
-pub use clock::SteadyClock;
+pub use clock::{ClockFault, SteadyClock};
 pub use config_file::{ConfigFile, load_config, load_tables};
+pub use directed_broadcast::{DirectedBroadcast, DirectedDrops, directed_broadcast_in};
 pub use discovery::discovery_retry;
 pub use drop_log::{DropReason, DropSummary};
 pub use escaped::Escaped;
 pub use fault::ConfigError;
 pub use files::{load_host, load_site};
+pub use frame_metrics::{EthernetMetrics, EthernetPortMetrics};
 pub use host::{HostConfig, read_host};
-pub use ipxnet_metrics::put_drops;
+pub use ipxnet_metrics::{IpxnetMetrics, IpxnetPortMetrics, put_drops};
 pub use ipxnet_port::IpxnetPortConfig;
 pub use key::Key;
 pub use last_sender::Senders;
 pub use metrics::Metrics;
+pub use metrics_page::MetricsPage;
 pub use neighbour_metrics::put_neighbour_metrics;
 pub use poller::{Poller, WaitFault};
+pub use port_buckets::PortBuckets;
 pub use port_filter_drops::{PortFilterDrops, what_was_kept_adds_up};
 pub use port_metrics::put_port_metrics;
 pub use querier::{Querier, general_query_from};
-pub use query_limiter::QueryLimiter;
-pub use query_rate::query_rate_is_bounded;
+pub use query_rate::{directed_rate_is_bounded, port_query_rate_is_bounded, query_rate_is_bounded};
+pub use rate_limiter::RateLimiter;
 pub use rcvbuf::RCVBUF_SIZE;
 pub use reading::read_site;
 pub use router_ports::PortIndex;
+pub use router_runs::run_router;
 pub use routing::do_route;
-pub use site::{Accept, EthernetPortConfig, Kind, PortConfig, Rfc1234PortConfig, RouterConfig};
+pub use running_router::RunningRouter;
+pub use site::{
+    Accept, Directed, EthernetPortConfig, Kind, PortConfig, Rfc1234PortConfig, RouterConfig,
+};
 pub use sockets::UdpSockets;
 pub use source_filter::{AccessList, DropCount, FilterDrops, SourceFilter, Verdict};
+pub use source_laws::control_is_of_its_sender;
 pub use start_lines::{dotted, others, reached_to_text};
+pub use starting::start_router;
 pub use static_laws::{
     entries_of_files_may_stand, routes_of_files_stand, routes_of_sites_stand,
     services_of_files_stand, services_of_sites_stand,
@@ -116,5 +134,6 @@ pub use static_laws::{
 pub use static_neighbours::silent_of;
 pub use statics::{StaticEntry, StaticItem};
 pub use throttled_log::ThrottledLog;
+pub use token_bucket::{RateLimit, TokenBucket};
 pub use token_buckets::TokenBuckets;
 pub use warnings::{Warning, tell_each};

@@ -1,8 +1,10 @@
 //! What a router counts, as a text for Prometheus.
 
+use crate::directed_broadcast::DirectedDrops;
 use crate::family::{Family, put_each, put_one};
 use crate::source_filter::{DropCount, FilterDrops};
 use ipx_carrier::OutcomeCounters;
+use ipx_source_checks::SourceDrops;
 use std::alloc::{AllocError, Global};
 
 /// What a router counted since it started.
@@ -22,6 +24,10 @@ pub struct Metrics {
     pub kept: FilterDrops,
     /// The queries that came too often, and were not heard.
     pub rate_limited: DropCount,
+    /// The directed broadcasts that were too many, and were not forwarded.
+    pub directed: DirectedDrops,
+    /// The packets that failed a source check of the router.
+    pub source_drops: SourceDrops,
     pub refused: u64,
     /// The datagrams that came from no end of a wire, the packets that no frame could carry, and the
     /// frames with a packet in another encapsulation than that of their port.
@@ -138,6 +144,19 @@ fn put_dropped(text: &mut String, metrics: &Metrics) -> Result<(), AllocError> {
     put_each(text, &DROPPED, "reason", &metrics)
 }
 
+fn put_filtered(text: &mut String, metrics: &Metrics) -> Result<(), AllocError> {
+    let drops = metrics.source_drops;
+    let metrics = [
+        ("spoofed_source", metrics.kept.spoofed.count),
+        ("not_a_router", metrics.kept.not_a_router.count),
+        ("rate_limited", metrics.rate_limited.count),
+        ("directed_broadcast", metrics.directed.count),
+        ("forwarded_control", drops.forwarded_control.count),
+        ("looped_source", drops.looped_source.count),
+    ];
+    put_each(text, &FILTERED, "reason", &metrics)
+}
+
 fn put_faults(text: &mut String, metrics: &Metrics) -> Result<(), AllocError> {
     let metrics = [
         ("device", metrics.device_faults),
@@ -156,16 +175,7 @@ impl Metrics {
         put_outcomes(&mut text, &self.outcomes)?;
         put_dropped(&mut text, self)?;
         put_one(&mut text, &UNKNOWN_SENDERS, self.kept.unknown_senders.count)?;
-        put_each(
-            &mut text,
-            &FILTERED,
-            "reason",
-            &[
-                ("spoofed_source", self.kept.spoofed.count),
-                ("not_a_router", self.kept.not_a_router.count),
-                ("rate_limited", self.rate_limited.count),
-            ],
-        )?;
+        put_filtered(&mut text, self)?;
         put_one(&mut text, &REFUSED, self.refused)?;
         put_faults(&mut text, self)?;
         put_one(&mut text, &QUEUE, self.queue)?;

@@ -9,7 +9,8 @@ use crate::ethernet_fields::{encapsulation_in, ends_in, joined_in, required_coun
 use crate::ethernet_values::station_at;
 use crate::fault::ConfigError;
 use crate::fields::{
-    accept_in, address_in, count_in, kind_in, network_in, peers_in, port_routers_in, refuse_stray,
+    accept_in, address_in, count_in, directed_in, kind_in, network_in, peers_in, port_routers_in,
+    refuse_stray,
 };
 use crate::ipxnet_fields::ipxnet_port_in;
 use crate::key::Key;
@@ -37,6 +38,7 @@ fn rfc1234_port(
     let peers = peers_in(alloc, table, number)?;
     let routers = port_routers_in(alloc, table, number, &peers)?;
     let accept = accept_in(table, number)?;
+    let directed = directed_in(table, number)?;
     Ok(Rfc1234PortConfig {
         network,
         address,
@@ -45,6 +47,7 @@ fn rfc1234_port(
         peers,
         routers,
         accept,
+        directed,
     })
 }
 
@@ -71,6 +74,7 @@ fn frames_port(
     });
     let node = station_in(table, number, made)?;
     let joined = joined_in(table, number)?;
+    let directed = directed_in(table, number)?;
     Ok(EthernetPortConfig {
         network,
         encapsulation,
@@ -80,6 +84,7 @@ fn frames_port(
         ends,
         node,
         joined,
+        directed,
     })
 }
 

@@ -2,7 +2,8 @@
 
 use crate::family::{Family, put_family};
 use ipx_carrier::OutcomeCounters;
-use ipx_metrics::{MeteredRouter, PortCounts};
+use ipx_metrics::PortCounts;
+use ipx_router::Port;
 use std::alloc::AllocError;
 
 const HEARD: Family = Family {
@@ -57,20 +58,22 @@ fn count_of(counts: &PortCounts, passed: Passed) -> u64 {
 fn put_passed(
     text: &mut String,
     family: &Family,
-    core: &MeteredRouter,
+    ports: &[Port],
+    counters: &[PortCounts],
     passed: Passed,
 ) -> Result<(), AllocError> {
     put_family(text, family)?;
-    let ports = core.router().ports();
-    for (place, counts) in core.port_counters().iter().enumerate() {
-        let name = family.name;
-        let number = place + 1;
-        let network = ports[place].network;
-        let count = count_of(counts, passed);
-        write!(
-            text,
-            "{name}{{port=\"{number}\",network=\"{network}\"}} {count}\n"
-        )?;
+    for (place, counts) in counters.iter().enumerate() {
+        if let Some(port) = ports.get(place) {
+            let name = family.name;
+            let number = place + 1;
+            let network = port.network;
+            let count = count_of(counts, passed);
+            write!(
+                text,
+                "{name}{{port=\"{number}\",network=\"{network}\"}} {count}\n"
+            )?;
+        }
     }
     Ok(())
 }
@@ -100,19 +103,24 @@ fn put_drops(
 }
 
 /// Writes what was dropped, by the port that it came by.
-fn put_dropped(text: &mut String, core: &MeteredRouter) -> Result<(), AllocError> {
+fn put_dropped(text: &mut String, counters: &[PortCounts]) -> Result<(), AllocError> {
     put_family(text, &DROPPED)?;
-    for (place, counts) in core.port_counters().iter().enumerate() {
+    for (place, counts) in counters.iter().enumerate() {
         put_drops(text, place + 1, &counts.outcomes)?;
     }
     Ok(())
 }
 
-/// Writes what a router counts at each of its ports behind its other figures.
-pub fn put_port_metrics(text: &mut String, core: &MeteredRouter) -> Result<(), AllocError> {
-    put_passed(text, &HEARD, core, Passed::Heard)?;
-    put_passed(text, &HEARD_BYTES, core, Passed::HeardBytes)?;
-    put_passed(text, &SENT, core, Passed::Sent)?;
-    put_passed(text, &SENT_BYTES, core, Passed::SentBytes)?;
-    put_dropped(text, core)
+/// Writes what a router counts at each of its ports after its other metrics. The counters are in the
+/// order of the ports.
+pub fn put_port_metrics(
+    text: &mut String,
+    ports: &[Port],
+    counters: &[PortCounts],
+) -> Result<(), AllocError> {
+    put_passed(text, &HEARD, ports, counters, Passed::Heard)?;
+    put_passed(text, &HEARD_BYTES, ports, counters, Passed::HeardBytes)?;
+    put_passed(text, &SENT, ports, counters, Passed::Sent)?;
+    put_passed(text, &SENT_BYTES, ports, counters, Passed::SentBytes)?;
+    put_dropped(text, counters)
 }

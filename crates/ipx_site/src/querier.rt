@@ -3,7 +3,7 @@
 ghost use Rattle.std.specs.Prelude.{◌≡◌, ◌↔◌, IsTrue, IfNone, IfSome};
 ghost use Rattle.ipx_router.specs.Classify.{concern_of, concern_on_network, is_from_neighbour};
 ghost use Rattle.ipx_router.specs.Replying.{asks_all};
-ghost use Rattle.ipx_site.specs.QueryLimiter.{AsksAllRoutes, AsksAllServices, AsksAt, AsksForAll, IsGeneralQuery};
+ghost use Rattle.ipx_site.specs.RateLimiter.{AsksAllRoutes, AsksAllServices, AsksAt, AsksForAll, IsGeneralQuery};
 
 use ipx_control::{RipBody, RipEntries, SapBody, read_rip, read_sap};
 use ipx_router::Port;

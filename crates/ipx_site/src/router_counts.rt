@@ -8,13 +8,14 @@ ghost use Rattle.ipx_site.specs.RouterMetrics.{AreMetrics, no_counts, with_batch
 
 use crate::ethernet_totals::{in_other_encapsulations, unframed};
 use crate::metrics::Metrics;
-use crate::query_limiter::QueryLimiter;
+use crate::rate_limiter::RateLimiter;
 use crate::route_change_log::RouteChangeLog;
 use crate::router_ports::UdpRouterPorts;
 use ipx_carrier::{Batch, OutcomeCounters, RunFault, saturating_increment};
 use ipx_ethernet_ports::EndSockets;
 use ipx_ipxnet_ports::PlaceSockets;
 use ipx_metrics::MeteredRouter;
+use ipx_source_checks::SourceChecked;
 use ipx_static::WithStatics;
 
 /// What a router that runs counts itself. Each count stays at the greatest u64.
@@ -87,7 +88,7 @@ impl RouterCounts {
     /// All figures of a router, at a moment in milliseconds since its start.
     pub fn metrics(
         &self,
-        core: &QueryLimiter<WithStatics<MeteredRouter>>,
+        core: &SourceChecked<RateLimiter<WithStatics<MeteredRouter>>>,
         ports: &UdpRouterPorts,
         known: &RouteChangeLog,
         now: u64,
@@ -95,17 +96,19 @@ impl RouterCounts {
         ensures happened { happened_in result ≡ happened self.now core.now ports.now }
         ensures metrics { AreMetrics self.now core.now ports.now known.now now result }
     {
-        let outcomes = core.core().core().outcomes();
+        let outcomes = core.core().core().core().outcomes();
         let device = ports.device();
         let switches = ports.ethernet().switches();
         Metrics {
             heard: heard_in(&outcomes),
             sent: device.device().sent(),
             outcomes,
-            queue_full: core.core().core().dropped(),
+            queue_full: core.core().core().core().dropped(),
             unmapped: self.unmapped,
             kept: device.kept(),
-            rate_limited: core.kept(),
+            rate_limited: core.core().kept(),
+            directed: core.core().directed(),
+            source_drops: core.drops(),
             refused: device.refused(),
             frame_unknown_senders: ports.ethernet().sockets().unknown_senders(),
             unframed: unframed(switches),
@@ -113,7 +116,7 @@ impl RouterCounts {
             device_faults: self.device_faults.saturating_add(faults_of(ports)),
             memory_faults: self.memory_faults,
             file_faults: self.file_faults,
-            queue: core.core().core().queued() as u64,
+            queue: core.core().core().core().queued() as u64,
             routes: known.networks() as u64,
             services: known.services() as u64,
             seconds: now / 1000,

@@ -1,9 +1,10 @@
 //! The rounds of a router, one after another.
 
-ghost use Rattle.std.specs.Prelude.{is_ok};
+ghost use Rattle.std.specs.Prelude.{◌≤◌, ◌==◌, is_ok};
 ghost use Rattle.ipx_site.specs.RoutingRuns.{RunsTo};
 
 use crate::poller::WaitFault;
+use crate::routing::{RouteFault, tell_route_fault};
 use crate::running_router::RunningRouter;
 use log::Log;
 use std::alloc::Global;
@@ -11,7 +12,7 @@ use std::rt::{Clock as SystemClock, Files};
 
 impl<'a, R: SystemClock> RunningRouter<'a, R> {
     /// Takes one round after another, until a wait fails.
-    pub fn run<S: Log + Files>(&mut self, rt: &S, alloc: Global) -> Result<(), WaitFault>
+    pub(crate) fn run<S: Log + Files>(&mut self, rt: &S, alloc: Global) -> Result<(), WaitFault>
         // It ends just with the round after which the wait failed, or well after 2^64 - 1 rounds.
         ensures { RunsTo self.old self.new (is_ok result) }
     {
@@ -19,5 +20,23 @@ impl<'a, R: SystemClock> RunningRouter<'a, R> {
             self.step(rt, alloc)?;
         }
         Ok(())
+    }
+}
+
+/// Runs a router that was started, until a wait fails, and answers its status: 1 then, and 0 after
+/// 2^64 - 1 rounds. One line on standard error, which begins with the path of its file, says why.
+pub fn run_router<R: Log + Files + SystemClock + Eprint>(
+    rt: &R,
+    alloc: Global,
+    path: &str,
+    router: &mut RunningRouter<'_, R>,
+) -> u8
+    ensures few { result ≤ 1 }
+    // It went through rounds, each from where the last one left it: also if a wait failed.
+    ensures runs { RunsTo router.old router.new (result == 0) }
+{
+    match router.run(rt, alloc) {
+        Ok(()) => 0,
+        Err(fault) => tell_route_fault(rt, path, RouteFault::Wait(fault)),
     }
 }

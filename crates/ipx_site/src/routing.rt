@@ -6,31 +6,35 @@ ghost use Rattle.ipx_router.specs.Ports.{IsPortNumber};
 ghost use Rattle.ipx_static.specs.StaticAdvertisements.{AreWordsOf};
 ghost use Rattle.ipx_carrier.specs.Turns.{peers_of};
 ghost use Rattle.ipx_carrier.specs.Counting.{counted};
+ghost use Rattle.ipx_source_checks.specs.SourceChecks.{nothing_dropped_yet};
 ghost use Rattle.ipx_site.specs.KindPorts.{ArePortsBound, datagram_ports, port_indices_of};
+ghost use Rattle.ipx_site.specs.PortLimits.{limits_of};
 ghost use Rattle.ipx_site.specs.StaticLists.{HearsAtPorts};
 ghost use Rattle.ipx_site.specs.StaticNeighbours.{IsToHear};
-ghost use Rattle.ipx_site.specs.RoutingRuns.{EndsRouter, EndsRouting, RunsRouter, RunsTo};
-ghost use Rattle.ipx_site.specs.declared.running_router.RunningRouter.{RunningRouter as Running};
+ghost use Rattle.ipx_site.specs.RoutingRuns.{RoutesWell};
 ghost use Rattle.ipx_site.specs.SitePorts.{AccessListPorts, access_by, access_of, heard_at_port, named, router_ports, site_peers, udp_ports};
 
 use crate::bind_fault::BindFault;
-use crate::clock::SteadyClock;
+use crate::clock::{ClockFault, SteadyClock};
 use crate::ethernet_ports::ethernet_ports_of;
-use crate::files::load_site;
 use crate::ipxnet_ports::servers_of;
 use crate::poller::{Poller, WaitFault};
-use crate::query_limiter::QueryLimiter;
+use crate::port_limits::limits_of;
+use crate::rate_limiter::RateLimiter;
 use crate::rcvbuf::{RCVBUF_SIZE, set_rcvbuf};
 use crate::router_ports::{PortIndex, RouterPorts, UdpRouterPorts};
+use crate::router_runs::run_router;
 use crate::running_router::{Parts, RunningRouter};
 use crate::site::{Accept, PortConfig, Rfc1234PortConfig, RouterConfig};
 use crate::sockets::UdpSockets;
 use crate::source_filter::{AccessList, SourceFilter};
 use crate::start_lines::ports_to_texts;
+use crate::starting::start_router;
 use crate::static_neighbours::silent_of;
 use ipx_carrier::OnPeers;
 use ipx_metrics::MeteredRouter;
 use ipx_router::{NewFault, Port, Router};
+use ipx_source_checks::SourceChecked;
 use ipx_static::{StaticNeighbour, WithStatics};
 use log::{Log, info, warn};
 use std::alloc::{AllocError, Global};
@@ -41,7 +45,7 @@ use thiserror::Error;
 
 /// Why a router doesn't start, or goes no further.
 #[derive(Clone, Copy, Debug, PartialEq, Eq, Error)]
-enum RouteFault {
+pub(crate) enum RouteFault {
     #[error("out of memory")]
     OutOfMemory(#[from] AllocError),
     #[error("{0}")]
@@ -50,6 +54,8 @@ enum RouteFault {
     Wait(#[from] WaitFault),
     #[error("{0}")]
     New(#[from] NewFault),
+    #[error("{0}")]
+    Clock(#[from] ClockFault),
 }
 
 fn own_ports(alloc: Global, ports: &[PortConfig]) -> Result<Vec<Port>, AllocError>
@@ -85,43 +91,49 @@ fn hearing_statics(
     Ok(core)
 }
 
-/// The core of a router, which answers in turn who asks for all that it knows, and hears by hand.
+/// The core of a router, which limits general queries and directed broadcasts, and hears by hand.
 fn core_of(
     alloc: Global,
     ports: &[PortConfig],
     silent: &[StaticNeighbour],
-) -> Result<QueryLimiter<WithStatics<MeteredRouter>>, RouteFault>
+) -> Result<RateLimiter<WithStatics<MeteredRouter>>, RouteFault>
     requires own { All IsOwnNetwork (router_ports ports.now) }
     requires there { All (λ n. IsPortNumber (length ports.now) n.port) silent.now }
     ensures router { IfOk result (λ c. c.core.core.router.ports ≡ router_ports ports.now) }
     ensures statics { IfOk result (λ c. AreWordsOf silent.now c.core.advertisements
         × (c.core.said ≡ None)) }
     ensures ports { IfOk result (λ c. c.ports ≡ router_ports ports.now) }
-    ensures fresh { IfOk result (λ c. (c.queriers.queriers ≡ []) × (c.queriers.back ≡ 0)) }
+    ensures fresh { IfOk result (λ c. (c.buckets.queriers ≡ [])
+        × (c.buckets.ports ≡ limits_of ports.now)) }
 {
     let own = own_ports(alloc, ports)?;
+    let limits = limits_of(alloc, ports)?;
     let router = router_of(alloc, ports)?;
     let core = hearing_statics(alloc, router, silent)?;
-    let core = QueryLimiter::new(alloc, core, own)?;
+    let core = RateLimiter::new(alloc, core, own, limits)?;
     Ok(core)
 }
 
-/// The core of the router of a file.
+/// The core of the router of a file, under source checks.
 fn core_of_file(
     alloc: Global,
     site: &RouterConfig,
-) -> Result<QueryLimiter<WithStatics<MeteredRouter>>, RouteFault>
+) -> Result<SourceChecked<RateLimiter<WithStatics<MeteredRouter>>>, RouteFault>
     requires own { All IsOwnNetwork (router_ports site.now.ports.items) }
     requires there { HearsAtPorts site.now }
     ensures router { IfOk result (λ c.
-        c.core.core.router.ports ≡ router_ports site.now.ports.items) }
-    ensures statics { IfOk result (λ c. IsToHear site.now.statics.items c.core) }
-    ensures ports { IfOk result (λ c. c.ports ≡ router_ports site.now.ports.items) }
-    ensures fresh { IfOk result (λ c. (c.queriers.queriers ≡ []) × (c.queriers.back ≡ 0)) }
+        c.core.core.core.router.ports ≡ router_ports site.now.ports.items) }
+    ensures statics { IfOk result (λ c. IsToHear site.now.statics.items c.core.core) }
+    ensures checks { IfOk result (λ c. (c.ports ≡ router_ports site.now.ports.items)
+        × (c.drops ≡ nothing_dropped_yet)) }
+    ensures ports { IfOk result (λ c. c.core.ports ≡ router_ports site.now.ports.items) }
+    ensures fresh { IfOk result (λ c. (c.core.buckets.queriers ≡ [])
+        × (c.core.buckets.ports ≡ limits_of site.now.ports.items)) }
 {
     let silent = silent_of(alloc, &site.statics)?;
+    let own = own_ports(alloc, &site.ports)?;
     let core = core_of(alloc, &site.ports, &silent)?;
-    Ok(core)
+    Ok(SourceChecked::new(core, own))
 }
 
 /// The peers of a port.
@@ -306,7 +318,7 @@ fn ready_for<R: Net>(rt: &R, alloc: Global, ports: &UdpRouterPorts) -> Result<Po
 }
 
 /// A router of a file, with its sockets bound.
-fn start<'a, R: Net + Log + SystemClock>(
+pub(crate) fn start<'a, R: Net + Log + SystemClock>(
     rt: &'a R,
     alloc: Global,
     site: RouterConfig,
@@ -314,18 +326,25 @@ fn start<'a, R: Net + Log + SystemClock>(
     requires own { All IsOwnNetwork (router_ports site.ports.items) }
     requires there { HearsAtPorts site }
     // The router has the ports of the file.
-    ensures ports { IfOk result (λ s. s.core.core.core.router.ports ≡ router_ports site.ports.items) }
+    ensures ports { IfOk result (λ s.
+        s.core.core.core.core.router.ports ≡ router_ports site.ports.items) }
     // It is to hear what the file says by hand, and has not yet.
-    ensures statics { IfOk result (λ s. IsToHear site.statics.items s.core.core) }
-    // So those who ask at these have their turns, and nobody has asked yet.
-    ensures queriers { IfOk result (λ s. (s.core.ports ≡ router_ports site.ports.items)
-        × (s.core.queriers.queriers ≡ []) × (s.core.queriers.back ≡ 0)) }
+    ensures statics { IfOk result (λ s. IsToHear site.statics.items s.core.core.core) }
+    // It checks sources at these ports, and has dropped nothing yet.
+    ensures checks { IfOk result (λ s. (s.core.ports ≡ router_ports site.ports.items)
+        × (s.core.drops ≡ nothing_dropped_yet)) }
+    // At each of them so many may ask, and so many directed broadcasts leave by it, as its kind and
+    // its table say; and nobody has asked yet.
+    ensures queriers { IfOk result (λ s. (s.core.core.ports ≡ router_ports site.ports.items)
+        × (s.core.core.buckets.queriers ≡ [])
+        × (s.core.core.buckets.ports ≡ limits_of site.ports.items)) }
     // Each of them has its socket: one of RFC 1234 its peers and its guard, one on a wire its hub, and
     // one for clients of ipxnet its lobby.
     ensures bound { IfOk result (λ s. ArePortsBound site.ports.items s.ports) }
     ensures clock { IfOk result (λ s. s.clock.last ≡ 0) }
     ensures asked { IfOk result (λ s. s.asked ≡ 0) }
 {
+    let clock = SteadyClock::new(rt)?;
     let core = core_of_file(alloc, &site)?;
     // All lines are made before the first is told: where memory is refused, nothing else is.
     let lines = ports_to_texts(alloc, &site.ports)?;
@@ -335,7 +354,7 @@ fn start<'a, R: Net + Log + SystemClock>(
     let parts = Parts {
         core,
         ports,
-        clock: SteadyClock::new(rt),
+        clock,
         ready,
         status: site.status,
         tables: site.tables,
@@ -343,87 +362,32 @@ fn start<'a, R: Net + Log + SystemClock>(
     Ok(RunningRouter::new(alloc, parts))
 }
 
-/// Runs a router that was started, for as long as it can. Why one was not is passed on.
-fn route_started<R: Net + Log + Files + SystemClock>(
-    rt: &R,
-    alloc: Global,
-    started: Result<RunningRouter<'_, R>, RouteFault>,
-) -> Result<(), RouteFault>
-    ensures unstarted { OnErr started.entry (is_ok result ≡ false) }
-    ensures runs { IfOk started.entry (λ s. (last : Running R) × RunsTo s last (is_ok result)) }
+/// Tells why a router doesn't start or goes no further, and answers the status that goes with it.
+pub(crate) fn tell_route_fault<R: Eprint>(rt: &R, path: &str, fault: RouteFault) -> u8
+    ensures { result ≡ 1 }
 {
-    match started {
-        Ok(mut router) => {
-            router.run(rt, alloc)?;
-            Ok(())
-        }
-        Err(fault) => Err(fault),
-    }
-}
-
-/// Runs a router of a file for as long as it can.
-fn route<R: Net + Log + Files + SystemClock>(
-    rt: &R,
-    alloc: Global,
-    site: RouterConfig,
-) -> Result<(), RouteFault>
-    requires own { All IsOwnNetwork (router_ports site.ports.items) }
-    requires there { HearsAtPorts site }
-    // If it started, it ran from there.
-    ensures { (is_ok result ≡ false) ⊎ RunsRouter R site (is_ok result) }
-{
-    let started = start(rt, alloc, site);
-    route_started(rt, alloc, started)
-}
-
-/// The status of a router that ended by itself, whose fault is told.
-fn tell_end<R: Eprint>(rt: &R, path: &str, end: Result<(), RouteFault>) -> u8
-    ensures { result ≡ if is_ok end then 0 else 1 }
-{
-    match end {
-        Ok(()) => 0,
-        Err(fault) => {
-            let _ = eprintln!(rt; "{path}: {fault}");
-            1
-        }
-    }
-}
-
-/// Routes by a file that was loaded, or answers the status where it wasn't.
-fn route_loaded<R: Net + Log + Files + SystemClock + Eprint>(
-    rt: &R,
-    alloc: Global,
-    path: &str,
-    loaded: Result<RouterConfig, u8>,
-) -> u8
-    requires own { IfOk loaded (λ s. All IsOwnNetwork (router_ports s.ports.items)) }
-    requires there { IfOk loaded HearsAtPorts }
-    ensures unread { IfErr loaded (λ status. result ≡ status) }
-    ensures routed { OnOk loaded (result ≤ 1) }
-    ensures ends { IfOk loaded (λ site. EndsRouter R site result) }
-{
-    match loaded {
-        Ok(site) => tell_end(rt, path, route(rt, alloc, site)),
-        Err(status) => status,
-    }
+    let _ = eprintln!(rt; "{path}: {fault}");
+    1
 }
 
 /// The command `route`: reads the file of a router, binds a socket for each port, tells each port,
 /// and routes until it is ended from outside.
 ///
-/// The result is its status where it ends by itself. 2: the file has a fault; nothing was bound.
-/// 1: memory was refused at the start, a socket can't be had, or the system can't wait. One line on
-/// standard error says which.
+/// The result is its status if it ends by itself. 2: the file can't be read or has a fault; nothing
+/// was bound. 1: out of memory at the start, a socket can't be had, or the system can't wait or tell the
+/// time. One line on standard error says which. What the router did until a wait failed is what [`run_router`] says.
 pub fn do_route<R: Net + Log + Files + SystemClock + Eprint>(
     rt: &R,
     alloc: Global,
     path: &str,
 ) -> u8
     ensures few { result ≤ 2 }
-    // It ends well, with 0, only if it started, as some text of a file says, and went through 2^64 - 1
-    // rounds, each from where the last one left it. Of 1 and 2 this says nothing.
-    ensures ends { EndsRouting R result }
+    // It ends well only if it started, as some text of a file says, and went through 2^64 - 1
+    // rounds, each from where the last one left it.
+    ensures well { result ≡ 0 → RoutesWell R }
 {
-    let loaded = load_site(rt, alloc, path);
-    route_loaded(rt, alloc, path, loaded)
+    match start_router(rt, alloc, path) {
+        Ok(mut router) => run_router(rt, alloc, path, &mut router),
+        Err(status) => status,
+    }
 }

@@ -13,20 +13,18 @@ ghost use Rattle.ipx_site.specs.RouterRounds.{AsksAgain, IsRound, SleepsBehind};
 ghost use Rattle.ipx_site.specs.SiteMarks.{marks_in, numbers_come};
 ghost use Rattle.ipx_site.specs.Steady.{NeverGoesBack, StopsThere};
 
-use crate::access_list_metrics::put_access_list_metrics;
 use crate::client_log::ClientLog;
 use crate::clock::SteadyClock;
 use crate::discovery::discovery_retry;
 use crate::drop_log::DropLog;
-use crate::frame_metrics::{put_frame_metrics, tell_encapsulations};
-use crate::ipxnet_metrics::put_ipxnet_metrics;
+use crate::frame_metrics::{ethernet_metrics, tell_encapsulations};
+use crate::ipxnet_metrics::ipxnet_metrics;
 use crate::known_text::known_to_text;
 use crate::metrics::Metrics;
+use crate::metrics_page::MetricsPage;
 use crate::moments::{LONGEST, end_of, is_over, sooner, time_to};
-use crate::neighbour_metrics::put_neighbour_metrics;
 use crate::poller::{Poller, WaitFault};
-use crate::port_metrics::put_port_metrics;
-use crate::query_limiter::QueryLimiter;
+use crate::rate_limiter::RateLimiter;
 use crate::ready_ports::{is_any_marked, mark_ready};
 use crate::route_change_log::RouteChangeLog;
 use crate::router_counts::RouterCounts;
@@ -35,6 +33,7 @@ use crate::status::write_whole;
 use crate::warnings::Warnings;
 use ipx_carrier::{Batch, Clock, run_batch};
 use ipx_metrics::MeteredRouter;
+use ipx_source_checks::SourceChecked;
 use ipx_static::{RestartDiscovery, WithStatics};
 use log::Log;
 use std::alloc::{AllocError, Global};
@@ -54,7 +53,7 @@ const BATCH_TURNS: u32 = 32;
 
 /// A router that runs.
 pub struct RunningRouter<'a, R: SystemClock> {
-    core: QueryLimiter<WithStatics<MeteredRouter>>,
+    core: SourceChecked<RateLimiter<WithStatics<MeteredRouter>>>,
     ports: UdpRouterPorts,
     clock: SteadyClock<'a, R>,
     ready: Poller,
@@ -73,7 +72,7 @@ pub struct RunningRouter<'a, R: SystemClock> {
     /// When the figures were written last.
     written: Option<u64>,
     // So a turn can always be begun.
-    ghost port_indices: { length ports.port_indices.items ≡ length core.core.core.router.ports },
+    ghost port_indices: { length ports.port_indices.items ≡ length core.core.core.core.router.ports },
 }
 
 impl<'a, R: SystemClock> Drop for RunningRouter<'a, R> {
@@ -101,7 +100,7 @@ impl<'a, R: SystemClock> Drop for RunningRouter<'a, R> {
 /// The parts of a router that runs.
 #[derive(Drop)]
 pub struct Parts<'a, R: SystemClock> {
-    pub core: QueryLimiter<WithStatics<MeteredRouter>>,
+    pub core: SourceChecked<RateLimiter<WithStatics<MeteredRouter>>>,
     pub ports: UdpRouterPorts,
     pub clock: SteadyClock<'a, R>,
     pub ready: Poller,
@@ -111,8 +110,8 @@ pub struct Parts<'a, R: SystemClock> {
 
 impl<'a, R: SystemClock> RunningRouter<'a, R> {
     /// A router that begins to run. The caller owes a spot for each port.
-    pub fn new(alloc: Global, parts: Parts<'a, R>) -> RunningRouter<'a, R>
-        requires { length parts.ports.port_indices.items ≡ length parts.core.core.core.router.ports }
+    pub(crate) fn new(alloc: Global, parts: Parts<'a, R>) -> RunningRouter<'a, R>
+        requires { length parts.ports.port_indices.items ≡ length parts.core.core.core.core.router.ports }
         ensures core { result.core ≡ parts.entry.core }
         ensures ports { result.ports ≡ parts.entry.ports }
         ensures clock { result.clock ≡ parts.entry.clock }
@@ -144,24 +143,29 @@ impl<'a, R: SystemClock> RunningRouter<'a, R> {
             .metrics(&self.core, &self.ports, &self.known, now)
     }
 
-    /// What its status file says.
-    fn status_text(&self, alloc: Global, now: u64) -> Result<String, AllocError> {
-        let mut text = self.metrics(now).text(alloc)?;
-        let core = self.core.core().core();
-        put_port_metrics(&mut text, core)?;
-        let kept = self.ports.device().port_counters();
-        put_access_list_metrics(&mut text, alloc, self.ports.port_indices(), kept)?;
-        put_neighbour_metrics(&mut text, alloc, core.router(), now)?;
-        put_frame_metrics(&mut text, &self.ports)?;
-        put_ipxnet_metrics(&mut text, &self.ports)?;
-        Ok(text)
+    /// What its metrics file says.
+    fn metrics_text(&self, alloc: Global, now: u64) -> Result<String, AllocError> {
+        let core = self.core.core().core().core();
+        let ethernet = ethernet_metrics(alloc, &self.ports)?;
+        let ipxnet = ipxnet_metrics(alloc, &self.ports)?;
+        let page = MetricsPage {
+            totals: self.metrics(now),
+            router: core.router(),
+            now,
+            counters: core.port_counters(),
+            port_indices: self.ports.port_indices(),
+            filtered: self.ports.device().port_counters(),
+            ethernet: &ethernet,
+            ipxnet: &ipxnet,
+        };
+        page.text(alloc)
     }
 
     /// How long to wait for the next look: shortly, where a response was heard since.
     fn look_period(&self) -> u64
-        ensures { result ≡ look_after self.now.core.core.core.outcomes.heard self.now.responses }
+        ensures { result ≡ look_after self.now.core.core.core.core.outcomes.heard self.now.responses }
     {
-        if self.core.core().core().outcomes().heard == self.responses {
+        if self.core.core().core().core().outcomes().heard == self.responses {
             PERIOD
         } else {
             CHANGE_POLL
@@ -202,10 +206,10 @@ impl<'a, R: SystemClock> RunningRouter<'a, R> {
             return;
         }
         self.looked = Some(now);
-        self.responses = self.core.core().core().outcomes().heard;
+        self.responses = self.core.core().core().core().outcomes().heard;
         if self
             .known
-            .look(rt, alloc, self.core.core().core().router(), now)
+            .look(rt, alloc, self.core.core().core().core().router(), now)
             .is_err()
         {
             self.totals.want_memory();
@@ -214,9 +218,9 @@ impl<'a, R: SystemClock> RunningRouter<'a, R> {
 
     /// What it knows at a moment, as its file of tables says it.
     fn tables_text(&self, alloc: Global, now: u64) -> Result<String, AllocError>
-        ensures { IfOk result (λ t. TellsKnown self.now.core.core.core.router now (string_bytes t)) }
+        ensures { IfOk result (λ t. TellsKnown self.now.core.core.core.core.router now (string_bytes t)) }
     {
-        known_to_text(alloc, self.core.core().core().router(), now)
+        known_to_text(alloc, self.core.core().core().core().router(), now)
     }
 
     /// Writes what it knows, if there is a file for that.
@@ -259,7 +263,7 @@ impl<'a, R: SystemClock> RunningRouter<'a, R> {
         let Some(path) = &self.status else {
             return;
         };
-        let Ok(text) = self.status_text(alloc, now) else {
+        let Ok(text) = self.metrics_text(alloc, now) else {
             self.totals.want_memory();
             return;
         };
@@ -279,7 +283,8 @@ impl<'a, R: SystemClock> RunningRouter<'a, R> {
             self.new.ports)) now
             self.old.warnings.causes self.new.warnings.causes }
         // So is what it dropped.
-        ensures drops { AreDropsTold self.new.core.core.core.outcomes now self.old.drops self.new.drops }
+        ensures drops { AreDropsTold self.new.core.core.core.core.outcomes self.new.core.drops now
+            self.old.drops self.new.drops }
     {
         self.ask(now);
         self.look(rt, alloc, now);
@@ -289,15 +294,17 @@ impl<'a, R: SystemClock> RunningRouter<'a, R> {
             tell_encapsulations(rt, &self.ports);
         }
         self.warnings.tell(rt, &metrics, now);
-        let core = self.core.core().core();
-        self.drops.tell(rt, &core.outcomes(), core.last(), now);
+        let core = self.core.core().core().core();
+        let source_drops = self.core.drops();
+        self.drops
+            .tell(rt, &core.outcomes(), core.last(), source_drops, now);
     }
 
     /// The moment at which it sends what waits: any, where something does.
     fn sending_moment(&self) -> Option<u64>
-        ensures { (t : ℕ) → IsReached result t ↔ IsToSend self.now.core.core.core.queues }
+        ensures { (t : ℕ) → IsReached result t ↔ IsToSend self.now.core.core.core.core.queues }
     {
-        if self.core.core().core().queued() > 0 {
+        if self.core.core().core().core().queued() > 0 {
             Some(0)
         } else {
             None
@@ -311,9 +318,9 @@ impl<'a, R: SystemClock> RunningRouter<'a, R> {
             self.now.written self.now.core self.now.warnings
             (happened self.now.totals self.now.core self.now.ports))) now result }
     {
-        let telling = self.core.core().core().router().next_advertisement();
+        let telling = self.core.core().core().core().router().next_advertisement();
         let packets = sooner(discovery_retry(self.asked), telling);
-        let words = self.core.core().next_refresh();
+        let words = self.core.core().core().next_refresh();
         let look = end_of(self.looked, self.look_period());
         let metrics = sooner(
             end_of(self.written, PERIOD),
@@ -390,7 +397,7 @@ impl<'a, R: SystemClock> RunningRouter<'a, R> {
 
     /// Does what is to be done now, takes turns as long as there is something to hear or to send,
     /// waits, and marks the ports at which something came.
-    pub fn step<S: Log + Files>(&mut self, rt: &S, alloc: Global) -> Result<(), WaitFault>
+    pub(crate) fn step<S: Log + Files>(&mut self, rt: &S, alloc: Global) -> Result<(), WaitFault>
         // A round, which stops the clock before its turns, and behind it a wait, as long as there is nothing
         // to do. Then the ports are marked at which something came.
         ensures core { (between : SteadyClock R) × (batch : Batch) × (marks : List Bool)

@@ -1,7 +1,7 @@
 //! What the file of a router says.
 
 ghost use Rattle.std.specs.Prelude.{◌≡◌};
-ghost use Rattle.ipx_site.specs.PortKinds.{kind_of_port, network_of_kind, place_of_kind};
+ghost use Rattle.ipx_site.specs.PortKinds.{directed_of_kind, kind_of_port, network_of_kind, place_of_kind};
 ghost use Rattle.ipx_site.specs.SitePorts.{router_port_of, router_port_of_kind};
 
 use crate::ipxnet_port::IpxnetPortConfig;
@@ -32,6 +32,15 @@ pub enum Accept {
     Any,
 }
 
+/// How many directed broadcasts from other networks leave by a port.
+#[derive(Clone, Copy, Debug, PartialEq, Eq)]
+pub enum Directed {
+    Never,
+    /// As many as a token bucket lets pass.
+    Few,
+    Always,
+}
+
 /// A port of RFC 1234 of a router, as its file has it.
 #[derive(Drop)]
 pub struct Rfc1234PortConfig {
@@ -49,6 +58,7 @@ pub struct Rfc1234PortConfig {
     /// heard.
     pub routers: Option<Vec<[u8; 4]>>,
     pub accept: Accept,
+    pub directed: Directed,
 }
 
 /// A port of a router on a wire, as its file has it.
@@ -70,6 +80,7 @@ pub struct EthernetPortConfig {
     pub node: Node,
     /// Whether it is the hub of its ends.
     pub joined: bool,
+    pub directed: Directed,
 }
 
 /// A port of a router, by its kind.
@@ -144,6 +155,17 @@ impl PortConfig {
             PortConfig::Rfc1234(_) => Kind::Rfc1234,
             PortConfig::Frames(_) => Kind::Frames,
             PortConfig::Ipxnet(_) => Kind::Ipxnet,
+        }
+    }
+
+    /// Which directed broadcasts leave by it.
+    pub fn directed(&self) -> Directed
+        ensures { result ≡ directed_of_kind self.now }
+    {
+        match self {
+            PortConfig::Rfc1234(port) => port.directed,
+            PortConfig::Frames(port) => port.directed,
+            PortConfig::Ipxnet(port) => port.directed,
         }
     }
 }

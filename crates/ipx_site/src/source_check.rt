@@ -2,7 +2,7 @@
 
 ghost use Rattle.std.specs.Prelude.{◌≡◌};
 ghost use Rattle.ipx_wire.specs.Ipx.{packet_view};
-ghost use Rattle.ipx_site.specs.SourceFilter.{is_node_of, source_matches_sender, is_response, is_unrouted};
+ghost use Rattle.ipx_site.specs.SourceFilter.{is_forwarded_within, is_local_to, is_node_of, is_response, is_unrouted, source_matches_sender};
 
 use crate::sameness::is_same_node;
 use byteorder::{BigEndian, ByteOrder};
@@ -36,14 +36,35 @@ fn is_node_of(node: Node, ip: Option<[u8; 4]>) -> bool
     }
 }
 
+/// Whether a network is that of a port, or left out.
+fn is_local_to(network: Network, named: Network) -> bool
+    ensures { result ≡ is_local_to network named }
+{
+    named == Network::LOCAL || named == network
+}
+
+/// Whether a packet is RIP or SAP from the network of a port to that network, and a router forwarded
+/// it. No router forwards those, unless somebody forged the source.
+fn is_forwarded_within(network: Network, header: &IpxHeader) -> bool
+    ensures { result ≡ is_forwarded_within network header.now }
+{
+    let socket = header.to.socket;
+    let is_control = socket == Socket::RIP || socket == Socket::SAP;
+    let is_within = is_local_to(network, header.to.network)
+        && is_local_to(network, header.from.network);
+    header.hops > 0 && is_control && is_within
+}
+
 /// Whether a packet that came from there speaks for its sender, or is one of those that a router
-/// passed on. Nobody is every node.
+/// passed on. Nobody is every node, and RIP and SAP of the network at hand are never passed on.
 pub fn source_matches_sender(network: Network, from: Option<[u8; 4]>, header: &IpxHeader) -> bool
     ensures { result ≡ source_matches_sender network from header.now }
 {
     let node = header.from.node;
     let is_all = is_same_node(node, Node::BROADCAST);
-    !is_all && (!is_unrouted(network, header) || is_node_of(node, from))
+    !is_all
+        && !is_forwarded_within(network, header)
+        && (!is_unrouted(network, header) || is_node_of(node, from))
 }
 
 /// Whether a packet is a response, by which routes or services are told.

@@ -2,11 +2,11 @@
 
 ghost use Rattle.std.specs.Prelude.{◌≡◌, IfOk, map, string_bytes};
 ghost use Rattle.std.specs.List.{flat_map};
-ghost use Rattle.ipx_site.specs.Checked.{clients_text, dealings_text, dotted_text, frames_text, ipxnet_text, join_text, joined_text, others_text, place_text, port_text, port_texts, reached_text, rfc1234_text, routers_text, ethernet_end_text, ethernet_text};
+ghost use Rattle.ipx_site.specs.Checked.{clients_text, dealings_text, directed_text, dotted_text, frames_text, ipxnet_text, join_text, joined_text, others_text, place_text, port_text, port_texts, reached_text, rfc1234_text, routers_text, ethernet_end_text, ethernet_text};
 
 use crate::ethernet_values::word_of;
 use crate::ipxnet_port::IpxnetPortConfig;
-use crate::site::{Accept, EthernetPortConfig, PortConfig, Rfc1234PortConfig};
+use crate::site::{Accept, Directed, EthernetPortConfig, PortConfig, Rfc1234PortConfig};
 use ipx_carrier::node_of;
 use ipx_ethernet_ports::Place;
 use ipx_wire::{Network, Node};
@@ -46,6 +46,17 @@ pub fn others(accept: Accept) -> &'static str
     }
 }
 
+/// Which directed broadcasts leave by a port, where they are not few.
+fn directed(directed: Directed) -> &'static str
+    ensures { result.now ≡ directed_text directed }
+{
+    match directed {
+        Directed::Never => " directed none",
+        Directed::Few => "",
+        Directed::Always => " directed all",
+    }
+}
+
 /// Those of its peers that are routers, where the file says.
 fn routers_to_text(alloc: Global, port: &Rfc1234PortConfig) -> Result<String, AllocError>
     ensures { IfOk result (λ t. string_bytes t ≡ routers_text port.now.routers) }
@@ -66,7 +77,8 @@ fn dealings_to_text(alloc: Global, port: &Rfc1234PortConfig) -> Result<String, A
     let peers = port.peers.len();
     let routers = routers_to_text(alloc, port)?;
     let others = others(port.accept);
-    format!(in alloc; "cost {cost} peers {peers}{routers}{others}")
+    let directed = directed(port.directed);
+    format!(in alloc; "cost {cost} peers {peers}{routers}{others}{directed}")
 }
 
 /// A port of RFC 1234 with its number: `port 1 network .. node .. udp .. cost .. peers ..`.
@@ -116,7 +128,8 @@ fn ethernet_to_text(alloc: Global, port: &EthernetPortConfig) -> Result<String, 
     let cost = port.cost;
     let ends = ends_to_text(alloc, &port.ends)?;
     let apart = apart(port.joined);
-    format!(in alloc; "cost {cost} ends{ends}{apart}")
+    let directed = directed(port.directed);
+    format!(in alloc; "cost {cost} ends{ends}{apart}{directed}")
 }
 
 /// A port on a wire with its number: `port 2 network .. node .. frames .. udp .. cost .. ends ..`.
@@ -153,7 +166,8 @@ fn clients_to_text(alloc: Global, port: &IpxnetPortConfig) -> Result<String, All
     let named = port.peers.len();
     let others = others(port.accept);
     let joined = join_to_text(alloc, &port.join)?;
-    format!(in alloc; "cost {cost} clients {clients} peers {named}{others}{joined}")
+    let directed = directed(port.directed);
+    format!(in alloc; "cost {cost} clients {clients} peers {named}{others}{joined}{directed}")
 }
 
 /// A port for clients with its number: `port 3 network .. node .. ipxnet udp .. cost .. clients ..`.

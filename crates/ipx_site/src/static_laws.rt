@@ -11,9 +11,9 @@ pub fn entries_of_files_may_stand()
     ensures { FilesMayStand }
 {}
 
-/// So each of its routes stands in a router with its ports, below `WithStatics` alone: while that is asked
-/// each minute, is refused no memory and never finds a table full, and the neighbour tells nothing of
-/// it itself, it is an offer that counts.
+/// So each of its routes stands in a router with its ports, below `WithStatics` alone: if no table is
+/// full at first, then while that is asked each minute and is refused no memory, and the neighbour
+/// tells nothing of it itself, it is an offer that counts, also when tables fill up later.
 pub fn routes_of_files_stand()
     ensures { RoutesOfFilesStand }
 {

@@ -25,7 +25,7 @@ fn keys_of(table: usize) -> &'static str {
     if table > LAST_PORT {
         return "the keys are port, next_hop, network, hops and ticks";
     }
-    "the keys are kind, network, address, udp_port, cost, for kind = \"rfc1234\" also peers, \
+    "the keys are kind, network, address, udp_port, cost, directed, for kind = \"rfc1234\" also peers, \
         routers and accept, for kind = \"ethernet\" encapsulation, remotes, node and switch, \
         for kind = \"ipxnet\" node, clients, accept, peers and join"
 }
@@ -42,11 +42,11 @@ fn word_of_kind(kind: Kind) -> &'static str {
 /// The keys of a port of a kind.
 fn keys_of_port(kind: Kind) -> &'static str {
     match kind {
-        Kind::Rfc1234 => "kind, network, address, udp_port, cost, peers, routers, accept",
+        Kind::Rfc1234 => "kind, network, address, udp_port, cost, peers, routers, accept, directed",
         Kind::Frames =>
-            "kind, network, encapsulation, address, udp_port, cost, remotes, node, switch",
+            "kind, network, encapsulation, address, udp_port, cost, remotes, node, switch, directed",
         Kind::Ipxnet => {
-            "kind, network, address, udp_port, cost, node, clients, accept, peers, join"
+            "kind, network, address, udp_port, cost, node, clients, accept, peers, join, directed"
         },
     }
 }

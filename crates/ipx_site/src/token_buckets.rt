@@ -1,13 +1,16 @@
-//! The turns of those who ask a router for all that it knows.
+//! The tokens of those who ask a router for all that it knows, and of its ports.
 
-ghost use Rattle.std.specs.Prelude.{◌≡◌, ◌≤◌, ◌<◌, ◌^◌, ◌↔◌, [], IsTrue, IfOk, count_by};
-ghost use Rattle.ipx_site.specs.TokenBuckets.{HasToken, back_after, back_at, common_clock, has_token, is_another_out, with_token_taken};
+ghost use Rattle.std.specs.Prelude.{◌≡◌, ◌↔◌, [], true, IsTrue, IfOk, count_by};
+ghost use Rattle.ipx_site.specs.PortBuckets.{at_port, directed_has, query_has, with_directed_taken, with_query_taken};
+ghost use Rattle.ipx_site.specs.TokenBuckets.{HasToken, asked_by, back_at, is_another_out, with_token_taken};
 
+use crate::port_buckets::{PortBuckets, has_directed, has_query, take_directed, take_query};
 use crate::querier::Querier;
+use crate::token_bucket::{back_behind, is_token_there};
 use std::alloc::{AllocError, Global};
 use std::marker::Model;
 
-/// An asker that is known, and the moment at which all its turns are back.
+/// An asker that is known, and the moment at which all its tokens are back.
 #[derive(Clone, Copy)]
 pub struct Asking {
     pub querier: Querier,
@@ -17,21 +20,15 @@ pub struct Asking {
 /// How many askers are known at most.
 const MAX_ASKERS: usize = 1024;
 
-/// How many turns each of them has, and how many all have together, which come back as many a
-/// second.
-const OWN_TURNS: u128 = 8;
+/// How many tokens each of them has, of which one comes back each second.
+const OWN_TOKENS: u128 = 8;
 
-const COMMON_TURNS: u128 = 16;
-
-/// After how long one turn of those that are away comes back, in milliseconds.
-const AWAY: u128 = 1000;
-
-/// Those who ask, and their turns. It has room for all that it may know, and takes no more memory.
+/// Those who ask, with their tokens, and the ports, with theirs. It has room for all askers that it
+/// may know, and takes no more memory.
 #[derive(Drop)]
 pub struct TokenBuckets {
     known: Vec<Asking>,
-    /// When all turns that they have together are back, by a clock that runs sixteen times as fast.
-    back: u128,
+    ports: Vec<PortBuckets>,
 }
 
 impl Model for TokenBuckets {
@@ -40,37 +37,12 @@ impl Model for TokenBuckets {
 
     ghost Value = { TokenBucketsView };
 
-    ghost view = { λ a. record { queriers = a.known.items; back = a.back } };
+    ghost view = { λ a. record { queriers = a.known.items; ports = a.ports.items } };
 
     ghost invariant = { λ a. max_askers ≤ vec_capacity a.known };
 }
 
-/// The clock of the turns that all have together.
-fn clock_of_all(now: u64) -> u128
-    ensures same { result ≡ common_clock now }
-    ensures fits { result < 2 ^ 68 }
-{
-    COMMON_TURNS * u128::from(now)
-}
-
-/// Whether there is a turn, where all of so many are back at a moment.
-fn is_one_here(most: u128, back: u128, now: u128) -> bool
-    requires some { 1 ≤ most }
-    requires fits { (most ≤ 16) × (now < 2 ^ 68) }
-    ensures { result ≡ has_token most back now }
-{
-    back <= now + AWAY * (most - 1)
-}
-
-/// When all are back, once one was taken.
-fn back_behind(back: u128, now: u128) -> u128
-    requires { (back < 2 ^ 70) × (now < 2 ^ 68) }
-    ensures { result ≡ back_after back now }
-{
-    back.max(now) + AWAY
-}
-
-/// Whether this is another asker, and turns of it are away.
+/// Whether this is another asker, and tokens of it are away.
 fn is_another(querier: Querier, now: u64, known: &Asking) -> bool
     ensures { result ≡ is_another_out querier now known.now }
 {
@@ -78,17 +50,17 @@ fn is_another(querier: Querier, now: u64, known: &Asking) -> bool
 }
 
 impl TokenBuckets {
-    /// Nobody has asked yet.
-    pub fn new(alloc: Global) -> Result<TokenBuckets, AllocError>
-        ensures { IfOk result (λ a. (a.queriers ≡ []) × (a.back ≡ 0)) }
+    /// Nobody has asked yet at these ports.
+    pub fn new(alloc: Global, ports: Vec<PortBuckets>) -> Result<TokenBuckets, AllocError>
+        ensures { IfOk result (λ a. (a.queriers ≡ []) × (a.ports ≡ ports.items)) }
     {
         Ok(TokenBuckets {
             known: Vec::with_capacity(alloc, MAX_ASKERS)?,
-            back: 0,
+            ports,
         })
     }
 
-    /// When all turns of an asker are back.
+    /// When all tokens of an asker are back.
     fn back_of(&self, querier: Querier) -> u128
         ensures { result ≡ back_at self.now.queriers querier }
     {
@@ -100,7 +72,7 @@ impl TokenBuckets {
         0
     }
 
-    /// How many others have turns that are away.
+    /// How many others have tokens that are away.
     fn others(&self, querier: Querier, now: u64) -> usize
         ensures { result ≡ count_by (is_another_out querier now) self.now.queriers }
     {
@@ -110,23 +82,55 @@ impl TokenBuckets {
             .count()
     }
 
-    /// Whether an asker has a turn at a moment in milliseconds, and can be known.
+    /// Whether an asker has a token at a moment in milliseconds, and its port too, and it can be
+    /// known.
     pub fn has_token(&self, querier: Querier, now: u64) -> bool
         ensures { IsTrue result ↔ HasToken self.now querier now }
     {
-        is_one_here(OWN_TURNS, self.back_of(querier), u128::from(now))
-            && is_one_here(COMMON_TURNS, self.back, clock_of_all(now))
+        is_token_there(OWN_TOKENS, self.back_of(querier), u128::from(now))
+            && has_query(&self.ports, querier.port, now)
             && self.others(querier, now) < MAX_ASKERS
     }
 
-    /// An asker takes a turn, which it is to have at that moment.
+    /// Keeps when all tokens of an asker are back, once it took one, and forgets whose are.
+    fn remember(&mut self, querier: Querier, now: u64)
+        requires { HasToken self.old querier now }
+        ensures { self.new ≡ record self.old { queriers = asked_by querier now self.old.queriers } }
+    {
+        let back = back_behind(OWN_TOKENS, self.back_of(querier), u128::from(now));
+        self.known.retain(|known| is_another(querier, now, known));
+        self.known.push_reserved(Asking { querier, back });
+    }
+
+    /// A port has one token less for general queries.
+    fn take_query_token(&mut self, port: usize, now: u64)
+        requires { query_has (at_port self.old.ports port) now ≡ true }
+        ensures { self.new ≡ record self.old { ports = with_query_taken self.old.ports port now } }
+    {
+        take_query(&mut self.ports, port, now);
+    }
+
+    /// An asker takes a token, and one of its port, which they are to have at that moment.
     pub fn take_token(&mut self, querier: Querier, now: u64)
         requires { HasToken self.old querier now }
         ensures { self.new ≡ with_token_taken self.old querier now }
     {
-        let back = back_behind(self.back_of(querier), u128::from(now));
-        self.known.retain(|known| is_another(querier, now, known));
-        self.known.push_reserved(Asking { querier, back });
-        self.back = back_behind(self.back, clock_of_all(now));
+        self.remember(querier, now);
+        self.take_query_token(querier.port, now);
+    }
+
+    /// Whether a directed broadcast may leave by a port at a moment in milliseconds.
+    pub fn has_directed_token(&self, port: usize, now: u64) -> bool
+        ensures { result ≡ directed_has (at_port self.now.ports port) now }
+    {
+        has_directed(&self.ports, port, now)
+    }
+
+    /// It takes a token of that port, which is to have one at that moment, or needs none.
+    pub fn take_directed_token(&mut self, port: usize, now: u64)
+        requires { directed_has (at_port self.old.ports port) now ≡ true }
+        ensures { self.new ≡ record self.old { ports = with_directed_taken self.old.ports port now } }
+    {
+        take_directed(&mut self.ports, port, now);
     }
 }

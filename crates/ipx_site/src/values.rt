@@ -1,13 +1,14 @@
 //! What the value of a key means.
 
-ghost use Rattle.std.specs.Prelude.{◌≡◌, IfOk};
+ghost use Rattle.std.specs.Prelude.{◌≡◌, ◌↔◌, IfOk, IsTrue};
 ghost use Rattle.std.specs.List.{list_all};
 ghost use Rattle.toml.specs.View.{items_view, view};
-ghost use Rattle.ipx_site.specs.Values.{AreAddresses, AreAddressesOf, AreRouterPeers, IsAccept, IsIpAddress, IsCount, IsKind, IsNetwork, IsSocket, IsFileName, ReadsAddresses, ReadsNetwork, can_name_file};
+ghost use Rattle.ipx_site.specs.Values.{AreApart, AreAddresses, AreAddressesOf, AreRouterPeers, IsAccept, IsIpAddress, IsCount, IsDirected, IsKind, IsNetwork, IsSocket, IsFileName, ReadsAddresses, ReadsNetwork, can_name_file, temporary_name};
 ghost use Rattle.ipx_site.specs.Fields.{Reads};
 ghost use Rattle.ipx_site.specs.SourceFilter.{is_peer};
 
-use crate::site::{Accept, Kind};
+use crate::site::{Accept, Directed, Kind};
+use crate::status::TEMPORARY;
 use ipx_wire::{Network, OutOfMemory, Socket};
 use std::alloc::Global;
 use std::net::Ipv4Addr;
@@ -67,6 +68,18 @@ pub fn accept_of(value: &Value) -> Option<Accept>
     }
 }
 
+/// Which directed broadcasts leave by a port.
+pub fn directed_of(value: &Value) -> Option<Directed>
+    ensures { Reads IsDirected (view value.now) result }
+{
+    match value.as_str()? {
+        "none" => Some(Directed::Never),
+        "few" => Some(Directed::Few),
+        "all" => Some(Directed::Always),
+        _ => None,
+    }
+}
+
 /// The kind of a port.
 pub fn kind_of(value: &Value) -> Option<Kind>
     ensures { Reads IsKind (view value.now) result }
@@ -105,6 +118,23 @@ pub fn file_name_of(alloc: Global, value: &Value) -> Result<Option<String>, OutO
         Some(name) if can_name_file(name) => Ok(Some(String::from_str(alloc, name)?)),
         _ => Ok(None),
     }
+}
+
+/// Whether a file of this name is where another one is written first.
+fn is_temporary_of(name: &str, other: &str) -> bool
+    ensures { IsTrue result ↔ name.now ≡ temporary_name other.now }
+{
+    match name.as_bytes().strip_suffix(TEMPORARY.as_bytes()) {
+        Some(front) => front == other.as_bytes(),
+        None => false,
+    }
+}
+
+/// Whether files of two names can be written without one being written over the other.
+pub fn are_apart(one: &str, two: &str) -> bool
+    ensures { IsTrue result ↔ AreApart one.now two.now }
+{
+    one != two && !is_temporary_of(one, two) && !is_temporary_of(two, one)
 }
 
 /// The IP addresses that values write, if each of them writes one.

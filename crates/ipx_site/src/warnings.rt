@@ -4,17 +4,20 @@ ghost use Rattle.std.specs.Prelude.{◌≡◌, ◌↔◌, ◌<◌, ◌^◌, ℕ,
 ghost use Rattle.ipx_site.specs.IdleTime.{IsLineDue, counts_of, counts_told, happened_in};
 ghost use Rattle.ipx_site.specs.Moments.{AreToldIfDue, IsDue, IsOneDue, IsReached, IsToldIfDue, untold};
 
+use crate::directed_broadcast::DirectedDrops;
 use crate::metrics::Metrics;
 use crate::moments::sooner;
 use crate::source_filter::DropCount;
 use crate::throttled_log::ThrottledLog;
+use ipx_wire::Address;
 use log::{Log, warn};
 
-/// What goes wrong again and again: how often it did, who did it last, where that is known, and
-/// what its line says.
+/// What goes wrong again and again: how often it did, who did it last, by IP or by IPX, where that is
+/// known, and what its line says.
 #[derive(Clone, Copy, Debug, PartialEq, Eq)]
 pub struct Warning {
     pub kept: DropCount,
+    pub from: Option<Address>,
     pub what: &'static str,
 }
 
@@ -23,7 +26,26 @@ impl Warning {
     pub fn from(kept: DropCount, what: &'static str) -> Warning
         ensures { result.kept ≡ kept }
     {
-        Warning { kept, what }
+        Warning {
+            kept,
+            from: None,
+            what,
+        }
+    }
+
+    /// One that came from those whose IPX addresses a line names.
+    fn from_address(drops: DirectedDrops, what: &'static str) -> Warning
+        ensures { result.kept.count ≡ drops.count }
+    {
+        let kept = DropCount {
+            count: drops.count,
+            last: None,
+        };
+        Warning {
+            kept,
+            from: drops.last,
+            what,
+        }
     }
 
     /// One that nobody is named for.
@@ -32,12 +54,16 @@ impl Warning {
         ensures nobody { result.kept.last ≡ None }
     {
         let kept = DropCount { count, last: None };
-        Warning { kept, what }
+        Warning {
+            kept,
+            from: None,
+            what,
+        }
     }
 }
 
 /// How many causes a router has.
-const CAUSES: usize = 13;
+const CAUSES: usize = 14;
 
 /// The place of that of other encapsulations.
 const ENCAPSULATIONS: usize = 12;
@@ -73,13 +99,30 @@ fn tell_kept<R: Log>(rt: &R, cause: &mut ThrottledLog, kept: DropCount, now: u64
     }
 }
 
+/// Logs this likewise, with the IPX address of the last sender, where that is known.
+fn tell_warning<R: Log>(rt: &R, cause: &mut ThrottledLog, warning: Warning, now: u64)
+    ensures { IsToldIfDue warning.kept.count now cause.old cause.new }
+{
+    let count = warning.kept.count;
+    let what = warning.what;
+    let Some(from) = warning.from else {
+        tell_kept(rt, cause, warning.kept, now, what);
+        return;
+    };
+    if let Some(more) = cause.tell(count, now) {
+        warn!(rt; target: "ipx",
+            "{more} {what} ({count} since the start), the last from {} {} {}",
+            from.network, from.node, from.socket);
+    }
+}
+
 /// Tells those troubles for which it is time, each by the cause at its place.
 pub fn tell_each<R: Log>(rt: &R, causes: &mut [ThrottledLog], warnings: &[Warning], now: u64)
     ensures { AreToldIfDue (counts_of warnings.now) now causes.old causes.new }
 {
     for (place, cause) in causes.iter_mut().enumerate() {
         if let Some(warning) = warnings.get(place) {
-            tell_kept(rt, cause, warning.kept, now, warning.what);
+            tell_warning(rt, cause, *warning, now);
         }
     }
 }
@@ -130,13 +173,14 @@ fn warnings_in(f: &Metrics) -> [Warning; CAUSES]
         ),
         Warning::of_nobody(f.unframed, "packets no frame could carry"),
         Warning::of_nobody(f.other_encapsulation, "frames of another encapsulation"),
+        Warning::from_address(f.directed, "directed broadcasts dropped"),
     ]
 }
 
 impl Warnings {
     /// None was told yet.
     pub fn new() -> Warnings
-        ensures { result.causes ≡ replicate 13 untold }
+        ensures { result.causes ≡ replicate 14 untold }
     {
         Warnings {
             causes: [ThrottledLog::new(); CAUSES],

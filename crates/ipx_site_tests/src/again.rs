@@ -1,9 +1,9 @@
-//! Routers below `QueryLimiter` that ask their neighbours once more.
+//! Routers below `RateLimiter` that ask their neighbours once more.
 
 use ipx_carrier::Core;
 use ipx_metrics::MeteredRouter;
 use ipx_router::{Port, Router};
-use ipx_site::QueryLimiter;
+use ipx_site::{PortBuckets, RateLimit, RateLimiter, TokenBucket};
 use ipx_static::{RestartDiscovery, WithStatics};
 use ipx_wire::{Network, Node, OutOfMemory};
 use std::alloc::{AllocError, Global};
@@ -19,6 +19,19 @@ fn ports(alloc: Global) -> Result<Vec<Port>, AllocError> {
         })?;
     }
     Ok(ports)
+}
+
+/// What is limited at these ports.
+fn limits(alloc: Global) -> Result<Vec<PortBuckets>, AllocError> {
+    let bucket = TokenBucket::full(RateLimit {
+        burst: 16,
+        per_second: 8,
+    });
+    let limits = PortBuckets {
+        queries: bucket,
+        directed: Some(bucket),
+    };
+    Ok(vec![in alloc; limits, limits]?)
 }
 
 fn router(alloc: Global) -> Result<Router, Fail> {
@@ -45,11 +58,11 @@ fn given<C: Core>(alloc: Global, core: &mut C) -> Result<u32, OutOfMemory> {
 /// Whether a router of two ports gives its six first packets, then none, and the four of them that
 /// ask once more as it is asked to.
 fn asks_again<C: RestartDiscovery + Drop>(alloc: Global, core: C) -> Result<bool, Fail> {
-    let mut query_limiter = QueryLimiter::new(alloc, core, ports(alloc)?)?;
-    let first = given(alloc, &mut query_limiter)?;
-    let none = given(alloc, &mut query_limiter)?;
-    query_limiter.restart_discovery();
-    Ok((first, none, given(alloc, &mut query_limiter)?) == (6, 0, 4))
+    let mut rate_limiter = RateLimiter::new(alloc, core, ports(alloc)?, limits(alloc)?)?;
+    let first = given(alloc, &mut rate_limiter)?;
+    let none = given(alloc, &mut rate_limiter)?;
+    rate_limiter.restart_discovery();
+    Ok((first, none, given(alloc, &mut rate_limiter)?) == (6, 0, 4))
 }
 
 #[test]

@@ -16,7 +16,7 @@ peers = []
 ";
 
 /// Files of routers with what is printed of them.
-const SITES: [(&str, &str); 15] = [
+const SITES: [(&str, &str); 20] = [
     (TWIN, "port 2: network 00000001 is already that of port 1"),
     (
         "",
@@ -48,15 +48,35 @@ const SITES: [(&str, &str); 15] = [
     ),
     (
         "tables_file = 1\nport = 1",
-        "tables_file is to be the name of a file, not that of metrics_file, as \"/run/ipx/hq/hq.tables\"",
+        "tables_file is to be the name of a file, not that of metrics_file with or without .new, as \"/run/ipx/hq/hq.tables\"",
     ),
     (
         "tables_file = \"\"\nport = 1",
-        "tables_file is to be the name of a file, not that of metrics_file, as \"/run/ipx/hq/hq.tables\"",
+        "tables_file is to be the name of a file, not that of metrics_file with or without .new, as \"/run/ipx/hq/hq.tables\"",
     ),
     (
         "metrics_file = \"/run/ipx/hq\"\ntables_file = \"/run/ipx/hq\"\nport = 1",
-        "tables_file is to be the name of a file, not that of metrics_file, as \"/run/ipx/hq/hq.tables\"",
+        "tables_file is to be the name of a file, not that of metrics_file with or without .new, as \"/run/ipx/hq/hq.tables\"",
+    ),
+    (
+        "metrics_file = \"/run/ipx/hq\"\ntables_file = \"/run/ipx/hq.new\"\nport = 1",
+        "tables_file is to be the name of a file, not that of metrics_file with or without .new, as \"/run/ipx/hq/hq.tables\"",
+    ),
+    (
+        "metrics_file = \"/run/ipx/hq.new\"\ntables_file = \"/run/ipx/hq\"\nport = 1",
+        "tables_file is to be the name of a file, not that of metrics_file with or without .new, as \"/run/ipx/hq/hq.tables\"",
+    ),
+    (
+        "metrics_file = \"/run/ipx/hq\"\ntables_file = \"/run/ipx/hq.new.new\"\nport = 1",
+        "port is to be one to sixteen tables, each begun by [[port]]",
+    ),
+    (
+        "metrics_file = \"/run/ipx/hq\"\ntables_file = \"/run/ipx/hqxnew\"\nport = 1",
+        "port is to be one to sixteen tables, each begun by [[port]]",
+    ),
+    (
+        "metrics_file = \"/run/ipx/hq\"\ntables_file = \"/run/ipx/q.new\"\nport = 1",
+        "port is to be one to sixteen tables, each begun by [[port]]",
     ),
     (
         "metrics_file = \"/run/ipx/hq\"\ntables_file = \"/run/ipx/hq.\"\nport = 1",
@@ -64,7 +84,7 @@ const SITES: [(&str, &str); 15] = [
     ),
     (
         "[[port]]\npeer = []",
-        "port 1: peer is no key here: the keys are kind, network, address, udp_port, cost, for kind = \"rfc1234\" also peers, routers and accept, for kind = \"ethernet\" encapsulation, remotes, node and switch, for kind = \"ipxnet\" node, clients, accept, peers and join",
+        "port 1: peer is no key here: the keys are kind, network, address, udp_port, cost, directed, for kind = \"rfc1234\" also peers, routers and accept, for kind = \"ethernet\" encapsulation, remotes, node and switch, for kind = \"ipxnet\" node, clients, accept, peers and join",
     ),
     (
         "[[port]]\nnetwork = \"ffffffff\"",
@@ -79,7 +99,7 @@ const SITES: [(&str, &str); 15] = [
 /// A port up to its peers, and what follows with what is printed of it.
 const START: &str = "[[port]]\nnetwork = \"00000001\"\naddress = \"192.0.2.10\"\n";
 
-const PORTS: [(&str, &str); 10] = [
+const PORTS: [(&str, &str); 13] = [
     (
         "udp_port = 0",
         "port 1: udp_port is to be a number from 1 to 65535, as 213",
@@ -108,6 +128,12 @@ const PORTS: [(&str, &str); 10] = [
         "peers = [\"10.1.0.20\"]\nrouters = \"10.1.0.20\"\naccept = \"all\"",
         "port 1: routers is to be a list of IP addresses among peers",
     ),
+    (
+        "peers = []\ndirected = \"some\"",
+        "port 1: directed is to be \"none\", \"few\" or \"all\"",
+    ),
+    ("peers = []\ndirected = \"all\"", "none"),
+    ("peers = []\ndirected = \"none\"", "none"),
     ("peers = []", "none"),
     ("peers = []\nrouters = []", "none"),
     (

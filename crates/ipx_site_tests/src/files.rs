@@ -1,7 +1,7 @@
 //! Files without a fault: what is read of them.
 
 use crate::fixture::{host, site};
-use ipx_site::{Accept, AllowedPeer, PortConfig, Rfc1234PortConfig, RouterConfig};
+use ipx_site::{Accept, AllowedPeer, Directed, PortConfig, Rfc1234PortConfig, RouterConfig};
 use ipx_wire::{Address, Network, Node, Socket};
 
 const SITE: &str = "\
@@ -17,6 +17,7 @@ cost = 6
 peers = [\"198.51.100.7\", \"203.0.113.9\"]
 routers = [\"203.0.113.9\"]
 accept = \"any\"
+directed = \"all\"
 
 [[port]]
 network = \"000000aB\"
@@ -65,6 +66,7 @@ fn is_first(port: &Rfc1234PortConfig) -> bool {
         && port.udp_port == 2130
         && port.cost == 6
         && port.accept == Accept::Any
+        && port.directed == Directed::Always
 }
 
 fn is_second(port: &Rfc1234PortConfig) -> bool {
@@ -73,6 +75,7 @@ fn is_second(port: &Rfc1234PortConfig) -> bool {
         && port.udp_port == 213
         && port.cost == 1
         && port.accept == Accept::Peers
+        && port.directed == Directed::Few
 }
 
 #[test]

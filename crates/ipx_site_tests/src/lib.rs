@@ -21,6 +21,8 @@ mod ipxnet_metrics;
 #[cfg(test)]
 mod metrics;
 #[cfg(test)]
+mod metrics_page;
+#[cfg(test)]
 mod moments;
 #[cfg(test)]
 mod peers;
@@ -29,7 +31,7 @@ mod players;
 #[cfg(test)]
 mod port_metrics;
 #[cfg(test)]
-mod query_limiter;
+mod rate_limiter;
 #[cfg(test)]
 mod refused;
 #[cfg(test)]

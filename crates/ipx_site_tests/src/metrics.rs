@@ -1,7 +1,8 @@
 //! The text of figures, in the text form of Prometheus.
 
 use ipx_carrier::OutcomeCounters;
-use ipx_site::{DropCount, FilterDrops, Metrics};
+use ipx_site::{DirectedDrops, DropCount, FilterDrops, Metrics};
+use ipx_source_checks::{SourceDropCount, SourceDrops};
 use std::alloc::AllocError;
 
 /// Figures of a router, each another number.
@@ -40,6 +41,20 @@ pub const METRICS: Metrics = Metrics {
         count: 25,
         last: None,
     },
+    directed: DirectedDrops {
+        count: 32,
+        last: None,
+    },
+    source_drops: SourceDrops {
+        forwarded_control: SourceDropCount {
+            count: 33,
+            last: None,
+        },
+        looped_source: SourceDropCount {
+            count: 34,
+            last: None,
+        },
+    },
     refused: 16,
     frame_unknown_senders: 26,
     unframed: 27,
@@ -54,7 +69,7 @@ pub const METRICS: Metrics = Metrics {
 };
 
 /// Lines that stand in it.
-const LINES: [&str; 26] = [
+const LINES: [&str; 29] = [
     "ipx_receive_packets_total 1\n",
     "ipx_transmit_packets_total 2\n",
     "ipx_outcomes_total{outcome=\"forwarded\"} 3\n",
@@ -73,6 +88,9 @@ const LINES: [&str; 26] = [
     "ipx_filtered_total{reason=\"spoofed_source\"} 23\n",
     "ipx_filtered_total{reason=\"not_a_router\"} 24\n",
     "ipx_filtered_total{reason=\"rate_limited\"} 25\n",
+    "ipx_filtered_total{reason=\"directed_broadcast\"} 32\n",
+    "ipx_filtered_total{reason=\"forwarded_control\"} 33\n",
+    "ipx_filtered_total{reason=\"looped_source\"} 34\n",
     "ipx_egress_filtered_total 16\n",
     "ipx_errors_total{kind=\"device\"} 17\n",
     "ipx_errors_total{kind=\"memory\"} 18\n",

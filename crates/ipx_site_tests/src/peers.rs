@@ -99,13 +99,25 @@ fn is_heard(
     to: Network,
     hops: u8,
 ) -> Result<bool, AllocError> {
+    is_heard_at(rt, alloc, ip, source, (to, Socket(0x4002)), hops)
+}
+
+/// The same of a packet for a socket of that network.
+fn is_heard_at(
+    rt: &impl Abort,
+    alloc: Global,
+    ip: Option<[u8; 4]>,
+    source: (Network, Node),
+    to: (Network, Socket),
+    hops: u8,
+) -> Result<bool, AllocError> {
     let header = IpxHeader {
         hops,
         kind: 0,
         to: Address {
-            network: to,
+            network: to.0,
             node: OTHER,
-            socket: Socket(0x4002),
+            socket: to.1,
         },
         from: Address {
             network: source.0,
@@ -134,6 +146,32 @@ fn is_heard(
     assert!(rt; heard || kept.spoofed.last == ip);
     assert_eq!(rt; kept.unknown_senders.count, 0);
     Ok(heard)
+}
+
+/// RIP and SAP that stay on the network of the port are heard only if no router forwarded them, also
+/// in the name of the router that did; of what comes from elsewhere the hops do not matter, and of
+/// other sockets neither.
+#[test]
+fn hears_no_control_that_was_forwarded(rt: HostRuntime) -> Result<(), AllocError> {
+    let ip = Some([10, 0, 0, 1]);
+    for socket in [Socket::RIP, Socket::SAP, Socket(0x4002)] {
+        for (from, to) in [
+            (HERE, HERE),
+            (HERE, Network::LOCAL),
+            (Network::LOCAL, HERE),
+            (Network::LOCAL, Network::LOCAL),
+        ] {
+            let to = (to, socket);
+            let forwarded = is_heard_at(&rt, rt.alloc(), ip, (from, PEER), to, 1)?;
+            assert!(rt; forwarded == (socket == Socket(0x4002)));
+            assert!(rt; !forwarded || is_heard_at(&rt, rt.alloc(), ip, (from, PEER), to, 15)?);
+            assert!(rt; is_heard_at(&rt, rt.alloc(), ip, (from, PEER), to, 0)?);
+        }
+        for (from, to) in [(AWAY, HERE), (HERE, AWAY), (AWAY, AWAY)] {
+            assert!(rt; is_heard_at(&rt, rt.alloc(), ip, (from, PEER), (to, socket), 1)?);
+        }
+    }
+    Ok(())
 }
 
 #[test]

@@ -1,7 +1,7 @@
 //! Files with ports for clients of ipxnet: what is read of them, and each fault with its line.
 
 use crate::fixture::{site, site_line};
-use ipx_site::{Accept, IpxnetPortConfig, Kind, PortConfig, RouterConfig};
+use ipx_site::{Accept, Directed, IpxnetPortConfig, Kind, PortConfig, RouterConfig};
 use ipx_wire::{Network, Node};
 use std::alloc::AllocError;
 
@@ -28,6 +28,7 @@ cost = 6
 node = \"02:00:00:00:0A:fe\"
 clients = 150
 accept = \"any\"
+directed = \"none\"
 ";
 
 /// The port for clients with this index.
@@ -45,6 +46,7 @@ fn is_first(port: &IpxnetPortConfig) -> bool {
         && port.cost == 1
         && port.clients == 64
         && port.accept == Accept::Peers
+        && port.directed == Directed::Few
         && port.peers.as_slice() == [[198, 51, 100, 7], [203, 0, 113, 9]].as_slice()
 }
 
@@ -55,6 +57,7 @@ fn is_second(port: &IpxnetPortConfig) -> bool {
         && port.cost == 6
         && port.clients == 150
         && port.accept == Accept::Any
+        && port.directed == Directed::Never
         && port.peers.is_empty()
 }
 
@@ -142,7 +145,7 @@ const PLAYERS: [(&str, &str); 21] = [
     ),
     (
         "accept = \"any\"\nrouters = []",
-        "port 1: routers is no key of kind \"ipxnet\": its keys are kind, network, address, udp_port, cost, node, clients, accept, peers, join",
+        "port 1: routers is no key of kind \"ipxnet\": its keys are kind, network, address, udp_port, cost, node, clients, accept, peers, join, directed",
     ),
     ("accept = \"any\"\njoin = [\"198.51.100.7:2130\"]", "none"),
     (
@@ -171,7 +174,7 @@ const PLAYERS: [(&str, &str); 21] = [
     ),
     (
         "accept = \"any\"\nplayers = 4",
-        "port 1: players is no key here: the keys are kind, network, address, udp_port, cost, for kind = \"rfc1234\" also peers, routers and accept, for kind = \"ethernet\" encapsulation, remotes, node and switch, for kind = \"ipxnet\" node, clients, accept, peers and join",
+        "port 1: players is no key here: the keys are kind, network, address, udp_port, cost, directed, for kind = \"rfc1234\" also peers, routers and accept, for kind = \"ethernet\" encapsulation, remotes, node and switch, for kind = \"ipxnet\" node, clients, accept, peers and join",
     ),
 ];
 
@@ -188,15 +191,15 @@ fn lines_of_ports_for_clients(rt: HostRuntime) -> Result<(), AllocError> {
 const KINDS: [(&str, &str); 4] = [
     (
         "clients = 4",
-        "port 1: clients is no key of kind \"rfc1234\": its keys are kind, network, address, udp_port, cost, peers, routers, accept",
+        "port 1: clients is no key of kind \"rfc1234\": its keys are kind, network, address, udp_port, cost, peers, routers, accept, directed",
     ),
     (
         "join = [\"198.51.100.7:2130\"]",
-        "port 1: join is no key of kind \"rfc1234\": its keys are kind, network, address, udp_port, cost, peers, routers, accept",
+        "port 1: join is no key of kind \"rfc1234\": its keys are kind, network, address, udp_port, cost, peers, routers, accept, directed",
     ),
     (
         "kind = \"ethernet\"\nclients = 4",
-        "port 1: clients is no key of kind \"ethernet\": its keys are kind, network, encapsulation, address, udp_port, cost, remotes, node, switch",
+        "port 1: clients is no key of kind \"ethernet\": its keys are kind, network, encapsulation, address, udp_port, cost, remotes, node, switch, directed",
     ),
     (
         "kind = \"ipxnet\"\nnetwork = \"0000d05b\"\naddress = \"192.0.2.10\"",

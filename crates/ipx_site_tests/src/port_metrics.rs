@@ -104,7 +104,7 @@ fn metrics_of_ports_in_text(rt: HostRuntime) -> Result<(), Fail> {
     let mut core = two_ports(alloc)?;
     hear_all(alloc, &mut core)?;
     let mut text = String::new(alloc);
-    put_port_metrics(&mut text, &core)?;
+    put_port_metrics(&mut text, core.router().ports(), core.port_counters())?;
     for line in LINES {
         assert!(rt; text.as_str().contains(line), "{line}");
     }
@@ -145,6 +145,16 @@ fn lines_of_what_was_dropped(rt: HostRuntime) -> Result<(), Fail> {
         "bad control, the last from 00000011 00000a010014 4003 by port 1"
     );
     assert_eq!(rt; said(alloc, DropReason::Bad, None)?.as_str(), "bad");
+    let forwarded = said(alloc, DropReason::ForwardedControl, last.not_ours)?;
+    assert_eq!(rt;
+        forwarded.as_str(),
+        "forwarded control, the last from 00000011 00000a010014 4003 by port 1"
+    );
+    let looped = said(alloc, DropReason::LoopedSource, last.no_route)?;
+    assert_eq!(rt;
+        looped.as_str(),
+        "looped source, the last from 00000022 00000a010014 4003 by port 2"
+    );
     Ok(())
 }
 
@@ -165,6 +175,8 @@ fn warns_of_faults(rt: HostRuntime) -> Result<(), Fail> {
     assert!(rt; warns(DropReason::NoRoute, last.no_route));
     assert!(rt; warns(DropReason::HopLimit, last.hop_limit));
     assert!(rt; warns(DropReason::BadControl, last.bad_control));
+    assert!(rt; warns(DropReason::ForwardedControl, last.not_ours));
+    assert!(rt; warns(DropReason::LoopedSource, last.not_ours));
     for socket in [0x0453, 0x0452] {
         core.hear(alloc, 0, &datagram(0, 4, 0x11, 0x4002, 0x11), 0)?;
         assert!(rt; !warns(DropReason::NotOurs, core.last().not_ours));
@@ -264,9 +276,9 @@ fn refused_metrics_of_ports(rt: HostRuntime) -> Result<(), Fail> {
     let alloc = rt.alloc();
     let core = two_ports_at_last(alloc)?;
     let mut text = String::new(alloc);
-    if put_port_metrics(&mut text, &core).is_err() {
+    if put_port_metrics(&mut text, core.router().ports(), core.port_counters()).is_err() {
         text = String::new(alloc);
-        put_port_metrics(&mut text, &core)?;
+        put_port_metrics(&mut text, core.router().ports(), core.port_counters())?;
     }
     let end = "ipx_port_dropped_total{port=\"2\",reason=\"table_full\"} 0\n";
     assert!(rt; text.as_str().ends_with(end));

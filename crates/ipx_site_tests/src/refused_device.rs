@@ -77,14 +77,16 @@ fn guarded(alloc: Global, sockets: UdpSockets) -> SourceFilter<UdpSockets> {
 }
 
 /// A burst over this device, with the peers of one port.
-fn batch_of(rt: &HostRuntime, device: &mut SourceFilter<UdpSockets>) -> Batch {
-    let alloc = rt.alloc();
+fn batch_of(
+    alloc: Global,
+    device: &mut SourceFilter<UdpSockets>,
+    clock: &mut SteadyClock<'_, HostRuntime>,
+) -> Batch {
     let mut peers = Vec::new(alloc);
     if peers.push(Vec::new(alloc)).is_err() {
         let _again = peers.push(Vec::new(alloc));
     }
-    let mut clock = SteadyClock::new(rt);
-    batch(alloc, &mut Greedy, device, &peers, &mut clock, 4)
+    batch(alloc, &mut Greedy, device, &peers, clock, 4)
 }
 
 #[test]
@@ -113,9 +115,13 @@ fn refused_batch(rt: HostRuntime) {
         assert!(rt; false);
         return;
     };
+    let Ok(mut clock) = SteadyClock::new(&rt) else {
+        assert!(rt; false);
+        return;
+    };
     let mut device = guarded(rt.alloc(), sockets);
-    let first = batch_of(&rt, &mut device);
-    let second = batch_of(&rt, &mut device);
+    let first = batch_of(rt.alloc(), &mut device, &mut clock);
+    let second = batch_of(rt.alloc(), &mut device, &mut clock);
     assert!(rt; first.quiet || first.fault == Some(RunFault::OutOfMemory));
     assert!(rt; second.quiet || second.fault == Some(RunFault::OutOfMemory));
     assert!(rt; first.quiet || second.quiet);

@@ -1,10 +1,13 @@
 //! Waiting for sockets of the loopback, and bursts of turns over them.
 
 use ipx_carrier::{Clock, Core, Datagrams, DeviceFault, batch};
-use ipx_site::{AccessList, BindFault, Poller, SourceFilter, SteadyClock, UdpSockets};
+use ipx_site::{AccessList, BindFault, ClockFault, Poller, SourceFilter, SteadyClock, UdpSockets};
 use ipx_wire::{Network, Node, OutOfMemory};
 use std::alloc::{AllocError, Global};
+use std::io;
+use std::rt::Clock as SystemClock;
 use std::test::Fail;
+use std::time::Duration;
 
 const UDP_PORT: u16 = 21392;
 
@@ -96,7 +99,7 @@ fn a_batch_ends_quietly(rt: HostRuntime) -> Result<(), Fail> {
     send(&mut stranger, 3)?;
     send(&mut peer, 3)?;
     let peers = vec![in alloc; Vec::new(alloc)]?;
-    let mut clock = SteadyClock::new(&rt);
+    let mut clock = SteadyClock::new(&rt)?;
     let batch = batch(alloc, &mut Mute, &mut device, &peers, &mut clock, 8);
     assert!(rt; batch.quiet && batch.fault.is_none());
     assert_eq!(rt; (batch.heard, batch.sent), (1, 0));
@@ -108,10 +111,30 @@ fn a_batch_ends_quietly(rt: HostRuntime) -> Result<(), Fail> {
 fn a_clock_stands_until_it_is_stopped_again(rt: HostRuntime) -> Result<(), Fail> {
     let quiet = socket(&rt, 6)?;
     let mut ready = Poller::new(&rt, rt.alloc(), &quiet)?;
-    let mut clock = SteadyClock::new(&rt);
+    let mut clock = SteadyClock::new(&rt)?;
     let stopped = clock.stop();
     assert!(rt; !ready.wait(20)?);
     assert_eq!(rt; clock.now(), stopped);
     assert!(rt; clock.stop() >= stopped + 19);
     Ok(())
+}
+
+/// A system that tells no time.
+#[derive(Drop)]
+struct Timeless;
+
+impl SystemClock for Timeless {
+    fn monotonic(&self) -> io::Result<Duration> {
+        Err(io::Error::from(io::ErrorKind::Unsupported))
+    }
+
+    fn since_1970(&self) -> io::Result<Duration> {
+        Err(io::Error::from(io::ErrorKind::Unsupported))
+    }
+}
+
+#[test]
+fn no_clock_where_the_system_tells_no_time(rt: HostRuntime) {
+    let clock = SteadyClock::new(&Timeless);
+    assert!(rt; matches!(clock, Err(ClockFault::Unread)));
 }

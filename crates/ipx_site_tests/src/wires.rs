@@ -173,11 +173,11 @@ const ETHERNET: [(&str, &str); 17] = [
     ),
     (
         "remotes = 1\nwire = 1\npeers = []",
-        "port 1: peers is no key of kind \"ethernet\": its keys are kind, network, encapsulation, address, udp_port, cost, remotes, node, switch",
+        "port 1: peers is no key of kind \"ethernet\": its keys are kind, network, encapsulation, address, udp_port, cost, remotes, node, switch, directed",
     ),
     (
         "remotes = 1\npeers = []\nend = []",
-        "port 1: end is no key here: the keys are kind, network, address, udp_port, cost, for kind = \"rfc1234\" also peers, routers and accept, for kind = \"ethernet\" encapsulation, remotes, node and switch, for kind = \"ipxnet\" node, clients, accept, peers and join",
+        "port 1: end is no key here: the keys are kind, network, address, udp_port, cost, directed, for kind = \"rfc1234\" also peers, routers and accept, for kind = \"ethernet\" encapsulation, remotes, node and switch, for kind = \"ipxnet\" node, clients, accept, peers and join",
     ),
     (
         "remotes = [\"127.0.0.1:24001\"]\nswitch = true\nnode = \"02:00:00:00:00:22\"",
@@ -206,11 +206,11 @@ const KINDS: [(&str, &str); 7] = [
     ),
     (
         "kind = \"rfc1234\"\nnode = 1",
-        "port 1: node is no key of kind \"rfc1234\": its keys are kind, network, address, udp_port, cost, peers, routers, accept",
+        "port 1: node is no key of kind \"rfc1234\": its keys are kind, network, address, udp_port, cost, peers, routers, accept, directed",
     ),
     (
         "encapsulation = \"802.3\"",
-        "port 1: encapsulation is no key of kind \"rfc1234\": its keys are kind, network, address, udp_port, cost, peers, routers, accept",
+        "port 1: encapsulation is no key of kind \"rfc1234\": its keys are kind, network, address, udp_port, cost, peers, routers, accept, directed",
     ),
     (
         "kind = \"ethernet\"\nnetwork = \"00000022\"",

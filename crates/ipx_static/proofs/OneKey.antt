@@ -1,15 +1,17 @@
 -- What a table has of a key once lists of entries were heard.
-use Rattle.std.proofs.Common.{◌≡◌, ℕ, zero, suc, ◌-◌, Bool, true, false, cond, List, [], ◌∷◌, take, drop, Contains, Option, Some, None, if◌then◌else◌, refl, sym, ap, ◌∙◌, subst, inl, inr, ◌⊎◌, arith}
+use Rattle.std.proofs.Common.{◌≡◌, ℕ, zero, suc, ◌-◌, Bool, true, false, cond, List, [], ◌∷◌, take, drop, Contains, Option, Some, None, slice_get, if◌then◌else◌, refl, sym, ap, ◌∙◌, subst, inl, inr, ◌⊎◌, arith}
 use Rattle.std.specs.List.{fold}
 use Rattle.std.specs.Cmp.{IsTotalOrder}
 use Rattle.std.specs.Ordering.{is_eq, ordering_then}
 use Rattle.std.specs.declared.cmp.Ordering.{Ordering}
 use Rattle.std.specs.declared.cmp.Ordering.TheVariants.{Less, Equal, Greater}
 use Rattle.std.proofs.lemmas.Bool.{lt-ltb}
+use Rattle.std.proofs.lemmas.List.Elements.{Contains-get_or}
+use Rattle.std.proofs.lemmas.Option.{get_or_from_slice_get, slice_get_within}
 use Rattle.std.proofs.lemmas.Cmp.{nat_cmp_total, nat_list_cmp_total, on_total, then_total, tied_itself}
 use Rattle.ipx_tables.specs.declared.source.Source.{Source}
 use Rattle.ipx_tables.specs.Content.{Content, after_age, after_hear, is_same, is_young, pair_cmp, source_cmp, still}
-use Rattle.ipx_static.specs.StaticOffers.{SaysNoOther}
+use Rattle.ipx_static.specs.StaticOffers.{Counts, SaysNoOther}
 
 source_total : IsTotalOrder source_cmp
 source_total = then_total (on_total (λ s. s.port) nat_cmp_total) (on_total (λ s. s.neighbour.0) nat_list_cmp_total)
@@ -22,6 +24,10 @@ both_tie Equal Greater h = cc
 both_tie Greater b h = cc
 
 -- ---- where an entry stands in a list
+
+pub there_in : {E : Type 0} (xs : List E) (k : ℕ) (x : E) → slice_get xs k ≡ Some x → Contains xs x
+there_in xs k x at =
+    subst (Contains xs) (get_or_from_slice_get xs k x x at) (Contains-get_or xs k x (slice_get_within xs k x at))
 
 pub here : {E : Type 0} (x : E) (xs : List E) → Contains (x ∷ xs) x
 here x xs = (0, omega arith, refl)
@@ -48,6 +54,9 @@ pub back_list : {E : Type 0} (n : ℕ) (xs : List E) (x : E) → Contains (drop 
 back_list zero xs x m = m
 back_list (suc n) [] x m = absurd (omega (arith, m.1))
 back_list (suc n) (y ∷ ys) x m = later y x ys (back_list n ys x m)
+
+nothing_there : {A : Type 0} (a : A) → None ≡ Some a → ⊥
+nothing_there a same = cc
 
 -- ---- what was heard at a moment is young then
 
@@ -140,6 +149,31 @@ module _ {K M E : Type 0} (cmp : K → K → Ordering) (total : IsTotalOrder cmp
         let heard : Hears own xs old new = subst (λ (s : Source). Hears s xs old new) same h in
         heard (key_of e, own) ∙ makes xs (after_age old now) (agree same) among hears_it
 
+    -- what was heard of it counts, and goes on so
+    abbrev pub StaysYoung : Content K M → Type 0
+    StaysYoung c = Counts (metric_of e) now (c (key_of e, own))
+
+    young_by : (x : E) (source : Source) → (source ≡ own → key_of x ≡ key_of e → metric_of x ≡ metric_of e) → (h same gone : Bool) (old : Option (M × ℕ))
+        → is_same cmp (key_of x, source) (key_of e, own) ≡ same → dead (metric_of x) ≡ gone → Counts (metric_of e) now old → Counts (metric_of e) now (one_word h same gone (metric_of x, now) old)
+    young_by x source agrees false same gone old b k s = s
+    young_by x source agrees true false gone old b k s = s
+    young_by x source agrees true true true old b k s =
+        let parts = same_parts (key_of x, source) (key_of e, own) b in
+        let no : true ≡ false = sym k ∙ ap dead (agrees parts.1 parts.0) ∙ alive in cc
+    young_by x source agrees true true false old b k s =
+        let parts = same_parts (key_of x, source) (key_of e, own) b in
+        (now, ap (λ m. Some (m, now)) (agrees parts.1 parts.0), lt-ltb (now - now) 180000 (omega arith))
+
+    pub stays_young : (source : Source) (xs : List E) (c : Content K M) → Agrees source xs → StaysYoung c → StaysYoung (fold (heard_entry source) c xs)
+    stays_young source [] c agree s = s
+    stays_young source (x ∷ xs) c agree s =
+        stays_young source xs (heard_entry source c x) (λ same y m. agree same y (later x y xs m))
+        (subst (Counts (metric_of e) now) (sym (step_is source c x (key_of e, own)))
+        (young_by x source (λ same. agree same x (here x xs)) (hears x) (is_same cmp (key_of x, source) (key_of e, own)) (dead (metric_of x)) (c (key_of e, own)) refl refl s))
+
+    pub aged_young : (c : Content K M) → StaysYoung c → StaysYoung (after_age c now)
+    aged_young c s = (s.0, ap (still now) s.1 ∙ ap (λ b. cond b (Some (metric_of e, s.0)) None) s.2, s.2)
+
     -- entries that say nothing of its key, where they are of its source, leave what stands there
     abbrev pub SaysNothing : Source → List E → Type 0
     SaysNothing source xs = source ≡ own → (x : E) → Contains xs x → key_of x ≡ key_of e → ⊥
@@ -157,3 +191,24 @@ module _ {K M E : Type 0} (cmp : K → K → Ordering) (total : IsTotalOrder cmp
         leaves source xs (heard_entry source c x) (λ same y m. quiet same y (later x y xs m))
         ∙ step_is source c x (key_of e, own)
         ∙ left_by x source (λ same. quiet same x (here x xs)) (hears x) (is_same cmp (key_of x, source) (key_of e, own)) (dead (metric_of x)) (c (key_of e, own)) refl
+
+  -- of a list each entry that is to be heard and is alive counts
+  abbrev pub AllStand : List E → Source → Content K M → Type 0
+  AllStand entries own c = (x : E) → Contains entries x → hears x ≡ true → dead (metric_of x) ≡ false
+      → Counts (metric_of x) now (c (key_of x, own))
+
+  -- these entries, where they are of that source, say nothing else of the list's keys
+  abbrev pub AgreeWith : List E → Source → Source → List E → Type 0
+  AgreeWith entries own source xs = (x : E) → Contains entries x → source ≡ own → SaysNoOther key_of metric_of xs x
+
+  pub all_stand_on : (entries : List E) (own source : Source) (xs : List E) (old new : Content K M) → ((p : K × Source) → new p ≡ fold (heard_entry source) (after_age old now) xs p)
+      → AgreeWith entries own source xs → AllStand entries own old → AllStand entries own new
+  all_stand_on entries own source xs old new h agree all x among hears_it alive =
+      subst (Counts (metric_of x) now) (sym (h (key_of x, own)))
+      (stays_young x alive own source xs (after_age old now) (λ same. agree x among same) (aged_young x alive own old (all x among hears_it alive)))
+
+  -- then an entry of the list that is to be heard and is alive does not find that nothing stands of it
+  pub never_unknown : (entries : List E) (own : Source) (c : Content K M) → AllStand entries own c → (x : E) → Contains entries x → hears x ≡ true → dead (metric_of x) ≡ false → c (key_of x, own) ≡ None → ⊥
+  never_unknown entries own c all x among hears_it alive none =
+      let s = all x among hears_it alive in
+      nothing_there (metric_of x, s.0) (sym none ∙ s.1)

@@ -11,7 +11,7 @@ use Rattle.ipx_carrier.specs.Counting.{raised}
 use Rattle.ipx_carrier.specs.OutcomeCounters.{outcome_counted}
 use Rattle.ipx_carrier.specs.PriorityRouterCore.{PriorityCoreView, PriorityHears, put_by_priority}
 use Rattle.ipx_static.specs.WithStatics.{WithStaticsView, HearsIfDue, HearsWords}
-use Rattle.ipx_static.proofs.EachWord.{FindsRoomForEach}
+use Rattle.ipx_static.proofs.EachWord.{ReceivesEach}
 
 -- the queues are nothing to the router and its counts
 answer_router : (a : OutcomeView) (c : PriorityCoreView) → (put_by_priority a c).router ≡ c.router
@@ -70,7 +70,11 @@ all_on now (w ∷ ws) old new h less =
     let rest = all_on now ws h.0 new h.2 first.1 in
     (omega (arith, first.0, rest.0), rest.1)
 
-pub room_for_each : (now : ℕ) (ws : List SendingView) (old new : PriorityCoreView) → HearsWords PriorityHears now ws old new → full old + 1 < 2 ^ 64 → full new ≡ full old → FindsRoomForEach now ws old.router new.router
+-- a response that finds a table full answers so
+abbrev pub HasRoom : OutcomeView → Type 0
+HasRoom a = a ≢ Dropped TableFull
+
+pub room_for_each : (now : ℕ) (ws : List SendingView) (old new : PriorityCoreView) → HearsWords PriorityHears now ws old new → full old + 1 < 2 ^ 64 → full new ≡ full old → ReceivesEach HasRoom now ws old.router new.router
 room_for_each now [] old new is less same = ap (λ (c : PriorityCoreView). c.router) is
 room_for_each now (w ∷ ws) old new h less same =
     let mid = h.0 in
@@ -80,10 +84,24 @@ room_for_each now (w ∷ ws) old new h less same =
     elim (full_or_not h.1.0 old.outcomes) [
       | inl room ↦
           let stays : full mid ≡ full old = outcomes ∙ room.1 in
-          let later : FindsRoomForEach now ws mid.router new.router = room_for_each now ws mid new h.2 (omega (arith, less, stays)) (same ∙ sym stays) in
-          (h.1.0, h.1.1, h.1.2, room.0, subst (λ (r : RouterView). FindsRoomForEach now ws r new.router) (heard_router old mid (w.port - 1) w.bytes now h.1) later)
+          let later : ReceivesEach HasRoom now ws mid.router new.router = room_for_each now ws mid new h.2 (omega (arith, less, stays)) (same ∙ sym stays) in
+          (h.1.0, h.1.1, h.1.2, room.0, subst (λ (r : RouterView). ReceivesEach HasRoom now ws r new.router) (heard_router old mid (w.port - 1) w.bytes now h.1) later)
       | inr up ↦ absurd (omega (arith, same, rest, outcomes, up, raised_one (full old) less))
     ]
+
+-- whatever is answered
+abbrev pub AsItMay : OutcomeView → Type 0
+AsItMay a = Unit {0}
+
+pub each_received : (now : ℕ) (ws : List SendingView) (old new : PriorityCoreView) → HearsWords PriorityHears now ws old new → ReceivesEach AsItMay now ws old.router new.router
+each_received now [] old new is = ap (λ (c : PriorityCoreView). c.router) is
+each_received now (w ∷ ws) old new h = (
+  h.1.0,
+  h.1.1,
+  h.1.2,
+  tt,
+  subst (λ (r : RouterView). ReceivesEach AsItMay now ws r new.router) (heard_router old h.0 (w.port - 1) w.bytes now h.1) (each_received now ws h.0 new h.2),
+)
 
 pub of_true : (P Q : Type 0) (b : Bool) → b ≡ true → MatchBool b P Q → P
 of_true P Q true e h = h

@@ -1,7 +1,7 @@
--- An offer by hand stands over a run.
-use Rattle.std.proofs.Common.{◌≡◌, ◌<◌, ◌≤◌, ◌+◌, ◌-◌, ◌^◌, ℕ, Bool, true, false, cond, List, [], ◌∷◌, Option, Some, None, refl, sym, ap, ◌∙◌, subst, inl, inr, ◌⊎◌, arith}
+-- Offers by hand stand over a run.
+use Rattle.std.proofs.Common.{◌≡◌, ◌≢◌, ◌==◌, ◌<◌, ◌≤◌, ◌+◌, ◌-◌, ◌^◌, ℕ, Bool, true, false, cond, List, [], ◌∷◌, Option, Some, None, refl, sym, ap, ◌∙◌, subst, inl, inr, ◌⊎◌, arith, eqb-true}
 use Rattle.std.specs.Prelude.{nat_le}
-use Rattle.std.proofs.lemmas.Bool.{leb-false, lt-ltb}
+use Rattle.std.proofs.lemmas.Bool.{eqb-false, leb-false, lt-ltb}
 use Rattle.ipx_tables.specs.Content.{is_young, still}
 use Rattle.ipx_router.specs.declared.port.Port.{Port}
 use Rattle.ipx_router.specs.Answer.{Receives}
@@ -13,6 +13,7 @@ use Rattle.ipx_carrier.specs.RouterQueues.{TellsNow}
 use Rattle.ipx_carrier.specs.PriorityRouterCore.{PriorityCoreView, PriorityGives, PriorityHears}
 use Rattle.ipx_carrier.specs.Turns.{Given}
 use Rattle.ipx_static.specs.WithStatics.{WithStaticsView, GivesWithStatics, HearsIfDue, HearsUnder, HearsWords}
+use Rattle.ipx_static.specs.StaticOffers.{Counts, FindsRoom}
 use Rattle.ipx_static.specs.StaticRuns.{Asked, AsksOnceMore, ComesAs, DoStaticCalls, DoesStaticCall, StaticCall, StaticCallAt, IsAskedEachMinute, asked_by, asked_in, Comes}
 use Rattle.ipx_static.proofs.RoomForWords.{all_on, full, heard_router, of_false, of_true, one_on}
 
@@ -60,62 +61,110 @@ calls_full (c ∷ cs) old new h less =
     let first = call_full c.moment c.call old h.0 h.1 less in
     omega (arith, first.0, calls_full cs h.0 new h.2 first.1)
 
--- ---- one offer
+-- ---- room over calls, or none asked for
 
-module _ {M : Type 0} (metric : M) (ports : List Port) (advertisements : List SendingView) (value : RouterView → Option (M × ℕ)) (IsSuch : ℕ → List ℕ → Type 0)
-    (receives : (old new : RouterView) (port : ℕ) (bytes : List ℕ) (now : ℕ) (a : OutcomeView) → IsSuch port bytes → Receives old (port + 1) bytes now a new → value new ≡ still now (value old))
-    (tells : (old new : RouterView) (now : ℕ) (told : List SendingView) → TellsNow old now told new → value new ≡ still now (value old))
+-- of a run that has it, each call has it
+pub record IsOfEach (Room : PriorityCoreView → PriorityCoreView → Type 0) : Type 0 where
+  pub words : (v mid : WithStaticsView PriorityCoreView) (now : ℕ) (given : Option Given) (h : GivesWithStatics PriorityHears PriorityGives v now given mid) → Room v.core mid.core → Room v.core h.0.core
+  pub first : (now : ℕ) (c : StaticCall) (cs : List StaticCallAt) (v mid new : WithStaticsView PriorityCoreView) → DoesStaticCall now c v mid → DoStaticCalls cs mid new → Room v.core new.core → Room v.core mid.core
+  pub later : (now : ℕ) (c : StaticCall) (cs : List StaticCallAt) (v mid new : WithStaticsView PriorityCoreView) → DoesStaticCall now c v mid → DoStaticCalls cs mid new → Room v.core new.core → Room mid.core new.core
+
+words_room : (v mid : WithStaticsView PriorityCoreView) (now : ℕ) (given : Option Given) (h : GivesWithStatics PriorityHears PriorityGives v now given mid) → FindsRoom v.core mid.core → FindsRoom v.core h.0.core
+words_room v mid now given h r =
+    let bound = due_full v h.0 now h.1 (omega (arith, r.countable)) in
+    let gives = gives_full h.0.core mid.core now given h.2 in
+    record { room = omega (arith, r.room, gives); countable = r.countable }
+
+first_same : (now : ℕ) (c : StaticCall) (cs : List StaticCallAt) (v mid new : WithStaticsView PriorityCoreView) → DoesStaticCall now c v mid → DoStaticCalls cs mid new → FindsRoom v.core new.core → full mid.core ≡ full v.core
+first_same now c cs v mid new one more r =
+    let first = call_full now c v mid one (omega (arith, r.countable)) in
+    let rest = calls_full cs mid new more first.1 in
+    omega (arith, first.0, rest, r.room)
+
+pub room_of_each : IsOfEach FindsRoom
+room_of_each = record {
+  words = words_room;
+  first = λ now c cs v mid new one more r. record { room = first_same now c cs v mid new one more r; countable = r.countable };
+  later = λ now c cs v mid new one more r.
+      let same = first_same now c cs v mid new one more r in
+      record { room = r.room ∙ sym same; countable = omega (arith, r.countable, same) };
+}
+
+abbrev pub AnyRoom : PriorityCoreView → PriorityCoreView → Type 0
+AnyRoom old new = Unit {0}
+
+pub any_of_each : IsOfEach AnyRoom
+any_of_each = record {
+  words = λ v mid now given h r. tt;
+  first = λ now c cs v mid new one more r. tt;
+  later = λ now c cs v mid new one more r. tt;
+}
+
+pub same_or_not : (before after : PriorityCoreView) → (full after ≡ full before) ⊎ (full after ≢ full before)
+same_or_not before after = elim (bool_cases (full after == full before)) [
+  | inl same ↦ inl (eqb-true (full after) (full before) same)
+  | inr other ↦ inr (λ e. eqb-false (full after) (full before) other e)
+]
+
+-- ---- offers, each with a name of its own
+
+module _ {M I : Type 0} (metric : I → M) (ports : List Port) (advertisements : List SendingView) (value : I → RouterView → Option (M × ℕ)) (IsSuch : ℕ → List ℕ → Type 0)
+    (receives : (i : I) (old new : RouterView) (port : ℕ) (bytes : List ℕ) (now : ℕ) (a : OutcomeView) → IsSuch port bytes → Receives old (port + 1) bytes now a new → value i new ≡ still now (value i old))
+    (tells : (i : I) (old new : RouterView) (now : ℕ) (told : List SendingView) → TellsNow old now told new → value i new ≡ still now (value i old))
+    (Room : PriorityCoreView → PriorityCoreView → Type 0) (each_room : IsOfEach Room)
     (says : (old new : WithStaticsView PriorityCoreView) (now : ℕ) → old.core.router.ports ≡ ports → old.advertisements ≡ advertisements → is_due old.said now ≡ true → HearsIfDue PriorityHears old now new
-    → full new.core ≡ full old.core → full old.core + 1 < 2 ^ 64 → value new.core.router ≡ Some (metric, now)) where
-  -- it was heard since words were said last, which is under a minute before the last question
+    → Room old.core new.core → ((i : I) → Counts (metric i) now (value i old.core.router)) → (i : I) → value i new.core.router ≡ Some (metric i, now)) where
+  -- one was heard since words were said last
+  abbrev Stands : ℕ → I → RouterView → Type 0
+  Stands last i r = (heard : ℕ) × (last ≤ heard) × (value i r ≡ Some (metric i, heard))
+
+  -- and so is each, which is under a minute before the last question
   pub record Stays (v : WithStaticsView PriorityCoreView) (asked : ℕ) : Type 0 where
     pub last : ℕ
     pub is_last : v.said ≡ Some last
     pub lately : asked - last < 60000
-    pub heard : ℕ
-    pub since : last ≤ heard
-    pub stands : value v.core.router ≡ Some (metric, heard)
+    pub stands : (i : I) → Stands last i v.core.router
     pub same_ports : v.core.router.ports ≡ ports
     pub same_words : v.advertisements ≡ advertisements
 
   young_within : (now asked last heard : ℕ) → asked - last < 60000 → last ≤ heard → now ≤ asked + 60000 → is_young now heard ≡ true
   young_within now asked last heard lately since within = lt-ltb (now - heard) 180000 (omega (arith, lately, since, within))
 
-  still_there : (now heard : ℕ) (o : Option (M × ℕ)) → o ≡ Some (metric, heard) → is_young now heard ≡ true → still now o ≡ Some (metric, heard)
-  still_there now heard o is young = ap (still now) is ∙ ap (λ b. cond b (Some (metric, heard)) None) young
+  still_there : (now heard : ℕ) (m : M) (o : Option (M × ℕ)) → o ≡ Some (m, heard) → is_young now heard ≡ true → still now o ≡ Some (m, heard)
+  still_there now heard m o is young = ap (still now) is ∙ ap (λ b. cond b (Some (m, heard)) None) young
+
+  counts : (v : WithStaticsView PriorityCoreView) (asked now : ℕ) → Stays v asked → now ≤ asked + 60000 → (i : I) → Counts (metric i) now (value i v.core.router)
+  counts v asked now s within i =
+      let st = s.stands i in
+      (st.0, st.2, young_within now asked s.last st.0 s.lately st.1 within)
 
   -- asked behind words, or where none were due
   asked_behind : (v mid : WithStaticsView PriorityCoreView) (now : ℕ) (given : Option Given) → Stays v now → PriorityGives v.core now given mid.core → mid ≡ record v { core = mid.core } → Stays mid now
   asked_behind v mid now given s h is =
       let router = gives_router v.core mid.core now given h in
-      let young = young_within now now s.last s.heard s.lately s.since (omega arith) in
       record {
         last = s.last;
         is_last = ap (λ (v : WithStaticsView PriorityCoreView). v.said) is ∙ s.is_last;
         lately = s.lately;
-        heard = s.heard;
-        since = s.since;
-        stands = ap value router ∙ tells v.core.router h.1.2 now h.1.1 h.1.4 ∙ still_there now s.heard (value v.core.router) s.stands young;
+        stands = λ i.
+            let st = s.stands i in
+            let young = young_within now now s.last st.0 s.lately st.1 (omega arith) in
+            (st.0, st.1, ap (value i) router ∙ tells i v.core.router h.1.2 now h.1.1 h.1.4 ∙ still_there now st.0 (metric i) (value i v.core.router) st.2 young);
         same_ports = ap (λ (r : RouterView). r.ports) router ∙ h.1.4.2.ports ∙ s.same_ports;
         same_words = ap (λ (v : WithStaticsView PriorityCoreView). v.advertisements) is ∙ s.same_words;
       }
 
   -- asked where words are due
   asked_due : (v mid : WithStaticsView PriorityCoreView) (now : ℕ) (given : Option Given) → v.core.router.ports ≡ ports → v.advertisements ≡ advertisements → is_due v.said now ≡ true
-      → GivesWithStatics PriorityHears PriorityGives v now given mid → full mid.core ≡ full v.core → full v.core + 1 < 2 ^ 64 → Stays mid now
-  asked_due v mid now given same_ports same_words due h stays less =
+      → (h : GivesWithStatics PriorityHears PriorityGives v now given mid) → ((i : I) → value i h.0.core.router ≡ Some (metric i, now)) → Stays mid now
+  asked_due v mid now given same_ports same_words due h spoken =
       let heard = h.0 in
       let said = of_true (HearsWords PriorityHears now v.advertisements v.core heard.core × (heard ≡ record v { core = heard.core; said = Some now })) (heard ≡ v) (is_due v.said now) due h.1 in
-      let bound = due_full v heard now h.1 (omega (arith, less)) in
-      let gives = gives_full heard.core mid.core now given h.2 in
-      let same : full heard.core ≡ full v.core = omega (arith, stays, gives) in
       let s : Stays heard now = record {
         last = now;
         is_last = ap (λ (v : WithStaticsView PriorityCoreView). v.said) said.1;
         lately = omega arith;
-        heard = now;
-        since = omega arith;
-        stands = says v heard now same_ports same_words due h.1 same less;
+        stands = λ i. (now, omega arith, spoken i);
         same_ports = words_ports now v.advertisements v.core heard.core said.0 ∙ same_ports;
         same_words = ap (λ (v : WithStaticsView PriorityCoreView). v.advertisements) said.1 ∙ same_words;
       } in
@@ -134,8 +183,6 @@ module _ {M : Type 0} (metric : M) (ports : List Port) (advertisements : List Se
         last = s.last;
         is_last = s.is_last;
         lately = under_a_minute now s.last (sym (ap (λ o. is_due o now) s.is_last) ∙ not_due);
-        heard = s.heard;
-        since = s.since;
         stands = s.stands;
         same_ports = s.same_ports;
         same_words = s.same_words;
@@ -146,14 +193,14 @@ module _ {M : Type 0} (metric : M) (ports : List Port) (advertisements : List Se
       → HearsUnder PriorityHears v port bytes now mid → Stays mid asked
   comes_in v mid asked now port bytes s within such h =
       let router = heard_router v.core mid.core port bytes now h.0 in
-      let young = young_within now asked s.last s.heard s.lately s.since within in
       record {
         last = s.last;
         is_last = ap (λ (v : WithStaticsView PriorityCoreView). v.said) h.1 ∙ s.is_last;
         lately = s.lately;
-        heard = s.heard;
-        since = s.since;
-        stands = ap value router ∙ receives v.core.router h.0.1 port bytes now h.0.0 such h.0.2 ∙ still_there now s.heard (value v.core.router) s.stands young;
+        stands = λ i.
+            let st = s.stands i in
+            let young = young_within now asked s.last st.0 s.lately st.1 within in
+            (st.0, st.1, ap (value i) router ∙ receives i v.core.router h.0.1 port bytes now h.0.0 such h.0.2 ∙ still_there now st.0 (metric i) (value i v.core.router) st.2 young);
         same_ports = ap (λ (r : RouterView). r.ports) router ∙ h.0.2.rest.ports ∙ s.same_ports;
         same_words = ap (λ (v : WithStaticsView PriorityCoreView). v.advertisements) h.1 ∙ s.same_words;
       }
@@ -164,39 +211,34 @@ module _ {M : Type 0} (metric : M) (ports : List Port) (advertisements : List Se
     last = s.last;
     is_last = ap (λ (v : WithStaticsView PriorityCoreView). v.said) is ∙ s.is_last;
     lately = s.lately;
-    heard = s.heard;
-    since = s.since;
-    stands = ap (λ (v : WithStaticsView PriorityCoreView). value v.core.router) is ∙ s.stands;
+    stands = λ i. let st = s.stands i in (st.0, st.1, ap (λ (v : WithStaticsView PriorityCoreView). value i v.core.router) is ∙ st.2);
     same_ports = ap (λ (v : WithStaticsView PriorityCoreView). v.core.router.ports) is ∙ s.same_ports;
     same_words = ap (λ (v : WithStaticsView PriorityCoreView). v.advertisements) is ∙ s.same_words;
   }
 
   one_call : (now : ℕ) (c : StaticCall) (v mid : WithStaticsView PriorityCoreView) (asked : ℕ) → Stays v asked → now ≤ asked + 60000 → ComesAs IsSuch c → DoesStaticCall now c v mid
-      → full mid.core ≡ full v.core → full v.core + 1 < 2 ^ 64 → Stays mid (asked_by now c asked)
-  one_call now (Comes port bytes) v mid asked s within such h same less = comes_in v mid asked now port bytes s within such h
-  one_call now (Asked given) v mid asked s within such h same less = elim (bool_cases (is_due v.said now)) [
-    | inl due ↦ asked_due v mid now given s.same_ports s.same_words due h same less
+      → Room v.core mid.core → Stays mid (asked_by now c asked)
+  one_call now (Comes port bytes) v mid asked s within such h room = comes_in v mid asked now port bytes s within such h
+  one_call now (Asked given) v mid asked s within such h room = elim (bool_cases (is_due v.said now)) [
+    | inl due ↦ asked_due v mid now given s.same_ports s.same_words due h
+        (says v h.0 now s.same_ports s.same_words due h.1 (each_room.words v mid now given h room) (counts v asked now s within))
     | inr not_due ↦ asked_early v mid asked now given s not_due h
   ]
-  one_call now AsksOnceMore v mid asked s within such h same less = asks_on v mid asked s h
+  one_call now AsksOnceMore v mid asked s within such h room = asks_on v mid asked s h
 
   all_calls : (cs : List StaticCallAt) (v new : WithStaticsView PriorityCoreView) (asked : ℕ) → Stays v asked → IsAskedEachMinute IsSuch cs asked → DoStaticCalls cs v new
-      → full new.core ≡ full v.core → full v.core + 1 < 2 ^ 64 → Stays new (asked_in cs asked)
-  all_calls [] v new asked s each is same less = subst (λ (v : WithStaticsView PriorityCoreView). Stays v asked) (sym is) s
-  all_calls (c ∷ cs) v new asked s each h same less =
+      → Room v.core new.core → Stays new (asked_in cs asked)
+  all_calls [] v new asked s each is room = subst (λ (v : WithStaticsView PriorityCoreView). Stays v asked) (sym is) s
+  all_calls (c ∷ cs) v new asked s each h room =
       let mid = h.0 in
-      let first = call_full c.moment c.call v mid h.1 (omega (arith, less)) in
-      let rest = calls_full cs mid new h.2 first.1 in
-      let here : full mid.core ≡ full v.core = omega (arith, first.0, rest, same) in
-      all_calls cs mid new (asked_by c.moment c.call asked) (one_call c.moment c.call v mid asked s each.0 each.1 h.1 here less) each.2 h.2 (same ∙ sym here) (omega (arith, less, here))
+      all_calls cs mid new (asked_by c.moment c.call asked)
+      (one_call c.moment c.call v mid asked s each.0 each.1 h.1 (each_room.first c.moment c.call cs v mid new h.1 h.2 room)) each.2 h.2
+      (each_room.later c.moment c.call cs v mid new h.1 h.2 room)
 
   -- from a question at which words are due
   pub whole_run : (start : ℕ) (given : Option Given) (cs : List StaticCallAt) (old first new : WithStaticsView PriorityCoreView) → old.core.router.ports ≡ ports → old.advertisements ≡ advertisements → is_due old.said start ≡ true
-      → DoesStaticCall start (Asked given) old first → DoStaticCalls cs first new → full new.core ≡ full old.core → full old.core + 1 < 2 ^ 64 → IsAskedEachMinute IsSuch cs start
-      → (now : ℕ) → now ≤ asked_in cs start + 60000 → (heard : ℕ) × (value new.core.router ≡ Some (metric, heard)) × (is_young now heard ≡ true)
-  whole_run start given cs old first new same_ports same_words due begins goes_on same less each now within =
-      let bound = call_full start (Asked given) old first begins (omega (arith, less)) in
-      let rest = calls_full cs first new goes_on bound.1 in
-      let here : full first.core ≡ full old.core = omega (arith, bound.0, rest, same) in
-      let s = all_calls cs first new start (asked_due old first start given same_ports same_words due begins here less) each goes_on (same ∙ sym here) (omega (arith, less, here)) in
-      (s.heard, s.stands, young_within now (asked_in cs start) s.last s.heard s.lately s.since within)
+      → (begins : GivesWithStatics PriorityHears PriorityGives old start given first) → ((i : I) → value i begins.0.core.router ≡ Some (metric i, start)) → DoStaticCalls cs first new → Room first.core new.core → IsAskedEachMinute IsSuch cs start
+      → (now : ℕ) → now ≤ asked_in cs start + 60000 → (i : I) → Counts (metric i) now (value i new.core.router)
+  whole_run start given cs old first new same_ports same_words due begins spoken goes_on room each now within i =
+      let s = all_calls cs first new start (asked_due old first start given same_ports same_words due begins spoken) each goes_on room in
+      counts new (asked_in cs start) now s within i

@@ -1,7 +1,7 @@
 -- A router that hears by hand, over a run of calls.
 -- The entry points are `StaticRoutesHold` and `StaticServicesHold`, and `StaticsAreCountedApart` of a router
 -- that counts.
-use Rattle.std.specs.Prelude.{◌≡◌, ◌<◌, ◌≤◌, ◌+◌, ◌^◌, ℕ, Bool, false, true, List, [], ◌∷◌, All, Contains, Option, Some}
+use Rattle.std.specs.Prelude.{◌≡◌, ◌≢◌, ◌⊎◌, ◌<◌, ◌≤◌, ◌+◌, ℕ, Bool, false, true, List, [], ◌∷◌, All, Contains, Option}
 use Rattle.ipx_wire.specs.declared.address.Network.{Network}
 use Rattle.ipx_wire.specs.Ipx.{IsIpx, PacketView}
 use Rattle.ipx_control.specs.declared.rip.packet.RipEntry.{RipEntry}
@@ -11,7 +11,6 @@ use Rattle.ipx_control.specs.Rip as rip
 use Rattle.ipx_control.specs.Sap.{IsSap}
 use Rattle.ipx_control.specs.Sap as sap
 use Rattle.ipx_tables.specs.declared.service.ServiceKey.{ServiceKey}
-use Rattle.ipx_tables.specs.Content.{is_young}
 use Rattle.ipx_router.specs.Hearing.{is_heard, route_metric, service_metric}
 use Rattle.ipx_router.specs.Knowledge.{routes_in, services_in}
 use Rattle.ipx_router.specs.Telling.{is_due}
@@ -21,7 +20,7 @@ use Rattle.ipx_carrier.specs.Turns.{Given}
 use Rattle.ipx_metrics.specs.MeteredRouter.{CountedView, CountsAsItGives, CountsHeard, without_counts}
 use Rattle.ipx_static.specs.declared.neighbour.StaticNeighbour.{StaticNeighbour}
 use Rattle.ipx_static.specs.WithStatics.{WithStaticsView, GivesWithStatics, HearsUnder}
-use Rattle.ipx_static.specs.StaticOffers.{IsAnotherNode, SaysNoOther, static_source}
+use Rattle.ipx_static.specs.StaticOffers.{Counts, FindsRoom, IsAnotherNode, IsSaidAlone, static_source}
 use Rattle.ipx_static.specs.StaticAdvertisements.{AreWordsOf}
 
 -- bytes come in on a port; or it is asked for a packet, and gives one or none; or it is to ask its
@@ -82,7 +81,7 @@ OffersItself n key port bytes = (port + 1 ≡ n.port) × (p : PacketView) × (ta
     × IsSap (sap.Response nearest entries) p.body rest
     × (x : ServiceEntry) × Contains entries x × (key_of_service x ≡ key)
 
--- a run that begins with a question at which words are due, and never finds a table full
+-- a run that begins with a question at which words are due, and finds no table full then
 pub record RunsWithStatics (ns : List StaticNeighbour) (start : ℕ) (calls : List StaticCallAt)
     (old new : WithStaticsView PriorityCoreView) : Type 0 where
   pub advertisements : AreWordsOf ns old.advertisements
@@ -92,36 +91,41 @@ pub record RunsWithStatics (ns : List StaticNeighbour) (start : ℕ) (calls : Li
   pub first : WithStaticsView PriorityCoreView
   pub begins : DoesStaticCall start (Asked given) old first
   pub goes_on : DoStaticCalls calls first new
-  pub room : new.core.outcomes.table_full ≡ old.core.outcomes.table_full
-  pub countable : old.core.outcomes.table_full + 1 < 2 ^ 64
+  pub room : FindsRoom old.core first.core
 
--- where it is asked each minute, and the neighbour tells nothing itself of a network that stands in its
--- routes, and nothing else is said there of it by hand, that route is an offer of the neighbour that
--- counts, up to a minute after the last question
+-- the entries of a neighbour on which an entry depends: itself, and all of them if a table was full in
+-- between, since a response is read up to the first entry that finds no room
+abbrev pub DependsOn : {E : Type 0} → (old new : WithStaticsView PriorityCoreView) → E → E → Type 0
+DependsOn old new e x = (x ≡ e) ⊎ (new.core.outcomes.table_full ≢ old.core.outcomes.table_full)
+
+-- if it is asked each minute, and of each network whose route a route depends on the neighbour tells
+-- nothing itself, and nothing else is said there by hand, that route is an offer of the neighbour that
+-- counts, up to a minute after the last question, however full tables are after the first
 abbrev pub StaticRoutesHold : Type 0
 StaticRoutesHold = (ns : List StaticNeighbour) (start : ℕ) (calls : List StaticCallAt)
     (old new : WithStaticsView PriorityCoreView) → RunsWithStatics ns start calls old new
     → (n : StaticNeighbour) → Contains ns n → (e : RipEntry) → Contains n.routes.items e
-    → ((m : StaticNeighbour) → Contains ns m → static_source m ≡ static_source n
-    → SaysNoOther route_key route_metric m.routes.items e)
+    → ((x : RipEntry) → Contains n.routes.items x → DependsOn old new e x
+    → IsSaidAlone route_key route_metric (λ m. m.routes.items) ns n x)
     → is_heard old.core.router.ports e ≡ true → e.hops < 16
-    → IsAskedEachMinute (λ port bytes. TellsItself n e.network port bytes → ⊥) calls start
-    → (now : ℕ) → now ≤ asked_in calls start + 60000 → (heard : ℕ)
-    × (routes_in new.core.router.routes (e.network, static_source n) ≡ Some (route_metric e, heard))
-    × (is_young now heard ≡ true)
+    → IsAskedEachMinute (λ port bytes. (x : RipEntry) → Contains n.routes.items x
+    → DependsOn old new e x → TellsItself n x.network port bytes → ⊥) calls start
+    → (now : ℕ) → now ≤ asked_in calls start + 60000
+    → Counts (route_metric e) now (routes_in new.core.router.routes (e.network, static_source n))
 
 -- and so is each of its services
 abbrev pub StaticServicesHold : Type 0
 StaticServicesHold = (ns : List StaticNeighbour) (start : ℕ) (calls : List StaticCallAt)
     (old new : WithStaticsView PriorityCoreView) → RunsWithStatics ns start calls old new
     → (n : StaticNeighbour) → Contains ns n → (e : ServiceEntry) → Contains n.services.items e
-    → ((m : StaticNeighbour) → Contains ns m → static_source m ≡ static_source n
-    → SaysNoOther key_of_service service_metric m.services.items e)
+    → ((x : ServiceEntry) → Contains n.services.items x → DependsOn old new e x
+    → IsSaidAlone key_of_service service_metric (λ m. m.services.items) ns n x)
     → e.hops < 16
-    → IsAskedEachMinute (λ port bytes. OffersItself n (key_of_service e) port bytes → ⊥) calls start
-    → (now : ℕ) → now ≤ asked_in calls start + 60000 → (heard : ℕ)
-    × (services_in new.core.router.services (key_of_service e, static_source n)
-    ≡ Some (service_metric e, heard)) × (is_young now heard ≡ true)
+    → IsAskedEachMinute (λ port bytes. (x : ServiceEntry) → Contains n.services.items x
+    → DependsOn old new e x → OffersItself n (key_of_service x) port bytes → ⊥) calls start
+    → (now : ℕ) → now ≤ asked_in calls start + 60000
+    → Counts (service_metric e) now
+    (services_in new.core.router.services (key_of_service e, static_source n))
 
 -- a router that counts, without its counts
 abbrev pub uncounted : WithStaticsView CountedView → WithStaticsView PriorityCoreView

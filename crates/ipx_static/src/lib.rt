@@ -13,7 +13,8 @@ mod restart_discovery;
 mod with_statics;
 
 pub use laws::{
-    static_routes_are_offers, static_routes_hold, static_services_are_offers, static_services_hold,
+    static_routes_are_offers, static_routes_are_refreshed, static_routes_hold,
+    static_services_are_offers, static_services_are_refreshed, static_services_hold,
     statics_are_counted_apart,
 };
 pub use neighbour::StaticNeighbour;

@@ -136,9 +136,11 @@ Reads the file SITE, in TOML: a table [[port]] for each network that it joins, w
   peers     a list of IP addresses: whom it sends to
   routers   those of them that may pass on and tell, each where it is left out
   accept    \"peers\", as where it is left out, or \"any\": who is heard
+  directed  \"few\", as where it is left out, \"none\" or \"all\": how many broadcasts
+            from other networks are forwarded onto this one
 or for a wire, which is an Ethernet frame in each datagram,
   kind      \"ethernet\"
-  network, address and cost as above
+  network, address, cost and directed as above
   encapsulation  \"802.3\", \"802.2\", \"snap\" or \"ethernet-ii\"
   udp_port  where frames come in
   remotes   a list of places, as [\"127.0.0.1:24001\"]: where they come from and go
@@ -146,7 +148,7 @@ or for a wire, which is an Ethernet frame in each datagram,
   switch    true, as where it is left out: each end hears the others; or false
 or for clients of DOSBox, which connect by ipxnet,
   kind      \"ipxnet\"
-  network, address, cost and node as above
+  network, address, cost, directed and node as above
   udp_port  where they register
   clients   how many at once, 1 to 150; 64 where it is left out
   peers     a list of IP addresses: from where they may register

@@ -40,8 +40,8 @@ route_is laws ports routes now d None a none leads = absurd (none_by ports route
 route_is laws ports routes now d (Some b) a is leads = ap (λ r. Some r) (one_by laws routes now d (direct_route ports d) b a is leads)
 
 module _ (laws : LawsOfTables) (net : Internet) (d : Network) (clock : Clock) (c : Saying) (heard : ℕ → Hearing) (x : Routing)
-    (run : IsRun net clock c heard) (honest : NothingForged net clock c heard) (are : AreRoutes net d clock c x) where
-  -- what stands in a table was heard, unless it stood there at first
+    (run : IsRun net clock c heard) (honest : NothingForged net clock c heard d) (are : AreRoutes net d clock c x) where
+  -- what stands in a table of the network was heard, unless it stood there at first
   record WasHeard (r : ℕ) (p : Network × Source) (w : Word) : Type 0 where
     n : ℕ
     source : Source
@@ -67,19 +67,19 @@ module _ (laws : LawsOfTables) (net : Internet) (d : Network) (clock : Clock) (c
     | inr h ↦ inr (h.0, omega (arith, h.1))
   ]
 
-  kept : (n r : ℕ) (p : Network × Source) (w : Word) → c n r p ≡ Some w → Kept n r p w
-  kept zero r p w is = inl (run.past r p w.0 w.1 is)
-  kept (suc n) r p w is = elim (bool_cases (r == (heard n).router)) [
+  kept : (n r : ℕ) (p : Network × Source) (w : Word) → p.0 ≡ d → c n r p ≡ Some w → Kept n r p w
+  kept zero r p w of is = inl (run.past r p w.0 w.1 is)
+  kept (suc n) r p w of is = elim (bool_cases (r == (heard n).router)) [
     | inl same ↦
         let eq : r ≡ (heard n).router = eqb-true r (heard n).router same in
         let ours = run.hearer n in
         let now_is = sym (run.hears n ours.0 ours.1 p) ∙ ap (λ k. c (suc n) k p) (sym eq) ∙ is in
         subst (λ k. Kept (suc n) k p w) (sym eq)
         (elim (said_by ours.0 (heard n).source (clock n) p (after_age (c n (heard n).router) (clock n)) (heard n).entries w now_is) [
-          | inl old ↦ kept_later n (heard n).router p w (kept n (heard n).router p w (still_was (clock n) (c n (heard n).router p) w old))
+          | inl old ↦ kept_later n (heard n).router p w (kept n (heard n).router p w of (still_was (clock n) (c n (heard n).router p) w old))
           | inr t ↦
-              let h = honest n t.0 t.1 in
               let parts = same_parts laws (t.0.network, (heard n).source) p t.2.same in
+              let h = honest n t.0 t.1 (parts.0 ∙ of) in
               let h' : WasHeard (heard n).router p w = record {
                 n = n;
                 source = (heard n).source;
@@ -98,8 +98,8 @@ module _ (laws : LawsOfTables) (net : Internet) (d : Network) (clock : Clock) (c
               inr (h', omega arith)
         ])
     | inr other ↦ elim (run.others n r p (λ eq. let no : true ≡ false = sym (eq-eqb r (heard n).router eq) ∙ other in cc)) [
-      | inl stays ↦ kept_later n r p w (kept n r p w (sym stays ∙ is))
-      | inr aged ↦ kept_later n r p w (kept n r p w (still_was (clock n) (c n r p) w (sym aged ∙ is)))
+      | inl stays ↦ kept_later n r p w (kept n r p w of (sym stays ∙ is))
+      | inr aged ↦ kept_later n r p w (kept n r p w of (still_was (clock n) (c n r p) w (sym aged ∙ is)))
     ]
   ]
 
@@ -114,7 +114,7 @@ module _ (laws : LawsOfTables) (net : Internet) (d : Network) (clock : Clock) (c
       by_offer : (ours : List Port) → slice_get net r ≡ Some ours → direct_route ours d ≡ None → IsHeardRoute (c t r) (clock t) d b → WasTold net d 180000 clock x t r b
       by_offer ours at none h =
           let young = ltb-true (clock t - h.1.moment) 180000 h.1.counts in
-          elim (kept t r (d, h.0.0) (h.0.1, h.1.moment) h.1.stands) [
+          elim (kept t r (d, h.0.0) (h.0.1, h.1.moment) refl h.1.stands) [
             | inl old ↦ absurd (omega (arith, young, old, late))
             | inr heard_before ↦
                 let w = heard_before.0 in
@@ -174,9 +174,9 @@ module _ (laws : LawsOfTables) (net : Internet) (d : Network) (clock : Clock) (c
     agree : (n : ℕ) → n ≤ t → clock t < clock n + 180000 → (heard n).router ≡ r → (e : RipEntry) → Contains (heard n).entries e
         → is_same network_cmp (e.network, (heard n).source) pt ≡ true → route_metric e ≡ v
     agree n within recent at e m same =
-        let h = honest n e m in
-        let t' = h.0 in
         let parts = same_parts laws (e.network, (heard n).source) pt same in
+        let h = honest n e m parts.0 in
+        let t' = h.0 in
         let one : Source = record { port = t'.p; neighbour = t'.meet.far.node } in
         let two : Source = record { port = tells.p; neighbour = tells.meet.far.node } in
         let sources : one ≡ two = sym t'.is ∙ parts.1 ∙ tells.from in

@@ -271,8 +271,8 @@ module _ (laws : LawsOfTables) (first : ℕ → Routes) (from : IsFromOther firs
     others = λ n r p other. inl (out_of_turn n r p other);
   }
 
-  nothing_forged : NothingForged two_routers by_half_minutes table heard
-  nothing_forged n e there =
+  nothing_forged : (d : Network) → NothingForged two_routers by_half_minutes table heard d
+  nothing_forged d n e there named =
       let t : TellsTo two_routers by_half_minutes table heard n (turn n) (from_other (turn n)) = record {
         s = 1 - turn n;
         q = 1;
@@ -326,7 +326,7 @@ module _ (laws : LawsOfTables) (first : ℕ → Routes) (from : IsFromOther firs
 
     abbrev fair : IsFairRun two_routers d by_half_minutes routes
     fair = record {
-      one = record { says = table; heard = heard; run = runs; honest = nothing_forged; routes = are };
+      one = record { says = table; heard = heard; run = runs; honest = nothing_forged d; routes = are };
       often = all_is_heard;
     }
 

@@ -6,13 +6,14 @@ use Rattle.rip_convergence.specs.Histories.{Clock, Internet, Owns, Routing, Tell
 use Rattle.rip_convergence.specs.RouterRuns.{AllIsHeard, AreRoutes, Hearing, IsRun, NodesDiffer, NothingForged, Saying}
 use Rattle.rip_convergence.specs.Ways.{CostsUpTo, CostsWithin, IsLeastWay, LeastWaysExtend, Way}
 
--- the routes that the routers have to a network in a run in which nothing is forged from the first
--- step on. What the tables held at the first step is open
+-- the routes that the routers have to a network in a run in which nothing is forged of that network
+-- from the first step on. What the tables held at the first step is open, and what is heard of other
+-- networks
 pub record IsHonestRun (net : Internet) (d : Network) (clock : Clock) (x : Routing) : Type 0 where
   pub says : Saying
   pub heard : ℕ → Hearing
   pub run : IsRun net clock says heard
-  pub honest : NothingForged net clock says heard
+  pub honest : NothingForged net clock says heard d
   pub routes : AreRoutes net d clock says x
 
 -- and in which from 48 minutes later on no neighbour is unheard for three minutes

@@ -54,9 +54,9 @@ module _ (net : Internet) (clock : Clock) (c : Saying) (heard : ℕ → Hearing)
   WasSaid n r source t = IsToldRoute t.meet.theirs (c t.told_at t.s)
       (record { number = t.q; port = t.meet.far; now = clock t.told_at })
 
-  -- nothing is forged: each entry that is heard was told
-  abbrev pub NothingForged : Type 0
-  NothingForged = (n : ℕ) (e : RipEntry) → Contains (heard n).entries e
+  -- nothing is forged of the network: each entry of it that is heard was told
+  abbrev pub NothingForged : Network → Type 0
+  NothingForged d = (n : ℕ) (e : RipEntry) → Contains (heard n).entries e → e.network ≡ d
       → (t : TellsTo n (heard n).router (heard n).source)
       × WasSaid n (heard n).router (heard n).source t e
 
@@ -87,5 +87,5 @@ pub record AreRoutes (net : Internet) (d : Network) (clock : Clock) (c : Saying)
 abbrev pub RunsAreHistories : Type 0
 RunsAreHistories = (net : Internet) (d : Network) (clock : Clock) (c : Saying)
     (heard : ℕ → Hearing) (x : Routing) (from : ℕ) → NodesDiffer net → IsRun net clock c heard
-    → NothingForged net clock c heard → AllIsHeard net clock c heard d from
+    → NothingForged net clock c heard d → AllIsHeard net clock c heard d from
     → AreRoutes net d clock c x → IsHistory net d 180000 clock x (clock 0) from

@@ -10,8 +10,8 @@ use Rattle.spx_congestion.specs.Measured.{TripView, doubled_wait, end_wait, slac
 
 -- positions count units from 0. `out` units from `base` on are outstanding; `left` of them came, or
 -- are given up, and `in_flight` went again; those from `from` up to `to` are to go again. The window
--- and the credit are in 256ths of a unit. An acknowledgement is waited for since `timer`, where one is, and `ended` is
--- whether the end of the connection was sent. While it `mends` what duplicates say is missing, the first outstanding
+-- and the credit are in 256ths of a unit, and the credit has grown until `tick`. An acknowledgement is waited for since
+-- `timer`, where one is, and `ended` is whether the end of the connection was sent. While it `mends` what duplicates say is missing, the first outstanding
 -- unit went again at `fixed_at`, and was missing again `tries` times
 pub record PacerView : Type 0 where
   pub base : ℕ
@@ -22,6 +22,7 @@ pub record PacerView : Type 0 where
   pub to : ℕ
   pub window : ℕ
   pub credit : ℕ
+  pub tick : ℕ
   pub trip : TripView
   pub timer : Option ℕ
   pub ended : Bool
@@ -45,6 +46,7 @@ made_pacer =
       to = 0;
       window = 6912;
       credit = 2560;
+      tick = 0;
       trip = record { wait = 500; doubled = 0; smoothed = 500 };
       timer = None;
       ended = false;
@@ -74,6 +76,18 @@ flight p = (p.out - p.left) + p.in_flight
 -- how many more the window allows
 abbrev pub spare : PacerView → ℕ
 spare p = p.window / 256 - flight p
+
+-- the credit after it has grown until now, at a rate a millisecond: at most what four milliseconds bring, or ten units
+abbrev pub grown_credit : ℕ → PacerView → ℕ → ℕ
+grown_credit rate p now =
+    if nat_lt p.tick now then min (p.credit + rate * (now - p.tick)) (max (rate * 4) 2560) else p.credit
+
+-- the credit grew until now, at a rate of at least 1
+pub record GrowsCredit (old : PacerView) (now : ℕ) (new : PacerView) : Type 0 where
+  pub rate : ℕ
+  pub some : 1 ≤ rate
+  pub credit : new.credit ≡ grown_credit rate old now
+  pub tick : new.tick ≡ max old.tick now
 
 -- whether there is credit for a unit
 abbrev pub has_credit : PacerView → Bool
@@ -186,3 +200,14 @@ given_by p Gaves.Again now =
       fixed_at = if nat_le p.from p.base then now else p.fixed_at;
     }
 given_by p Gaves.Other now = p
+
+-- a pacer that plans for a link with so many units outstanding has done what was due, and its credit grew. Its window is 4
+-- to 8,192 units
+pub record Tends (old : PacerView) (out now : ℕ) (new : PacerView) : Type 0 where
+  pub due : new ≡ record (tended (with_outstanding old out now) now) {
+    window = new.window;
+    credit = new.credit;
+    tick = new.tick;
+  }
+  pub grows : GrowsCredit old now new
+  pub wide : (1024 ≤ new.window) × (new.window ≤ 2097152)

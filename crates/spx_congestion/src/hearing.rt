@@ -29,6 +29,11 @@ impl Pacer {
             → self.new ≡ record (with_outstanding self.old after.out now) { trip = self.new.trip } }
         ensures mends { MendsOn self.old now self.new }
         ensures ended { self.new.ended ≡ self.old.ended }
+        // What is acknowledged leaves, and nothing else does.
+        ensures base { after.out < before.out
+            → self.new.base ≡ behind self.old.base (before.out - after.out) }
+        ensures stays { before.out ≤ after.out → self.new.base ≡ self.old.base }
+        ensures credit { (self.new.credit ≡ self.old.credit) × (self.new.tick ≡ self.old.tick) }
     {
         if joined {
             self.answered(now);
@@ -61,6 +66,8 @@ impl Pacer {
         ensures counts { self.new.out ≡ out }
         ensures timer { self.new.timer ≡ waited_since None out now }
         ensures doubled { self.new.trip.doubled ≡ 0 }
+        ensures base { self.new.base ≡ behind self.old.base units }
+        ensures credit { (self.new.credit ≡ self.old.credit) × (self.new.tick ≡ self.old.tick) }
         ensures mends { MendsOn self.old now self.new }
         ensures ended { self.new.ended ≡ self.old.ended }
     {
@@ -83,13 +90,17 @@ impl Pacer {
     }
 
     /// The last unit that an acknowledgement takes tells the round trip, where it was sent once
-    /// (RFC 6298, Karn's rule).
+    /// (RFC 6298, Karn's rule). If the least round trip is then forgotten, what may be a queue is
+    /// drained first, so that a longer path is told from a queue.
     fn measure(&mut self, units: u16, now: u64)
-        ensures { self.new ≡ record self.old { trip = self.new.trip } }
+        ensures { self.new ≡ record self.old { trip = self.new.trip; window = self.new.window } }
     {
         let last = self.base.saturating_add(u64::from(units.saturating_sub(1)));
         if let Some(sent) = self.sent.at(last) {
-            self.trip.sample(now.saturating_sub(sent));
+            if let Some((least, trip)) = self.trip.forgotten(now) {
+                self.window.drain(least, trip);
+            }
+            self.trip.sample(now.saturating_sub(sent), now);
         }
     }
 
@@ -106,6 +117,8 @@ impl Pacer {
     fn mend(&mut self, units: u16, recover: u64, now: u64)
         ensures counts { self.new.out ≡ self.old.out }
         ensures timer { self.new.timer ≡ self.old.timer }
+        ensures base { self.new.base ≡ self.old.base }
+        ensures credit { (self.new.credit ≡ self.old.credit) × (self.new.tick ≡ self.old.tick) }
         ensures trip { self.new.trip ≡ self.old.trip }
         ensures ended { self.new.ended ≡ self.old.ended }
         ensures mends { MendsOn self.old now self.new }
@@ -127,6 +140,8 @@ impl Pacer {
     fn doubled(&mut self, now: u64)
         ensures counts { self.new.out ≡ self.old.out }
         ensures timer { (self.new.timer ≡ self.old.timer) ⊎ (self.new.timer ≡ Some now) }
+        ensures base { self.new.base ≡ self.old.base }
+        ensures credit { (self.new.credit ≡ self.old.credit) × (self.new.tick ≡ self.old.tick) }
         ensures trip { self.new.trip ≡ self.old.trip }
         ensures ended { self.new.ended ≡ self.old.ended }
         ensures mends { MendsOn self.old now self.new }

@@ -18,6 +18,8 @@ impl Pacer {
     pub(crate) fn leave(&mut self, now: u64)
         ensures counts { self.new.out ≡ self.old.out }
         ensures timer { self.new.timer ≡ self.old.timer }
+        ensures base { self.new.base ≡ self.old.base }
+        ensures credit { (self.new.credit ≡ self.old.credit) × (self.new.tick ≡ self.old.tick) }
         ensures trip { self.new.trip ≡ self.old.trip }
         ensures ended { self.new.ended ≡ self.old.ended }
         ensures mends { MendsOn self.old now self.new }

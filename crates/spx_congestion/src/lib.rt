@@ -9,6 +9,8 @@ mod cubic;
 mod due;
 mod giving;
 mod hearing;
+pub mod laws;
+mod least_trip;
 mod leaving;
 mod loss_recovery;
 mod pacer;

@@ -67,6 +67,7 @@ impl Model for Pacer {
       to = p.repair.to;
       window = p.window.size;
       credit = p.credit.amount;
+      tick = p.credit.tick;
       trip = trip_of p.trip;
       timer = p.timer;
       ended = p.ended;

@@ -1,8 +1,8 @@
 //! What the link may do at its next poll.
 
 ghost use Rattle.std.specs.Prelude.{◌≡◌, ◌+◌, ◌<◌, ◌≤◌, IfSome, IsTrue};
-ghost use Rattle.spx_congestion.specs.Pacing.{holds_back, is_over, plan_of, spare, tended};
-ghost use Rattle.spx_congestion.specs.Pacing.{waits_till, with_outstanding};
+ghost use Rattle.spx_congestion.specs.Pacing.{Tends, holds_back, is_over, plan_of, spare, tended};
+ghost use Rattle.spx_congestion.specs.Pacing.{waits_till};
 
 use crate::loss_recovery::LossRecovery;
 use crate::pacer::Pacer;
@@ -16,10 +16,7 @@ impl Pacer {
     /// with it no new one goes. What the window allows is spread over the round trip.
     pub fn plan(&mut self, numbers: Numbers, now: u64) -> Plan
         ensures value { result ≡ plan_of self.new }
-        ensures tends { self.new ≡ record (tended (with_outstanding self.old numbers.out now) now) {
-          window = self.new.window;
-          credit = self.new.credit;
-        } }
+        ensures tends { Tends self.old numbers.out now self.new }
         ensures counts { self.new.out ≡ numbers.out }
         ensures most { result.window ≤ 8192 }
         ensures place { IfSome result.again (λ place. place < numbers.out) }
@@ -28,7 +25,6 @@ impl Pacer {
         ensures held { result.window ≤ numbers.out → 0 < spare self.new → numbers.out < 8192
             → IsTrue (holds_back self.new) }
         ensures moves { numbers.out ≡ 0 → result.window ≡ 0 → IsTrue (holds_back self.new) }
-        ensures wide { (1024 ≤ self.new.window) × (self.new.window ≤ 2097152) }
     {
         self.count(numbers.out, now);
         self.tend(now);

@@ -3,6 +3,8 @@
 ghost use Rattle.std.specs.Prelude.{◌≡◌, ◌+◌, ◌-◌, ◌^◌, min};
 ghost use Rattle.spx_congestion.specs.Measured.{doubled_wait, slack, trip_of};
 
+use crate::least_trip::LeastTrip;
+
 /// How long it is waited for before anything is measured, in milliseconds.
 const FIRST_WAIT: u64 = 500;
 
@@ -37,7 +39,7 @@ pub struct RoundTrip {
     wait: u64,
     /// How often the wait was over in a row.
     doubled: u32,
-    least: Option<u64>,
+    least: LeastTrip,
     recent: [u64; RECENT],
     /// Which of the recent ones is replaced next.
     turn: usize,
@@ -54,7 +56,7 @@ impl RoundTrip {
             first: None,
             wait: FIRST_WAIT,
             doubled: 0,
-            least: None,
+            least: LeastTrip::new(),
             recent: [0; RECENT],
             turn: 0,
         }
@@ -68,8 +70,8 @@ impl RoundTrip {
         self.wait = trip.saturating_mul(3).max(LEAST_WAIT);
     }
 
-    /// A unit that was sent once was acknowledged.
-    pub fn sample(&mut self, trip: u64) {
+    /// A unit that was sent once was acknowledged now.
+    pub fn sample(&mut self, trip: u64, now: u64) {
         let trip = trip.max(1);
         let smooth = match self.smooth {
             None => {
@@ -88,15 +90,22 @@ impl RoundTrip {
             .saturating_add(self.variation.max(1))
             .max(LEAST_WAIT)
             .min(MAX_WAIT);
+        self.least.note(trip, now);
         self.note(trip);
+    }
+
+    /// The round trip without a queue and the present one, where the first is about to be forgotten
+    /// and a queue seems to be on the line.
+    pub fn forgotten(&self, now: u64) -> Option<(u64, u64)> {
+        if self.least.is_forgotten(now) && self.is_queued() {
+            Some((self.least.get()?, self.smoothed()))
+        } else {
+            None
+        }
     }
 
     /// Notes a sample among the recent ones.
     fn note(&mut self, trip: u64) {
-        self.least = match self.least {
-            Some(least) if least < trip => Some(least),
-            _ => Some(trip),
-        };
         if let Some(place) = self.recent.get_mut(self.turn) {
             *place = trip;
         }
@@ -129,7 +138,7 @@ impl RoundTrip {
     }
 
     /// Whether a queue stands on the line: the least of the last eight samples is over the least
-    /// of all by an eighth, at least 4 and at most 16 (RFC 9406, its threshold).
+    /// of the last seconds by an eighth, at least 4 and at most 16 (RFC 9406, its threshold).
     pub fn is_queued(&self) -> bool {
         self.is_over(8, 16)
     }
@@ -142,7 +151,7 @@ impl RoundTrip {
     /// Whether the last eight samples are over the least of all by that part of it, at least 4 and
     /// at most so many.
     fn is_over(&self, part: u64, most: u64) -> bool {
-        let Some(least) = self.least else {
+        let Some(least) = self.least.get() else {
             return false;
         };
         let over = (least / part.max(1)).max(4).min(most);

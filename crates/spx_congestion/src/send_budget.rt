@@ -1,6 +1,6 @@
 //! Credit: what may be sent at once, so that sends are spread over the round trip.
 
-ghost use Rattle.std.specs.Prelude.{◌≡◌, ◌-◌, ◌/◌, nat_lt};
+ghost use Rattle.std.specs.Prelude.{◌≡◌, ◌<◌, ◌+◌, ◌-◌, ◌*◌, ◌/◌, ◌^◌, if◌then◌else◌, max, min, nat_lt};
 
 use crate::window::UNIT;
 
@@ -18,7 +18,7 @@ pub struct SendBudget {
 impl SendBudget {
     /// The credit at first.
     pub fn new() -> SendBudget
-        ensures { result.amount ≡ 2560 }
+        ensures { result ≡ record { amount = 2560; tick = 0 } }
     {
         SendBudget {
             amount: FIRST,
@@ -27,7 +27,13 @@ impl SendBudget {
     }
 
     /// It grows till a moment by `rate` a millisecond, up to what four of them bring.
-    pub fn grow(&mut self, rate: u64, now: u64) {
+    pub fn grow(&mut self, rate: u64, now: u64)
+        requires { rate < 2 ^ 62 }
+        ensures amount { self.new.amount ≡ (if nat_lt self.old.tick now
+            then min (self.old.amount + rate * (now - self.old.tick)) (max (rate * 4) 2560)
+            else self.old.amount) }
+        ensures tick { self.new.tick ≡ max self.old.tick now }
+    {
         if now <= self.tick {
             return;
         }

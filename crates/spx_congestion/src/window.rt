@@ -1,6 +1,6 @@
 //! The window: how many units may be on their way, in 256ths of a unit.
 
-ghost use Rattle.std.specs.Prelude.{◌≡◌, ◌≤◌};
+ghost use Rattle.std.specs.Prelude.{◌≡◌, ◌<◌, ◌≤◌, ◌^◌};
 
 use crate::cubic::{grows_in, window_at};
 use crate::round_trip::RoundTrip;
@@ -187,6 +187,17 @@ impl Window {
         self.fresh = false;
     }
 
+    /// As much as a round trip without a queue carries, and an eighth less: what is on the line
+    /// drains.
+    pub fn drain(&mut self, least: u64, trip: u64) {
+        self.top = self.size;
+        self.epoch = None;
+        let part = least.min(trip).saturating_mul(7);
+        self.size = fraction(self.size, part, trip.saturating_mul(8));
+        self.threshold = self.size;
+        self.fresh = false;
+    }
+
     /// The wait for an acknowledgement was over. `first` is whether it is so for the first time
     /// since one came.
     pub fn collapse(&mut self, first: bool) {
@@ -206,7 +217,10 @@ impl Window {
 
     /// By how much credit grows in a millisecond, in 256ths of a unit: twice what a round trip
     /// carries in slow start, else five quarters of it.
-    pub fn rate(&self, trip: u64) -> u64 {
+    pub fn rate(&self, trip: u64) -> u64
+        ensures some { 1 ≤ result }
+        ensures bound { result < 2 ^ 62 }
+    {
         let ahead = if self.is_starting() {
             self.size.saturating_mul(2)
         } else {

@@ -7,6 +7,8 @@ mod caller;
 #[cfg(test)]
 mod line;
 #[cfg(test)]
+mod longer;
+#[cfg(test)]
 mod numbers;
 #[cfg(test)]
 mod refused;

@@ -60,7 +60,7 @@ maker_of n = FromOutside
 abbrev pub new_mark : Scan → Note → ℕ → Mark
 new_mark s n k = record { origin = k; maker = maker_of n; passed = 0; units = length (seen s n).sent }
 
-made_seen : (s : Scan) (n : Note) (k : ℕ) → IsNumbered s n → makes_new n ≡ Some k → (k ≡ length s.marks) × ((seen s n).marks ≡ s.marks ++ new_mark s n k ∷ [])
+pub made_seen : (s : Scan) (n : Note) (k : ℕ) → IsNumbered s n → makes_new n ≡ Some k → (k ≡ length s.marks) × ((seen s n).marks ≡ s.marks ++ new_mark s n k ∷ [])
 made_seen s (SendsUnit who parcel) k is makes =
     let at : k ≡ length s.marks = (let same : parcel ≡ k = cc makes in sym same ∙ is.1) in
     (at, ap (λ j. s.marks ++ record { origin = j; maker = ByUnit who; passed = 0; units = length (s.sent ++ who ∷ []) } ∷ []) (sym at))

@@ -1,12 +1,13 @@
 -- What ends read, and the units sent between the making of that and the reading, by the entries of
 -- the log.
-use Rattle.std.proofs.Common.{◌≡◌, ◌⊎◌, ℕ, true, List, [], ◌∷◌, ◌++◌, length, take, drop, Some, refl, sym, ◌∙◌, ap, arith, inl, inr, append_assoc}
+use Rattle.std.proofs.Common.{◌≡◌, ◌⊎◌, ◌+◌, ℕ, true, List, [], ◌∷◌, ◌++◌, length, take, drop, Some, refl, sym, ◌∙◌, ap, arith, inl, inr, append_assoc, length-append}
 use Rattle.std.specs.Prelude.{Contains, slice_get}
 use Rattle.std.proofs.Math.Seq.{drop-append_seam, take-append_seam}
 use Rattle.std.proofs.lemmas.List.{append-nil}
 use Rattle.spx_theory.specs.LogPremises.{ComesFrom, JustMadeOrJoined, MakesOrJoins, carried, itself, makes_new, unit_by, units_sent}
 use Rattle.spx_theory.specs.Note.{Note, Accepted, Joined, Got, SendsUnit, Carried}
 use Rattle.spx_theory.specs.Peers.{units_between}
+use Rattle.spx_theory.specs.PremisesRead.{packets_read, read_by}
 use Rattle.spx_theory.specs.Scan.{Mark, Reading, Scan, is_now, scan, seen, seen_all, times, unread}
 use Rattle.spx_theory.proofs.Folding.{seen_all-append}
 use Rattle.spx_theory.proofs.HeldReads.{reading_now}
@@ -58,6 +59,15 @@ reading_there log before after who parcel is =
     let g = all_grew (seen t (Got who parcel)) after in
     let readings : (scan log).readings ≡ (t.readings ++ r ∷ []) ++ g.readings = ap (λ (z : Scan). z.readings) (later log before after (Got who parcel) is) ∙ g.readings_is in
     ap (λ rs. slice_get rs (length t.readings)) readings ∙ get_before (t.readings ++ r ∷ []) g.readings r (length t.readings) (get_here t.readings r)
+
+-- as many readings as entries Got
+readings_on : (s : Scan) (n : Note) → length (seen s n).readings ≡ length s.readings + read_by n
+readings_on s (Got who parcel) = length-append s.readings (reading_at s who parcel ∷ [])
+readings_on s n = omega arith
+
+pub readings_counted : (s : Scan) (ns : List Note) → length (seen_all s ns).readings ≡ length s.readings + packets_read ns
+readings_counted s [] = omega arith
+readings_counted s (n ∷ ns) = omega (arith, readings_counted (seen s n) ns, readings_on s n)
 
 -- each reading comes of an entry
 pub record IsReadAt (s : Scan) (ns : List Note) (r : Reading) : Type 0 where

@@ -1,18 +1,18 @@
 -- What is read off a log is what its entries say.
 use Rattle.std.proofs.Common.{◌≡◌, ◌<◌, ℕ, List, ◌∷◌, ◌++◌, length, Some, refl, sym, ◌∙◌, ap, subst, arith, inl, inr, append_assoc}
-use Rattle.std.specs.Prelude.{Bool, true, false, Contains}
+use Rattle.std.specs.Prelude.{Bool, true, false, Contains, slice_get}
 use Rattle.std.proofs.lemmas.List.Elements.{Contains-append_left}
 use Rattle.spx_theory.specs.Below.{LawsBelow}
 use Rattle.spx_theory.specs.Deeds.{Reached}
 use Rattle.spx_theory.specs.EndsTold.{PeerIsFound}
 use Rattle.spx_theory.specs.LogPremises.{ComesFrom, HavePeer, IsMadeBy, IsSentBy, LogPremises, ReadsNothingInjected, ReadsOwnPeer, ReadsRecent, units_sent}
 use Rattle.spx_theory.specs.Note.{Note, Got, Injected}
-use Rattle.spx_theory.specs.PremisesRead.{BetweenIsRead, IsMarked, OriginsAreRead, PeersAreRead, PremisesAreRead}
+use Rattle.spx_theory.specs.PremisesRead.{BetweenIsRead, IsMarked, OriginsAreRead, PeersAreRead, PremisesAreRead, packets_read}
 use Rattle.spx_theory.specs.Peers.{ArePeersIn, FromOwnPeer, IsFresh, NothingInjected, Premises, end_of, units_between}
 use Rattle.spx_theory.specs.Scan.{FromOutside, Mark, Reading, Scan, is_now, role_of, scan, unread}
 use Rattle.spx_theory.specs.Scene.{Scene}
 use Rattle.spx_theory.proofs.LogOrigins.{all_sourced, comes_marked, contains_at, end_stands, injected_stands, made_makes, mark_later, mark_maker, numbered_in, parts}
-use Rattle.spx_theory.proofs.LogReadings.{IsReadAt, after_first, between_counts, comes_later, first_after, joined_split, reading_at, reading_from, reading_there}
+use Rattle.spx_theory.proofs.LogReadings.{IsReadAt, after_first, between_counts, comes_later, first_after, joined_split, reading_at, reading_from, reading_there, readings_counted}
 use Rattle.spx_theory.proofs.LogRoles.{AllOnce, are_once, connected_joined, end_made, end_there, joined_connected, numbered_front}
 use Rattle.spx_theory.proofs.Numbering.{AllNumbered, are_numbered}
 use Rattle.spx_theory.proofs.Tied.{mark_at}
@@ -73,10 +73,11 @@ peers_are_read laws found s reached =
 
 pub between_is_read : (laws : LawsBelow) (s : Scene) → Reached s → BetweenIsRead s
 between_is_read laws s reached before between after making who parcel origin passed is makes comes =
-    let front : List Note = before ++ making ∷ between in (
-      length (scan front).readings,
+    let front : List Note = before ++ making ∷ between in
+    let count : packets_read front ≡ length (scan front).readings = omega (arith, readings_counted unread front) in (
       reading_at (scan front) who parcel,
-      reading_there s.log front after who parcel (joined_split before between after making (Got who parcel) s.log is),
+      ap (slice_get (scan s.log).readings) count
+          ∙ reading_there s.log front after who parcel (joined_split before between after making (Got who parcel) s.log is),
       refl,
       between_counts s.log (are_numbered laws reached).all before between after making who parcel origin passed is makes comes,
     )

@@ -25,5 +25,6 @@ pub use laws::{
     positions_are_greatest, routers_alter_hops_alone, units_are_sent_in_order, within_allocation,
 };
 pub use premises::{
-    between_is_read, headline_of_log, origins_are_read, peers_are_read, premises_are_read,
+    between_is_read, headline_of_log, made_once, origins_are_read, peers_are_read,
+    premises_are_read,
 };

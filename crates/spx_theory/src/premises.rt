@@ -2,7 +2,7 @@
 
 ghost use Rattle.spx_theory.specs.Deeds.{Reached};
 ghost use Rattle.spx_theory.specs.LogHeadline.{LogHeadline};
-ghost use Rattle.spx_theory.specs.PremisesRead.{BetweenIsRead, OriginsAreRead, PeersAreRead, PremisesAreRead};
+ghost use Rattle.spx_theory.specs.PremisesRead.{AreMadeOnce, BetweenIsRead, OriginsAreRead, PeersAreRead, PremisesAreRead};
 ghost use Rattle.spx_theory.specs.Scene.{Scene};
 
 use crate::below::laws_below;
@@ -25,7 +25,15 @@ pub fn peers_are_read()
     peer_is_found();
 }
 
-/// The units between a sending and a reading are counted by the entries that stand between them.
+/// One entry makes each parcel, and one each end: what two entries make differs.
+pub fn made_once()
+    ensures { (s : Scene) → Reached s → AreMadeOnce s.log }
+{
+    laws_below();
+}
+
+/// The reading of an entry is told by the entries before it, and the units between a sending and a
+/// reading by the entries between them.
 pub fn between_is_read()
     ensures { (s : Scene) → Reached s → BetweenIsRead s }
 {

@@ -5,7 +5,7 @@ use Rattle.ipx_site.specs.Loading.{IsFileText}
 use Rattle.ipx_site.specs.declared.host.HostConfig.{HostConfig}
 use Rattle.ipx_wire.specs.declared.address.Address.{Address}
 use Rattle.ipx_host.specs.Access.{far_address, is_nowhere}
-use Rattle.ipx_host.specs.Sent.{HasBuffers, SendsWholeInput}
+use Rattle.ipx_host.specs.Sent.{HasBuffers, SendsInput, SendsWholeInput}
 use Rattle.ipx_host.specs.Target.{NamesAddress}
 use Rattle.ipx_host.specs.declared.target.Target.{Target}
 use Rattle.ipx_host.proofs.send.do_send.Goals as goal
@@ -47,9 +47,9 @@ buffers_of text h is = elim is.2.buffers [
 -- what was sent, and by which file
 sent_of : {K : Type 0} (X : Type 0) (t : Target) (to : Address) (known left : Option (List ℕ)) (tells : K → ℕ → K → Type 0) (loaded : Result HostConfig ℕ) (r : ℕ)
     → IfErr loaded (λ s. (s ≡ 1) ⊎ (s ≡ 2)) → IfErr loaded (λ s. (r ≡ s) × X) → IfOk loaded (λ h. (text : List ℕ) × IsFileText text × IsHostText text h) → NamesAddress t to
-    → IfOk loaded (λ h. HasBuffers h → r ≡ 0 → SendsWholeInput h (far_address h to) known left tells) → r ≡ 0
+    → IfOk loaded (λ h. r ≡ 0 → SendsInput h (far_address h to) known left tells) → r ≡ 0
     → (text : List ℕ) × (file : HostConfig) × (a : Address) × IsFileText text × IsHostText text file × NamesAddress t a × SendsWholeInput file (far_address file a) known left tells
-sent_of X t to known left tells (Ok h) r fault unloaded host named sent zero = (host.0, h, to, host.1, host.2, named, sent (buffers_of host.0 h host.2) zero)
+sent_of X t to known left tells (Ok h) r fault unloaded host named sent zero = (host.0, h, to, host.1, host.2, named, record { buffers = buffers_of host.0 h host.2; sends = sent zero })
 sent_of X t to known left tells (Err s) r (inl e) unloaded host named sent zero = absurd (omega (arith, unloaded.0, e, zero))
 sent_of X t to known left tells (Err s) r (inr e) unloaded host named sent zero = absurd (omega (arith, unloaded.0, e, zero))
 
@@ -67,7 +67,7 @@ pub returns-clause-all : goal.returns-clause-all
 returns-clause-all g c = λ zero.
     let sent = sent_of (c.send_loaded.new.reader ≡ c.args.reader.now) c.args.target c.in-Ok.to (g.I.Read.remaining c.args.reader.now) (g.I.Read.remaining c.send_loaded.new.reader) _ c.load_host-loaded.result c.send_loaded.result
     c.load_host-loaded.ensures.fault c.send_loaded.ensures.unloaded c.load_host-loaded.ensures.host c.in-Ok.ensures.named c.send_loaded.ensures.sent zero in
-    sent.6.all
+    sent.6.sends.all
 
 pub returns-clause-untouched : goal.returns-clause-untouched
 returns-clause-untouched g c =

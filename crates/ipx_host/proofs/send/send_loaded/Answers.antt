@@ -5,18 +5,18 @@ use Rattle.ipx_wire.specs.declared.address.Address.{Address}
 use Rattle.ipx_host.specs.Access.{far_address}
 use Rattle.ipx_host.specs.SendRounds.{place}
 use Rattle.ipx_host.specs.SendSteps.{noted}
-use Rattle.ipx_host.specs.Sent.{SendsWholeInput}
+use Rattle.ipx_host.specs.Sent.{SendsInput}
 use Rattle.ipx_host.proofs.Rounded.{on_ok, sends}
 use Rattle.ipx_host.proofs.send.send_loaded.Goals as goal
 
 -- what was sent to an address was sent to the same one by another name
-sends_to : {K : Type 0} (file : HostConfig) (a b : Address) (known left : Option (List ℕ)) (tells : K → ℕ → K → Type 0) (r : ℕ) → a ≡ b → (r ≡ 0 → SendsWholeInput file a known left tells)
-    → r ≡ 0 → SendsWholeInput file b known left tells
-sends_to file a b known left tells r same sent zero = subst (λ (to : Address). SendsWholeInput file to known left tells) same (sent zero)
+sends_to : {K : Type 0} (file : HostConfig) (a b : Address) (known left : Option (List ℕ)) (tells : K → ℕ → K → Type 0) (r : ℕ) → a ≡ b → (r ≡ 0 → SendsInput file a known left tells)
+    → r ≡ 0 → SendsInput file b known left tells
+sends_to file a b known left tells r same sent zero = subst (λ (to : Address). SendsInput file to known left tells) same (sent zero)
 
 pub returns-clause-sent : goal.returns-clause-sent
 returns-clause-sent g c =
     on_ok _ c.args.loaded c.in-Ok.file c.in-Ok.is
-    (λ buffers. sends_to c.in-Ok.file c.far_address-to.result (far_address c.in-Ok.file c.args.to) (g.I.Read.remaining c.args.reader.now) (g.I.Read.remaining c.send_opened.new.reader) _ c.send_opened.result c.far_address-to.ensures
+    (sends_to c.in-Ok.file c.far_address-to.result (far_address c.in-Ok.file c.args.to) (g.I.Read.remaining c.args.reader.now) (g.I.Read.remaining c.send_opened.new.reader) _ c.send_opened.result c.far_address-to.ensures
     (sends (c.send_opened.new.reader ≡ c.args.reader.now) c.open-opened.result c.send_opened.result c.in-Ok.file c.far_address-to.result (g.I.Read.remaining c.args.reader.now) (g.I.Read.remaining c.send_opened.new.reader) _
-    (λ s k. place s.station.clock s.station.core (noted s.joined s.left) s.input.read s.input.closed s.input.acked_bytes k) (λ s. peers_of s.station.host_socket.peers.items) (λ s. s.id) (sym c.is_nowhere.ensures ∙ c.if-is_nowhere.false) (λ s k. refl) buffers c.open-opened.ensures.dialing c.send_opened.ensures.sent c.send_opened.ensures.unopened))
+    (λ s k. place s.station.clock s.station.core (noted s.joined s.left) s.input.read s.input.closed s.input.acked_bytes k) (λ s. peers_of s.station.host_socket.peers.items) (λ s. s.id) (sym c.is_nowhere.ensures ∙ c.if-is_nowhere.false) (λ s k. refl) c.open-opened.ensures.dialing c.send_opened.ensures.sent c.send_opened.ensures.unopened))

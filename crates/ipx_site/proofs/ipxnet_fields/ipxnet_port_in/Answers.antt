@@ -47,5 +47,12 @@ pub returns-in_err-join-clause-fault : goal.returns-in_err-join-clause-fault
 returns-in_err-join-clause-fault c =
     let p = err_from_is_err_and c.from_residual-in_err-join.result c.from_residual-in_err-join.ensures.1 in
     rw (p.1, p.2)
-    (or_memory {B = IsIpxnetFault c.args.number (table_view c.args.table.now) c.in_err-join.field-0.0} _ (λ fault. inr (c.in_ok-refuse_stray.ensures.known, inr ((c.in_ok-network.network, c.in_ok-network.ensures), inr ((c.in_ok-address.address, c.in_ok-address.ensures), inr ((c.in_ok-udp_port.udp_port, c.in_ok-udp_port.ensures), inr (right_or (IsCount 65535) Key.Cost (table_view c.args.table.now) 1 c.in_ok-cost.cost c.in_ok-cost.ensures, inr (right_or IsStation Key.Node (table_view c.args.table.now) _ c.in_ok-node.node c.in_ok-node.ensures, inr (right_or (IsCount 150) Key.Clients (table_view c.args.table.now) 64 c.in_ok-clients.clients c.in_ok-clients.ensures, inr (c.in_ok-accept.accept, c.in_ok-accept.ensures, inr (c.in_ok-peers.peers, c.in_ok-peers.ensures.peers, fault))))))))))
+    (or_memory {B = IsIpxnetFault c.args.number (table_view c.args.table.now) c.in_err-join.field-0.0} _ (λ fault. inr (c.in_ok-refuse_stray.ensures.known, inr ((c.in_ok-network.network, c.in_ok-network.ensures), inr ((c.in_ok-address.address, c.in_ok-address.ensures), inr ((c.in_ok-udp_port.udp_port, c.in_ok-udp_port.ensures), inr (right_or (IsCount 65535) Key.Cost (table_view c.args.table.now) 1 c.in_ok-cost.cost c.in_ok-cost.ensures, inr (right_or IsStation Key.Node (table_view c.args.table.now) _ c.in_ok-node.node c.in_ok-node.ensures, inr (right_or (IsCount 150) Key.Clients (table_view c.args.table.now) 64 c.in_ok-clients.clients c.in_ok-clients.ensures, inr (c.in_ok-accept.accept, c.in_ok-accept.ensures, inr (c.in_ok-peers.peers, c.in_ok-peers.ensures.peers, inl fault))))))))))
     c.in_err-join.ensures.fault)
+
+pub returns-in_err-directed-clause-fault : goal.returns-in_err-directed-clause-fault
+returns-in_err-directed-clause-fault c =
+    let p = err_from_is_err_and c.from_residual-in_err-directed.result c.from_residual-in_err-directed.ensures.1 in
+    rw (p.1, p.2)
+    (or_memory {B = IsIpxnetFault c.args.number (table_view c.args.table.now) c.in_err-directed.field-0.0} _ (λ fault. inr (c.in_ok-refuse_stray.ensures.known, inr ((c.in_ok-network.network, c.in_ok-network.ensures), inr ((c.in_ok-address.address, c.in_ok-address.ensures), inr ((c.in_ok-udp_port.udp_port, c.in_ok-udp_port.ensures), inr (right_or (IsCount 65535) Key.Cost (table_view c.args.table.now) 1 c.in_ok-cost.cost c.in_ok-cost.ensures, inr (right_or IsStation Key.Node (table_view c.args.table.now) _ c.in_ok-node.node c.in_ok-node.ensures, inr (right_or (IsCount 150) Key.Clients (table_view c.args.table.now) 64 c.in_ok-clients.clients c.in_ok-clients.ensures, inr (c.in_ok-accept.accept, c.in_ok-accept.ensures, inr (c.in_ok-peers.peers, c.in_ok-peers.ensures.peers, inr (c.in_ok-join.join, c.in_ok-join.ensures.join, fault)))))))))))
+    c.in_err-directed.ensures)

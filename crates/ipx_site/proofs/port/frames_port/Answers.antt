@@ -1,10 +1,10 @@
-use Rattle.std.proofs.Common.{inl, inr}
+use Rattle.std.proofs.Common.{inl, inr, true}
 use Rattle.std.proofs.lemmas.Result.{err_from_is_err_and}
 use Rattle.toml.specs.View.{table_view}
 use Rattle.ipx_site.specs.declared.key.Key.TheVariants as Key
 use Rattle.ipx_site.specs.EthernetTable.{IsFramesFault}
 use Rattle.ipx_site.specs.Values.{IsCount}
-use Rattle.ipx_site.specs.EthernetValues.{IsStation}
+use Rattle.ipx_site.specs.EthernetValues.{IsFlag, IsStation}
 use Rattle.ipx_site.proofs.Faults.{or_memory, right_or}
 use Rattle.ipx_site.proofs.port.frames_port.Goals as goal
 
@@ -40,5 +40,12 @@ pub returns-in_err-joined-clause-fault : goal.returns-in_err-joined-clause-fault
 returns-in_err-joined-clause-fault c =
     let p = err_from_is_err_and c.from_residual-in_err-joined.result c.from_residual-in_err-joined.ensures.1 in
     rw (p.1, p.2)
-    (or_memory {B = IsFramesFault c.args.number (table_view c.args.table.now) c.in_err-joined.field-0.0} _ (λ fault. inr (c.in_ok-refuse_stray.ensures.known, inr ((c.in_ok-network.network, c.in_ok-network.ensures), inr ((c.in_ok-encapsulation.encapsulation, c.in_ok-encapsulation.ensures), inr ((c.in_ok-address.address, c.in_ok-address.ensures), inr ((c.in_ok-udp_port.udp_port, c.in_ok-udp_port.ensures), inr (right_or (IsCount 65535) Key.Cost (table_view c.args.table.now) 1 c.in_ok-cost.cost c.in_ok-cost.ensures, inr ((c.in_ok-ends.ends, c.in_ok-ends.ensures), inr (right_or IsStation Key.Node (table_view c.args.table.now) _ c.in_ok-node.node c.in_ok-node.ensures, fault)))))))))
+    (or_memory {B = IsFramesFault c.args.number (table_view c.args.table.now) c.in_err-joined.field-0.0} _ (λ fault. inr (c.in_ok-refuse_stray.ensures.known, inr ((c.in_ok-network.network, c.in_ok-network.ensures), inr ((c.in_ok-encapsulation.encapsulation, c.in_ok-encapsulation.ensures), inr ((c.in_ok-address.address, c.in_ok-address.ensures), inr ((c.in_ok-udp_port.udp_port, c.in_ok-udp_port.ensures), inr (right_or (IsCount 65535) Key.Cost (table_view c.args.table.now) 1 c.in_ok-cost.cost c.in_ok-cost.ensures, inr ((c.in_ok-ends.ends, c.in_ok-ends.ensures), inr (right_or IsStation Key.Node (table_view c.args.table.now) _ c.in_ok-node.node c.in_ok-node.ensures, inl fault)))))))))
     c.in_err-joined.ensures)
+
+pub returns-in_err-directed-clause-fault : goal.returns-in_err-directed-clause-fault
+returns-in_err-directed-clause-fault c =
+    let p = err_from_is_err_and c.from_residual-in_err-directed.result c.from_residual-in_err-directed.ensures.1 in
+    rw (p.1, p.2)
+    (or_memory {B = IsFramesFault c.args.number (table_view c.args.table.now) c.in_err-directed.field-0.0} _ (λ fault. inr (c.in_ok-refuse_stray.ensures.known, inr ((c.in_ok-network.network, c.in_ok-network.ensures), inr ((c.in_ok-encapsulation.encapsulation, c.in_ok-encapsulation.ensures), inr ((c.in_ok-address.address, c.in_ok-address.ensures), inr ((c.in_ok-udp_port.udp_port, c.in_ok-udp_port.ensures), inr (right_or (IsCount 65535) Key.Cost (table_view c.args.table.now) 1 c.in_ok-cost.cost c.in_ok-cost.ensures, inr ((c.in_ok-ends.ends, c.in_ok-ends.ensures), inr (right_or IsStation Key.Node (table_view c.args.table.now) _ c.in_ok-node.node c.in_ok-node.ensures, inr (right_or IsFlag Key.Switch (table_view c.args.table.now) true c.in_ok-joined.joined c.in_ok-joined.ensures, fault))))))))))
+    c.in_err-directed.ensures)

@@ -3,7 +3,7 @@ use Rattle.ipx_control.specs.declared.rip.packet.RipEntry.{RipEntry}
 use Rattle.ipx_control.specs.Rip.{IsRip, RipView, rip_body_view}
 use Rattle.ipx_control.specs.Rip as rip
 use Rattle.ipx_router.specs.Replying.{asks_all}
-use Rattle.ipx_site.specs.QueryLimiter.{AsksAllRoutes}
+use Rattle.ipx_site.specs.RateLimiter.{AsksAllRoutes}
 use Rattle.ipx_site.proofs.querier.asks_all_routes.Goals as goal
 
 -- the packet that a body is asks for all just where its entries do

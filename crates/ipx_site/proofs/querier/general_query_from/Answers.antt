@@ -2,7 +2,7 @@ use Rattle.std.proofs.Common.{◌≡◌, ◌∙◌, Option, Some, None, length, 
 use Rattle.std.specs.Prelude.{IfNone}
 use Rattle.std.proofs.lemmas.Option.{slice_get_past, slice_get_read}
 use Rattle.ipx_router.specs.declared.port.Port.{Port}
-use Rattle.ipx_site.specs.QueryLimiter.{AsksAt}
+use Rattle.ipx_site.specs.RateLimiter.{AsksAt}
 use Rattle.ipx_site.proofs.querier.general_query_from.Goals as goal
 
 along : {A P Q : Type 0} (o : Option A) → (P → Q) → IfNone o P → IfNone o Q

@@ -1,6 +1,8 @@
-use Rattle.ipx_site.proofs.RanRounds.{ends_loaded}
+use Rattle.ipx_site.proofs.RanRounds.{not_well, routes_well}
 use Rattle.ipx_site.proofs.routing.do_route.Goals as goal
 
-pub returns-clause-ends : goal.returns-clause-ends
-returns-clause-ends g c =
-    ends_loaded c.load_site-loaded.result c.route_loaded.result c.load_site-loaded.ensures.fault c.load_site-loaded.ensures.site c.route_loaded.ensures.unread c.route_loaded.ensures.ends
+pub returns-in-Ok-clause-well : goal.returns-in-Ok-clause-well
+returns-in-Ok-clause-well g c = routes_well c.in-Ok.router c.run_router.new.router c.run_router.result c.in-Ok.ensures.starts c.run_router.ensures.runs
+
+pub returns-in-Err-clause-well : goal.returns-in-Err-clause-well
+returns-in-Err-clause-well g c = not_well c.in-Err.status c.in-Err.ensures.refused

@@ -3,7 +3,7 @@ use Rattle.std.proofs.lemmas.Grind.{common_steps}
 use Rattle.ipx_host.proofs.sending.SendingHost.open.Goals as goal
 
 pub returns-clause-dialing : goal.returns-clause-dialing
-returns-clause-dialing g c = λ buffers known. record {
+returns-clause-dialing g c = λ known. record {
   network = first_of (search rules, grind (arith, common_steps));
   node = first_of (search rules, grind (arith, common_steps));
   router = first_of (search rules, grind (arith, common_steps));
@@ -12,7 +12,6 @@ returns-clause-dialing g c = λ buffers known. record {
   range = first_of (search rules, grind (arith, common_steps));
   last = first_of (search rules, grind (arith, common_steps));
   count = first_of (search rules, grind (arith, common_steps));
-  buffers = buffers;
   alone = λ q other. first_of (search rules, grind (arith, common_steps));
   deaf = λ s. first_of (search rules, grind (arith, common_steps));
   paced = first_of (search rules, grind (arith, common_steps));

@@ -6,7 +6,7 @@ use Rattle.ipx_host.specs.Midway.{sending_at}
 use Rattle.ipx_host.specs.SendRounds.{place}
 use Rattle.ipx_host.specs.SendSteps.{noted}
 use Rattle.ipx_host.specs.Transfer.{IsWholeAt}
-use Rattle.ipx_host.proofs.Rounded.{last_round, rounds_bytes, rounds_end, rounds_step, same_step}
+use Rattle.ipx_host.proofs.Rounded.{last_round, rounds_bytes, rounds_end, rounds_short, rounds_step, same_step}
 use Rattle.ipx_host.proofs.sending.SendingHost.serve.Goals as goal
 
 pub loop-init : goal.loop-init
@@ -47,6 +47,7 @@ returns-in-Err-clause-fed g c = λ done.
     record {
       bodies = fed.0;
       runs = (before, fed.2, last);
+      short = rounds_short start fed.0 before _ _ _ fed.2;
       fed = subst (λ (k : Option (List ℕ)). Consumes known k (concat fed.0)) (sym last.known) (rounds_bytes start fed.0 before _ _ _ fed.2);
       read = ended.1;
       closed = ended.0;

@@ -1,7 +1,8 @@
 use Rattle.std.proofs.Common.{◌≡◌, refl}
 use Rattle.spx_link.specs.LinkView.{LinkView}
 use Rattle.spx_link.specs.Offer.{again_link}
-use Rattle.ipx_net_hosts.proofs.Placing.{homes_set, stays_same, known_held, quietly_ok}
+use Rattle.ipx_net_hosts.proofs.Placing.{homes_set, known_held, quietly_ok}
+use Rattle.ipx_net_hosts.proofs.Marks.{marks_same}
 use Rattle.ipx_net_hosts.proofs.hosts.Hosts.again.Goals as goal
 
 pub returns-clause-ok : goal.returns-clause-ok
@@ -17,5 +18,5 @@ pub returns-clause-homes : goal.returns-clause-homes
 returns-clause-homes c =
     homes_set c.args.self.now c.self.inside.stations.items c.self.inside.ends.items c.place-host.result.0 c.index_mut.result.now c.again.new.self c.self.view_is c.index_mut.ensures.value c.again.ensures.home
 
-pub returns-clause-stays : goal.returns-clause-stays
-returns-clause-stays c = stays_same c.args.self.now c.self.inside.stations.items c.self.inside.ends.items c.self.inside.ends.items c.self.view_is refl
+pub returns-clause-marks : goal.returns-clause-marks
+returns-clause-marks c = marks_same c.args.self.now c.self.inside.stations.items c.self.inside.ends.items c.self.inside.ends.items c.self.view_is refl

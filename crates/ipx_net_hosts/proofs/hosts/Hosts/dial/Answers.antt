@@ -1,6 +1,7 @@
 use Rattle.std.proofs.Common.{◌≡◌, None, arith, subst, refl}
 use Rattle.ipx_net_hosts.specs.Refusing.{DialIsLeft, dial_fault}
-use Rattle.ipx_net_hosts.proofs.Placing.{dialled, homes_set, host_there, left_so, station_there, stays_pushed, stays_same}
+use Rattle.ipx_net_hosts.proofs.Placing.{dialled, homes_set, host_there, left_so, station_there}
+use Rattle.ipx_net_hosts.proofs.Marks.{marks_pushed, marks_same}
 use Rattle.ipx_net_hosts.proofs.hosts.Hosts.dial.Goals as goal
 
 pub returns-clause-ok : goal.returns-clause-ok
@@ -32,11 +33,11 @@ pub returns-in_err-push-clause-homes : goal.returns-in_err-push-clause-homes
 returns-in_err-push-clause-homes c =
     homes_set c.args.self.now c.self.inside.stations.items c.self.inside.ends.items c.args.host c.index_mut.result.now c.dial.new.self c.self.view_is c.index_mut.ensures.value c.in-Ok.ensures.home
 
-pub returns-clause-stays : goal.returns-clause-stays
-returns-clause-stays c = stays_pushed c.args.self.now c.self.inside.stations.items c.self.inside.ends.items c.push.new.self.items _ c.self.view_is c.in_ok-push.ensures.items
+pub returns-clause-marks : goal.returns-clause-marks
+returns-clause-marks c = marks_pushed c.args.self.now c.self.inside.stations.items c.self.inside.ends.items c.push.new.self.items _ c.self.view_is c.in_ok-push.ensures.items refl
 
-pub returns-in-Err-clause-stays : goal.returns-in-Err-clause-stays
-returns-in-Err-clause-stays c = stays_same c.args.self.now c.self.inside.stations.items c.self.inside.ends.items c.self.inside.ends.items c.self.view_is refl
+pub returns-in-Err-clause-marks : goal.returns-in-Err-clause-marks
+returns-in-Err-clause-marks c = marks_same c.args.self.now c.self.inside.stations.items c.self.inside.ends.items c.self.inside.ends.items c.self.view_is refl
 
-pub returns-in_err-push-clause-stays : goal.returns-in_err-push-clause-stays
-returns-in_err-push-clause-stays c = stays_same c.args.self.now c.self.inside.stations.items c.self.inside.ends.items c.push.new.self.items c.self.view_is c.in_err-push.ensures.items
+pub returns-in_err-push-clause-marks : goal.returns-in_err-push-clause-marks
+returns-in_err-push-clause-marks c = marks_same c.args.self.now c.self.inside.stations.items c.self.inside.ends.items c.push.new.self.items c.self.view_is c.in_err-push.ensures.items

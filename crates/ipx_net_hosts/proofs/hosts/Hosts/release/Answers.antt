@@ -1,6 +1,7 @@
-use Rattle.std.proofs.Common.{◌≡◌, ◌<◌, length, arith, get_or, sym, subst, true}
+use Rattle.std.proofs.Common.{◌≡◌, ◌<◌, length, arith, get_or, refl, sym, subst, true}
 use Rattle.theory_steps.specs.World.{EndNow}
-use Rattle.ipx_net_hosts.proofs.Placing.{end_within, homes_set, known_held, released, stays_changed}
+use Rattle.ipx_net_hosts.proofs.Placing.{end_within, homes_set, known_held, released}
+use Rattle.ipx_net_hosts.proofs.Marks.{marks_changed}
 use Rattle.ipx_net_hosts.proofs.hosts.Hosts.release.Goals as goal
 
 pub returns-in-Err-clause-done : goal.returns-in-Err-clause-done
@@ -23,9 +24,9 @@ pub returns-clause-homes : goal.returns-clause-homes
 returns-clause-homes c =
     homes_set c.args.self.now c.self.inside.stations.items c.self.inside.ends.items c.place-host.result.0 c.index_mut.result.now c.release.new.self c.self.view_is c.index_mut.ensures.value c.in_default.ensures.home
 
-pub returns-clause-stays : goal.returns-clause-stays
-returns-clause-stays c =
+pub returns-clause-marks : goal.returns-clause-marks
+returns-clause-marks c =
     let e : EndNow = record { host = c.behind-self.inside.host; id = c.behind-self.inside.id; released = c.behind-self.inside.released; overlong = c.behind-self.inside.overlong } in
     let es = c.self.inside.ends.items in
-    stays_changed c.args.self.now c.self.inside.stations.items es c.args.who e (record e { released = true }) c.self.view_is
-    (subst (λ (z : EndNow). z ≡ get_or es c.args.who z) (sym c.behind-self.view_is) c.index_mut-2.ensures.value) (λ well. well)
+    marks_changed c.args.self.now c.self.inside.stations.items es c.args.who e (record e { released = true }) c.self.view_is
+    (subst (λ (z : EndNow). z ≡ get_or es c.args.who z) (sym c.behind-self.view_is) c.index_mut-2.ensures.value) refl

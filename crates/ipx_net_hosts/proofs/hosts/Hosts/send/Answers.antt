@@ -2,7 +2,8 @@ use Rattle.std.proofs.Common.{◌≡◌, None, subst, refl}
 use Rattle.std.specs.Prelude.{IfErr, OnOk}
 use Rattle.spx_units.specs.Message.{message_view}
 use Rattle.ipx_net_hosts.specs.Refusing.{SendIsRefused, send_fault}
-use Rattle.ipx_net_hosts.proofs.Placing.{held_there, homes_set, stays_same, left_err}
+use Rattle.ipx_net_hosts.proofs.Placing.{held_there, homes_set, left_err}
+use Rattle.ipx_net_hosts.proofs.Marks.{marks_same}
 use Rattle.ipx_net_hosts.proofs.hosts.Hosts.send.Goals as goal
 
 pub returns-clause-sound : goal.returns-clause-sound
@@ -23,5 +24,5 @@ pub returns-clause-homes : goal.returns-clause-homes
 returns-clause-homes c =
     homes_set c.args.self.now c.self.inside.stations.items c.self.inside.ends.items c.place-host.result.0 c.index_mut.result.now c.send.new.self c.self.view_is c.index_mut.ensures.value c.send.ensures.home
 
-pub returns-clause-stays : goal.returns-clause-stays
-returns-clause-stays c = stays_same c.args.self.now c.self.inside.stations.items c.self.inside.ends.items c.self.inside.ends.items c.self.view_is refl
+pub returns-clause-marks : goal.returns-clause-marks
+returns-clause-marks c = marks_same c.args.self.now c.self.inside.stations.items c.self.inside.ends.items c.self.inside.ends.items c.self.view_is refl

@@ -3,9 +3,10 @@ use Rattle.std.specs.Prelude.{IfErr}
 use Rattle.spx_messages.specs.Taking.{overlong, result_view}
 use Rattle.theory_steps.specs.HostSteps.{TakesOf, unit_notes, whole_notes}
 use Rattle.theory_steps.specs.World.{EndNow, home_at}
-use Rattle.ipx_net_hosts.specs.Hosts.{HostsView, LeftAs, Noting, StaysOverlong}
+use Rattle.ipx_net_hosts.specs.Hosts.{HostsView, KeepsMarks, LeftAs, Noting}
 use Rattle.ipx_net_hosts.specs.Refusing.{Overruns, PushesTo, TakeIsRefused, want}
-use Rattle.ipx_net_hosts.proofs.Placing.{held_there, homes_set, known_held, left, marks_kept, marks_lost, stays_changed, stays_held, stays_same, taken, view_not_want, want_is_kept}
+use Rattle.ipx_net_hosts.proofs.Placing.{held_there, homes_set, known_held, left, marks_kept, marks_lost, stays_held, taken, view_not_want, want_is_kept}
+use Rattle.ipx_net_hosts.proofs.Marks.{lost_is_overlong, marks_same}
 use Rattle.ipx_net_hosts.proofs.hosts.Hosts.take.Goals as goal
 use Rattle.ipx_net_hosts.proofs.hosts.Hosts.take.Goals.{then-is_lost, else-is_lost}
 
@@ -66,15 +67,14 @@ returns-clause-homes c =
     homes_set c.args.self.now c.self.inside.stations.items c.self.inside.ends.items c.place-host.result.0 c.index_mut.result.now c.take-unit.new.self c.self.view_is c.index_mut.ensures.value c.take-unit.ensures.home in
     elim c.if-is_lost.branch [ then-is_lost w ↦ subst P (sym w.self-is) kept | else-is_lost w ↦ subst P (sym w.self-is) kept ]
 
-pub returns-clause-stays : goal.returns-clause-stays
-returns-clause-stays c =
+pub returns-clause-marks : goal.returns-clause-marks
+returns-clause-marks c =
     let ss = c.self.inside.stations.items in
     let es = c.self.inside.ends.items in
+    let host = c.place-host.result.0 in
+    let r = c.take-unit.result.1 in
+    let P : HostsView → Type 0 = λ u. r ≢ Err overlong → KeepsMarks c.args.self.now u in
     elim c.if-is_lost.branch [
-      | then-is_lost w ↦
-          let e : EndNow = record { host = w.behind-self.inside.host; id = w.behind-self.inside.id; released = w.behind-self.inside.released; overlong = w.behind-self.inside.overlong } in
-          subst (StaysOverlong c.args.self.now) (sym w.self-is)
-          (stays_changed c.args.self.now ss es c.args.who e (record e { overlong = true }) c.self.view_is
-          (subst (λ (z : EndNow). z ≡ get_or es c.args.who z) (sym w.behind-self.view_is) w.index_mut-then-is_lost.ensures.value) (λ well. absurd (cc (well))))
-      | else-is_lost w ↦ subst (StaysOverlong c.args.self.now) (sym w.self-is) (stays_same c.args.self.now ss es es c.self.view_is refl)
+      | then-is_lost w ↦ λ other. absurd (other (lost_is_overlong r (sym c.is_lost.ensures ∙ w.if-is_lost.true) (returns-clause-fault c)))
+      | else-is_lost w ↦ subst P (sym w.self-is) (λ other. marks_same c.args.self.now ss es es c.self.view_is refl)
     ]

@@ -1,6 +1,8 @@
-use Rattle.std.proofs.Common.{◌∙◌, subst}
+use Rattle.std.proofs.Common.{◌∙◌, ℕ, subst, sym}
 use Rattle.ipx_site.specs.IdleTime.{EventCounts, counts_told, happened}
 use Rattle.ipx_site.specs.Moments.{AreToldIfDue}
+use Rattle.ipx_site.specs.RouterRounds.{AsksAgain}
+use Rattle.ipx_site.specs.SiteCore.{SiteCore}
 use Rattle.ipx_site.specs.declared.warnings.Warnings.{Warnings}
 use Rattle.ipx_site.proofs.running_router.RunningRouter.keep.Goals as goal
 
@@ -10,3 +12,9 @@ returns-clause-told g c =
     let told = subst (λ (n : EventCounts). AreToldIfDue (counts_told n) c.args.now s.warnings.causes c.tell.new.self.causes) c.metrics-metrics.ensures c.tell.ensures in
     subst (λ (t : Warnings). AreToldIfDue (counts_told (happened s.totals s.core s.ports)) c.args.now t.causes c.tell.new.self.causes)
     (c.write_metrics.ensures.warnings ∙ c.look.ensures.warnings ∙ c.ask.ensures.warnings) told
+
+pub returns-clause-core : goal.returns-clause-core
+returns-clause-core g c =
+    let self = c.args.self.now in
+    let kept = subst (λ (core : SiteCore). AsksAgain c.args.now self.asked c.ask.new.self.asked self.core core) (sym (c.write_metrics.ensures.core ∙ c.look.ensures.core)) c.ask.ensures.core in
+    subst (λ (asked : ℕ). AsksAgain c.args.now self.asked asked self.core c.write_metrics.new.self.core) (sym (c.write_metrics.ensures.asked ∙ c.look.ensures.asked)) kept

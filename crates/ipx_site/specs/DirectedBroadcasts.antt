@@ -1,0 +1,38 @@
+-- Directed broadcasts: packets for all nodes of another network. All of it is own.
+use Rattle.std.specs.Prelude.{◌≡◌, ℕ, ◌==◌, ◌&&◌, Bool, true, not, List, Some, None, slice_get}
+use Rattle.ipx_wire.specs.Assigned.{local_network, netbios_propagation_type}
+use Rattle.ipx_wire.specs.Ipx.{BeginsWith, PacketView}
+use Rattle.ipx_wire.specs.declared.address.Address.{Address}
+use Rattle.ipx_wire.specs.declared.ipx.packet.IpxHeader.{IpxHeader}
+use Rattle.ipx_router.specs.declared.port.Port.{Port}
+use Rattle.ipx_router.specs.Classify.{is_node}
+use Rattle.ipx_router.specs.RouteChoice.{direct_route}
+use Rattle.ipx_router.specs.RouterPackets.{broadcast}
+use Rattle.ipx_carrier.specs.Counting.{raised}
+use Rattle.ipx_site.specs.declared.directed_broadcast.DirectedBroadcast.{DirectedBroadcast}
+use Rattle.ipx_site.specs.declared.directed_broadcast.DirectedDrops.{DirectedDrops}
+
+-- a packet that came by this port is for all nodes of another network. One of type 20 is not, since no router
+-- forwards it so
+abbrev pub is_directed : Port → IpxHeader → Bool
+is_directed arrived h = not (h.kind == netbios_propagation_type) && is_node h.to.node broadcast
+    && not (h.to.network.0 == local_network) && not (h.to.network.0 == arrived.network.0)
+
+-- bytes that came by this port are such a packet, and its network is that of one of these ports, by which it
+-- leaves
+abbrev pub IsDirectedAt : List Port → Port → List ℕ → DirectedBroadcast → Type 0
+IsDirectedAt ports arrived bytes it = (p : PacketView) × BeginsWith bytes p
+    × (is_directed arrived p.header ≡ true)
+    × (direct_route ports p.header.to.network ≡ Some it.leaves_by) × (it.from ≡ p.header.from)
+
+-- so they are at a port that is there
+abbrev pub IsDirectedBroadcast : List Port → ℕ → List ℕ → DirectedBroadcast → Type 0
+IsDirectedBroadcast ports port bytes it =
+    (arrived : Port) × (slice_get ports port ≡ Some arrived) × IsDirectedAt ports arrived bytes it
+
+-- none was dropped yet, and one more was, and came from there
+abbrev pub no_directed_drops : DirectedDrops
+no_directed_drops = record { count = 0; last = None }
+
+abbrev pub one_more_directed : DirectedDrops → Address → DirectedDrops
+one_more_directed drops from = record { count = raised drops.count; last = Some from }

@@ -1,0 +1,44 @@
+-- The token buckets of a router's ports: for the general queries that come by one, and for the directed
+-- broadcasts that leave by it. All of it is own.
+use Rattle.std.specs.Prelude.{ℕ, List, Bool, true, Option, Some, None, slice_index_or, slice_set}
+use Rattle.std.specs.Option.{option_map}
+use Rattle.ipx_site.specs.declared.port_buckets.PortBuckets.{PortBuckets}
+use Rattle.ipx_site.specs.declared.token_bucket.RateLimit.{RateLimit}
+use Rattle.ipx_site.specs.declared.token_bucket.TokenBucket.{TokenBucket}
+use Rattle.ipx_site.specs.TokenBucket.{bucket_has, bucket_taken, full_bucket}
+
+-- a limit that lets nothing happen
+abbrev pub never : RateLimit
+never = record { burst = 0; per_second = 0 }
+
+-- the buckets of a port; where there is no such port they have no token
+abbrev pub no_tokens : PortBuckets
+no_tokens = record { queries = full_bucket never; directed = Some (full_bucket never) }
+
+abbrev pub at_port : List PortBuckets → ℕ → PortBuckets
+at_port ports port = slice_index_or ports port no_tokens
+
+-- there is a token for a general query
+abbrev pub query_has : PortBuckets → ℕ → Bool
+query_has p now = bucket_has p.queries now
+
+abbrev pub query_taken : ℕ → PortBuckets → PortBuckets
+query_taken now p = record p { queries = bucket_taken p.queries now }
+
+-- there is a token for a directed broadcast, or none is needed
+abbrev pub is_free : Option TokenBucket → ℕ → Bool
+is_free None now = true
+is_free (Some b) now = bucket_has b now
+
+abbrev pub directed_has : PortBuckets → ℕ → Bool
+directed_has p now = is_free p.directed now
+
+abbrev pub directed_taken : ℕ → PortBuckets → PortBuckets
+directed_taken now p = record p { directed = option_map (λ b. bucket_taken b now) p.directed }
+
+-- one was taken at a port, and none at another one
+abbrev pub with_query_taken : List PortBuckets → ℕ → ℕ → List PortBuckets
+with_query_taken ports port now = slice_set ports port (query_taken now (at_port ports port))
+
+abbrev pub with_directed_taken : List PortBuckets → ℕ → ℕ → List PortBuckets
+with_directed_taken ports port now = slice_set ports port (directed_taken now (at_port ports port))

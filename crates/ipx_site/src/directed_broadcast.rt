@@ -1,0 +1,95 @@
+//! Directed broadcasts: packets for all nodes of another network than the one they came from.
+
+ghost use Rattle.std.specs.Prelude.{◌≡◌, IfNone, IfSome};
+ghost use Rattle.ipx_router.specs.RouteChoice.{direct_route};
+ghost use Rattle.ipx_site.specs.DirectedBroadcasts.{IsDirectedAt, IsDirectedBroadcast, is_directed, no_directed_drops, one_more_directed};
+
+use ipx_carrier::saturating_increment;
+use ipx_router::Port;
+use ipx_wire::{Address, IpxHeader, Network, Node, decode, packet_type};
+
+/// A directed broadcast at the last router on its way: by which port it leaves, of which the first
+/// is 0, and who sent it.
+#[derive(Clone, Copy, Debug, PartialEq, Eq)]
+pub struct DirectedBroadcast {
+    pub leaves_by: usize,
+    pub from: Address,
+}
+
+/// The directed broadcasts that were dropped, and who sent the last of them.
+#[derive(Clone, Copy, Debug, PartialEq, Eq)]
+pub struct DirectedDrops {
+    /// It stays at the greatest u64.
+    pub count: u64,
+    pub last: Option<Address>,
+}
+
+impl DirectedDrops {
+    pub fn none() -> DirectedDrops
+        ensures { result ≡ no_directed_drops }
+    {
+        DirectedDrops {
+            count: 0,
+            last: None,
+        }
+    }
+
+    pub fn saturating_increment(&mut self, from: Address)
+        ensures { self.new ≡ one_more_directed self.old from }
+    {
+        saturating_increment(&mut self.count);
+        self.last = Some(from);
+    }
+}
+
+/// Whether a packet that came by this port is for all nodes of another network.
+fn is_directed(at: Port, header: &IpxHeader) -> bool
+    ensures { result ≡ is_directed at header.now }
+{
+    header.kind != packet_type::NETBIOS_PROPAGATION
+        && header.to.node == Node::BROADCAST
+        && header.to.network != Network::LOCAL
+        && header.to.network != at.network
+}
+
+/// The place of the port that is on a network.
+fn port_on(ports: &[Port], network: Network) -> Option<usize>
+    ensures { result ≡ direct_route ports.now network }
+{
+    ports.iter().position(|port| port.network == network)
+}
+
+/// The directed broadcast that bytes are which came by this port.
+fn directed_at(ports: &[Port], at: Port, bytes: &[u8]) -> Option<DirectedBroadcast>
+    ensures directed { IfSome result (IsDirectedAt ports.now at bytes.now) }
+    ensures none { IfNone result
+        ((it : DirectedBroadcast) → IsDirectedAt ports.now at bytes.now it → ⊥) }
+{
+    let Ok(packet) = decode(bytes) else {
+        return None;
+    };
+    if !is_directed(at, &packet.header) {
+        return None;
+    }
+    match port_on(ports, packet.header.to.network) {
+        Some(leaves_by) => Some(DirectedBroadcast {
+            leaves_by,
+            from: packet.header.from,
+        }),
+        None => None,
+    }
+}
+
+/// The directed broadcast that bytes are which came to a router's port of a number: a packet for
+/// all nodes of the network of another one of these ports. Where that network is further away, the
+/// last router before it limits them, and to this one they are as any other packet.
+pub fn directed_broadcast_in(ports: &[Port], port: usize, bytes: &[u8]) -> Option<DirectedBroadcast>
+    ensures directed { IfSome result (IsDirectedBroadcast ports.now port bytes.now) }
+    ensures none { IfNone result
+        ((it : DirectedBroadcast) → IsDirectedBroadcast ports.now port bytes.now it → ⊥) }
+{
+    match ports.get(port) {
+        Some(at) => directed_at(ports, *at, bytes),
+        None => None,
+    }
+}

@@ -1,0 +1,44 @@
+//! All metrics of a router, as a text for Prometheus.
+
+use crate::access_list_metrics::put_access_list_metrics;
+use crate::frame_metrics::{EthernetMetrics, put_frame_metrics};
+use crate::ipxnet_metrics::{IpxnetMetrics, put_ipxnet_metrics};
+use crate::metrics::Metrics;
+use crate::neighbour_metrics::put_neighbour_metrics;
+use crate::port_filter_drops::PortFilterDrops;
+use crate::port_metrics::put_port_metrics;
+use crate::router_ports::PortIndex;
+use ipx_metrics::PortCounts;
+use ipx_router::Router;
+use std::alloc::{AllocError, Global};
+
+/// All that a router counts and knows at a moment.
+#[derive(Clone, Copy)]
+pub struct MetricsPage<'a> {
+    pub totals: Metrics,
+    /// The router, whose ports and neighbours are named.
+    pub router: &'a Router,
+    /// The moment, in milliseconds from the start.
+    pub now: u64,
+    /// The counters of each port, in order.
+    pub counters: &'a [PortCounts],
+    /// Where each port is among those of its kind.
+    pub port_indices: &'a [PortIndex],
+    /// What access lists filtered, at each port by RFC 1234, in order.
+    pub filtered: &'a [PortFilterDrops],
+    pub ethernet: &'a EthernetMetrics,
+    pub ipxnet: &'a IpxnetMetrics,
+}
+
+impl<'a> MetricsPage<'a> {
+    /// The text of the metrics file.
+    pub fn text(&self, alloc: Global) -> Result<String, AllocError> {
+        let mut text = self.totals.text(alloc)?;
+        put_port_metrics(&mut text, self.router.ports(), self.counters)?;
+        put_access_list_metrics(&mut text, alloc, self.port_indices, self.filtered)?;
+        put_neighbour_metrics(&mut text, alloc, self.router, self.now)?;
+        put_frame_metrics(&mut text, self.ethernet)?;
+        put_ipxnet_metrics(&mut text, self.ipxnet)?;
+        Ok(text)
+    }
+}

@@ -1,0 +1,82 @@
+//! The token buckets of a port.
+
+ghost use Rattle.std.specs.Prelude.{◌≡◌, true};
+ghost use Rattle.ipx_site.specs.PortBuckets.{at_port, directed_has, directed_taken, query_has, query_taken, with_directed_taken, with_query_taken};
+
+use crate::token_bucket::TokenBucket;
+
+/// What is limited at a port.
+#[derive(Clone, Copy, Debug, PartialEq, Eq)]
+pub struct PortBuckets {
+    /// The general queries of all nodes that come by it.
+    pub queries: TokenBucket,
+    /// The directed broadcasts that leave by it. None: they are not limited.
+    pub directed: Option<TokenBucket>,
+}
+
+impl PortBuckets {
+    fn take_query(&mut self, now: u64)
+        requires { query_has self.old now ≡ true }
+        ensures { self.new ≡ query_taken now self.old }
+    {
+        self.queries.take_token(now);
+    }
+
+    fn has_directed(&self, now: u64) -> bool
+        ensures { result ≡ directed_has self.now now }
+    {
+        match &self.directed {
+            Some(bucket) => bucket.has_token(now),
+            None => true,
+        }
+    }
+
+    fn take_directed(&mut self, now: u64)
+        requires { directed_has self.old now ≡ true }
+        ensures { self.new ≡ directed_taken now self.old }
+    {
+        if let Some(bucket) = &mut self.directed {
+            bucket.take_token(now);
+        }
+    }
+}
+
+/// Whether the nodes at a port have a token for a general query.
+pub fn has_query(ports: &[PortBuckets], port: usize, now: u64) -> bool
+    ensures { result ≡ query_has (at_port ports.now port) now }
+{
+    match ports.get(port) {
+        Some(buckets) => buckets.queries.has_token(now),
+        None => false,
+    }
+}
+
+/// Takes it.
+pub fn take_query(ports: &mut [PortBuckets], port: usize, now: u64)
+    requires { query_has (at_port ports.old port) now ≡ true }
+    ensures { ports.new ≡ with_query_taken ports.old port now }
+{
+    if port < ports.len() {
+        ports[port].take_query(now);
+    }
+}
+
+/// Whether a port has a token for a directed broadcast that leaves by it, or needs none.
+pub fn has_directed(ports: &[PortBuckets], port: usize, now: u64) -> bool
+    ensures { result ≡ directed_has (at_port ports.now port) now }
+{
+    match ports.get(port) {
+        Some(buckets) => buckets.has_directed(now),
+        None => false,
+    }
+}
+
+/// Takes it.
+pub fn take_directed(ports: &mut [PortBuckets], port: usize, now: u64)
+    requires { directed_has (at_port ports.old port) now ≡ true }
+    ensures { ports.new ≡ with_directed_taken ports.old port now }
+{
+    if port < ports.len() {
+        ports[port].take_directed(now);
+    }
+}

@@ -1,0 +1,64 @@
+//! The limits at the ports of a router, as its file says them.
+
+ghost use Rattle.std.specs.Prelude.{◌≡◌, IfOk};
+ghost use Rattle.ipx_site.specs.PortLimits.{buckets_of_port, directed_bucket, limits_of, query_limit};
+
+use crate::port_buckets::PortBuckets;
+use crate::site::{Directed, Kind, PortConfig};
+use crate::token_bucket::{RateLimit, TokenBucket};
+use std::alloc::{AllocError, Global};
+
+/// What most ports have, for general queries and for directed broadcasts.
+const USUAL: RateLimit = RateLimit {
+    burst: 16,
+    per_second: 8,
+};
+
+/// What all clients of a port for ipxnet have together for general queries.
+const CLIENTS: RateLimit = RateLimit {
+    burst: 2,
+    per_second: 1,
+};
+
+/// A limit that lets nothing pass.
+const NEVER: RateLimit = RateLimit {
+    burst: 0,
+    per_second: 0,
+};
+
+/// How many general queries may come by a port of this kind.
+fn query_limit(kind: Kind) -> RateLimit
+    ensures { result ≡ query_limit kind }
+{
+    match kind {
+        Kind::Rfc1234 | Kind::Frames => USUAL,
+        Kind::Ipxnet => CLIENTS,
+    }
+}
+
+/// How many directed broadcasts may leave by a port; None if as many as come.
+fn directed_bucket(directed: Directed) -> Option<TokenBucket>
+    ensures { result ≡ directed_bucket directed }
+{
+    match directed {
+        Directed::Never => Some(TokenBucket::full(NEVER)),
+        Directed::Few => Some(TokenBucket::full(USUAL)),
+        Directed::Always => None,
+    }
+}
+
+fn buckets_of_port(port: &PortConfig) -> PortBuckets
+    ensures { result ≡ buckets_of_port port.now }
+{
+    PortBuckets {
+        queries: TokenBucket::full(query_limit(port.kind())),
+        directed: directed_bucket(port.directed()),
+    }
+}
+
+/// The buckets of the ports of a file, each with all its tokens.
+pub fn limits_of(alloc: Global, ports: &[PortConfig]) -> Result<Vec<PortBuckets>, AllocError>
+    ensures { IfOk result (λ v. v.items ≡ limits_of ports.now) }
+{
+    ports.iter().map(buckets_of_port).collect(alloc)
+}

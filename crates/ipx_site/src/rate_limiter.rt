@@ -1,0 +1,211 @@
+//! A core that limits general queries and directed broadcasts.
+
+ghost use Rattle.std.specs.Prelude.{◌≡◌, ◌<◌, [], IfOk, OnErr, OnOk};
+ghost use Rattle.ipx_site.specs.DirectedBroadcasts.{IsDirectedBroadcast, no_directed_drops};
+ghost use Rattle.ipx_site.specs.RateLimiter.{HearsBroadcast, HearsQuery, IsGeneralQuery, MissesBelow};
+ghost use Rattle.ipx_site.specs.SourceFilter.{none_kept};
+
+use crate::directed_broadcast::{DirectedBroadcast, DirectedDrops, directed_broadcast_in};
+use crate::port_buckets::PortBuckets;
+use crate::querier::{Querier, general_query_from};
+use crate::source_filter::DropCount;
+use crate::token_buckets::TokenBuckets;
+use ipx_carrier::{Core, ip_of};
+use ipx_router::Port;
+use ipx_static::RestartDiscovery;
+use ipx_wire::{Node, OutOfMemory};
+use std::alloc::{AllocError, Global};
+use std::marker::Model;
+
+/// A core over another one, which drops general queries of those who ask too often, and directed
+/// broadcasts that are too many, and counts them. A general query is a RIP request for all
+/// networks, or a SAP query for all services or all of a type. All else the core below hears as it
+/// comes.
+///
+/// An asker is a node at a port. It has 8 tokens, of which one comes back each second; all at a
+/// port have those of the port. At most 1,024 askers whose tokens are not all back are known; where
+/// there are so many, a new one has none. A directed broadcast takes a token of the port by which
+/// it leaves.
+pub struct RateLimiter<C: Core + Drop> {
+    core: C,
+    ports: Vec<Port>,
+    buckets: TokenBuckets,
+    kept: DropCount,
+    directed: DirectedDrops,
+}
+
+impl<C: Core + Drop> Drop for RateLimiter<C> {
+    fn drop(self) {
+        let RateLimiter {
+            core: _,
+            ports: _,
+            buckets: _,
+            kept: _,
+            directed: _,
+        } = self;
+    }
+}
+
+impl<C: Core + Drop> Model for RateLimiter<C> {
+    ghost use Rattle.ipx_site.specs.RateLimiter.{RateLimiterView};
+
+    ghost Value = { RateLimiterView C };
+
+    ghost view = { λ s. record {
+      core = s.core;
+      ports = s.ports.items;
+      buckets = s.buckets;
+      kept = s.kept;
+      directed = s.directed;
+    } };
+}
+
+impl<C: Core + Drop> RateLimiter<C> {
+    /// A core over this one, which hears for a router with these ports and their limits. Nobody has
+    /// asked yet.
+    pub fn new(
+        alloc: Global,
+        core: C,
+        ports: Vec<Port>,
+        limits: Vec<PortBuckets>,
+    ) -> Result<RateLimiter<C>, AllocError>
+        ensures core { IfOk result (λ s. s.core ≡ core) }
+        ensures ports { IfOk result (λ s. s.ports ≡ ports.items) }
+        ensures fresh { IfOk result (λ s. (s.buckets.queriers ≡ []) × (s.buckets.ports ≡ limits.items)
+            × (s.kept ≡ none_kept) × (s.directed ≡ no_directed_drops)) }
+    {
+        let buckets = TokenBuckets::new(alloc, limits)?;
+        Ok(RateLimiter {
+            core,
+            ports,
+            buckets,
+            kept: DropCount::none(),
+            directed: DirectedDrops::none(),
+        })
+    }
+
+    /// The core below, to be asked between two runs.
+    pub fn core(&self) -> &C
+        ensures { result.now ≡ self.now.core }
+    {
+        &self.core
+    }
+
+    /// The queries that were dropped, and the IP address of the node that sent the last of them.
+    pub fn kept(&self) -> DropCount
+        ensures { result ≡ self.now.kept }
+    {
+        self.kept
+    }
+
+    /// The directed broadcasts that were dropped, and who sent the last of them.
+    pub fn directed(&self) -> DirectedDrops
+        ensures { result ≡ self.now.directed }
+    {
+        self.directed
+    }
+
+    /// Hears a general query that came by a port, or drops it.
+    fn hear_query(
+        &mut self,
+        alloc: Global,
+        port: usize,
+        querier: Querier,
+        bytes: &[u8],
+        now: u64,
+    ) -> Result<(), OutOfMemory>
+        requires there { port < C.port_count self.old.core }
+        requires asks { IsGeneralQuery self.old.ports port bytes.now querier }
+        ensures heard { OnOk result (HearsQuery C.hears self.old port bytes.now now self.new) }
+        ensures refused { OnErr result
+            (MissesBelow C.hear_out_of_memory self.old port bytes.now now self.new) }
+        ensures count { C.port_count self.new.core ≡ C.port_count self.old.core }
+    {
+        if !self.buckets.has_token(querier, now) {
+            let from = ip_of(querier.node).ok();
+            DropCount::saturating_increment(&mut self.kept, from);
+            return Ok(());
+        }
+        self.core.hear(alloc, port, bytes, now)?;
+        self.buckets.take_token(querier, now);
+        Ok(())
+    }
+
+    /// Hears a directed broadcast that came by a port, or drops it.
+    fn hear_directed(
+        &mut self,
+        alloc: Global,
+        port: usize,
+        broadcast: DirectedBroadcast,
+        bytes: &[u8],
+        now: u64,
+    ) -> Result<(), OutOfMemory>
+        requires there { port < C.port_count self.old.core }
+        requires directed { IsDirectedBroadcast self.old.ports port bytes.now broadcast }
+        ensures heard { OnOk result (HearsBroadcast C.hears self.old port bytes.now now self.new) }
+        ensures refused { OnErr result
+            (MissesBelow C.hear_out_of_memory self.old port bytes.now now self.new) }
+        ensures count { C.port_count self.new.core ≡ C.port_count self.old.core }
+    {
+        if !self.buckets.has_directed_token(broadcast.leaves_by, now) {
+            self.directed.saturating_increment(broadcast.from);
+            return Ok(());
+        }
+        self.core.hear(alloc, port, bytes, now)?;
+        self.buckets.take_directed_token(broadcast.leaves_by, now);
+        Ok(())
+    }
+}
+
+impl<C: RestartDiscovery + Drop> RestartDiscovery for RateLimiter<C> {
+    ghost use Rattle.ipx_site.specs.RateLimiter.{asking_below};
+
+    ghost asking_again = { asking_below C.asking_again };
+
+    fn restart_discovery(&mut self) {
+        self.core.restart_discovery();
+    }
+}
+
+impl<C: Core + Drop> Core for RateLimiter<C> {
+    ghost use Rattle.ipx_site.specs.RateLimiter.{GivesBelow, HearsSparingly, MissesBelow, WithholdsBelow};
+
+    ghost port_count = { λ s. C.port_count s.core };
+
+    ghost hears = { HearsSparingly C.hears };
+
+    ghost gives = { GivesBelow C.gives };
+
+    ghost hear_out_of_memory = { MissesBelow C.hear_out_of_memory };
+
+    ghost next_out_of_memory = { WithholdsBelow C.next_out_of_memory };
+
+    fn ports(&self) -> usize {
+        self.core.ports()
+    }
+
+    fn hear(
+        &mut self,
+        alloc: Global,
+        port: usize,
+        bytes: &[u8],
+        now: u64,
+    ) -> Result<(), OutOfMemory> {
+        if let Some(querier) = general_query_from(&self.ports, port, bytes) {
+            return self.hear_query(alloc, port, querier, bytes, now);
+        }
+        if let Some(broadcast) = directed_broadcast_in(&self.ports, port, bytes) {
+            return self.hear_directed(alloc, port, broadcast, bytes, now);
+        }
+        self.core.hear(alloc, port, bytes, now)
+    }
+
+    fn next(
+        &mut self,
+        alloc: Global,
+        now: u64,
+        room: &mut [u8],
+    ) -> Result<Option<(usize, Node, usize)>, OutOfMemory> {
+        self.core.next(alloc, now, room)
+    }
+}

@@ -1,0 +1,412 @@
+//! Who asks for all that a router knows, and how often each is heard, and directed broadcasts.
+
+use ipx_carrier::Core;
+use ipx_router::Port;
+use ipx_site::{DropCount, PortBuckets, RateLimit, RateLimiter, TokenBucket};
+use ipx_wire::{
+    Address, IpxHeader, Network, Node, OutOfMemory, Packet, Socket, encode_into, packet_type,
+};
+use std::alloc::{AllocError, Global};
+
+/// A core that counts what it hears, and to which memory is refused so often before.
+#[derive(Drop)]
+struct Ears {
+    heard: u32,
+    refused: u32,
+}
+
+impl Core for Ears {
+    ghost use Rattle.std.specs.Prelude.{◌≡◌};
+
+    ghost port_count = { λ c. 3 };
+
+    ghost hears = { λ old port bytes now new. Unit {0} };
+
+    ghost gives = { λ old now given new. new ≡ old };
+
+    ghost hear_out_of_memory = { λ old port bytes now new. Unit {0} };
+
+    ghost next_out_of_memory = { λ old now new. ⊥ };
+
+    fn ports(&self) -> usize {
+        3
+    }
+
+    fn hear(
+        &mut self,
+        _alloc: Global,
+        _port: usize,
+        _bytes: &[u8],
+        _now: u64,
+    ) -> Result<(), OutOfMemory> {
+        if self.refused > 0 {
+            self.refused -= 1;
+            return Err(OutOfMemory);
+        }
+        self.heard += 1;
+        Ok(())
+    }
+
+    fn next(
+        &mut self,
+        _alloc: Global,
+        _now: u64,
+        _room: &mut [u8],
+    ) -> Result<Option<(usize, Node, usize)>, OutOfMemory> {
+        Ok(None)
+    }
+}
+
+/// Bodies of control packets: all routes, as the second network that is asked for; a named network;
+/// all services; all file servers; and the nearest one.
+const ALL_ROUTES: [u8; 18] = [
+    0, 1, 0, 0, 0, 0x22, 0xff, 0xff, 0xff, 0xff, 0xff, 0xff, 0xff, 0xff, 0xff, 0xff, 0xff, 0xff,
+];
+
+const ONE_ROUTE: [u8; 10] = [0, 1, 0, 0, 0, 0x22, 0xff, 0xff, 0xff, 0xff];
+
+const TOLD_ROUTES: [u8; 10] = [0, 2, 0xff, 0xff, 0xff, 0xff, 0, 1, 0, 1];
+
+const ALL_SERVICES: [u8; 4] = [0, 1, 0xff, 0xff];
+
+const ALL_SERVERS: [u8; 4] = [0, 1, 0, 4];
+
+const NEAREST_SERVER: [u8; 4] = [0, 3, 0, 4];
+
+const HERE: Network = Network(0x11);
+
+const AWAY: Network = Network(0x22);
+
+const PLAYERS: Network = Network(0x33);
+
+/// A network of none of the ports.
+const FAR: Network = Network(0x44);
+
+const USUAL: RateLimit = RateLimit {
+    burst: 16,
+    per_second: 8,
+};
+
+const CLIENTS: RateLimit = RateLimit {
+    burst: 2,
+    per_second: 1,
+};
+
+const NOTHING: RateLimit = RateLimit {
+    burst: 0,
+    per_second: 0,
+};
+
+/// The port of a number on this network.
+fn port(number: u8, network: Network) -> Port {
+    Port {
+        network,
+        node: Node([0, 0, 10, 0, 0, number]),
+        cost: 1,
+    }
+}
+
+fn limits(queries: RateLimit, directed: Option<RateLimit>) -> PortBuckets {
+    PortBuckets {
+        queries: TokenBucket::full(queries),
+        directed: match directed {
+            Some(limit) => Some(TokenBucket::full(limit)),
+            None => None,
+        },
+    }
+}
+
+/// Ears under a router's ports of networks 11, 22 and 33, the last for clients of ipxnet, and how
+/// often memory is refused to them. No directed broadcast leaves by the third, as its limit says it.
+fn ears_by(
+    alloc: Global,
+    refused: u32,
+    directed: Option<RateLimit>,
+) -> Result<RateLimiter<Ears>, AllocError> {
+    let ears = Ears { heard: 0, refused };
+    let ports = vec![in alloc; port(1, HERE), port(2, AWAY), port(3, PLAYERS)]?;
+    let limits = vec![in alloc;
+        limits(USUAL, Some(USUAL)),
+        limits(USUAL, Some(USUAL)),
+        limits(CLIENTS, directed),
+    ]?;
+    RateLimiter::new(alloc, ears, ports, limits)
+}
+
+fn ears(alloc: Global, refused: u32) -> Result<RateLimiter<Ears>, AllocError> {
+    ears_by(alloc, refused, Some(NOTHING))
+}
+
+/// They hear this body, sent by node 10.0.0.LAST from network 11 to a socket of a node of a network,
+/// at a port. The result is whether memory was had.
+fn hear_at(
+    ears: &mut RateLimiter<Ears>,
+    alloc: Global,
+    from: (usize, Network, u8),
+    to: Address,
+    body: &[u8],
+    now: u64,
+) -> bool {
+    let header = IpxHeader {
+        hops: 0,
+        kind: packet_type::UNKNOWN,
+        to,
+        from: Address {
+            network: from.1,
+            node: Node([0, 0, 10, 0, 0, from.2]),
+            socket: Socket(0x4003),
+        },
+    };
+    let mut bytes = [0; 64];
+    let count = encode_into(&Packet { header, body }, &mut bytes);
+    ears.hear(alloc, from.0, &bytes[..count], now).is_ok()
+}
+
+/// Every node of a network, at a socket.
+fn every_node(network: Network, socket: Socket) -> Address {
+    Address {
+        network,
+        node: Node::BROADCAST,
+        socket,
+    }
+}
+
+/// They hear this body at the first port, sent to a socket of every node of a network.
+fn hear(
+    ears: &mut RateLimiter<Ears>,
+    alloc: Global,
+    last: u8,
+    to: (Network, Socket),
+    body: &[u8],
+    now: u64,
+) -> bool {
+    hear_at(
+        ears,
+        alloc,
+        (0, HERE, last),
+        every_node(to.0, to.1),
+        body,
+        now,
+    )
+}
+
+/// They hear so many queries for all services from one node at one moment.
+fn ask(ears: &mut RateLimiter<Ears>, alloc: Global, last: u8, count: u32, now: u64) {
+    for _query in 0..count {
+        let _had = hear(ears, alloc, last, (HERE, Socket::SAP), &ALL_SERVICES, now);
+    }
+}
+
+fn kept(count: u64, last: Option<[u8; 4]>) -> DropCount {
+    DropCount { count, last }
+}
+
+#[test]
+fn eight_of_a_thousand(rt: HostRuntime) -> Result<(), AllocError> {
+    let mut ears = ears(rt.alloc(), 0)?;
+    ask(&mut ears, rt.alloc(), 2, 1000, 5000);
+    assert_eq!(rt; ears.core().heard, 8);
+    assert_eq!(rt; ears.kept(), kept(992, Some([10, 0, 0, 2])));
+    ask(&mut ears, rt.alloc(), 2, 1, 5999);
+    assert_eq!(rt; ears.core().heard, 8);
+    ask(&mut ears, rt.alloc(), 2, 2, 6000);
+    assert_eq!(rt; ears.core().heard, 9);
+    ask(&mut ears, rt.alloc(), 2, 1000, 60_000);
+    assert_eq!(rt; ears.core().heard, 17);
+    Ok(())
+}
+
+#[test]
+fn sixteen_of_seventeen_askers(rt: HostRuntime) -> Result<(), AllocError> {
+    let mut ears = ears(rt.alloc(), 0)?;
+    for last in 2..19 {
+        ask(&mut ears, rt.alloc(), last, 1, 0);
+    }
+    assert_eq!(rt; ears.core().heard, 16);
+    assert_eq!(rt; ears.kept(), kept(1, Some([10, 0, 0, 18])));
+    ask(&mut ears, rt.alloc(), 18, 1, 124);
+    assert_eq!(rt; ears.core().heard, 16);
+    ask(&mut ears, rt.alloc(), 18, 1, 125);
+    assert_eq!(rt; ears.core().heard, 17);
+    Ok(())
+}
+
+/// One query for all services at a port, from each of the nodes 10.0.0.20 to 10.0.0.(COUNT + 19).
+fn ask_each(
+    ears: &mut RateLimiter<Ears>,
+    alloc: Global,
+    at: (usize, Network),
+    count: u8,
+    now: u64,
+) {
+    for last in 20..20 + count.min(200) {
+        let to = every_node(at.1, Socket::SAP);
+        let _had = hear_at(ears, alloc, (at.0, at.1, last), to, &ALL_SERVICES, now);
+    }
+}
+
+#[test]
+fn each_port_has_its_tokens(rt: HostRuntime) -> Result<(), AllocError> {
+    let mut ears = ears(rt.alloc(), 0)?;
+    ask_each(&mut ears, rt.alloc(), (2, PLAYERS), 100, 0);
+    assert_eq!(rt; ears.core().heard, 2);
+    ask_each(&mut ears, rt.alloc(), (2, PLAYERS), 100, 999);
+    assert_eq!(rt; ears.core().heard, 2);
+    ask_each(&mut ears, rt.alloc(), (2, PLAYERS), 100, 1000);
+    assert_eq!(rt; ears.core().heard, 3);
+    ask_each(&mut ears, rt.alloc(), (0, HERE), 100, 1000);
+    assert_eq!(rt; ears.core().heard, 19);
+    ask_each(&mut ears, rt.alloc(), (1, AWAY), 16, 1000);
+    assert_eq!(rt; ears.core().heard, 35);
+    ask_each(&mut ears, rt.alloc(), (1, AWAY), 100, 2000);
+    assert_eq!(rt; ears.core().heard, 43);
+    Ok(())
+}
+
+/// So many packets at one moment from node 10.0.0.9 of network 44, which come by the first port.
+fn from_afar(ears: &mut RateLimiter<Ears>, alloc: Global, to: Address, count: u32, now: u64) {
+    for _packet in 0..count {
+        let _had = hear_at(ears, alloc, (0, FAR, 9), to, &[0; 8], now);
+    }
+}
+
+#[test]
+fn few_directed_broadcasts_leave_by_a_port(rt: HostRuntime) -> Result<(), AllocError> {
+    let mut ears = ears(rt.alloc(), 0)?;
+    let game = Socket(0x4002);
+    from_afar(&mut ears, rt.alloc(), every_node(AWAY, game), 100, 5000);
+    assert_eq!(rt; ears.core().heard, 16);
+    assert_eq!(rt; ears.directed().count, 84);
+    let from = ears.directed().last;
+    assert!(rt; from.is_some_and(|from| from.network == FAR && from.node.0 == [0, 0, 10, 0, 0, 9]));
+    from_afar(&mut ears, rt.alloc(), every_node(AWAY, game), 100, 6000);
+    assert_eq!(rt; ears.core().heard, 24);
+    // They took no token of the port that they came by, and none of a general query.
+    let back = every_node(HERE, game);
+    for _packet in 0..16_u32 {
+        let _had = hear_at(&mut ears, rt.alloc(), (1, AWAY, 9), back, &[0; 8], 6000);
+    }
+    assert_eq!(rt; ears.core().heard, 40);
+    ask_each(&mut ears, rt.alloc(), (1, AWAY), 16, 6000);
+    assert_eq!(rt; ears.core().heard, 56);
+    assert_eq!(rt; ears.kept(), kept(0, None));
+    Ok(())
+}
+
+#[test]
+fn what_is_no_directed_broadcast(rt: HostRuntime) -> Result<(), AllocError> {
+    let game = Socket(0x4002);
+    let one_node = Address {
+        network: AWAY,
+        node: Node([0, 0, 10, 0, 0, 7]),
+        socket: game,
+    };
+    let rows = [
+        (one_node, false),
+        (every_node(FAR, game), false),
+        (every_node(HERE, game), false),
+        (every_node(Network::LOCAL, game), false),
+        (every_node(AWAY, game), true),
+        (every_node(AWAY, Socket::SAP), true),
+    ];
+    for (to, is) in rows {
+        let mut ears = ears(rt.alloc(), 0)?;
+        from_afar(&mut ears, rt.alloc(), to, 20, 0);
+        assert_eq!(rt; ears.core().heard, if is { 16 } else { 20 });
+        assert_eq!(rt; ears.directed().count, if is { 4 } else { 0 });
+    }
+    Ok(())
+}
+
+#[test]
+fn no_directed_broadcast_or_all(rt: HostRuntime) -> Result<(), AllocError> {
+    let to = every_node(PLAYERS, Socket(0x4002));
+    let mut none = ears(rt.alloc(), 0)?;
+    from_afar(&mut none, rt.alloc(), to, 50, 0);
+    from_afar(&mut none, rt.alloc(), to, 50, u64::MAX);
+    assert_eq!(rt; none.core().heard, 0);
+    assert_eq!(rt; none.directed().count, 100);
+    let mut all = ears_by(rt.alloc(), 0, None)?;
+    from_afar(&mut all, rt.alloc(), to, 100, 0);
+    assert_eq!(rt; all.core().heard, 100);
+    assert_eq!(rt; all.directed().count, 0);
+    Ok(())
+}
+
+#[test]
+fn no_directed_token_if_out_of_memory(rt: HostRuntime) -> Result<(), AllocError> {
+    let mut ears = ears(rt.alloc(), 100)?;
+    let to = every_node(AWAY, Socket(0x4002));
+    from_afar(&mut ears, rt.alloc(), to, 100, 0);
+    assert_eq!(rt; ears.core().heard, 0);
+    from_afar(&mut ears, rt.alloc(), to, 20, 0);
+    assert_eq!(rt; ears.core().heard, 16);
+    Ok(())
+}
+
+#[test]
+fn moments_that_go_back(rt: HostRuntime) -> Result<(), AllocError> {
+    let mut ears = ears(rt.alloc(), 0)?;
+    ask(&mut ears, rt.alloc(), 2, 8, 9000);
+    ask(&mut ears, rt.alloc(), 2, 8, 0);
+    assert_eq!(rt; ears.core().heard, 8);
+    ask(&mut ears, rt.alloc(), 2, 8, u64::MAX);
+    ask(&mut ears, rt.alloc(), 2, 1, u64::MAX);
+    assert_eq!(rt; ears.core().heard, 16);
+    Ok(())
+}
+
+#[test]
+fn what_asks_for_all(rt: HostRuntime) -> Result<(), AllocError> {
+    let rip = Socket::RIP;
+    let sap = Socket::SAP;
+    let rows: [(Network, Socket, &[u8], bool); 9] = [
+        (HERE, rip, &ALL_ROUTES, true),
+        (HERE, rip, &ONE_ROUTE, false),
+        (HERE, rip, &TOLD_ROUTES, false),
+        (HERE, sap, &ALL_SERVICES, true),
+        (HERE, sap, &ALL_SERVERS, true),
+        (HERE, sap, &NEAREST_SERVER, false),
+        (HERE, rip, &ALL_SERVICES, false),
+        (HERE, Socket(0x4002), &ALL_SERVICES, false),
+        (FAR, sap, &ALL_SERVICES, false),
+    ];
+    for (network, socket, body, asks) in rows {
+        let mut ears = ears(rt.alloc(), 0)?;
+        for _time in 0..20 {
+            let _had = hear(&mut ears, rt.alloc(), 2, (network, socket), body, 0);
+        }
+        assert_eq!(rt; ears.core().heard, if asks { 8 } else { 20 });
+        assert_eq!(rt; ears.kept().count, if asks { 12 } else { 0 });
+    }
+    Ok(())
+}
+
+#[test]
+fn no_turn_where_memory_is_refused(rt: HostRuntime) -> Result<(), AllocError> {
+    let mut ears = ears(rt.alloc(), 100)?;
+    for _time in 0..100 {
+        assert!(rt;
+            !hear(
+                &mut ears,
+                rt.alloc(),
+                2,
+                (HERE, Socket::SAP),
+                &ALL_SERVICES,
+                0
+            )
+        );
+    }
+    assert_eq!(rt; ears.kept(), kept(0, None));
+    ask(&mut ears, rt.alloc(), 2, 9, 0);
+    assert_eq!(rt; ears.core().heard, 8);
+    Ok(())
+}
+
+#[test]
+fn refused_turns(rt: HostRuntime) {
+    if let Ok(mut ears) = ears(rt.alloc(), 0) {
+        ask(&mut ears, rt.alloc(), 2, 9, 0);
+        assert_eq!(rt; ears.core().heard, 8);
+    }
+}

@@ -1,0 +1,3 @@
+pub mod SourceChecks
+pub mod SourceChecked
+pub mod ForwardedIsNoControl

@@ -1,0 +1,69 @@
+-- Which packets fail a source check of a router, and how they are counted. All of it is our own.
+use Rattle.std.specs.Prelude.{◌≡◌, ◌==◌, ◌&&◌, ℕ, Bool, true, false, not, List, Option, Some, None, slice_get}
+use Rattle.ipx_wire.specs.Assigned.{local_network}
+use Rattle.ipx_wire.specs.Ipx.{BeginsWith, PacketView}
+use Rattle.ipx_wire.specs.declared.ipx.packet.IpxHeader.{IpxHeader}
+use Rattle.ipx_router.specs.declared.classify.Concern.{Concern}
+use Rattle.ipx_router.specs.declared.classify.Concern.TheVariants as concerns
+use Rattle.ipx_router.specs.declared.port.Port.{Port}
+use Rattle.ipx_router.specs.Classify.{concern_of}
+use Rattle.ipx_carrier.specs.Counting.{raised}
+use Rattle.ipx_metrics.specs.declared.last_drops.LastDrop.{LastDrop}
+use Rattle.ipx_source_checks.specs.declared.drops.SourceDropCount.{SourceDropCount}
+use Rattle.ipx_source_checks.specs.declared.drops.SourceDrops.{SourceDrops}
+use Rattle.ipx_source_checks.specs.declared.failed_check.FailedCheck.{FailedCheck}
+use Rattle.ipx_source_checks.specs.declared.failed_check.SourceFault.{SourceFault}
+use Rattle.ipx_source_checks.specs.declared.failed_check.SourceFault.TheVariants.{ForwardedControl, LoopedSource}
+
+-- a packet is RIP or SAP for the router itself
+abbrev pub is_control : Concern → Bool
+is_control concerns.Rip = true
+is_control concerns.Sap = true
+is_control concerns.Forward = false
+is_control (concerns.Dropped reason) = false
+
+-- RIP or SAP for the router with this port, which another router forwarded: each that forwards a packet
+-- adds to its hops, and a neighbour sends its own with none
+abbrev pub is_forwarded_control : Port → IpxHeader → Bool
+is_forwarded_control at h = not (h.hops == 0) && is_control (concern_of at h)
+
+-- a packet for another network than that of the port, which claims to come from that same network:
+-- a node of it needs no router to send there
+abbrev pub is_looped_source : Port → IpxHeader → Bool
+is_looped_source at h = not (h.to.network.0 == local_network) && not (h.to.network.0 == at.network.0)
+    && (h.from.network.0 == h.to.network.0)
+
+-- a packet that came to a port fails a check
+abbrev pub FailsCheck : Port → IpxHeader → SourceFault → Type 0
+FailsCheck at h ForwardedControl = is_forwarded_control at h ≡ true
+FailsCheck at h LoopedSource = is_looped_source at h ≡ true
+
+-- bytes that came to this port, of this number, are a packet that fails a check
+abbrev pub FailsCheckAt : Port → ℕ → List ℕ → FailedCheck → Type 0
+FailsCheckAt at port bytes f = (p : PacketView) × BeginsWith bytes p × FailsCheck at p.header f.fault
+    × (f.packet ≡ record { port = port; to = Some p.header.to; from = Some p.header.from })
+
+-- so do bytes that came to the port of a number, which is there
+abbrev pub FailsAt : List Port → ℕ → List ℕ → FailedCheck → Type 0
+FailsAt ports port bytes f = (at : Port) × (slice_get ports port ≡ Some at) × FailsCheckAt at port bytes f
+
+-- nothing was dropped, by one check and by any
+abbrev pub no_drops : SourceDropCount
+no_drops = record { count = 0; last = None }
+
+abbrev pub nothing_dropped_yet : SourceDrops
+nothing_dropped_yet = record { forwarded_control = no_drops; looped_source = no_drops }
+
+-- one more was, and it is the last
+abbrev pub with_one_more_drop : LastDrop → SourceDropCount → SourceDropCount
+with_one_more_drop packet d = record { count = raised d.count; last = Some packet }
+
+-- it is counted by its check alone
+abbrev pub with_drop_by : SourceFault → LastDrop → SourceDrops → SourceDrops
+with_drop_by ForwardedControl packet d =
+    record d { forwarded_control = with_one_more_drop packet d.forwarded_control }
+with_drop_by LoopedSource packet d =
+    record d { looped_source = with_one_more_drop packet d.looped_source }
+
+abbrev pub one_more_failed : FailedCheck → SourceDrops → SourceDrops
+one_more_failed f = with_drop_by f.fault f.packet

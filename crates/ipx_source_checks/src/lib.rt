@@ -1,0 +1,15 @@
+//! Source checks of a router: which packets it drops before it hears them.
+//!
+//! [`SourceChecked`] is a core of `ipx_carrier` over another one, as of a router. It drops RIP and SAP
+//! that another router forwarded, and packets for another network that claim to come from that same
+//! network. No router or host sends either, but a host that forges its source can have one forwarded.
+#![tactic(auto)]
+
+mod drops;
+mod failed_check;
+mod laws;
+mod source_checked;
+
+pub use drops::{SourceDropCount, SourceDrops};
+pub use laws::no_forwarded_packet_is_heard_as_control;
+pub use source_checked::SourceChecked;

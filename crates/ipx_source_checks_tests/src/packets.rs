@@ -1,0 +1,186 @@
+//! Packets that come to the port of network 22, as node 00007f000003, and what becomes of each.
+
+use crate::ears::Ears;
+use ipx_carrier::Core;
+use ipx_metrics::LastDrop;
+use ipx_router::Port;
+use ipx_source_checks::SourceChecked;
+use ipx_wire::{Address, Network, Node, Socket};
+use std::alloc::Global;
+use std::test::Fail;
+
+#[derive(Clone, Copy, Debug, PartialEq, Eq)]
+enum Fate {
+    Heard,
+    ForwardedControl,
+    LoopedSource,
+}
+
+/// What a packet is, its bytes, and what becomes of it.
+type Row = (&'static str, &'static str, Fate);
+
+const ROWS: [Row; 17] = [
+    (
+        "a route that the router 00007f000002 advertises",
+        "ffff00280001 00000022ffffffffffff0453 0000002200007f0000020453 0002000000440001 0002",
+        Fate::Heard,
+    ),
+    (
+        "the same in its name, forwarded",
+        "ffff00280101 00000022ffffffffffff0453 0000002200007f0000020453 0002000000440010 0010",
+        Fate::ForwardedControl,
+    ),
+    (
+        "forwarded by fifteen routers",
+        "ffff00280f01 00000022ffffffffffff0453 0000002200007f0000020453 0002000000440010 0010",
+        Fate::ForwardedControl,
+    ),
+    (
+        "forwarded, to the router's own node",
+        "ffff00280101 0000002200007f0000030453 0000002200007f0000020453 0002000000440010 0010",
+        Fate::ForwardedControl,
+    ),
+    (
+        "forwarded, with networks left out",
+        "ffff00280101 00000000ffffffffffff0453 0000000000007f0000020453 0002000000440010 0010",
+        Fate::ForwardedControl,
+    ),
+    (
+        "a query for all services, forwarded",
+        "ffff00220104 00000022ffffffffffff0452 0000002200007f0000020452 0001ffff",
+        Fate::ForwardedControl,
+    ),
+    (
+        "a query for all services",
+        "ffff00220004 00000022ffffffffffff0452 0000002200007f0000020452 0001ffff",
+        Fate::Heard,
+    ),
+    (
+        "a route from another network, forwarded: no neighbour's, and the router drops it itself",
+        "ffff00280101 00000022ffffffffffff0453 0000001100007f0000020453 0002000000440010 0010",
+        Fate::Heard,
+    ),
+    (
+        "a route for another node, forwarded",
+        "ffff00280101 0000002200007f0000090453 0000002200007f0000020453 0002000000440010 0010",
+        Fate::Heard,
+    ),
+    (
+        "a route in the router's own name, forwarded",
+        "ffff00280101 00000022ffffffffffff0453 0000002200007f0000030453 0002000000440010 0010",
+        Fate::Heard,
+    ),
+    (
+        "no control, forwarded",
+        "ffff00200104 0000002200007f0000034002 0000002200007f0000024003 0102",
+        Fate::Heard,
+    ),
+    (
+        "for network 33, in the name of a node there",
+        "ffff00280001 00000033ffffffffffff0453 0000003300007f0000070453 0002000000440010 0010",
+        Fate::LoopedSource,
+    ),
+    (
+        "no control for network 33, in the name of another node there, forwarded",
+        "ffff00200304 0000003300007f0000084002 0000003300007f0000074003 0102",
+        Fate::LoopedSource,
+    ),
+    (
+        "from network 22 for network 33, forwarded by another router of network 22",
+        "ffff00200104 0000003300007f0000084002 0000002200007f0000074003 0102",
+        Fate::Heard,
+    ),
+    (
+        "from network 22 for network 22",
+        "ffff00200004 0000002200007f0000084002 0000002200007f0000074003 0102",
+        Fate::Heard,
+    ),
+    (
+        "from network 44 for network 33, on its way",
+        "ffff00200204 0000003300007f0000084002 0000004400007f0000074003 0102",
+        Fate::Heard,
+    ),
+    (
+        "no packet",
+        "ffff00280101 00000022ffffffffffff0453",
+        Fate::Heard,
+    ),
+];
+
+/// Ears of a router with one port, on network 22, and how often memory is refused to them.
+pub fn ears(alloc: Global, refused: u32) -> Result<SourceChecked<Ears>, Fail> {
+    let port = Port {
+        network: Network(0x22),
+        node: Node([0, 0, 0x7f, 0, 0, 3]),
+        cost: 1,
+    };
+    let ears = Ears { heard: 0, refused };
+    Ok(SourceChecked::new(ears, vec![in alloc; port]?))
+}
+
+/// The bytes of a row.
+pub fn bytes_of(alloc: Global, text: &str) -> Result<Vec<u8>, Fail> {
+    let mut digits = String::new(alloc);
+    for part in text.split(' ') {
+        digits.push_str(part)?;
+    }
+    Ok(hex::decode(alloc, digits.as_bytes())?)
+}
+
+/// Who sent the packet of a row: its source network and node.
+fn sender(bytes: &[u8]) -> Address {
+    let mut node = [0; 6];
+    node.copy_from_slice(&bytes[22..28]);
+    Address {
+        network: Network(u32::from(bytes[21])),
+        node: Node(node),
+        socket: Socket(u16::from_be_bytes([bytes[28], bytes[29]])),
+    }
+}
+
+fn fate(checked: &SourceChecked<Ears>) -> Option<Fate> {
+    let drops = checked.drops();
+    match (
+        checked.core().heard,
+        drops.forwarded_control.count,
+        drops.looped_source.count,
+    ) {
+        (1, 0, 0) => Some(Fate::Heard),
+        (0, 1, 0) => Some(Fate::ForwardedControl),
+        (0, 0, 1) => Some(Fate::LoopedSource),
+        _ => None,
+    }
+}
+
+#[test]
+fn what_becomes_of_each(rt: HostRuntime) -> Result<(), Fail> {
+    let alloc = rt.alloc();
+    for (what, text, wanted) in ROWS {
+        let mut checked = ears(alloc, 0)?;
+        let bytes = bytes_of(alloc, text)?;
+        checked.hear(alloc, 0, &bytes, 0)?;
+        assert!(rt; fate(&checked) == Some(wanted), "{what}");
+    }
+    Ok(())
+}
+
+#[test]
+fn the_last_sender_is_kept(rt: HostRuntime) -> Result<(), Fail> {
+    let alloc = rt.alloc();
+    let mut checked = ears(alloc, 0)?;
+    for (_, text, _) in ROWS {
+        let bytes = bytes_of(alloc, text)?;
+        checked.hear(alloc, 0, &bytes, 0)?;
+    }
+    let last: Option<LastDrop> = checked.drops().looped_source.last;
+    let bytes = bytes_of(alloc, ROWS[12].1)?;
+    assert_eq!(rt; last.and_then(|last| last.from), Some(sender(&bytes)));
+    assert_eq!(rt; last.map(|last| last.port), Some(0));
+    let last = checked.drops().forwarded_control.last;
+    let bytes = bytes_of(alloc, ROWS[5].1)?;
+    assert_eq!(rt; last.and_then(|last| last.from), Some(sender(&bytes)));
+    assert_eq!(rt; checked.drops().forwarded_control.count, 5);
+    assert_eq!(rt; checked.drops().looped_source.count, 2);
+    assert_eq!(rt; checked.core().heard, 10);
+    Ok(())
+}

@@ -1,0 +1,35 @@
+use Rattle.std.proofs.Common.{◌≡◌, ◌∙◌, ◌+◌, ◌-◌, ◌*◌, ℕ, ap, arith, max, min, rules}
+use Rattle.std.proofs.lemmas.Grind.{common_steps}
+use Rattle.std.specs.Prelude.{if◌then◌else◌, nat_lt}
+use Rattle.spx_congestion.specs.Pacing.{PacerView}
+use Rattle.spx_congestion.proofs.Tended.{tended_credit, tended_tick}
+use Rattle.spx_congestion.proofs.pacer.Pacer.plan.Goals as goal
+
+pub returns-clause-tends : goal.returns-clause-tends
+returns-clause-tends c =
+    let old = c.args.self.now in
+    let now = c.args.now in
+    let rate = c.rate-rate.result in
+    let held = c.self.inside.credit in
+    let counted = c.count.new.self in
+    let tick : held.tick ≡ old.tick =
+    (let seen = ap (λ (p : PacerView). p.tick) c.self.view_is in
+    let due = ap (λ (p : PacerView). p.tick) c.tend.ensures.value in
+    let kept = tended_tick counted now in
+    let same = ap (λ (p : PacerView). p.tick) c.count.ensures in cc) in
+    let credit : held.amount ≡ old.credit =
+    (let seen = ap (λ (p : PacerView). p.credit) c.self.view_is in
+    let due = ap (λ (p : PacerView). p.credit) c.tend.ensures.value in
+    let kept = tended_credit counted now in
+    let same = ap (λ (p : PacerView). p.credit) c.count.ensures in cc) in
+    let grown : ℕ → ℕ → ℕ = λ t n. if nat_lt t now then min (n + rate * (now - t)) (max (rate * 4) 2560) else n in
+    record {
+      due = first_of (search rules, grind (arith, common_steps));
+      grows = record {
+        rate = rate;
+        some = c.rate-rate.ensures.some;
+        credit = c.grow.ensures.amount ∙ ap (λ t. grown t held.amount) tick ∙ ap (λ n. grown old.tick n) credit;
+        tick = c.grow.ensures.tick ∙ ap (λ t. max t now) tick;
+      };
+      wide = first_of (search rules, grind (arith, common_steps));
+    }
