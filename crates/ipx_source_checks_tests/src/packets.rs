@@ -5,7 +5,7 @@ use ipx_carrier::Core;
 use ipx_metrics::LastDrop;
 use ipx_router::Port;
 use ipx_source_checks::SourceChecked;
-use ipx_wire::{Address, Network, Node, Socket};
+use ipx_wire::{Address, Network, Node, OutOfMemory, Socket};
 use std::alloc::Global;
 use std::test::Fail;
 
@@ -108,7 +108,7 @@ const ROWS: [Row; 17] = [
 ];
 
 /// Ears of a router with one port, on network 22, and how often memory is refused to them.
-pub fn ears(alloc: Global, refused: u32) -> Result<SourceChecked<Ears>, Fail> {
+pub fn ears(alloc: Global, refused: u32) -> Result<SourceChecked<Ears>, OutOfMemory> {
     let port = Port {
         network: Network(0x22),
         node: Node([0, 0, 0x7f, 0, 0, 3]),

@@ -1,13 +1,22 @@
 //! Want of memory below the checks.
 
-use crate::packets::{bytes_of, ears};
+use crate::packets::ears;
 use ipx_carrier::Core;
+use std::alloc::Global;
 use std::test::Fail;
 
 /// A query for all services in the router's own segment, forwarded once.
-const FORGED: &str = "ffff00220104 00000022ffffffffffff0452 0000002200007f0000020452 0001ffff";
+const FORGED: &[u8] = b"ffff0022010400000022ffffffffffff04520000002200007f00000204520001ffff";
 /// The same query, of a neighbour.
-const ASKED: &str = "ffff00220004 00000022ffffffffffff0452 0000002200007f0000020452 0001ffff";
+const ASKED: &[u8] = b"ffff0022000400000022ffffffffffff04520000002200007f00000204520001ffff";
+
+/// The bytes that digits say, though one request for memory is refused.
+fn bytes_at_last(alloc: Global, digits: &[u8]) -> Result<Vec<u8>, Fail> {
+    match hex::decode(alloc, digits) {
+        Ok(bytes) => Ok(bytes),
+        Err(_) => Ok(hex::decode(alloc, digits)?),
+    }
+}
 
 /// Whichever request is refused, nothing is counted twice; and what fails a check needs no memory.
 #[test]
@@ -17,14 +26,8 @@ fn refused_memory_below_the_checks(rt: HostRuntime) -> Result<(), Fail> {
         Ok(checked) => checked,
         Err(_) => ears(alloc, 1)?,
     };
-    let forged = match bytes_of(alloc, FORGED) {
-        Ok(bytes) => bytes,
-        Err(_) => bytes_of(alloc, FORGED)?,
-    };
-    let asked = match bytes_of(alloc, ASKED) {
-        Ok(bytes) => bytes,
-        Err(_) => bytes_of(alloc, ASKED)?,
-    };
+    let forged = bytes_at_last(alloc, FORGED)?;
+    let asked = bytes_at_last(alloc, ASKED)?;
     assert!(rt; checked.hear(alloc, 0, &forged, 0).is_ok());
     assert!(rt; checked.hear(alloc, 0, &asked, 0).is_err());
     assert_eq!(rt; checked.drops().forwarded_control.count, 1);
