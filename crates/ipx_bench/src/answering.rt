@@ -1,4 +1,4 @@
-//! What a router answers, written out as bytes, to be held against another router's answers.
+//! A router's answers, written out as bytes, to be compared with another router's.
 
 ghost use Rattle.std.specs.Prelude.{◌≡◌, ◌≤◌, length};
 
@@ -82,7 +82,7 @@ fn write_told(alloc: Global, out: &mut Vec<u8>, router: &mut Router) -> Result<(
     write_replies(out, &told)
 }
 
-/// What a new router answers to each record, and what it tells then.
+/// The answers of a new router to each record, and then its advertisements.
 fn answers_to(alloc: Global, records: &[u8], size: usize) -> Result<Vec<u8>, OutOfMemory>
     requires { 1 ≤ size }
 {
@@ -93,8 +93,8 @@ fn answers_to(alloc: Global, records: &[u8], size: usize) -> Result<Vec<u8>, Out
     Ok(out)
 }
 
-/// Writes what a new router answers to records of one size and what it tells then, and answers how
-/// many bytes that takes, or 0 where memory ran out. Nothing is written where there is no room.
+/// Writes the answers of a new router to records of one size, and then its advertisements. Returns
+/// how many bytes that takes, or 0 if out of memory. Nothing is written if it does not fit.
 #[unsafe(no_mangle)]
 pub extern "C" fn ipx_bench_answers(
     alloc: Global,

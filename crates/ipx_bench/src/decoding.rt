@@ -1,4 +1,4 @@
-//! Decoding alone.
+//! Decoding only.
 
 use crate::digest::{mixed, packet_digest};
 use ipx_wire::decode;
@@ -10,7 +10,7 @@ fn decoded_digest(bytes: &[u8]) -> u64 {
     }
 }
 
-/// Decodes datagrams of one size, again and again, and answers the digest of what was read.
+/// Decodes datagrams of one size, again and again, and returns the digest of what was read.
 #[unsafe(no_mangle)]
 pub extern "C" fn ipx_bench_decode(datagrams: &[u8], size: usize, rounds: u32) -> u64 {
     if size == 0 {

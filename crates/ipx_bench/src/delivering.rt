@@ -1,4 +1,4 @@
-//! Messages that pass from one host to the other.
+//! Messages that are sent from one host to the other.
 
 ghost use Rattle.std.specs.Prelude.{◌≤◌};
 
@@ -8,7 +8,7 @@ use ipx_wire::OutOfMemory;
 use spx_messages::{Endpoint, Message, Taken};
 use std::alloc::Global;
 
-/// Bytes, cut into messages of a size.
+/// Splits bytes into messages of a size.
 pub fn messages_of(alloc: Global, bytes: &[u8], size: usize) -> Result<Vec<Message>, OutOfMemory>
     requires { 1 ≤ size }
 {
@@ -20,8 +20,7 @@ pub fn messages_of(alloc: Global, bytes: &[u8], size: usize) -> Result<Vec<Messa
     Ok(messages)
 }
 
-/// Carries one datagram from a host to the other, and answers its digest and that of what became of
-/// it.
+/// Carries one datagram from a host to the other, and returns its digest and that of its outcome.
 fn carry(
     alloc: Global,
     from: &mut Endpoint,
@@ -56,7 +55,7 @@ fn carry_all(
     digest
 }
 
-/// Takes all that a host holds. Answers how many units that is, and the digest of the messages.
+/// Takes all that a host holds. Returns how many units that is, and the digest of the messages.
 fn take_all(alloc: Global, host: &mut Endpoint) -> (u16, u64) {
     let mut digest = 0;
     for count in 0..u16::MAX {
@@ -69,7 +68,7 @@ fn take_all(alloc: Global, host: &mut Endpoint) -> (u16, u64) {
     (u16::MAX, digest)
 }
 
-/// Carries datagrams to and fro, and takes what came, until nothing comes.
+/// Carries datagrams in both directions, and takes what arrived, until nothing arrives.
 fn pump(alloc: Global, hosts: &mut Hosts, turns: usize, now: u64) -> u64 {
     let mut room = [0; ROOM];
     let mut digest = 0;
@@ -85,7 +84,7 @@ fn pump(alloc: Global, hosts: &mut Hosts, turns: usize, now: u64) -> u64 {
     digest
 }
 
-/// Sends a message from the near host, and passes it to the far one.
+/// Sends a message from the near host, and carries it to the far one.
 fn deliver(alloc: Global, hosts: &mut Hosts, message: &Message, now: u64) -> u64 {
     match hosts.near.send(alloc, ID, message) {
         Ok(()) => pump(alloc, hosts, message.body.len(), now),
@@ -101,10 +100,9 @@ fn deliver_all(alloc: Global, hosts: &mut Hosts, messages: &[Message], now: u64)
     digest
 }
 
-/// Passes bytes in messages of a size from one host to the other, again and again, each time at a
-/// later moment.
+/// Sends bytes in messages of a size from one host to the other, again and again, each time later.
 ///
-/// Answers the digest of all datagrams, of what became of them, and of the messages taken.
+/// Returns the digest of all datagrams, of their outcomes, and of the messages taken.
 #[unsafe(no_mangle)]
 pub extern "C" fn ipx_bench_deliver(
     alloc: Global,

@@ -1,4 +1,4 @@
-//! Numbers that depend on what a call answered, so that no call can be left out.
+//! Numbers that depend on the result of a call, so that no call can be optimized away.
 
 use crate::faults::reason_number;
 use ipx_router::{InPlace, Outcome, Reply};
@@ -6,7 +6,7 @@ use ipx_wire::{Address, Node, Packet, SpxHeader};
 use spx_link::{Sent, Unit};
 use spx_messages::{Arrived, Message};
 
-/// The digest of what came before and of one number more.
+/// The digest of what came before and one number more.
 pub fn mixed(digest: u64, number: u64) -> u64 {
     digest.wrapping_mul(31).wrapping_add(number)
 }
@@ -45,7 +45,7 @@ fn reply_digest(reply: &Reply) -> u64 {
     sent_digest(reply.port, reply.next, &reply.bytes)
 }
 
-/// The digest of a text: how long it is, and bytes of it.
+/// The digest of a text: its length, and some of its bytes.
 pub fn bytes_digest(bytes: &[u8]) -> u64 {
     let count = bytes.len();
     let ends = mixed(byte_at(bytes, 9), byte_at(bytes, count / 2));
@@ -61,7 +61,7 @@ pub fn replies_digest(replies: &[Reply]) -> u64 {
     digest
 }
 
-/// The digest of what became of a datagram.
+/// The digest of the outcome of a datagram.
 pub fn outcome_digest(outcome: &Outcome) -> u64 {
     match outcome {
         Outcome::Forward(reply) => reply_digest(reply),
@@ -71,7 +71,8 @@ pub fn outcome_digest(outcome: &Outcome) -> u64 {
     }
 }
 
-/// The digest of what became of a datagram in place, by the bytes that are there then.
+/// The digest of the outcome of a datagram that was changed in place, from the bytes that are there
+/// then.
 pub fn in_place_digest(outcome: &InPlace, room: &[u8]) -> u64 {
     match outcome {
         InPlace::Forward { port, next, count } => match room.get(..*count) {
@@ -84,7 +85,7 @@ pub fn in_place_digest(outcome: &InPlace, room: &[u8]) -> u64 {
     }
 }
 
-/// The digest of some bytes: how many they are, and the ones at their ends.
+/// The digest of some bytes: how many there are, and the first and last of them.
 fn ends_digest(bytes: &[u8]) -> u64 {
     let count = bytes.len();
     let ends = byte_at(bytes, 0) ^ byte_at(bytes, count.saturating_sub(1));
@@ -110,8 +111,8 @@ pub fn unit_digest(unit: &Unit) -> u64 {
     mixed(kind, ends_digest(unit.body.as_slice()))
 }
 
-/// The digest of a datagram that a host gave: the node that it goes to next, whose it is and what,
-/// and its bytes at some places.
+/// The digest of a datagram that a host gave: its next node, its connection and kind, and its bytes
+/// at some positions.
 pub fn given_digest(next: Node, sent: Option<(u16, Sent)>, datagram: &[u8]) -> u64 {
     let what = match sent {
         Some((id, what)) => mixed(u64::from(id), what as u64),
@@ -122,7 +123,7 @@ pub fn given_digest(next: Node, sent: Option<(u16, Sent)>, datagram: &[u8]) -> u
     mixed(place ^ sequence, ends_digest(datagram))
 }
 
-/// The digest of what became of a datagram at a host.
+/// The digest of the outcome of a datagram at a host.
 pub fn arrived_digest(arrived: &Arrived) -> u64 {
     match arrived {
         Arrived::Bad(fault) => u64::from(fault.number()),

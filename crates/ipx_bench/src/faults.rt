@@ -3,7 +3,7 @@
 use ipx_router::Reason;
 use ipx_wire::SpxFault;
 
-/// The number of a reason, or that of the fault which it holds.
+/// The number of a reason, or of the fault that it holds.
 pub fn reason_number(reason: Reason) -> u8 {
     match reason {
         Reason::Bad(fault) => fault.number(),
@@ -12,7 +12,7 @@ pub fn reason_number(reason: Reason) -> u8 {
     }
 }
 
-/// Behind the numbers of a link's answers, beside which they stand.
+/// The number of a fault. It comes after the numbers of a link's answers, which it is used with.
 pub fn spx_number(fault: SpxFault) -> u8 {
     match fault {
         SpxFault::SpxShort(_) => 16,

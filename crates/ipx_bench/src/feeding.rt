@@ -1,4 +1,4 @@
-//! Routers of three and of sixteen ports, and datagrams that are handed to them.
+//! Routers with three and with sixteen ports, and datagrams that are handed to them.
 
 ghost use Rattle.std.specs.Prelude.{◌≡◌, ◌≤◌, length, IfOk};
 ghost use Rattle.ipx_router.specs.NewRouter.{IsOwnNetwork};
@@ -7,15 +7,15 @@ use ipx_router::{Outcome, Port, Router};
 use ipx_wire::{Network, Node, OutOfMemory};
 use std::alloc::Global;
 
-/// How many bytes stand before a datagram in a record. The first is the port that it comes in on.
+/// How many bytes precede a datagram in a record. The first is the port where it is received.
 pub const LEAD: usize = 16;
 
-/// The moment at which the first datagrams come in. It is later than any moment of telling, so that
-/// what was heard then does not get old.
+/// The time at which the first datagrams arrive. All advertisements of `telling` are at earlier
+/// times, so that what was learned does not expire.
 pub const MOMENT: u64 = 1 << 60;
 
-/// The port of a number, whose node ends in that number: port 1 is on the network 11 (hexadecimal),
-/// port 2 on 22, and so on.
+/// The port with this number, which is also the end of its node: port 1 is on network 11
+/// (hexadecimal), port 2 on 22, and so on.
 fn port_of(number: u8) -> Port
     requires { 1 ≤ number }
     ensures { IsOwnNetwork result }
@@ -27,7 +27,7 @@ fn port_of(number: u8) -> Port
     }
 }
 
-/// A router with that many ports, of which there are to be 1 to 16.
+/// A router with this many ports, 1 to 16.
 fn router_of(alloc: Global, count: u8) -> Result<Router, OutOfMemory>
     ensures { IfOk result (λ r. length r.ports ≡ count) }
 {
@@ -41,22 +41,22 @@ fn router_of(alloc: Global, count: u8) -> Result<Router, OutOfMemory>
     }
 }
 
-/// A router with ports on the networks 11, 22 and 33 (hexadecimal).
+/// A router with ports on networks 11, 22 and 33 (hexadecimal).
 pub fn router_of_three(alloc: Global) -> Result<Router, OutOfMemory>
     ensures { IfOk result (λ r. length r.ports ≡ 3) }
 {
     router_of(alloc, 3)
 }
 
-/// A router with these three ports and 13 more, the last on the network 110 (hexadecimal).
+/// A router with these three ports and 13 more, the last on network 110 (hexadecimal).
 pub fn router_of_sixteen(alloc: Global) -> Result<Router, OutOfMemory>
     ensures { IfOk result (λ r. length r.ports ≡ 16) }
 {
     router_of(alloc, 16)
 }
 
-/// Hands the datagram of a record to the router at a moment. A record that names none of the first
-/// three ports is no datagram.
+/// Hands the datagram of a record to the router at a given time. A record for none of the first
+/// three ports is not a datagram.
 pub fn feed(
     alloc: Global,
     router: &mut Router,

@@ -4,7 +4,7 @@ use ipx_wire::{Address, Network, Node, OutOfMemory, SPX_MAX_PACKET_SIZE, Socket}
 use spx_messages::Endpoint;
 use std::alloc::Global;
 
-/// The most bytes that a packet takes.
+/// The most bytes of a packet.
 pub const ROOM: usize = SPX_MAX_PACKET_SIZE;
 
 /// The id of the one link of each host.
@@ -27,7 +27,8 @@ pub struct Hosts {
 }
 
 impl Hosts {
-    /// Two hosts, of which the near one has dialled the far one, with so many buffers at each end.
+    /// Two hosts, of which the near one has dialled the far one, with this many buffers at each
+    /// end.
     pub fn new(alloc: Global, buffers: u16) -> Result<Hosts, OutOfMemory> {
         let mut near = Endpoint::new(alloc, NETWORK, NEAR, ROUTER);
         let mut far = Endpoint::new(alloc, NETWORK, FAR, ROUTER);

@@ -1,4 +1,4 @@
-//! Datagrams that a router changes where they stand.
+//! Datagrams that a router changes in place.
 
 ghost use Rattle.std.specs.Prelude.{◌≡◌, ◌≤◌, length};
 
@@ -9,7 +9,7 @@ use ipx_router::Router;
 use ipx_wire::IPX_HEADER_SIZE;
 use std::alloc::Global;
 
-/// Hands a datagram to the router at a moment, and answers the digest of what became of it.
+/// Hands a datagram to the router at a given time, and returns the digest of its outcome.
 fn changed_digest(
     alloc: Global,
     router: &mut Router,
@@ -29,7 +29,7 @@ fn changed_digest(
     }
 }
 
-/// The same with the datagram of a record, whose header is put back as it was.
+/// The same with the datagram of a record, whose header is restored after that.
 fn record_digest(alloc: Global, router: &mut Router, record: &mut [u8], now: u64) -> u64
     requires { length router.old.ports ≡ 3 }
     ensures { length router.new.ports ≡ 3 }
@@ -59,9 +59,9 @@ fn in_place_digests(alloc: Global, router: &mut Router, records: &mut [u8], size
 }
 
 /// Hands each heard record to a new router, and then each timed one in place, again and again, all
-/// at one moment.
+/// at one time.
 ///
-/// Answers the digest of what became of the timed ones. Both kinds of records have one size each.
+/// Returns the digest of the outcomes of the timed ones. Both kinds of records have one size each.
 #[unsafe(no_mangle)]
 pub extern "C" fn ipx_bench_in_place(
     alloc: Global,

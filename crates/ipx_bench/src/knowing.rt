@@ -1,4 +1,4 @@
-//! Writing down what is known.
+//! Writing what a router knows.
 
 ghost use Rattle.std.specs.Prelude.{◌≡◌, length};
 
@@ -9,7 +9,7 @@ use ipx_router::Router;
 use ipx_table_dump::tables_to_text;
 use std::alloc::Global;
 
-/// How far apart two texts are, in milliseconds.
+/// The time between two texts, in milliseconds.
 const PERIOD: u64 = 10;
 
 fn text_digest(alloc: Global, router: &Router, now: u64) -> u64 {
@@ -25,8 +25,8 @@ fn text_digest(alloc: Global, router: &Router, now: u64) -> u64 {
     }
 }
 
-/// Hands each heard record to a new router, which then makes the text of what it knows again and
-/// again. Answers the digest of the texts.
+/// Hands each heard record to a new router, which then writes what it knows as text, again and
+/// again. Returns the digest of the texts.
 #[unsafe(no_mangle)]
 pub extern "C" fn ipx_bench_known(alloc: Global, heard: &[u8], size: usize, rounds: u32) -> u64 {
     if size == 0 {

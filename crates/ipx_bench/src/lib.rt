@@ -1,5 +1,5 @@
-//! The calls of the router, of links and of endpoints in loops, exported for the benchmark beside
-//! plain Rust.
+//! The calls of the router, of links and of endpoints in loops, exported for the benchmark, which
+//! compares them with plain Rust.
 #![tactic(auto)]
 
 mod answering;

@@ -1,4 +1,4 @@
-//! Two links that talk in memory: one dials, and the other accepts.
+//! Two links that exchange packets in memory: one dials, and the other accepts.
 
 ghost use Rattle.std.specs.Prelude.{◌≡◌, ◌≤◌, IfOk, IfSome, length};
 ghost use Rattle.spx_link.specs.Links.{IsLive};
@@ -9,7 +9,7 @@ use ipx_wire::{
 use spx_link::{Links, Sent};
 use std::alloc::Global;
 
-/// The most bytes that a packet of a connection takes: a header of 12, and 534 of data.
+/// The most bytes of a packet of a connection: a header of 12, and 534 of data.
 pub const ROOM: usize = 546;
 
 const SOCKET: Socket = Socket(0x4000);
@@ -35,8 +35,7 @@ pub struct Pair {
 }
 
 impl End {
-    /// Writes the packet that it sends, if there is one. Answers what that is for and how many
-    /// bytes it takes.
+    /// Writes the packet that it sends, if there is one. Returns what kind that is and its length.
     pub fn send(&mut self, now: u64, out: &mut [u8; ROOM]) -> Option<(Sent, usize)>
         requires { IsLive self.old.links self.old.id }
         ensures live { IsLive self.new.links self.new.id }
@@ -47,7 +46,7 @@ impl End {
         Some((packet.what, count))
     }
 
-    /// Reads a packet, and answers the number of what came of it.
+    /// Reads a packet, and returns the number of its outcome.
     pub fn receive(&mut self, header: &SpxHeader, body: &[u8], now: u64) -> u8
         requires live { IsLive self.old.links self.old.id }
         requires fits { length body.now ≤ 534 }
@@ -68,7 +67,7 @@ fn dialed(alloc: Global, buffers: u16) -> Result<End, OutOfMemory>
     }
 }
 
-/// A link that a request asked for.
+/// A link that accepts a request.
 fn accepted(alloc: Global, request: &SpxHeader, buffers: u16) -> Result<End, OutOfMemory>
     ensures { IfOk result (λ e. IsLive e.links e.id) }
 {
@@ -80,7 +79,8 @@ fn accepted(alloc: Global, request: &SpxHeader, buffers: u16) -> Result<End, Out
 }
 
 impl Pair {
-    /// A pair with so many buffers at each end. The request came, and the far end owes its reply.
+    /// A pair with this many buffers at each end. The request has arrived, and the far end owes its
+    /// reply.
     pub fn new(alloc: Global, buffers: u16) -> Result<Pair, OutOfMemory>
         ensures near { IfOk result (λ p. IsLive p.near.links p.near.id) }
         ensures far { IfOk result (λ p. IsLive p.far.links p.far.id) }

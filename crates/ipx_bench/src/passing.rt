@@ -1,4 +1,4 @@
-//! Bytes that pass from one end of a connection to the other.
+//! Bytes that are sent from one end of a connection to the other.
 
 ghost use Rattle.std.specs.Prelude.{◌≡◌, ◌≤◌, ◌<◌, All, IfOk, length};
 ghost use Rattle.spx_link.specs.Limits.{end_stream};
@@ -10,7 +10,7 @@ use ipx_wire::{Fragment, OutOfMemory, SPX_MAX_DATA_SIZE, decode_spx};
 use spx_link::Unit;
 use std::alloc::{AllocError, Global};
 
-/// Adds a unit of so many bytes, built where it stands. What is past its room is left out.
+/// Adds a unit of these bytes, built in place. What does not fit is left out.
 fn push_unit(units: &mut Vec<Unit>, piece: &[u8], stream: u8, last: bool) -> Result<(), AllocError>
     requires { stream < end_stream }
     ensures { All (λ u. u.stream < end_stream) units.old.items
@@ -28,7 +28,7 @@ fn push_unit(units: &mut Vec<Unit>, piece: &[u8], stream: u8, last: bool) -> Res
     Ok(())
 }
 
-/// Bytes, cut into units of a size, each of this stream and with this mark.
+/// Splits bytes into units of a size, each with this stream and this mark.
 pub fn cut(
     alloc: Global,
     bytes: &[u8],
@@ -47,7 +47,7 @@ pub fn cut(
     Ok(units)
 }
 
-/// Carries one packet from an end to another, and answers its digest and that of what came of it.
+/// Carries one packet from an end to another, and returns its digest and that of its outcome.
 fn carry(from: &mut End, to: &mut End, packet: &mut [u8; ROOM], now: u64) -> Option<u64>
     requires from { IsLive from.old.links from.old.id }
     requires to { IsLive to.old.links to.old.id }
@@ -80,7 +80,7 @@ fn carry_all(from: &mut End, to: &mut End, packet: &mut [u8; ROOM], now: u64) ->
     digest
 }
 
-/// Takes all units that an end holds. Answers how many they are, and their digest.
+/// Takes all units that an end holds. Returns how many there are, and their digest.
 fn take_all(end: &mut End) -> (u16, u64)
     requires { IsLive end.old.links end.old.id }
     ensures { IsLive end.new.links end.new.id }
@@ -95,7 +95,7 @@ fn take_all(end: &mut End) -> (u16, u64)
     (u16::MAX, digest)
 }
 
-/// Carries packets to and fro, and takes what came, until nothing comes.
+/// Carries packets in both directions, and takes what arrived, until nothing arrives.
 fn pump(pair: &mut Pair, turns: usize, now: u64) -> u64
     requires near { IsLive pair.old.near.links pair.old.near.id }
     requires far { IsLive pair.old.far.links pair.old.far.id }
@@ -116,7 +116,7 @@ fn pump(pair: &mut Pair, turns: usize, now: u64) -> u64
     digest
 }
 
-/// Offers bytes to the near end in one call, and passes them to the far one.
+/// Offers bytes to the near end in one call, and carries them to the far one.
 fn pass(alloc: Global, pair: &mut Pair, bytes: &[u8], now: u64) -> Result<u64, OutOfMemory>
     requires near { IsLive pair.old.near.links pair.old.near.id }
     requires far { IsLive pair.old.far.links pair.old.far.id }
@@ -130,7 +130,7 @@ fn pass(alloc: Global, pair: &mut Pair, bytes: &[u8], now: u64) -> Result<u64, O
     }
 }
 
-/// Passes bytes, of which so many are offered by one call. Answers the digest of what passed.
+/// Sends bytes, of which one call offers `offered`. Returns the digest of what passed.
 fn pass_all(alloc: Global, pair: &mut Pair, bytes: &[u8], offered: usize, now: u64) -> u64
     requires near { IsLive pair.old.near.links pair.old.near.id }
     requires far { IsLive pair.old.far.links pair.old.far.id }
@@ -145,10 +145,10 @@ fn pass_all(alloc: Global, pair: &mut Pair, bytes: &[u8], offered: usize, now: u
     digest
 }
 
-/// Passes bytes from one end of a connection to the other, again and again, each time at a later
-/// moment. So many of them are offered by one call.
+/// Sends bytes from one end of a connection to the other, again and again, each time later. One
+/// call offers `offered` of them.
 ///
-/// Answers the digest of all packets, of what came of them, and of the units taken.
+/// Returns the digest of all packets, of their outcomes, and of the units taken.
 #[unsafe(no_mangle)]
 pub extern "C" fn ipx_bench_pass(
     alloc: Global,

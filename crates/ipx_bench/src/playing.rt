@@ -1,4 +1,4 @@
-//! A pair of links that is called as a script says, written out as bytes, to be held against
+//! A pair of links that is called as a script says, written out as bytes, to be compared with
 //! another pair's answers.
 
 ghost use Rattle.std.specs.Prelude.{◌≤◌, ◌<◌, ◌+◌, length};
@@ -12,12 +12,12 @@ use ipx_wire::{OutOfMemory, decode_spx};
 use spx_link::{OfferFault, Unit};
 use std::alloc::Global;
 
-/// How many bytes stand before the bytes of an event: what it is, which end (0 the near one), its
-/// moment in 8, how many bytes count in 2, the size of a unit in 2, its stream, and its mark (0 for
-/// none).
+/// How many bytes precede the bytes of an event. They are its kind, its end (0 the near one), its
+/// time in 8 bytes, and how many bytes count in 2. Then come the size of a unit in 2, its stream,
+/// and its mark (0 for none).
 const LEAD: usize = 16;
 
-/// The last stream that is a user's own.
+/// The last stream for users.
 const LAST_STREAM: u8 = 0xfd;
 
 fn number_at(event: &[u8], at: usize) -> u16
@@ -145,7 +145,7 @@ fn write_numbers(end: &End, out: &mut Vec<u8>) -> Result<(), OutOfMemory> {
     Ok(())
 }
 
-/// Makes the call of an event, and writes what it answered and the numbers of the link.
+/// Makes the call of an event, and writes its answer and the numbers of the link.
 fn play(alloc: Global, end: &mut End, event: &[u8], out: &mut Vec<u8>) -> Result<(), OutOfMemory>
     requires live { IsLive end.old.links end.old.id }
     requires whole { 16 ≤ length event.now }
@@ -165,7 +165,7 @@ fn play(alloc: Global, end: &mut End, event: &[u8], out: &mut Vec<u8>) -> Result
     write_numbers(end, out)
 }
 
-/// Makes the call of an event at the end that it names. What is too short is no event.
+/// Makes the call of an event at the end that it names. What is too short is not an event.
 fn play_at(
     alloc: Global,
     pair: &mut Pair,
@@ -187,7 +187,7 @@ fn play_at(
     }
 }
 
-/// What a new pair with so many buffers answers to a script of events of one size.
+/// The answers of a new pair with this many buffers to a script of events of one size.
 fn played(alloc: Global, script: &[u8], size: usize, buffers: u16) -> Result<Vec<u8>, OutOfMemory>
     requires { 1 ≤ size }
 {
@@ -199,8 +199,8 @@ fn played(alloc: Global, script: &[u8], size: usize, buffers: u16) -> Result<Vec
     Ok(out)
 }
 
-/// Writes what a new pair answers to a script, and answers how many bytes that takes, or 0 where
-/// memory ran out. Nothing is written where there is no room.
+/// Writes the answers of a new pair to a script. Returns how many bytes that takes, or 0 if out of
+/// memory. Nothing is written if it does not fit.
 #[unsafe(no_mangle)]
 pub extern "C" fn ipx_bench_play(
     alloc: Global,

@@ -1,4 +1,4 @@
-//! Datagrams that come in at a router.
+//! Datagrams that a router receives.
 
 ghost use Rattle.std.specs.Prelude.{◌≡◌, ◌≤◌, length};
 
@@ -7,7 +7,7 @@ use crate::feeding::{MOMENT, feed, router_of_three};
 use ipx_router::Router;
 use std::alloc::Global;
 
-/// Hands a record to the router, and answers the digest of what became of it.
+/// Hands a record to the router, and returns the digest of its outcome.
 pub fn fed_digest(alloc: Global, router: &mut Router, record: &[u8], now: u64) -> u64
     requires { 3 ≤ length router.old.ports }
     ensures { length router.new.ports ≡ length router.old.ports }
@@ -19,8 +19,8 @@ pub fn fed_digest(alloc: Global, router: &mut Router, record: &[u8], now: u64) -
     }
 }
 
-/// Hands each record to the router, so many milliseconds after the one before it, and answers the
-/// digest of what became of them.
+/// Hands each record to the router, `apart` milliseconds after the one before it, and returns the
+/// digest of their outcomes.
 pub fn fed_digests(
     alloc: Global,
     router: &mut Router,
@@ -42,11 +42,11 @@ pub fn fed_digests(
     digest
 }
 
-/// Hands each heard record to a new router, and then each timed one, again and again: a record
+/// Hands each heard record to a new router, and then each timed one, again and again. A record
 /// comes `apart` milliseconds after the one before it, and a round begins `period` after the one
 /// before.
 ///
-/// Answers the digest of what became of the timed ones. Both kinds of records have one size each.
+/// Returns the digest of the outcomes of the timed ones. Both kinds of records have one size each.
 #[unsafe(no_mangle)]
 pub extern "C" fn ipx_bench_receive(
     alloc: Global,

@@ -1,4 +1,4 @@
-//! What two hosts say to each other, written out as bytes, to be held against two other hosts.
+//! What two hosts send to each other, written out as bytes, to be compared with two other hosts.
 
 ghost use Rattle.std.specs.Prelude.{◌≤◌};
 
@@ -9,7 +9,7 @@ use ipx_wire::OutOfMemory;
 use spx_messages::{Endpoint, Message, Taken};
 use std::alloc::Global;
 
-/// How many milliseconds pass from a turn to the next one: an unanswered unit is then due.
+/// The time between two turns, in milliseconds: an unacknowledged unit is then due.
 const LATER: u64 = 600;
 
 /// How many turns a message has.
@@ -22,7 +22,7 @@ fn write_bytes(out: &mut Vec<u8>, bytes: &[u8]) -> Result<(), OutOfMemory> {
     Ok(())
 }
 
-/// Hands a datagram to a host, and writes what became of it.
+/// Hands a datagram to a host, and writes its outcome.
 fn hand_over(
     alloc: Global,
     to: &mut Endpoint,
@@ -36,8 +36,8 @@ fn hand_over(
     Ok(())
 }
 
-/// Carries one datagram from a host to the other, and writes it. Where `altered`, it comes first
-/// with a bit of its headers turned. False where there is none to send.
+/// Carries one datagram from a host to the other, and writes it. If `altered`, a copy with one bit
+/// of its headers flipped comes first. Returns false if there is none to send.
 fn carry(
     alloc: Global,
     from: &mut Endpoint,
@@ -78,7 +78,7 @@ fn carry_all(
     Ok(())
 }
 
-/// Takes a unit, and writes what that gave. False where no unit was held.
+/// Takes a unit, and writes the result. Returns false if no unit was held.
 fn take(alloc: Global, host: &mut Endpoint, out: &mut Vec<u8>) -> Result<bool, OutOfMemory> {
     match host.take(alloc, ID) {
         Ok(Taken::Nothing) => return Ok(false),
@@ -105,7 +105,7 @@ fn take_all(alloc: Global, host: &mut Endpoint, out: &mut Vec<u8>) -> Result<(),
     Ok(())
 }
 
-/// Carries datagrams to and fro, and takes what came, in some turns from a moment on.
+/// Carries datagrams in both directions, and takes what arrived, in some turns from a time on.
 fn turns(
     alloc: Global,
     hosts: &mut Hosts,
@@ -125,7 +125,7 @@ fn turns(
     Ok(())
 }
 
-/// Sends a message from the near host, and writes whether it was taken.
+/// Sends a message from the near host, and writes whether it was accepted.
 fn send(
     alloc: Global,
     near: &mut Endpoint,
@@ -140,7 +140,7 @@ fn send(
     Ok(())
 }
 
-/// What two hosts say when messages are sent, one after another.
+/// What two hosts send as messages are sent, one after another.
 fn say(
     alloc: Global,
     hosts: &mut Hosts,
@@ -158,7 +158,7 @@ fn say(
     Ok(())
 }
 
-/// What two new hosts with so many buffers say when messages are sent, one after another.
+/// What two new hosts with this many buffers send as messages are sent, one after another.
 fn talk(
     alloc: Global,
     messages: &[Message],
@@ -171,8 +171,8 @@ fn talk(
     Ok(out)
 }
 
-/// Writes what two new hosts say when bytes are sent in messages of a size, and answers how many
-/// bytes that takes, or 0 where memory ran out. Nothing is written where there is no room.
+/// Writes what two new hosts send as bytes are sent in messages of a size. Returns how many bytes
+/// that takes, or 0 if out of memory. Nothing is written if it does not fit.
 #[unsafe(no_mangle)]
 pub extern "C" fn ipx_bench_talk(
     alloc: Global,

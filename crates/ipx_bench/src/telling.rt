@@ -1,4 +1,4 @@
-//! Telling neighbours what is known.
+//! Advertising to neighbours what is known.
 
 ghost use Rattle.std.specs.Prelude.{◌≡◌, ◌≤◌, length};
 
@@ -8,7 +8,7 @@ use crate::receiving::fed_digests;
 use ipx_router::Router;
 use std::alloc::Global;
 
-/// How long a router does not tell again, in milliseconds.
+/// The time between two advertisements of a router, in milliseconds.
 const PERIOD: u64 = 60_000;
 
 fn told_digest(alloc: Global, router: &mut Router, now: u64) -> u64 {
@@ -18,8 +18,8 @@ fn told_digest(alloc: Global, router: &mut Router, now: u64) -> u64 {
     }
 }
 
-/// Hands each heard record to the router, which then tells again and again, each time when it is
-/// due. Answers the digest of what it told.
+/// Hands each heard record to the router, which then advertises again and again, each time when it
+/// is due. Returns the digest of what it advertised.
 fn told_digests(alloc: Global, router: &mut Router, heard: &[u8], size: usize, rounds: u32) -> u64
     requires router { 3 ≤ length router.old.ports }
     requires size { 1 ≤ size }
@@ -33,8 +33,8 @@ fn told_digests(alloc: Global, router: &mut Router, heard: &[u8], size: usize, r
     digest
 }
 
-/// Hands each heard record to a new router of three ports, which then tells again and again, each
-/// time when it is due. Answers the digest of what it told.
+/// Hands each heard record to a new router of three ports, which then advertises again and again,
+/// each time when it is due. Returns the digest of what it advertised.
 #[unsafe(no_mangle)]
 pub extern "C" fn ipx_bench_tell(alloc: Global, heard: &[u8], size: usize, rounds: u32) -> u64 {
     if size == 0 {
@@ -46,7 +46,7 @@ pub extern "C" fn ipx_bench_tell(alloc: Global, heard: &[u8], size: usize, round
     told_digests(alloc, &mut router, heard, size, rounds)
 }
 
-/// The same with a router of sixteen ports. All records come in on the first three.
+/// The same with a router of sixteen ports. All records are received on the first three.
 #[unsafe(no_mangle)]
 pub extern "C" fn ipx_bench_tell_sixteen(
     alloc: Global,

@@ -1,4 +1,4 @@
-//! How long each datagram takes at a router.
+//! How long a router takes for each datagram.
 
 ghost use Rattle.std.specs.Prelude.{◌≡◌, ◌≤◌, length};
 
@@ -10,7 +10,7 @@ use libc::types::timespec;
 use libc::{CLOCK_MONOTONIC, clock_gettime};
 use std::alloc::Global;
 
-/// Nanoseconds since some moment, 0 where the system does not say.
+/// Nanoseconds since some time, 0 if the system does not tell.
 fn nanoseconds() -> u64 {
     let mut time = timespec {
         tv_sec: 0,
@@ -25,15 +25,15 @@ fn nanoseconds() -> u64 {
         .saturating_add(time.tv_nsec.unsigned_abs())
 }
 
-/// Writes the time since a start to a place, if there is one.
+/// Writes the time since a start to a position, if it exists.
 fn note(times: &mut [u64], at: usize, start: u64) {
     if at < times.len() {
         times[at] = nanoseconds().saturating_sub(start);
     }
 }
 
-/// Hands each record to the router as `fed_digests` does, and writes how long each took from a place
-/// on.
+/// Hands each record to the router as `fed_digests` does, and writes how long each took, from a
+/// position on.
 fn timed_digests(
     alloc: Global,
     router: &mut Router,

@@ -1,4 +1,4 @@
--- Turns one after another, as a burst takes them.
+-- Consecutive turns, as a batch takes them.
 use Rattle.std.proofs.Common.{◌≡◌, ◌≤◌, ◌<◌, ℕ, zero, suc, ◌+◌, List, [], ◌∷◌, ◌++◌, length, sum_by, Bool, true, false, Option, Some, None, Result, Ok, Err, IfOk, IfErr, OnOk, IsTrue, ◌↔◌, refl, sym, subst, ap, ◌∙◌, arith, length-append}
 use Rattle.std.proofs.lemmas.List.Elements.{All-nil, All-push}
 use Rattle.std.proofs.lemmas.List.Sums.{sum_by_push}
@@ -12,12 +12,12 @@ use Rattle.ipx_carrier.specs.Counting.{counted}
 use Rattle.ipx_carrier.specs.Device.{TrafficOf}
 use Rattle.ipx_carrier.specs.Driving.{AreBusy, BurstsBy, CanBeginBy, ChainBy, CountsTurns, EndsBy, IsIdle, Stops, TakesTurnBy, TurnTaken, no_turns, refused}
 
--- a turn can be begun over the same as before
+-- a turn can begin over the same as before
 pub begins_again : {ports ports_now device device_now failed failed_now : ℕ} → ports_now ≡ ports
     → device_now ≡ device → failed_now ≡ failed → CanBeginBy ports device failed → CanBeginBy ports_now device_now failed_now
 begins_again e f g can = rw (e, f, g) can
 
--- where none can be begun, the first one ends the burst, and there is none where none is to be taken
+-- if none can begin, the first one ends the batch; none is taken if at most none is allowed
 pub refused_first : (count most : ℕ) (x y : Batch) (f : RunFault) → count < most → x ≡ no_turns → f ≡ Device
     → y ≡ record x { fault = Some f } → y ≡ refused most
 refused_first count zero x y f few none e is = absurd (omega (arith, few))
@@ -52,7 +52,7 @@ is_busy_so b r h e idle = subst holds (sym (h.1 idle) ∙ e) tt
 pub refused_none : (count most : ℕ) (x : Batch) → count ≡ 0 → count ≡ most → x ≡ no_turns → x ≡ refused most
 refused_none count most x first all none = rw (← all, first, none) refl
 
--- a turn that was taken, by what it answers
+-- a turn that was taken, by its result
 module _ {C K : Type 0} (hears hear_out_of_memory : C → ℕ → List ℕ → ℕ → C → Type 0)
     (gives : C → ℕ → Option Given → C → Type 0) (next_out_of_memory : C → ℕ → C → Type 0)
     (tells : K → ℕ → K → Type 0) (ports : ℕ) {A : Type 0} (transmissions : Ways A) where
@@ -63,7 +63,7 @@ module _ {C K : Type 0} (hears hear_out_of_memory : C → ℕ → List ℕ → �
   takes before after l m b c (Ok report) well ill = well
   takes before after l m b c (Err f) well ill = ill
 
-  -- what passed is not told any more
+  -- the traffic is not stated any more
   pub ran_untold : (before after : Option (TrafficOf A)) (l m : K) (b c : C) (report : Report)
       → RunsBy hears gives tells ports transmissions 1 before after l m b c report → RunsBy hears gives tells ports transmissions 1 None None l m b c report
   ran_untold before after l m b c report h = (h.0, h.1, h.2, tt, h.4, h.5)
@@ -72,7 +72,7 @@ module _ {C K : Type 0} (hears hear_out_of_memory : C → ℕ → List ℕ → �
       → EndsEarlyBy hears hear_out_of_memory gives next_out_of_memory tells ports transmissions 1 before after l m f b c → EndsEarlyBy hears hear_out_of_memory gives next_out_of_memory tells ports transmissions 1 None None l m f b c
   ended_untold before after l m f b c h = (h.0, h.1, h.2, h.3, h.4, h.5, h.6, tt, h.8)
 
--- what holds of a turn in any case
+-- what holds of any turn
 pub on_whole : {P : Type 0} (ran : Result Report RunFault) → P → OnOk ran P
 on_whole (Ok report) p = p
 on_whole (Err f) p = tt
@@ -97,14 +97,14 @@ more_counts ts t x y h counts = (
   more_counted (λ t. t.report.unmapped) ts t x.unmapped y.unmapped h.2 counts.2,
 )
 
--- a turn by its report and what was kept back
+-- a turn by its report and the counts of filtered datagrams
 abbrev pub taken : Report → ℕ → ℕ → TurnTaken
 taken r before after = record { report = r; before = before; after = after }
 
 module _ {C K : Type 0} (hears : C → ℕ → List ℕ → ℕ → C → Type 0)
     (gives : C → ℕ → Option Given → C → Type 0) (tells : K → ℕ → K → Type 0)
     (ports : ℕ) {A : Type 0} (transmissions : Ways A) where
-  -- so many whole turns, none of them idle, and their counts
+  -- this many whole turns, none of them idle, and their counts
   abbrev pub Goes : ℕ → Batch → ℕ → ℕ → K → K → C → C → Type 0
   Goes count b kept kept_after clock clock_after old new = (turns : List TurnTaken) × (length turns ≡ count)
       × ChainBy hears gives tells ports transmissions turns kept kept_after clock clock_after old new
@@ -160,7 +160,7 @@ module _ {C K : Type 0} (hears hear_out_of_memory : C → ℕ → List ℕ → �
   nothing_more fault j l b e =
       subst (λ (it : Option RunFault). EndsBy hears hear_out_of_memory gives next_out_of_memory tells ports transmissions it j j l l b b) (sym e) (refl, refl, refl)
 
-  -- no fault ended it, and it is not quiet: there were so many turns
+  -- no fault ended the batch, and it is not quiet: all turns were taken
   pub ends_at_most : (count most : ℕ) (i j : ℕ) (k l : K) (a b : C) (x : Batch) → count ≡ most → x.fault ≡ None → x.quiet ≡ false
       → Goes hears gives tells ports transmissions count x i j k l a b
       → BurstsBy hears hear_out_of_memory gives next_out_of_memory tells ports transmissions most x i j k l a b

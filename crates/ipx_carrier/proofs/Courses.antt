@@ -92,7 +92,7 @@ module _ {C : Type 0} (hears : C → ℕ → List ℕ → ℕ → C → Type 0)
         ap (λ x. plus x y) h.5 ∙ ap (λ y. plus (report_of transmissions ts) y) k.5 ∙ sym (more_reported transmissions ts us),
       )
 
-  -- the same where the count of ports is written otherwise
+  -- the same if the count of ports is written in another way
   pub ran_more : (here m : ℕ) (there : Ways A) (s t u : Option (TrafficOf A)) (r r' r'' : K) (a b c : C) (x y z : Report) → here ≡ ports → there ≡ transmissions → RunsBy hears gives tells ports transmissions m s t r r' a b x → RunsBy hears gives tells here there 1 t u r' r'' b c y → z ≡ plus x y → RunsBy hears gives tells ports transmissions (m + 1) s u r r'' a c z
   ran_more here m there s t u r r' r'' a b c x y z e w h k is =
       let k' : RunsBy hears gives tells ports transmissions 1 t u r' r'' b c y = subst (λ v. RunsBy hears gives tells ports v 1 t u r' r'' b c y) w (subst (λ n. RunsBy hears gives tells n there 1 t u r' r'' b c y) e k) in

@@ -1,4 +1,4 @@
--- What waits at the ports of a device that is asked again and again.
+-- What waits at the ports of a device that is asked repeatedly.
 use Rattle.std.proofs.Common.{◌≡◌, ℕ, List, [], ◌∷◌, ◌++◌, map, filter, take, drop, Option, Some, None, refl, sym, ap, ◌∙◌, subst, inl, inr, cond, Bool, true, false}
 use Rattle.std.specs.Prelude.{suc, zero, replicate, slice_get, slice_set, option_map, ◌==◌}
 use Rattle.std.proofs.lemmas.Bool.{eqb-true, eqb-false}
@@ -22,7 +22,7 @@ pub takes_on : {A : Type 0} (room : ℕ) (s t u : Option (TrafficOf A)) (a b c :
 takes_on room s t u a b c h k =
     (h.0 ++ k.0, h.1 ++ k.1, passes_on s t u h.0 k.0 h.1 k.1 h.2 k.2, leave_on room a b c h.0 k.0 h.3 k.3)
 
--- the same where the room is written otherwise
+-- the same if the length of the buffer is written in another way
 pub takes_more : {A : Type 0} (here room : ℕ) (s t u : Option (TrafficOf A)) (a b c : Option WaitingDatagrams) → here ≡ room → TakesFromDevice room s t a b → TakesFromDevice here t u b c → TakesFromDevice room s u a c
 takes_more here room s t u a b c e h k = takes_on room s t u a b c h (subst (λ n. TakesFromDevice n t u b c) e k)
 
@@ -34,7 +34,7 @@ get_set_same (z ∷ xs) zero x y e = refl
 get_set_same (z ∷ xs) (suc i) x y e = get_set_same xs i x y e
 get_set_same [] i x y e = cc
 
--- where none waits, none was before and none is left
+-- if none waits, none waited before and none is left
 none_left : (room : ℕ) (first left : List (List ℕ)) (nothing : ℕ) (answers : List (Option (List ℕ))) (answer : Option (List ℕ)) → answer ≡ None → [] ≡ first ++ left → answers ≡ map (λ d. Some (take room d)) first ++ replicate nothing None → DrainsPort room [] (answer ∷ answers) left
 none_left room [] left nothing answers answer e w a = ([], suc nothing, w, ap (λ o. o ∷ answers) e ∙ ap (λ os. None ∷ os) a, inr (sym w))
 none_left room (d ∷ first) left nothing answers answer e w a = cc
@@ -55,7 +55,7 @@ abbrev DrainsAt : ℕ → ℕ → WaitingDatagrams → List (List ℕ) → List 
 DrainsAt room port waiting here received = (left : List (List ℕ)) × (slice_get waiting port ≡ Some left)
     × DrainsPort room here (map (λ r. r.bytes) received) left
 
--- one more answer before the others: of the port that is asked about, or of another one
+-- one more answer before the others, of this port or of another one
 one_first : (room : ℕ) (r : Reception) (rs : List Reception) (waited waiting : WaitingDatagrams) (there : List (List ℕ)) → slice_get waited r.port ≡ Some there → r.bytes ≡ option_map (take room) (slice_get there 0) → ((p : ℕ) (here : List (List ℕ)) → slice_get (slice_set waited r.port (drop 1 there)) p ≡ Some here → DrainsAt room p waiting here (filter (λ q. q.port == p) rs)) → (p : ℕ) (here : List (List ℕ)) → slice_get waited p ≡ Some here → (b : Bool) → (r.port == p) ≡ b → DrainsAt room p waiting here (cond b (r ∷ filter (λ q. q.port == p) rs) (filter (λ q. q.port == p) rs))
 one_first room r rs waited waiting there e a each p here g true is =
     let at : r.port ≡ p = eqb-true r.port p is in

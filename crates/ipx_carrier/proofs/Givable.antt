@@ -1,4 +1,4 @@
--- What a router gives leaves by its ports, and fits the room of a run.
+-- What a router gives leaves by its ports, and fits the buffer of a run.
 use Rattle.std.proofs.Common.{◌≤◌, ℕ, List, [], ◌∷◌, length, arith}
 use Rattle.std.proofs.lemmas.List.Elements.{All-cons, All-head, All-nil, All-tail}
 use Rattle.ipx_wire.specs.Ipx.{IsIpx, PacketView}
@@ -20,7 +20,7 @@ own_are_givable n (s ∷ ss) p o =
     let own : IsOwn s = All-head IsOwn s ss o in
     All-cons (CanBeSent n) s ss (All-head OnPort s ss p, packet_fits own.packet s.bytes own.is) (own_are_givable n ss (All-tail OnPort s ss p) (All-tail IsOwn s ss o))
 
--- what an answer gives to be sent is givable
+-- the packets of an answer are givable
 abbrev pub IsGivableAnswer : ℕ → OutcomeView → Type 0
 IsGivableAnswer n (Forward port next bytes) = AreGivable n (one_forwarded port next bytes)
 IsGivableAnswer n (Replies sent) = AreGivable n sent

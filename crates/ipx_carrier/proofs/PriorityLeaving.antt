@@ -11,38 +11,38 @@ use Rattle.ipx_carrier.proofs.PriorityStaying.{all_once, keeps_on, keeps_rest, n
 
 -- ---- one packet
 
--- nothing is popped of nothing alone
+-- only an empty queue pops nothing
 none_left : {A : Type 0} (xs ys : List A) → xs ≡ ys → ys ≡ drop 1 xs → xs ≡ []
 none_left [] ys e rest = refl
 none_left (x ∷ xs) ys e rest = absurd (omega (arith, ap length e, ap length rest))
 
--- the first that is forwarded leaves
+-- the first forwarded packet leaves
 pub forwarded_leaves : (w w' q : List Reply) (row row' : ℕ) (r : Reply) → w ≡ r ∷ w' → row' ≡ row_behind (sendings q) → Dequeues (priority_queues w q row) (Some (sending_of r)) (priority_queues w' q row')
 forwarded_leaves w w' q row row' r e is =
     inl (ap sendings e, ap (λ n. priority_queues w' q n) is)
 
--- the first of its own does
+-- the first of its own leaves
 pub own_leaves : (q q' : List Reply) (row row' : ℕ) (r : Reply) → q ≡ r ∷ q' → row < max_originated_run → row' ≡ row + 1 → Dequeues (priority_queues [] q row) (Some (sending_of r)) (priority_queues [] q' row')
 own_leaves q q' row row' r e less is =
     inr (refl, ap sendings e, less, ap (λ n. priority_queues [] q' n) is)
 
--- none does behind the most
+-- none leaves after the most in a row
 pub row_ends : (q : List Reply) (row row' : ℕ) → max_originated_run ≤ row → row' ≡ 0 → Dequeues (priority_queues [] q row) None (priority_queues [] q row')
 row_ends q row row' most is = (refl, inr most, ap (λ n. priority_queues [] q n) is)
 
--- or where there is none
+-- or if there is none
 pub none_leaves : (q q' : List Reply) (row row' : ℕ) → q ≡ q' → q' ≡ drop 1 q → row' ≡ 0 → Dequeues (priority_queues [] q row) None (priority_queues [] q' row')
 none_leaves q q' row row' e rest is =
     (refl, inl (ap sendings (none_left q q' e rest)), ap (λ (xs : List Reply). priority_queues [] xs row') (sym e) ∙ ap (λ n. priority_queues [] q n) is)
 
--- its own leave where nothing is forwarded
+-- its own leave if none is forwarded
 pub behind_none : (w w' q q' : List Reply) (row row' : ℕ) (leaving : Option SendingView) → w ≡ w' → w' ≡ drop 1 w → Dequeues (priority_queues [] q row) leaving (priority_queues [] q' row') → Dequeues (priority_queues w q row) leaving (priority_queues w' q' row')
 behind_none w w' q q' row row' leaving e rest h =
     let none : w ≡ [] = none_left w w' e rest in
     subst (λ (xs : List Reply). Dequeues (priority_queues xs q row) leaving (priority_queues w' q' row')) (sym none)
     (subst (λ (xs : List Reply). Dequeues (priority_queues [] q row) leaving (priority_queues xs q' row')) (sym none ∙ e) h)
 
--- ---- all that leave until none does
+-- ---- all that leave, until none does
 
 none_then : (q new : PriorityQueues) (leaving : Option SendingView) → Dequeues q leaving new → None ≡ option_map given_of leaving → Dequeues q None new
 none_then q new None h is = h
@@ -67,7 +67,7 @@ left_of_none : (n : ℕ) → drop {A = SendingView} n [] ≡ []
 left_of_none zero = refl
 left_of_none (suc n) = refl
 
--- none of its own leaves where it has none, or where the most left
+-- none of its own leaves if it has none, or if the most in a row left
 no_more : (own : List SendingView) (row : ℕ) (new : PriorityQueues) → (own ≡ []) ⊎ (max_originated_run ≤ row) → new ≡ all_of [] own 0 → LeaveInOrder (all_of [] own row) [] new
 no_more own row new (inl none) is =
     let taken = ap (λ (xs : List SendingView). take (max_originated_run - row) xs) none ∙ taken_of_none (max_originated_run - row) in
@@ -81,14 +81,14 @@ same_row : (w own : List SendingView) → max_of_own w own (row_behind own) ≡ 
 same_row [] own = refl
 same_row (s ∷ w) own = refl
 
--- one that is forwarded leaves
+-- a forwarded packet leaves
 one_forwarded_more : (p : Given) (ps : List Given) (s : SendingView) (w own : List SendingView) (row : ℕ) (new : PriorityQueues) → p ≡ given_of s → LeaveInOrder (all_of w own (row_behind own)) ps new → LeaveInOrder (all_of (s ∷ w) own row) (p ∷ ps) new
 one_forwarded_more p ps s w own row new is rest = (
   ap (λ (x : Given). x ∷ ps) is ∙ ap (λ (xs : List Given). given_of s ∷ xs) (rest.0 ∙ ap (λ n. map given_of (w ++ take n own)) (same_row w own)),
   rest.1 ∙ ap (λ n. all_of [] (drop n own) 0) (same_row w own),
 )
 
--- one of its own does
+-- one of its own leaves
 one_own_more : (p : Given) (ps : List Given) (s : SendingView) (own : List SendingView) (row : ℕ) (new : PriorityQueues) → p ≡ given_of s → row < max_originated_run → LeaveInOrder (all_of [] own (row + 1)) ps new → LeaveInOrder (all_of [] (s ∷ own) row) (p ∷ ps) new
 one_own_more p ps s own row new is less rest =
     let more : max_originated_run - row ≡ suc (max_originated_run - (row + 1)) = omega (arith, less) in (
@@ -114,7 +114,7 @@ last_of q new h =
     subst (λ (c : PriorityQueues). LeaveInOrder c [] new) (sym before)
     (no_more q.own q.originated_run new h.1 (h.2 ∙ ap (λ (w : List SendingView). all_of w q.own 0) h.0))
 
--- these were given until none was
+-- these were given, then none was
 pub record AreGivenSo (now : ℕ) (packets : List Given) (old new : PriorityCoreView) : Type 0 where
   pub ready : PriorityCoreView
   pub is_ready : PriorityStartsAndTells old now ready

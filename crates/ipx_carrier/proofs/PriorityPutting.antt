@@ -47,7 +47,7 @@ put_by_priority_is f (Dropped reason) w w' q q' row d d' router started h = thre
 
 -- ---- what the queues keep
 
--- what leaves is givable
+-- what leaves can be sent
 pub leaving_givable : (n : ℕ) (s : SendingView) (old new : PriorityQueues) → Dequeues old (Some s) new → AreGivable n old.forwarded → AreGivable n old.own → CanBeSent n s
 leaving_givable n s old new (inl h) gw gq = first_givable n s old.forwarded new.forwarded h.0 gw
 leaving_givable n s old new (inr h) gw gq = first_givable n s old.own new.own h.1 gq
@@ -70,14 +70,14 @@ kept_leaving n w w' q q' row row' None kw kq h = (kept_same n w w' (ap (λ (c : 
 pub kept_given : (n : ℕ) (w w' q q' : List Reply) (row row' : ℕ) (given : Option Given) → IsKept n w → IsKept n q → GivesNext (priority_queues w q row) given (priority_queues w' q' row') → IsKept n w' × IsKept n q'
 kept_given n w w' q q' row row' given kw kq h = kept_leaving n w w' q q' row row' h.0 kw kq h.1
 
--- ---- what a core hears and gives
+-- ---- what a core receives and gives
 
--- queues that are as they were
+-- queues that did not change
 pub same_queues : (f : OutcomeCounters) (router : RouterView) (w w' q q' : List Reply) (row : ℕ) (started : Bool) (d d' : ℕ) → (w' ≡ w) × (q' ≡ q) × (d' ≡ d) → core_of f router (priority_queues w' q' row) started d' ≡ core_of f router (priority_queues w q row) started d
 same_queues f router w w' q q' row started d d' h =
     ap (λ (xs : List Reply). core_of f router (priority_queues xs q' row) started d') h.0 ∙ ap (λ (xs : List Reply). core_of f router (priority_queues w xs row) started d') h.1 ∙ ap (λ d. core_of f router (priority_queues w q row) started d) h.2
 
--- its own that are as they were
+-- a queue of its own that did not change
 pub same_core : (f : OutcomeCounters) (router : RouterView) (w items items' : List Reply) (row : ℕ) (started started' : Bool) (d d' : ℕ) → (items' ≡ items) × (d' ≡ d) → started' ≡ started → core_of f router (priority_queues w items' row) started' d' ≡ core_of f router (priority_queues w items row) started d
 same_core f router w items items' row started started' d d' h s =
     ap (λ (xs : List Reply). core_of f router (priority_queues w xs row) started' d') h.0 ∙ ap (λ d. core_of f router (priority_queues w items row) started' d) h.1 ∙ ap (λ s. core_of f router (priority_queues w items row) s d) s

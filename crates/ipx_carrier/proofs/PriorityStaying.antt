@@ -12,9 +12,9 @@ use Rattle.ipx_router.specs.Telling.{AreTellings, is_due}
 use Rattle.ipx_carrier.specs.RouterQueues.{TellsNow, dropped_behind, max_queued, put_behind}
 use Rattle.ipx_carrier.specs.PriorityRouterCore.{PriorityQueues, PriorityCoreView, HoldsTheSame, KeepsAllButQueues, Dequeues, PriorityStartsAndTells}
 
--- ---- what is told, and when
+-- ---- what is advertised, and when
 
--- it is not time to tell behind a telling at that moment
+-- none is due at the time of an advertisement that was just sent
 told_by : (k : Known) (last told : Option ℕ) (now : ℕ) (sent : List SendingView) (due : Bool) → is_due last now ≡ due
     → MatchBool due (AreTellings k.ports k.routes k.services now 1 k.ports sent × (told ≡ Some now)) ((sent ≡ []) × (told ≡ last)) → is_due told now ≡ false
 told_by k last told now sent true e h =
@@ -27,7 +27,7 @@ none_told : (k : Known) (last told : Option ℕ) (now : ℕ) (sent : List Sendin
 none_told k last told now sent true e h = absurd (cc)
 none_told k last told now sent false e h = h
 
--- behind a telling none is due at that moment
+-- after an advertisement none is due at that time
 pub not_due : (old new : RouterView) (now : ℕ) (sent : List SendingView) → TellsNow old now sent new → is_due new.told now ≡ false
 not_due old new now sent h = told_by (known_at old now) old.told new.told now sent (is_due old.told now) refl h.0
 
@@ -51,7 +51,7 @@ still_twice now (Some v) = still_by now v (is_young now v.1) refl
 still_same : {M : Type 0} (now : ℕ) (first second third : Option (M × ℕ)) → second ≡ still now first → third ≡ still now second → third ≡ second
 still_same now first second third e k = k ∙ ap (still now) e ∙ still_twice now first ∙ sym e
 
--- asked again at a moment, it holds what it held
+-- asked again at the same time, it holds what it held
 told_again : (old mid new : RouterView) (now : ℕ) (first second : List SendingView) → TellsNow old now first mid → TellsNow mid now second new → HoldsTheSame mid new
 told_again old mid new now first second h k = (
   record {
@@ -103,14 +103,14 @@ drops_nothing_by false q d e (inr less) = grind (arith)
 drops_nothing : (q : List SendingView) (d : ℕ) → IsCounted q d → dropped_behind q [] d ≡ d
 drops_nothing q d h = drops_nothing_by (nat_le (length q + 0) max_queued) q d refl h
 
--- ---- a core that started and told is asked again
+-- ---- a core that started and advertised is asked again
 
 -- its own are no more than they were
 pub no_more_own : (s : SendingView) (old new : PriorityQueues) → Dequeues old (Some s) new → length new.own ≤ length old.own
 no_more_own s old new (inl h) = omega (arith, ap (λ (q : PriorityQueues). length q.own) h.1)
 no_more_own s old new (inr h) = omega (arith, ap length h.1)
 
--- nothing is put behind its own
+-- nothing is put after its own
 puts_nothing : (now : ℕ) (old ready mid again : PriorityCoreView) → (h : PriorityStartsAndTells old now ready) → mid ≡ record ready { queues = mid.queues } → (g : PriorityStartsAndTells mid now again) → (g.0 ≡ []) × (g.1 ≡ [])
 puts_nothing now old ready mid again h m g =
     let router : mid.router ≡ h.2 = ap (λ (c : PriorityCoreView). c.router) m ∙ ap (λ (c : PriorityCoreView). c.router) h.5 in
@@ -172,7 +172,7 @@ keeps_on a b c h k = (
       (ap (λ (x : PriorityCoreView). x.outcomes) k.1 ∙ ap (λ (x : PriorityCoreView). x.outcomes) h.1),
 )
 
--- where only the queues change, all else stays
+-- if only the queues change, all else stays
 pub keeps_rest : (old new : PriorityCoreView) → new ≡ record old { queues = new.queues } → KeepsAllButQueues old new
 keeps_rest old new e =
     let router : new.router ≡ old.router = ap (λ (c : PriorityCoreView). c.router) e in

@@ -52,18 +52,18 @@ kept_leaving n q q' None k h = kept_same n q q' (h.1 ∙ sym h.0) k
 pub kept_given : (n : ℕ) (q q' : List Reply) (given : Option Given) → IsKept n q → GivesFront (sendings q) given (sendings q') → IsKept n q'
 kept_given n q q' given k h = kept_leaving n q q' h.0 k h.1
 
--- nothing is popped of nothing alone
+-- only an empty queue pops nothing
 pub none_left : {A : Type 0} (xs ys : List A) → xs ≡ ys → ys ≡ drop 1 xs → (xs ≡ []) × (ys ≡ [])
 none_left [] ys e rest = (refl, sym e)
 none_left (x ∷ xs) ys e rest = absurd (omega (arith, ap length e, ap length rest))
 
--- the front of packets that are givable
+-- the first of packets that can be sent
 pub front_givable : (n : ℕ) (s : SendingView) (q q' : List SendingView) → Leaves q (Some s) q' → AreGivable n q → CanBeSent n s
 front_givable n s q q' h g = first_givable n s q q' h g
 
--- ---- what a core hears and gives
+-- ---- what a core receives and gives
 
--- a queue that is as it was
+-- a queue that did not change
 pub same_core : (f : OutcomeCounters) (router : RouterView) (q q' : List Reply) (started started' : Bool) (d d' : ℕ) → (q' ≡ q) × (d' ≡ d) → started' ≡ started → core_of f router (sendings q') started' d' ≡ core_of f router (sendings q) started d
 same_core f router q q' started started' d d' h s =
     ap (λ (xs : List Reply). core_of f router (sendings xs) started' d') h.0 ∙ ap (λ d. core_of f router (sendings q) started' d) h.1 ∙ ap (λ s. core_of f router (sendings q) s d) s

@@ -1,4 +1,4 @@
--- A queue of packets of a router that are to be sent, as both of its cores use it.
+-- A queue of packets that a router is to send, as both of its cores use it.
 use Rattle.std.proofs.Common.{◌≡◌, ◌≤◌, ℕ, ◌+◌, ◌-◌, ◌^◌, Bool, true, false, List, ◌∷◌, ◌++◌, length, min, nat_le, refl, sym, ap, subst, arith, cond, length-append, MatchBool, Result, Ok, Err}
 use Rattle.std.proofs.lemmas.List.Elements.{All-append, All-head, All-tail}
 use Rattle.std.proofs.lemmas.List.{length-map}
@@ -38,7 +38,7 @@ givable_cases false n sent q q' d d' gq gs h = subst (AreGivable n) (sym h.0) gq
 pub put_keeps_givable : (n : ℕ) (sent q q' : List SendingView) (d d' : ℕ) → AreGivable n q → AreGivable n sent → Puts sent q d q' d' → AreGivable n q'
 put_keeps_givable n sent q q' d d' gq gs h = givable_cases (nat_le (length q + length sent) max_queued) n sent q q' d d' gq gs h
 
--- the first of packets that are givable
+-- the first of packets that can be sent
 pub first_givable : (n : ℕ) (s : SendingView) (q rest : List SendingView) → q ≡ s ∷ rest → AreGivable n q → CanBeSent n s
 first_givable n s q rest e g = All-head (CanBeSent n) s rest (subst (AreGivable n) e g)
 
@@ -59,7 +59,7 @@ kept_same n items items' e kept = record {
   givable = subst (AreGivable n) (sym e) kept.givable;
 }
 
--- one whose first packet left
+-- a queue whose first packet left
 pub kept_rest : (n : ℕ) (s : SendingView) (items items' : List Reply) → sendings items ≡ s ∷ sendings items' → IsKept n items → IsKept n items'
 kept_rest n s items items' e kept = record {
   few = omega (arith, kept.few, length-map items sending_of, length-map items' sending_of, ap length e);
@@ -71,7 +71,7 @@ kept_next router router' items items1 items2 started d d1 d2 now kept h k =
     let begun = kept_by_put (length router.ports) h.0 items items1 d d1 kept h.3 h.2 in
     kept_by_put (length router.ports) k.0 items1 items2 d1 d2 begun k.3 k.2
 
--- what is so at an error twice over
+-- what holds at an error, twice
 pub err_both : {T E : Type 0} (r : Result T E) (P Q : Type 0) → OnErr r P → OnErr r Q → OnErr r (P × Q)
 err_both (Ok x) P Q p q = tt
 err_both (Err e) P Q p q = (p, q)

@@ -17,7 +17,7 @@ use Rattle.ipx_carrier.specs.Parts.{SendsAll, SendsEach, SendsNext, SendsSome, t
 use Rattle.ipx_carrier.specs.PortDrivers.{SendsFrontOf, copies_count}
 use Rattle.ipx_carrier.proofs.Passing.{count-append, passes_nothing, passes_sent}
 
--- of what is sent to each, a front is sent to the first
+-- of the copies for all packets, the first ones are those of the first packet
 pub front_of_map : {A B : Type 0} (f : A → B) (xs : List A) (n : ℕ) → n < length xs → IsFrontOf (map f (take n xs)) (map f xs)
 front_of_map f [] n lt = absurd (omega arith)
 front_of_map f (x ∷ xs) zero lt = (f x, map f xs, refl)
@@ -46,7 +46,7 @@ pub one_sent_in_part : {C A : Type 0} (gives : C → ℕ → Option Given → C 
 one_sent_in_part gives next_out_of_memory now transmissions p s t a b h k =
     (p ∷ [], k.0, ((b, h, refl), lit≤ tt, ([], p, k.0, refl, k.1, refl)), k.2)
 
--- a packet that is withheld
+-- a packet for which the core runs out of memory
 pub none_sent : {C A : Type 0} (gives : C → ℕ → Option Given → C → Type 0) (next_out_of_memory : C → ℕ → C → Type 0) (now : ℕ) (transmissions : Ways A) (s t : Option (TrafficOf A)) (a b : C) → next_out_of_memory a now b → t ≡ s → SendsSome gives next_out_of_memory 1 now transmissions s t OutOfMemory a b
 none_sent gives next_out_of_memory now transmissions s t a b h e =
     ([], [], (a, refl, lit< tt, refl, h), passes_nothing s t e)
@@ -55,7 +55,7 @@ pub gives_on : {C : Type 0} (gives : C → ℕ → Option Given → C → Type 0
 gives_on gives now [] qs a b c h k = subst (λ a. GivesEach gives now qs a c) h k
 gives_on gives now (p ∷ ps) qs a b c h k = (h.0, h.1, gives_on gives now ps qs h.0 b c h.2 k)
 
--- the same where other packets were sent before
+-- the same if other packets were sent before
 fails_later : {A : Type 0} (transmissions : Ways A) (ps qs : List Given) (sent : List A) → FailsInLast transmissions qs sent → FailsInLast transmissions (ps ++ qs) (sent_of transmissions ps ++ sent)
 fails_later {A} transmissions ps qs sent h =
     let before : List Given = h.0 in
@@ -104,7 +104,7 @@ sends_more {A = A} gives n now transmissions s t u a b c totals next o h k e =
       e ∙ ap (λ t. with_one_packet t o) h.4 ∙ ap (λ o. with_one_packet (totals_of transmissions ps) o) k.3 ∙ sym (totals_more transmissions ps p),
     )
 
--- the same where the ways are written otherwise
+-- the same if the transmissions are written in another way
 pub sends_more_there : {C A : Type 0} (gives : C → ℕ → Option Given → C → Type 0) (n now : ℕ) (transmissions there : Ways A) (s t u : Option (TrafficOf A)) (a b c : C) (totals next : SendCounts) (o : Option ℕ) → there ≡ transmissions → SendsEach gives n now transmissions s t a b totals → SendsNext gives now there t u b c (Some o) → next ≡ with_one_packet totals o → SendsEach gives (n + 1) now transmissions s u a c next
 sends_more_there gives n now transmissions there s t u a b c totals next o is h k e =
     sends_more gives n now transmissions s t u a b c totals next o h (subst (λ w. SendsNext gives now w t u b c (Some o)) is k) e

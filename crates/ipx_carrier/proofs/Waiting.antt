@@ -12,11 +12,11 @@ pub waits_last : {Q : Type 0} (qs : List Q) (f : Q → List (List ℕ)) (port : 
 waits_last qs f port q q' bytes lt e k =
     (f q, slice_get-map f qs port ∙ ap (option_map f) (slice_get_read qs (length qs) port q refl lt e), map-set f qs port q' ∙ ap (slice_set (map f qs) port) k)
 
--- a port's list is as it was
+-- a port's list did not change
 pub waits_still : {Q : Type 0} (qs : List Q) (f : Q → List (List ℕ)) (port : ℕ) (q q' : Q) → q ≡ get_or qs port q → f q' ≡ f q → map f (slice_set qs port q') ≡ map f qs
 waits_still qs f port q q' e k = map-set_same f qs port q' q (k ∙ ap f e)
 
--- a port's list loses its first one, which was answered
+-- a port's list loses its first datagram, which was returned
 pub leaves_port : {Q : Type 0} (qs : List Q) (f : Q → List (List ℕ)) (port : ℕ) (q q' : Q) (room : ℕ) (answer : Option (List ℕ)) → port < length qs → q ≡ get_or qs port q → answer ≡ option_map (take room) (slice_get (f q) 0) → f q' ≡ drop 1 (f q) → LeavesPort room port (Some (map f qs)) answer (Some (map f (slice_set qs port q')))
 leaves_port qs f port q q' room answer lt e a k =
     (f q, slice_get-map f qs port ∙ ap (option_map f) (slice_get_read qs (length qs) port q refl lt e), a, ap Some (map-set f qs port q' ∙ ap (slice_set (map f qs) port) k))

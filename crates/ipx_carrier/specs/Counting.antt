@@ -1,10 +1,10 @@
--- Counts of 64 bits, which stay at the greatest. All of it is own.
+-- Counts of 64 bits that stay at the greatest. Defined by this project.
 use Rattle.std.specs.Prelude.{ℕ, ◌+◌, ◌-◌, ◌^◌, min}
 
--- what a count shows of a number: the number, or the greatest that 64 bits hold
+-- the count shown for a number: the number itself, or the greatest of 64 bits
 abbrev pub counted : ℕ → ℕ
 counted n = min n (2 ^ 64 - 1)
 
--- it goes up by one
+-- the count after one more
 abbrev pub raised : ℕ → ℕ
 raised n = counted (n + 1)

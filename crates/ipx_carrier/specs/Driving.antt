@@ -1,6 +1,6 @@
--- What a turn of a core over a device leaves, and what turns one after another do, as long as there is
--- something to do. The entry points are `TakesTurn` and `Bursts`, and `CanBegin` for when; over whatever
--- packets are sent by `TakesTurnBy` and `BurstsBy`, and `CanBeginBy`. All of it is own.
+-- What one turn of a core over a device leaves, and what consecutive turns do for as long as there is work.
+-- The entry points are `TakesTurn` and `Bursts`, and `CanBegin` for when a turn is possible. `TakesTurnBy`,
+-- `BurstsBy` and `CanBeginBy` are the same over any port driver. Defined by this project.
 use Rattle.std.specs.Prelude.{◌≡◌, ◌<◌, ◌≤◌, ℕ, zero, suc, ◌+◌, ◌^◌, List, [], ◌∷◌, ◌++◌, length, sum_by, All, Bool, true, false, Option, Some, None, Result, Ok, Err}
 use Rattle.ipx_carrier.specs.declared.fault.RunFault.{RunFault}
 use Rattle.ipx_carrier.specs.declared.fault.RunFault.TheVariants.{Device, OutOfMemory}
@@ -11,12 +11,12 @@ use Rattle.ipx_carrier.specs.Device.{Traffic, TrafficOf}
 use Rattle.ipx_carrier.specs.Turns.{Given, Peers, Ways, by_ip}
 use Rattle.ipx_carrier.specs.Runs.{EndsEarlyBy, RunsBy}
 
--- a turn can be begun over segments: they have as many ports as the core, and can count one more failure
+-- a turn can begin over a port driver: it has as many ports as the core, and can count one more failure
 abbrev pub CanBeginBy : ℕ → ℕ → ℕ → Type 0
 CanBeginBy ports segment_ports failed = (segment_ports ≡ ports) × (failed + 1 < 2 ^ 64)
 
--- a turn can be begun: the device has as many ports as the core, so many have lists of peers, and the
--- device can count one more failure
+-- a turn can begin: the device and the lists of peers are for as many ports as the core has, and the device
+-- can count one more failure
 abbrev pub CanBegin : ℕ → ℕ → ℕ → ℕ → Type 0
 CanBegin ports device_ports peer_lists failed =
     (device_ports ≡ ports) × (peer_lists ≡ ports) × (failed + 1 < 2 ^ 64)
@@ -36,48 +36,48 @@ module _ {C : Type 0} (hears hear_out_of_memory : C → ℕ → List ℕ → ℕ
       → Type 0
   TakesTurn peers = TakesTurnBy (by_ip peers)
 
--- a burst of no turns
+-- a batch of no turns
 abbrev pub no_turns : Batch
 no_turns = record { heard = 0; sent = 0; unmapped = 0; fault = None; quiet = false }
 
--- the burst where none can be begun: the first one fails, if there is one to take
+-- the batch if no turn can begin: the first turn fails, if there is one to take
 abbrev pub refused : ℕ → Batch
 refused zero = no_turns
 refused (suc n) = record no_turns { fault = Some Device }
 
--- how often a device failed after a burst that this ended
+-- how often a device has failed after a batch that this ended
 abbrev pub failed_after : Option RunFault → ℕ → ℕ
 failed_after None before = before
 failed_after (Some OutOfMemory) before = before
 failed_after (Some Device) before = before + 1
 
--- a whole turn: what it reports, and how many datagrams its device had kept back before it and after
+-- a whole turn: its report, and how many datagrams its device had filtered before and after
 pub record TurnTaken : Type 0 where
   pub report : Report
   pub before : ℕ
   pub after : ℕ
 
--- it neither heard nor sent, and no more was kept back than before
+-- the turn received, sent and filtered nothing
 abbrev pub IsIdle : TurnTaken → Type 0
 IsIdle t = (t.report.heard ≡ 0) × (t.report.sent ≡ 0) × (t.after ≡ t.before)
 
--- none of these is idle
+-- none of these turns is idle
 abbrev pub AreBusy : List TurnTaken → Type 0
 AreBusy turns = All (λ t. IsIdle t → ⊥) turns
 
--- the last of them is idle, and no other
+-- the last of these turns is idle, and no other
 abbrev pub EndsIdle : List TurnTaken → Type 0
 EndsIdle turns = (busy : List TurnTaken) × (last : TurnTaken) × (turns ≡ busy ++ last ∷ [])
     × AreBusy busy × IsIdle last
 
--- a burst counts what its whole turns report
+-- a batch counts what its whole turns report
 abbrev pub CountsTurns : List TurnTaken → Batch → Type 0
 CountsTurns turns b = (b.heard ≡ counted (sum_by (λ t. t.report.heard) turns))
     × (b.sent ≡ counted (sum_by (λ t. t.report.sent) turns))
     × (b.unmapped ≡ counted (sum_by (λ t. t.report.unmapped) turns))
 
--- why no further turn is taken, of at most so many: a fault ends one; or it is quiet, since the last
--- one was idle; or there were so many. None before was idle
+-- why no further turn is taken, of at most `most`: a fault ended one, the last one was idle, or `most` were
+-- taken. No earlier one was idle
 abbrev pub Stops : ℕ → List TurnTaken → Option RunFault → Bool → Type 0
 Stops most turns (Some f) quiet = (length turns < most) × AreBusy turns × (quiet ≡ false)
 Stops most turns None true = (length turns ≤ most) × EndsIdle turns
@@ -86,8 +86,8 @@ Stops most turns None false = (length turns ≡ most) × AreBusy turns
 module _ {C : Type 0} (hears : C → ℕ → List ℕ → ℕ → C → Type 0)
     (gives : C → ℕ → Option Given → C → Type 0) {K : Type 0} (tells : K → ℕ → K → Type 0)
     (ports : ℕ) where
-  -- runs of one turn each, one after another, with what the device keeps back from the one count to
-  -- the other, which never falls. What passed at its sockets is not told
+  -- consecutive runs of one turn each. The device's count of filtered datagrams goes from the first number to
+  -- the second, and never falls. What its sockets carried is not stated
   abbrev pub ChainBy : {A : Type 0} → Ways A → List TurnTaken → ℕ → ℕ → K → K → C → C → Type 0
   ChainBy transmissions [] kept kept_after clock clock_after old new =
       (kept_after ≡ kept) × (clock_after ≡ clock) × (new ≡ old)
@@ -102,7 +102,7 @@ module _ {C : Type 0} (hears : C → ℕ → List ℕ → ℕ → C → Type 0)
 module _ {C : Type 0} (hears hear_out_of_memory : C → ℕ → List ℕ → ℕ → C → Type 0)
     (gives : C → ℕ → Option Given → C → Type 0) (next_out_of_memory : C → ℕ → C → Type 0)
     {K : Type 0} (tells : K → ℕ → K → Type 0) (ports : ℕ) where
-  -- no fault, and nothing more happens; or a fault ends a turn that was begun
+  -- no fault, and nothing more happens; or a fault ends a turn that had begun
   abbrev pub EndsBy : {A : Type 0} → Ways A → Option RunFault → ℕ → ℕ → K → K → C → C → Type 0
   EndsBy transmissions None kept kept_after clock clock_after old new =
       (kept_after ≡ kept) × (clock_after ≡ clock) × (new ≡ old)
@@ -112,7 +112,7 @@ module _ {C : Type 0} (hears hear_out_of_memory : C → ℕ → List ℕ → ℕ
   abbrev pub Ends : Peers → Option RunFault → ℕ → ℕ → K → K → C → C → Type 0
   Ends peers = EndsBy (by_ip peers)
 
-  -- at most so many whole turns, which are counted, and then that
+  -- at most `most` whole turns, which are counted, and then that end
   abbrev pub BurstsBy : {A : Type 0} → Ways A → ℕ → Batch → ℕ → ℕ → K → K → C → C → Type 0
   BurstsBy transmissions most b kept kept_after clock clock_after old new = (turns : List TurnTaken)
       × (kept_then : ℕ) × (tick : K) × (mid : C)

@@ -1,5 +1,5 @@
--- How nodes and IP addresses stand for one another (RFC 1234, Tunneling IPX Traffic through IP
--- Networks): a node is two zero bytes and the four of its IP address. And the UDP port of IPX there.
+-- Nodes and IP addresses (RFC 1234, Tunneling IPX Traffic through IP Networks): a node is two zero bytes and
+-- the four bytes of its IP address. Also the UDP port of IPX.
 use Rattle.std.specs.Prelude.{ℕ, List, ◌∷◌, drop, slice_index, Option, Some, None, ◌&&◌, ◌==◌, if◌then◌else◌}
 use Rattle.ipx_wire.specs.declared.address.Node.{Node}
 
@@ -12,6 +12,6 @@ abbrev pub ip_at : Node → Option (List ℕ)
 ip_at node =
     if slice_index node.0 0 == 0 && slice_index node.0 1 == 0 then Some (drop 2 node.0) else None
 
--- the UDP port where none is given
+-- the UDP port if none is given
 abbrev pub usual_port : ℕ
 usual_port = 213

@@ -1,5 +1,4 @@
--- What a device in memory received and sent, by what it keeps, what waits at its ports, and which of
--- its calls fail.
+-- A device in memory: what it received and sent, what waits at its ports, and which of its calls fail.
 use Rattle.std.specs.Prelude.{Vec, ◌≡◌, ℕ, ◌-◌, Bool, true, false, List, [], ◌∷◌, ◌++◌, Option, Some, None, MatchBool, map, option_map, slice_get, slice_set, ◌==◌, if◌then◌else◌}
 use Rattle.std.specs.Global.{Global}
 use Rattle.ipx_carrier.specs.declared.memory.KeptAnswer.{KeptAnswer}
@@ -24,33 +23,33 @@ traffic_of m = record {
 abbrev pub datagram_bytes : Vec ℕ Global → List ℕ
 datagram_bytes v = v.items
 
--- the datagrams that wait at each port, the first one first
+-- the datagrams that wait at each port, in order
 abbrev pub waiting_of : MemoryDatagrams → WaitingDatagrams
 waiting_of m = map (λ q. map datagram_bytes q.items) m.waiting.items
 
--- a datagram waits behind those of its port, and each other port is as it was
+-- a datagram waits after those of its port, and each other port is as it was
 abbrev pub WaitsLast : WaitingDatagrams → ℕ → List ℕ → WaitingDatagrams → Type 0
 WaitsLast old port bytes new = (here : List (List ℕ)) × (slice_get old port ≡ Some here)
     × (new ≡ slice_set old port (here ++ bytes ∷ []))
 
--- all but what waits is as it was
+-- only what waits changes
 pub record KeepsAllButWaiting (old new : MemoryDatagrams) : Type 0 where
   pub traffic : traffic_of new ≡ traffic_of old
   pub failures : new.failures ≡ old.failures
   pub fails_after : new.fails_after ≡ old.fails_after
   pub refusals : new.refusals ≡ old.refusals
 
--- the next call is the one that was named to fail
+-- the next call is the one that is to fail
 abbrev pub fails_next : Option ℕ → Bool
 fails_next None = false
 fails_next (Some k) = k == 1
 
--- the call that is named once one more was made: none is behind the named one
+-- which call is to fail, after one more was made: none once that call has failed
 abbrev pub named_after : Option ℕ → Option ℕ
 named_after named = if fails_next named then None else option_map (λ k. k - 1) named
 
--- a call of `send` or `receive`, and whether it failed: the one that was named fails, and any other just
--- where memory was refused, which is counted
+-- a call of `send` or `receive`, and whether it failed. The named call fails; another fails only if memory is
+-- refused, which is counted
 abbrev pub FailsAsNamed : MemoryDatagrams → Bool → MemoryDatagrams → Type 0
 FailsAsNamed old failed new = (new.fails_after ≡ named_after old.fails_after)
     × MatchBool (fails_next old.fails_after)

@@ -1,4 +1,4 @@
--- What became of the datagrams that a router heard, counted. All of it is own.
+-- Counts of what became of the datagrams that a router received. Defined by this project.
 use Rattle.std.specs.Prelude.{ℕ, ◌+◌}
 use Rattle.ipx_router.specs.declared.reason.Reason.{Reason}
 use Rattle.ipx_router.specs.declared.reason.Reason.TheVariants.{Bad, Propagated, NotOurs, NoRoute, HopLimit, BadControl, TableFull}
@@ -6,7 +6,7 @@ use Rattle.ipx_router.specs.OutcomeView.{OutcomeView, Forward, Replies, Heard, D
 use Rattle.ipx_carrier.specs.Counting.{raised}
 use Rattle.ipx_carrier.specs.declared.outcome_counters.OutcomeCounters.{OutcomeCounters}
 
--- nothing was heard yet
+-- counts of no datagram
 abbrev pub none : OutcomeCounters
 none = record {
   forwarded = 0;
@@ -21,7 +21,7 @@ none = record {
   table_full = 0;
 }
 
--- how many datagrams these are, whatever became of them
+-- how many datagrams were counted, whatever became of them
 abbrev pub outcomes_in : OutcomeCounters → ℕ
 outcomes_in f = f.forwarded + f.answered + f.heard + f.bad + f.propagated + f.not_ours + f.no_route
     + f.hop_limit + f.bad_control + f.table_full
@@ -36,7 +36,7 @@ outcomes_after HopLimit f = record f { hop_limit = raised f.hop_limit }
 outcomes_after (BadControl fault) f = record f { bad_control = raised f.bad_control }
 outcomes_after TableFull f = record f { table_full = raised f.table_full }
 
--- one more datagram became this
+-- one more datagram had this outcome
 abbrev pub outcome_counted : OutcomeView → OutcomeCounters → OutcomeCounters
 outcome_counted (Forward port next bytes) f = record f { forwarded = raised f.forwarded }
 outcome_counted (Replies sent) f = record f { answered = raised f.answered }

@@ -1,5 +1,4 @@
--- Words of private functions: the parts of a turn. What asking the ports, and what
--- sending the core's packets, leave.
+-- Definitions for private functions: the parts of a turn, which ask the ports and send the core's packets.
 use Rattle.std.specs.Prelude.{◌≡◌, ◌<◌, ℕ, Bool, List, [], ◌∷◌, ◌++◌, length, Option, Some, None, is_some}
 use Rattle.ipx_carrier.specs.declared.fault.RunFault.{RunFault}
 use Rattle.ipx_carrier.specs.declared.report.SendCounts.{SendCounts}
@@ -9,39 +8,39 @@ use Rattle.ipx_carrier.specs.Turns.{FailsAfter, FailsAtPort, GivesAll, GivesEach
 use Rattle.ipx_carrier.specs.PortDrivers.{copies_count}
 use Rattle.ipx_carrier.specs.Counts.{heard_in, unmapped_in}
 
--- ports were asked, one after another and with so much room each time, and answered these
+-- ports were asked one after another, each with a buffer of `room` bytes, and gave these
 abbrev pub LeavePorts : ℕ → Option WaitingDatagrams → List Reception → Option WaitingDatagrams
     → Type 0
 LeavePorts room old [] new = new ≡ old
 LeavePorts room old (r ∷ rs) new = (mid : Option WaitingDatagrams)
     × LeavesPort room r.port old r.bytes mid × LeavePorts room mid rs new
 
--- what a device received meanwhile was taken from what waits, and nothing else was
+-- exactly what a device received meanwhile left what waits there
 abbrev pub TakesFromDevice : {A : Type 0} → ℕ → Option (TrafficOf A) → Option (TrafficOf A)
     → Option WaitingDatagrams → Option WaitingDatagrams → Type 0
 TakesFromDevice {A} room before after old new = (received : List Reception) × (sent : List A)
     × Passes before after received sent × LeavePorts room old received new
 
 module _ {C : Type 0} (hears : C → ℕ → List ℕ → ℕ → C → Type 0) {A : Type 0} where
-  -- a port was asked, and the core heard what it answered
+  -- a port was asked, and the core received what it gave
   abbrev pub AsksPort : ℕ → ℕ → Option (TrafficOf A) → Option (TrafficOf A) → C → C → Bool → Type 0
   AsksPort now port before after old new heard = (bytes : Option (List ℕ))
       × Passes before after (record { port = port; bytes = bytes } ∷ []) []
       × HearsAnswer hears now port bytes old new × (heard ≡ is_some bytes)
 
-  -- so many ports were asked in order, and the core heard what they answered
+  -- this many ports were asked in order, and the core received what they gave
   abbrev pub AsksPorts : ℕ → ℕ → Option (TrafficOf A) → Option (TrafficOf A) → C → C → ℕ → Type 0
   AsksPorts now ports before after old new count = (rs : List Reception) × (length rs ≡ ports)
       × Passes before after rs [] × HearsEach hears now 0 rs old new × (count ≡ heard_in rs)
 
 module _ {C : Type 0} (hears hear_out_of_memory : C → ℕ → List ℕ → ℕ → C → Type 0) {A : Type 0} where
-  -- a port was asked, and a fault came of it
+  -- a port was asked, which ended in a fault
   abbrev pub PollFails : ℕ → ℕ → Option (TrafficOf A) → Option (TrafficOf A) → RunFault → C → C
       → Type 0
   PollFails now port before after fault old new = (last : List Reception)
       × Passes before after last [] × FailsAtPort hear_out_of_memory now port last fault old new
 
-  -- some of the ports were asked in order, and a fault came of the last one
+  -- some of the ports were asked in order, and the last one ended in a fault
   abbrev pub AsksSomePorts : ℕ → ℕ → Option (TrafficOf A) → Option (TrafficOf A) → RunFault → C → C
       → Type 0
   AsksSomePorts now ports before after fault old new = (heard last : List Reception) × (mid : C)
@@ -49,7 +48,7 @@ module _ {C : Type 0} (hears hear_out_of_memory : C → ℕ → List ℕ → ℕ
       × HearsEach hears now 0 heard old mid
       × FailsAtPort hear_out_of_memory now (length heard) last fault mid new
 
--- what sending a core's packets counted
+-- the counts of the packets that a core gave
 abbrev pub totals_of : {A : Type 0} → Ways A → List Given → SendCounts
 totals_of transmissions packets =
     record { sent = length (sent_of transmissions packets); unmapped = unmapped_in transmissions packets }
@@ -62,7 +61,7 @@ module _ {C : Type 0} (gives : C → ℕ → Option Given → C → Type 0) {A :
   SendsNext now transmissions before after old new (Some count) = (p : Given) × gives old now (Some p) new
       × Passes before after [] (copies_of transmissions p) × (count ≡ copies_count transmissions p)
 
-  -- the core gave so many packets, and they were sent
+  -- the core gave this many packets, and they were sent
   abbrev pub SendsEach : ℕ → ℕ → Ways A → Option (TrafficOf A) → Option (TrafficOf A) → C → C → SendCounts
       → Type 0
   SendsEach count now transmissions before after old new totals = (packets : List Given)
@@ -78,7 +77,7 @@ module _ {C : Type 0} (gives : C → ℕ → Option Given → C → Type 0) {A :
 
 module _ {C : Type 0} (gives : C → ℕ → Option Given → C → Type 0)
     (next_out_of_memory : C → ℕ → C → Type 0) {A : Type 0} where
-  -- the core was asked at most so many times, and a fault came of the last one
+  -- the core was asked at most `most` times, and the last one ended in a fault
   abbrev pub SendsSome : ℕ → ℕ → Ways A → Option (TrafficOf A) → Option (TrafficOf A) → RunFault → C
       → C → Type 0
   SendsSome most now transmissions before after fault old new = (packets : List Given)

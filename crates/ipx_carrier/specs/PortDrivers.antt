@@ -1,20 +1,20 @@
--- What became of a packet that was handed to the segment of a port, by the copies that it is sent by.
+-- What became of a packet that a port driver was given, by the copies that are sent for it.
 use Rattle.std.specs.Prelude.{ℕ, List, [], length, Option, Some, None, option_map}
 use Rattle.ipx_carrier.specs.declared.segments.PacketSent.{PacketSent}
 use Rattle.ipx_carrier.specs.declared.segments.PacketSent.TheVariants.{Unmapped, Transmitted}
 use Rattle.ipx_carrier.specs.Device.{Passes, TrafficOf}
 use Rattle.ipx_carrier.specs.Turns.{Given, IsFrontOf, Ways}
 
--- by how many copies it was sent, if it could be
+-- how many copies were sent, if the packet could be sent
 abbrev pub count_in : PacketSent → Option ℕ
 count_in Unmapped = None
 count_in (Transmitted count) = Some count
 
--- by how many it is sent, if anything stands for its node
+-- how many copies are sent for a packet, if its node has an address
 abbrev pub copies_count : {A : Type 0} → Ways A → Given → Option ℕ
 copies_count transmissions p = option_map length (transmissions p)
 
--- the first of these copies were sent, up to one that could not be
+-- the first of these copies were sent, before one that could not be
 abbrev pub SendsFrontOf : {A : Type 0} → List A → Option (TrafficOf A) → Option (TrafficOf A)
     → Type 0
 SendsFrontOf {A} all before after =

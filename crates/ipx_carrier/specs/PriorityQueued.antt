@@ -1,4 +1,4 @@
--- Words of private functions: what putting packets into one of two queues leaves.
+-- Definitions for private functions: putting packets into one of two queues.
 use Rattle.std.specs.Prelude.{◌≡◌, ℕ, List}
 use Rattle.ipx_router.specs.declared.outcome.Reply.{Reply}
 use Rattle.ipx_router.specs.OutcomeView.{OutcomeView, Forward, Replies, Heard, Dropped}
@@ -7,12 +7,12 @@ use Rattle.ipx_carrier.specs.PriorityRouterCore.{PriorityQueues}
 use Rattle.ipx_carrier.specs.Queued.{Puts}
 use Rattle.ipx_carrier.specs.RouterQueues.{one_forwarded}
 
--- the two queues of packets, without where these lie in memory
+-- the two queues of packets, apart from their places in memory
 abbrev pub priority_queues : List Reply → List Reply → ℕ → PriorityQueues
 priority_queues forwarded own originated_run =
     record { forwarded = sendings forwarded; own = sendings own; originated_run = originated_run }
 
--- what a router answers was put into its queue, and the other one stays
+-- a router's answer was put into its queue, and the other queue stays
 abbrev pub PutsByPriority : OutcomeView → List SendingView → List SendingView → ℕ
     → List SendingView → List SendingView → ℕ → Type 0
 PutsByPriority (Forward port next bytes) forwarded own dropped forwarded_after own_after dropped_after =

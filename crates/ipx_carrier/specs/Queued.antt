@@ -1,4 +1,4 @@
--- Words of private functions: what putting packets into a queue leaves.
+-- Definitions for private functions: putting packets into a queue.
 use Rattle.std.specs.Prelude.{◌≡◌, ℕ, ◌+◌, Bool, List, ◌++◌, length, nat_le, MatchBool}
 use Rattle.ipx_router.specs.OutcomeView.{OutcomeView, Forward, Replies, Heard, Dropped}
 use Rattle.ipx_router.specs.RouterView.{RouterView}
@@ -6,14 +6,14 @@ use Rattle.ipx_router.specs.RouterPackets.{SendingView}
 use Rattle.ipx_carrier.specs.Counting.{counted}
 use Rattle.ipx_carrier.specs.RouterQueues.{AreFirst, AreGivable, TellsNow, max_queued, one_forwarded}
 
--- all of them stand behind those that were there, or none does and they are counted
+-- all packets go after those that waited; or none does, and they are counted
 abbrev pub Puts : List SendingView → List SendingView → ℕ → List SendingView → ℕ → Type 0
 Puts sent queue dropped queue_after dropped_after =
     MatchBool (nat_le (length queue + length sent) max_queued)
     ((queue_after ≡ queue ++ sent) × (dropped_after ≡ dropped))
     ((queue_after ≡ queue) × (dropped_after ≡ counted (dropped + length sent)))
 
--- what a router answers was put
+-- a router's answer was put into the queue
 abbrev pub PutsAnswer : OutcomeView → List SendingView → ℕ → List SendingView → ℕ → Type 0
 PutsAnswer (Forward port next bytes) queue dropped queue_after dropped_after =
     Puts (one_forwarded port next bytes) queue dropped queue_after dropped_after
@@ -24,14 +24,14 @@ PutsAnswer (Heard n) queue dropped queue_after dropped_after =
 PutsAnswer (Dropped reason) queue dropped queue_after dropped_after =
     (queue_after ≡ queue) × (dropped_after ≡ dropped)
 
--- the packets of a router's start were put, unless they were before
+-- the packets of a router's start were put into the queue, unless they were before
 abbrev pub PutsStart : RouterView → Bool → List SendingView → ℕ → List SendingView → ℕ → Type 0
 PutsStart router started queue dropped queue_after dropped_after = (sent : List SendingView)
     × AreFirst started router sent
     × Puts sent queue dropped queue_after dropped_after
     × AreGivable (length router.ports) sent
 
--- what a router tells was put
+-- a router's advertisements were put into the queue
 abbrev pub PutsTold : RouterView → ℕ → RouterView → List SendingView → ℕ → List SendingView → ℕ
     → Type 0
 PutsTold old now new queue dropped queue_after dropped_after = (sent : List SendingView)

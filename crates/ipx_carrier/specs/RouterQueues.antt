@@ -1,5 +1,5 @@
--- A queue of packets that a router is to send, what is put into it, and what a router starts and tells with:
--- words that both cores of a router use, `RouterCore` and `PriorityRouterCore`.
+-- A queue of packets that a router is to send, what is put into it, and what a router starts and advertises
+-- with. `RouterCore` and `PriorityRouterCore` both use these.
 use Rattle.std.specs.Prelude.{◌≡◌, ◌<◌, ◌≤◌, ◌⊎◌, ℕ, ◌+◌, ◌-◌, Bool, true, List, [], ◌∷◌, ◌++◌, All, length, nat_le, if◌then◌else◌, MatchBool}
 use Rattle.ipx_wire.specs.declared.address.Node.{Node}
 use Rattle.ipx_router.specs.RouterView.{RouterView}
@@ -16,12 +16,12 @@ use Rattle.ipx_carrier.specs.Turns.{Given}
 abbrev pub max_queued : ℕ
 max_queued = 16384
 
--- packets go behind those that wait, if there is room for all of them; else none of them does
+-- packets go after those that wait, if all of them fit; otherwise none does
 abbrev pub put_behind : List SendingView → List SendingView → List SendingView
 put_behind queue sent =
     if nat_le (length queue + length sent) max_queued then queue ++ sent else queue
 
--- and then they are counted, as far as a count of 64 bits goes
+-- packets that don't fit are counted as dropped, up to the greatest of 64 bits
 abbrev pub dropped_behind : List SendingView → List SendingView → ℕ → ℕ
 dropped_behind queue sent dropped =
     if nat_le (length queue + length sent) max_queued
@@ -32,44 +32,44 @@ dropped_behind queue sent dropped =
 abbrev pub one_forwarded : ℕ → Node → List ℕ → List SendingView
 one_forwarded port next bytes = record { port = port; next = next; bytes = bytes } ∷ []
 
--- the router's port of a number is the device's of one less
+-- the router's port numbers are one more than the device's
 abbrev pub given_of : SendingView → Given
 given_of s = record { port = s.port - 1; node = s.next; bytes = s.bytes }
 
--- a packet leaves by a port that is there, and fits the room
+-- a packet leaves by a port that exists, and fits the buffer
 abbrev pub CanBeSent : ℕ → SendingView → Type 0
 CanBeSent ports s = IsPortNumber ports s.port × (length s.bytes ≤ 1500)
 
 abbrev pub AreGivable : ℕ → List SendingView → Type 0
 AreGivable ports = All (CanBeSent ports)
 
--- the packets of a router's start, unless it has started: they are asked for once
+-- the packets of a router's start, unless it has started: it is asked for them once
 abbrev pub AreFirst : Bool → RouterView → List SendingView → Type 0
 AreFirst started router sent = MatchBool started (sent ≡ []) (AreStarts 1 router.ports sent)
 
--- what a router tells if it is time, and what it is then
+-- what a router advertises if it is due, and the router after
 abbrev pub TellsNow : RouterView → ℕ → List SendingView → RouterView → Type 0
 TellsNow old now sent new = telling.TellsIfDue (known_at old now) old.told now sent new.told
     × HoldsKnown (known_at old now) (tables new) × KeepsAllButOffers old new
 
--- ---- memory is refused
+-- ---- out of memory
 
--- there are packets to put into a queue, and they would pass no limit of it
+-- there are packets to put into a queue, and all of them fit
 abbrev pub IsRoomFor : List SendingView → List SendingView → Type 0
 IsRoomFor queue sent = (0 < length sent) × (length queue + length sent ≤ max_queued)
 
--- memory is refused to a router for what comes in
+-- a router runs out of memory for what it receives
 abbrev pub ReceivesInVain : RouterView → ℕ → List ℕ → ℕ → RouterView → Type 0
 ReceivesInVain old port bytes now new =
     WantsMemory old port bytes now new × KeepsAllButOffers old new × (new.told ≡ old.told)
 
--- memory is refused to a router as it is to tell, and it is still time then
+-- a router runs out of memory as it is to advertise, and the advertisement is still due
 abbrev pub TellsInVain : RouterView → ℕ → RouterView → Type 0
 TellsInVain old now new = (telling.is_due old.told now ≡ true)
     × telling.HasToTell (known_at old now) now × (new.told ≡ old.told)
     × HoldsKnown (known_at old now) (tables new) × KeepsAllButOffers old new
 
--- the same, or memory is refused to the queue for what the router tells, which is lost
+-- the same, or the queue runs out of memory for the advertisements, which are lost
 abbrev pub IsNotTold : RouterView → ℕ → List SendingView → RouterView → Type 0
 IsNotTold old now queue new = TellsInVain old now new
     ⊎ ((told : List SendingView) × TellsNow old now told new × IsRoomFor queue told)

@@ -1,6 +1,6 @@
--- What a run leaves: turns of a core over a device, which its clock's moments part.
--- The entry points are `Runs`, and `EndsEarly` where a fault ends it: over datagrams to IP addresses.
--- `RunsBy` and `EndsEarlyBy` are the same over whatever packets are sent by.
+-- What a run leaves: turns of a core over a device, each at a given time of the clock. The entry points over
+-- datagrams to IP addresses are `Runs`, and `EndsEarly` if a fault ends the run. `RunsBy` and `EndsEarlyBy`
+-- are the same over any port driver.
 use Rattle.std.specs.Prelude.{◌≡◌, ◌<◌, ℕ, List, [], ◌∷◌, ◌++◌, length, Option}
 use Rattle.ipx_carrier.specs.declared.fault.RunFault.{RunFault}
 use Rattle.ipx_carrier.specs.declared.report.Report.{Report}
@@ -11,8 +11,8 @@ use Rattle.ipx_carrier.specs.Counts.{report_of}
 module _ {C : Type 0} (hears : C → ℕ → List ℕ → ℕ → C → Type 0)
     (gives : C → ℕ → Option Given → C → Type 0) {K : Type 0} (tells : K → ℕ → K → Type 0)
     (ports : ℕ) where
-  -- so many whole turns: what was received and sent and the moments that were read are theirs, and
-  -- the report counts them
+  -- this many whole turns: what was received and sent and the times read are theirs, and the report counts
+  -- them
   abbrev pub RunsBy : {A : Type 0} → Ways A → ℕ → Option (TrafficOf A) → Option (TrafficOf A)
       → K → K → C → C → Report → Type 0
   RunsBy transmissions turns before after clock clock_after old new report = (course : List Turn)
@@ -26,8 +26,8 @@ module _ {C : Type 0} (hears : C → ℕ → List ℕ → ℕ → C → Type 0)
 module _ {C : Type 0} (hears hear_out_of_memory : C → ℕ → List ℕ → ℕ → C → Type 0)
     (gives : C → ℕ → Option Given → C → Type 0) (next_out_of_memory : C → ℕ → C → Type 0)
     {K : Type 0} (tells : K → ℕ → K → Type 0) (ports : ℕ) where
-  -- fewer whole turns, and then one that a fault ends: what was received and sent, the moments that
-  -- were read, and the core after are theirs
+  -- fewer whole turns, and then one that a fault ends: what was received and sent, the times read, and the
+  -- core after are theirs
   abbrev pub EndsEarlyBy : {A : Type 0} → Ways A → ℕ → Option (TrafficOf A) → Option (TrafficOf A)
       → K → K → RunFault → C → C → Type 0
   EndsEarlyBy {A} transmissions turns before after clock clock_after fault old new = (course : List Turn)

@@ -1,9 +1,9 @@
--- A clock that goes on by the same step each time it is read.
+-- A clock that advances by the same step at each read.
 use Rattle.std.specs.Prelude.{◌≡◌, ℕ, ◌+◌}
 use Rattle.ipx_carrier.specs.Counting.{counted}
 use Rattle.ipx_carrier.specs.declared.clock.SteppedClock.{SteppedClock}
 
--- it tells where it stands, and stands a step later then, if 64 bits hold that
+-- it gives its time, and is then one step later, if 64 bits hold that
 abbrev pub StepsOn : SteppedClock → ℕ → SteppedClock → Type 0
 StepsOn old told new = (told ≡ old.moment) × (new.moment ≡ counted (old.moment + old.step))
     × (new.step ≡ old.step)

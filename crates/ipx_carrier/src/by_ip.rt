@@ -1,4 +1,5 @@
-//! Segments of datagrams to IP addresses, by RFC 1234 (Tunneling IPX Traffic through IP Networks).
+//! A port driver over datagrams to IP addresses, by RFC 1234 (Tunneling IPX Traffic through IP
+//! Networks).
 
 ghost use Rattle.std.specs.Prelude.{◌≡◌, ◌<◌, ◌≤◌, ◌+◌, ◌^◌, [], OnErr, OnOk, map, slice_get, unwrap_or};
 ghost use Rattle.ipx_carrier.specs.Device.{Passes};
@@ -12,9 +13,9 @@ use crate::mapping::ip_of;
 use crate::segments::{PacketSent, PortDriver, PortDriverFilters};
 use ipx_wire::Node;
 
-/// Segments of a device of datagrams: a broadcast goes to each peer of its port, in order, another
-/// packet to the IP address of its node, and nowhere where the node has none. What comes goes to
-/// the core as it is.
+/// A port driver over a device of datagrams. It sends a broadcast to each peer of its port, in
+/// order, and another packet to the IP address of its node. A packet is not sent if its node has no
+/// IP address. Received datagrams go to the core unchanged.
 #[derive(Drop)]
 pub struct ByIp<'a, D> {
     /// The device.
@@ -65,7 +66,7 @@ impl<'a, D: Datagrams> PortDriver for ByIp<'a, D> {
 
     ghost Copy = { Datagram };
 
-    // It goes on over the same device.
+    // No call changes which device it uses.
     ghost Kept = { GName };
 
     ghost kept = { λ s. s.datagrams.ghost_name };

@@ -2,17 +2,17 @@
 
 ghost use Rattle.std.specs.Prelude.{◌≡◌, ℕ};
 
-/// A clock, which a run reads once a turn.
+/// A clock. A run reads it once a turn.
 pub trait Clock {
-    /// Read once, it may tell this moment, and is as the last argument says then.
+    /// A read may give this time, and leave the clock as the last argument says.
     ghost tells: { Self → ℕ → Self → Type 0 };
 
-    /// The moment, in milliseconds from any start. It may go back.
+    /// The time in milliseconds, from an arbitrary start. It may go back.
     fn now(&mut self) -> u64
         ensures { tells self.old result self.new };
 }
 
-/// A clock that goes on by the same step each time it is read, and stays at the greatest u64.
+/// A clock that advances by the same step at each read. It stays at the greatest u64.
 #[derive(Clone, Copy, Debug)]
 pub struct SteppedClock {
     moment: u64,
@@ -20,7 +20,7 @@ pub struct SteppedClock {
 }
 
 impl SteppedClock {
-    /// A clock that tells this moment first, and is then later by the step, in milliseconds.
+    /// A clock whose first read gives `moment`. Each later read gives `step` milliseconds more.
     pub fn new(moment: u64, step: u64) -> SteppedClock
         ensures first { result.moment ≡ moment }
         ensures step { result.step ≡ step }

@@ -1,4 +1,4 @@
-//! What runs over a device: a router or a host.
+//! What a run drives over a device: a router or a host.
 
 ghost use Rattle.std.specs.Prelude.{◌≡◌, ◌<◌, ◌≤◌, ℕ, List, Option, IfOk, OnOk, OnErr, IfSome, length};
 ghost use Rattle.ipx_carrier.specs.Turns.{Given};
@@ -7,31 +7,30 @@ ghost use Rattle.ipx_carrier.specs.GivenPackets.{given_in};
 use ipx_wire::{Node, OutOfMemory};
 use std::alloc::Global;
 
-/// A router or a host, as a run sees it: it hears datagrams, and is asked for packets to send. Its
-/// ports are those of the device, numbered from 0.
+/// A router or a host, as a run sees it. It receives datagrams, and is asked for packets to send.
+/// Its ports are those of the device, numbered from 0.
 pub trait Core {
     /// How many ports it has.
     ghost port_count: { Self → ℕ };
 
-    /// It hears bytes that came in on a port at a moment, and is as the last argument says then.
+    /// It receives bytes from a port at a given time, and is then as the last argument says.
     ghost hears: { Self → ℕ → List ℕ → ℕ → Self → Type 0 };
 
-    /// Asked at a moment, it gives a packet or none, and is as the last argument says then.
+    /// Asked at a given time, it gives a packet or none, and is then as the last argument says.
     ghost gives: { Self → ℕ → Option Given → Self → Type 0 };
 
-    /// Memory is refused as it hears bytes that came in on a port at a moment, and it is as the
-    /// last argument says then.
+    /// It runs out of memory as it receives bytes from a port at a given time. It is then as the
+    /// last argument says.
     ghost hear_out_of_memory: { Self → ℕ → List ℕ → ℕ → Self → Type 0 };
 
-    /// Memory is refused as it is asked at a moment, and it is as the last argument says then.
+    /// It runs out of memory as it is asked at a given time. It is then as the last argument says.
     ghost next_out_of_memory: { Self → ℕ → Self → Type 0 };
 
     /// How many ports it has.
     fn ports(&self) -> usize
         ensures { result ≡ port_count self.now };
 
-    /// Hears bytes that came in on a port, at a moment in milliseconds. The caller owes a port that
-    /// is there.
+    /// Receives bytes from a port, at a given time in milliseconds. The port must exist.
     fn hear(
         &mut self,
         alloc: Global,
@@ -44,8 +43,9 @@ pub trait Core {
         ensures refused { OnErr result (hear_out_of_memory self.old port bytes.now now self.new) }
         ensures ports { port_count self.new ≡ port_count self.old };
 
-    /// Gives the next packet that is to be sent, if there is one: its port, the node there that it
-    /// goes to, and how many bytes of the room's front it is. The caller owes room for 1,536 bytes.
+    /// Gives the next packet to send, if there is one. Returns the port, the destination node
+    /// there, and the packet's length; the bytes are at the front of `room`. The caller must give
+    /// room for 1,536 bytes.
     fn next(
         &mut self,
         alloc: Global,

@@ -1,9 +1,9 @@
-//! Counts that stay at the greatest number.
+//! Counts that saturate.
 
 ghost use Rattle.std.specs.Prelude.{◌≡◌, ◌≤◌};
 ghost use Rattle.ipx_carrier.specs.Counting.{raised};
 
-/// A count goes up by one, and stays where it is the greatest.
+/// Adds one to a count, which stays at the greatest u64.
 pub fn saturating_increment(count: &mut u64)
     ensures counted { count.new ≡ raised count.old }
     ensures grows { count.old ≤ count.new }

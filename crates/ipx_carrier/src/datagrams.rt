@@ -1,4 +1,4 @@
-//! A device that carries datagrams.
+//! A device that sends and receives datagrams.
 
 ghost use Rattle.std.specs.Prelude.{◌≡◌, ◌<◌, ◌≤◌, ◌+◌, ◌^◌, ℕ, Bool, List, [], ◌∷◌, Option, IfOk, OnOk, OnErr, IfSome, is_err, length};
 ghost use Rattle.ipx_carrier.specs.Device.{Access, Passes, Traffic, received_in};
@@ -9,11 +9,11 @@ use crate::fault::DeviceFault;
 
 /// A device with ports that send and receive datagrams. Its ports are numbered from 0.
 ///
-/// It counts how often it failed, which no one else can raise. What it received and sent, and what
-/// waits, is known of a device that keeps it, as one in memory; a contract over datagrams speaks of
-/// what the device tells, and says nothing of it where it tells none, as one of sockets. A device may
-/// let pass only what comes from and goes to some: then it says who they are, and how much it kept
-/// back, and its own clauses say that it does so.
+/// It counts its own failures, and nothing else can raise that count. A device in memory also
+/// records what it received and sent, and what waits. Contracts state these only for a device that
+/// records them; for sockets they state nothing. A device may filter by IP address. Then it says
+/// who may send and receive at each port, and how many datagrams it filtered. Its own contract
+/// promises that it filters so.
 pub trait Datagrams {
     /// How many ports there are.
     ghost port_count: { Self → ℕ };
@@ -21,21 +21,21 @@ pub trait Datagrams {
     /// How often it failed.
     ghost failed: { Self → ℕ };
 
-    /// What it received and sent so far, if the device keeps that.
+    /// What it received and sent so far, if the device records that.
     ghost traffic: { Self → Option Traffic };
 
-    /// What waits to be received at each port, if the device can tell: not one to which datagrams
-    /// come by themselves.
+    /// What waits to be received at each port, if the device can tell. A device that receives from
+    /// a network can't.
     ghost waiting: { Self → Option WaitingDatagrams };
 
-    /// How a call of `send` or `receive`, which failed or not, may leave it. A device that can't
-    /// tell when it fails demands nothing.
+    /// How a call of `send` or `receive`, failed or not, may leave the device. A device that can't
+    /// tell when it fails accepts any change.
     ghost fails: { Self → Bool → Self → Type 0 };
 
-    /// Who may speak at each of its ports, if the device asks that. It stays.
+    /// Who may send and receive at each port, if the device filters. No call changes it.
     ghost access: { Self → List Access };
 
-    /// How many datagrams it kept from its core. That never falls.
+    /// How many datagrams it filtered. That never falls.
     ghost filtered: { Self → ℕ };
 
     /// How many ports it has.
@@ -46,9 +46,9 @@ pub trait Datagrams {
     fn failures(&self) -> u64
         ensures { result ≡ failed self.now };
 
-    /// Sends a datagram by a port to an IP address. A device that fails sends nothing.
+    /// Sends a datagram from a port to an IP address. If this fails, nothing is sent.
     ///
-    /// The caller owes a port that is there, and a count of failures that can rise.
+    /// The port must exist, and the count of failures must be able to rise.
     fn send(&mut self, port: usize, to: [u8; 4], bytes: &[u8]) -> Result<(), DeviceFault>
         requires there { port < port_count self.old }
         requires countable { failed self.old + 1 < 2 ^ 64 }
@@ -62,10 +62,10 @@ pub trait Datagrams {
         ensures access { access self.new ≡ access self.old }
         ensures filtered { filtered self.old ≤ filtered self.new };
 
-    /// Takes the first datagram that waits at a port, if there is one: its bytes go to the front of
-    /// the room, as many as are answered. What the room can't take of a longer one is lost.
+    /// Takes the first datagram that waits at a port, if there is one. Its bytes go to the front of
+    /// `room`, and the number of them is returned. What doesn't fit of a longer datagram is lost.
     ///
-    /// The caller owes a port that is there, and a count of failures that can rise.
+    /// The port must exist, and the count of failures must be able to rise.
     fn receive(&mut self, port: usize, room: &mut [u8]) -> Result<Option<usize>, DeviceFault>
         requires there { port < port_count self.old }
         requires countable { failed self.old + 1 < 2 ^ 64 }
@@ -83,9 +83,9 @@ pub trait Datagrams {
         ensures filtered { filtered self.old ≤ filtered self.new };
 }
 
-/// A device that tells how many datagrams it kept from its core.
+/// A device that tells how many datagrams it filtered.
 pub trait CountsFiltered: Datagrams {
-    /// How many there were so far, as the device counts them.
+    /// How many datagrams it filtered so far.
     fn filtered(&self) -> u128
         ensures { result ≡ Self.filtered self.now };
 }

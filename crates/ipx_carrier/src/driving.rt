@@ -1,4 +1,4 @@
-//! Turns of a core over a device: one, and one after another as long as there is something to do.
+//! Turns of a core over a device: a single turn, or turns for as long as there is work.
 
 ghost use Rattle.std.specs.Prelude.{◌≡◌, ◌⊎◌, ◌≤◌, ◌↔◌, ◌+◌, ◌<◌, ◌^◌, IfOk, IfErr, IsTrue, OnOk, Err, length};
 ghost use Rattle.ipx_carrier.specs.Driving.{Bursts, BurstsBy, CanBegin, CanBeginBy, TakesTurn, TakesTurnBy, failed_after, refused};
@@ -16,14 +16,14 @@ use crate::running::{MAX_DATAGRAM, run, run_once_in};
 use crate::segments::{PortDriver, PortDriverFilters};
 use std::alloc::Global;
 
-/// Whether what a report tells of neither heard nor sent.
+/// Whether a turn with this report received and sent nothing.
 fn is_idle(report: Report) -> bool
     ensures { IsTrue result ↔ (report.heard ≡ 0) × (report.sent ≡ 0) }
 {
     report.heard == 0 && report.sent == 0
 }
 
-/// Whether a turn can be begun.
+/// Whether a turn can begin.
 fn can_begin<C: Core, D: Datagrams>(core: &C, device: &D, peers: &[Vec<[u8; 4]>]) -> bool
     ensures { IsTrue result ↔ CanBegin (C.port_count core.now) (D.port_count device.now)
         (length peers.now) (D.failed device.now) }
@@ -32,7 +32,7 @@ fn can_begin<C: Core, D: Datagrams>(core: &C, device: &D, peers: &[Vec<[u8; 4]>]
     device.ports() == ports && peers.len() == ports && device.failures() < u64::MAX
 }
 
-/// Whether a turn can be begun over segments.
+/// Whether a turn can begin over this port driver.
 fn can_begin_over<C: Core, S: PortDriver>(core: &C, segments: &S) -> bool
     ensures { IsTrue result ↔ CanBeginBy (C.port_count core.now) (S.port_count segments.now)
         (S.failed segments.now) }
@@ -40,7 +40,7 @@ fn can_begin_over<C: Core, S: PortDriver>(core: &C, segments: &S) -> bool
     segments.ports() == core.ports() && segments.failures() < u64::MAX
 }
 
-/// Takes one turn in a room that is lent, as `run_once_over_ports` does.
+/// Takes one turn with borrowed buffers, as `run_once_over_ports` does.
 fn run_once_lent<C: Core, S: PortDriver, K: Clock>(
     alloc: Global,
     core: &mut C,
@@ -61,7 +61,7 @@ fn run_once_lent<C: Core, S: PortDriver, K: Clock>(
         (C.port_count core.old) (S.transmissions segments.old) 1
         (S.traffic segments.old) (S.traffic segments.new) clock.old clock.new
         f core.old core.new) }
-    // Where a turn can be begun one is, and else nothing happens.
+    // If a turn can begin, one is taken; otherwise nothing happens.
     ensures begins { CanBeginBy (C.port_count core.old) (S.port_count segments.old)
         (S.failed segments.old) → TakesTurnBy C.hears C.hear_out_of_memory C.gives C.next_out_of_memory K.tells
         (C.port_count core.old) (S.transmissions segments.old)
@@ -88,8 +88,9 @@ fn run_once_lent<C: Core, S: PortDriver, K: Clock>(
     run_once_in(alloc, core, segments, clock, room)
 }
 
-/// Takes one turn, as `run_over_ports` does. Segments with other ports than the core, or that failed
-/// too often to count once more, fail: the error is `Device`, and nothing else happens.
+/// Takes one turn, as `run_over_ports` does. The error is `Device`, and nothing happens, if the
+/// port driver has another number of ports than the core. The same holds if its count of failures
+/// can't rise.
 pub fn run_once_over_ports<C: Core, S: PortDriver, K: Clock>(
     alloc: Global,
     core: &mut C,
@@ -108,7 +109,7 @@ pub fn run_once_over_ports<C: Core, S: PortDriver, K: Clock>(
         (C.port_count core.old) (S.transmissions segments.old) 1
         (S.traffic segments.old) (S.traffic segments.new) clock.old clock.new
         f core.old core.new) }
-    // Where a turn can be begun one is, and else nothing happens.
+    // If a turn can begin, one is taken; otherwise nothing happens.
     ensures begins { CanBeginBy (C.port_count core.old) (S.port_count segments.old)
         (S.failed segments.old) → TakesTurnBy C.hears C.hear_out_of_memory C.gives C.next_out_of_memory K.tells
         (C.port_count core.old) (S.transmissions segments.old)
@@ -133,12 +134,13 @@ pub fn run_once_over_ports<C: Core, S: PortDriver, K: Clock>(
     run_once_lent(alloc, core, segments, clock, &mut room)
 }
 
-/// Takes turns until one neither hears nor sends and keeps nothing back, until a fault ends one, or
-/// until there were so many.
+/// Takes turns until one is idle, a fault ends one, or `most` turns were taken. An idle turn
+/// receives, sends and filters nothing.
 ///
-/// The last turn of a quiet burst read and sent nothing. One waits then, unless packets wait in a
-/// router, as `RouterCore::queued` says; after another one takes the next.
-/// Where no turn can be begun, as `run_once_over_ports` says, the fault is `Device`, and nothing happens.
+/// The last turn of a quiet batch was idle. The caller then waits, unless packets are queued in a
+/// router, as `PriorityRouterCore::queued` tells. After a batch that is not quiet, the caller takes
+/// the next. If no turn can begin, as for `run_once_over_ports`, the fault is `Device` and nothing
+/// happens.
 pub fn run_batch<C: Core, S: PortDriverFilters, K: Clock>(
     alloc: Global,
     core: &mut C,
@@ -146,14 +148,15 @@ pub fn run_batch<C: Core, S: PortDriverFilters, K: Clock>(
     clock: &mut K,
     most: u32,
 ) -> Batch
-    // Where turns can be begun, what the core and the clock are then comes of whole turns, each as
-    // `run_over_ports` takes it, which are counted, and of a part of one where a fault ended it.
+    // If turns can begin, the core and the clock after come of whole turns, each as
+    // `run_over_ports` takes it, which are counted. If a fault ended a turn, that part of a turn
+    // follows them.
     ensures turns { CanBeginBy (C.port_count core.old) (S.port_count segments.old)
         (S.failed segments.old)
         → BurstsBy C.hears C.hear_out_of_memory C.gives C.next_out_of_memory K.tells (C.port_count core.old)
         (S.transmissions segments.old) most result (S.filtered segments.old) (S.filtered segments.new)
         clock.old clock.new core.old core.new }
-    // Where none can, nothing happens.
+    // If none can begin, nothing happens.
     ensures refused { (CanBeginBy (C.port_count core.old) (S.port_count segments.old)
         (S.failed segments.old) → ⊥) → (result ≡ refused most)
         × (core.new ≡ core.old) × (segments.new ≡ segments.old) × (clock.new ≡ clock.old) }
@@ -162,7 +165,7 @@ pub fn run_batch<C: Core, S: PortDriverFilters, K: Clock>(
         → S.failed segments.new ≡ failed_after result.fault (S.failed segments.old) }
     ensures ports { C.port_count core.new ≡ C.port_count core.old }
     ensures segment_ports { S.port_count segments.new ≡ S.port_count segments.old }
-    // By what packets are sent, who may speak, and what no call changes stays.
+    // How packets are sent, who may send, and what no call changes all stay.
     ensures transmissions { S.transmissions segments.new ≡ S.transmissions segments.old }
     ensures access { S.access segments.new ≡ S.access segments.old }
     ensures kept { S.kept segments.new ≡ S.kept segments.old }
@@ -183,9 +186,9 @@ pub fn run_batch<C: Core, S: PortDriverFilters, K: Clock>(
     batch
 }
 
-/// Takes one turn, as `run` does. A device with other ports than the core, lists of peers for other
-/// ports, or a device that failed too often to count once more, is a device that fails: the error is
-/// `Device`, and nothing else happens.
+/// Takes one turn, as `run` does. The error is `Device`, and nothing happens, if the device or the
+/// lists of peers are for another number of ports than the core. The same holds if the device's
+/// count of failures can't rise.
 pub fn turn<C: Core, D: Datagrams, K: Clock>(
     alloc: Global,
     core: &mut C,
@@ -205,7 +208,7 @@ pub fn turn<C: Core, D: Datagrams, K: Clock>(
         (C.port_count core.old) (peers_of peers.now) 1
         (D.traffic device.old) (D.traffic device.new) clock.old clock.new
         f core.old core.new) }
-    // Where a turn can be begun one is, and else nothing happens.
+    // If a turn can begin, one is taken; otherwise nothing happens.
     ensures begins { CanBegin (C.port_count core.old) (D.port_count device.old)
         (length peers.now) (D.failed device.old)
         → TakesTurn C.hears C.hear_out_of_memory C.gives C.next_out_of_memory K.tells
@@ -231,12 +234,12 @@ pub fn turn<C: Core, D: Datagrams, K: Clock>(
     run(alloc, core, device, peers, clock, 1)
 }
 
-/// Takes turns until one neither hears nor sends and keeps no datagram back, until a fault ends one,
-/// or until there were so many.
+/// Takes turns until one is idle, a fault ends one, or `most` turns were taken. An idle turn
+/// receives, sends and filters nothing.
 ///
-/// The last turn of a quiet burst read and sent nothing. One waits then, unless packets wait in a
-/// router, as `RouterCore::queued` says; after another one takes the next.
-/// Where no turn can be begun, as `turn` says, the fault is `Device`, and nothing happens.
+/// The last turn of a quiet batch was idle. The caller then waits, unless packets are queued in a
+/// router, as `PriorityRouterCore::queued` tells. After a batch that is not quiet, the caller takes
+/// the next. If no turn can begin, as for `turn`, the fault is `Device` and nothing happens.
 pub fn batch<C: Core, D: CountsFiltered, K: Clock>(
     alloc: Global,
     core: &mut C,
@@ -245,14 +248,14 @@ pub fn batch<C: Core, D: CountsFiltered, K: Clock>(
     clock: &mut K,
     most: u32,
 ) -> Batch
-    // Where turns can be begun, what the core and the clock are then comes of whole turns, each as
-    // `run` takes it, which are counted, and of a part of one where a fault ended it.
+    // If turns can begin, the core and the clock after come of whole turns, each as `run` takes it,
+    // which are counted. If a fault ended a turn, that part of a turn follows them.
     ensures turns { CanBegin (C.port_count core.old) (D.port_count device.old)
         (length peers.now) (D.failed device.old)
         → Bursts C.hears C.hear_out_of_memory C.gives C.next_out_of_memory K.tells (C.port_count core.old)
         (peers_of peers.now) most result (D.filtered device.old) (D.filtered device.new)
         clock.old clock.new core.old core.new }
-    // Where none can, nothing happens.
+    // If none can begin, nothing happens.
     ensures refused { (CanBegin (C.port_count core.old) (D.port_count device.old)
         (length peers.now) (D.failed device.old) → ⊥) → (result ≡ refused most)
         × (core.new ≡ core.old) × (device.new ≡ device.old) × (clock.new ≡ clock.old) }
@@ -261,7 +264,7 @@ pub fn batch<C: Core, D: CountsFiltered, K: Clock>(
         → D.failed device.new ≡ failed_after result.fault (D.failed device.old) }
     ensures ports { C.port_count core.new ≡ C.port_count core.old }
     ensures device_ports { D.port_count device.new ≡ D.port_count device.old }
-    // Who may speak stays.
+    // Who may send stays.
     ensures access { D.access device.new ≡ D.access device.old }
 {
     if peers.len() != core.ports() {

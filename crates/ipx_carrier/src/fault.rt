@@ -15,7 +15,7 @@ pub enum CarrierFault {
 }
 
 impl CarrierFault {
-    /// The fault's number, 38: what programs print and compare.
+    /// The fault's number, 38, which programs print and compare.
     pub fn number(&self) -> u8
         ensures { result ≡ carrier_fault_number self.now }
     {
@@ -30,7 +30,7 @@ impl CarrierFault {
 #[error("the device failed")]
 pub struct DeviceFault;
 
-/// Why a run ended before its turns were over.
+/// Why a run ended before all its turns.
 #[derive(Clone, Copy, Debug, PartialEq, Eq, Error)]
 pub enum RunFault {
     #[error("out of memory")]
@@ -41,7 +41,7 @@ pub enum RunFault {
 }
 
 impl RunFault {
-    /// The fault's number, 14 or 39: what programs print and compare.
+    /// The fault's number, 14 or 39, which programs print and compare.
     pub fn number(&self) -> u8
         ensures { result ≡ run_fault_number self.now }
     {

@@ -1,4 +1,4 @@
-//! The first part of a turn: each port is asked for a datagram, and the core hears what came.
+//! The first part of a turn: each port is asked for a datagram, and the core receives it.
 
 ghost use Rattle.std.specs.Prelude.{◌≡◌, ◌<◌, ◌≤◌, ◌+◌, ◌^◌, IfOk, IfErr, length};
 ghost use Rattle.ipx_carrier.specs.RunFaultNumbers.{failures_after};
@@ -9,7 +9,7 @@ use crate::fault::RunFault;
 use crate::segments::PortDriver;
 use std::alloc::Global;
 
-/// Asks a port for a datagram, and lets the core hear it. It answers whether there was one.
+/// Asks a port for a datagram, and passes it to the core. Returns whether there was one.
 fn hear_port<C: Core, S: PortDriver>(
     alloc: Global,
     core: &mut C,
@@ -43,7 +43,7 @@ fn hear_port<C: Core, S: PortDriver>(
     Ok(true)
 }
 
-/// Asks each port once, in order, and lets the core hear what came. It answers how many datagrams
+/// Asks each port once, in order, and passes what it gave to the core. Returns how many datagrams
 /// there were.
 pub fn hear_ports<C: Core, S: PortDriver>(
     alloc: Global,

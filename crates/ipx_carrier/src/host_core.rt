@@ -7,8 +7,8 @@ use ipx_wire::{Node, OutOfMemory};
 use spx_messages::Endpoint;
 use std::alloc::Global;
 
-/// A host that runs over a device of one port: its endpoint reads the datagrams that come, and
-/// gives those that are sent. What the endpoint answers to a datagram is let go.
+/// A host that runs over a device of one port. Its endpoint reads each received datagram, and gives
+/// those to send. What the endpoint answers to a datagram is discarded.
 #[derive(Drop)]
 pub struct HostCore {
     endpoint: Endpoint,
@@ -25,7 +25,7 @@ impl HostCore {
         HostCore { endpoint }
     }
 
-    /// The endpoint, to be asked between two runs.
+    /// The endpoint, to inspect between two runs.
     pub fn as_endpoint(&self) -> &Endpoint
         ensures { result.now ≡ self.now.endpoint }
     {

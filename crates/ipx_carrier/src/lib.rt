@@ -1,14 +1,14 @@
 //! IPX over UDP: cores, which are routers and hosts, run over devices that carry datagrams.
 //!
-//! A [`Core`] hears datagrams and gives packets; [`Datagrams`] are the ports of a device, and a
-//! [`Clock`] tells moments. [`run`] takes turns between the three. [`MemoryDatagrams`] keeps its
-//! datagrams in memory, and [`UdpDatagrams`] has a socket of UDP for each port. [`turn`] takes one turn
-//! where one can be begun, and [`batch`] takes turns as long as there is something to do.
+//! A [`Core`] receives datagrams and gives packets. [`Datagrams`] is a device with ports, and a
+//! [`Clock`] tells the time. [`run`] takes turns over the three. [`MemoryDatagrams`] keeps its
+//! datagrams in memory, and [`UdpDatagrams`] has a UDP socket for each port. [`turn`] takes one
+//! turn if one can begin, and [`batch`] takes turns for as long as there is work.
 //!
-//! [`PortDriver`] say how a packet for a node leaves a port, and what comes in there, whatever it is
-//! sent by. [`run_over_ports`] takes turns over them, as [`run_once_over_ports`] and [`run_batch`] do,
-//! and [`ByIp`] is how `run` has it: datagrams to the IP addresses that nodes stand for. [`OnPeers`]
-//! has a device of its own.
+//! A [`PortDriver`] says how a packet for a node leaves a port, and what is received there, over
+//! any network. [`run_over_ports`], [`run_once_over_ports`] and [`run_batch`] take turns over it.
+//! [`ByIp`] is the port driver of `run`: it sends datagrams to the IP addresses of nodes.
+//! [`OnPeers`] does the same and owns its device.
 #![tactic(auto)]
 
 mod by_ip;

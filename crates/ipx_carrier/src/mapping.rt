@@ -7,7 +7,7 @@ ghost use Rattle.ipx_carrier.specs.Mapping.{ip_at, node_at};
 use crate::fault::CarrierFault;
 use ipx_wire::Node;
 
-/// The IP address of a node, which is its last four bytes where the first two are zero.
+/// The IP address of a node: its last four bytes, if the first two are zero.
 pub fn ip_of(node: Node) -> Result<[u8; 4], CarrierFault>
     ensures found { IfOk result (λ ip. ip_at node ≡ Some ip) }
     ensures fault { IfErr result (λ f. (f ≡ CarrierFault.NotMapped) × (ip_at node ≡ None)) }
@@ -20,7 +20,7 @@ pub fn ip_of(node: Node) -> Result<[u8; 4], CarrierFault>
     Ok(ip)
 }
 
-/// The node of an IP address: two zero bytes, and then the address.
+/// The node of an IP address: two zero bytes, then the address.
 pub fn node_of(ip: [u8; 4]) -> Node
     ensures { result ≡ node_at ip }
 {
@@ -32,7 +32,7 @@ pub fn node_of_ip_has_that_ip()
     ensures { (ip : List ℕ) → ip_at (node_at ip) ≡ Some ip }
 {}
 
-/// A node that has an IP address is the node of it.
+/// A node that has an IP address is the node of that address.
 pub fn node_with_ip_is_of_it()
     ensures { (node : AnyNode) (ip : List ℕ) →
         length node.0 ≡ 6 → ip_at node ≡ Some ip → node_at ip ≡ node }

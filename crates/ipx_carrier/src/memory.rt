@@ -1,4 +1,4 @@
-//! Datagrams in memory, for tests and for what is run without a network.
+//! Datagrams in memory, for tests and for runs without a network.
 
 ghost use Rattle.std.specs.Prelude.{◌≡◌, ◌<◌, ◌≤◌, [], ◌∷◌, ◌++◌, OnOk, OnErr, IfOk, IfSome, Some, None, drop, length, map, option_map, replicate, slice_get, take};
 ghost use Rattle.ipx_carrier.specs.Device.{received_in};
@@ -21,17 +21,18 @@ pub struct SentDatagram {
     pub bytes: Vec<u8>,
 }
 
-/// What a port answered when it was asked for a datagram.
+/// What a port gave when it was asked for a datagram.
 #[derive(Debug, Drop)]
 pub struct KeptAnswer {
     port: usize,
     bytes: Option<Vec<u8>>,
 }
 
-/// A device whose datagrams are put into it, and which keeps what it sent.
+/// A device that receives the datagrams that are put into it, and keeps those that it sends.
 ///
-/// Datagrams of a port come in the order they were put. Want of memory in `send` and `receive` is a
-/// failure of the device, as is the call that [`MemoryDatagrams::fail_at`] names, and no other is.
+/// Datagrams of a port are received in the order in which they were put. `send` and `receive` fail
+/// if out of memory, and at the call that [`MemoryDatagrams::fail_at`] names. They never fail
+/// otherwise.
 #[derive(Drop)]
 pub struct MemoryDatagrams {
     alloc: Global,
@@ -44,7 +45,7 @@ pub struct MemoryDatagrams {
 }
 
 impl MemoryDatagrams {
-    /// A device of so many ports, to which nothing came yet.
+    /// A device with this many ports, and no datagrams.
     pub fn new(alloc: Global, ports: usize) -> Result<MemoryDatagrams, OutOfMemory>
         ensures ports { IfOk result (λ m. length m.waiting.items ≡ ports) }
         ensures waiting { IfOk result (λ m. waiting_of m ≡ replicate ports []) }
@@ -68,7 +69,7 @@ impl MemoryDatagrams {
         })
     }
 
-    /// Puts a datagram behind those that wait at a port, which the caller owes to be there.
+    /// Puts a datagram after those that wait at a port. The port must exist.
     pub fn put(&mut self, alloc: Global, port: usize, bytes: &[u8]) -> Result<(), OutOfMemory>
         requires { port < length self.old.waiting.items }
         ensures put { OnOk result
@@ -88,22 +89,22 @@ impl MemoryDatagrams {
         &self.sent
     }
 
-    /// How many times `receive` answered.
+    /// How many times `receive` returned Ok.
     pub fn received(&self) -> usize
         ensures { result ≡ length (traffic_of self.now).received }
     {
         self.answers.len()
     }
 
-    /// How many times `send` or `receive` failed since memory was refused. It stays at the greatest
-    /// u64.
+    /// How many times `send` or `receive` failed because memory was refused. It stays at the
+    /// greatest u64.
     pub fn refusals(&self) -> u64
         ensures { result ≡ self.now.refusals }
     {
         self.refusals
     }
 
-    /// The k-th `send` or `receive` from now on, counted from 1, fails. Later ones go on.
+    /// The k-th `send` or `receive` from now on, counted from 1, fails. Later calls work again.
     pub fn fail_at(&mut self, k: u64)
         ensures named { self.new.fails_after ≡ Some k }
         ensures waiting { waiting_of self.new ≡ waiting_of self.old }
@@ -115,7 +116,7 @@ impl MemoryDatagrams {
     }
 }
 
-/// Whether this is the call that is to fail, of those that are counted.
+/// Counts one call, and returns whether it is the one that is to fail.
 fn fails_now(fails_after: &mut Option<u64>) -> bool
     ensures named { result ≡ fails_next fails_after.old }
     ensures after { fails_after.new ≡ named_after fails_after.old }
@@ -150,8 +151,8 @@ fn keep_sent(
     Ok(())
 }
 
-/// Takes the first datagram that waits, if there is one, into the front of the room, and keeps what
-/// is answered.
+/// Takes the first datagram that waits, if there is one, into the front of `room`, and records the
+/// result.
 fn take_waiting(
     alloc: Global,
     waiting: &mut VecDeque<Vec<u8>>,
@@ -241,7 +242,7 @@ impl Datagrams for MemoryDatagrams {
 
 impl CountsFiltered for MemoryDatagrams {
     fn filtered(&self) -> u128 {
-        // All that comes goes to its core.
+        // Nothing is filtered.
         0
     }
 }

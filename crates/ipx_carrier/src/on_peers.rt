@@ -1,4 +1,4 @@
-//! Segments of datagrams to IP addresses that own their device.
+//! A port driver over datagrams to IP addresses that owns its device.
 
 ghost use Rattle.std.specs.Prelude.{◌≡◌};
 
@@ -8,7 +8,7 @@ use crate::fault::DeviceFault;
 use crate::segments::{PacketSent, PortDriver, PortDriverFilters};
 use ipx_wire::Node;
 
-/// The same segments as [`ByIp`], with a device and peers of their own.
+/// The same port driver as [`ByIp`], which owns its device and peers.
 #[derive(Drop)]
 pub struct OnPeers<D: Datagrams + Drop> {
     /// The device.
@@ -18,7 +18,7 @@ pub struct OnPeers<D: Datagrams + Drop> {
 }
 
 impl<D: Datagrams + Drop> OnPeers<D> {
-    /// Segments of a device, with the peers of its ports.
+    /// A port driver of a device, with the peers of its ports.
     pub fn new(device: D, peers: Vec<Vec<[u8; 4]>>) -> OnPeers<D>
         ensures device { result.device ≡ device }
         ensures peers { result.peers ≡ peers }
@@ -34,7 +34,7 @@ impl<D: Datagrams + Drop> PortDriver for OnPeers<D> {
 
     ghost Copy = { Datagram };
 
-    // The peers, and who may speak at each port of the device.
+    // The peers, and who may send at each port of the device.
     ghost Kept = { Peers × List Access };
 
     ghost kept = { λ s. (peers_of s.peers.items, D.access s.device) };

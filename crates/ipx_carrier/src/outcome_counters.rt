@@ -1,4 +1,4 @@
-//! What became of the datagrams that a router heard.
+//! What became of the datagrams that a router received.
 
 ghost use Rattle.std.specs.Prelude.{◌≡◌, ◌+◌};
 ghost use Rattle.ipx_router.specs.OutcomeView.{router_outcome};
@@ -7,8 +7,8 @@ ghost use Rattle.ipx_carrier.specs.OutcomeCounters.{outcome_counted, outcomes_af
 use crate::counting::saturating_increment;
 use ipx_router::{Outcome, Reason};
 
-/// How often a router forwarded a datagram, answered it, heard it, or dropped it for each of the
-/// reasons. Each count stays at the greatest u64.
+/// How many datagrams a router forwarded, answered, took in, or dropped for each reason. Each count
+/// stays at the greatest u64.
 #[derive(Clone, Copy, Debug, PartialEq, Eq)]
 pub struct OutcomeCounters {
     pub forwarded: u64,
@@ -24,7 +24,7 @@ pub struct OutcomeCounters {
 }
 
 impl OutcomeCounters {
-    /// Nothing was heard yet.
+    /// Counts of no datagram.
     pub fn new() -> OutcomeCounters
         ensures { result ≡ none }
     {
@@ -42,7 +42,7 @@ impl OutcomeCounters {
         }
     }
 
-    /// Counts a datagram that was dropped.
+    /// Counts a dropped datagram.
     fn count_reason(&mut self, reason: Reason)
         ensures { self.new ≡ outcomes_after reason self.old }
     {
@@ -71,7 +71,7 @@ impl OutcomeCounters {
             + u128::from(self.table_full)
     }
 
-    /// How many datagrams these are, whatever became of them.
+    /// How many datagrams were counted, whatever became of them.
     pub fn total(&self) -> u128
         ensures { result ≡ outcomes_in self.now }
     {

@@ -1,4 +1,4 @@
-//! The packets of a router that are to be sent, in two queues: what it forwards leaves before its own.
+//! The packets that a router is to send, in two queues: forwarded packets leave before its own.
 
 ghost use Rattle.std.specs.Prelude.{◌≡◌, ℕ, ◌<◌, ◌≤◌, [], length, option_map, OnOk, OnErr, IfSome};
 ghost use Rattle.ipx_router.specs.RouterPackets.{sending_of, sendings};
@@ -13,16 +13,16 @@ use ipx_router::{Outcome, Reply};
 use ipx_wire::{Node, OutOfMemory};
 use std::collections::VecDeque;
 
-/// How many packets of its own a router gives in a row.
+/// How many of its own packets a router gives in a row.
 const MAX_ORIGINATED_RUN: u32 = 8;
 
-/// Where more of its own than so many wait, fewer leave in a row behind a packet that is forwarded.
+/// If more of its own packets wait than this, fewer leave in a row after a forwarded packet.
 const FEW_WAITING: usize = 64;
 
-/// How many leave in a row then.
+/// How many then leave in a row.
 const LEAST_IN_A_ROW: u32 = 2;
 
-/// Puts what a router's answer gives to be sent into its queue.
+/// Puts the packets of a router's answer into their queue.
 pub fn put_outcome(
     forwarded: &mut VecDeque<Reply>,
     own: &mut VecDeque<Reply>,
@@ -46,7 +46,7 @@ pub fn put_outcome(
     }
 }
 
-/// Takes the first of the router's own packets, unless so many left in a row. Where none leaves,
+/// Takes the first of the router's own packets, unless the most in a row have left. If none leaves,
 /// another row begins.
 fn take_own(own: &mut VecDeque<Reply>, originated_run: &mut u32) -> Option<Reply>
     ensures { Dequeues (priority_queues [] own.old.items originated_run.old) (option_map sending_of result)
@@ -62,7 +62,8 @@ fn take_own(own: &mut VecDeque<Reply>, originated_run: &mut u32) -> Option<Reply
     Some(reply)
 }
 
-/// How many of the router's own count as having left in a row once a packet that is forwarded leaves.
+/// How many of the router's own packets count as having left in a row, once a forwarded packet
+/// leaves.
 fn row_behind(own: &VecDeque<Reply>) -> u32
     ensures { result ≡ row_behind (sendings own.now.items) }
 {
@@ -73,7 +74,7 @@ fn row_behind(own: &VecDeque<Reply>) -> u32
     }
 }
 
-/// Takes the packet that leaves next: the first that is forwarded, and else one of the router's own.
+/// Takes the packet that leaves next: the first forwarded one, otherwise one of the router's own.
 fn take_next(
     forwarded: &mut VecDeque<Reply>,
     own: &mut VecDeque<Reply>,
@@ -90,7 +91,7 @@ fn take_next(
     Some(reply)
 }
 
-/// Takes the packet that leaves next, and writes it to the front of the room.
+/// Takes the packet that leaves next, and writes it to the front of `room`.
 pub fn dequeue(
     forwarded: &mut VecDeque<Reply>,
     own: &mut VecDeque<Reply>,

@@ -1,4 +1,4 @@
-//! A router as a core that gives what it forwards before its own packets.
+//! A router as a core that gives forwarded packets before its own.
 
 ghost use Rattle.std.specs.Prelude.{◌≡◌, ◌≤◌, ◌+◌, false, length};
 ghost use Rattle.ipx_carrier.specs.OutcomeCounters.{none};
@@ -14,14 +14,17 @@ use std::alloc::Global;
 use std::collections::VecDeque;
 use std::marker::Model;
 
-/// A router that runs over a device, as [`RouterCore`](crate::RouterCore) is, and gives packets that it
-/// forwards before those that it originates.
+/// A router that runs over a device, as [`RouterCore`](crate::RouterCore) does, and gives packets
+/// that it forwards before those that it originates.
 ///
-/// What it is to send waits in two queues of at most 16,384 packets each: what it forwards, and its
-/// own, by which it answers, starts and tells. An answer, or the packets by which it starts or tells,
-/// that would pass this is dropped whole, and its packets are counted. What is forwarded is given
-/// first, and of its own eight in a row, or, behind what is forwarded, two where more than 64 of its
-/// own wait: then it gives none once, so that its ports are heard.
+/// Packets to send wait in two queues of at most 16,384 packets each. One is for forwarded packets,
+/// and one for the router's own: answers, packets of its start, and advertisements. If the packets
+/// of an answer, of the start or of an advertisement don't all fit, all of them are dropped and
+/// counted.
+///
+/// Forwarded packets are given first, then at most eight of its own in a row. After a forwarded
+/// packet only two of its own follow if more than 64 of them wait. Then it gives none once, so that
+/// its ports are read.
 #[derive(Drop)]
 pub struct PriorityRouterCore {
     router: Router,
@@ -57,7 +60,7 @@ impl Model for PriorityRouterCore {
 }
 
 impl PriorityRouterCore {
-    /// A router that has sent nothing yet. What waits to be sent is kept in memory of `alloc`.
+    /// A router that has sent nothing yet. Its queues use memory of `alloc`.
     pub fn new(alloc: Global, router: Router) -> PriorityRouterCore
         ensures router { result.router ≡ router }
         ensures fresh { (result.queues ≡ nothing_waits) × (result.started ≡ false)
@@ -77,38 +80,37 @@ impl PriorityRouterCore {
         }
     }
 
-    /// How many packets were dropped since their queue had no room for them. It stays at the greatest
-    /// u64.
+    /// How many packets were dropped because their queue was full. It stays at the greatest u64.
     pub fn dropped(&self) -> u64
         ensures { result ≡ self.now.dropped }
     {
         self.dropped
     }
 
-    /// How many packets wait to be sent. Who drives it does not sleep while some do, also where a turn
-    /// sent none.
+    /// How many packets wait to be sent. A caller must not sleep while some do, even after a turn
+    /// that sent none.
     pub fn queued(&self) -> usize
         ensures { result ≡ length self.now.queues.forwarded + length self.now.queues.own }
     {
         self.forwarded.len() + self.own.len()
     }
 
-    /// The router, to be asked between two runs.
+    /// The router, to inspect between two runs.
     pub fn router(&self) -> &Router
         ensures { result.now ≡ self.now.router }
     {
         &self.router
     }
 
-    /// What became of the datagrams that it heard.
+    /// What became of the datagrams that it received.
     pub fn outcomes(&self) -> OutcomeCounters
         ensures { result ≡ self.now.outcomes }
     {
         self.outcomes
     }
 
-    /// The router asks its neighbours for all routes and services once more, as when it started:
-    /// the packets of its start are given once again. It is called while a router is young, for
+    /// The router asks its neighbours for all routes and services once more, as it did when it
+    /// started. The packets of its start are given again. Call it soon after the start, for
     /// neighbours that weren't there yet or knew little.
     pub fn restart_discovery(&mut self)
         ensures { self.new ≡ record self.old { started = false } }
@@ -117,9 +119,10 @@ impl PriorityRouterCore {
     }
 }
 
-/// Asked for packets until it gives none, a router gives all that is forwarded, and then the first of
-/// its own, once it has started and told: 8 at most, or 2 behind what is forwarded where more than 64
-/// wait. The others wait on, and all else stays as it is then.
+/// A router that has started and advertised is asked for packets until it gives none. It gives all
+/// forwarded packets, then the first of its own. That is at most 8 of its own, or 2 after a
+/// forwarded packet if more than 64 wait. The others still wait, and all else is as it was after it
+/// started and advertised.
 pub fn forwarded_packets_leave_first()
     ensures { ForwardedLeaveFirst }
 {}

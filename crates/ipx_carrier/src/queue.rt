@@ -1,4 +1,4 @@
-//! The packets of a router that are to be sent, in a queue: the first that was put is the first that leaves.
+//! The packets that a router is to send, in a queue: first in, first out.
 
 ghost use Rattle.std.specs.Prelude.{◌≡◌, ℕ, ◌<◌, ◌≤◌, ◌∷◌, [], length, true, false, Some, OnOk, OnErr, IfSome};
 ghost use Rattle.ipx_router.specs.RouterPackets.{sending_of, sendings};
@@ -17,7 +17,7 @@ use std::collections::VecDeque;
 /// The most packets that wait in a queue.
 const MAX_QUEUED: usize = 16_384;
 
-/// Puts packets behind those that wait, if there is room for all of them, and else counts them.
+/// Puts packets at the end of a queue if all of them fit, and otherwise counts them as dropped.
 pub fn enqueue_all(
     queue: &mut VecDeque<Reply>,
     dropped: &mut u64,
@@ -42,7 +42,7 @@ pub fn enqueue_all(
     Ok(())
 }
 
-/// Puts a packet behind those that wait, if there is room, and else counts it.
+/// Puts a packet at the end of a queue if it fits, and otherwise counts it as dropped.
 pub fn enqueue_one(
     queue: &mut VecDeque<Reply>,
     dropped: &mut u64,
@@ -64,7 +64,7 @@ pub fn enqueue_one(
     Ok(())
 }
 
-/// Puts what a router's answer gives to be sent.
+/// Puts the packets of a router's answer into the queue.
 pub fn put_outcome(
     queue: &mut VecDeque<Reply>,
     dropped: &mut u64,
@@ -85,7 +85,7 @@ pub fn put_outcome(
     }
 }
 
-/// Puts the packets by which a router starts, if it has not started yet.
+/// Puts the packets of a router's start into the queue, if it has not started yet.
 pub fn enqueue_start(
     alloc: Global,
     router: &Router,
@@ -109,7 +109,7 @@ pub fn enqueue_start(
     enqueue_all(queue, dropped, asked)
 }
 
-/// Puts the packets that a router tells, if it is time.
+/// Puts a router's advertisements into the queue, if they are due.
 pub fn enqueue_advertisements(
     alloc: Global,
     router: &mut Router,
@@ -130,7 +130,7 @@ pub fn enqueue_advertisements(
     enqueue_all(queue, dropped, told)
 }
 
-/// Writes a packet to the front of the room.
+/// Writes a packet to the front of `room`.
 pub fn write_to(reply: Reply, room: &mut [u8]) -> (usize, Node, usize)
     requires room { 1536 ≤ length room.old }
     requires givable { (ports : ℕ) × CanBeSent ports (sending_of reply) }
@@ -143,7 +143,7 @@ pub fn write_to(reply: Reply, room: &mut [u8]) -> (usize, Node, usize)
     (reply.port as usize - 1, reply.next, count)
 }
 
-/// Takes the packet at the front of the queue, and writes it to the front of the room.
+/// Takes the packet at the front of the queue, and writes it to the front of `room`.
 pub fn dequeue(queue: &mut VecDeque<Reply>, room: &mut [u8]) -> Option<(usize, Node, usize)>
     requires room { 1536 ≤ length room.old }
     requires givable { (ports : ℕ) × AreGivable ports (sendings queue.old.items) }

@@ -1,4 +1,4 @@
-//! Marks of the ports at which something may wait.
+//! Marks of the ports that may have something to read.
 
 ghost use Rattle.std.specs.Prelude.{◌≡◌, ◌++◌, ◌∷◌, [], IfOk, OnErr, OnOk, false, length, replicate, slice_set, true};
 ghost use Rattle.ipx_carrier.specs.ReadySet.{is_any_marked, is_port_marked};
@@ -6,8 +6,8 @@ ghost use Rattle.ipx_carrier.specs.ReadySet.{is_any_marked, is_port_marked};
 use std::alloc::{AllocError, Global};
 use std::marker::Model;
 
-/// A mark for each port of a device, numbered from 0: whether something may wait there. A device that
-/// is told by the system where something came asks the system at those ports alone.
+/// A mark for each port of a device, numbered from 0: whether something may wait there. A device
+/// that the system notifies of readable ports reads only those.
 #[derive(Drop)]
 pub struct ReadySet {
     marks: Vec<bool>,
@@ -22,7 +22,7 @@ impl Model for ReadySet {
 }
 
 impl ReadySet {
-    /// Marks of no port.
+    /// Marks of no ports.
     pub fn new(alloc: Global) -> ReadySet
         ensures { result ≡ [] }
     {
@@ -31,7 +31,7 @@ impl ReadySet {
         }
     }
 
-    /// Marks of so many ports, all set: what came before one asks first is not told.
+    /// Marks of this many ports, all set: the system doesn't notify of what arrived earlier.
     pub fn all(alloc: Global, ports: usize) -> Result<ReadySet, AllocError>
         ensures { IfOk result (λ marks. marks ≡ replicate ports true) }
     {
@@ -39,7 +39,7 @@ impl ReadySet {
         Ok(ReadySet { marks })
     }
 
-    /// One more port, behind the others, which is marked.
+    /// Adds one more port after the others. It is marked.
     pub fn add(&mut self) -> Result<(), AllocError>
         ensures added { OnOk result (self.new ≡ self.old ++ true ∷ []) }
         ensures refused { OnErr result (self.new ≡ self.old) }
@@ -48,7 +48,7 @@ impl ReadySet {
         Ok(())
     }
 
-    /// For how many ports there are marks.
+    /// How many ports there are.
     pub fn ports(&self) -> usize
         ensures { result ≡ length self.now }
     {
@@ -72,7 +72,8 @@ impl ReadySet {
         self.marks.iter().any(|mark| *mark)
     }
 
-    /// Something may wait at a port from now on. Where there is none of that number nothing happens.
+    /// Marks a port: something may wait there from now on. Nothing happens if the port does not
+    /// exist.
     pub fn mark(&mut self, port: usize)
         ensures { self.new ≡ slice_set self.old port true }
     {
@@ -81,7 +82,7 @@ impl ReadySet {
         }
     }
 
-    /// Nothing waits at a port, as the system said.
+    /// Clears a port's mark: the system said that nothing waits there.
     pub fn clear_ready(&mut self, port: usize)
         ensures { self.new ≡ slice_set self.old port false }
     {
@@ -90,7 +91,7 @@ impl ReadySet {
         }
     }
 
-    /// Something may wait at each port.
+    /// Marks each port.
     pub fn mark_all(&mut self)
         ensures { self.new ≡ replicate (length self.old) true }
     {

@@ -1,4 +1,4 @@
-//! What a run tells of itself.
+//! What a run counted.
 
 ghost use Rattle.std.specs.Prelude.{◌≡◌, ◌+◌, Some, true};
 ghost use Rattle.ipx_carrier.specs.Driving.{no_turns, refused};
@@ -6,39 +6,38 @@ ghost use Rattle.ipx_carrier.specs.Counting.{counted};
 
 use crate::fault::RunFault;
 
-/// What a run counted.
+/// The counts of a run.
 #[derive(Clone, Copy, Debug, PartialEq, Eq)]
 pub struct Report {
     /// The turns that it took.
     pub turns: u128,
-    /// The datagrams that it received and its core heard.
+    /// The datagrams that it received, and its core with it.
     pub heard: u128,
-    /// The datagrams that it sent, one for each peer of a broadcast.
+    /// The datagrams that it sent; a broadcast counts once for each peer.
     pub sent: u128,
-    /// The packets that were not sent, since their node has no IP address.
+    /// The packets that were not sent, because their node has no IP address.
     pub unmapped: u128,
 }
 
-/// What sending the packets of one turn counted: datagrams that were sent, and packets that were
-/// not.
+/// The counts of the packets of one turn: datagrams that were sent, and packets that were not.
 #[derive(Clone, Copy, Debug)]
 pub struct SendCounts {
     pub sent: u128,
     pub unmapped: u128,
 }
 
-/// What turns one after another counted, and how they ended.
+/// The counts of consecutive turns, and how they ended.
 #[derive(Clone, Copy, Debug, PartialEq, Eq)]
 pub struct Batch {
-    /// The datagrams that the core heard.
+    /// The datagrams that the core received.
     pub heard: u64,
     /// The datagrams that were sent.
     pub sent: u64,
-    /// The packets that were not sent, since their node has no IP address.
+    /// The packets that were not sent, because their node has no IP address.
     pub unmapped: u64,
-    /// What ended a turn early, and the burst.
+    /// The fault that ended a turn early, and with it the batch.
     pub fault: Option<RunFault>,
-    /// The last turn neither heard nor sent, and kept nothing back: now one waits.
+    /// Whether the last turn received, sent and filtered nothing: the caller now waits.
     pub quiet: bool,
 }
 
@@ -50,7 +49,7 @@ fn count_of(count: u128) -> u64
 }
 
 impl Batch {
-    /// A burst of no turns.
+    /// A batch of no turns.
     pub(crate) fn none() -> Batch
         ensures { result ≡ no_turns }
     {
@@ -63,7 +62,7 @@ impl Batch {
         }
     }
 
-    /// A burst of at most so many turns, of which none can be begun.
+    /// A batch of at most this many turns, none of which can begin.
     pub(crate) fn refused(most: u32) -> Batch
         ensures { result ≡ refused most }
     {
@@ -73,7 +72,7 @@ impl Batch {
         Batch::none().ended_by(RunFault::Device)
     }
 
-    /// With one turn more, which ended well.
+    /// This batch and one more whole turn.
     pub(crate) fn with(self, report: Report) -> Batch
         ensures heard { result.heard ≡ counted (self.heard + report.heard) }
         ensures sent { result.sent ≡ counted (self.sent + report.sent) }
@@ -89,7 +88,7 @@ impl Batch {
         }
     }
 
-    /// One that a fault ended.
+    /// This batch, ended by a fault.
     pub(crate) fn ended_by(self, fault: RunFault) -> Batch
         ensures { result ≡ record self { fault = Some fault } }
     {
@@ -99,7 +98,7 @@ impl Batch {
         }
     }
 
-    /// One that ended behind an idle turn.
+    /// This batch, ended after an idle turn.
     pub(crate) fn quieted(self) -> Batch
         ensures { result ≡ record self { quiet = true } }
     {

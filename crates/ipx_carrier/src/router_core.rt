@@ -12,11 +12,11 @@ use std::alloc::Global;
 use std::collections::VecDeque;
 use std::marker::Model;
 
-/// A router that runs over a device. Its port of a number is the device's port of one less.
+/// A router that runs over a device. The router's port numbers are one more than the device's.
 ///
-/// What it is to send waits in a queue of at most 16,384 packets, first in, first out. An answer, or the
-/// packets by which it starts or tells, that would pass this is dropped whole, and its packets are
-/// counted.
+/// Packets to send wait in a queue of at most 16,384 packets, first in, first out. If the packets
+/// of an answer, of the router's start or of an advertisement don't all fit, all of them are
+/// dropped and counted.
 #[derive(Drop)]
 pub struct RouterCore {
     router: Router,
@@ -48,7 +48,7 @@ impl Model for RouterCore {
 }
 
 impl RouterCore {
-    /// A router that has sent nothing yet. What waits to be sent is kept in memory of `alloc`.
+    /// A router that has sent nothing yet. Its queue uses memory of `alloc`.
     pub fn new(alloc: Global, router: Router) -> RouterCore
         ensures router { result.router ≡ router }
         ensures fresh { (result.queue ≡ []) × (result.started ≡ false) × (result.dropped ≡ 0) }
@@ -65,30 +65,29 @@ impl RouterCore {
         }
     }
 
-    /// How many packets were dropped since the queue had no room for them. It stays at the greatest
-    /// u64.
+    /// How many packets were dropped because the queue was full. It stays at the greatest u64.
     pub fn dropped(&self) -> u64
         ensures { result ≡ self.now.dropped }
     {
         self.dropped
     }
 
-    /// The router, to be asked between two runs.
+    /// The router, to inspect between two runs.
     pub fn router(&self) -> &Router
         ensures { result.now ≡ self.now.router }
     {
         &self.router
     }
 
-    /// What became of the datagrams that it heard.
+    /// What became of the datagrams that it received.
     pub fn outcomes(&self) -> OutcomeCounters
         ensures { result ≡ self.now.outcomes }
     {
         self.outcomes
     }
 
-    /// The router asks its neighbours for all routes and services once more, as when it started:
-    /// the packets of its start are given once again. It is called while a router is young, for
+    /// The router asks its neighbours for all routes and services once more, as it did when it
+    /// started. The packets of its start are given again. Call it soon after the start, for
     /// neighbours that weren't there yet or knew little.
     pub fn restart_discovery(&mut self)
         ensures { self.new ≡ record self.old { started = false } }

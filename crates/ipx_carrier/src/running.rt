@@ -19,7 +19,7 @@ use crate::segments::PortDriver;
 use crate::sending::send_all;
 use std::alloc::Global;
 
-/// The room that a datagram is received into, and that a packet is given in.
+/// The length of the buffers that a datagram is received into, and that a packet is given in.
 pub const MAX_DATAGRAM: usize = 1536;
 
 fn add(a: Report, b: Report) -> Report
@@ -37,8 +37,8 @@ fn add(a: Report, b: Report) -> Report
     }
 }
 
-/// Takes one turn, in a room that is lent: it reads the clock, asks each port for a datagram, which
-/// the core hears, and sends what the core gives.
+/// Takes one turn with borrowed buffers. It reads the clock, passes one datagram of each port to
+/// the core, and sends what the core gives.
 pub fn run_once_in<C: Core, S: PortDriver, K: Clock>(
     alloc: Global,
     core: &mut C,
@@ -83,15 +83,16 @@ pub fn run_once_in<C: Core, S: PortDriver, K: Clock>(
     })
 }
 
-/// Runs a core over segments for so many turns.
+/// Runs a core over a port driver for this many turns.
 ///
-/// A turn reads the clock once, asks each port for what came in, in order, and lets the core hear
-/// it. Then it asks the core for packets until it gives none, or gave 64, and hands each to the
-/// segment of its port.
+/// A turn reads the clock once. It asks each port for a datagram, in order, and passes it to the
+/// core. Then it asks the core for packets until it gives none, or gave 64, and sends each by its
+/// port.
 ///
-/// The caller owes segments for as many ports as the core has, at most 1,000,000 turns, and
-/// segments whose count of failures can rise. A fault ends the run, and what went before stands:
-/// `Device` where the segments failed, and `OutOfMemory` where the core wanted memory.
+/// The caller owes a port driver with as many ports as the core, and at most 1,000,000 turns. The
+/// driver's count of failures must be able to rise. A fault ends the run, and what was done before
+/// it remains. It is `Device` if the port driver failed, and `OutOfMemory` if the core ran out of
+/// memory.
 pub fn run_over_ports<C: Core, S: PortDriver, K: Clock>(
     alloc: Global,
     core: &mut C,
@@ -102,7 +103,7 @@ pub fn run_over_ports<C: Core, S: PortDriver, K: Clock>(
     requires turns { turns ≤ 1000000 }
     requires ports { S.port_count segments.old ≡ C.port_count core.old }
     requires countable { S.failed segments.old + 1 < 2 ^ 64 }
-    // What was received and sent, the moments and the core after are those of so many turns.
+    // What was received and sent, the times and the core after are those of this many turns.
     ensures turns { IfOk result (λ report.
         RunsBy C.hears C.gives K.tells (C.port_count core.old) (S.transmissions segments.old) turns
         (S.traffic segments.old) (S.traffic segments.new) clock.old clock.new
@@ -112,15 +113,15 @@ pub fn run_over_ports<C: Core, S: PortDriver, K: Clock>(
         (C.port_count core.old) (S.transmissions segments.old) turns
         (S.traffic segments.old) (S.traffic segments.new) clock.old clock.new
         f core.old core.new) }
-    // At each port what was received is the first datagrams that waited there, each as far as 1,536
-    // bytes, and the others still wait; at a fault too.
+    // Each port gave the first datagrams that waited there, each cut to 1,536 bytes, and the others
+    // still wait. This holds at a fault too.
     ensures waiting { DrainsDevice 1536 (S.traffic segments.old) (S.traffic segments.new)
         (S.waiting segments.old) (S.waiting segments.new) }
-    // `Device` comes just where the segments failed.
+    // The fault is `Device` exactly if the port driver failed.
     ensures failures { S.failed segments.new ≡ failures_after result (S.failed segments.old) }
     ensures core_ports { C.port_count core.new ≡ C.port_count core.old }
     ensures segment_ports { S.port_count segments.new ≡ S.port_count segments.old }
-    // By what packets are sent and who may speak stays, and what is kept from the core is counted on.
+    // How packets are sent and who may send stay, and the count of what is filtered continues.
     ensures transmissions { S.transmissions segments.new ≡ S.transmissions segments.old }
     ensures access { S.access segments.new ≡ S.access segments.old }
     ensures filtered { S.filtered segments.old ≤ S.filtered segments.new }
@@ -140,17 +141,17 @@ pub fn run_over_ports<C: Core, S: PortDriver, K: Clock>(
     Ok(report)
 }
 
-/// Runs a core over a device for so many turns.
+/// Runs a core over a device for this many turns.
 ///
-/// A turn reads the clock once, asks each port for a datagram, in order, and lets the core hear
-/// what comes. Then it asks the core for packets until it gives none, or gave 64, and sends each:
-/// a broadcast to each peer of its port, in order, another packet to the IP address of its node,
-/// and nowhere where the node has none.
+/// A turn reads the clock once. It asks each port for a datagram, in order, and passes it to the
+/// core. Then it asks the core for packets until it gives none, or gave 64, and sends each. A
+/// broadcast goes to each peer of its port, in order, another packet to the IP address of its node.
+/// A packet is not sent if its node has no IP address.
 ///
 /// `peers` has the IP addresses of the other nodes, for each port of the core. The caller owes
-/// that, a device with as many ports as the core, at most 1,000,000 turns, and a device whose
-/// count of failures can rise. A fault ends the run, and what went before stands: `Device` where
-/// the device failed, and `OutOfMemory` where the core wanted memory.
+/// that, a device with as many ports as the core, and at most 1,000,000 turns. The device's count
+/// of failures must be able to rise. A fault ends the run, and what was done before it remains. It
+/// is `Device` if the device failed, and `OutOfMemory` if the core ran out of memory.
 pub fn run<C: Core, D: Datagrams, K: Clock>(
     alloc: Global,
     core: &mut C,
@@ -163,7 +164,7 @@ pub fn run<C: Core, D: Datagrams, K: Clock>(
     requires ports { D.port_count datagrams.old ≡ C.port_count core.old }
     requires peers { length peers.now ≡ C.port_count core.old }
     requires countable { D.failed datagrams.old + 1 < 2 ^ 64 }
-    // What was received and sent, the moments and the core after are those of so many turns.
+    // What was received and sent, the times and the core after are those of this many turns.
     ensures turns { IfOk result (λ report.
         Runs C.hears C.gives K.tells (C.port_count core.old) (peers_of peers.now) turns
         (D.traffic datagrams.old) (D.traffic datagrams.new) clock.old clock.new
@@ -173,15 +174,15 @@ pub fn run<C: Core, D: Datagrams, K: Clock>(
         (C.port_count core.old) (peers_of peers.now) turns
         (D.traffic datagrams.old) (D.traffic datagrams.new) clock.old clock.new
         f core.old core.new) }
-    // At each port what was received is the first datagrams that waited there, each as far as 1,536
-    // bytes, and the others still wait; at a fault too.
+    // Each port gave the first datagrams that waited there, each cut to 1,536 bytes, and the others
+    // still wait. This holds at a fault too.
     ensures waiting { DrainsDevice 1536 (D.traffic datagrams.old) (D.traffic datagrams.new)
         (D.waiting datagrams.old) (D.waiting datagrams.new) }
-    // `Device` comes just where the device failed.
+    // The fault is `Device` exactly if the device failed.
     ensures failures { D.failed datagrams.new ≡ failures_after result (D.failed datagrams.old) }
     ensures core_ports { C.port_count core.new ≡ C.port_count core.old }
     ensures device_ports { D.port_count datagrams.new ≡ D.port_count datagrams.old }
-    // Who may speak there stays, and what the device keeps from the core is counted on.
+    // Who may send stays, and the count of what the device filters continues.
     ensures access { D.access datagrams.new ≡ D.access datagrams.old }
     ensures filtered { D.filtered datagrams.old ≤ D.filtered datagrams.new }
 {

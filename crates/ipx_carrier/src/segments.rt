@@ -1,4 +1,4 @@
-//! What a core's packets leave by, and what comes in to it.
+//! How a core's packets leave its ports, and how packets come in.
 
 ghost use Rattle.std.specs.Prelude.{◌≡◌, ◌<◌, ◌≤◌, ◌+◌, ◌^◌, ℕ, List, [], ◌∷◌, Option, IfOk, OnOk, OnErr, IfSome, length};
 ghost use Rattle.ipx_carrier.specs.Device.{Access, Passes, TrafficOf, received_in};
@@ -10,64 +10,65 @@ ghost use Rattle.ipx_carrier.specs.Waits.{LeavesPort, WaitingDatagrams};
 use crate::fault::DeviceFault;
 use ipx_wire::Node;
 
-/// What became of a packet that was handed to the segment of a port.
+/// What became of a packet that a port driver was given.
 #[derive(Clone, Copy, Debug, PartialEq, Eq)]
 pub enum PacketSent {
-    /// Nothing there stands for its node, so it was not sent.
+    /// It was not sent, because its node has no address there.
     Unmapped,
-    /// It was sent so many times.
+    /// It was sent this many times.
     Transmitted(usize),
 }
 
-/// The segments that the ports of a core are at, numbered from 0: how a packet for a node leaves a
-/// port, and what comes in there for the core.
+/// The driver of a core's ports, numbered from 0: how a packet for a node leaves a port, and what
+/// is received there for the core.
 ///
-/// They count how often they failed, which no one else can raise. What they received and sent, and
-/// what waits for the core, is known of those that keep it; a contract over segments speaks of what
-/// they tell, and says nothing of it where they tell none.
+/// It counts its own failures, and nothing else can raise that count. Contracts state what was
+/// received and sent, and what waits, only for a driver that records it. For another driver they
+/// state nothing of it.
 pub trait PortDriver {
-    /// What a packet is sent by, as a datagram.
+    /// What is sent for a packet, such as a datagram.
     ghost Copy: { Type 0 };
 
-    /// What every call leaves as it was, besides what the clauses name.
+    /// What no call changes, besides what the clauses name.
     ghost Kept: { Type 0 } = { Unit {0} };
 
-    /// What that is here.
+    /// Its value here.
     ghost kept: { Self → Self.Kept };
 
     /// How many ports there are.
     ghost port_count: { Self → ℕ };
 
-    /// How often they failed.
+    /// How often it failed.
     ghost failed: { Self → ℕ };
 
-    /// By what a packet for a node is sent, or that nothing stands for it. It stays.
+    /// The copies that are sent for a packet for a node, or that its node has no address. No call
+    /// changes it.
     ghost transmissions: { Self → Given → Option (List Self.Copy) };
 
-    /// What they received and sent so far, if they keep that.
+    /// What it received and sent so far, if it records that.
     ghost traffic: { Self → Option (TrafficOf Self.Copy) };
 
-    /// What waits for the core at each port, if they can tell.
+    /// What waits for the core at each port, if the driver can tell.
     ghost waiting: { Self → Option WaitingDatagrams };
 
-    /// Who may speak at each port, if they ask that. It stays.
+    /// Who may send and receive at each port, if the driver filters. No call changes it.
     ghost access: { Self → List Access };
 
-    /// How much that came they kept from the core. That never falls.
+    /// How much of what arrived was filtered. That never falls.
     ghost filtered: { Self → ℕ };
 
     /// How many ports there are.
     fn ports(&self) -> usize
         ensures { result ≡ port_count self.now };
 
-    /// How often they failed to send or to receive.
+    /// How often it failed to send or to receive.
     fn failures(&self) -> u64
         ensures { result ≡ failed self.now };
 
-    /// Sends a packet by a port to a node there, by each of its copies, in order. At a failure
-    /// those before it were sent.
+    /// Sends a packet by a port to a node there, as each of its copies, in order. At a failure the
+    /// copies before it were sent.
     ///
-    /// The caller owes a port that is there, and a count of failures that can rise.
+    /// The port must exist, and the count of failures must be able to rise.
     fn send(&mut self, port: usize, node: Node, packet: &[u8]) -> Result<PacketSent, DeviceFault>
         requires there { port < port_count self.old }
         requires countable { failed self.old + 1 < 2 ^ 64 }
@@ -87,10 +88,10 @@ pub trait PortDriver {
         ensures filtered { filtered self.old ≤ filtered self.new }
         ensures kept { Self.kept self.new ≡ Self.kept self.old };
 
-    /// Takes what comes first for the core at a port, if there is something: its bytes go to the
-    /// front of the room, as many as are answered. What the room can't take of them is lost.
+    /// Takes what comes first for the core at a port, if there is something. Its bytes go to the
+    /// front of `room`, and the number of them is returned. What doesn't fit is lost.
     ///
-    /// The caller owes a port that is there, and a count of failures that can rise.
+    /// The port must exist, and the count of failures must be able to rise.
     fn receive(&mut self, port: usize, room: &mut [u8]) -> Result<Option<usize>, DeviceFault>
         requires there { port < port_count self.old }
         requires countable { failed self.old + 1 < 2 ^ 64 }
@@ -109,9 +110,9 @@ pub trait PortDriver {
         ensures kept { Self.kept self.new ≡ Self.kept self.old };
 }
 
-/// Segments that tell how much they kept from the core.
+/// A port driver that tells how much it filtered.
 pub trait PortDriverFilters: PortDriver {
-    /// How much it was so far, as they count it.
+    /// How much it filtered so far.
     fn filtered(&self) -> u128
         ensures { result ≡ Self.filtered self.now };
 }

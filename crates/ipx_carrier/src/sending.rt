@@ -43,7 +43,7 @@ fn send_next<C: Core, S: PortDriver>(
     Ok(Some(sent))
 }
 
-/// A tally with one more packet.
+/// The counts with one more packet.
 fn with_packet(totals: SendCounts, sent: PacketSent) -> SendCounts
     requires sent { totals.sent + 2 ^ 64 < 2 ^ 128 }
     requires unmapped { totals.unmapped + 1 < 2 ^ 128 }

@@ -13,9 +13,9 @@ use std::net::{Ipv4Addr, Net, SocketAddrV4, UdpSocket};
 /// The UDP port of IPX (RFC 1234).
 pub const UDP_PORT: u16 = 213;
 
-/// A device that has a socket of UDP for each port.
+/// A device that has a UDP socket for each port.
 ///
-/// It tells its count of failures alone: which datagrams come and which arrive is the network's.
+/// It tells only its count of failures: which datagrams arrive depends on the network.
 #[derive(Drop)]
 pub struct UdpDatagrams {
     sockets: Vec<UdpSocket>,
@@ -23,7 +23,7 @@ pub struct UdpDatagrams {
     failures: u64,
 }
 
-/// Where an IP address is reached by UDP, at a port of UDP.
+/// The socket address of an IP address and a UDP port.
 pub fn socket_addr(ip: [u8; 4], port: u16) -> SocketAddrV4
     ensures ip { ipv4_octets (v4_ip result) ≡ ip }
     ensures port { v4_port result ≡ port }
@@ -31,7 +31,7 @@ pub fn socket_addr(ip: [u8; 4], port: u16) -> SocketAddrV4
     SocketAddrV4::new(Ipv4Addr::new(ip[0], ip[1], ip[2], ip[3]), port)
 }
 
-/// A socket at an IP address and a port of UDP, which does not wait. The error is the system's.
+/// Binds a non-blocking socket at an IP address and a UDP port. The error is the system's.
 pub fn bind_nonblocking<R: Net>(rt: &R, ip: [u8; 4], port: u16) -> io::Result<UdpSocket> {
     let socket = UdpSocket::bind(rt, socket_addr(ip, port))?;
     socket.set_nonblocking(true)?;
@@ -39,9 +39,8 @@ pub fn bind_nonblocking<R: Net>(rt: &R, ip: [u8; 4], port: u16) -> io::Result<Ud
 }
 
 impl UdpDatagrams {
-    /// A device with a port at each of these IP addresses, all of them at one port of UDP, which
-    /// datagrams are sent to as well. A socket that can't be bound is a fault, as is want of
-    /// memory.
+    /// Binds a port at each of these IP addresses. All use the same UDP port, which datagrams are
+    /// also sent to. It fails if a socket can't be bound, or if out of memory.
     pub fn bind<R: Net>(
         rt: &R,
         alloc: Global,

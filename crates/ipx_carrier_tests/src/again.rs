@@ -1,11 +1,11 @@
-//! A router that asks again, and what it counts.
+//! A router that asks its neighbours again, and its counts.
 
 use crate::fixture::{no_peers, one_peer_each, one_turn, two_ports, two_ports_by_priority};
 use ipx_carrier::{MemoryDatagrams, OutcomeCounters};
 use std::test::Fail;
 
-/// In its first turn it asks for routes and services on each port, and tells a network on each;
-/// asked to ask again, it asks for the four once more.
+/// In its first turn it asks for routes and services on each port, and advertises a network on
+/// each. When it is told to ask again, it sends the four requests once more.
 #[test]
 fn asks_again_for_all(rt: HostRuntime) -> Result<(), Fail> {
     let alloc = rt.alloc();
@@ -19,7 +19,7 @@ fn asks_again_for_all(rt: HostRuntime) -> Result<(), Fail> {
     Ok(())
 }
 
-/// So does one that gives what it forwards first.
+/// So does a router that gives forwarded packets first.
 #[test]
 fn asks_again_for_all_by_priority(rt: HostRuntime) -> Result<(), Fail> {
     let alloc = rt.alloc();

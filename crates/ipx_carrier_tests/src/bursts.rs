@@ -1,4 +1,4 @@
-//! Bursts of a router over segments that own their device, with literal values.
+//! Batches of a router over a port driver that owns its device, with literal values.
 
 use crate::fixture::{text_of, two_ports};
 use crate::refused::core_at_last;
@@ -13,7 +13,7 @@ use std::test::Fail;
 /// A packet from network 11 to node 00007f000005 of network 22, in hex.
 const ONWARD: &[u8] = b"ffff001e00000000002200007f00000540000000001100007f0000034001";
 
-/// So many ports, of which the first two have a peer each.
+/// A port driver of this many ports, of which the first two have a peer each.
 fn segments(alloc: Global, ports: usize) -> Result<OnPeers<MemoryDatagrams>, OutOfMemory> {
     let nine = vec![in alloc; [127, 0, 0, 9]]?;
     let eight = vec![in alloc; [127, 0, 0, 8]]?;
@@ -21,8 +21,8 @@ fn segments(alloc: Global, ports: usize) -> Result<OnPeers<MemoryDatagrams>, Out
     Ok(OnPeers::new(device, vec![in alloc; nine, eight]?))
 }
 
-/// What comes at one port goes on at the other; the packets by which the router starts go to the peer
-/// of each; and the burst is quiet then.
+/// What arrives at one port is forwarded by the other. The packets of the router's start go to the
+/// peer of each port. Then the batch is quiet.
 #[test]
 fn a_batch_over_segments(rt: HostRuntime) -> Result<(), Fail> {
     let alloc = rt.alloc();
@@ -54,8 +54,8 @@ fn a_batch_over_segments(rt: HostRuntime) -> Result<(), Fail> {
     Ok(())
 }
 
-/// No turn is begun over segments with a port too many. Where the device fails that ends one, and is
-/// counted.
+/// No turn begins over a port driver with one port too many. A failure of the device ends a turn,
+/// and is counted.
 #[test]
 fn bursts_that_fail(rt: HostRuntime) -> Result<(), Fail> {
     let alloc = rt.alloc();
@@ -77,8 +77,8 @@ fn bursts_that_fail(rt: HostRuntime) -> Result<(), Fail> {
     Ok(())
 }
 
-/// Where memory is refused the turn or the burst ends with that, and another one goes on. Run it with each
-/// request refused.
+/// If memory is refused, the turn or the batch ends with that, and another one works. Run it with
+/// each request refused.
 #[test]
 fn refused_turns_over_segments(rt: HostRuntime) -> Result<(), Fail> {
     let alloc = rt.alloc();

@@ -33,19 +33,19 @@ fn router_of(alloc: Global, first: Port, second: Port) -> Result<Router, OutOfMe
     }
 }
 
-/// A core of a router with ports 11 and 22.
+/// A core of a router with ports on networks 11 and 22.
 pub fn two_ports(alloc: Global) -> Result<RouterCore, OutOfMemory> {
     let router = router_of(alloc, port(0x11, 1), port(0x22, 2))?;
     Ok(RouterCore::new(alloc, router))
 }
 
-/// A core of the same router that gives what it forwards first.
+/// A core of the same router that gives forwarded packets first.
 pub fn two_ports_by_priority(alloc: Global) -> Result<PriorityRouterCore, OutOfMemory> {
     let router = router_of(alloc, port(0x11, 1), port(0x22, 2))?;
     Ok(PriorityRouterCore::new(alloc, router))
 }
 
-/// A core of a router with ports 22 and 33, the next one.
+/// A core of the next router, with ports on networks 22 and 33.
 pub fn next_ports(alloc: Global) -> Result<RouterCore, OutOfMemory> {
     let router = router_of(alloc, port(0x22, 4), port(0x33, 6))?;
     Ok(RouterCore::new(alloc, router))
@@ -63,7 +63,8 @@ pub fn no_peers(alloc: Global) -> Result<Vec<Vec<[u8; 4]>>, OutOfMemory> {
     Ok(vec![in alloc; Vec::new(alloc), Vec::new(alloc)]?)
 }
 
-/// Runs a core for one turn. Peers or a device of another count of ports are no memory.
+/// Runs a core for one turn. Returns out of memory if the peers or the device are for another
+/// number of ports.
 pub fn turn_at<C: Core>(
     alloc: Global,
     core: &mut C,
@@ -78,7 +79,7 @@ pub fn turn_at<C: Core>(
     run(alloc, core, datagrams, peers, clock, 1)
 }
 
-/// The same at the moment 0.
+/// The same at time 0.
 pub fn one_turn<C: Core>(
     alloc: Global,
     core: &mut C,

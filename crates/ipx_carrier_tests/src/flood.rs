@@ -10,7 +10,7 @@ use std::test::Fail;
 /// A packet from network 11 to node 00007f000005 of network 22, in hex.
 const ONWARD: &[u8] = b"ffff001e00000000002200007f00000540000000001100007f0000034001";
 
-/// A datagram of so many bytes that begins as the packet does, with this length in its header.
+/// A datagram of this size that begins as the packet does, with this length in its header.
 fn long(alloc: Global, size: usize, length: [u8; 2]) -> Result<Vec<u8>, Fail> {
     let mut bytes = hex::decode(alloc, ONWARD)?;
     bytes.resize(size, 0)?;
@@ -21,7 +21,7 @@ fn long(alloc: Global, size: usize, length: [u8; 2]) -> Result<Vec<u8>, Fail> {
     Ok(bytes)
 }
 
-/// How many datagrams go out in the turn in which this one comes to port 0.
+/// The device after a turn in which this datagram arrives at port 0.
 fn sent_for(rt: &impl Abort, alloc: Global, bytes: &[u8]) -> Result<MemoryDatagrams, Fail> {
     let mut core = two_ports(alloc)?;
     let mut datagrams = MemoryDatagrams::new(alloc, 2)?;
@@ -75,8 +75,8 @@ fn hear_onward(alloc: Global, core: &mut RouterCore, bytes: &[u8]) -> Result<(),
     Ok(())
 }
 
-/// Where 16,384 wait, the next is dropped, and so are the four packets of its start and the two that it
-/// tells.
+/// If 16,384 packets wait, the next is dropped, and so are the four packets of its start and its
+/// two advertisements.
 #[test]
 fn a_flood_is_dropped(rt: HostRuntime) -> Result<(), Fail> {
     let alloc = rt.alloc();

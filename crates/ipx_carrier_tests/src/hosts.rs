@@ -1,7 +1,7 @@
-//! Two hosts with two routers between them, over datagrams in memory that all come twice.
+//! Two hosts with two routers between them, over datagrams in memory that all arrive twice.
 //!
-//! The nodes are 00007f0000xx: host 3 on network 11, a router with 1 there and 2 on network 22, a
-//! router with 4 there and 6 on network 33, and host 7 there.
+//! The nodes are 00007f0000xx. Host 3 is on network 11. The first router has 1 there and 2 on
+//! network 22. The second has 4 on network 22 and 6 on network 33, where host 7 is.
 
 ghost use Rattle.std.specs.Prelude.{◌≡◌};
 ghost use Rattle.ipx_router.specs.NewRouter.{IsOwnNetwork};
@@ -14,7 +14,7 @@ use spx_messages::{Endpoint, Message, Taken};
 use std::alloc::Global;
 use std::test::Fail;
 
-/// A core with its device, the peers of its ports, and a clock of its own.
+/// A core with its device, the peers of its ports, and its clock.
 #[derive(Drop)]
 struct Member<C: Core + Drop> {
     core: C,
@@ -32,7 +32,7 @@ struct Site {
     called: Member<HostCore>,
 }
 
-/// A datagram on its way: the last byte of its address, and its bytes.
+/// A datagram in transit: the last byte of its address, and its bytes.
 #[derive(Drop)]
 struct Sent {
     last: u8,
@@ -162,7 +162,7 @@ fn pass(alloc: Global, site: &mut Site, sent: &[Sent]) -> Result<(), Fail> {
     Ok(())
 }
 
-/// So many turns of each member.
+/// This many turns of each member.
 fn pump(alloc: Global, site: &mut Site, turns: u32) -> Result<(), Fail> {
     for _ in 0..turns {
         let sent = turn(alloc, &mut site.caller)?;

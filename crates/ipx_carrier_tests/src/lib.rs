@@ -1,5 +1,5 @@
-//! Tests of routers and hosts over datagrams in memory and by UDP, with literal values. They call
-//! what `ipx_carrier` makes public, and no crate stands on this one.
+//! Tests of routers and hosts over datagrams in memory and over UDP, with literal values. They call
+//! what `ipx_carrier` makes public, and no crate depends on this one.
 #![tactic(auto)]
 
 #[cfg(test)]

@@ -1,4 +1,4 @@
-//! Marks of ports, and memory that is refused to them.
+//! Marks of ports, if memory is refused.
 
 use ipx_carrier::ReadySet;
 use std::test::Fail;
@@ -24,7 +24,7 @@ fn marks_of_three_ports(rt: HostRuntime) -> Result<(), Fail> {
     Ok(())
 }
 
-/// Where memory is refused to one more port, the others are as they were.
+/// If memory is refused for one more port, the others are as they were.
 #[test]
 fn refused_marks(rt: HostRuntime) -> Result<(), Fail> {
     let alloc = rt.alloc();

@@ -1,4 +1,5 @@
-//! Which packets of a router leave first, with literal values: in order, or first what is forwarded.
+//! Which packets of a router leave first, with literal values: in order, or forwarded packets
+//! first.
 
 use crate::fixture::{one_peer_each, one_turn, two_ports, two_ports_by_priority};
 use ipx_carrier::{Core, Datagrams, MemoryDatagrams, PriorityRouterCore};
@@ -7,14 +8,14 @@ use std::alloc::Global;
 use std::process::Abort;
 use std::test::Fail;
 
-/// A packet from network 11 to node 00007f000005 of network 22, which goes on by port 1.
+/// A packet from network 11 to node 00007f000005 of network 22, which is forwarded by port 1.
 const ONWARD: &[u8] = b"ffff001e00000000002200007f00000540000000001100007f0000034001";
 
-/// A request for all routes of node 00007f000003 of network 11, which one packet answers.
+/// A request for all routes from node 00007f000003 of network 11, which one packet answers.
 const REQUEST: &[u8] =
     b"ffff0028000100000011ffffffffffff04530000001100007f00000304530001ffffffffffffffff";
 
-/// Lets port 0 hear bytes so many times.
+/// Passes these bytes to port 0 this many times.
 fn hear<C: Core>(alloc: Global, core: &mut C, text: &[u8], times: u32) -> Result<(), Fail> {
     let bytes = hex::decode(alloc, text)?;
     for _ in 0..times {
@@ -25,8 +26,8 @@ fn hear<C: Core>(alloc: Global, core: &mut C, text: &[u8], times: u32) -> Result
     Ok(())
 }
 
-/// What kind a packet is: `f` is the one that is forwarded, `r` a reply, `s` one of the router's start,
-/// and `-` is none.
+/// The kind of a packet: `f` is forwarded, `r` is a reply, `s` is of the router's start, and `-` is
+/// none.
 fn kind_of(given: Option<(usize, Node, usize)>) -> char {
     match given {
         None => '-',
@@ -37,7 +38,7 @@ fn kind_of(given: Option<(usize, Node, usize)>) -> char {
     }
 }
 
-/// The kinds of what so many calls give.
+/// The kinds of what this many calls give.
 fn given<C: Core>(alloc: Global, core: &mut C, calls: u32) -> Result<String, Fail> {
     let mut kinds = String::new(alloc);
     let mut room = [0; 1536];
@@ -47,8 +48,8 @@ fn given<C: Core>(alloc: Global, core: &mut C, calls: u32) -> Result<String, Fai
     Ok(kinds)
 }
 
-/// Of one queue all leave in the order in which they came to wait, the six packets of its start at the
-/// first call, and none is given only once none waits.
+/// From one queue all packets leave in the order in which they were queued. The six packets of the
+/// start are queued at the first call. None is given only once none waits.
 #[test]
 fn what_came_first_leaves_first(rt: HostRuntime) -> Result<(), Fail> {
     let alloc = rt.alloc();
@@ -62,8 +63,8 @@ fn what_came_first_leaves_first(rt: HostRuntime) -> Result<(), Fail> {
     Ok(())
 }
 
-/// Fourteen replies and the six packets of its start leave in order, eight in a row, and what is
-/// forwarded meanwhile leaves before them.
+/// Fourteen replies and the six packets of the start leave in order, eight in a row. Packets
+/// forwarded meanwhile leave before them.
 #[test]
 fn what_is_forwarded_leaves_first(rt: HostRuntime) -> Result<(), Fail> {
     let alloc = rt.alloc();
@@ -80,8 +81,8 @@ fn what_is_forwarded_leaves_first(rt: HostRuntime) -> Result<(), Fail> {
     Ok(())
 }
 
-/// How many datagrams turns send, for each of which a packet came that goes on, and is sent first; and
-/// how many another one behind them.
+/// How many datagrams each turn sends, if a packet to forward arrives in it, which is sent first.
+/// And how many one more turn sends after these.
 fn check_turns(
     rt: &impl Abort,
     alloc: Global,
@@ -106,7 +107,8 @@ fn check_turns(
     Ok(())
 }
 
-/// A turn sends what came and eight packets of its own, and then the ports are asked again.
+/// A turn sends the forwarded packet and eight packets of its own, and then the ports are read
+/// again.
 #[test]
 fn a_turn_sends_eight_of_its_own(rt: HostRuntime) -> Result<(), Fail> {
     let alloc = rt.alloc();
@@ -116,8 +118,8 @@ fn a_turn_sends_eight_of_its_own(rt: HostRuntime) -> Result<(), Fail> {
     Ok(())
 }
 
-/// Behind what is forwarded two of its own leave in a row where 65 wait, and eight where 64 do. Where
-/// nothing is forwarded eight leave also where more wait.
+/// After a forwarded packet two of its own leave in a row if 65 wait, and eight if 64 do. If none
+/// is forwarded, eight leave even if more wait.
 #[test]
 fn two_of_its_own_leave_where_many_wait(rt: HostRuntime) -> Result<(), Fail> {
     let alloc = rt.alloc();
@@ -135,8 +137,8 @@ fn two_of_its_own_leave_where_many_wait(rt: HostRuntime) -> Result<(), Fail> {
     Ok(())
 }
 
-/// So it is in a turn: where 66 of its own wait it sends what came and two of these, then eight of the
-/// 64 that are left, and eight behind nothing.
+/// The same in a turn. If 66 of its own wait it sends the forwarded packet and two of these. Then
+/// it sends eight of the 64 that are left, and eight more if none is forwarded.
 #[test]
 fn a_turn_sends_two_of_its_own_where_many_wait(rt: HostRuntime) -> Result<(), Fail> {
     let alloc = rt.alloc();
@@ -147,8 +149,8 @@ fn a_turn_sends_two_of_its_own_where_many_wait(rt: HostRuntime) -> Result<(), Fa
     Ok(())
 }
 
-/// Where 16,384 of its own wait, the next is dropped, and so are the six packets of its start; what is
-/// forwarded is not.
+/// If 16,384 of its own packets wait, the next is dropped, and so are the six packets of its start.
+/// A forwarded packet is not.
 #[test]
 fn its_own_packets_push_none_out(rt: HostRuntime) -> Result<(), Fail> {
     let alloc = rt.alloc();
@@ -165,8 +167,8 @@ fn its_own_packets_push_none_out(rt: HostRuntime) -> Result<(), Fail> {
     Ok(())
 }
 
-/// Where 16,384 that are forwarded wait, the next is dropped; the six packets of its start have a queue
-/// of their own.
+/// If 16,384 forwarded packets wait, the next is dropped. The six packets of its start go into
+/// another queue.
 #[test]
 fn what_is_forwarded_pushes_none_out(rt: HostRuntime) -> Result<(), Fail> {
     let alloc = rt.alloc();

@@ -1,5 +1,5 @@
-//! A run where memory is refused: it says so, or that the device failed, and another run goes on.
-//! Run it with each request refused.
+//! A run if memory is refused: it says so, or that the device failed, and another run works. Run it
+//! with each request refused.
 
 use crate::fixture::{one_peer_each, one_turn, two_ports, two_ports_by_priority};
 use ipx_carrier::{
@@ -10,7 +10,7 @@ use std::alloc::Global;
 use std::process::Abort;
 use std::test::Fail;
 
-/// The core of `two_ports`, made once more where memory was refused.
+/// The core of `two_ports`, made once more if memory was refused.
 pub fn core_at_last(alloc: Global) -> Result<RouterCore, OutOfMemory> {
     match two_ports(alloc) {
         Ok(core) => Ok(core),
@@ -18,7 +18,7 @@ pub fn core_at_last(alloc: Global) -> Result<RouterCore, OutOfMemory> {
     }
 }
 
-/// The core of `two_ports_by_priority`, made once more where memory was refused.
+/// The core of `two_ports_by_priority`, made once more if memory was refused.
 pub fn priority_core_at_last(alloc: Global) -> Result<PriorityRouterCore, OutOfMemory> {
     match two_ports_by_priority(alloc) {
         Ok(core) => Ok(core),
@@ -26,7 +26,7 @@ pub fn priority_core_at_last(alloc: Global) -> Result<PriorityRouterCore, OutOfM
     }
 }
 
-/// A device of two ports, made once more where memory was refused.
+/// A device of two ports, made once more if memory was refused.
 pub fn device_at_last(alloc: Global) -> Result<MemoryDatagrams, OutOfMemory> {
     match MemoryDatagrams::new(alloc, 2) {
         Ok(datagrams) => Ok(datagrams),
@@ -34,7 +34,7 @@ pub fn device_at_last(alloc: Global) -> Result<MemoryDatagrams, OutOfMemory> {
     }
 }
 
-/// One peer on each port, made once more where memory was refused.
+/// One peer on each port, made once more if memory was refused.
 fn peers_at_last(alloc: Global) -> Result<Vec<Vec<[u8; 4]>>, OutOfMemory> {
     match one_peer_each(alloc) {
         Ok(peers) => Ok(peers),
@@ -42,7 +42,7 @@ fn peers_at_last(alloc: Global) -> Result<Vec<Vec<[u8; 4]>>, OutOfMemory> {
     }
 }
 
-/// A turn, and another one where memory was refused.
+/// A turn, and another one if memory was refused.
 fn turn_at_last<C: Core>(
     alloc: Global,
     core: &mut C,
@@ -55,7 +55,7 @@ fn turn_at_last<C: Core>(
     }
 }
 
-/// A turn of a core goes on where memory was refused, and sends at most the six packets of its start.
+/// A turn of a core works after memory was refused, and sends at most the six packets of its start.
 fn goes_on<C: Core>(rt: &impl Abort, alloc: Global, core: &mut C) -> Result<(), Fail> {
     let mut datagrams = device_at_last(alloc)?;
     let peers = peers_at_last(alloc)?;

@@ -1,4 +1,4 @@
-//! Calls of a device and of a router's cores where memory is refused. Run them with each request
+//! Calls of a device and of a router's cores if memory is refused. Run them with each request
 //! refused.
 
 use crate::refused::{core_at_last, device_at_last, priority_core_at_last};
@@ -8,14 +8,14 @@ use std::alloc::Global;
 use std::process::Abort;
 use std::test::Fail;
 
-/// A packet from network 11 to node 00007f000005 of network 22, which goes on by port 1.
+/// A packet from network 11 to node 00007f000005 of network 22, which is forwarded by port 1.
 const ONWARD: &[u8] = b"ffff001e00000000002200007f00000540000000001100007f0000034001";
 
-/// A request for all routes of node 00007f000003 of network 11, which is answered.
+/// A request for all routes from node 00007f000003 of network 11, which is answered.
 const REQUEST: &[u8] =
     b"ffff0028000100000011ffffffffffff04530000001100007f00000304530001ffffffffffffffff";
 
-/// Bytes in hex, made once more where memory was refused.
+/// Bytes in hex, decoded once more if memory was refused.
 fn bytes_at_last(alloc: Global, text: &[u8]) -> Result<Vec<u8>, Fail> {
     match hex::decode(alloc, text) {
         Ok(bytes) => Ok(bytes),
@@ -38,7 +38,7 @@ fn ask(device: &mut MemoryDatagrams, room: &mut [u8]) -> Result<Option<usize>, D
     device.receive(0, room)
 }
 
-/// The same, and once more where memory was refused.
+/// The same, once more if memory was refused.
 fn ask_at_last(
     device: &mut MemoryDatagrams,
     room: &mut [u8],
@@ -72,13 +72,13 @@ fn hear<C: Core>(alloc: Global, core: &mut C, bytes: &[u8]) -> Result<(), OutOfM
     core.hear(alloc, 0, bytes, 0)
 }
 
-/// The next packet: its port, its node and how long it is.
+/// The next packet: its port, its node and its length.
 fn next<C: Core>(alloc: Global, core: &mut C) -> Result<Option<(usize, Node, usize)>, OutOfMemory> {
     let mut room = [0; 1536];
     core.next(alloc, 0, &mut room)
 }
 
-/// The same, asked once more where memory was refused.
+/// The same, asked once more if memory was refused.
 fn next_at_last<C: Core>(
     alloc: Global,
     core: &mut C,
@@ -89,8 +89,9 @@ fn next_at_last<C: Core>(
     }
 }
 
-/// What comes of bytes that a core hears: this packet, or none where memory was refused. Heard once
-/// more behind the first packet of its own, it leaves behind so many others of these.
+/// What a core sends for these bytes: this packet, or none if memory was refused. The core then
+/// receives the bytes once more, after it gave the first packet of its own. The packet leaves after
+/// this many other packets of its own.
 fn comes_of<C: Core + Drop>(
     alloc: Global,
     mut core: C,
@@ -102,7 +103,7 @@ fn comes_of<C: Core + Drop>(
     if hear(alloc, &mut core, &bytes).is_ok() {
         return Ok(next_at_last(alloc, &mut core)? == Some(packet));
     }
-    // The first of the six packets of its own, by which it asks for all routes on port 0.
+    // The first of the six packets of its own, which asks for all routes on port 0.
     let first = next(alloc, &mut core)?;
     hear(alloc, &mut core, &bytes)?;
     let mut last = None;
@@ -112,12 +113,12 @@ fn comes_of<C: Core + Drop>(
     Ok(first == Some((0, Node::BROADCAST, 40)) && last == Some(packet))
 }
 
-/// The packet that is forwarded, and the one by which the request is answered.
+/// The packet that is forwarded, and the one that answers the request.
 const FORWARDED: (usize, Node, usize) = (1, Node([0, 0, 0x7f, 0, 0, 5]), 30);
 
 const ANSWER: (usize, Node, usize) = (0, Node([0, 0, 0x7f, 0, 0, 3]), 40);
 
-/// It waits behind the five others of the start.
+/// It waits after the five other packets of the start.
 #[test]
 fn refused_hear_of_a_packet_to_be_forwarded(rt: HostRuntime) -> Result<(), Fail> {
     let core = core_at_last(rt.alloc())?;
@@ -132,7 +133,7 @@ fn refused_hear_of_a_request_that_is_answered(rt: HostRuntime) -> Result<(), Fai
     Ok(())
 }
 
-/// It waits behind none of them.
+/// It waits after none of them.
 #[test]
 fn refused_hear_of_a_packet_to_be_forwarded_first(rt: HostRuntime) -> Result<(), Fail> {
     let core = priority_core_at_last(rt.alloc())?;
@@ -147,7 +148,7 @@ fn refused_hear_of_a_request_by_priority(rt: HostRuntime) -> Result<(), Fail> {
     Ok(())
 }
 
-/// Where the packets of its start find no memory, what is forwarded still leaves.
+/// If memory runs out for the packets of the start, a forwarded packet still leaves.
 fn leaves_behind_refused<C: Core>(
     rt: &impl Abort,
     alloc: Global,

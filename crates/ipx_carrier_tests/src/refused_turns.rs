@@ -1,8 +1,8 @@
-//! A turn of each of two routers where memory is refused: the usual packets up to there, then which
+//! A turn of each of two routers if memory is refused. It checks the packets up to there, which
 //! fault it is, and what the core still sends in its next turn. Run it with each request refused.
 //!
-//! The first router has ports on networks 11 and 22, the second on 22 and 33. The second hears the
-//! request for routes that the first one sends.
+//! The first router has ports on networks 11 and 22, the second on 22 and 33. The second receives
+//! the request for routes that the first one sends.
 
 use crate::fixture::{next_ports, one_peer_each, one_turn, two_ports};
 use crate::refused::device_at_last;
@@ -12,8 +12,8 @@ use ipx_wire::OutOfMemory;
 use std::alloc::Global;
 use std::test::Fail;
 
-/// What the second router sends: the route to network 33 answers the request, and then it asks and
-/// tells on each port, as the first one does.
+/// What the second router sends. The route to network 33 answers the request. Then it asks and
+/// advertises on each port, as the first one does.
 const SEVEN: [&str; 7] = [
     "0 2 ffff002800010000002200007f00000204530000002200007f000004045300020000003300010001",
     "0 9 ffff0028000100000022ffffffffffff04530000002200007f00000404530001ffffffffffffffff",
@@ -24,8 +24,9 @@ const SEVEN: [&str; 7] = [
     "1 8 ffff0028000100000033ffffffffffff04530000003300007f000006045300020000002200010001",
 ];
 
-/// What want of memory can lose of what a core is to send, by the first place and how many: what it
-/// was about to put into its queue. What the router refuses to tell is lost to no one: it is due.
+/// What may be lost of the packets of a core if out of memory: the position of the first one lost,
+/// and how many. That is what it was about to queue. An advertisement that the router refuses is
+/// not lost: it is still due.
 const LOST_BY_FIRST: [(usize, usize); 3] = [(0, 0), (0, 4), (4, 2)];
 
 const LOST_BY_SECOND: [(usize, usize); 4] = [(0, 0), (0, 1), (1, 4), (5, 2)];
@@ -38,7 +39,7 @@ struct Member {
     peers: Vec<Vec<[u8; 4]>>,
 }
 
-/// A datagram that is wanted: the port, the last byte of the address, and the bytes.
+/// An expected datagram: the port, the last byte of the address, and the bytes.
 #[derive(Drop)]
 struct Wanted {
     port: u8,
@@ -57,7 +58,7 @@ fn new_member(alloc: Global, core: RouterCore) -> Result<Member, OutOfMemory> {
     })
 }
 
-/// The first router, made once more where memory was refused.
+/// The first router, made once more if memory was refused.
 fn first_at_last(alloc: Global) -> Result<Member, OutOfMemory> {
     match two_ports(alloc) {
         Ok(core) => new_member(alloc, core),
@@ -65,7 +66,7 @@ fn first_at_last(alloc: Global) -> Result<Member, OutOfMemory> {
     }
 }
 
-/// The second router, made once more where memory was refused.
+/// The second router, made once more if memory was refused.
 fn second_at_last(alloc: Global) -> Result<Member, OutOfMemory> {
     match next_ports(alloc) {
         Ok(core) => new_member(alloc, core),
@@ -73,8 +74,8 @@ fn second_at_last(alloc: Global) -> Result<Member, OutOfMemory> {
     }
 }
 
-/// The datagram that a text of digits stands for: a port, a blank, the last byte of an address, a
-/// blank, and bytes in hex.
+/// The datagram that a text describes: a port, a blank, the last byte of an address, a blank, and
+/// bytes in hex.
 fn wanted_of(alloc: Global, text: &str) -> Result<Wanted, Fail> {
     let text = text.as_bytes();
     let digits = text.get(4..).unwrap_or(&[]);
@@ -102,7 +103,7 @@ fn room_at_last(alloc: Global) -> Result<Vec<Wanted>, Fail> {
     }
 }
 
-/// The datagrams of these texts.
+/// The datagrams that these texts describe.
 fn all_wanted(alloc: Global, texts: &[&str]) -> Result<Vec<Wanted>, Fail> {
     let mut all = room_at_last(alloc)?;
     for text in texts {
@@ -116,7 +117,7 @@ fn is_wanted(sent: &SentDatagram, wanted: &Wanted) -> bool {
     here && sent.bytes.as_slice() == wanted.bytes.as_slice()
 }
 
-/// Whether the datagrams are those that are wanted, but for so many from a place on.
+/// Whether the datagrams are the expected ones, without `count` of them from position `from`.
 fn are_all_but(sent: &[SentDatagram], wanted: &[Wanted], from: usize, count: usize) -> bool {
     let mut rest = sent.iter();
     for (place, one) in wanted.iter().enumerate() {
@@ -137,8 +138,8 @@ fn turn(alloc: Global, member: &mut Member) -> Result<(), RunFault> {
     }
 }
 
-/// Whether the device failed once, and the datagram that it was to send is all that is lost, or the
-/// one that it was to receive is there yet.
+/// Whether the device failed once. Then only the datagram that it was to send is lost, or the one
+/// that it was to receive still waits.
 fn lost_one(alloc: Global, member: &mut Member, wanted: &[Wanted]) -> Result<bool, Fail> {
     let before = member.device.sent().len();
     let failed = member.device.failures() == 1;
@@ -148,8 +149,8 @@ fn lost_one(alloc: Global, member: &mut Member, wanted: &[Wanted]) -> Result<boo
     Ok(failed && (all || are_all_but(sent, wanted, before, 1)))
 }
 
-/// Whether the core wanted memory: nothing was sent, the device did not fail, and what is lost is
-/// one of these.
+/// Whether the core ran out of memory: nothing was sent, the device did not fail, and what is lost
+/// is one of these.
 fn lost_some(
     alloc: Global,
     member: &mut Member,
@@ -165,7 +166,7 @@ fn lost_some(
     Ok(quiet && known)
 }
 
-/// Whether a member goes on by the rules after a fault.
+/// Whether a member continues correctly after a fault.
 fn goes_on(
     alloc: Global,
     member: &mut Member,
@@ -179,7 +180,7 @@ fn goes_on(
     }
 }
 
-/// Takes a turn, and another one where memory was refused.
+/// Takes a turn, and another one if memory was refused.
 fn is_by_the_rules(
     alloc: Global,
     member: &mut Member,

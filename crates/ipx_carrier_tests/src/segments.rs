@@ -1,4 +1,4 @@
-//! Packets that are handed to segments by IP address, and a run over them: literal values.
+//! Packets that a port driver sends by IP address, and a run over it, with literal values.
 
 use crate::fixture::{one_peer_each, text_of, two_ports};
 use crate::turns::are_first;

@@ -7,7 +7,7 @@ use std::process::Abort;
 use std::test::Fail;
 
 /// What the router of `two_ports` sends: on each port it asks for routes and for services, and then
-/// it tells each network on the other one.
+/// it advertises each network on the other port.
 pub const SIX: [&str; 6] = [
     "0 9 ffff0028000100000011ffffffffffff04530000001100007f00000104530001ffffffffffffffff",
     "0 9 ffff0022000400000011ffffffffffff04520000001100007f00000104520001ffff",
@@ -59,7 +59,7 @@ fn no_peer_gets_nothing(rt: HostRuntime) -> Result<(), Fail> {
     Ok(())
 }
 
-/// The k-th call of the device fails: what was sent before stands.
+/// The k-th call of the device fails. What was sent before that remains.
 fn fails_at(rt: &impl Abort, alloc: Global, k: u64) -> Result<(), Fail> {
     let mut core = two_ports(alloc)?;
     let mut datagrams = MemoryDatagrams::new(alloc, 2)?;

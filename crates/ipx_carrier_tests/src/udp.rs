@@ -1,18 +1,18 @@
-//! A device of sockets, over the loopback.
+//! A device of sockets, over the loopback interface.
 
 use ipx_carrier::{Datagrams, DeviceFault, UdpDatagrams};
 use std::process::Abort;
 use std::test::Fail;
 
-/// A port of UDP that no one else uses.
+/// A UDP port that nothing else uses.
 const PORT: u16 = 20_913;
 
-/// The first and the last address are of two devices that talk to each other.
+/// The first and the last address are of two devices that exchange datagrams.
 const HERE: [u8; 4] = [127, 0, 0, 41];
 
 const THERE: [u8; 4] = [127, 0, 0, 42];
 
-/// Asks a device for a datagram until there is one, or it was asked often enough.
+/// Asks a device for a datagram until there is one, or the tries are used up.
 fn wait_for(device: &mut UdpDatagrams, room: &mut [u8]) -> Result<Option<usize>, DeviceFault> {
     for _ in 0..100_000_u32 {
         if device.ports() == 0 || device.failures() > 1000 {
@@ -25,7 +25,7 @@ fn wait_for(device: &mut UdpDatagrams, room: &mut [u8]) -> Result<Option<usize>,
     Ok(None)
 }
 
-/// Sends bytes by the first port of a device. One with no port sends nothing.
+/// Sends bytes from the first port of a device. A device without ports sends nothing.
 fn send(device: &mut UdpDatagrams, to: [u8; 4], bytes: &[u8]) -> Result<(), DeviceFault> {
     if device.ports() == 0 || device.failures() > 1000 {
         return Ok(());
@@ -66,7 +66,7 @@ fn an_address_in_use_is_a_fault(rt: HostRuntime) -> Result<(), Fail> {
     Ok(())
 }
 
-/// A device of two sockets, bound once more where memory was refused: no socket is left over.
+/// A device of two sockets, bound once more if memory was refused: no socket stays open.
 #[test]
 fn refused_bind(rt: HostRuntime) -> Result<(), Fail> {
     let alloc = rt.alloc();

@@ -1,4 +1,4 @@
--- Entries one after another: how many bytes they take, one more of them, and that bytes hold one list of them.
+-- Entries one after another: their size, one more of them, and that bytes hold one list of them.
 use Rattle.std.proofs.Common.{◌≡◌, ◌≤◌, ◌<◌, ℕ, ◌+◌, ◌*◌, List, ◌++◌, ◌∷◌, [], length, drop, arith, sym, ap, ◌∙◌, refl, append_assoc, subst, zero, suc, take, get_or, ◌-◌}
 use Rattle.std.specs.Prelude.{All}
 use Rattle.std.specs.List.{flat_map}
@@ -23,7 +23,7 @@ length-entries IsEntry size [] bytes tail are = omega (arith, ap length are)
 length-entries IsEntry size (e ∷ es) bytes tail are =
     omega (arith, length-entries IsEntry size es (drop size bytes) tail are.2, are.0, length-drop size bytes)
 
--- bytes are one list of entries and one tail, where a tail is shorter than an entry
+-- bytes are at most one list of entries and one tail, if the tail is shorter than an entry
 pub same_entries : {E : Type 0} (IsEntry : E → List ℕ → Type 0) (size : ℕ) → ((a b : E) (bytes : List ℕ) → IsEntry a bytes → IsEntry b bytes → a ≡ b)
     → (es fs : List E) (bytes s t : List ℕ) → length s < size → length t < size → AreEntries IsEntry size es bytes s → AreEntries IsEntry size fs bytes t
     → (es ≡ fs) × (s ≡ t)
@@ -35,7 +35,7 @@ same_entries IsEntry size same (e ∷ es) (f ∷ fs) bytes s t short_s short_t x
     let rest = same_entries IsEntry size same es fs (drop size bytes) s t short_s short_t x.2 y.2 in
     (rw (first, rest.0) refl, rest.1)
 
--- one more entry, where the tail begins with it
+-- one more entry, if the tail begins with it
 pub AreEntries-push : {E : Type 0} (IsEntry : E → List ℕ → Type 0) (size : ℕ) (es : List E) (e : E) (bytes tail : List ℕ) → AreEntries IsEntry size es bytes tail
     → size ≤ length tail → IsEntry e tail → AreEntries IsEntry size (es ++ e ∷ []) bytes (drop size tail)
 AreEntries-push IsEntry size [] e bytes tail are fits is =
@@ -43,7 +43,7 @@ AreEntries-push IsEntry size [] e bytes tail are fits is =
 AreEntries-push IsEntry size (x ∷ xs) e bytes tail are fits is =
     (are.0, are.1, AreEntries-push IsEntry size xs e (drop size bytes) tail are.2 fits is)
 
--- more bytes behind entries are more of the tail
+-- more bytes after entries are more of the tail
 pub AreEntries-append : {E : Type 0} (IsEntry : E → List ℕ → Type 0) (size : ℕ) → ((e : E) (bytes tail : List ℕ) → size ≤ length bytes → IsEntry e bytes → IsEntry e (bytes ++ tail))
     → (es : List E) (bytes s tail : List ℕ) → AreEntries IsEntry size es bytes s → AreEntries IsEntry size es (bytes ++ tail) (s ++ tail)
 AreEntries-append IsEntry size more [] bytes s tail are = ap (λ (b : List ℕ). b ++ tail) are
@@ -77,7 +77,7 @@ length-spelled size InRange spelled len [] r = omega arith
 length-spelled size InRange spelled len (e ∷ es) r =
     omega (arith, length-spelled size InRange spelled len es (All-tail InRange e es r), len e (All-head InRange e es r), length-append (spelled e) (flat_map spelled es))
 
--- entries and their tail have one list of bytes
+-- entries and their tail determine the bytes
 pub entries_alike : FieldLaws → {E : Type 0} (IsEntry : E → List ℕ → Type 0) (size : ℕ)
     → ((e : E) (xs ys : List ℕ) → IsBytes xs → IsBytes ys → size ≤ length xs → size ≤ length ys → IsEntry e xs → IsEntry e ys → drop size xs ≡ drop size ys → xs ≡ ys)
     → (es : List E) (xs ys tail : List ℕ) → IsBytes xs → IsBytes ys → AreEntries IsEntry size es xs tail → AreEntries IsEntry size es ys tail → xs ≡ ys
@@ -86,7 +86,7 @@ entries_alike laws IsEntry size alike (e ∷ es) xs ys tail p q x y =
     alike e xs ys p q x.0 y.0 x.1 y.1
     (entries_alike laws IsEntry size alike es (drop size xs) (drop size ys) tail (laws.bytes.behind size xs p) (laws.bytes.behind size ys q) x.2 y.2)
 
--- one more entry, written behind those that were
+-- one more entry, written after the others
 pub written_more : {E : Type 0} (spelled : E → List ℕ) (size : ℕ) (es : List E) (i : ℕ) (d : E) (old xs ys : List ℕ) → i < length es → length (spelled (get_or es i d)) ≡ size
     → IsWritten old (flat_map spelled (take i es)) xs (size * i) → ys ≡ spelled (get_or es i d) ++ drop size (take (length xs - size * i) (drop (size * i) xs))
     → IsWritten old (flat_map spelled (take (i + 1) es)) (put_mid (size * i) (length xs - size * i) xs ys) (size * (i + 1))
@@ -105,7 +105,7 @@ All-take_more P es i d lt all one =
     subst (All P) (sym (take_more es i d lt)) (All-push P (take i es) (get_or es i d) all one)
 
 module _ {E : Type 0} (entry_in : List ℕ → E) (size : ℕ) where
-  -- bytes with room for n entries are the n that are read off them, and what is behind them
+  -- bytes with space for n entries are the n that are read from them, followed by the rest
   pub first_are : (IsEntry : E → List ℕ → Type 0) → ((bytes : List ℕ) → IsEntry (entry_in bytes) bytes)
       → (n : ℕ) (bytes : List ℕ) → n * size ≤ length bytes → AreEntries IsEntry size (first_entries entry_in size n bytes) bytes (drop (n * size) bytes)
   first_are IsEntry is zero bytes fits =

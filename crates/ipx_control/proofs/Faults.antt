@@ -1,4 +1,4 @@
--- Which tests of bytes leave no fault.
+-- Which tests of bytes find no fault.
 use Rattle.std.proofs.Common.{◌≡◌, Bool, true, false, Some, None, refl, ◌⊎◌, inl, inr}
 use Rattle.std.specs.Prelude.{◌||◌, if◌then◌else◌}
 use Rattle.ipx_control.specs.declared.fault.ControlFault.{ControlFault}

@@ -1,10 +1,10 @@
--- How a list is cut, and what a write to a part of it leaves.
+-- Parts of a list, and a list after a write to a part of it.
 use Rattle.std.proofs.Common.{◌≡◌, ℕ, ◌+◌, ◌-◌, List, ◌++◌, [], length, take, drop, arith, sym, ◌∙◌, refl, append_assoc}
 use Rattle.std.proofs.lemmas.List.{drop-drop, length-drop, length-append, take_at, drop_at, take_rest, drop_all, append-nil}
 use Rattle.ipx_wire.specs.Ipx.{IsWritten}
 use borrow.Rule.Slice.PartMut.{put_mid}
 
--- what was written is the front, and what is behind it stays
+-- what was written is the front, and what follows it stays
 pub written-front : (old written xs : List ℕ) (k : ℕ) → IsWritten old written xs k → take k xs ≡ written
 written-front old written xs k was = rw was.is (take_at written (drop k old) k was.count)
 
@@ -22,7 +22,7 @@ write-part old written field xs ys k n was len e =
       count = omega (arith, was.count, len, length-append written field);
     }
 
--- one more field, written to the front of all that stands from k on
+-- one more field, written to the front of everything from k on
 pub write-rest : (old written field xs ys : List ℕ) (k n : ℕ) → IsWritten old written xs k → length field ≡ n
     → ys ≡ field ++ drop n (take (length xs - k) (drop k xs)) → IsWritten old (written ++ field) (put_mid k (length xs - k) xs ys) (k + n)
 write-rest old written field xs ys k n was len e =

@@ -1,4 +1,4 @@
--- The bytes of a RIP packet hold it, with any short tail behind them, and hold no other.
+-- The bytes of a RIP packet hold it, with any short tail after them, and hold no other.
 use Rattle.std.proofs.Common.{◌≡◌, ◌≢◌, ◌≤◌, ◌<◌, ◌/◌, ℕ, ◌-◌, ◌*◌, suc, List, ◌++◌, ◌∷◌, [], length, take, drop, arith, sym, ap, ◌∙◌, refl, subst, None, inl, inr, eq-eqb}
 use Rattle.std.specs.Prelude.{nat_lt, ◌==◌, ◌||◌}
 use Rattle.std.specs.List.{flat_map}
@@ -124,13 +124,13 @@ rip_written m old xs k r was =
 rip_entry_in_is : (bytes : List ℕ) → IsRipEntry (rip_entry_in bytes) bytes
 rip_entry_in_is bytes = record { network = refl; hops = refl; ticks = refl }
 
--- entries that are read off bytes are those that fit
+-- the entries that are read from bytes are the whole ones in them
 pub rip_entries_are : (bytes : List ℕ) → (tail : List ℕ) × AreEntries IsRipEntry 8 (rip_entries_in bytes) bytes tail × (length tail < 8)
 rip_entries_are bytes =
     let count = length bytes / 8 in
     (drop (count * 8) bytes, first_are rip_entry_in 8 IsRipEntry rip_entry_in_is count bytes (omega arith), omega (arith, length-drop (count * 8) bytes))
 
--- the first of them, and those behind it
+-- the first of them, and those after it
 pub rip_entries_more : (e : RipEntry) (bytes : List ℕ) → 8 ≤ length bytes → IsRipEntry e bytes → rip_entries_in bytes ≡ e ∷ rip_entries_in (drop 8 bytes)
 rip_entries_more e bytes fits is =
     let rest = drop 8 bytes in

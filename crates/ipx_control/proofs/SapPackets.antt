@@ -1,4 +1,4 @@
--- The bytes of a SAP packet hold it, with any tail that may stand behind them, and hold no other.
+-- The bytes of a SAP packet hold it, with any tail that may follow them, and hold no other.
 use Rattle.std.proofs.Common.{◌≡◌, ◌≢◌, ◌≤◌, ◌<◌, ◌/◌, ◌^◌, ℕ, ◌-◌, ◌*◌, suc, Bool, true, false, List, ◌++◌, ◌∷◌, [], length, take, drop, arith, sym, ap, ◌∙◌, refl, subst, append_assoc, take-append-drop, ◌⊎◌, inl, inr}
 use Rattle.std.specs.Prelude.{nat_lt, ◌==◌, ◌||◌, None}
 use Rattle.std.specs.List.{flat_map}
@@ -21,7 +21,7 @@ use Rattle.ipx_control.proofs.EntryLists.{AreEntries-append, entries_alike, entr
 pub length-address : (a : Address) → length a.node.0 ≡ 6 → length (address_bytes a) ≡ 12
 length-address a e = omega (arith, e, length-append a.node.0 (big_bytes 2 a.socket.0))
 
--- the next n elements are alike
+-- the next n elements are equal
 part_alike : (n : ℕ) (xs ys : List ℕ) → take n xs ≡ take n ys → drop n xs ≡ drop n ys → xs ≡ ys
 part_alike n xs ys e r =
     sym (take-append-drop n xs) ∙ ap (λ (t : List ℕ). t ++ drop n xs) e ∙ ap (λ (t : List ℕ). take n ys ++ t) r ∙ take-append-drop n ys
@@ -205,13 +205,13 @@ response_written laws nearest services old xs k r was =
 service_in_is : (bytes : List ℕ) → IsServiceEntry (service_in bytes) bytes
 service_in_is bytes = record { kind = refl; name = refl; at = record { network = refl; node = refl; socket = refl }; hops = refl }
 
--- services that are read off bytes are those that fit
+-- the services that are read from bytes are the whole ones in them
 pub services_are : (bytes : List ℕ) → (tail : List ℕ) × AreEntries IsServiceEntry 64 (service_entries_in bytes) bytes tail × (length tail < 64)
 services_are bytes =
     let count = length bytes / 64 in
     (drop (count * 64) bytes, first_are service_in 64 IsServiceEntry service_in_is count bytes (omega arith), omega (arith, length-drop (count * 64) bytes))
 
--- the first of them, and those behind it
+-- the first of them, and those after it
 pub services_more : FieldLaws → (e : ServiceEntry) (bytes : List ℕ) → 64 ≤ length bytes → IsServiceEntry e bytes → service_entries_in bytes ≡ e ∷ service_entries_in (drop 64 bytes)
 services_more laws e bytes fits is =
     let rest = drop 64 bytes in

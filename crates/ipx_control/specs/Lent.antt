@@ -1,4 +1,4 @@
--- The list of entries that is read off bytes: each entry is read where it stands, and none is kept.
+-- The list of entries in bytes: each entry is read from the bytes when needed, and none is stored.
 use Rattle.std.specs.Prelude.{ℕ, zero, suc, ◌/◌, List, [], ◌∷◌, length, take, drop}
 use Rattle.ipx_wire.specs.Ipx.{number}
 use Rattle.ipx_control.specs.declared.rip.packet.RipEntry.{RipEntry}
@@ -10,11 +10,11 @@ module _ {E : Type 0} (entry_in : List ℕ → E) (size : ℕ) where
   first_entries zero bytes = []
   first_entries (suc n) bytes = entry_in bytes ∷ first_entries n (drop size bytes)
 
-  -- all that fit into the bytes
+  -- all whole entries in the bytes
   abbrev pub whole_entries : List ℕ → List E
   whole_entries bytes = first_entries (length bytes / size) bytes
 
--- the entry that bytes begin with: network 4, hops 2, ticks 2
+-- the entry at the front of bytes: network 4 bytes, hops 2, ticks 2
 abbrev pub rip_entry_in : List ℕ → RipEntry
 rip_entry_in bytes = record {
   network = record { 0 = number 4 0 bytes };
@@ -25,7 +25,7 @@ rip_entry_in bytes = record {
 abbrev pub rip_entries_in : List ℕ → List RipEntry
 rip_entries_in = whole_entries rip_entry_in 8
 
--- the service that bytes begin with: type 2, name 48, network 4, node 6, socket 2, hops 2
+-- the service at the front of bytes: type 2 bytes, name 48, network 4, node 6, socket 2, hops 2
 abbrev pub service_in : List ℕ → ServiceEntry
 service_in bytes = record {
   kind = number 2 0 bytes;

@@ -1,4 +1,4 @@
-//! Why bytes are no RIP and no SAP packet.
+//! Why bytes are no RIP or SAP packet.
 
 ghost use Rattle.std.specs.Prelude.{◌≡◌};
 ghost use Rattle.ipx_control.specs.ControlFaults.{control_fault_number};
@@ -7,7 +7,7 @@ ghost use Rattle.ipx_control.specs.declared.fault.ControlFault.TheVariants.{OutO
 use ipx_wire::OutOfMemory;
 use thiserror::Error;
 
-/// The first condition that keeps bytes from being a packet, or want of memory.
+/// The first reason why bytes are no packet, or out of memory.
 #[derive(Clone, Copy, Debug, PartialEq, Eq, Error)]
 pub enum ControlFault {
     /// Fewer than 2 bytes.
@@ -22,13 +22,13 @@ pub enum ControlFault {
     /// A SAP query of fewer than 4 bytes.
     #[error("{0} bytes, a SAP query needs 4")]
     QueryShort(usize),
-    /// Memory ran out.
+    /// Out of memory.
     #[error("out of memory")]
     OutOfMemory,
 }
 
 impl ControlFault {
-    /// The fault's number, 8 to 12: what programs print and compare.
+    /// The fault's number, 8 to 12. Programs print and compare it.
     pub fn number(&self) -> u8
         ensures { result ≡ control_fault_number self.now }
     {

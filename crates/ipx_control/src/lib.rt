@@ -1,8 +1,8 @@
 //! RIP and SAP packets of an IPX internetwork, as values and as bytes.
 //!
 //! They are the bodies of IPX packets to the sockets 0453 and 0452. [`read_rip`] and [`read_sap`]
-//! lend the entries where they stand, [`decode_rip`] and [`decode_sap`] list them,
-//! [`encode_rip_into`] and [`encode_sap_into`] write.
+//! borrow the entries from the bytes, and [`decode_rip`] and [`decode_sap`] list them.
+//! [`encode_rip_into`] and [`encode_sap_into`] write packets.
 #![tactic(auto)]
 
 mod fault;

@@ -1,4 +1,4 @@
--- A frame that a station hears has no fault for it.
+-- A frame that a station receives has no fault for it.
 use Rattle.std.proofs.Common.{◌≡◌, ◌≤◌, ℕ, ◌+◌, ◌-◌, List, ◌++◌, [], Bool, true, false, Option, Some, None, length, take, drop, arith, ap, ◌∙◌, refl, eq-eqb}
 use Rattle.std.specs.Prelude.{nat_lt, ◌==◌, ◌||◌, if◌then◌else◌, replicate}
 use Rattle.std.specs.Str.{bytes_eq}
@@ -16,7 +16,7 @@ use Rattle.ipx_ethernet.specs.FrameFault.{addressed_fault, counted_fault, encaps
 use Rattle.ipx_ethernet.proofs.Packets.{checksum_more}
 use Rattle.ipx_ethernet.proofs.Parts.{fronted, take-both}
 
--- tests that fall through
+-- conditions that do not apply
 pub falls_through : (a b c d : Bool) (f g h i j : Option FrameFault) → a ≡ false → b ≡ false → c ≡ false → d ≡ false
     → (if a then f else if b then g else if c then h else if d then i else j) ≡ j
 falls_through a b c d f g h i j p q r s = rw (p, q, r, s) refl
@@ -40,7 +40,7 @@ no_tag n le = none_of (n == 0x8100) (n == 0x88a8) (n == 0x9100) (ne_eqb n 0x8100
 no_tag_of_ipx : (n : ℕ) → n ≡ 0x8137 → is_tag n ≡ false
 no_tag_of_ipx n is = none_of (n == 0x8100) (n == 0x88a8) (n == 0x9100) (ne_eqb n 0x8100 (λ e. omega (arith, e, is))) (ne_eqb n 0x88a8 (λ e. omega (arith, e, is))) (ne_eqb n 0x9100 (λ e. omega (arith, e, is)))
 
--- ---- the encapsulation, by what is counted
+-- ---- the encapsulation, by the bytes that the length counts
 
 raw_in : (counted : List ℕ) → number 2 0 counted ≡ 0xffff → encapsulation_in counted ≡ Some Raw
 raw_in counted e = rw (eq-eqb (number 2 0 counted) 0xffff e) refl
@@ -51,7 +51,7 @@ llc_in rest = refl
 snap_in : (rest : List ℕ) → encapsulation_in (link_bytes Snap ++ rest) ≡ Some Snap
 snap_in rest = refl
 
--- a frame with a length, whose encapsulation is known, or is none
+-- a frame with a length, whose encapsulation is known or unknown
 pub counted_kind : (k : Option Encapsulation) (bytes : List ℕ) → length_or_type bytes ≤ 1500 → 14 + length_or_type bytes ≤ length bytes
     → encapsulation_in (take (length_or_type bytes) (drop 14 bytes)) ≡ k → kind_fault bytes ≡ counted_fault k bytes
 counted_kind k bytes few there is =
@@ -63,7 +63,7 @@ counted_kind k bytes few there is =
 pub end_of_length : (bytes : List ℕ) → length_or_type bytes ≤ 1500 → frame_end bytes ≡ 14 + length_or_type bytes
 end_of_length bytes few = rw (le-ltb 1500 (length_or_type bytes) few) refl
 
--- a frame that says what it is, with room for a packet of 30 bytes
+-- a frame that names its encapsulation, with room for a packet of 30 bytes
 kind_known : (e : Encapsulation) (f : FrameView) (bytes tail : List ℕ) → 30 ≤ length f.packet → IsFrame e f bytes tail → kind_fault bytes ≡ packet_fault e bytes
 kind_known Raw f bytes tail big x =
     let few : length_or_type bytes ≤ 1500 = x.kind.kind in
@@ -96,7 +96,7 @@ heard own f h =
 sized : (n : ℕ) → 14 ≤ n → n ≤ 1514 → size_fault n ≡ None
 sized n least most = falls_past (nat_lt n 14) (nat_lt 1514 n) _ _ None (le-ltb n 14 least) (le-ltb 1514 n most)
 
--- bytes of a size, for stations that hear them
+-- bytes of a size, for stations that receive them
 pub comes_to_kind : (own to from : Node) (bytes : List ℕ) → 14 ≤ length bytes → length bytes ≤ 1514 → take 6 bytes ≡ to.0 → take 6 (drop 6 bytes) ≡ from.0
     → frame_fault own bytes ≡ fault_or_next (addressed_fault own to from) (kind_fault bytes)
 comes_to_kind own to from bytes least most at_to at_from =

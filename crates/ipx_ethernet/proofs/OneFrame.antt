@@ -1,4 +1,4 @@
--- What was read, against what the bytes are.
+-- What was read, compared with the definition of a frame.
 use Rattle.std.proofs.Common.{◌≡◌, ◌≤◌, ℕ, ◌+◌, ◌-◌, List, ◌++◌, [], Some, None, length, take, drop, arith, sym, ap, ◌∙◌, take-append-drop, subst}
 use Rattle.std.specs.Prelude.{Result, Ok, Err, IfOk, IfErr, IsOkAnd}
 use Rattle.std.proofs.lemmas.List.{length-take, take-take}
@@ -18,11 +18,11 @@ module _ (T : Type 0) (kind : T → Encapsulation) (read : T → FrameView) wher
   only_frame own e d bytes tail (Ok x) one none y found fault = let u = one (kind x) e (read x) d bytes found.0 tail found.1 y in (u.0, u.1)
   only_frame own e d bytes tail (Err f) one none y found fault = cc
 
--- the front of a part is that of what the part was cut from
+-- the front of a part is the front of the whole from there
 pub held_front : (k room : ℕ) (xs front : List ℕ) → k ≤ room → take k (take room xs) ≡ front → xs ≡ front ++ drop k xs
 held_front k room xs front le e = sym (take-append-drop k xs) ∙ ap (λ (t : List ℕ). t ++ drop k xs) (sym (take-take k room xs le) ∙ e)
 
--- what was read at each place is a frame
+-- what was read at each position is a frame
 pub frame_read : (e : Encapsulation) (to from : Node) (packet bytes link : List ℕ) (end : ℕ) → take 6 bytes ≡ to.0 → take 6 (drop 6 bytes) ≡ from.0 → HasKind e bytes → link ≡ link_bytes e
     → end ≡ frame_end bytes → packet_place e ≤ end → length bytes ≤ 1514 → ((p : PacketView) × IsIpx p packet [])
     → take (length packet) (take (end - (14 + length link)) (drop (14 + length link) bytes)) ≡ packet
@@ -46,7 +46,7 @@ frame_read e to from packet bytes link end at_to at_from kind is_link is_end beg
       },
     )
 
--- what lies between the encapsulation and the end, as the code cuts it
+-- what is between the encapsulation's header and the end, as the code cuts it
 pub held_alike : (e : Encapsulation) (bytes link : List ℕ) (end : ℕ) → link ≡ link_bytes e → end ≡ frame_end bytes
     → take (end - (14 + length link)) (drop (14 + length link) bytes) ≡ payload_of e bytes
 held_alike e bytes link end is_link is_end =

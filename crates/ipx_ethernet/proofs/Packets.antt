@@ -1,4 +1,4 @@
--- An IPX packet without what is behind it.
+-- An IPX packet without what follows it.
 use Rattle.std.proofs.Common.{◌≡◌, ◌≤◌, ℕ, ◌+◌, List, ◌++◌, [], length, take, drop, arith, sym, ap, ◌∙◌, refl, subst, take-append-drop}
 use Rattle.std.proofs.lemmas.List.{append-nil, drop-append-le, drop-drop, get_or_append_left, length-drop, length-take, take-append-le, take_at, drop_at}
 use Rattle.byteorder.specs.Endian.{big_number}
@@ -38,7 +38,7 @@ packet_fewer p bytes tail len x =
       size = omega (arith, len);
     }
 
--- the bytes of a packet without what is behind it
+-- the bytes of a packet without what follows them
 pub packet_alone : (p : PacketView) (bytes tail : List ℕ) → IsIpx p bytes tail → IsIpx p (take (30 + length p.body) bytes) []
 packet_alone p bytes tail x =
     let len : length (take (30 + length p.body) bytes) ≡ 30 + length p.body = omega (arith, x.size, length-take (30 + length p.body) bytes) in
@@ -46,6 +46,6 @@ packet_alone p bytes tail x =
     let behind : drop (30 + length p.body) bytes ≡ tail = sym (drop-drop (length p.body) 30 bytes) ∙ ap (drop (length p.body)) x.body ∙ drop_at p.body tail (length p.body) refl in
     packet_fewer p (take (30 + length p.body) bytes) (drop (30 + length p.body) bytes) len (subst (λ (t : List ℕ). IsIpx p t (drop (30 + length p.body) bytes)) (sym same) (subst (IsIpx p bytes) (sym behind) x))
 
--- its checksum, whatever is behind it
+-- its checksum, whatever follows the packet
 pub checksum_more : (p : PacketView) (packet tail : List ℕ) → IsIpx p packet [] → number 2 0 (packet ++ tail) ≡ 0xffff
 checksum_more p packet tail x = number_more 2 0 packet tail (omega (arith, x.size)) ∙ x.checksum

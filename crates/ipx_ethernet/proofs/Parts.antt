@@ -5,7 +5,7 @@ use Rattle.std.proofs.lemmas.List.{drop-drop, length-drop, length-append, take_a
 use Rattle.ipx_wire.specs.Ipx.{IsWritten}
 use borrow.Rule.Slice.PartMut.{put_mid}
 
--- what was written is the front, and what is behind it stays
+-- what was written is the front, and what follows it stays
 pub written-front : (old written xs : List ℕ) (k : ℕ) → IsWritten old written xs k → take k xs ≡ written
 written-front old written xs k was = rw was.is (take_at written (drop k old) k was.count)
 
@@ -23,7 +23,7 @@ write-part old written field xs ys k n was len e =
       count = omega (arith, was.count, len, length-append written field);
     }
 
--- one more field, written to the front of all that stands from k on
+-- one more field, written to the front of all from k on
 pub write-rest : (old written field xs ys : List ℕ) (k n : ℕ) → IsWritten old written xs k → length field ≡ n
     → ys ≡ field ++ drop n (take (length xs - k) (drop k xs)) → IsWritten old (written ++ field) (put_mid k (length xs - k) xs ys) (k + n)
 write-rest old written field xs ys k n was len e =
@@ -36,12 +36,12 @@ write-rest old written field xs ys k n was len e =
       count = omega (arith, was.count, len, length-append written field);
     }
 
--- so many of two lists, where that is no less than the first has
+-- so many of two lists, if that is no less than the first has
 pub take-both : (n : ℕ) (xs ys : List ℕ) → length xs ≤ n → take n (xs ++ ys) ≡ xs ++ take (n - length xs) ys
 take-both n xs ys le =
     let e : n ≡ length xs + (n - length xs) = omega (arith, le) in
     ap (λ (k : ℕ). take k (xs ++ ys)) e ∙ take-append-add xs ys (n - length xs)
 
--- a list whose front is another
+-- a list whose front was replaced
 pub fronted : (n : ℕ) (xs front : List ℕ) → take n xs ≡ front → xs ≡ front ++ drop n xs
 fronted n xs front e = sym (take-append-drop n xs) ∙ ap (λ (t : List ℕ). t ++ drop n xs) e

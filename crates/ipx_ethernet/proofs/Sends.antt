@@ -28,7 +28,7 @@ fits Llc n le = record { low = omega (arith, le); high = omega (arith, le); kind
 fits Snap n le = record { low = omega (arith, le); high = omega (arith, le); kind = omega (arith, le); small = omega (arith, le) }
 fits EthernetII n le = record { low = omega (arith, le); high = omega (arith, le); kind = refl; small = omega (arith, le) }
 
--- where what such a frame holds ends
+-- where the contents of such a frame end
 record Ends (e : Encapsulation) (n : ℕ) (bytes : List ℕ) : Type 0 where
   counted : packet_place e + n ≤ frame_end bytes
   there : frame_end bytes ≤ length bytes
@@ -94,7 +94,7 @@ sent_bytes e to from packet p x le len_to len_from =
       size = sized;
     }
 
--- the fields that are written one after another, and what is behind them
+-- the fields that are written one after another, and what follows them
 pub put_whole : (e : Encapsulation) (to from : Node) (packet link old xs ys : List ℕ) (kind size room : ℕ) → length packet ≤ most_of e → length to.0 ≡ 6 → length from.0 ≡ 6
     → link ≡ link_bytes e → kind ≡ sent_kind e (length packet) → size ≡ sent_size e (length packet) → xs ≡ to.0 ++ from.0 ++ big_bytes 2 kind ++ drop 14 old → room ≡ size - 14
     → ys ≡ link ++ packet ++ replicate (room - (length link + length packet)) 0
@@ -117,7 +117,7 @@ put_whole e to from packet link old xs ys kind size room le len_to len_from is_l
     let all : 14 + (size - 14) ≡ size = omega (arith, is_size) in
     subst (λ (i : ℕ). IsWritten old (head ++ body) (put_mid 14 (size - 14) xs ys) i) all (write-part old head body xs ys 14 (size - 14) first long_body is_body)
 
--- a packet that fits, into room for it, has no fault
+-- a packet that fits, with a buffer that fits, has no fault
 pub sending_fine : (e : Encapsulation) (packet : List ℕ) (room : ℕ) → ipx_fault packet ≡ None → number 2 2 packet ≤ most_of e → sent_size e (number 2 2 packet) ≤ room
     → sending_fault e packet room ≡ None
 sending_fine e packet room none few wide =

@@ -8,7 +8,7 @@ use Rattle.ipx_ethernet.specs.declared.encapsulation.Encapsulation.TheVariants.{
 use Rattle.ipx_ethernet.specs.Frame.{FrameView, IsFrame, length_or_type}
 use Rattle.ipx_ethernet.proofs.Packets.{checksum_more}
 
--- what an encapsulation says: the length or type, and the two bytes behind it
+-- what names an encapsulation: the length or type, and the two bytes after it
 Says : Encapsulation → ℕ → ℕ → Type 0
 Says Raw n m = (n ≤ 1500) × (m ≡ 0xffff)
 Says Llc n m = (n ≤ 1500) × (m ≡ 0xe0e0)
@@ -48,7 +48,7 @@ module _
     (one : (p q : PacketView) (bytes s t : List ℕ) → IsIpx p bytes s → IsIpx q bytes t → (p ≡ q) × (s ≡ t))
     (before : (p : PacketView) (bytes tail : List ℕ) → IsIpx p bytes [] → IsIpx p (bytes ++ tail) tail)
   where
-    -- two packets at the same place
+    -- two packets at the same position
     same_held : (a b s t : List ℕ) (p q : PacketView) → a ++ s ≡ b ++ t → IsIpx p a [] → IsIpx q b [] → (a ≡ b) × (s ≡ t)
     same_held a b s t p q e x y =
         let both = one p q (a ++ s) s t (before p a s x) (subst (λ (l : List ℕ). IsIpx q l t) (sym e) (before q b t y)) in

@@ -1,5 +1,5 @@
--- The first fault that keeps a station from hearing a frame (IEEE 802.3, IEEE 802.2, RFC 1042), and
--- the numbers of the faults.
+-- The first fault that keeps a station from receiving a frame (IEEE 802.3, IEEE 802.2, RFC 1042), and the
+-- numbers of the faults.
 use Rattle.std.specs.Prelude.{ℕ, ◌+◌, ◌-◌, List, length, take, drop, replicate, Bool, ◌||◌, Option, Some, None, nat_lt, ◌==◌, if◌then◌else◌}
 use Rattle.std.specs.Str.{bytes_eq}
 use Rattle.ipx_wire.specs.Assigned.{broadcast_node}
@@ -12,8 +12,8 @@ use Rattle.ipx_ethernet.specs.declared.fault.FrameFault.{FrameFault}
 use Rattle.ipx_ethernet.specs.declared.fault.FrameFault.TheVariants.{FrameShort, FrameLong, SourceGroup, SourceZero, OwnSource, OtherStation, Tagged, OtherType, FrameTruncated, OtherLlc, NoPacket, PacketLong, NoRoom}
 use Rattle.ipx_ethernet.specs.Frame.{frame_end, is_group, length_or_type, link_bytes, packet_place}
 
--- the encapsulation that what a length counts begins with: the checksum that no packet of another
--- has, or the bytes of 802.2, or those of SNAP
+-- the encapsulation of the bytes that a length counts: FFFF, the checksum of a raw packet; or the header of
+-- 802.2; or that of SNAP
 abbrev pub encapsulation_in : List ℕ → Option Encapsulation
 encapsulation_in counted =
     if number 2 0 counted == 0xffff then Some Raw
@@ -21,7 +21,7 @@ encapsulation_in counted =
     else if bytes_eq (link_bytes Snap) (take 8 counted) then Some Snap
     else None
 
--- of what lies between the encapsulation and the end of what the frame holds
+-- faults of what is between the header of the encapsulation and the end of the contents
 abbrev pub of_packet : Option IpxFault → Option FrameFault
 of_packet None = None
 of_packet (Some f) = Some (NoPacket f)
@@ -36,11 +36,11 @@ abbrev pub counted_fault : Option Encapsulation → List ℕ → Option FrameFau
 counted_fault None bytes = Some OtherLlc
 counted_fault (Some e) bytes = packet_fault e bytes
 
--- the types of tags (IEEE 802.1Q and its kin)
+-- the types of VLAN tags (IEEE 802.1Q and similar)
 abbrev pub is_tag : ℕ → Bool
 is_tag n = (n == 0x8100) || (n == 0x88a8) || (n == 0x9100)
 
--- of the length or type, and what is behind it
+-- faults of the length or type, and of what follows it
 abbrev pub kind_fault : List ℕ → Option FrameFault
 kind_fault bytes =
     if is_tag (length_or_type bytes) then Some (Tagged (length_or_type bytes))
@@ -54,7 +54,7 @@ kind_fault bytes =
 abbrev pub node_of : List ℕ → Node
 node_of address = record { 0 = address }
 
--- of whom it is for and from, where a station hears it
+-- faults of the addresses, for the station that receives
 abbrev pub addressed_fault : Node → Node → Node → Option FrameFault
 addressed_fault own to from =
     if is_group from.0 then Some (SourceGroup from)
@@ -63,7 +63,7 @@ addressed_fault own to from =
     else if bytes_eq to.0 own.0 || bytes_eq to.0 broadcast_node then None
     else Some (OtherStation to)
 
--- of how many bytes there are
+-- faults of the size
 abbrev pub size_fault : ℕ → Option FrameFault
 size_fault n =
     if nat_lt n 14 then Some (FrameShort n)
@@ -75,7 +75,7 @@ abbrev pub fault_or_next : Option FrameFault → Option FrameFault → Option Fr
 fault_or_next (Some f) next = Some f
 fault_or_next None next = next
 
--- the first condition that keeps the station from hearing the bytes as a frame
+-- the first condition that keeps the station from receiving the bytes as a frame
 abbrev pub frame_fault : Node → List ℕ → Option FrameFault
 frame_fault own bytes =
     fault_or_next (size_fault (length bytes)) (fault_or_next

@@ -1,5 +1,5 @@
--- What a port on a wire does with the frames there: which packet goes to the core, and why another
--- frame is kept from it. All of it is own.
+-- What a port on an Ethernet segment does with the frames there: which packet goes to the core, and why
+-- another frame is kept from it. Defined by this project.
 use Rattle.std.specs.Prelude.{◌≡◌, ◌≢◌, ℕ, ◌+◌, ◌-◌, ◌^◌, List, Bool, true, false, not, min, ◌||◌, ◌==◌, Some}
 use Rattle.std.specs.Str.{bytes_eq}
 use Rattle.ipx_wire.specs.Assigned.{broadcast_node}
@@ -20,19 +20,19 @@ use Rattle.ipx_ethernet.specs.FrameFault.{frame_fault}
 abbrev pub destination_network : List ℕ → ℕ
 destination_network packet = number 4 6 packet
 
--- a frame for all stations is for one router as for another, so its packet is to be for this network,
--- or for the one at hand
+-- a frame for all stations reaches each router, so its packet must be for this network, or for the local
+-- network (0)
 abbrev pub is_for_segment : EthernetPort → Node → List ℕ → Bool
 is_for_segment w to packet = not (bytes_eq to.0 broadcast_node) || (destination_network packet == 0)
     || (destination_network packet == w.network.0)
 
--- the port hands the packet to the core: the bytes are a frame that it hears, in its encapsulation,
--- and it may go on from here
+-- the port hands the packet to the core: the bytes are a frame that it receives, in its encapsulation, and
+-- the packet is accepted there
 abbrev pub IsForCore : EthernetPort → List ℕ → List ℕ → Type 0
 IsForCore w bytes packet = (f : FrameView) × (tail : List ℕ) × IsFrame w.encapsulation f bytes tail
     × IsHeardBy w.own f × (is_for_segment w f.to f.packet ≡ true) × (packet ≡ f.packet)
 
--- it keeps the frame from the core, for this reason
+-- the port keeps the frame from the core, for this reason
 abbrev pub KeepsFrame : EthernetPort → List ℕ → FrameDrop → Type 0
 KeepsFrame w bytes (Unheard fault) = frame_fault w.own bytes ≡ Some fault
 KeepsFrame w bytes (OtherEncapsulation came own) = (f : FrameView) × (tail : List ℕ)
@@ -41,11 +41,11 @@ KeepsFrame w bytes (OtherNetwork network) = (f : FrameView) × (tail : List ℕ)
     × IsFrame w.encapsulation f bytes tail × IsHeardBy w.own f × (is_for_segment w f.to f.packet ≡ false)
     × (network.0 ≡ destination_network f.packet)
 
--- a count of 64 bits goes up by one, and stays where it is the greatest
+-- a count of 64 bits goes up by one, and stays at the greatest
 abbrev pub frames_raised : ℕ → ℕ
 frames_raised n = min (n + 1) (2 ^ 64 - 1)
 
--- one more frame that is none the port hears
+-- one more frame that the port does not receive
 abbrev pub unheard_counted : FrameFault → FrameCounters → FrameCounters
 unheard_counted (FrameShort have) c = record c { broken = frames_raised c.broken }
 unheard_counted (FrameLong have) c = record c { broken = frames_raised c.broken }
@@ -68,13 +68,13 @@ encapsulation_counted Llc c = record c { in_llc = frames_raised c.in_llc }
 encapsulation_counted Snap c = record c { in_snap = frames_raised c.in_snap }
 encapsulation_counted EthernetII c = record c { in_ethernet_ii = frames_raised c.in_ethernet_ii }
 
--- one more frame that is kept from the core: its count alone is another
+-- one more frame that is kept from the core: only its count changes
 abbrev pub frame_counted : FrameDrop → FrameCounters → FrameCounters
 frame_counted (Unheard fault) c = unheard_counted fault c
 frame_counted (OtherEncapsulation came own) c = encapsulation_counted came c
 frame_counted (OtherNetwork network) c = record c { other_network = frames_raised c.other_network }
 
--- nothing came yet
+-- counts of no frame
 abbrev pub no_frames : FrameCounters
 no_frames = record {
   handed_on = 0;

@@ -1,31 +1,31 @@
-//! The encapsulations of IPX on an Ethernet.
+//! The encapsulations of IPX on Ethernet.
 
 ghost use Rattle.std.specs.Prelude.{◌≡◌};
 ghost use Rattle.ipx_ethernet.specs.Frame.{link_bytes, most_of};
 
 use std::fmt;
 
-/// How an IPX packet stands in an Ethernet frame. The stations of a network have one in common.
+/// How an Ethernet frame contains an IPX packet. All stations of a network use the same one.
 #[derive(Clone, Copy, Debug, PartialEq, Eq)]
 pub enum Encapsulation {
-    /// Novell's ETHERNET_802.3: the packet stands behind the length.
+    /// Novell's ETHERNET_802.3: the packet follows the length.
     Raw,
-    /// ETHERNET_802.2: NetWare's service access points stand before the packet.
+    /// ETHERNET_802.2: NetWare's service access points follow the length, and then the packet.
     Llc,
-    /// ETHERNET_SNAP: the type stands behind the header of IEEE 802.2.
+    /// ETHERNET_SNAP: the type follows the header of IEEE 802.2.
     Snap,
-    /// ETHERNET_II: the type stands in place of the length.
+    /// ETHERNET_II: the type is in place of the length.
     EthernetII,
 }
 
-/// NetWare's service access point, of the destination and of the source, and UI (IEEE 802.2).
+/// NetWare's service access point as destination and source, and UI (IEEE 802.2).
 pub(crate) const LLC: [u8; 3] = [0xe0, 0xe0, 3];
 
-/// The header of SNAP, and in it the type of IPX (RFC 1042).
+/// The SNAP header, with the type of IPX (RFC 1042).
 pub(crate) const SNAP: [u8; 8] = [0xaa, 0xaa, 3, 0, 0, 0, 0x81, 0x37];
 
 impl Encapsulation {
-    /// The most bytes of a packet that it takes.
+    /// The longest packet that it takes, in bytes.
     pub fn packet_limit(self) -> usize
         ensures { result ≡ most_of self }
     {

@@ -1,4 +1,4 @@
-//! A port on a wire: which of the frames there hold a packet for its core.
+//! A port on an Ethernet segment: which of the frames there hold a packet for its core.
 
 ghost use Rattle.std.specs.Prelude.{◌≡◌, ◌≤◌, ℕ, List, IfOk, IfErr, OnErr, OnOk, IsOkAnd, Some, None, [], true, false, length, take, drop};
 ghost use Rattle.ipx_wire.specs.Ipx.{IsIpx, IsPartOf, PacketView, number};
@@ -14,10 +14,10 @@ use byteorder::{BigEndian, ByteOrder};
 use ipx_wire::{Network, Node};
 use thiserror::Error;
 
-/// A port on a wire: its address there, and what the stations there have in common.
+/// A port on an Ethernet segment: its address there, and the segment's network and encapsulation.
 #[derive(Clone, Copy, Debug, PartialEq, Eq)]
 pub struct EthernetPort {
-    /// Its node, which is its address.
+    /// Its node, which is its Ethernet address.
     pub own: Node,
     pub network: Network,
     pub encapsulation: Encapsulation,
@@ -26,14 +26,15 @@ pub struct EthernetPort {
 /// Why a frame is kept from the core.
 #[derive(Clone, Copy, Debug, PartialEq, Eq, Error)]
 pub enum FrameDrop {
-    /// It is none that the port hears.
+    /// It is not a frame that the port receives.
     #[error("{0}")]
     Unheard(FrameFault),
-    /// It holds a packet in another encapsulation: in which, and that of the port.
+    /// It holds a packet in another encapsulation, which is the first value. The second is the
+    /// port's.
     #[error("frames of another encapsulation: {0}, this port has {1}")]
     OtherEncapsulation(Encapsulation, Encapsulation),
-    /// It is for all stations, and its packet for another network: for which. Each router on the
-    /// wire would send it on.
+    /// It is for all stations, and its packet is for another network, which is the value. Each
+    /// router on the segment would forward it.
     #[error("a frame to all stations, with a packet for network {0}")]
     OtherNetwork(Network),
 }
@@ -57,7 +58,8 @@ fn destination_of(packet: &[u8]) -> Network
 }
 
 impl EthernetPort {
-    /// Whether a packet that came to a node may go on from here, and the network that it is for.
+    /// Whether a packet that came to a node is accepted, with the network that it is for as the
+    /// error.
     fn admits(&self, to: Node, packet: &[u8]) -> Result<(), Network>
         requires { (p : PacketView) × IsIpx p packet.now [] }
         ensures admitted { OnOk result (is_for_segment self.now to packet.now ≡ true) }
@@ -71,16 +73,17 @@ impl EthernetPort {
         Ok(())
     }
 
-    /// The packet for the core that the bytes hold, as one frame on the wire. It is lent, cut to its
-    /// length, and no memory is taken. The error says why the frame is kept back.
+    /// The packet for the core that the bytes hold, as one frame of the segment. It is lent from
+    /// the frame, cut to its length, and no memory is allocated. The error says why the frame is
+    /// kept from the core.
     pub fn hear<'a>(&self, bytes: &'a [u8]) -> Result<&'a [u8], FrameDrop>
-        // What goes to the core, and that all that is to go there does.
+        // Exactly the packets for the core are handed to it.
         ensures heard { IfOk result (λ r. IsForCore self.now bytes.now r.now) }
         ensures lent { IfOk result (λ r.
             IsPartOf bytes.entry (packet_place self.now.encapsulation) r) }
         ensures only { (packet : List ℕ) → IsForCore self.now bytes.now packet
             → IsOkAnd result (λ r. r.now ≡ packet) }
-        // Why what does not go there is kept back.
+        // Why another frame is kept from it.
         ensures kept { IfErr result (λ k. KeepsFrame self.now bytes.now k) }
     {
         let (frame, encapsulation) = decode_frame(bytes, self.own)?;
@@ -93,7 +96,7 @@ impl EthernetPort {
         Ok(frame.packet)
     }
 
-    /// Writes the frame that a packet for a node goes by, as `encode_frame_into` does.
+    /// Writes the frame of a packet for a node, as `encode_frame_into` does.
     pub fn frame_into(&self, node: Node, packet: &[u8], out: &mut [u8]) -> Result<usize, FrameFault>
         ensures count { IfOk result (λ n.
             n ≡ sent_size self.now.encapsulation (number 2 2 packet.now)) }

@@ -1,4 +1,4 @@
-//! Why bytes are no frame that a station hears, or why none is written.
+//! Why bytes are not a frame that a station receives, or why none is written.
 
 ghost use Rattle.std.specs.Prelude.{◌≡◌};
 ghost use Rattle.ipx_ethernet.specs.FrameFault.{frame_fault_number};
@@ -7,17 +7,17 @@ ghost use Rattle.ipx_ethernet.specs.declared.fault.FrameFault.TheVariants.{NoPac
 use ipx_wire::{IpxFault, Node};
 use thiserror::Error;
 
-/// The first condition that keeps a frame from being heard, or from being written. Lengths are in
-/// bytes.
+/// The first condition that keeps a frame from being received, or from being written. Lengths are
+/// in bytes.
 #[derive(Clone, Copy, Debug, PartialEq, Eq, Error)]
 pub enum FrameFault {
-    /// Fewer than 14 bytes: how many.
+    /// Fewer than 14 bytes. The value is how many.
     #[error("{0} bytes, a frame has at least 14")]
     FrameShort(usize),
-    /// More than 1,514 bytes: how many.
+    /// More than 1,514 bytes. The value is how many.
     #[error("{0} bytes, a frame has at most 1514")]
     FrameLong(usize),
-    /// The source is a group, which sends nothing: which.
+    /// The source is a group address, which can't send. The value is the source.
     #[error("source {0} is a group")]
     SourceGroup(Node),
     /// The source is zero.
@@ -26,34 +26,36 @@ pub enum FrameFault {
     /// The source is the station itself: its own frame came back.
     #[error("source is this station")]
     OwnSource,
-    /// It is for another station, or for a group: which.
+    /// It is for another station, or for a group. The value is its destination.
     #[error("it is for {0}")]
     OtherStation(Node),
-    /// It has a tag, of a virtual network: its type.
+    /// It has a VLAN tag. The value is its type.
     #[error("type {0:04x} is a tag, none is accepted")]
     Tagged(u16),
-    /// It holds another protocol: its type.
+    /// It holds another protocol. The value is its type.
     #[error("type {0:04x}, IPX has 8137")]
     OtherType(u16),
-    /// The frame is shorter than its length: what that says, and how many bytes there are.
+    /// The frame is shorter than its length field says. The values are that field, and how many
+    /// bytes there are.
     #[error("length says {0} bytes, frame has {1} with the 14 before them")]
     FrameTruncated(u16, usize),
-    /// What follows the length begins none of the encapsulations.
+    /// What follows the length does not begin any of the encapsulations.
     #[error("neither ffff nor e0e003 nor aaaa030000008137 follows the length")]
     OtherLlc,
-    /// What it holds is no IPX packet.
+    /// What it holds is not an IPX packet.
     #[error("{0}")]
     NoPacket(IpxFault),
-    /// The packet has more bytes than the encapsulation takes: how many, and what that takes.
+    /// The packet is longer than the encapsulation takes. The values are its length, and the most
+    /// allowed.
     #[error("a packet of {0} bytes, the encapsulation takes at most {1}")]
     PacketLong(usize, usize),
-    /// The frame has more bytes than there is room for: how many, and how many there is room for.
+    /// The frame does not fit the buffer. The values are the lengths of frame and buffer.
     #[error("a frame of {0} bytes, there is room for {1}")]
     NoRoom(usize, usize),
 }
 
 impl FrameFault {
-    /// The fault's number, 40 to 52: what programs print and compare.
+    /// The fault's number, 40 to 52, which programs print and compare.
     pub fn number(&self) -> u8
         ensures { result ≡ frame_fault_number self.now }
     {

@@ -1,4 +1,4 @@
-//! What a port on a wire counts of the frames that came.
+//! What a port on an Ethernet segment counts of the frames that arrive.
 
 ghost use Rattle.std.specs.Prelude.{◌≡◌};
 ghost use Rattle.ipx_ethernet.specs.PortFrames.{encapsulation_counted, frame_counted, frames_raised, no_frames, unheard_counted};
@@ -7,24 +7,24 @@ use crate::encapsulation::Encapsulation;
 use crate::ethernet_port::FrameDrop;
 use crate::fault::FrameFault;
 
-/// The frames that came on a wire, by what became of them. Each count stays at the greatest u64.
+/// The frames that arrived, by what became of them. Each count stays at the greatest u64.
 #[derive(Clone, Copy, Debug, PartialEq, Eq)]
 pub struct FrameCounters {
-    /// Their packet went to the core.
+    /// Their packet was handed to the core.
     pub handed_on: u64,
-    /// Too short or too long, or from no station.
+    /// Too short, too long or truncated, or with a source that is zero or a group.
     pub broken: u64,
-    /// The port's own, which came back.
+    /// The port's own frames, which came back.
     pub own: u64,
     /// For another station, or for a group.
     pub not_ours: u64,
-    /// With a tag of a virtual network.
+    /// With a VLAN tag.
     pub tagged: u64,
     /// Of another protocol, by its type.
     pub other_type: u64,
     /// Of another protocol, by what follows its length.
     pub other_llc: u64,
-    /// What they hold is no IPX packet.
+    /// What they hold is not an IPX packet.
     pub no_packet: u64,
     /// An IPX packet in 802.3, and the port has another encapsulation.
     pub in_raw: u64,
@@ -38,7 +38,7 @@ pub struct FrameCounters {
     pub other_network: u64,
 }
 
-/// A count goes up by one, and stays where it is the greatest.
+/// Adds one to a count, which stays at the greatest u64.
 fn saturating_increment(count: &mut u64)
     ensures { count.new ≡ frames_raised count.old }
 {
@@ -46,7 +46,7 @@ fn saturating_increment(count: &mut u64)
 }
 
 impl FrameCounters {
-    /// Nothing came yet.
+    /// Counts of no frame.
     pub fn new() -> FrameCounters
         ensures { result ≡ no_frames }
     {
@@ -98,7 +98,7 @@ impl FrameCounters {
         }
     }
 
-    /// Counts a frame that was kept from the core: that count goes up, and nothing else changes.
+    /// Counts a frame that was kept from the core: its count rises, and nothing else changes.
     pub fn count_drop(&mut self, kept: FrameDrop)
         ensures { self.new ≡ frame_counted kept self.old }
     {
@@ -109,7 +109,7 @@ impl FrameCounters {
         }
     }
 
-    /// Counts a frame whose packet went to the core.
+    /// Counts a frame whose packet was handed to the core.
     pub fn count_handed_on(&mut self)
         ensures { self.new ≡ record self.old { handed_on = frames_raised self.old.handed_on } }
     {

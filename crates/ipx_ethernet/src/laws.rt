@@ -1,4 +1,4 @@
-//! Laws of frames and bytes, which follow from what a frame is.
+//! Laws of frames and bytes, which follow from the definition of a frame.
 
 ghost use Rattle.std.specs.Prelude.{◌≡◌, ◌≤◌, ◌%◌, ℕ, List, None, length};
 ghost use Rattle.ipx_wire.specs.declared.address.Node.{Node};
@@ -19,7 +19,7 @@ pub fn bytes_are_one_frame()
     packet_before_any_bytes();
 }
 
-/// A frame that a station hears has no fault for it.
+/// A frame that a station receives has no fault for it.
 pub fn frame_has_no_fault()
     ensures { (own : Node) (e : Encapsulation) (f : FrameView) (bytes tail : List ℕ)
         → IsFrame e f bytes tail → IsHeardBy own f → frame_fault own bytes ≡ None }
@@ -28,7 +28,7 @@ pub fn frame_has_no_fault()
     ipx_fault_is_of_no_packet();
 }
 
-/// What is sent is read back, by each station that hears it: as that frame and no other.
+/// Each station that receives a sent frame reads that frame and no other.
 pub fn sent_frame_is_read_back()
     ensures heard { (own : Node) (e : Encapsulation) (f : FrameView) (bytes : List ℕ)
         → IsSentFrame e f bytes → IsHeardBy own f → frame_fault own bytes ≡ None }
@@ -45,7 +45,7 @@ pub fn sent_frame_is_sized()
         → (60 ≤ length bytes) × (length bytes ≤ 1514) }
 {}
 
-/// A raw frame that is sent says an even length.
+/// The length field of a raw frame that is sent is even.
 pub fn sent_raw_frame_is_even()
     ensures { (f : FrameView) (bytes : List ℕ) → IsSentFrame Raw f bytes
         → length_or_type bytes % 2 ≡ 0 }

@@ -1,7 +1,7 @@
-//! Ethernet frames that hold an IPX packet, in the four encapsulations that NetWare has.
+//! Ethernet frames that hold an IPX packet, in the four encapsulations of NetWare.
 //!
-//! [`decode_frame`] reads a frame as a station hears it, and [`encode_frame_into`] writes one.
-//! Nothing takes memory, and the packet is lent from the frame that it was read from.
+//! [`decode_frame`] reads a frame as a station receives it, and [`encode_frame_into`] writes one.
+//! Nothing allocates memory, and the packet is lent from the frame that was read.
 #![tactic(auto)]
 
 mod encapsulation;

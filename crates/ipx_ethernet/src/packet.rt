@@ -6,7 +6,7 @@ ghost use Rattle.ipx_ethernet.specs.Frame.{own_bytes};
 
 use ipx_wire::{IPX_HEADER_SIZE, IpxFault, decode};
 
-/// The bytes of the packet, without those behind it.
+/// The bytes of the packet, without those after it.
 pub fn packet_in(bytes: &[u8]) -> Result<&[u8], IpxFault>
     ensures packet { IfOk result (λ r. (p : PacketView) × IsIpx p r.now []) }
     ensures cut { IfOk result (λ r. r.now ≡ own_bytes bytes.now) }

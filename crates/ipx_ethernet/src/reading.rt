@@ -1,4 +1,4 @@
-//! Frames out of bytes.
+//! Reading frames from bytes.
 
 ghost use Rattle.std.specs.Prelude.{◌≡◌, ◌≤◌, List, ℕ, IfOk, IfErr, IfSome, IsOkAnd, Some, None, length, take, drop};
 ghost use Rattle.ipx_wire.specs.Ipx.{IsPartOf};
@@ -15,7 +15,7 @@ use crate::stations::{hears, station_at};
 use byteorder::{BigEndian, ByteOrder};
 use ipx_wire::Node;
 
-/// The encapsulation that what a length counts begins with.
+/// The encapsulation that these bytes begin with, which follow a length.
 fn encapsulation_of(counted: &[u8]) -> Option<Encapsulation>
     ensures value { result ≡ encapsulation_in counted.now }
     ensures link { IfSome result (λ e.
@@ -34,7 +34,7 @@ fn encapsulation_of(counted: &[u8]) -> Option<Encapsulation>
     None
 }
 
-/// The encapsulation, and the place where what it holds ends.
+/// The encapsulation, and where the contents of the frame end.
 fn kind_of(bytes: &[u8]) -> Result<(Encapsulation, usize), FrameFault>
     requires { 14 ≤ length bytes.now }
     ensures kind { IfOk result (λ r. HasKind r.0 bytes.now) }
@@ -86,23 +86,23 @@ fn frame_in(bytes: &[u8], own: Node) -> Result<(Frame<'_>, Encapsulation), Frame
     Ok((Frame { to, from, packet }, encapsulation))
 }
 
-/// The frame that the bytes are, as the station `own` hears it, and its encapsulation (IEEE 802.3).
-/// Its packet is lent, and bytes behind that are ignored. It takes no memory.
+/// The frame that the bytes are, as the station `own` receives it, and its encapsulation (IEEE
+/// 802.3). Its packet is lent, and bytes after it are ignored. No memory is allocated.
 ///
-/// One calls it with whatever came on a wire, and compares the encapsulation with that of the
+/// Call it with any bytes from an Ethernet segment, and compare the encapsulation with that of the
 /// network. The error is the first `FrameFault` that holds.
 pub fn decode_frame(bytes: &[u8], own: Node) -> Result<(Frame<'_>, Encapsulation), FrameFault>
-    // What is read is the frame, and the station hears it.
+    // What is read is the frame, and the station receives it.
     ensures found { IfOk result (λ r. (tail : List ℕ)
         × IsFrame r.1 (frame_view r.0) bytes.now tail) }
     ensures heard { IfOk result (λ r. IsHeardBy own (frame_view r.0)) }
     // The packet is lent: it is the frame's own bytes.
     ensures lent { IfOk result (λ r. IsPartOf bytes.entry (packet_place r.1) r.0.packet) }
-    // Each frame that the station hears is read.
+    // Each frame that the station receives is read.
     ensures only { (e : Encapsulation) (d : FrameView) (tail : List ℕ)
         → IsFrame e d bytes.now tail → IsHeardBy own d
         → IsOkAnd result (λ r. (r.1 ≡ e) × (frame_view r.0 ≡ d)) }
-    // Which fault it is, and that there is none.
+    // Which fault it is; if there is none, the frame is read.
     ensures fault { IfErr result (λ f. frame_fault own bytes.now ≡ Some f) }
     ensures whole { IfOk result (λ _. frame_fault own bytes.now ≡ None) }
 {

@@ -1,4 +1,4 @@
-//! Whom a frame is for, and from whom.
+//! The destination and the source of a frame.
 
 ghost use Rattle.std.specs.Prelude.{◌≡◌, ◌≤◌, ◌+◌, List, ℕ, IfErr, IfOk, OnOk, None, Some, length, take, drop};
 ghost use Rattle.ipx_ethernet.specs.Frame.{IsHeardBy, frame_of};
@@ -8,7 +8,7 @@ use crate::fault::FrameFault;
 use crate::frame::{FRAME_MAX_SIZE, HEADER_SIZE};
 use ipx_wire::Node;
 
-/// The station whose address stands at a place.
+/// The station whose address is at this position.
 pub fn station_at(bytes: &[u8], place: usize) -> Node
     requires { place + 6 ≤ length bytes.now }
     ensures { result.0 ≡ take 6 (drop place bytes.now) }
@@ -18,10 +18,10 @@ pub fn station_at(bytes: &[u8], place: usize) -> Node
     Node(node)
 }
 
-/// The station that a frame is for, and the one that sent it, whatever else it holds. The error is
-/// FrameShort or FrameLong.
+/// The destination and the source of a frame, whatever else it holds. The error is FrameShort or
+/// FrameLong.
 ///
-/// One calls it where frames go on from one end of a wire to others.
+/// Call it to forward frames from one remote of an Ethernet segment to others.
 pub fn stations_of(bytes: &[u8]) -> Result<(Node, Node), FrameFault>
     ensures to { IfOk result (λ r. r.0 ≡ node_of (take 6 bytes.now)) }
     ensures from { IfOk result (λ r. r.1 ≡ node_of (take 6 (drop 6 bytes.now))) }
@@ -37,7 +37,7 @@ pub fn stations_of(bytes: &[u8]) -> Result<(Node, Node), FrameFault>
     Ok((station_at(bytes, 0), station_at(bytes, 6)))
 }
 
-/// Whether the station `own` hears a frame for `to`, from `from`.
+/// Whether the station `own` receives a frame for `to`, from `from`.
 pub fn hears(own: Node, to: Node, from: Node) -> Result<(), FrameFault>
     ensures heard { OnOk result ((packet : List ℕ) → IsHeardBy own (frame_of to from packet)) }
     ensures fault { IfErr result (λ f. addressed_fault own to from ≡ Some f) }

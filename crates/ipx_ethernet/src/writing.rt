@@ -1,4 +1,4 @@
-//! Frames into bytes.
+//! Writing frames as bytes.
 
 ghost use Rattle.std.specs.Prelude.{◌≡◌, ◌≤◌, ◌+◌, ◌-◌, ◌++◌, ◌<◌, IfOk, IfErr, OnErr, Some, None, [], length, take, drop, replicate};
 ghost use Rattle.byteorder.specs.Endian.{big_bytes};
@@ -85,12 +85,12 @@ fn put_frame(
     size
 }
 
-/// Writes a frame to the front of the buffer, and answers how many bytes it takes: 60 to 1,514.
-/// What is behind the packet's own length is left out, and what is behind the frame stays. A raw
-/// frame is made even by one zero, and zeros fill each up to 60 bytes. It takes no memory.
+/// Writes a frame to the front of the buffer, and returns its length: 60 to 1,514 bytes. What
+/// follows the packet's own length is left out, and the rest of the buffer stays. A raw frame gets
+/// one zero if its length is odd, and zeros fill each frame up to 60 bytes. No memory is allocated.
 ///
-/// One calls it for a packet that goes on over a wire. The error is the first `FrameFault` that
-/// holds, and then the buffer is as it was.
+/// Call it for a packet that is sent on an Ethernet segment. The error is the first `FrameFault`
+/// that holds, and the buffer is then as it was.
 pub fn encode_frame_into(
     encapsulation: Encapsulation,
     to: Node,
@@ -103,7 +103,7 @@ pub fn encode_frame_into(
         (frame_of to from (own_bytes packet.now)) (take n out.new)) }
     ensures rest { IfOk result (λ n. drop n out.new ≡ drop n out.old) }
     ensures unchanged { OnErr result (out.new ≡ out.old) }
-    // Which fault it is, and that there is none.
+    // Which fault it is; if there is none, the frame is written.
     ensures fault { IfErr result (λ f.
         sending_fault encapsulation packet.now (length out.old) ≡ Some f) }
     ensures whole { IfOk result (λ _.

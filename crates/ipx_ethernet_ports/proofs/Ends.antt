@@ -1,4 +1,4 @@
--- What passes at the ends of a wire, one after another.
+-- What passes at the remotes of a port, one after another.
 use Rattle.std.proofs.Common.{◌≡◌, ◌<◌, ◌+◌, ℕ, zero, suc, Bool, true, false, not, cond, List, [], ◌∷◌, ◌++◌, Option, Some, None, Result, Ok, Err, length, filter, map, refl, sym, ap, ◌∙◌, subst, append_assoc, append-nil, length-append, add-one, arith, eq-eqb}
 use Rattle.std.specs.Prelude.{OnErr, OnOk, ◌&&◌, ◌==◌, if◌then◌else◌}
 use Rattle.std.specs.List.{range_with_len}
@@ -32,7 +32,7 @@ pass_on (Some t) b c cs cs' ws ws' h k =
     let k' : c ≡ Some (more (more t cs ws) cs' ws') = subst (λ (b : Option EndTraffic). EndsPass b c cs' ws') h k in
     k' ∙ ap Some (more_twice t cs cs' ws ws')
 
--- ---- the ends that a way names, and one more
+-- ---- the remotes that an egress names, and one more
 
 range_more : (a n j : ℕ) → a + n ≡ j → range_with_len a (suc n) ≡ range_with_len a n ++ j ∷ []
 range_more a zero j e = let same : a ≡ j = omega (arith, e) in ap (λ (x : ℕ). x ∷ []) same
@@ -60,7 +60,7 @@ ends_more way test test' n b below here =
     ∙ ap (λ (xs : List ℕ). xs ++ filter p (n ∷ [])) before
     ∙ ap (λ (t : Bool). filter q (range_with_len 0 n) ++ one_end (is_way_to way n && t) n) here
 
--- a test that answers otherwise at one number
+-- a test that differs at one number
 abbrev at_end : (ℕ → Bool) → ℕ → Bool → ℕ → Bool
 at_end takes n b e = if e == n then b else takes e
 
@@ -81,7 +81,7 @@ lost_more : (way : Egress) (takes : ℕ → Bool) (n : ℕ) (b : Bool) → ends_
 lost_more way takes n b =
     ends_more way (λ e. not (takes e)) (λ e. not (at_end takes n b e)) n (not b) (λ e lt. ap not (below_end takes n b e lt)) (ap not (end_itself takes n b))
 
--- ---- a frame that went to some of the ends, and then to one more or not
+-- ---- a frame that was sent to some of the remotes, and then to one more or not
 
 pub reaches_none : (way : Egress) (port : ℕ) (bytes : List ℕ) (s t : Option EndTraffic) (f g : ℕ) → t ≡ s → g ≡ f → ReachesEnds way 0 port bytes [] s t f g
 reaches_none way port bytes s t f g e k =
@@ -93,7 +93,7 @@ raised_on (suc k) m f =
     let same : suc (m + k) ≡ m + suc k = omega arith in
     ap raised (raised_on k m f) ∙ ap (λ (x : ℕ). raised_times x f) same
 
--- one end more, which took it or failed, or is none that the way names
+-- one remote more, which took it or failed, or which the egress does not name
 step : (way : Egress) (n port : ℕ) (bytes : List ℕ) (s t u : Option EndTraffic) (f g i : ℕ) (b reach lose : Bool) → ReachesEnds way n port bytes [] s t f g
     → (is_way_to way n && b) ≡ reach → (is_way_to way n && not b) ≡ lose
     → EndsPass t u [] (map (frame_at port bytes) (one_end reach n)) → i ≡ raised_times (length (one_end lose n)) g
@@ -130,7 +130,7 @@ reaches_sent (Ok x) way n port bytes s t u f g i named r went none counted =
 reaches_sent (Err e) way n port bytes s t u f g i named r went none counted =
     step way n port bytes s t u f g i false false true r (ap (λ (w : Bool). w && false) named) (ap (λ (w : Bool). w && true) named) (pass_nothing t u none) counted
 
--- the same where something came before
+-- the same if something came before
 pub reaches_behind : (way : Egress) (n port : ℕ) (bytes : List ℕ) (came : List EndFrame) (s t u : Option EndTraffic) (f g : ℕ) → EndsPass s t came [] → ReachesEnds way n port bytes [] t u f g → ReachesEnds way n port bytes came s u f g
 reaches_behind way n port bytes came s t u f g first r =
     let went : List EndFrame = map (frame_at port bytes) (ends_on way r.takes n) in

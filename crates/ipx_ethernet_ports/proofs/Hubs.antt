@@ -1,4 +1,4 @@
--- What of ports on wires stays where a hub hears, or sends.
+-- What stays of Ethernet ports as a switch receives or sends.
 use Rattle.std.proofs.Common.{◌≡◌, ℕ, List, [], ◌∷◌, Option, Some, None, map, ap, sym, ◌∙◌, subst}
 use Rattle.std.specs.Prelude.{slice_get, slice_set}
 use Rattle.std.proofs.Math.Seq.{map-set_same}
@@ -36,7 +36,7 @@ pub sending_leaves_ports : (n now port : ℕ) (node : Node) (packet : List ℕ) 
 sending_leaves_ports n now port node packet sent old new r =
     ap (map port_in) r.4 ∙ ports_stay old.switches port r.0 r.1 r.2 (sending_stays r.0 n now port node packet sent r.1 old.traffic new.traffic old.failed new.failed r.3)
 
--- what is heard behind what the sockets answered
+-- what is received after what the sockets returned
 pub hears_answer : (n n' now most : ℕ) (frame : EndFrame) (room : List ℕ) (up : Option ℕ) (switches : List SwitchView) (kept : ℕ) (s t : Option EndTraffic) (f f' : ℕ) (new : EthernetPortsView) → n' ≡ n → f' ≡ f → EndsPass s t (frame ∷ []) []
     → HearsBehind n' now most frame [] room up (ethernet_ports_view switches kept t f') new → HearsBehind n now most frame (frame ∷ []) room up (ethernet_ports_view switches kept s f) new
 hears_answer n n' now most frame room up switches kept s t f f' new same as_often first r =

@@ -1,4 +1,4 @@
--- From which end of a wire a datagram of UDP comes. Own: who sends over IPv6 is at none.
+-- From which remote a UDP datagram comes. Defined by this project: a datagram over IPv6 comes from none.
 use Rattle.std.specs.Prelude.{ℕ, List, Bool, false, ◌==◌, ◌&&◌, Option, length, map, position}
 use Rattle.std.specs.Str.{bytes_eq}
 use Rattle.std.specs.Net.Addr.{ipv4_octets}
@@ -8,19 +8,19 @@ use Rattle.std.specs.declared.net.socket_addr.SocketAddr.TheVariants.{V4, V6}
 use Rattle.ipx_ethernet_ports.specs.declared.sockets.Place.{Place}
 use Rattle.ipx_ethernet_ports.specs.declared.sockets.EthernetSocket.{EthernetSocket}
 
--- an end is there
+-- a remote has this address
 abbrev pub is_place : SocketAddr → Place → Bool
 is_place (V4 a) place = bytes_eq place.ip (ipv4_octets (v4_ip a)) && place.udp_port == v4_port a
 is_place (V6 a) place = false
 
--- the first end that is there
+-- the first remote with this address
 abbrev pub end_at_place : SocketAddr → List Place → Option ℕ
 end_at_place from ends = position (is_place from) ends
 
--- how many ends each socket has
+-- how many remotes each socket has
 abbrev pub ends_behind : List EthernetSocket → List ℕ
 ends_behind ethernet = map (λ w. length w.ends.items) ethernet
 
--- where the ends of each are
+-- the addresses of the remotes of each
 abbrev pub places_behind : List EthernetSocket → List (List Place)
 places_behind ethernet = map (λ w. w.ends.items) ethernet

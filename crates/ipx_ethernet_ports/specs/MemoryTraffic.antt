@@ -1,4 +1,4 @@
--- What sockets in memory tell, by what they keep.
+-- What sockets in memory record.
 use Rattle.std.specs.Prelude.{ℕ, List, map}
 use Rattle.ipx_ethernet_ports.specs.declared.memory.MemoryEnds.{MemoryEnds}
 use Rattle.ipx_ethernet_ports.specs.declared.memory.MemoryFrame.{MemoryFrame}
@@ -14,6 +14,6 @@ abbrev pub ends_traffic : MemoryEnds → EndTraffic
 ends_traffic m =
     record { came = memory_frames m.came.items; went = memory_frames m.went.items }
 
--- what waits at all ports, the first one first
+-- what waits at all ports, in order
 abbrev pub frames_waiting : MemoryEnds → List EndFrame
 frames_waiting m = memory_frames m.waiting.items

@@ -1,4 +1,4 @@
--- What ports on wires do with the frames there, and with the packets of their core. All of it is own.
+-- What Ethernet ports do with the frames there, and with packets of their core. Defined by this project.
 use Rattle.std.specs.Prelude.{◌≡◌, ◌⊎◌, ℕ, List, [], ◌∷◌, Bool, false, not, ◌&&◌, Option, Some, None, filter, length, map, slice_get, slice_set, take}
 use Rattle.std.specs.List.{range_with_len}
 use Rattle.ipx_wire.specs.declared.address.Node.{Node}
@@ -18,17 +18,17 @@ use Rattle.ipx_carrier.specs.Counting.{raised}
 use Rattle.ipx_carrier.specs.Turns.{Given, Ways}
 use Rattle.ipx_ethernet_ports.specs.EndTraffic.{EndFrame, EndTraffic, EndsPass, frame_at, raised_times}
 
--- a frame that is handed to the wire of a port: `IsSentFrame` says which bytes it is
+-- a frame that is sent by a port: `IsSentFrame` says which bytes it has
 pub record SentFrameCopy : Type 0 where
   pub port : ℕ
   pub encapsulation : Encapsulation
   pub frame : FrameView
 
--- the room that a frame is written in
+-- the size of the buffer that a frame is written into
 abbrev pub frame_room : ℕ
 frame_room = 1514
 
--- by which frame a packet goes, where one can carry it
+-- the frame of a packet, if it fits one
 abbrev pub carried_by : Option FrameFault → SentFrameCopy → Option (List SentFrameCopy)
 carried_by None frame = Some (frame ∷ [])
 carried_by (Some fault) frame = None
@@ -41,23 +41,23 @@ frame_from (Some w) p = carried_by (sending_fault w.encapsulation p.bytes frame_
   frame = frame_of p.node w.own (own_bytes p.bytes);
 })
 
--- each packet goes by one frame from its port to its node, and by none where no frame can carry it
+-- each packet is sent in one frame from its port to its node, and not at all if it does not fit a frame
 abbrev pub by_frames : List EthernetPort → Ways SentFrameCopy
 by_frames ports p = frame_from (slice_get ports p.port) p
 
--- the ends of a wire of n ends to which a frame goes, those of them that pass a test
+-- which of the n remotes of a port a frame is sent to, of those that pass a test
 abbrev pub ends_on : Egress → (ℕ → Bool) → ℕ → List ℕ
 ends_on way test n = filter (λ e. is_way_to way e && test e) (range_with_len 0 n)
 
--- what came first, and then bytes that were sent to each of the ends that a way names, in order: those
--- that took them have them, and for each of the others one failure was counted
+-- after what came, bytes were sent to each of the remotes that an egress names, in order. Those that took
+-- them have them, and one failure was counted for each of the others
 pub record ReachesEnds (way : Egress) (n port : ℕ) (bytes : List ℕ) (came : List EndFrame) (old new : Option EndTraffic) (failed failed_after : ℕ) : Type 0 where
   pub takes : ℕ → Bool
   pub went : EndsPass old new came (map (frame_at port bytes) (ends_on way takes n))
   pub failures : failed_after ≡ raised_times (length (ends_on way (λ e. not (takes e)) n)) failed
 
--- what a hub takes for the core of bytes that came from an end, into so much room: the packet in them,
--- as far as the room takes it; or it keeps them, and then no packet in them is for the core
+-- what a switch takes for the core of bytes that came from a remote, into a buffer of this size: the packet
+-- in them, as far as it fits. Or it keeps them, and then no packet in them is for the core
 abbrev pub TakesPacket : SwitchView → ℕ → List ℕ → ℕ → ℕ → List ℕ → Option ℕ → SwitchView → Type 0
 TakesPacket h end bytes now most room (Some n) after = (packet : List ℕ)
     × IsForCore h.port bytes packet × (take n room ≡ take most packet)
@@ -71,8 +71,8 @@ abbrev pub kept_by : Option ℕ → ℕ → ℕ
 kept_by None kept = raised kept
 kept_by (Some n) kept = kept
 
--- ports on wires, but for what their sockets are: their hubs, how many frames were kept from the core,
--- what passed through the sockets, and how often those failed
+-- Ethernet ports without their sockets: their switches, how many frames were kept from the core, what passed
+-- through the sockets, and how often those failed
 pub record EthernetPortsView : Type 0 where
   pub switches : List SwitchView
   pub kept : ℕ
@@ -83,9 +83,8 @@ abbrev pub ethernet_ports_view : List SwitchView → ℕ → Option EndTraffic �
 ethernet_ports_view switches kept traffic failed =
     record { switches = switches; kept = kept; traffic = traffic; failed = failed }
 
--- a frame is heard that came to a port of n ends, and behind it nothing but these: it goes on, as it
--- came, to the ends that the hub says, never to the one that gave it, and the core gets the packet in
--- it that is for it
+-- a frame came to a port of n remotes, and only this one. It is forwarded, as it came, to the remotes that
+-- the switch says, never to its own. The core gets its packet if that is for it
 pub record HearsBehind (n now most : ℕ) (frame : EndFrame) (came : List EndFrame) (room : List ℕ) (up : Option ℕ) (old new : EthernetPortsView) : Type 0 where
   pub switch : SwitchView
   pub after : SwitchView
@@ -96,8 +95,7 @@ pub record HearsBehind (n now most : ℕ) (frame : EndFrame) (came : List EndFra
   pub switches : new.switches ≡ slice_set old.switches frame.port after
   pub counted : new.kept ≡ kept_by up old.kept
 
--- the same of an answer of the sockets, which may be that nothing came, or that they failed, which they
--- count
+-- the same for what the sockets return: a frame; or that nothing came, or that they failed, which they count
 abbrev pub HearsAnswerOf : ℕ → ℕ → ℕ → Option EndFrame → List ℕ → Option ℕ → EthernetPortsView → EthernetPortsView → Type 0
 HearsAnswerOf n now most None room up old new = (up ≡ None) × (new.switches ≡ old.switches)
     × (new.kept ≡ old.kept) × EndsPass old.traffic new.traffic [] []
@@ -105,8 +103,8 @@ HearsAnswerOf n now most None room up old new = (up ≡ None) × (new.switches �
 HearsAnswerOf n now most (Some frame) room up old new =
     HearsBehind n now most frame (frame ∷ []) room up old new
 
--- a packet of the core for a node of a wire of n ends: its frame went to the ends that the hub says; or
--- no frame can carry it, and that was counted
+-- a packet of the core for a node at a port of n remotes: its frame was sent to the remotes that the switch
+-- says. Or it does not fit a frame, and that was counted
 abbrev pub SendsOnEthernet : SwitchView → ℕ → ℕ → ℕ → Node → List ℕ → PacketSent → SwitchView → Option EndTraffic → Option EndTraffic → ℕ → ℕ → Type 0
 SendsOnEthernet h n now port node packet (Transmitted count) after old new failed failed_after = (frame : List ℕ)
     × (count ≡ 1) × (sending_fault h.port.encapsulation packet frame_room ≡ None)

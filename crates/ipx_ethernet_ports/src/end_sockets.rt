@@ -1,40 +1,41 @@
-//! The sockets of wires.
+//! The sockets of Ethernet ports.
 
 ghost use Rattle.std.specs.Prelude.{◌≡◌, ◌<◌, ◌≤◌, ℕ, List, [], ◌∷◌, Option, IfOk, IfSome, OnErr, OnOk, length, slice_index};
 ghost use Rattle.ipx_ethernet_ports.specs.EndTraffic.{EndTraffic, EndsPass, came_in, failures_counted, frame_at, frames_in};
 
 use ipx_carrier::DeviceFault;
 
-/// A frame that came from an end of a port: from which, and how many bytes it has.
+/// A frame that came to a port: from which remote, and how many bytes it has.
 #[derive(Clone, Copy, Debug, PartialEq, Eq)]
 pub struct FrameCame {
     pub end: usize,
     pub size: usize,
 }
 
-/// Sockets with ports, each of which is on a wire with ends that give and take frames. Ports, and the
-/// ends of each, are numbered from 0.
+/// Sockets with ports, which each have remotes that send and receive frames. Ports, and the remotes
+/// of each, are numbered from 0.
 ///
-/// They count how often they failed, which no one else can raise. What came from which end and went to
-/// which is known of those that keep it. What comes from none of the ends they keep back, and count.
+/// They count their own failures, and nothing else can raise that count. What was received and sent
+/// is stated only for sockets that record it. A frame from an unknown sender is not handed over,
+/// but counted.
 pub trait EndSockets {
-    /// How many ends each port has. It stays.
+    /// How many remotes each port has. No call changes it.
     ghost ends_of: { Self → List ℕ };
 
     /// How often they failed. It stays at the greatest u64.
     ghost failed: { Self → ℕ };
 
-    /// What came and went so far, if they keep that.
+    /// What was received and sent so far, if the sockets record that.
     ghost traffic: { Self → Option EndTraffic };
 
-    /// How much came from no end. That never falls.
+    /// How many frames came from unknown senders. That never falls.
     ghost filtered: { Self → ℕ };
 
     /// How many ports there are.
     fn ports(&self) -> usize
         ensures { result ≡ length (ends_of self.now) };
 
-    /// How many ends a port has, which the caller owes to be there.
+    /// How many remotes a port has. The port must exist.
     fn ends(&self, port: usize) -> usize
         requires { port < length (ends_of self.now) }
         ensures { result ≡ slice_index (ends_of self.now) port };
@@ -43,13 +44,13 @@ pub trait EndSockets {
     fn failures(&self) -> u64
         ensures { result ≡ failed self.now };
 
-    /// How much came from no end.
+    /// How many frames came from unknown senders.
     fn unknown_senders(&self) -> u64
         ensures { result ≡ filtered self.now };
 
-    /// Sends a frame by a port to one of its ends. Where that fails nothing is sent.
+    /// Sends a frame by a port to one of its remotes. If that fails nothing is sent.
     ///
-    /// The caller owes a port and an end that are there.
+    /// The port and the remote must exist.
     fn send(&mut self, port: usize, end: usize, bytes: &[u8]) -> Result<(), DeviceFault>
         requires there { port < length (ends_of self.old) }
         requires end { end < slice_index (ends_of self.old) port }
@@ -60,10 +61,10 @@ pub trait EndSockets {
         ensures ends { ends_of self.new ≡ ends_of self.old }
         ensures filtered { filtered self.new ≡ filtered self.old };
 
-    /// Takes the frame that waits first at a port, if there is one: its bytes go to the front of the
-    /// room. What the room can't take of a longer one is lost.
+    /// Takes the first frame that waits at a port, if there is one. Its bytes go to the front of
+    /// `room`. What doesn't fit of a longer one is lost.
     ///
-    /// The caller owes a port that is there.
+    /// The port must exist.
     fn receive(&mut self, port: usize, room: &mut [u8]) -> Result<Option<FrameCame>, DeviceFault>
         requires { port < length (ends_of self.old) }
         ensures received { IfOk result (λ came. EndsPass (traffic self.old) (traffic self.new)

@@ -1,4 +1,4 @@
-//! Ports on wires.
+//! Ethernet ports.
 
 ghost use Rattle.std.specs.Prelude.{◌≡◌, ◌<◌, ◌≤◌, ◌+◌, ◌^◌, [], Option, None, IfOk, IfSome, OnErr, length, map, min, slice_index, slice_set, true};
 ghost use Rattle.ipx_carrier.specs.PortDrivers.{copies_count, count_in};
@@ -14,15 +14,15 @@ use ipx_ethernet::FRAME_MAX_SIZE;
 use ipx_hub::Switch;
 use ipx_wire::Node;
 
-/// The room that a frame is received into: more than any that goes on has.
+/// The size of the buffer that a frame is received into: more than any that is forwarded.
 const FRAME_ROOM: usize = 1536;
 
-/// Ports on wires of several ends, each with a hub of its own: frames of an end go on to others, the
-/// core gets what is for it, and its packets go by frames. There are as many ports as both the sockets
-/// and the hubs are for.
+/// Ethernet ports, each with a switch between its remotes. Frames of a remote are forwarded to
+/// others, the core gets what is for it, and its packets are sent in frames. There are as many
+/// ports as both the sockets and the switches are for.
 ///
-/// A frame that can't be sent to one end is lost there, as one is on the way, and the sockets count
-/// it, as they do where they can't receive: nothing of it keeps other ports from their turns.
+/// A failure to send to one remote is a lost frame, and keeps no other port from its turn. The
+/// sockets count it, and also count failures to receive.
 #[derive(Drop)]
 pub struct EthernetPorts<D: EndSockets + Drop> {
     sockets: D,
@@ -32,7 +32,7 @@ pub struct EthernetPorts<D: EndSockets + Drop> {
 }
 
 impl<D: EndSockets + Drop> EthernetPorts<D> {
-    /// Ports on the wires of these sockets, with their hubs in order, at the moment 0.
+    /// Ports over these sockets, with their switches in order, at time 0.
     pub fn new(sockets: D, switches: Vec<Switch>) -> EthernetPorts<D>
         ensures sockets { result.sockets ≡ sockets }
         ensures switches { result.switches.items ≡ switches.items }
@@ -46,29 +46,29 @@ impl<D: EndSockets + Drop> EthernetPorts<D> {
         }
     }
 
-    /// Sets the moment, in ms, at which what comes and goes from now on does so. One calls it before
-    /// each turn, or before each burst of them.
+    /// Sets the time, in ms, of what is received and sent from now on. Call it before each turn, or
+    /// before each batch.
     pub fn set_moment(&mut self, moment: u64)
         ensures { self.new ≡ record self.old { moment = moment } }
     {
         self.moment = moment;
     }
 
-    /// The sockets, to be asked between two runs.
+    /// The sockets, to inspect between two runs.
     pub fn sockets(&self) -> &D
         ensures { result.now ≡ self.now.sockets }
     {
         &self.sockets
     }
 
-    /// The hubs of the ports, in order: what they count, and which stations they know.
+    /// The switches of the ports, in order: their counts, and the stations that they know.
     pub fn switches(&self) -> &[Switch]
         ensures { result.now ≡ self.now.switches.items }
     {
         &self.switches
     }
 
-    /// Sends a packet of the core to a node of a port's wire, by one frame.
+    /// Sends a packet of the core to a node at a port, in one frame.
     fn send_frame(&mut self, port: usize, node: Node, packet: &[u8]) -> PacketSent
         requires switch { port < length self.old.switches.items }
         requires there { port < length (D.ends_of self.old.sockets) }
@@ -93,7 +93,8 @@ impl<D: EndSockets + Drop> EthernetPorts<D> {
         }
     }
 
-    /// Gives a frame on that came from an end of a port, and takes what is for the core into the room.
+    /// Forwards a frame that came from a remote of a port, and puts what is for the core into
+    /// `room`.
     fn hear_frame(
         &mut self,
         port: usize,
@@ -127,7 +128,7 @@ impl<D: EndSockets + Drop> EthernetPorts<D> {
 }
 
 impl EthernetPorts<EthernetSockets> {
-    /// Something came to the socket of a port, as `EthernetSockets::mark` says.
+    /// Marks a port: something came to its socket, as for `EthernetSockets::mark`.
     pub fn mark(&mut self, port: usize)
         ensures { self.new ≡ record self.old {
           sockets = record self.old.sockets {
@@ -145,25 +146,26 @@ impl<D: EndSockets + Drop> PortDriver for EthernetPorts<D> {
 
     ghost Copy = { SentFrameCopy };
 
-    // The same ports, with as many ends.
+    // How many remotes each port has.
     ghost Kept = { List ℕ };
 
     ghost kept = { λ w. D.ends_of w.sockets };
 
     ghost port_count = { λ w. min (length w.switches.items) (length (D.ends_of w.sockets)) };
 
-    // What can't be sent or received on a wire fails there alone, and the sockets count it.
+    // These never fail: the sockets count what can't be sent or received.
     ghost failed = { λ w. 0 };
 
     ghost transmissions = { λ w. by_frames (map (λ h. h.port) w.switches.items) };
 
-    // What goes over the wires is told by the sockets.
+    // The sockets record what is sent and received.
     ghost traffic = { λ w. None };
 
-    // What is kept back or for another station isn't handed up, so they can't tell what will be.
+    // They can't tell what waits for the core, because what is filtered or for another station is
+    // not handed to it.
     ghost waiting = { λ w. None };
 
-    // Whoever is at an end of a wire may speak.
+    // Any remote may send.
     ghost access = { λ w. [] };
 
     ghost filtered = { λ w. w.kept + D.filtered w.sockets };
@@ -179,7 +181,8 @@ impl<D: EndSockets + Drop> PortDriver for EthernetPorts<D> {
     fn send(&mut self, port: usize, node: Node, packet: &[u8]) -> Result<PacketSent, DeviceFault>
         requires there { port < min (length self.old.switches.items)
             (length (D.ends_of self.old.sockets)) }
-        // The frame of the packet goes to the ends of its node, or none can carry it.
+        // The frame of the packet is sent to the remotes of its node, or the packet does not fit a
+        // frame.
         ensures sent { IfOk result (λ sent. SendsPacket
             (slice_index (D.ends_of self.old.sockets) port) self.old.moment port node packet.now sent
             (ethernet_ports_view self.old.switches.items self.old.kept
@@ -204,7 +207,7 @@ impl<D: EndSockets + Drop> PortDriver for EthernetPorts<D> {
     fn receive(&mut self, port: usize, room: &mut [u8]) -> Result<Option<usize>, DeviceFault>
         requires there { port < min (length self.old.switches.items)
             (length (D.ends_of self.old.sockets)) }
-        // A frame came from an end and went on from there, or none came, or the sockets failed.
+        // A frame came from a remote and was forwarded, or none came, or the sockets failed.
         ensures received { IfOk result (λ up. (came : Option EndFrame)
             × IfSome came (λ frame. frame.port ≡ port)
             × HearsAnswerOf (slice_index (D.ends_of self.old.sockets) port) self.old.moment
@@ -214,7 +217,7 @@ impl<D: EndSockets + Drop> PortDriver for EthernetPorts<D> {
             (ethernet_ports_view self.new.switches.items self.new.kept
             (D.traffic self.new.sockets) (D.failed self.new.sockets))) }
         ensures within { IfOk result (λ up. IfSome up (λ n. n ≤ length room.old)) }
-        // The room is as it was where nothing is for the core.
+        // The buffer is as it was if nothing is for the core.
         ensures untouched { IfOk result (λ up. up ≡ None → room.new ≡ room.old) }
         ensures goes_on { OnErr result ⊥ }
         ensures moment { self.new.moment ≡ self.old.moment }
@@ -237,8 +240,8 @@ impl<D: EndSockets + Drop> PortDriver for EthernetPorts<D> {
 }
 
 impl<D: EndSockets + Drop> PortDriverFilters for EthernetPorts<D> {
-    /// How much that came was kept from the core: frames whose hub did, also those that went on, and
-    /// what came from no end.
+    /// How much of what came the core did not get: frames that the switches kept from it, including
+    /// those that were forwarded, and frames from unknown senders.
     fn filtered(&self) -> u128
         ensures total { result ≡ self.now.kept + D.filtered self.now.sockets }
         ensures few { result < 2 ^ 65 }

@@ -1,7 +1,8 @@
-//! Ports on wires, as the segments of a router or of a host.
+//! A port driver of a router or a host for Ethernet ports.
 //!
-//! [`EndSockets`] carry frames between the ends of wires and their ports, and [`EthernetPorts`] has a hub for
-//! each port over them: what an end gives goes on to the others, and the core gets what is for it.
+//! [`EndSockets`] carries frames between ports and their remotes. [`EthernetPorts`] has a switch
+//! for each port over them. What a remote sends is forwarded to the others, and the core gets what
+//! is for it.
 #![tactic(auto)]
 
 mod end_sockets;

@@ -1,4 +1,4 @@
-//! Sockets in memory, for tests and for what is run without a network.
+//! Sockets in memory, for tests and for runs without a network.
 
 ghost use Rattle.std.specs.Prelude.{◌≡◌, ◌≤◌, ◌++◌, ◌∷◌, [], None, Some, OnErr, OnOk};
 ghost use Rattle.ipx_ethernet_ports.specs.EndTraffic.{frame_at};
@@ -10,7 +10,7 @@ use ipx_carrier::{DeviceFault, saturating_increment};
 use ipx_wire::OutOfMemory;
 use std::alloc::Global;
 
-/// A frame that an end gave, or that went to one.
+/// A frame that came from a remote, or that was sent to one.
 #[derive(Debug, Drop)]
 pub struct MemoryFrame {
     pub port: usize,
@@ -18,10 +18,10 @@ pub struct MemoryFrame {
     pub bytes: Vec<u8>,
 }
 
-/// Sockets whose frames are put into them, and which keep what came and went.
+/// Sockets that receive the frames that are put into them, and record what was received and sent.
 ///
-/// Frames of a port come in the order in which they were put. Sending fails to the end that was named
-/// with [`MemoryEnds::break_end`]; else want of memory is a failure, and nothing else is.
+/// Frames of a port are received in the order in which they were put. Sending fails to the remote
+/// that [`MemoryEnds::break_end`] named. Otherwise calls fail only if out of memory.
 #[derive(Drop)]
 pub struct MemoryEnds {
     alloc: Global,
@@ -34,7 +34,7 @@ pub struct MemoryEnds {
     unknown_senders: u64,
 }
 
-/// Keeps a frame behind others.
+/// Records a frame after others.
 fn keep_frame(
     alloc: Global,
     frames: &mut Vec<MemoryFrame>,
@@ -58,7 +58,7 @@ fn take_first(waiting: &mut Vec<MemoryFrame>, port: usize) -> Option<MemoryFrame
 }
 
 impl MemoryEnds {
-    /// Sockets with a port for each of these counts of ends, to which nothing came yet.
+    /// Sockets with a port for each of these numbers of remotes, to which nothing came yet.
     pub fn new(alloc: Global, ends: Vec<usize>) -> MemoryEnds
         ensures ends { result.ends.items ≡ ends.items }
         ensures traffic { ends_traffic result ≡ record { came = []; went = [] } }
@@ -77,8 +77,8 @@ impl MemoryEnds {
         }
     }
 
-    /// Puts a frame behind those that wait at a port. One of an end that isn't there will be a
-    /// stranger's.
+    /// Puts a frame after those that wait at a port. If its remote does not exist, it is received
+    /// as from an unknown sender.
     pub fn put(&mut self, port: usize, end: usize, bytes: &[u8]) -> Result<(), OutOfMemory>
         ensures put { OnOk result (frames_waiting self.new
             ≡ frames_waiting self.old ++ frame_at port bytes.now end ∷ []) }
@@ -91,14 +91,15 @@ impl MemoryEnds {
         keep_frame(self.alloc, &mut self.waiting, port, end, bytes)
     }
 
-    /// Sending to an end of a port fails from now on, and to no other that was named before.
+    /// Sending to this remote of a port fails from now on. A remote that was named before works
+    /// again.
     pub fn break_end(&mut self, port: usize, end: usize)
         ensures { self.new ≡ record self.old { broken = Some (record { 0 = port; 1 = end }) } }
     {
         self.broken = Some((port, end));
     }
 
-    /// What went out so far, the first one first.
+    /// What was sent so far, in order.
     pub fn went(&self) -> &[MemoryFrame]
         ensures { memory_frames result.now ≡ (ends_traffic self.now).went }
     {

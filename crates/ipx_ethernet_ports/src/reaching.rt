@@ -1,4 +1,4 @@
-//! A frame that goes to several ends of a wire.
+//! A frame that is sent to several remotes of a port.
 
 ghost use Rattle.std.specs.Prelude.{◌≡◌, ◌<◌, [], length, slice_index};
 ghost use Rattle.ipx_ethernet_ports.specs.OnEthernet.{ReachesEnds};
@@ -6,8 +6,8 @@ ghost use Rattle.ipx_ethernet_ports.specs.OnEthernet.{ReachesEnds};
 use crate::end_sockets::EndSockets;
 use ipx_hub::Egress;
 
-/// Sends bytes by a port to each of its ends that a way names, in order. Where that fails at one, the
-/// others get them still.
+/// Sends bytes by a port to each of its remotes that an egress names, in order. If that fails for
+/// one, the others still get them.
 pub fn send_to_ends<D: EndSockets>(sockets: &mut D, port: usize, way: Egress, bytes: &[u8])
     requires { port < length (D.ends_of sockets.old) }
     ensures reached { ReachesEnds way (slice_index (D.ends_of sockets.old) port) port bytes.now []

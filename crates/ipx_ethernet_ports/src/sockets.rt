@@ -1,4 +1,4 @@
-//! Sockets of UDP as those of wires: each datagram is one Ethernet frame.
+//! UDP sockets for Ethernet ports: each datagram is one Ethernet frame.
 
 ghost use Rattle.std.specs.Prelude.{◌≡◌, ◌<◌, ◌≤◌, ◌↔◌, ◌++◌, ◌∷◌, [], Bool, IfOk, IfSome, IsSome, None, Ok, OnErr, OnOk, false, is_some, length, slice_index, slice_set, true};
 ghost use Rattle.ipx_carrier.specs.Counting.{raised};
@@ -14,28 +14,29 @@ use std::io::ErrorKind;
 use std::net::{Net, SocketAddr, UdpSocket};
 use std::os::fd::{AsRawFd, RawFd};
 
-/// Where frames go and come from: an IP address, and a port of UDP there.
+/// An address of a port or a remote: an IP address, and a UDP port there.
 #[derive(Clone, Copy, Debug, PartialEq, Eq)]
 pub struct Place {
     pub ip: [u8; 4],
     pub udp_port: u16,
 }
 
-/// The socket of a port, and where the ends of its wire are.
+/// The socket of a port, and the addresses of its remotes.
 #[derive(Drop)]
 pub struct EthernetSocket {
     socket: UdpSocket,
     ends: Vec<Place>,
 }
 
-/// Sockets that have one of UDP for each port. Frames go to the places of its ends, and come from these
-/// alone: what comes from elsewhere is kept back.
+/// Sockets that have a UDP socket for each port. Frames are sent to the addresses of its remotes,
+/// and accepted only from these. A frame from elsewhere is not handed over, but counted.
 ///
-/// Which frames come and which arrive is the network's. What the system doesn't take is a failure of
-/// sending; receiving never fails.
+/// Which frames arrive depends on the network. What the system doesn't take is a failure of `send`;
+/// `receive` never fails.
 ///
-/// They have a mark for each port, at which something may wait, and ask the system at those alone. One
-/// that is bound is marked. Whoever waits for them marks those at which something came.
+/// Each port has a mark: whether something may wait there. The system is asked only at marked
+/// ports. A newly bound port is marked. The caller that waits for the sockets marks those that the
+/// system reports.
 #[derive(Drop)]
 pub struct EthernetSockets {
     ethernet: Vec<EthernetSocket>,
@@ -46,10 +47,10 @@ pub struct EthernetSockets {
     unknown_senders: u64,
 }
 
-/// How often a port is asked again for a frame where the system fails.
+/// How often a port is asked again for a frame if the system fails.
 const TRIES: u32 = 8;
 
-/// Whether a place is where a datagram came from.
+/// Whether a datagram came from this address.
 fn is_at(place: &Place, from: SocketAddr) -> bool
     ensures { result ≡ is_place from place.now }
 {
@@ -59,7 +60,7 @@ fn is_at(place: &Place, from: SocketAddr) -> bool
     }
 }
 
-/// The end from which a datagram came.
+/// The remote from which a datagram came.
 fn end_at(ends: &[Place], from: SocketAddr) -> Option<usize>
     ensures first { result ≡ end_at_place from ends.now }
     ensures there { IfSome result (λ end. end < length ends.now) }
@@ -84,8 +85,8 @@ impl EthernetSockets {
         }
     }
 
-    /// Binds one more port at a place, with its ends there. The error is the system's, or want of
-    /// memory, and then the ports are those before.
+    /// Binds one more port at an address, with these remotes. The error is the system's or out of
+    /// memory, and the ports are then as before.
     pub fn bind<R: Net>(&mut self, rt: &R, at: Place, ends: Vec<Place>) -> io::Result<()>
         ensures bound { OnOk result (ends_behind self.new.ethernet.items
             ≡ ends_behind self.old.ethernet.items ++ length ends.items ∷ []) }
@@ -108,7 +109,7 @@ impl EthernetSockets {
         Ok(())
     }
 
-    /// How many frames the system took to be sent. It stays at the greatest u64.
+    /// How many frames the system took to send. It stays at the greatest u64.
     pub fn sent(&self) -> u64
         ensures { result ≡ self.now.sent }
     {
@@ -122,7 +123,7 @@ impl EthernetSockets {
         self.faults
     }
 
-    /// The descriptor of the socket of a port, to wait for it. The first port is 0.
+    /// The descriptor of the socket of a port, to wait for. The first port is 0.
     pub fn descriptor(&self, port: usize) -> Option<RawFd>
         ensures { IsSome result ↔ port < length self.now.ethernet.items }
     {
@@ -137,8 +138,8 @@ impl EthernetSockets {
         &self.marks
     }
 
-    /// Something came to a port, as the system said: what waits there is received. Where there is no
-    /// port of that number nothing happens.
+    /// Marks a port: something came, as the system said, and is to be received. Nothing happens if
+    /// the port does not exist.
     pub fn mark(&mut self, port: usize)
         ensures { self.new ≡ record self.old { marks = slice_set self.old.marks port true } }
     {
@@ -153,7 +154,7 @@ impl EndSockets for EthernetSockets {
 
     ghost failed = { λ s. s.failures };
 
-    // What passes is the system's.
+    // They do not record what passes.
     ghost traffic = { λ s. None };
 
     ghost filtered = { λ s. s.unknown_senders };
@@ -203,13 +204,13 @@ impl EndSockets for EthernetSockets {
         // A port without a mark is not asked, and nothing changes.
         ensures unmarked { is_port_marked self.old.marks port ≡ false
             → (result ≡ Ok None) × (self.new ≡ self.old) × (room.new ≡ room.old) }
-        // One with a mark is asked until something comes or nothing waits, eight times at most: the
-        // mark goes just where nothing waits. What came is answered or counted.
+        // A marked port is asked until something comes or nothing waits, at most eight times. The
+        // mark is cleared exactly if nothing waits. What came is returned or counted.
         ensures marked { is_port_marked self.old.marks port ≡ true → IfOk result (λ answer.
             (came : Bool) × AsksMarked port came self.old.marks self.new.marks
             self.old.faults self.new.faults
             × IsKeptOrAnswer came (is_some answer) self.old.unknown_senders self.new.unknown_senders) }
-        // What came from an end is answered, and what came from none is counted.
+        // What came from a remote is returned, and what came from an unknown sender is counted.
         ensures end { IfOk result (λ came. IfSome came (λ c.
             c.end < slice_index (ends_behind self.old.ethernet.items) port)) }
         ensures within { IfOk result (λ came. IfSome came (λ c. c.size ≤ length room.old)) }

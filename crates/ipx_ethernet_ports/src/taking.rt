@@ -1,4 +1,4 @@
-//! What the core gets of a frame that came from an end.
+//! What the core gets of a frame that came from a remote.
 
 ghost use Rattle.std.specs.Prelude.{◌≡◌, ◌≤◌, IfSome, None, false, length, take};
 ghost use Rattle.ipx_hub.specs.Heard.{way_behind};
@@ -7,7 +7,7 @@ ghost use Rattle.ipx_ethernet_ports.specs.OnEthernet.{TakesPacket};
 
 use ipx_hub::{Egress, Switch};
 
-/// Puts bytes to the front of a room, as many as it takes.
+/// Puts bytes at the front of a buffer, as many as fit.
 pub fn put_front(bytes: &[u8], room: &mut [u8]) -> usize
     ensures put { take result room.new ≡ take (length room.old) bytes.now }
     ensures within { result ≤ length room.old }
@@ -17,8 +17,8 @@ pub fn put_front(bytes: &[u8], room: &mut [u8]) -> usize
     count
 }
 
-/// A hub hears what came from an end: the packet for the core goes to the front of the room. It
-/// answers where the bytes go on to, and how long the packet is there, if there is one.
+/// Passes a frame from a remote to a switch, and puts the packet for the core at the front of
+/// `room`. Returns where the bytes are forwarded, and the packet's length there, if there is one.
 pub fn take_packet(
     switch: &mut Switch,
     end: usize,

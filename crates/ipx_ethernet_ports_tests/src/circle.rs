@@ -1,4 +1,5 @@
-//! What comes from one of three ends: it goes on to the others, and the core gets what is for it.
+//! What becomes of a frame from one of three remotes: it is forwarded to the others, and the core
+//! gets what is for it.
 
 use crate::fixture::{FIRST, PACKET, PORT, SECOND, ethernet, frame, three_ends, took};
 use ipx_carrier::{PortDriver, PortDriverFilters};
@@ -6,8 +7,8 @@ use ipx_ethernet_ports::EndSockets;
 use ipx_wire::Node;
 use std::test::Fail;
 
-/// A frame to a station that nobody heard goes to both others, its answer to the end of the first alone,
-/// and nothing comes back to the end that gave it.
+/// A frame to a station that is not known goes to both others. Its answer goes only to the remote
+/// of the first station. Nothing is sent back to the remote that it came from.
 #[test]
 fn frames_between_stations(rt: HostRuntime) -> Result<(), Fail> {
     let alloc = rt.alloc();
@@ -23,7 +24,7 @@ fn frames_between_stations(rt: HostRuntime) -> Result<(), Fail> {
     assert!(rt; matches!(ethernet.receive(0, &mut room), Ok(None)));
     assert_eq!(rt; ethernet.sockets().went().len(), 3);
     assert!(rt; took(ethernet.sockets(), &[0], &frame(FIRST, SECOND)));
-    // Both were kept from the core, whose room is as it was, and now nothing comes.
+    // Both were kept from the core, whose buffer is as it was, and now nothing waits.
     assert_eq!(rt; ethernet.filtered(), 2);
     assert_eq!(rt; room, [0xaa; 1536]);
     assert!(rt; matches!(ethernet.receive(0, &mut room), Ok(None)));
@@ -31,7 +32,7 @@ fn frames_between_stations(rt: HostRuntime) -> Result<(), Fail> {
     Ok(())
 }
 
-/// The core gets the packet of a frame that is for the port, and no end does.
+/// The core gets the packet of a frame that is for the port, and no remote does.
 #[test]
 fn a_packet_for_the_core(rt: HostRuntime) -> Result<(), Fail> {
     let alloc = rt.alloc();
@@ -43,7 +44,7 @@ fn a_packet_for_the_core(rt: HostRuntime) -> Result<(), Fail> {
     assert!(rt; matches!(ethernet.receive(0, &mut room), Ok(Some(30))));
     assert_eq!(rt; &room[..30], PACKET.as_slice());
     assert_eq!(rt; room[30], 0xaa);
-    // What the room can't take is lost.
+    // What doesn't fit the buffer is lost.
     let mut small = [0xaa; 12];
     assert!(rt; matches!(ethernet.receive(0, &mut small), Ok(Some(12))));
     assert_eq!(rt; small.as_slice(), &PACKET[..12]);
@@ -52,8 +53,8 @@ fn a_packet_for_the_core(rt: HostRuntime) -> Result<(), Fail> {
     Ok(())
 }
 
-/// Ethernet II is the encapsulation of the port: a packet in 802.2 is kept from the core, and that is
-/// all that changes, but for the station that is known.
+/// The port uses Ethernet II. A packet in 802.2 is kept from the core, and otherwise only the known
+/// stations change.
 #[test]
 fn another_encapsulation(rt: HostRuntime) -> Result<(), Fail> {
     let alloc = rt.alloc();
@@ -75,7 +76,7 @@ fn another_encapsulation(rt: HostRuntime) -> Result<(), Fail> {
     Ok(())
 }
 
-/// One end can't be reached: the third one and the core get the broadcast still.
+/// One remote can't be reached: the third one and the core still get the broadcast.
 #[test]
 fn an_end_that_fails(rt: HostRuntime) -> Result<(), Fail> {
     let alloc = rt.alloc();
@@ -92,7 +93,7 @@ fn an_end_that_fails(rt: HostRuntime) -> Result<(), Fail> {
     Ok(())
 }
 
-/// What comes from an end that isn't there is a stranger's: nobody gets it.
+/// What comes from a remote that does not exist is from an unknown sender: nobody gets it.
 #[test]
 fn a_frame_of_no_end(rt: HostRuntime) -> Result<(), Fail> {
     let alloc = rt.alloc();

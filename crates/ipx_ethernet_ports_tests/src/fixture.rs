@@ -1,4 +1,4 @@
-//! A wire with three ends, a station at each, and the frames that they send.
+//! A port with three remotes, a station at each, and the frames that they send.
 
 use ipx_ethernet::{Encapsulation, EthernetPort};
 use ipx_ethernet_ports::{EndSockets, EthernetPorts, MemoryEnds, MemoryFrame};
@@ -6,14 +6,14 @@ use ipx_hub::Switch;
 use ipx_wire::{Network, Node};
 use std::alloc::{AllocError, Global};
 
-/// The port, which has the network 22 in Ethernet II.
+/// The port, on network 22 with Ethernet II.
 pub const PORT: EthernetPort = EthernetPort {
     own: Node([2, 0, 0, 0, 0, 1]),
     network: Network(0x22),
     encapsulation: Encapsulation::EthernetII,
 };
 
-/// Stations at the ends 0 and 1.
+/// Stations at the remotes 0 and 1.
 pub const FIRST: Node = Node([2, 0, 0, 0, 0, 0x42]);
 
 pub const SECOND: Node = Node([2, 0, 0, 0, 0, 0x43]);
@@ -34,18 +34,18 @@ pub fn frame(to: Node, from: Node) -> [u8; 44] {
     bytes
 }
 
-/// Sockets in memory, of one port with three ends.
+/// Sockets in memory, of one port with three remotes.
 pub fn three_ends(alloc: Global) -> Result<MemoryEnds, AllocError> {
     Ok(MemoryEnds::new(alloc, vec![in alloc; 3]?))
 }
 
-/// The hub of the port, whose ends are joined.
+/// The switch of the port, whose remotes are joined.
 pub fn switches(alloc: Global) -> Result<Vec<Switch>, AllocError> {
     let switch = Switch::new(alloc, PORT, true)?;
     Ok(vec![in alloc; switch]?)
 }
 
-/// A port on the wire of these sockets.
+/// A port over these sockets.
 pub fn ethernet<D: EndSockets + Drop>(
     alloc: Global,
     sockets: D,
@@ -53,7 +53,7 @@ pub fn ethernet<D: EndSockets + Drop>(
     Ok(EthernetPorts::new(sockets, switches(alloc)?))
 }
 
-/// Whether these ends, and no others, took these bytes, as the last of all that was sent.
+/// Whether these remotes, and no others, took these bytes, as the last of all that was sent.
 pub fn took(sockets: &MemoryEnds, ends: &[usize], bytes: &[u8]) -> bool {
     let sent = sockets.went();
     if sent.len() < ends.len() {

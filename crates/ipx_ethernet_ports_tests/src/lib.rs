@@ -1,5 +1,5 @@
-//! Tests of ports on wires, with literal values. They call what that crate makes public, and no crate
-//! stands on this one.
+//! Tests of Ethernet ports, with literal values. They call what `ipx_ethernet_ports` makes public,
+//! and no crate depends on this one.
 #![tactic(auto)]
 
 #[cfg(test)]

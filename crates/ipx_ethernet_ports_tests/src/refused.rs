@@ -1,12 +1,12 @@
-//! Memory that is refused as a frame is put, and as one comes.
+//! Memory is refused as a frame is put, and as one is received.
 
 use crate::fixture::{FIRST, PACKET, PORT, frame, switches, three_ends};
 use ipx_carrier::PortDriver;
 use ipx_ethernet_ports::{EndSockets, EthernetPorts};
 use std::test::Fail;
 
-/// Where a frame can't be put, those that wait are as they were. Where one that comes can't be kept, the
-/// sockets fail, and that is counted.
+/// If a frame can't be put, those that wait are as they were. If one that comes can't be recorded,
+/// the sockets fail, and that is counted.
 #[test]
 fn refused_frames(rt: HostRuntime) -> Result<(), Fail> {
     let alloc = rt.alloc();

@@ -1,4 +1,4 @@
-//! A router whose one port is on a wire with three ends.
+//! A router whose one port is an Ethernet port with three remotes.
 
 use crate::fixture::{FIRST, PORT, ethernet, frame, three_ends};
 use ipx_carrier::{PortDriverFilters, RouterCore, SteppedClock, run_over_ports};
@@ -6,8 +6,8 @@ use ipx_router::{Port, Router};
 use ipx_wire::Node;
 use std::test::Fail;
 
-/// Of its start each end gets each packet, in a frame to all; what stations say to one another goes on,
-/// and the router hears what is for it alone.
+/// Each remote gets each packet of the router's start, in a broadcast frame. What stations send to
+/// each other is forwarded, and the router receives only what is for it.
 #[test]
 fn a_router_on_a_wire(rt: HostRuntime) -> Result<(), Fail> {
     let alloc = rt.alloc();
@@ -27,8 +27,8 @@ fn a_router_on_a_wire(rt: HostRuntime) -> Result<(), Fail> {
     assert_eq!(rt; first.heard, 0);
     assert_eq!(rt; first.sent, 2);
     assert_eq!(rt; first.unmapped, 0);
-    // The frame of the station to both other ends, and then what the router asks: a request of RIP
-    // and one of SAP, to each of three.
+    // The frame of the station to both other remotes, and then what the router asks: a request of
+    // RIP and one of SAP, to each of three.
     let sent = ethernet.sockets().went();
     assert_eq!(rt; sent.len(), 8);
     let all = [

@@ -1,4 +1,4 @@
-//! Packets of the core, and the ends that their frames go to.
+//! Packets of the core, and the remotes that their frames are sent to.
 
 use crate::fixture::{FIRST, PACKET, PORT, SECOND, ethernet, frame, three_ends, took};
 use ipx_carrier::{PacketSent, PortDriver};
@@ -12,8 +12,8 @@ fn padded(to: Node) -> [u8; 60] {
     bytes
 }
 
-/// To a station that nobody heard to each end, to one that was heard to its end alone, as long as five
-/// minutes, and to all stations to each.
+/// A frame for a station that is not known goes to each remote. One for a known station goes only
+/// to its remote, for five minutes. A broadcast goes to each.
 #[test]
 fn packets_to_stations(rt: HostRuntime) -> Result<(), Fail> {
     let alloc = rt.alloc();
@@ -58,7 +58,7 @@ fn packets_to_stations(rt: HostRuntime) -> Result<(), Fail> {
     Ok(())
 }
 
-/// What no frame can carry is not sent, and the hub counts it.
+/// A packet that does not fit a frame is not sent, and the switch counts it.
 #[test]
 fn bytes_that_are_no_packet(rt: HostRuntime) -> Result<(), Fail> {
     let alloc = rt.alloc();

@@ -1,4 +1,4 @@
-//! Sockets of this machine: a port, two ends of its wire, and one that is at no end.
+//! Sockets of this machine: a port, its two remotes, and an unknown sender.
 
 use crate::fixture::{FIRST, PACKET, PORT, SECOND, ethernet, frame};
 use ipx_carrier::{DeviceFault, PacketSent, PortDriver, PortDriverFilters};
@@ -10,7 +10,7 @@ use std::net::Net;
 use std::process::Abort;
 use std::test::Fail;
 
-/// A place that no one else uses.
+/// An address that nothing else uses.
 const fn place(udp_port: u16) -> Place {
     Place {
         ip: [127, 0, 0, 43],
@@ -26,7 +26,7 @@ fn bound<R: Net>(rt: &R, alloc: Global, at: Place, ends: &[Place]) -> io::Result
     Ok(sockets)
 }
 
-/// Asks sockets until a frame comes, or often enough.
+/// Asks sockets until a frame comes, or the tries are used up.
 fn next_frame(
     sockets: &mut EthernetSockets,
     room: &mut [u8],
@@ -60,7 +60,7 @@ fn next_packet(
 #[test]
 fn frames_over_sockets(rt: HostRuntime) -> Result<(), Fail> {
     let alloc = rt.alloc();
-    // The port, its ends 0 and 1, and who is at neither.
+    // The port, its remotes 0 and 1, and an unknown sender.
     let at = place(20_920);
     let mut first = bound(&rt, alloc, place(20_921), &[at])?;
     let mut second = bound(&rt, alloc, place(20_922), &[at])?;
@@ -68,18 +68,18 @@ fn frames_over_sockets(rt: HostRuntime) -> Result<(), Fail> {
     let ends = bound(&rt, alloc, at, &[place(20_921), place(20_922)])?;
     let mut ethernet = ethernet(alloc, ends)?;
     let mut room = [0; 1536];
-    // What the first station sends to all goes on to the second end, and to the core.
+    // What the first station sends to all is forwarded to the second remote, and the core gets it.
     assert!(rt; first.send(0, 0, &frame(Node::BROADCAST, FIRST)).is_ok());
     assert!(rt; next_packet(&mut ethernet, &mut room)? == Some(30));
     assert_eq!(rt; &room[..30], PACKET.as_slice());
     assert!(rt; next_frame(&mut second, &mut room)? == Some(FrameCame { end: 0, size: 44 }));
     assert_eq!(rt; &room[..44], frame(Node::BROADCAST, FIRST).as_slice());
-    // What the stranger sends goes nowhere.
+    // What the unknown sender sends is dropped.
     assert!(rt; stranger.send(0, 0, &frame(PORT.own, SECOND)).is_ok());
     assert!(rt; next_packet(&mut ethernet, &mut room)? == None);
     assert_eq!(rt; ethernet.sockets().unknown_senders(), 1);
     assert_eq!(rt; ethernet.filtered(), 1);
-    // A packet of the core goes to the end of its station, padded.
+    // A packet of the core is sent to the remote of its station, padded.
     assert!(rt;
         matches!(
             ethernet.send(0, FIRST, &PACKET),
@@ -88,7 +88,7 @@ fn frames_over_sockets(rt: HostRuntime) -> Result<(), Fail> {
     );
     assert!(rt; next_frame(&mut first, &mut room)? == Some(FrameCame { end: 0, size: 60 }));
     assert_eq!(rt; &room[..44], frame(FIRST, PORT.own).as_slice());
-    // Nothing else came to anybody.
+    // Nothing else arrived anywhere.
     assert!(rt; first.receive(0, &mut room)? == None);
     assert!(rt; second.receive(0, &mut room)? == None);
     assert!(rt; stranger.receive(0, &mut room)? == None);
@@ -98,7 +98,7 @@ fn frames_over_sockets(rt: HostRuntime) -> Result<(), Fail> {
     Ok(())
 }
 
-/// A port is asked only where it is marked, and one that has nothing loses its mark.
+/// A port is asked only if it is marked, and one where nothing waits loses its mark.
 #[test]
 fn a_port_without_a_mark_is_not_asked(rt: HostRuntime) -> Result<(), Fail> {
     let alloc = rt.alloc();
@@ -116,7 +116,7 @@ fn a_port_without_a_mark_is_not_asked(rt: HostRuntime) -> Result<(), Fail> {
     Ok(())
 }
 
-/// What no datagram of UDP can hold is refused by the system, which is counted.
+/// The system refuses what no UDP datagram can hold, which is counted.
 #[test]
 fn a_frame_that_the_system_refuses(rt: HostRuntime) -> Result<(), Fail> {
     let alloc = rt.alloc();
@@ -140,7 +140,7 @@ fn a_place_in_use_is_refused(rt: HostRuntime) -> Result<(), Fail> {
     Ok(())
 }
 
-/// Memory that is refused as a port is bound: no socket is left over.
+/// Memory is refused as a port is bound: no socket stays open.
 #[test]
 fn refused_port(rt: HostRuntime) -> Result<(), Fail> {
     let alloc = rt.alloc();

@@ -1,10 +1,10 @@
-//! How a station takes what it hears to a wire of another encapsulation.
+//! How a station forwards a received frame to an Ethernet segment of another encapsulation.
 
 use ipx_ethernet::{Encapsulation, FrameFault, decode_frame, encode_frame_into};
 use ipx_wire::Node;
 use std::test::Fail;
 
-/// Sends the packet that a frame holds on, to all stations of a wire that has 802.2.
+/// Sends the packet of a frame to all stations of a segment that has 802.2.
 fn send_on(bytes: &[u8], own: Node, out: &mut [u8]) -> Result<usize, FrameFault> {
     let (frame, _encapsulation) = decode_frame(bytes, own)?;
     encode_frame_into(Encapsulation::Llc, Node::BROADCAST, own, frame.packet, out)

@@ -1,4 +1,4 @@
-//! Frames of each encapsulation that are heard, with each kind of padding.
+//! Frames of each encapsulation that are received, with each kind of padding.
 
 use crate::fixture::{Heard, STATION, are_heard};
 use ipx_ethernet::Encapsulation;

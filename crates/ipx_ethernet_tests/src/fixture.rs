@@ -1,4 +1,4 @@
-//! Rows of frames, and how they are met.
+//! Rows of frames, and how they are checked.
 
 use ipx_ethernet::{Encapsulation, FRAME_MAX_SIZE, FrameFault, decode_frame, encode_frame_into};
 use ipx_wire::Node;
@@ -6,7 +6,7 @@ use std::alloc::Global;
 use std::process::Abort;
 use std::test::Fail;
 
-/// The station that hears the frames, and the one that sends them.
+/// The station that receives the frames, and the one that sends them.
 pub const STATION: Node = Node([2, 0, 0, 0, 0, 1]);
 
 pub const SENDER: Node = Node([2, 0, 0, 0, 0, 0x42]);
@@ -14,12 +14,12 @@ pub const SENDER: Node = Node([2, 0, 0, 0, 0, 0x42]);
 /// A third station.
 pub const OTHER: Node = Node([2, 0, 0, 0, 0, 7]);
 
-/// The sender's address with the bit of a group, and the group of NLSP.
+/// The sender's address with the group bit, and the group of NLSP.
 pub const GROUP: Node = Node([3, 0, 0, 0, 0, 0x42]);
 
 pub const NLSP: Node = Node([9, 0, 0x1b, 0xff, 0xff, 0xff]);
 
-/// A frame in hex, what is read of it, and whether it is what a station sends.
+/// A frame in hex, what is read from it, and whether it is what a station sends.
 pub struct Heard {
     pub name: &'static str,
     pub frame: &'static str,
@@ -36,7 +36,7 @@ pub struct Refused {
     pub fault: FrameFault,
 }
 
-/// Where the packet stands in a frame.
+/// Where the packet begins in a frame.
 pub fn place_in(encapsulation: Encapsulation) -> usize {
     match encapsulation {
         Encapsulation::Raw | Encapsulation::EthernetII => 14,
@@ -45,7 +45,7 @@ pub fn place_in(encapsulation: Encapsulation) -> usize {
     }
 }
 
-/// What a station reads of a frame: its encapsulation, its stations and its packet.
+/// Checks what a station reads from a frame: its encapsulation, its stations and its packet.
 pub fn is_read(
     rt: &impl Abort,
     bytes: &[u8],
@@ -62,7 +62,7 @@ pub fn is_read(
     Ok(())
 }
 
-/// That a frame is written as these very bytes, and nothing behind them.
+/// Checks that a frame is written as exactly these bytes.
 pub fn is_sent(
     rt: &impl Abort,
     bytes: &[u8],

@@ -1,4 +1,4 @@
-//! Frames that were held against other readers of frames, and are heard.
+//! Frames that were compared with other readers of frames, and are received.
 
 use crate::fixture::{Heard, STATION, are_heard};
 use ipx_ethernet::Encapsulation;

@@ -4,7 +4,7 @@ use crate::fixture::{STATION, fault_of, is_read, is_sent};
 use ipx_ethernet::{Encapsulation, FrameFault};
 use std::test::Fail;
 
-/// What stands before the packet, from the type or length on, and the packet's length field.
+/// What precedes the packet, from the type or length on, and the packet's length field.
 const RAW: [u8; 6] = [5, 0xdc, 0xff, 0xff, 5, 0xdc];
 
 const ETHERNET_II: [u8; 6] = [0x81, 0x37, 0xff, 0xff, 5, 0xdc];
@@ -15,8 +15,8 @@ const SNAP: [u8; 14] = [
     5, 0xdc, 0xaa, 0xaa, 3, 0, 0, 0, 0x81, 0x37, 0xff, 0xff, 5, 0xd4,
 ];
 
-/// From its hops on, the header of a packet of type 4 from socket 4002 of 020000000042 on network
-/// 11 to socket 4002 of 020000000001 on network 22.
+/// The header of a packet of type 4, from its hops on. It is from socket 4002 of 020000000042 on
+/// network 11 to socket 4002 of 020000000001 on network 22.
 const ON: [u8; 26] = [
     0, 4, 0, 0, 0, 0x22, 2, 0, 0, 0, 0, 1, 0x40, 2, 0, 0, 0, 0x11, 2, 0, 0, 0, 0, 0x42, 0x40, 2,
 ];

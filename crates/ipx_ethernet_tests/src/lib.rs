@@ -1,5 +1,5 @@
-//! Tests of Ethernet frames that hold an IPX packet, with literal values. They call what that crate
-//! makes public, and no crate stands on this one.
+//! Tests of Ethernet frames that hold an IPX packet, with literal values. They call what
+//! `ipx_ethernet` makes public, and no crate depends on this one.
 #![tactic(auto)]
 
 #[cfg(test)]

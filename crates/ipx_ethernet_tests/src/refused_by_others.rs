@@ -1,4 +1,4 @@
-//! Frames that were held against other readers of frames, and are refused.
+//! Frames that were compared with other readers of frames, and are refused.
 
 use crate::fixture::{GROUP, NLSP, Refused, are_refused};
 use ipx_ethernet::FrameFault;

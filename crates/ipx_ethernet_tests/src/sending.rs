@@ -1,4 +1,4 @@
-//! What is not sent, and what is left out of what is.
+//! What is not sent, and what is left out of what is sent.
 
 use crate::fixture::{OTHER, STATION};
 use ipx_ethernet::{Encapsulation, FrameFault, encode_frame_into};
@@ -13,13 +13,13 @@ const ALL: [Encapsulation; 4] = [
     Encapsulation::EthernetII,
 ];
 
-/// A packet of 31 bytes, and one behind it.
+/// A packet of 31 bytes, and one byte after it.
 const PACKET: [u8; 32] = [
     0xff, 0xff, 0, 0x1f, 0, 4, 0, 0, 0, 0x22, 2, 0, 0, 0, 0, 7, 0x40, 2, 0, 0, 0, 0x11, 2, 0, 0, 0,
     0, 0x42, 0x40, 2, 0x6f, 0x99,
 ];
 
-/// That the packet is refused, and the room stays as it was.
+/// Checks that the packet is refused, and the buffer stays as it was.
 fn refuses(
     rt: &impl Abort,
     encapsulation: Encapsulation,
@@ -33,7 +33,7 @@ fn refuses(
     assert!(rt; out.iter().all(|byte| *byte == 0x5a));
 }
 
-/// A packet whose length field says so much.
+/// A packet whose length field says `length`.
 fn of_length(length: u16) -> [u8; 1600] {
     let mut packet = [0; 1600];
     packet[..32].copy_from_slice(&PACKET);

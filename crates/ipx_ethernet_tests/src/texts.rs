@@ -1,4 +1,4 @@
-//! What encapsulations and faults say.
+//! The texts of encapsulations and faults.
 
 use ipx_ethernet::{Encapsulation, FrameFault};
 use ipx_wire::{IpxFault, Node};

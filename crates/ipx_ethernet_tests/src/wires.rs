@@ -1,4 +1,4 @@
-//! What of the frames on a wire goes to the core of a port there: literal values.
+//! Which frames of an Ethernet segment are handed to the core of a port there, with literal values.
 
 use crate::caller::CAME;
 use ipx_ethernet::{
@@ -8,7 +8,7 @@ use ipx_wire::{IpxFault, Network, Node};
 use std::process::Abort;
 use std::test::Fail;
 
-/// A port on a wire of Ethernet II, of this network.
+/// A port on a segment of Ethernet II, with this network.
 fn port_of(network: u32) -> EthernetPort {
     EthernetPort {
         own: Node([2, 0, 0, 0, 0, 1]),
@@ -24,19 +24,19 @@ fn to_all() -> [u8; 44] {
     bytes
 }
 
-/// The packet behind the header of the frame goes to the core.
+/// Checks that the packet after the header of the frame is handed to the core.
 fn goes_on(rt: &impl Abort, port: EthernetPort, bytes: &[u8]) {
     assert!(rt; matches!(port.hear(bytes), Ok(packet) if packet == &bytes[14..44]));
 }
 
 #[test]
 fn packets_that_go_to_the_core(rt: HostRuntime) -> Result<(), Fail> {
-    // To the port itself, for whatever network.
+    // To the port itself, for any network.
     goes_on(&rt, port_of(0x22), &CAME);
     goes_on(&rt, port_of(0x33), &CAME);
     // To all, for this network.
     goes_on(&rt, port_of(0x22), &to_all());
-    // To all, for the network at hand.
+    // To all, for the local network.
     let mut bytes = to_all();
     bytes[23] = 0;
     goes_on(&rt, port_of(0x33), &bytes);
@@ -63,7 +63,7 @@ fn frames_that_are_kept_from_the_core(rt: HostRuntime) -> Result<(), Fail> {
     Ok(())
 }
 
-/// A frame that is kept for a fault raises the count of it, and no other.
+/// A frame that is kept from the core for a fault raises only the count of that fault.
 #[test]
 fn each_fault_has_its_count(rt: HostRuntime) -> Result<(), Fail> {
     let none = FrameCounters::new();
@@ -174,7 +174,7 @@ fn each_cause_has_its_count(rt: HostRuntime) -> Result<(), Fail> {
     Ok(())
 }
 
-/// What is said of a frame that is kept.
+/// The text for a frame that is kept from the core.
 #[test]
 fn texts_of_kept_frames(rt: HostRuntime) -> Result<(), Fail> {
     for (kept, text) in [
@@ -196,7 +196,8 @@ fn texts_of_kept_frames(rt: HostRuntime) -> Result<(), Fail> {
     Ok(())
 }
 
-/// What a port sends to a node is from its own address, padded, and no longer than what it takes.
+/// A frame that a port sends to a node is from the port's own address, padded, and no longer than
+/// allowed.
 #[test]
 fn a_frame_of_the_port(rt: HostRuntime) -> Result<(), Fail> {
     let port = port_of(0x22);
@@ -215,7 +216,7 @@ fn a_frame_of_the_port(rt: HostRuntime) -> Result<(), Fail> {
     Ok(())
 }
 
-/// The stations of a frame, whatever it holds; and what is none.
+/// The stations of a frame, whatever it holds; and of bytes that are no frame.
 #[test]
 fn stations_of_frames(rt: HostRuntime) -> Result<(), Fail> {
     let both = (Node([2, 0, 0, 0, 0, 1]), Node([2, 0, 0, 0, 0, 0x42]));

@@ -11,18 +11,18 @@ const BUFFERS: u16 = 8;
 /// The network of both.
 const NETWORK: Network = Network(0x11);
 
-/// The node whose last byte is given.
+/// A node, by its last byte.
 const fn node(last: u8) -> Node {
     Node([0, 0, 0x7f, 0, 0, last])
 }
 
-/// The endpoint of a node whose last byte is given. The router of the network is node 1.
+/// The endpoint of a node, by its last byte. The router of the network is node 1.
 fn host(alloc: Global, last: u8) -> Endpoint {
     Endpoint::new(alloc, NETWORK, node(last), node(1))
 }
 
-/// Writes the next packet of an endpoint, lets the other one read it, and prints what it answers.
-/// None where there is no packet to send.
+/// Writes the next packet of an endpoint, lets the other one read it, and prints the answer. `None`
+/// if there is no packet to send.
 fn pass(
     rt: &impl Print,
     alloc: Global,
@@ -44,7 +44,7 @@ fn message(alloc: Global) -> Result<Message, AllocError> {
     Ok(Message { stream: 0, body })
 }
 
-/// Takes what came over a connection, and prints the message that it ends.
+/// Takes what arrived over a connection, and prints the message that it completes.
 fn take(rt: &impl Print, alloc: Global, host: &mut Endpoint, id: u16) -> Result<()> {
     if let Taken::Whole(message) = host.take(alloc, id)? {
         let bytes = message.body.len();
@@ -53,7 +53,7 @@ fn take(rt: &impl Print, alloc: Global, host: &mut Endpoint, id: u16) -> Result<
     Ok(())
 }
 
-/// Has one side ask the other for a connection. Gives the connection's id at each.
+/// One side asks the other for a connection. The result is the connection's id at each.
 fn connect(
     rt: &impl Print,
     alloc: Global,
@@ -89,7 +89,7 @@ fn talk(
     take(rt, alloc, called, accepted)
 }
 
-/// One asks for a connection and the other accepts it; then a message goes over, and is taken.
+/// One host asks for a connection and the other accepts it. Then a message is sent, and taken.
 pub fn pass_a_message(rt: &impl Print, alloc: Global) -> Result<()> {
     let mut caller = host(alloc, 3);
     let mut called = host(alloc, 4);

@@ -12,7 +12,7 @@ use std::alloc::{AllocError, Global};
 /// How many units each side can hold.
 const BUFFERS: u16 = 8;
 
-/// The socket of a node of network 11 whose last byte is given.
+/// A socket of a node of network 11, by the node's last byte.
 const fn address(last: u8, socket: u16) -> Address {
     Address {
         network: Network(0x11),
@@ -42,7 +42,7 @@ fn caller(alloc: Global) -> Result<Side>
     })
 }
 
-/// The side that a request asks.
+/// The side that receives a request.
 fn called(alloc: Global, request: &SpxHeader) -> Result<Side>
     ensures { IfOk result (λ s. IsLive s.links s.id) }
 {
@@ -80,7 +80,7 @@ fn request_of(rt: &impl Print, alloc: Global, side: &mut Side) -> Result<Option<
     Ok(Some(packet.header))
 }
 
-/// Passes one packet from a side to the other, if there is one to send, and prints what came of it.
+/// Passes one packet from a side to the other, if there is one to send, and prints the result.
 fn pass(rt: &impl Print, alloc: Global, from: &mut Side, to: &mut Side) -> Result<()>
     requires sends { IsLive from.old.links from.old.id }
     requires reads { IsLive to.old.links to.old.id }
@@ -139,7 +139,7 @@ fn take(rt: &impl Print, alloc: Global, side: &mut Side) -> Result<()>
     Ok(())
 }
 
-/// One side asks, the other replies; then a unit goes over, is acknowledged, and is taken.
+/// One side asks and the other replies. Then a unit is sent, acknowledged, and taken.
 pub fn pass_a_unit(rt: &impl Print, alloc: Global) -> Result<()> {
     let mut caller = caller(alloc)?;
     let Some(request) = request_of(rt, alloc, &mut caller)? else {

@@ -1,6 +1,11 @@
-//! Examples that run, one for each library: a packet written and read, a table of routes, a router
-//! that learns a route and forwards by it, two links that pass a unit, a message that is cut and
-//! joined, and two hosts that pass one. Each prints its steps.
+//! Runnable examples, one for each library. Each prints its steps:
+//!
+//! - a packet is encoded and decoded
+//! - a table of routes
+//! - a router learns a route and forwards by it
+//! - two links pass a unit
+//! - a message is split and joined
+//! - two hosts pass a message
 #![tactic(auto)]
 
 mod connecting;

@@ -1,4 +1,4 @@
-//! A message that is cut into units, and joined again by the other side.
+//! A message that is split into units, and joined again by the other side.
 
 ghost use Rattle.std.specs.Prelude.{◌≡◌, IfOk};
 
@@ -15,7 +15,7 @@ fn message(alloc: Global) -> Result<Message, AllocError>
     Ok(Message { stream: 0, body })
 }
 
-/// Hands a unit to an inbox, and prints the message that it ends, if it ends one.
+/// Passes a unit to an inbox, and prints the message that it completes, if any.
 fn hand_on(rt: &impl Print, alloc: Global, inbox: &mut Inbox, unit: &Unit) -> Result<()> {
     let bytes = unit.body.len();
     println!(rt; "inbox: gets {bytes} bytes")?;
@@ -26,7 +26,7 @@ fn hand_on(rt: &impl Print, alloc: Global, inbox: &mut Inbox, unit: &Unit) -> Re
     Ok(())
 }
 
-/// Hands units to an inbox in their order.
+/// Passes units to an inbox in order.
 fn hand_on_all(rt: &impl Print, alloc: Global, units: &[Unit]) -> Result<()> {
     let mut inbox = Inbox::new(alloc);
     for unit in units {
@@ -35,7 +35,7 @@ fn hand_on_all(rt: &impl Print, alloc: Global, units: &[Unit]) -> Result<()> {
     Ok(())
 }
 
-/// Cuts a message, and joins its units.
+/// Splits a message, and joins its units.
 pub fn cut_and_join(rt: &impl Print, alloc: Global) -> Result<()> {
     let units = cut(alloc, &message(alloc)?)?;
     hand_on_all(rt, alloc, &units)

@@ -1,5 +1,5 @@
-//! A table of routes: two neighbours tell of a network, one takes its word back, and the other's
-//! gets old.
+//! A table of routes: two neighbours advertise a network, one withdraws its route, and the other's
+//! expires.
 
 use anyhow::Result;
 use ipx_tables::{RouteMetric, RouteTable, Source, route_table};
@@ -8,7 +8,7 @@ use std::alloc::Global;
 
 const NETWORK: Network = Network(0x22);
 
-/// A neighbour on port 1 whose node's last byte is given.
+/// A neighbour on port 1, by its node's last byte.
 fn neighbour(last: u8) -> Source {
     Source {
         port: 1,
@@ -16,7 +16,7 @@ fn neighbour(last: u8) -> Source {
     }
 }
 
-/// How far the network is, by a neighbour's word.
+/// The metric of the network that a neighbour advertises.
 fn metric(ticks: u16, hops: u16) -> RouteMetric {
     RouteMetric { ticks, hops }
 }
@@ -32,7 +32,7 @@ fn print_best(rt: &impl Print, routes: &RouteTable, now: u64) -> Result<()> {
     Ok(())
 }
 
-/// Two neighbours tell of the network, and one takes its word back.
+/// Two neighbours advertise the network, and one withdraws its route.
 fn hear(rt: &impl Print, alloc: Global, routes: &mut RouteTable) -> Result<()> {
     routes.hear(alloc, NETWORK, neighbour(3), metric(3, 5), 0)?;
     routes.hear(alloc, NETWORK, neighbour(4), metric(4, 1), 0)?;
@@ -41,8 +41,8 @@ fn hear(rt: &impl Print, alloc: Global, routes: &mut RouteTable) -> Result<()> {
     print_best(rt, routes, 179_999)
 }
 
-/// Fewer ticks are the better route, 16 hops take an offer back, and after three minutes an offer
-/// does not count any more. Moments are milliseconds.
+/// Fewer ticks are the better route, 16 hops withdraw an offer, and after three minutes an offer is
+/// expired. Times are milliseconds.
 pub fn hear_and_age(rt: &impl Print, alloc: Global) -> Result<()> {
     let mut routes = route_table(alloc);
     hear(rt, alloc, &mut routes)?;

@@ -1,4 +1,4 @@
-//! A RIP request in an IPX packet, written to bytes and read again.
+//! A RIP request in an IPX packet, encoded and decoded.
 
 ghost use Rattle.std.specs.Prelude.{◌≡◌, IfOk, length};
 ghost use Rattle.ipx_control.specs.Rip.{rip_entries, rip_view};
@@ -49,8 +49,8 @@ fn print_rip(rt: &impl Print, alloc: Global, datagram: &[u8]) -> Result<()> {
     Ok(())
 }
 
-/// The body first, and then the packet around it. The room is what `encode_rip_into` and
-/// `encode_into` ask for: 2 bytes and 8 for each entry, and 30 besides.
+/// First the body, and then the packet around it. The buffers have the sizes that `encode_rip_into`
+/// and `encode_into` need: 2 bytes and 8 for each entry, and 30 more.
 pub fn write_and_read(rt: &impl Print, alloc: Global) -> Result<()> {
     let mut body = [0; 10];
     let count = encode_rip_into(&request(alloc)?, &mut body);

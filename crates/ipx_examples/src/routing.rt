@@ -1,4 +1,4 @@
-//! A router that hears of a network from a neighbour, and forwards a packet by what it heard.
+//! A router that learns a network from a neighbour, and forwards a packet to it.
 
 ghost use Rattle.std.specs.Prelude.{◌≡◌, ◌≤◌, IfOk, length};
 
@@ -14,7 +14,7 @@ const RESPONSE: &str =
 /// A packet from a node of network 11 to one of network 44, without a body.
 const PACKET: &str = "ffff001e00000000004400007f00000540000000001100007f0000035000";
 
-/// A port of a network whose number, and whose node's last byte, are given. To send costs a tick.
+/// A port, by the number of its network and its node's last byte. Its cost is one tick.
 fn port(network: u32, last: u8) -> Port
     ensures { result.network.0 ≡ network }
 {
@@ -56,8 +56,8 @@ fn print_outcome(rt: &impl Print, alloc: Global, outcome: &Outcome) -> Result<()
     }
 }
 
-/// Hands a datagram in hex to the router, and prints what becomes of it. The caller owes a port
-/// that is there.
+/// Passes a datagram in hex to the router, and prints what it does with it. The caller owes a port
+/// that exists.
 fn hand_in(rt: &impl Print, alloc: Global, router: &mut Router, port: u8, text: &str) -> Result<()>
     requires first { 1 ≤ port }
     requires last { port ≤ length router.old.ports }
@@ -68,8 +68,8 @@ fn hand_in(rt: &impl Print, alloc: Global, router: &mut Router, port: u8, text: 
     print_outcome(rt, alloc, &outcome)
 }
 
-/// Port 2 hears a response, and then a packet that comes in on port 1 goes on by port 2, to the
-/// neighbour that the response came from, with one hop more.
+/// Port 2 receives a response. Then a packet that comes in on port 1 is forwarded by port 2, to the
+/// neighbour that sent the response, with one hop more.
 pub fn learn_and_forward(rt: &impl Print, alloc: Global) -> Result<()> {
     let mut router = router_of_two(alloc)?;
     hand_in(rt, alloc, &mut router, 2, RESPONSE)?;

@@ -1,4 +1,4 @@
--- Frames with the same addresses go the same way, and leave the hub the same.
+-- Frames with the same addresses are forwarded alike, and leave the switch the same.
 use Rattle.std.proofs.Common.{◌≡◌, ℕ, List, true, length, take, drop, refl, sym, ap, ◌∙◌, arith}
 use Rattle.std.proofs.lemmas.List.{drop-take, take-take}
 use Rattle.ipx_hub.specs.Heard.{SwitchView, switch_passing, may_pass, way_behind}

@@ -1,4 +1,4 @@
--- No frame goes back to the end that gave it.
+-- No frame is sent back to the remote that it came from.
 use Rattle.std.proofs.Common.{◌≡◌, ℕ, List, Bool, true, false, Option, Some, None, length, not, refl, ap, eq-eqb}
 use Rattle.std.specs.Prelude.{◌==◌, ◌||◌, if◌then◌else◌}
 use Rattle.std.specs.Str.{bytes_eq}
@@ -9,7 +9,7 @@ use Rattle.ipx_hub.specs.declared.mac_table.Station.{Station}
 use Rattle.ipx_hub.specs.SwitchEnds.{end_of_station, is_way_to, way_past}
 use Rattle.ipx_hub.specs.Heard.{SwitchView, may_pass, station_from, station_to, way_behind, way_between, way_joined}
 
--- a choice of two ways that do not lead to an end
+-- a choice of two egresses that do not lead to a remote
 neither : (b : Bool) (o p : Egress) (end : ℕ) → is_way_to o end ≡ false → is_way_to p end ≡ false → is_way_to (if b then o else p) end ≡ false
 neither true o p end x y = x
 neither false o p end x y = y

@@ -1,4 +1,4 @@
--- Where a frame goes once its sender is known, and what is known of stations then.
+-- Where a frame is forwarded once its source is known, and which stations are known then.
 use Rattle.std.proofs.Common.{◌≡◌, ◌≤◌, ◌<◌, ◌+◌, ℕ, List, ◌∷◌, Bool, true, false, Some, None, length, find, refl, ap, ◌∙◌}
 use Rattle.std.specs.Prelude.{◌==◌, if◌then◌else◌}
 use Rattle.std.specs.Str.{bytes_eq}
@@ -8,7 +8,7 @@ use Rattle.ipx_hub.specs.SwitchEnds.{end_of_station, is_at, is_way_to, max_stati
 use Rattle.ipx_hub.specs.Heard.{SwitchView, switch_passing, may_be_behind, may_pass, station_from, station_to, way_behind}
 use Rattle.ipx_hub.proofs.Known.{known_again, known_in_full, known_no_more, known_not_yet, known_still, known_there}
 
--- ---- where it goes
+-- ---- where it is forwarded
 
 unknown_at : (h : SwitchView) (bytes : List ℕ) (end now other : ℕ) → h.joined ≡ true → may_pass (length bytes) ≡ true → bytes_eq (station_from bytes).0 h.port.own.0 ≡ false → bytes_eq (station_to bytes).0 h.port.own.0 ≡ false
     → end_of_station (station_to bytes) now h.stations ≡ None → (end == other) ≡ false → is_way_to (way_behind h bytes end now) other ≡ true
@@ -50,7 +50,7 @@ pub sender_before : (h : SwitchView) (bytes : List ℕ) (end heard now : ℕ) �
 sender_before h bytes end heard now passes behind lt =
     ap (end_of_station (station_from bytes) now) (with_sender h bytes end heard passes behind) ∙ known_not_yet (sender bytes end heard) h.stations now lt
 
--- what is so of a table with the sender and of the one before is so of the one then
+-- what holds for the table with the sender and for the one before holds for the one after
 chosen : (a b : Bool) (other : Node) (now : ℕ) (with known : List Station) → end_of_station other now with ≡ end_of_station other now known
     → end_of_station other now (if a then (if b then with else known) else known) ≡ end_of_station other now known
 chosen true true other now with known same = same

@@ -1,4 +1,4 @@
--- What is known of stations, once one was heard.
+-- Which stations are known, once one was heard.
 use Rattle.std.proofs.Common.{◌≡◌, ◌≤◌, ◌<◌, ◌+◌, ◌-◌, ℕ, List, [], ◌∷◌, Bool, true, false, Option, Some, None, length, take, drop, filter, find, not, cond, arith, refl, sym, ap, subst, suc, zero, ◌∙◌, take-append-drop}
 use Rattle.std.specs.Option.{option_or}
 use Rattle.std.specs.Str.{bytes_eq}
@@ -15,7 +15,7 @@ left_by : (node : Node) (x : Station) (b : Bool) (rest : List Station) → is_at
 left_by node x true rest is none = none
 left_by node x false rest is none = rw is none
 
--- a station that was let go is none of those that stay
+-- a station that was removed is none of those that stay
 none_left : (node : Node) (xs : List Station) → find (is_at node) (filter (λ k. not (is_at node k)) xs) ≡ None
 none_left node [] = refl
 none_left node (x ∷ xs) = left_by node x (is_at node x) (filter (λ k. not (is_at node k)) xs) refl (none_left node xs)
@@ -80,7 +80,7 @@ or_none (Some x) = refl
 not_alone : (s : Station) (other : Node) → bytes_eq s.node.0 other.0 ≡ false → find (is_at other) (s ∷ []) ≡ None
 not_alone s other apart = rw apart refl
 
--- where those that are kept but for the ones in front have the other as before, the other is known as before
+-- if another station is found as before among those that stay, it is known as before
 kept_still : (s : Station) (known : List Station) (other : Node) (now : ℕ) → bytes_eq s.node.0 other.0 ≡ false
     → find (is_at other) (drop (length (filter (λ k. not (is_at s.node k)) known) + 1 - max_stations) (filter (λ k. not (is_at s.node k)) known)) ≡ find (is_at other) (filter (λ k. not (is_at s.node k)) known)
     → end_of_station other now (stations_with s known) ≡ end_of_station other now known
@@ -93,7 +93,7 @@ kept_still s known other now apart same =
 fewer : (s : Station) (known : List Station) → length (filter (λ k. not (is_at s.node k)) known) ≤ length known
 fewer s known = omega (arith, length-filter_both (is_at s.node) (λ k. not (is_at s.node k)) (λ x. refl) known)
 
--- with room none goes
+-- if there is room, none is removed
 none_goes : (test : Station → Bool) (kept : List Station) → length kept < max_stations → find test (drop (length kept + 1 - max_stations) kept) ≡ find test kept
 none_goes test kept few =
     let zero : length kept + 1 - max_stations ≡ 0 = omega (arith, few) in
@@ -105,7 +105,7 @@ known_still s known other now apart few =
     let kept : List Station = filter (λ k. not (is_at s.node k)) known in
     kept_still s known other now apart (none_goes (is_at other) kept (omega (arith, few, fewer s known)))
 
--- in a full table the first one goes alone
+-- in a full table only the first one is removed
 one_goes : (test : Station → Bool) (first : Station) (rest : List Station) (n : ℕ) → n ≤ 1 → test first ≡ false → find test (drop n (first ∷ rest)) ≡ find test (first ∷ rest)
 one_goes test first rest zero le unlike = refl
 one_goes test first rest (suc n) le unlike =
@@ -130,7 +130,7 @@ known_in_full s first known rest other now is apart few unlike =
     let P : List Station → Type 0 = λ l. length l ≤ max_stations → end_of_station other now (stations_with s l) ≡ end_of_station other now l in
     subst P (sym is) (λ little. full_still s first rest other now apart little unlike) few
 
--- where the one that was heard was known already, fewer are kept
+-- if the station that was heard was known already, fewer are removed
 shorter_by : (node : Node) (x s : Station) (b : Bool) (kept rest : List Station) → is_at node x ≡ b → length kept ≤ length rest → (find (is_at node) rest ≡ Some s → length kept + 1 ≤ length rest) → cond b (Some x) (find (is_at node) rest) ≡ Some s
     → length (cond (not b) (x ∷ kept) kept) + 1 ≤ length (x ∷ rest)
 shorter_by node x s true kept rest is few less found = omega (arith, few)

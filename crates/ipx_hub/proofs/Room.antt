@@ -1,4 +1,4 @@
--- The last of a list, with one more behind it, and what is put behind all.
+-- The last items of a list with one more after it, and what is put after all.
 use Rattle.std.proofs.Common.{◌≡◌, ◌+◌, ◌-◌, ℕ, List, [], ◌∷◌, ◌++◌, length, take, drop, arith, refl, sym, ap, ◌∙◌}
 use Rattle.std.proofs.lemmas.List.{drop-append-le, length-append}
 use Rattle.ipx_hub.specs.declared.mac_table.Station.{Station}

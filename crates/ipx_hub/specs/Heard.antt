@@ -1,4 +1,4 @@
--- What a port with several ends does with a frame that one of them gave. All of it is own.
+-- What a switch does with a frame that came from a remote. Defined by this project.
 use Rattle.std.specs.Prelude.{ℕ, List, [], take, drop, length, replicate, Bool, not, ◌&&◌, ◌||◌, Option, nat_le, if◌then◌else◌}
 use Rattle.std.specs.Str.{bytes_eq}
 use Rattle.ipx_wire.specs.declared.address.Node.{Node}
@@ -13,8 +13,8 @@ use Rattle.ipx_hub.specs.declared.egress.Egress.TheVariants.{Nowhere, ToOne, ToA
 use Rattle.ipx_hub.specs.declared.mac_table.Station.{Station}
 use Rattle.ipx_hub.specs.SwitchEnds.{end_of_station, stations_with, way_out, way_past}
 
--- a port of several ends: whether they are joined, which stations are known, what came, how many frames
--- were to go on, and how many packets of the core no frame could carry
+-- a switch: its port, whether its remotes are joined, the stations known, and its counts. These are of
+-- received frames, of frames that were to be forwarded, and of packets of the core that did not fit a frame
 pub record SwitchView : Type 0 where
   pub port : EthernetPort
   pub joined : Bool
@@ -23,7 +23,7 @@ pub record SwitchView : Type 0 where
   pub passed : ℕ
   pub refused : ℕ
 
--- nothing came yet
+-- nothing was received yet
 abbrev pub new_switch : EthernetPort → Bool → SwitchView
 new_switch port joined = record {
   port = port;
@@ -34,24 +34,24 @@ new_switch port joined = record {
   refused = 0;
 }
 
--- so many bytes may go on: no fewer than the addresses and the length or type, and no more than a
--- full frame of 1,514 with a tag (IEEE 802.1Q) and its check sequence, four bytes each
+-- this many bytes may be forwarded: no fewer than the addresses and the length or type. No more than a full
+-- frame of 1,514 with a tag (IEEE 802.1Q) and its check sequence, four bytes each
 abbrev pub may_pass : ℕ → Bool
 may_pass n = nat_le 14 n && nat_le n 1522
 
--- the station that a frame is for, and the one that sent it
+-- the destination and the source of a frame
 abbrev pub station_to : List ℕ → Node
 station_to bytes = node_of (take 6 bytes)
 
 abbrev pub station_from : List ℕ → Node
 station_from bytes = node_of (take 6 (drop 6 bytes))
 
--- an address that a station behind an end may have: no group's, not zero, and not the port's own
+-- an address that a station at a remote may have: not a group, not zero, and not the port's own
 abbrev pub may_be_behind : Node → Node → Bool
 may_be_behind own node =
     not (is_group node.0 || bytes_eq node.0 (replicate 6 0) || bytes_eq node.0 own.0)
 
--- which stations are known, once one sent a frame from an end
+-- which stations are known after one sent a frame from a remote
 abbrev pub stations_from : Node → Node → ℕ → ℕ → List Station → List Station
 stations_from own from end now known =
     if may_be_behind own from
@@ -63,13 +63,13 @@ abbrev pub stations_behind : Node → List ℕ → ℕ → ℕ → List Station 
 stations_behind own bytes end now known =
     if may_pass (length bytes) then stations_from own (station_from bytes) end now known else known
 
--- where a frame goes on to, by the stations that are known: nowhere one of the port's own, which came
--- back, nor one that is for the port
+-- where a frame is forwarded, by where its destination is known. The port's own frame, which came back, and
+-- one that is for the port are not forwarded
 abbrev pub way_between : Node → Node → Node → ℕ → Option ℕ → Egress
 way_between own to from end place =
     if bytes_eq from.0 own.0 || bytes_eq to.0 own.0 then Nowhere else way_past end place
 
--- the same for bytes, where the ends are joined
+-- the same for bytes, if the remotes are joined
 abbrev pub way_joined : Node → List ℕ → ℕ → ℕ → List Station → Egress
 way_joined own bytes end now known =
     if may_pass (length bytes)
@@ -81,32 +81,31 @@ abbrev pub way_behind : SwitchView → List ℕ → ℕ → ℕ → Egress
 way_behind h bytes end now =
     if h.joined then way_joined h.port.own bytes end now h.stations else Nowhere
 
--- where a frame of the port's own to a node goes: a group's to each end, and else to the end at which its station is
--- known, or to each
+-- where the port's own frame to a node is sent: to each remote if it is for a group. Otherwise to the remote
+-- where its destination is known, or to each
 abbrev pub way_of_own : Node → ℕ → List Station → Egress
 way_of_own node now known =
     if is_group node.0 then ToAll else way_out (end_of_station node now known)
 
--- one more frame that was to go on
+-- one more frame that was to be forwarded
 abbrev pub passed_with : Egress → ℕ → ℕ
 passed_with Nowhere n = n
 passed_with (ToOne e) n = frames_raised n
 passed_with ToAll n = frames_raised n
 passed_with (ToOthers giver) n = frames_raised n
 
--- the sender is known, if a station may have that address
+-- the source address is known, if a station may have it
 abbrev pub switch_knowing : SwitchView → List ℕ → ℕ → ℕ → SwitchView
 switch_knowing h bytes end now =
     record h { stations = stations_behind h.port.own bytes end now h.stations }
 
--- the hub behind a frame that an end gave: its sender is known, and it is counted if it is to go on
+-- the switch after a frame from a remote: its source is known, and it is counted if it is to be forwarded
 abbrev pub switch_passing : SwitchView → List ℕ → ℕ → ℕ → SwitchView
 switch_passing h bytes end now = record (switch_knowing h bytes end now) {
   passed = passed_with (way_behind (switch_knowing h bytes end now) bytes end now) h.passed;
 }
 
--- one more frame whose packet went to the core, and one that was kept from it: nothing but its count is
--- another
+-- one more frame whose packet went to the core, and one that was kept from it: only its count changes
 abbrev pub switch_handing : SwitchView → SwitchView
 switch_handing h =
     record h { counts = record h.counts { handed_on = frames_raised h.counts.handed_on } }
@@ -114,6 +113,6 @@ switch_handing h =
 abbrev pub switch_keeping : FrameDrop → SwitchView → SwitchView
 switch_keeping k h = record h { counts = frame_counted k h.counts }
 
--- one more packet of the core that no frame could carry: nothing but its count is another
+-- one more packet of the core that did not fit a frame: only its count changes
 abbrev pub switch_refusing : SwitchView → SwitchView
 switch_refusing h = record h { refused = frames_raised h.refused }

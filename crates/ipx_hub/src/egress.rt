@@ -1,23 +1,23 @@
-//! Which ends of a wire a frame goes to.
+//! Which remotes a frame is sent to.
 
 ghost use Rattle.std.specs.Prelude.{◌≡◌};
 ghost use Rattle.ipx_hub.specs.SwitchEnds.{is_way_to, way_out, way_past};
 
-/// The ends that a frame goes to. Ends are numbers that the caller has given them.
+/// The remotes that a frame is sent to. Remotes are numbers that the caller gives them.
 #[derive(Clone, Copy, Debug, PartialEq, Eq)]
 pub enum Egress {
     /// To none.
     Nowhere,
-    /// To one: to which.
+    /// To this one.
     ToOne(usize),
     /// To each.
     ToAll,
-    /// To each but the one that gave it: which that is.
+    /// To each except this one, from which it came.
     ToOthers(usize),
 }
 
 impl Egress {
-    /// Whether an end is one of them.
+    /// Whether a remote is one of them.
     pub fn is_to(self, end: usize) -> bool
         ensures { result ≡ is_way_to self end }
     {
@@ -30,7 +30,7 @@ impl Egress {
     }
 }
 
-/// Where a frame of the port's own goes, to a station at a known end, or at any.
+/// Where the port's own frame is sent, if its destination is known at a remote, or not known.
 pub fn egress_to(place: Option<usize>) -> Egress
     ensures { result ≡ way_out place }
 {
@@ -40,7 +40,7 @@ pub fn egress_to(place: Option<usize>) -> Egress
     }
 }
 
-/// Where a frame goes that an end gave.
+/// Where a frame from a remote is sent.
 pub fn flood_except(giver: usize, place: Option<usize>) -> Egress
     ensures { result ≡ way_past giver place }
 {

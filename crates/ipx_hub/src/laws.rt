@@ -1,4 +1,4 @@
-//! Laws of a wire of several ends, which follow from what a hub is.
+//! Laws of a switch, which follow from its definition.
 
 ghost use Rattle.std.specs.Prelude.{◌≡◌, ◌<◌, ◌≤◌, ◌+◌, ◌==◌, ℕ, List, ◌∷◌, None, Some, true, false, find, length, take};
 ghost use Rattle.std.specs.Str.{bytes_eq};
@@ -7,8 +7,8 @@ ghost use Rattle.ipx_hub.specs.declared.mac_table.Station.{Station};
 ghost use Rattle.ipx_hub.specs.Heard.{SwitchView, switch_passing, may_be_behind, may_pass, station_from, station_to, way_behind};
 ghost use Rattle.ipx_hub.specs.SwitchEnds.{end_of_station, is_at, is_way_to, max_stations, ageing_time};
 
-/// Two frames with the same addresses go on to the same ends, and leave the hub the same, whatever
-/// they hold behind those.
+/// Two frames with the same addresses are forwarded to the same remotes, and leave the switch the
+/// same, whatever follows the addresses.
 pub fn frames_go_on_whatever_they_hold()
     ensures ends { (h : SwitchView) (bytes other : List ℕ) (end now : ℕ) → take 12 bytes ≡ take 12 other
         → may_pass (length bytes) ≡ true → may_pass (length other) ≡ true
@@ -19,8 +19,9 @@ pub fn frames_go_on_whatever_they_hold()
         → switch_passing h bytes end now ≡ switch_passing h other end now }
 {}
 
-/// Where ends are joined, a frame between two stations other than the port goes to each end but the
-/// giver's, as long as its destination is known nowhere; else to the one end where that is known.
+/// These hold if remotes are joined, for a frame between two stations other than the port. If its
+/// destination is not known, it goes to each remote except the one that it came from. If its
+/// destination is known at another remote, it goes to exactly that one.
 pub fn frames_go_where_they_are_for()
     ensures unknown { (h : SwitchView) (bytes : List ℕ) (end now other : ℕ) → h.joined ≡ true
         → may_pass (length bytes) ≡ true
@@ -38,8 +39,8 @@ pub fn frames_go_where_they_are_for()
         → is_way_to (way_behind (switch_passing h bytes end now) bytes end now) other ≡ (place == other) }
 {}
 
-/// The sender of a frame, where a station may have its address, is known at the end that gave it from
-/// that moment on, for five minutes and no longer, and not before that moment.
+/// If a station may have the source address of a frame, it is known at the frame's remote from that
+/// time on. It is known for five minutes and no longer, and not before that time.
 pub fn station_is_known_where_it_was_heard()
     ensures known { (h : SwitchView) (bytes : List ℕ) (end heard now : ℕ) → may_pass (length bytes) ≡ true
         → may_be_behind h.port.own (station_from bytes) ≡ true
@@ -55,8 +56,8 @@ pub fn station_is_known_where_it_was_heard()
         → end_of_station (station_from bytes) now (switch_passing h bytes end heard).stations ≡ None }
 {}
 
-/// What is known of stations other than the sender of a frame stays: of each where there is room or
-/// the sender was in the table, and else of all but the first, which was heard longest ago.
+/// Other stations than the sender of a frame stay known as they were, if there is room or the
+/// sender was in the table. Otherwise all stay except the first, which was heard longest ago.
 pub fn other_stations_are_known_still()
     ensures room { (h : SwitchView) (bytes : List ℕ) (end heard : ℕ) (other : Node) (now : ℕ)
         → bytes_eq (station_from bytes).0 other.0 ≡ false → length h.stations < max_stations

@@ -1,8 +1,8 @@
-//! A port on a wire of several ends, each of which gives and takes Ethernet frames.
+//! A learning Ethernet switch at a port with several remotes, which each send and receive frames.
 //!
-//! [`Switch::hear`] says of a frame that one end gave which of the others it goes on to, and which
-//! packet in it goes to the core of the port. [`Switch::egress_for`] says which ends a frame of the port's
-//! own goes to. Memory is taken by [`Switch::new`] alone.
+//! [`Switch::hear`] takes a frame from a remote. It tells which other remotes the frame is
+//! forwarded to, and which packet of it goes to the core of the port. [`Switch::egress_for`] tells
+//! which remotes get a frame of the port's own. Only [`Switch::new`] allocates memory.
 #![tactic(auto)]
 
 mod egress;

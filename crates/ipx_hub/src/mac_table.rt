@@ -1,4 +1,4 @@
-//! The stations of a wire, by the end at which each was heard last.
+//! The stations of an Ethernet segment, with the remote at which each was last heard.
 
 ghost use Rattle.std.specs.Prelude.{◌≡◌, ◌≤◌, ◌<◌, ◌+◌, ◌-◌, [], List, IfOk, drop, length, filter, find, not, option_copied};
 ghost use Rattle.std.specs.Vec.{vec_capacity, vec_len};
@@ -8,10 +8,10 @@ use ipx_wire::Node;
 use std::alloc::{AllocError, Global};
 use std::marker::Model;
 
-/// How many stations are known at once.
+/// How many stations are known at most.
 pub const MAX_STATIONS: usize = 1024;
 
-/// For how many milliseconds a station is known that is not heard again.
+/// For how many milliseconds a station is known after its last frame.
 pub const AGEING_TIME_MS: u64 = 300_000;
 
 /// A station that was heard.
@@ -19,13 +19,13 @@ pub const AGEING_TIME_MS: u64 = 300_000;
 pub struct Station {
     /// Its address.
     pub node: Node,
-    /// The end that gave its last frame.
+    /// The remote that its last frame came from.
     pub end: usize,
-    /// When that was, in ms.
+    /// The time of that, in ms.
     pub moment: u64,
 }
 
-/// The stations that were heard, the one that was heard last behind the others.
+/// The stations that were heard, in the order in which they were last heard.
 #[derive(Drop)]
 pub struct MacTable {
     known: Vec<Station>,
@@ -45,7 +45,7 @@ impl Model for MacTable {
         × (vec_capacity s.known ≡ max_stations) };
 }
 
-/// All of them but the one of an address.
+/// Removes the station of an address.
 fn forget(known: &mut Vec<Station>, node: Node)
     ensures items { known.new.items ≡ filter (λ k. not (is_at node k)) known.old.items }
     ensures fewer { vec_len known.new ≤ vec_len known.old }
@@ -54,7 +54,7 @@ fn forget(known: &mut Vec<Station>, node: Node)
     known.retain(|known| known.node != node);
 }
 
-/// Lets the station go that was heard longest ago, where no other finds room.
+/// Removes the station that was heard longest ago, if there is no room for another.
 fn make_room(known: &mut Vec<Station>)
     requires { vec_len known.old ≤ max_stations }
     ensures items { known.new.items
@@ -75,7 +75,7 @@ fn station_of(known: &[Station], node: Node) -> Option<&Station>
 }
 
 impl MacTable {
-    /// None yet. Memory for all of them is taken here.
+    /// No stations yet. This takes the memory for all of them.
     pub fn new(alloc: Global) -> Result<MacTable, AllocError>
         ensures { IfOk result (λ s. s ≡ []) }
     {
@@ -83,14 +83,14 @@ impl MacTable {
         Ok(MacTable { known })
     }
 
-    /// The stations, the one that was heard last behind the others.
+    /// The stations, in the order in which they were last heard.
     pub fn all(&self) -> &[Station]
         ensures { result.now ≡ self.now }
     {
         &self.known
     }
 
-    /// A station was heard. Where too many are known the one goes that was heard longest ago.
+    /// A station was heard. If there are too many, the one heard longest ago is removed.
     pub fn put(&mut self, station: Station)
         ensures { self.new ≡ stations_with station self.old }
     {
@@ -100,7 +100,7 @@ impl MacTable {
         self.known.insert(last, station).unwrap();
     }
 
-    /// The end at which a station is known to be.
+    /// The remote at which a station is known.
     pub fn end_of(&self, node: Node, now: u64) -> Option<usize>
         ensures { result ≡ end_of_station node now self.now }
     {

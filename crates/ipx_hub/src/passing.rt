@@ -1,4 +1,4 @@
-//! Whether a frame goes on from one end to others, and whose it is.
+//! Whether a frame is forwarded from one remote to others, and its addresses.
 
 ghost use Rattle.std.specs.Prelude.{◌≡◌, ◌==◌, IfSome, is_some, length};
 ghost use Rattle.ipx_ethernet.specs.Frame;
@@ -9,13 +9,14 @@ use crate::mac_table::{MacTable, Station};
 use ipx_ethernet::stations_of;
 use ipx_wire::Node;
 
-/// The most bytes that go on: a full frame of 1,514 with a tag of 802.1Q and its check sequence.
+/// The longest frame that is forwarded, in bytes: a full frame of 1,514 with a tag of 802.1Q and
+/// its check sequence.
 pub const MAX_FORWARDED_SIZE: usize = 1522;
 
 /// The size of the addresses and the length or type.
 const HEADER_SIZE: usize = 14;
 
-/// The station that a frame is for, and the one that sent it, of bytes that may go on.
+/// The destination and the source of a frame that may be forwarded.
 pub fn addresses_of(bytes: &[u8]) -> Option<(Node, Node)>
     ensures to { IfSome result (λ r. r.0 ≡ station_to bytes.now) }
     ensures from { IfSome result (λ r. r.1 ≡ station_from bytes.now) }
@@ -37,15 +38,15 @@ pub fn is_group(node: Node) -> bool
     node.0[0] % 2 == 1
 }
 
-/// Whether a station behind an end may have an address.
+/// Whether a station at a remote may have an address.
 fn may_be_there(own: Node, node: Node) -> bool
     ensures { result ≡ may_be_behind own node }
 {
     !(is_group(node) || node == Node([0; 6]) || node == own)
 }
 
-/// A frame came from an end: its sender is known there from now on, where a station may have that
-/// address.
+/// A frame came from a remote. If a station may have its source address, that is known there from
+/// now on.
 pub fn learn(stations: &mut MacTable, own: Node, from: Node, end: usize, now: u64)
     ensures { stations.new ≡ stations_from own from end now stations.old }
 {
@@ -58,7 +59,7 @@ pub fn learn(stations: &mut MacTable, own: Node, from: Node, end: usize, now: u6
     }
 }
 
-/// Where a frame goes on to that an end gave, to a station at a known end, or at any.
+/// Where a frame from a remote is forwarded, if its destination is known at a remote, or not known.
 pub fn forwarding_decision(
     own: Node,
     to: Node,
@@ -74,7 +75,7 @@ pub fn forwarding_decision(
     flood_except(end, place)
 }
 
-/// Counts a frame that is to go on, if it is.
+/// Counts a frame if it is to be forwarded.
 pub fn count_passed(passed: &mut u64, onward: Egress)
     ensures { passed.new ≡ passed_with onward passed.old }
 {

@@ -1,4 +1,4 @@
-//! A port on a wire of several ends.
+//! A learning switch at an Ethernet port.
 
 ghost use Rattle.std.specs.Prelude.{◌≡◌, List, ℕ, IfOk, IfErr, IsOkAnd, OnErr, OnOk, None, Some, drop, false, length, take};
 ghost use Rattle.ipx_wire.specs.Ipx.{IsPartOf, number};
@@ -17,7 +17,7 @@ use ipx_wire::Node;
 use std::alloc::{AllocError, Global};
 use std::marker::Model;
 
-/// A port on a wire of several ends, as a hub between them.
+/// An Ethernet port with several remotes, and a learning switch between them.
 #[derive(Drop)]
 pub struct Switch {
     port: EthernetPort,
@@ -44,8 +44,8 @@ impl Model for Switch {
 }
 
 impl Switch {
-    /// A hub that heard nothing yet. Frames of one end go on to others where they are joined. Memory
-    /// is taken here alone.
+    /// A switch that has received nothing yet. Frames of one remote are forwarded to others if
+    /// `joined`. Only this allocates memory.
     pub fn new(alloc: Global, port: EthernetPort, joined: bool) -> Result<Switch, AllocError>
         ensures { IfOk result (λ h. h ≡ new_switch port joined) }
     {
@@ -67,37 +67,37 @@ impl Switch {
         self.port
     }
 
-    /// What became of the frames that came, at the core.
+    /// The counts of received frames, by what the core got of them.
     pub fn counts(&self) -> FrameCounters
         ensures { result ≡ self.now.counts }
     {
         self.counts
     }
 
-    /// How many frames were to go on from one end to others: also where there is no other end, so
-    /// that nobody got them.
+    /// How many frames were to be forwarded from one remote to others. This includes frames that
+    /// nobody got because there is no other remote.
     pub fn passed(&self) -> u64
         ensures { result ≡ self.now.passed }
     {
         self.passed
     }
 
-    /// The stations that were heard, the one that was heard last behind the others.
+    /// The stations that were heard, in the order in which they were last heard.
     pub fn stations(&self) -> &[Station]
         ensures { result.now ≡ self.now.stations }
     {
         self.stations.all()
     }
 
-    /// How many packets of the core no frame could carry.
+    /// How many packets of the core did not fit a frame.
     pub fn refused(&self) -> u64
         ensures { result ≡ self.now.refused }
     {
         self.refused
     }
 
-    /// Where a frame of the port's own to a node goes at the moment `now`, in ms: a broadcast to each
-    /// end; else to the end where the node was heard, or to each.
+    /// Where the port's own frame to a node is sent at time `now`, in ms. A broadcast goes to each
+    /// remote, another frame to the remote where the node was heard, or to each if it is not known.
     pub fn egress_for(&self, node: Node, now: u64) -> Egress
         ensures { result ≡ way_of_own node now self.now.stations }
     {
@@ -107,11 +107,11 @@ impl Switch {
         egress_to(self.stations.end_of(node, now))
     }
 
-    /// Writes the frame that a packet of the core for a node goes by at the front of `out`, and
-    /// answers which ends it is for, as `egress_for` says, and its size.
+    /// Writes the frame of a packet of the core for a node to the front of `out`. Returns where it
+    /// is sent, as for `egress_for`, and its size.
     ///
-    /// It refuses what `EthernetPort::frame_into` refuses, by the same faults, and counts that. Then
-    /// `out` is as it was. No memory is taken.
+    /// It refuses what `EthernetPort::frame_into` refuses, with the same faults, and counts that.
+    /// Then `out` is as it was. No memory is allocated.
     pub fn frame_into(
         &mut self,
         node: Node,
@@ -142,32 +142,33 @@ impl Switch {
         }
     }
 
-    /// A frame that the end `end` gave at the moment `now`, in ms: to which other ends it goes on,
-    /// as it came, and the packet in it that goes to the core, or why none does. No memory is taken:
-    /// the table has room for 1,024 stations, never for more.
+    /// Takes a frame that came from the remote `end` at time `now`, in ms. It tells to which other
+    /// remotes the frame is forwarded, as it came. It also tells which packet of it goes to the
+    /// core, or why none does. No memory is allocated: the table has room for 1,024 stations, and
+    /// never holds more.
     ///
-    /// One calls it with whatever came from an end, and sends the bytes on to the ends that
-    /// `Egress::is_to` names. From then on the sender is known to be at that end, for five minutes
-    /// and as long as it is among the 1,024 that were heard last. A group, zero and the port's own
-    /// address are no sender, and bytes that may not go on, fewer than 14 or more than 1,522, tell
-    /// of none.
+    /// Call it with all bytes that come from a remote, and send them on to the remotes that
+    /// `Egress::is_to` names. From then on the source address is known at that remote. It stays
+    /// known for five minutes, as long as it is among the 1,024 heard last. A group, zero and the
+    /// port's own address are not learned. Nothing is learned from fewer than 14 bytes or more than
+    /// 1,522, which are not forwarded.
     pub fn hear<'a>(
         &mut self,
         end: usize,
         bytes: &'a [u8],
         now: u64,
     ) -> (Egress, Result<&'a [u8], FrameDrop>)
-        // Which ends it goes on to, never the one that gave it.
+        // Which remotes it is forwarded to; never the one that it came from.
         ensures onward { result.0 ≡ way_behind self.new bytes.now end now }
         ensures back { is_way_to result.0 end ≡ false }
-        // What goes to the core, that all that is to go there does, and why another does not.
+        // Exactly the packets for the core go to it, and why another does not.
         ensures heard { IfOk result.1 (λ r. IsForCore self.old.port bytes.now r.now) }
         ensures lent { IfOk result.1 (λ r.
             IsPartOf bytes.entry (packet_place self.old.port.encapsulation) r) }
         ensures only { (packet : List ℕ) → IsForCore self.old.port bytes.now packet
             → IsOkAnd result.1 (λ r. r.now ≡ packet) }
         ensures kept { IfErr result.1 (λ k. KeepsFrame self.old.port bytes.now k) }
-        // What the hub is then.
+        // What the switch is then.
         ensures handing { IfOk result.1 (λ _.
             self.new ≡ switch_handing (switch_passing self.old bytes.now end now)) }
         ensures keeping { IfErr result.1 (λ k.
@@ -178,7 +179,7 @@ impl Switch {
         (onward, taken)
     }
 
-    /// Where a frame goes on to that an end gave.
+    /// Where a frame from a remote is forwarded.
     fn way(&self, end: usize, bytes: &[u8], now: u64) -> Egress
         ensures { result ≡ way_behind self.now bytes.now end now }
     {
@@ -194,7 +195,7 @@ impl Switch {
         }
     }
 
-    /// The sender of a frame, where a station may have its address, is known from now on.
+    /// Learns the source address of a frame, if a station may have it.
     fn know_sender(&mut self, end: usize, bytes: &[u8], now: u64)
         ensures { self.new ≡ switch_knowing self.old bytes.now end now }
     {
@@ -203,8 +204,8 @@ impl Switch {
         }
     }
 
-    /// Where a frame that an end gave goes on to, once its sender is known. It is counted if it is to
-    /// go on.
+    /// Where a frame from a remote is forwarded, once its source is learned. It is counted if it is
+    /// to be forwarded.
     fn pass(&mut self, end: usize, bytes: &[u8], now: u64) -> Egress
         ensures onward { result ≡ way_behind self.new bytes.now end now }
         ensures leaves { self.new ≡ switch_passing self.old bytes.now end now }
@@ -215,7 +216,7 @@ impl Switch {
         onward
     }
 
-    /// The packet in a frame that goes to the core, which is counted.
+    /// The packet of a frame that goes to the core, which is counted.
     fn take<'a>(&mut self, bytes: &'a [u8]) -> Result<&'a [u8], FrameDrop>
         ensures heard { IfOk result (λ r. IsForCore self.old.port bytes.now r.now) }
         ensures lent { IfOk result (λ r.

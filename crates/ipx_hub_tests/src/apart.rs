@@ -1,4 +1,4 @@
-//! Ends that are not joined.
+//! Remotes that are not joined.
 
 use crate::caller::give;
 use crate::fixture::{CAME, FIRST, PORT, SECOND, frame};
@@ -6,7 +6,7 @@ use ipx_hub::{Egress, Switch};
 use ipx_wire::Node;
 use std::test::Fail;
 
-/// Nothing goes from end to end; the port sends a station's frames to its end alone.
+/// Nothing is forwarded between remotes. The port sends a frame for a station only to its remote.
 #[test]
 fn ends_apart(rt: HostRuntime) -> Result<(), Fail> {
     let mut switch = Switch::new(rt.alloc(), PORT, false)?;

@@ -1,4 +1,4 @@
-//! Which frames go on from one end to which others, and what is counted.
+//! Which frames are forwarded from one remote to which others, and what is counted.
 
 use crate::caller::give;
 use crate::fixture::{CAME, FIRST, PORT, SECOND, THIRD, arp, frame};
@@ -7,7 +7,7 @@ use ipx_hub::{Egress, Switch};
 use ipx_wire::{Network, Node};
 use std::test::Fail;
 
-/// What is no IPX goes on as well, and the core gets none of it.
+/// What is not IPX is forwarded too, and the core gets none of it.
 #[test]
 fn other_protocols_go_on(rt: HostRuntime) -> Result<(), Fail> {
     let mut switch = Switch::new(rt.alloc(), PORT, true)?;
@@ -15,7 +15,7 @@ fn other_protocols_go_on(rt: HostRuntime) -> Result<(), Fail> {
         give(&mut switch, 2, &arp(THIRD), 0),
         ([true, true, false], None)
     );
-    // Its sender is known from it.
+    // Its sender is learned from it.
     assert_eq!(rt; switch.egress_for(THIRD, 1), Egress::ToOne(2));
     let wanted = FrameCounters {
         other_type: 1,
@@ -26,7 +26,8 @@ fn other_protocols_go_on(rt: HostRuntime) -> Result<(), Fail> {
     Ok(())
 }
 
-/// A frame to all goes to the others and to the core: for another network to the others alone.
+/// A broadcast frame goes to the others and to the core. If its packet is for another network, it
+/// goes only to the others.
 #[test]
 fn to_all_stations(rt: HostRuntime) -> Result<(), Fail> {
     let all = frame(Node::BROADCAST, FIRST);
@@ -48,7 +49,7 @@ fn to_all_stations(rt: HostRuntime) -> Result<(), Fail> {
     Ok(())
 }
 
-/// A frame of the port's own, given back by an end, goes nowhere and changes its count alone.
+/// A frame of the port's own that a remote sends back is not forwarded, and changes only its count.
 #[test]
 fn own_frames_come_back(rt: HostRuntime) -> Result<(), Fail> {
     let mut switch = Switch::new(rt.alloc(), PORT, true)?;
@@ -66,7 +67,7 @@ fn own_frames_come_back(rt: HostRuntime) -> Result<(), Fail> {
     Ok(())
 }
 
-/// Frames between two stations behind one end stay there.
+/// Frames between two stations at one remote stay there.
 #[test]
 fn both_behind_one_end(rt: HostRuntime) -> Result<(), Fail> {
     let mut switch = Switch::new(rt.alloc(), PORT, true)?;
@@ -78,7 +79,7 @@ fn both_behind_one_end(rt: HostRuntime) -> Result<(), Fail> {
     Ok(())
 }
 
-/// IPX in another encapsulation goes on as it came, and is counted by what it was.
+/// IPX in another encapsulation is forwarded as it came, and is counted by its encapsulation.
 #[test]
 fn another_encapsulation(rt: HostRuntime) -> Result<(), Fail> {
     let port = EthernetPort {
@@ -98,7 +99,7 @@ fn another_encapsulation(rt: HostRuntime) -> Result<(), Fail> {
     Ok(())
 }
 
-/// A frame with a tag of 802.1Q, and zeros behind it.
+/// A frame with a tag of 802.1Q, and zeros after it.
 fn long_frame() -> [u8; 1523] {
     let mut bytes = [0; 1523];
     bytes[..44].copy_from_slice(&frame(SECOND, FIRST));
@@ -106,7 +107,8 @@ fn long_frame() -> [u8; 1523] {
     bytes
 }
 
-/// A full frame with a tag goes on, and its sender is known; the core gets none of so many bytes.
+/// A full frame with a tag is forwarded, and its sender is learned. The core gets no frame of that
+/// size.
 #[test]
 fn a_tagged_frame_goes_on(rt: HostRuntime) -> Result<(), Fail> {
     let bytes = long_frame();
@@ -124,7 +126,7 @@ fn a_tagged_frame_goes_on(rt: HostRuntime) -> Result<(), Fail> {
     Ok(())
 }
 
-/// The fewest and the most bytes that go on, and the most that the core is asked about.
+/// The fewest and the most bytes that are forwarded, and the most that the core accepts.
 #[test]
 fn sizes_that_go_on(rt: HostRuntime) -> Result<(), Fail> {
     let bytes = long_frame();
@@ -141,7 +143,7 @@ fn sizes_that_go_on(rt: HostRuntime) -> Result<(), Fail> {
     assert_eq!(rt; give(&mut switch, 2, &bytes, 0), ([false; 3], None));
     assert_eq!(rt; switch.egress_for(FIRST, 0), Egress::ToOne(0));
     assert_eq!(rt; switch.passed(), 3);
-    // Of a frame for the port itself the core hears as many as 1,514 bytes.
+    // In a frame for the port itself the core accepts at most 1,514 bytes.
     let mut own = [0; 1515];
     own[..44].copy_from_slice(&CAME);
     assert_eq!(rt;
@@ -153,7 +155,8 @@ fn sizes_that_go_on(rt: HostRuntime) -> Result<(), Fail> {
     Ok(())
 }
 
-/// What is no frame goes nowhere, and from no station: too short, too long, from a group.
+/// What is not a frame is not forwarded, and no station is learned from it: too short, too long, or
+/// from a group.
 #[test]
 fn what_is_no_frame(rt: HostRuntime) -> Result<(), Fail> {
     let mut switch = Switch::new(rt.alloc(), PORT, true)?;
@@ -161,7 +164,7 @@ fn what_is_no_frame(rt: HostRuntime) -> Result<(), Fail> {
     let long = long_frame();
     assert_eq!(rt; give(&mut switch, 0, &long, 0), ([false; 3], None));
     assert!(rt; switch.stations().is_empty());
-    // From a group, it goes on; nobody is known by it.
+    // A frame from a group is forwarded, and no station is learned from it.
     let group = frame(Node::BROADCAST, Node([3, 0, 0, 0, 0, 0x42]));
     assert_eq!(rt;
         give(&mut switch, 0, &group, 0),

@@ -1,10 +1,10 @@
-//! How one gives a frame on that came from one of three ends.
+//! How a caller forwards a frame that came from one of three remotes.
 
 use crate::fixture::{CAME, FIRST, PORT, SECOND, frame};
 use ipx_hub::Switch;
 use std::test::Fail;
 
-/// Which of three ends take a frame that the end `giver` gave, and how many bytes of it go to the
+/// Which of three remotes get a frame from the remote `giver`, and how many bytes of it go to the
 /// core of the port.
 pub fn give(
     switch: &mut Switch,
@@ -20,19 +20,19 @@ pub fn give(
 #[test]
 fn frames_of_three_ends(rt: HostRuntime) -> Result<(), Fail> {
     let mut switch = Switch::new(rt.alloc(), PORT, true)?;
-    // To a station that nobody heard yet: to both others.
+    // To a station that is not known yet: to both others.
     let first = frame(SECOND, FIRST);
     assert_eq!(rt;
         give(&mut switch, 0, &first, 1000),
         ([false, true, true], None)
     );
-    // Its answer goes to the end of the first station alone.
+    // Its answer goes only to the remote of the first station.
     let answer = frame(FIRST, SECOND);
     assert_eq!(rt;
         give(&mut switch, 1, &answer, 1010),
         ([true, false, false], None)
     );
-    // A frame for the port goes to its core alone.
+    // A frame for the port goes only to its core.
     assert_eq!(rt; give(&mut switch, 0, &CAME, 1020), ([false; 3], Some(30)));
     assert_eq!(rt; switch.passed(), 2);
     assert_eq!(rt; switch.counts().not_ours, 2);

@@ -6,7 +6,7 @@ use ipx_hub::{Egress, Switch};
 use ipx_wire::Node;
 use std::test::Fail;
 
-/// Five minutes behind its last frame a station is anywhere again.
+/// Five minutes after its last frame a station is not known any more.
 #[test]
 fn for_five_minutes(rt: HostRuntime) -> Result<(), Fail> {
     let mut switch = Switch::new(rt.alloc(), PORT, true)?;
@@ -14,7 +14,7 @@ fn for_five_minutes(rt: HostRuntime) -> Result<(), Fail> {
     give(&mut switch, 0, &frame(SECOND, FIRST), 1000);
     assert_eq!(rt; switch.egress_for(FIRST, 300_999), Egress::ToOne(0));
     assert_eq!(rt; switch.egress_for(FIRST, 301_000), Egress::ToAll);
-    // Where the clock went back, nobody knows how long ago it was heard.
+    // If the clock went back, a station is not known, because its age is not.
     assert_eq!(rt; switch.egress_for(FIRST, 999), Egress::ToAll);
     give(&mut switch, 0, &frame(SECOND, FIRST), 50);
     assert_eq!(rt; switch.egress_for(FIRST, 50), Egress::ToOne(0));
@@ -23,7 +23,7 @@ fn for_five_minutes(rt: HostRuntime) -> Result<(), Fail> {
     Ok(())
 }
 
-/// A frame for a station that is old goes to each of the others again.
+/// A frame for a station that is no longer known goes to each of the others again.
 #[test]
 fn frames_for_an_old_station(rt: HostRuntime) -> Result<(), Fail> {
     let mut switch = Switch::new(rt.alloc(), PORT, true)?;
@@ -37,7 +37,8 @@ fn frames_for_an_old_station(rt: HostRuntime) -> Result<(), Fail> {
         give(&mut switch, 1, &answer, 301_000),
         ([true, false, true], None)
     );
-    // It was known at the giver's own end: a frame stays there, until that is old.
+    // It was known at the remote that the frame came from: the frame stays there, until the station
+    // is no longer known.
     give(&mut switch, 1, &frame(SECOND, FIRST), 302_000);
     assert_eq!(rt; give(&mut switch, 1, &answer, 601_999), ([false; 3], None));
     assert_eq!(rt;
@@ -47,7 +48,7 @@ fn frames_for_an_old_station(rt: HostRuntime) -> Result<(), Fail> {
     Ok(())
 }
 
-/// A station that moved is known at its new end.
+/// A station that moved is known at its new remote.
 #[test]
 fn at_its_last_end(rt: HostRuntime) -> Result<(), Fail> {
     let mut switch = Switch::new(rt.alloc(), PORT, true)?;
@@ -58,13 +59,13 @@ fn at_its_last_end(rt: HostRuntime) -> Result<(), Fail> {
     Ok(())
 }
 
-/// The address of a station of a number.
+/// The address of the station with this number.
 fn station(number: u16) -> Node {
     let [high, low] = number.to_be_bytes();
     Node([2, 0, 0, 1, high, low])
 }
 
-/// Of 1,025 stations the one that was heard longest ago is known no more.
+/// Of 1,025 stations the one that was heard longest ago is not known any more.
 #[test]
 fn a_full_table(rt: HostRuntime) -> Result<(), Fail> {
     let mut switch = Switch::new(rt.alloc(), PORT, true)?;
@@ -76,7 +77,7 @@ fn a_full_table(rt: HostRuntime) -> Result<(), Fail> {
             u64::from(number),
         );
     }
-    // The first one is heard again, so that the second is the one of longest ago.
+    // The first one is heard again, so that the second was heard longest ago.
     give(&mut switch, 1, &frame(SECOND, station(0)), 1024);
     assert_eq!(rt; switch.stations().len(), 1024);
     give(&mut switch, 1, &frame(SECOND, station(1024)), 1025);
@@ -88,7 +89,7 @@ fn a_full_table(rt: HostRuntime) -> Result<(), Fail> {
     Ok(())
 }
 
-/// In a full table of one millisecond, those go that were heard first in it.
+/// If all stations of a full table were heard in one millisecond, those heard first are removed.
 #[test]
 fn two_in_one_millisecond(rt: HostRuntime) -> Result<(), Fail> {
     let mut switch = Switch::new(rt.alloc(), PORT, true)?;

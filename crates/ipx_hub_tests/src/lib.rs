@@ -1,5 +1,5 @@
-//! Tests of a port on a wire of several ends, with literal values. They call what that crate makes
-//! public, and no crate stands on this one.
+//! Tests of a switch, with literal values. They call what `ipx_hub` makes public, and no crate
+//! depends on this one.
 #![tactic(auto)]
 
 #[cfg(test)]

@@ -1,11 +1,11 @@
-//! Memory that is refused where a hub is made.
+//! A switch is made while memory is refused.
 
 use crate::caller::give;
 use crate::fixture::{FIRST, PORT, SECOND, frame};
 use ipx_hub::{Egress, Switch};
 use std::test::Fail;
 
-/// Where memory is refused there is no hub, and one is made at the next try.
+/// If memory is refused there is no switch, and the next try makes one.
 #[test]
 fn refused_switch(rt: HostRuntime) -> Result<(), Fail> {
     let mut switch = match Switch::new(rt.alloc(), PORT, true) {

@@ -1,4 +1,4 @@
-//! Frames of the port's own, and the ends that they are for.
+//! The port's own frames, and the remotes that they are sent to.
 
 use crate::caller::give;
 use crate::fixture::{CAME, FIRST, PORT, SECOND, frame};
@@ -13,8 +13,8 @@ const PACKET: [u8; 30] = [
     0, 0, 1, 0x40, 2,
 ];
 
-/// A frame goes to the end of a station that is known, to each end where it is not, and a broadcast
-/// always does.
+/// A frame goes to the remote of a known station, and to each remote if the station is not known. A
+/// broadcast always goes to each.
 #[test]
 fn ends_of_the_ports_frames(rt: HostRuntime) -> Result<(), Fail> {
     let mut switch = Switch::new(rt.alloc(), PORT, true)?;
@@ -24,7 +24,7 @@ fn ends_of_the_ports_frames(rt: HostRuntime) -> Result<(), Fail> {
         switch.frame_into(FIRST, &PACKET, 1010, &mut out),
         Ok((Egress::ToOne(1), 60))
     );
-    // To the station, from the port, Ethernet II, the packet, zeroes up to 60, and no more.
+    // To the station, from the port, Ethernet II, the packet, zeros up to 60, and no more.
     assert_eq!(rt;
         &out[..14],
         [2, 0, 0, 0, 0, 0x42, 2, 0, 0, 0, 0, 1, 0x81, 0x37].as_slice()
@@ -36,7 +36,7 @@ fn ends_of_the_ports_frames(rt: HostRuntime) -> Result<(), Fail> {
         switch.frame_into(SECOND, &PACKET, 1010, &mut out),
         Ok((Egress::ToAll, 60))
     );
-    // Nobody can take the broadcast address for a station's.
+    // The broadcast address is never learned as a station's.
     give(&mut switch, 2, &frame(FIRST, Node::BROADCAST), 1020);
     assert_eq!(rt;
         switch.frame_into(Node::BROADCAST, &PACKET, 1030, &mut out),
@@ -47,7 +47,7 @@ fn ends_of_the_ports_frames(rt: HostRuntime) -> Result<(), Fail> {
     Ok(())
 }
 
-/// What no frame can carry is counted, and nothing else changes.
+/// A packet that does not fit a frame is counted, and nothing else changes.
 #[test]
 fn packets_that_no_frame_carries(rt: HostRuntime) -> Result<(), Fail> {
     let mut switch = Switch::new(rt.alloc(), PORT, true)?;

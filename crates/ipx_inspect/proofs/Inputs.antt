@@ -23,7 +23,7 @@ packet_of_text-take input =
 pub HopWrites-take : (input line : List ℕ) (status : ℕ) → HopWrites (take 4097 input) line status → HopWrites input line status
 HopWrites-take input line status writes = rw (← packet_of_text-take input) writes
 
--- the same of the vectors of an input
+-- the same for the vectors of an input
 pub CheckWrites-take : (input lines : List ℕ) (status : ℕ) → CheckWrites (take 1000001 input) lines status → CheckWrites input lines status
 CheckWrites-take input lines status writes =
     elim (cases_lt 1000000 (length input)) [
@@ -34,7 +34,7 @@ CheckWrites-take input lines status writes =
       | inr short ↦ subst (λ (t : List ℕ). CheckWrites t lines status) (take_all 1000001 input (omega arith)) writes
     ]
 
--- what a command writes for the front of an input is what it writes for the input
+-- the output for the front of an input is the output for the input
 module _ (Writes : List ℕ → List ℕ → ℕ → Type 0) (most : ℕ) (from_front : (input lines : List ℕ) (status : ℕ) → Writes (take most input) lines status → Writes input lines status) where
   of_input : (known : Option (List ℕ)) (text lines : List ℕ) (status : ℕ) → IfSome known (λ input. text ≡ take most input) → Writes text lines status
       → (input : List ℕ) × IsInput known input × Writes input lines status
@@ -59,7 +59,7 @@ module _ (Writes : List ℕ → List ℕ → ℕ → Type 0) (most : ℕ) (from_
         inr (some.0, (i.0, i.1, some.1.0, i.2), some.2)
   ]
 
--- from the lines that a command makes and the answer of their writing to what was written
+-- from the lines of a command and the result of writing them to what was written
 pub lines_written : {L E F : Type 0} (lines : Result L E) (result : Result ℕ F) (text : L → List ℕ) (status : L → ℕ) (Writes : List ℕ → ℕ → Type 0) (a b : Option (List ℕ))
     → IfOk lines (λ l. Writes (text l) (status l)) → IfOk result (λ s. IsOkAnd lines (λ l. (s ≡ status l) × Appends a b (text l)))
     → IfOk result (λ s. (l : List ℕ) × Writes l s × Appends a b l)

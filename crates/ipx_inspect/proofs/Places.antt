@@ -1,4 +1,4 @@
--- The place of an element, and the part in front of it; and texts of a list, one behind the other.
+-- The position of an element, and the part before it; and the texts of a list, one after another.
 use Rattle.std.proofs.Common.{◌≡◌, ◌<◌, ◌≤◌, ℕ, ◌+◌, Bool, List, ◌++◌, [], length, take, get_or, Some, None, sym, ap, ◌∙◌, refl, inl, inr, lt-ltb}
 use Rattle.std.specs.Prelude.{position}
 use Rattle.std.specs.List.{before_first, flat_map, position_or_len}
@@ -25,7 +25,7 @@ take_to_first p xs i e = ap (λ (k : ℕ). take k xs) (position_found p xs i e)
 pub all_before_first : {X : Type 0} (p : X → Bool) (xs : List X) → None ≡ position p xs → xs ≡ before_first p xs
 all_before_first p xs e = sym (take_all (position_or_len p xs) xs (position_missing p xs e))
 
--- one more text behind those of the elements before
+-- one more text after those of the elements before
 pub texts_more : {X : Type 0} (f : X → List ℕ) (xs : List X) (i : ℕ) (d : X) (old part : List ℕ) → i < length xs → old ≡ flat_map f (take i xs) → part ≡ f (get_or xs i d)
     → old ++ part ≡ flat_map f (take (i + 1) xs)
 texts_more f xs i d old part lt was is =

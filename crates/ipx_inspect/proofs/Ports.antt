@@ -1,4 +1,4 @@
--- The ports of the router that `hop` asks make a router, which knows nothing yet.
+-- The ports of the router of `hop` make a router that knows no routes yet.
 use Rattle.std.proofs.Common.{◌≡◌, [], Some, None}
 use Rattle.ipx_router.specs.declared.fault.NewFault.{NewFault}
 use Rattle.ipx_router.specs.RouterView.{RouterView}

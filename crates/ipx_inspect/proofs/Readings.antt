@@ -1,4 +1,4 @@
--- Bytes are read as one thing alone.
+-- Bytes are read as one thing only.
 use Rattle.std.proofs.Common.{◌≡◌, ℕ, List, Some, None, refl, sym, ap, ◌∙◌, subst}
 use Rattle.ipx_wire.specs.declared.spx.packet.SpxHeader.{SpxHeader}
 use Rattle.ipx_wire.specs.Ipx.{PacketView, IsIpx, ipx_fault}
@@ -18,7 +18,7 @@ pub record Layouts : Type 0 where
   pub no_rip_fault : (m : RipView) (bytes tail : List ℕ) → IsRip m bytes tail → rip_fault bytes ≡ None
   pub no_sap_fault : (m : SapView) (bytes tail : List ℕ) → IsSap m bytes tail → sap_fault bytes ≡ None
 
--- a body holds one thing
+-- a body has one contents
 contents_are_one : Layouts → (p : Protocol) (body : List ℕ) (x y : ContentsView) → IsContents p body x → IsContents p body y → x ≡ y
 contents_are_one l Spx body x y f g =
     let one = l.one_spx f.0 g.0 f.1 g.1 body f.2 g.2 in
@@ -28,7 +28,7 @@ contents_are_one l Rip body x y f g = f.3 ∙ ap OfRip (l.one_rip f.0 g.0 body f
 contents_are_one l Sap body x y f g = f.3 ∙ ap OfSap (l.one_sap f.0 g.0 body f.1 g.1 f.2 g.2).0 ∙ sym g.3
 contents_are_one l Other body x y f g = f ∙ sym g
 
--- a body that holds something has no fault
+-- a body that has contents has no fault
 contents_without_fault : Layouts → (p : Protocol) (body : List ℕ) (x : ContentsView) → IsContents p body x → body_fault p body ≡ None
 contents_without_fault l Spx body x f = refl
 contents_without_fault l Rip body x f = l.no_rip_fault f.0 body f.1 f.2
@@ -57,7 +57,7 @@ reads_body l bytes tail d is (Holds e c) reads =
     let same = (l.one_ipx e d bytes reads.0 tail reads.1 is).0 in
     (same, subst (λ (p : PacketView). IsContents (protocol_of p.header) p.body c) same reads.2)
 
--- a body of SPX that is refused holds nothing
+-- an SPX body that is refused has no contents
 spx_refused : Layouts → (d : PacketView) (c : ContentsView) → protocol_of d.header ≡ Spx → IsContents (protocol_of d.header) d.body c → spx_fault d.body ≡ None
 spx_refused l d c is_spx holds =
     let spx = subst (λ (p : Protocol). IsContents p d.body c) is_spx holds in

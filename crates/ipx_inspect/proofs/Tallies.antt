@@ -1,4 +1,4 @@
--- Verdicts one by one, and the lines up to the first one of no known form.
+-- Verdicts one by one, and the lines before the first one of no known form.
 use Rattle.std.proofs.Common.{◌≡◌, ◌<◌, ◌≤◌, ℕ, ◌+◌, Bool, true, false, List, ◌++◌, ◌∷◌, [], length, take, drop, map, get_or, arith, sym, ap, ◌∙◌, refl, cond, subst, Result, Ok, Err, take-append-drop}
 use Rattle.std.specs.Prelude.{string_bytes, if◌then◌else◌, ◌==◌, IfOk}
 use Rattle.std.specs.List.{AllZip, enumerate_from, flat_map, list_all, take_while}
@@ -48,7 +48,8 @@ known_line Skipped v is = refl
 known_line (Vector number bytes) v is = refl
 known_line Malformed v is = absurd is
 
--- where all lines of a list have verdicts, they are what stands before the first line of no known form, and where such a line follows it ends them
+-- if all lines of a list have verdicts, they are what precedes the first line of no known form; if such a
+-- line follows, it ends them
 pub known_all : (ls : List LineView) (vs : List VectorOutcomeView) → AllZip IsVectorOutcome ls vs → (take_while is_known ls ≡ ls) × (list_all is_known ls ≡ true)
 known_all [] [] are = (refl, refl)
 known_all [] (v ∷ vs) are = absurd are

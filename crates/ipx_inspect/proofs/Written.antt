@@ -1,4 +1,4 @@
--- What was written, a part after another.
+-- What was written, one part after another.
 use Rattle.std.proofs.Common.{◌≡◌, ℕ, ◌+◌, ◌-◌, List, [], ◌++◌, length, take, drop, length-drop, Option, Some, None, Result, Ok, Err, refl, sym, ap, ◌∙◌, subst, arith, append_assoc, append-nil, take-append-drop, inl, inr}
 use lib.Seq.{take-add}
 use Rattle.std.proofs.lemmas.List.{take_all}
@@ -24,7 +24,7 @@ appends_kept (Some x) (Some y) (Some z) bs p q = q ∙ p
 
 -- ---- bytes, written part by part
 
--- what stands from a place on, as a slice has it
+-- what follows from a position on, as a slice has it
 pub whole_rest : (done : ℕ) (bytes : List ℕ) → take (length bytes - done) (drop done bytes) ≡ drop done bytes
 whole_rest done bytes = take_all (length bytes - done) (drop done bytes) (omega (arith, length-drop done bytes))
 

@@ -11,15 +11,14 @@ use Rattle.ipx_inspect.specs.Decoded.{DecodedView, NoPacket, NoSpx, NoControl, H
 use Rattle.ipx_inspect.specs.Text.{max_input}
 use Rattle.ipx_inspect.specs.CheckLine.{LineView, Skipped, Vector, Malformed, input_lines, line_form}
 
--- the number of the fault that refuses a datagram, 0 where none does
+-- the number of the fault that refuses a datagram, 0 if none does
 abbrev pub outcome : DecodedView → ℕ
 outcome (NoPacket f) = ipx_fault_number f
 outcome (NoSpx f) = spx_fault_number f
 outcome (NoControl f) = control_fault_number f
 outcome (Holds d c) = 0
 
--- what a line tells: it is no vector, or a vector whose datagram has the outcome that it wants,
--- or another one
+-- the verdict on a line: it is no vector, or a vector whose datagram has the expected outcome, or another one
 pub data VectorOutcomeView : Type 0 where
   NoVector : VectorOutcomeView
   Passed : VectorOutcomeView
@@ -60,8 +59,8 @@ failed_line place Failed = codes "line " ++ (decimal place ++ 10 ∷ [])
 abbrev pub failed_lines : List VectorOutcomeView → List ℕ
 failed_lines vs = flat_map (λ p. failed_line p.0 p.1) (enumerate_from 1 vs)
 
--- the last line: how many vectors there were and how many failed, or, where a line of no known form
--- follows, its number
+-- the last line: how many vectors there were and how many failed; or, if a line of no known form follows, its
+-- number
 abbrev pub last_line : Bool → List VectorOutcomeView → List ℕ
 last_line true vs =
     codes "checked " ++ (decimal (count_by is_vector vs)
@@ -72,15 +71,14 @@ abbrev pub check_status : Bool → List VectorOutcomeView → ℕ
 check_status true vs = if count_by is_failed vs == 0 then 0 else 1
 check_status false vs = 2
 
--- what is written for lines: what those tell that stand before the first one of no known form, and
--- a last line
+-- the output for lines: that for the lines before the first one of no known form, and a last line
 abbrev pub ChecksLines : List LineView → List ℕ → ℕ → Type 0
 ChecksLines lines text status =
     (vs : List VectorOutcomeView) × AllZip IsVectorOutcome (take_while is_known lines) vs
     × (text ≡ failed_lines vs ++ last_line (list_all is_known lines) vs)
     × (status ≡ check_status (list_all is_known lines) vs)
 
--- what is written for an input: a bad line 0 where it is over 1,000,000 bytes
+-- the output for an input; if that is over 1,000,000 bytes, bad line 0
 abbrev pub CheckWrites : List ℕ → List ℕ → ℕ → Type 0
 CheckWrites input text status =
     MatchBool (nat_lt max_input (length input))

@@ -1,4 +1,4 @@
--- Words of private functions: what `check` has found so far, and the verdicts of the lines so far.
+-- Definitions for private functions: what `check` has found so far, and the verdicts on the lines so far.
 use Rattle.std.specs.Prelude.{◌≡◌, List, length, count_by, string_bytes}
 use Rattle.ipx_inspect.specs.declared.check.CheckCounts as code
 use Rattle.ipx_inspect.specs.Check.{VectorOutcomeView, failed_lines, is_failed, is_vector}

@@ -22,7 +22,7 @@ line_view lines.Skipped = Skipped
 line_view (lines.Vector number bytes) = Vector number bytes.items
 line_view lines.Malformed = Malformed
 
--- a byte is a digit from one to another
+-- a byte is between these two
 abbrev pub is_from_to : ℕ → ℕ → ℕ → Bool
 is_from_to low high byte = nat_le low byte && nat_le byte high
 
@@ -36,19 +36,19 @@ fault_number digits =
     then Some (10 * (slice_index digits 0 - 48) + (slice_index digits 1 - 48))
     else None
 
--- a vector, where there is a number and the text is hex
+-- a vector, if there is a number and the text is hex
 abbrev pub vector_of : Option ℕ → Option (List ℕ) → LineView
 vector_of None bytes = Malformed
 vector_of (Some number) None = Malformed
 vector_of (Some number) (Some bytes) = Vector number bytes
 
--- what stands behind `bad `: a number, the first blank and a text in hex
+-- what follows `bad `: a number, the first blank and a text in hex
 abbrev pub bad_vector : List ℕ → Option ℕ → LineView
 bad_vector rest None = Malformed
 bad_vector rest (Some blank) =
     vector_of (fault_number (take blank rest)) (result_ok (decode_of (drop (blank + 1) rest)))
 
--- a line of blanks alone, or that begins with `#`, is skipped; else it is `ok HEX` or `bad N HEX`
+-- a line of only blanks, or one that begins with `#`, is skipped; otherwise it is `ok HEX` or `bad N HEX`
 abbrev pub line_form : List ℕ → LineView
 line_form line =
     if list_all (λ b. b == 32) line then Skipped

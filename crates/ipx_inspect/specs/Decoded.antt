@@ -1,4 +1,4 @@
--- What is read out of a datagram: a packet with what its body holds, or the fault that refuses it.
+-- What a datagram is read as: a packet with the contents of its body, or the fault that refuses it.
 use Rattle.std.specs.Prelude.{◌≡◌, ℕ, List, Option, Some, None, ◌==◌, if◌then◌else◌}
 use Rattle.ipx_wire.specs.Assigned.{rip_socket, sap_socket, spx_type}
 use Rattle.ipx_wire.specs.declared.ipx.packet.IpxHeader.{IpxHeader}
@@ -29,11 +29,11 @@ protocol_at socket =
     else if socket == sap_socket then Sap
     else Other
 
--- SPX has a packet type of its own, whatever the socket
+-- SPX has its own packet type, for any socket
 abbrev pub protocol_of : IpxHeader → Protocol
 protocol_of h = if h.kind == spx_type then Spx else protocol_at h.to.socket.0
 
--- what a body holds, without where it lies in memory
+-- the contents of a body, apart from where it is in memory
 pub data ContentsView : Type 0 where
   Plain : ContentsView
   OfSpx : SpxHeader → List ℕ → ContentsView
@@ -46,7 +46,7 @@ contents_view (bodies.OfSpx header payload) = OfSpx header payload.now
 contents_view (bodies.OfRip rip) = OfRip (rip_view rip)
 contents_view (bodies.OfSap sap) = OfSap (sap_view sap)
 
--- a body's bytes hold this; only those of SPX, RIP and SAP are read
+-- a body has these contents; only SPX, RIP and SAP are read
 abbrev pub IsContents : Protocol → List ℕ → ContentsView → Type 0
 IsContents Spx body c =
     (h : SpxHeader) × (payload : List ℕ) × IsSpx h payload body × (c ≡ OfSpx h payload)
@@ -61,7 +61,7 @@ body_fault Rip body = rip_fault body
 body_fault Sap body = sap_fault body
 body_fault Other body = None
 
--- a packet with what its body holds, or the fault that refuses the packet or its body
+-- a packet with the contents of its body, or the fault that refuses the packet or its body
 pub data DecodedView : Type 0 where
   NoPacket : IpxFault → DecodedView
   NoSpx : SpxFault → DecodedView

@@ -1,4 +1,4 @@
--- What `hop` writes for what it reads.
+-- The output of `hop` for its input.
 use Rattle.std.specs.Prelude.{◌≡◌, ℕ, List, [], ◌∷◌, None, MatchOption}
 use Rattle.ipx_router.specs.declared.port.Port.{Port}
 use Rattle.ipx_router.specs.RouterView.{RouterView}
@@ -30,7 +30,7 @@ hop_routing = record {
   told = None;
 }
 
--- what that router answers to bytes that come in on port 1
+-- that router's answer to bytes that it receives on port 1
 abbrev pub HopOutcome : List ℕ → OutcomeView → Type 0
 HopOutcome bytes a = (after : RouterView) × Receives hop_routing 1 bytes 0 a after
 
@@ -39,7 +39,7 @@ abbrev pub HopAnswers : List ℕ → List ℕ → ℕ → Type 0
 HopAnswers bytes lines status =
     (a : OutcomeView) × HopOutcome bytes a × (lines ≡ lines_of a) × (status ≡ status_of a)
 
--- the line and the status for a text: for the bytes that it stands for, or those of a bad line
+-- the lines and the status for a text: for the bytes that it spells, or those of a bad line
 abbrev pub HopWrites : List ℕ → List ℕ → ℕ → Type 0
 HopWrites text line status =
     MatchOption (packet_of_text text)

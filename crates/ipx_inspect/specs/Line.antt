@@ -20,7 +20,7 @@ use Rattle.ipx_router.specs.RouterPackets.{SendingView}
 use Rattle.ipx_router.specs.Reason.{reason_number}
 use Rattle.ipx_router.specs.OutcomeView.{OutcomeView, Forward, Replies, Heard, Dropped}
 
--- a number in brackets, and what it stands for
+-- a number in brackets, and its name
 abbrev pub numbered : ℕ → List ℕ → List ℕ
 numbered number name = codes "(" ++ (decimal number ++ (codes ") " ++ name))
 
@@ -92,6 +92,6 @@ status_of (Replies sent) = 0
 status_of (Heard count) = 0
 status_of (Dropped reason) = 1
 
--- the line for a first line that is none
+-- the line if the first line of the input is not in hex
 abbrev pub bad_line : List ℕ
 bad_line = codes "line 1 bad" ++ 10 ∷ []

@@ -1,4 +1,4 @@
--- What `show` writes for a text in hex.
+-- The output of `show` for a text in hex.
 use Rattle.std.specs.Prelude.{◌≡◌, ℕ, List, MatchOption}
 use Rattle.std.specs.Result.{result_ok}
 use Rattle.hex.specs.Hex.{decode_of}
@@ -11,7 +11,7 @@ abbrev pub Shows : List ℕ → List ℕ → ℕ → Type 0
 Shows bytes lines status = (r : DecodedView) × IsDecoded bytes r
     × (lines ≡ reading_lines r) × (status ≡ reading_status r)
 
--- those for a text: for the bytes that it stands for, or those of a bad line
+-- those for a text: for the bytes that it spells, or those of a bad line
 abbrev pub ShowWrites : List ℕ → List ℕ → ℕ → Type 0
 ShowWrites text lines status =
     MatchOption (result_ok (decode_of text))

@@ -35,11 +35,11 @@ control_text h =
     codes "system " ++ (bit_text h.system ++ (codes " wants " ++ (bit_text h.wants_ack
     ++ (codes " last " ++ bit_text h.last))))
 
--- a number of an SPX packet in 4 hex digits
+-- a 16-bit number of an SPX packet in 4 hex digits
 abbrev pub word_text : ℕ → List ℕ
 word_text n = encode_lower (to_be_bytes w16 n)
 
--- the connection ids, of the sender and of the receiver
+-- the connection ids, source and destination
 abbrev pub ids_text : SpxHeader → List ℕ
 ids_text h = codes "from " ++ (word_text h.from_id ++ (codes " to " ++ word_text h.to_id))
 
@@ -70,20 +70,20 @@ rip_lines (rip.Response entries) =
     codes "rip response " ++ (decimal (length entries)
     ++ (codes "\n" ++ flat_map rip_entry_line entries))
 
--- a byte of a name: printed as it is where it is a sign of ASCII, but for the blank and the
--- backslash; else a backslash, an x and its two hex digits
+-- a byte of a name: as it is if it is a printing ASCII character other than the blank and the backslash;
+-- otherwise a backslash, an x and its two hex digits
 abbrev pub name_byte : ℕ → List ℕ
 name_byte b =
     if (nat_le 0x21 b && nat_le b 0x7e) && not (b == 0x5c) then b ∷ []
     else 0x5c ∷ 0x78 ∷ encode_lower (b ∷ [])
 
--- a name is what stands before its first zero byte; an empty one prints as `-`
+-- a name is what precedes its first zero byte; an empty one prints as `-`
 abbrev pub name_text : List ℕ → List ℕ
 name_text name =
     if length (before_first (λ b. b == 0) name) == 0 then codes "-"
     else flat_map name_byte (before_first (λ b. b == 0) name)
 
--- its type in 4 hex digits, its name, where it is, and hops in decimal
+-- its type in 4 hex digits, its name, its address, and hops in decimal
 abbrev pub service_line : ServiceEntry → List ℕ
 service_line e =
     codes "service " ++ (encode_lower (to_be_bytes w16 e.kind) ++ (codes " " ++ (name_text e.name
@@ -106,7 +106,7 @@ contents_lines (OfSpx h payload) = spx_line h payload
 contents_lines (OfRip m) = rip_lines m
 contents_lines (OfSap m) = sap_lines m
 
--- the header and what the body holds, or the fault, on one line
+-- the header and the contents of the body; or the fault, on one line
 abbrev pub reading_lines : DecodedView → List ℕ
 reading_lines (NoPacket f) = codes "refused " ++ (fault_text f ++ 10 ∷ [])
 reading_lines (NoSpx f) = codes "refused " ++ (spx_fault_text f ++ 10 ∷ [])

@@ -1,4 +1,4 @@
-//! `ipx check`: vectors against their outcomes.
+//! `ipx check`: vectors, compared with their outcomes.
 
 ghost use Rattle.std.specs.Prelude.{◌≡◌, ◌≤◌, ◌<◌, ◌+◌, ◌++◌, ◌∷◌, [], true, false, IfErr, IfOk, OnErr, OnOk, MatchOption, ℕ, List, length, map, string_bytes};
 ghost use Rattle.std.specs.Io.KnownBytes.{Appends};
@@ -17,7 +17,7 @@ use ipx_wire::OutOfMemory;
 use std::alloc::{AllocError, Global};
 use std::io::{Read, Write};
 
-/// Whether the datagram of a line has the outcome that the line wants.
+/// Whether the datagram of a line has the outcome that the line expects.
 #[derive(Clone, Copy)]
 pub enum VectorOutcome {
     NoVector,
@@ -25,8 +25,8 @@ pub enum VectorOutcome {
     Failed,
 }
 
-/// What was found so far: what is written for the vectors that failed, how many lines and vectors
-/// there were, and how many vectors failed.
+/// What was found so far: the text for the vectors that failed, how many lines and vectors there
+/// were, and how many vectors failed.
 #[derive(Drop)]
 pub struct CheckCounts {
     text: String,
@@ -35,7 +35,7 @@ pub struct CheckCounts {
     failed: usize,
 }
 
-/// The number of the fault that refuses a datagram, 0 where none does.
+/// The number of the fault that refuses a datagram, 0 if none does.
 fn outcome_of(reading: &Decoded<'_>) -> u8
     ensures { result ≡ outcome (decoded_view reading.now) }
 {
@@ -57,7 +57,7 @@ fn verdict_on(alloc: Global, number: u8, bytes: &[u8]) -> Result<VectorOutcome, 
     Ok(VectorOutcome::Failed)
 }
 
-/// `None` is a line of no known form.
+/// Checks one line. `None` is a line of no known form.
 fn verdict_of(alloc: Global, line: &[u8]) -> Result<Option<VectorOutcome>, OutOfMemory>
     ensures { IfOk result (λ o. MatchOption o
         (line_form line.now ≡ no_line)
@@ -79,7 +79,7 @@ fn failed_to_line(alloc: Global, place: usize) -> Result<String, AllocError>
     format!(in alloc; "line {place}\n")
 }
 
-/// Counts one more line; where its vector failed, the line is written.
+/// Counts one more line. If its vector failed, a line is added to the text.
 fn note(alloc: Global, totals: &mut CheckCounts, verdict: VectorOutcome) -> Result<(), AllocError>
     requires lines { totals.old.lines ≤ 1000001 }
     requires vectors { totals.old.vectors ≤ totals.old.lines }
@@ -109,7 +109,7 @@ fn note(alloc: Global, totals: &mut CheckCounts, verdict: VectorOutcome) -> Resu
     }
 }
 
-/// The lines and the status where a line of no known form comes next.
+/// The lines and the status if a line of no known form comes next.
 fn lines_at_bad_line(alloc: Global, totals: &CheckCounts) -> Result<(String, u8), OutOfMemory>
     requires { totals.now.lines ≤ 1000001 }
     ensures { IfOk result (λ r. (vs : List VectorOutcomeView) → IsTotals vs totals.now
@@ -121,7 +121,7 @@ fn lines_at_bad_line(alloc: Global, totals: &CheckCounts) -> Result<(String, u8)
     Ok((format!(in alloc; "{text}line {place} bad\n")?, 2))
 }
 
-/// The lines and the status where all lines were read.
+/// The lines and the status if all lines were read.
 fn lines_at_end(alloc: Global, totals: &CheckCounts) -> Result<(String, u8), OutOfMemory>
     ensures { IfOk result (λ r. (vs : List VectorOutcomeView) → IsTotals vs totals.now
         → (string_bytes r.0 ≡ failed_lines vs ++ last_line true vs)
@@ -166,13 +166,12 @@ fn lines_for_input(alloc: Global, input: &[u8]) -> Result<(String, u8), OutOfMem
     check_lines(alloc, input)
 }
 
-/// The command `check`: reads lines of vectors, at most 1,000,000 bytes, and writes which of them
-/// have another outcome than they want, and how many vectors there were and how many failed.
+/// The command `check`: reads lines of vectors, at most 1,000,000 bytes. It writes which vectors
+/// have another outcome than expected, how many vectors there were, and how many failed.
 ///
-/// `Ok` is the status that goes with the lines that were written: 0 where all vectors passed, 1
-/// where one failed, 2 for a line of no known form and for an input that is too long. `Err` is the
-/// status 1 of a read or write fault, after which nothing more is written, or of want of memory,
-/// which writes `fault (14) OutOfMemory`.
+/// `Ok` is the status of the lines written: 0 if all vectors passed, 1 if one failed, and 2 for a
+/// line of no known form or an input that is too long. `Err` is always 1. After a read or write
+/// fault nothing more is written. If out of memory, it writes `fault (14) OutOfMemory`.
 pub fn do_check<R: Read, W: Write>(alloc: Global, reader: &mut R, writer: &mut W) -> Result<u8, u8>
     ensures written { IfOk result (λ status.
         (input : List ℕ) × IsInput (R.remaining reader.old) input

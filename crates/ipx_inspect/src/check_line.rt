@@ -11,8 +11,8 @@ use hex::FromHexError;
 use ipx_wire::OutOfMemory;
 use std::alloc::Global;
 
-/// A line: one that is skipped, a vector, or one of no known form. A vector is the number of the
-/// fault that its datagram must have, 0 for none, and the datagram.
+/// A line: skipped, a vector, or of no known form. A vector is the number of the fault that its
+/// datagram must have, 0 for none, and the datagram.
 #[derive(Drop)]
 pub enum VectorLine {
     Skipped,
@@ -38,14 +38,14 @@ fn fault_number_of(digits: &[u8]) -> Option<u8>
     None
 }
 
-/// Whether a line holds nothing but blanks.
+/// Whether a line holds only blanks.
 fn is_blank(line: &[u8]) -> bool
     ensures { result ≡ list_all (λ b. b == 32) line.now }
 {
     line.iter().all(|byte| *byte == b' ')
 }
 
-/// A vector, where there is a number and the text is hex.
+/// A vector, if there is a number and the text is hex.
 fn vector_in(alloc: Global, number: Option<u8>, text: &[u8]) -> Result<VectorLine, OutOfMemory>
     ensures { IfOk result (λ l. line_view l ≡ vector_of number (result_ok (decode_of text.now))) }
 {
@@ -59,7 +59,7 @@ fn vector_in(alloc: Global, number: Option<u8>, text: &[u8]) -> Result<VectorLin
     }
 }
 
-/// What stands behind `bad `: a number, the first blank and a text in hex.
+/// What follows `bad `: a number, the first blank and a text in hex.
 fn bad_vector_in(alloc: Global, rest: &[u8]) -> Result<VectorLine, OutOfMemory>
     ensures { IfOk result (λ l.
         line_view l ≡ bad_vector rest.now (position (λ b. b == 32) rest.now)) }

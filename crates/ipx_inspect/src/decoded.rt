@@ -1,4 +1,4 @@
-//! What a datagram is: a packet with what its body holds, or why it is refused.
+//! What a datagram is: a packet with the contents of its body, or why it is refused.
 
 ghost use Rattle.std.specs.Prelude.{◌≡◌, ◌⊎◌, IfOk, IfErr, Some, None};
 ghost use Rattle.ipx_wire.specs.Spx.{spx_fault};
@@ -10,7 +10,7 @@ use ipx_wire::{
 };
 use std::alloc::Global;
 
-/// What a body holds. The payload of an SPX packet is lent.
+/// The contents of a body. The payload of an SPX packet is lent.
 #[derive(Drop)]
 pub enum Contents<'a> {
     Plain,
@@ -19,7 +19,7 @@ pub enum Contents<'a> {
     OfSap(Sap),
 }
 
-/// A packet with what its body holds, or the fault that refuses the packet or its body.
+/// A packet with the contents of its body, or the fault that refuses the packet or its body.
 #[derive(Drop)]
 pub enum Decoded<'a> {
     NoPacket(IpxFault),
@@ -28,7 +28,7 @@ pub enum Decoded<'a> {
     Holds(Packet<'a>, Contents<'a>),
 }
 
-/// What the body of a packet of type 5 holds.
+/// The contents of the body of a packet of type 5.
 fn spx_contents(body: &[u8]) -> Result<Contents<'_>, SpxFault>
     ensures found { IfOk result (λ c. IsContents Spx body.now (contents_view c)) }
     ensures fault { IfErr result (λ f. spx_fault body.now ≡ Some f) }
@@ -37,8 +37,8 @@ fn spx_contents(body: &[u8]) -> Result<Contents<'_>, SpxFault>
     Ok(Contents::OfSpx(header, payload))
 }
 
-/// What the body of a packet of another type holds: the destination socket says whether it is RIP
-/// or SAP.
+/// The contents of the body of a packet of another type. The destination socket says whether it is
+/// RIP or SAP.
 fn contents_at<'a>(
     alloc: Global,
     socket: Socket,
@@ -60,8 +60,9 @@ fn contents_at<'a>(
     Ok(Contents::Plain)
 }
 
-/// Reads a datagram and what its body holds. Packet type 5 is SPX, whatever the socket; else the
-/// destination socket says what the body is. It wants memory for the entries of RIP and SAP alone.
+/// Reads a datagram and the contents of its body. Packet type 5 is SPX, for any socket; otherwise
+/// the destination socket says what the body is. It allocates memory only for the entries of RIP
+/// and SAP.
 pub fn read_datagram(alloc: Global, bytes: &[u8]) -> Result<Decoded<'_>, OutOfMemory>
     ensures { IfOk result (λ r. IsDecoded bytes.now (decoded_view r)) }
 {

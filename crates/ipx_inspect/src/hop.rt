@@ -29,7 +29,7 @@ fn cut_line_end(text: &[u8]) -> &[u8]
     }
 }
 
-/// The bytes that a text stands for, if it stands for any.
+/// The bytes that a text spells, if it spells any.
 fn bytes_of_text(alloc: Global, text: &[u8]) -> Result<Option<Vec<u8>>, OutOfMemory>
     ensures { IfOk result (λ o. option_map (λ v. v.items) o ≡ packet_of_text text.now) }
 {
@@ -63,7 +63,7 @@ fn hop_router(alloc: Global) -> Result<Router, OutOfMemory>
     }
 }
 
-/// What becomes of bytes that come in on port 1.
+/// The router's answer to bytes that it receives on port 1.
 fn outcome_for_bytes(alloc: Global, bytes: &[u8]) -> Result<Outcome, OutOfMemory>
     ensures { IfOk result (λ o. HopOutcome bytes.now (router_outcome o)) }
 {
@@ -92,12 +92,12 @@ fn line_for_text(alloc: Global, text: &[u8]) -> Result<(String, u8), OutOfMemory
 }
 
 /// The command `hop`: reads one packet in hex, at most 4,096 bytes of text with at most one line
-/// end, and writes what becomes of it on port 1 of a router with two ports.
+/// end. It writes the answer of a router with two ports that receives the packet on port 1.
 ///
-/// `Ok` is the status that goes with the lines that were written: 0 for a packet that is forwarded,
-/// answered or heard, 1 for one that is dropped, 2 for text that is no packet in hex. `Err` is the
-/// status 1 of a read or write fault, after which nothing more is written, or of want of memory,
-/// which writes `fault (14) OutOfMemory`.
+/// `Ok` is the status of the lines written: 0 for a packet that is forwarded, answered or taken in,
+/// 1 for one that is dropped, and 2 for text that is not a packet in hex. `Err` is always 1. After
+/// a read or write fault nothing more is written. If out of memory, it writes `fault (14)
+/// OutOfMemory`.
 pub fn do_hop<R: Read, W: Write>(alloc: Global, reader: &mut R, writer: &mut W) -> Result<u8, u8>
     ensures written { IfOk result (λ status.
         (input : List ℕ) × IsInput (R.remaining reader.old) input

@@ -18,7 +18,7 @@ pub const MAX_INPUT: usize = 1_000_000;
 /// How often a reader is asked at most.
 const TURNS: u32 = 1_000_000;
 
-/// The bytes that a reader has left, `most` of them at most.
+/// The bytes that a reader has left, at most `most`.
 pub fn read_up_to<R: Read>(
     alloc: Global,
     reader: &mut R,

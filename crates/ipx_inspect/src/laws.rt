@@ -15,7 +15,7 @@ use ipx_wire::{
     spx_fault_is_of_no_spx_packet,
 };
 
-/// Bytes are read as one thing alone: a packet and what its body holds, or one fault.
+/// Bytes are read as one thing only: a packet with the contents of its body, or one fault.
 pub fn reading_is_one()
     ensures { (bytes : List ℕ) (a b : DecodedView) → IsDecoded bytes a → IsDecoded bytes b → a ≡ b }
 {
@@ -29,7 +29,7 @@ pub fn reading_is_one()
     sap_fault_is_of_no_sap();
 }
 
-/// What `hop` writes for a text, and the status, are one.
+/// For one text `hop` has one output and one status.
 pub fn hop_is_one()
     ensures { (text a b : List ℕ) (s t : ℕ) → HopWrites text a s → HopWrites text b t
         → (a ≡ b) × (s ≡ t) }
@@ -37,7 +37,7 @@ pub fn hop_is_one()
     answer_is_one();
 }
 
-/// What `show` writes for a text, and the status, are one.
+/// For one text `show` has one output and one status.
 pub fn show_is_one()
     ensures { (text a b : List ℕ) (s t : ℕ) → ShowWrites text a s → ShowWrites text b t
         → (a ≡ b) × (s ≡ t) }
@@ -45,7 +45,7 @@ pub fn show_is_one()
     reading_is_one();
 }
 
-/// What `check` writes for an input, and the status, are one.
+/// For one input `check` has one output and one status.
 pub fn check_is_one()
     ensures { (input a b : List ℕ) (s t : ℕ) → CheckWrites input a s → CheckWrites input b t
         → (a ≡ b) × (s ≡ t) }

@@ -1,5 +1,5 @@
-//! The commands of the program `ipx`, each a function over what it reads and a writer: [`do_hop`],
-//! [`do_show`] and [`do_check`]. `sim` and `udp` stand in `ipx_sim` and `ipx_sim_udp`.
+//! Commands of the program `ipx`, each a function over its input and a writer: [`do_hop`],
+//! [`do_show`] and [`do_check`]. `sim` and `udp` are in `ipx_sim` and `ipx_sim_udp`.
 #![tactic(auto)]
 
 mod check;

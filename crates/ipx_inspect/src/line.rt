@@ -11,7 +11,7 @@ use ipx_router::{Outcome, Reason, Reply};
 use ipx_wire::{IpxFault, Network, SpxFault};
 use std::alloc::{AllocError, Global};
 
-/// A number in brackets, and what it stands for.
+/// A number in brackets, and its name.
 pub fn numbered_text(alloc: Global, number: u8, name: &str) -> Result<String, AllocError>
     ensures { IfOk result (λ t. string_bytes t ≡ numbered number name.now) }
 {
@@ -53,7 +53,7 @@ fn control_fault_to_name(alloc: Global, fault: ControlFault) -> Result<String, A
     }
 }
 
-/// A fault of an IPX header: its number, its name and its values.
+/// An IPX header fault: its number, its name and its values.
 pub fn fault_to_text(alloc: Global, fault: IpxFault) -> Result<String, AllocError>
     ensures { IfOk result (λ t. string_bytes t ≡ fault_text fault) }
 {
@@ -61,7 +61,7 @@ pub fn fault_to_text(alloc: Global, fault: IpxFault) -> Result<String, AllocErro
     numbered_text(alloc, fault.number(), &name)
 }
 
-/// The same of an SPX header.
+/// The same for a fault of an SPX header.
 pub fn spx_fault_to_text(alloc: Global, fault: SpxFault) -> Result<String, AllocError>
     ensures { IfOk result (λ t. string_bytes t ≡ spx_fault_text fault) }
 {
@@ -69,7 +69,7 @@ pub fn spx_fault_to_text(alloc: Global, fault: SpxFault) -> Result<String, Alloc
     numbered_text(alloc, fault.number(), &name)
 }
 
-/// The same of a RIP or SAP packet.
+/// The same for a fault of a RIP or SAP packet.
 pub fn control_fault_to_text(alloc: Global, fault: ControlFault) -> Result<String, AllocError>
     ensures { IfOk result (λ t. string_bytes t ≡ control_fault_text fault) }
 {
@@ -149,7 +149,7 @@ pub fn outcome_lines(alloc: Global, outcome: &Outcome) -> Result<String, AllocEr
     }
 }
 
-/// 1 for a packet that was dropped, else 0.
+/// 1 for a packet that was dropped, otherwise 0.
 pub fn outcome_status(outcome: &Outcome) -> u8
     ensures { result ≡ status_of (router_outcome outcome.now) }
 {

@@ -11,7 +11,8 @@ use std::io::{ErrorKind, Write};
 #[derive(Clone, Copy, Debug)]
 struct WriteFault;
 
-/// Writes bytes, as often as it takes. Where the writer fails, the first of them stand.
+/// Writes bytes, in as many calls as needed. If the writer fails, only the first of them were
+/// written.
 fn write_bytes<W: Write>(writer: &mut W, bytes: &[u8]) -> Result<(), WriteFault>
     ensures written { OnOk result
         (Appends (W.contents writer.old) (W.contents writer.new) bytes.now) }
@@ -36,8 +37,8 @@ fn write_bytes<W: Write>(writer: &mut W, bytes: &[u8]) -> Result<(), WriteFault>
     Err(WriteFault)
 }
 
-/// Writes `fault (14) OutOfMemory`, if that can be written, and answers status 1. A program calls
-/// it where memory runs out before it knows which command to run.
+/// Writes `fault (14) OutOfMemory`, if that can be written, and returns status 1. A program calls
+/// it if memory runs out before it knows which command to run.
 pub fn tell_no_memory<W: Write>(writer: &mut W) -> u8
     ensures status { result ≡ 1 }
     ensures left { AppendsFront (W.contents writer.old) (W.contents writer.new) no_memory_line }
@@ -46,7 +47,7 @@ pub fn tell_no_memory<W: Write>(writer: &mut W) -> u8
     1
 }
 
-/// Writes the lines of a command and answers their status, or tells that memory ran out.
+/// Writes the lines of a command and returns their status. If memory ran out, it writes that.
 pub fn write_lines<W: Write>(
     writer: &mut W,
     lines: Result<(String, u8), OutOfMemory>,
@@ -54,7 +55,8 @@ pub fn write_lines<W: Write>(
     ensures written { IfOk result (λ status. IsOkAnd lines (λ l. (status ≡ l.1)
         × Appends (W.contents writer.old) (W.contents writer.new) (string_bytes l.0))) }
     ensures fault { IfErr result (λ status. status ≡ 1) }
-    // What is written by then: the first bytes of that line, or of the lines of the command.
+    // What was written before an error: the first bytes of that line, or of the lines of the
+    // command.
     ensures left { OnErr result
         (AppendsFront (W.contents writer.old) (W.contents writer.new) no_memory_line
         ⊎ IsOkAnd lines (λ l.

@@ -32,12 +32,12 @@ fn lines_for_text(alloc: Global, text: &str) -> Result<(String, u8), OutOfMemory
     }
 }
 
-/// The command `show`: writes the fields of the packet that a text in hex stands for, and of the
-/// SPX, RIP or SAP packet in its body, or the fault that refuses them.
+/// The command `show`: writes the fields of the packet that a text in hex spells, and of the SPX,
+/// RIP or SAP packet in its body. If they are refused, it writes the fault.
 ///
-/// `Ok` is the status that goes with the lines that were written: 0 for a packet, 1 for one that is
-/// refused, 2 for text that is no hex. `Err` is the status 1 of a write fault, after which nothing
-/// more is written, or of want of memory, which writes `fault (14) OutOfMemory`.
+/// `Ok` is the status of the lines written: 0 for a packet, 1 for one that is refused, and 2 for
+/// text that is not hex. `Err` is always 1. After a write fault nothing more is written. If out of
+/// memory, it writes `fault (14) OutOfMemory`.
 pub fn do_show<W: Write>(alloc: Global, text: &str, writer: &mut W) -> Result<u8, u8>
     ensures written { IfOk result (λ status.
         (lines : List ℕ) × ShowWrites text.now lines status

@@ -144,7 +144,7 @@ fn name_bytes_to_text(alloc: Global, bytes: &[u8]) -> Result<String, AllocError>
     Ok(text)
 }
 
-/// What stands before the first zero byte.
+/// The bytes before the first zero byte.
 fn before_zero(name: &[u8]) -> &[u8]
     ensures { result.now ≡ before_first (λ b. b == 0) name.now }
 {
@@ -154,7 +154,7 @@ fn before_zero(name: &[u8]) -> &[u8]
     }
 }
 
-/// The name of a service, with nothing in it that is not a sign of ASCII.
+/// The name of a service, printed in ASCII only.
 fn name_to_text(alloc: Global, name: &[u8]) -> Result<String, AllocError>
     ensures { IfOk result (λ t. string_bytes t ≡ name_text name.now) }
 {
@@ -221,7 +221,7 @@ fn contents_to_lines(alloc: Global, contents: &Contents<'_>) -> Result<String, A
     }
 }
 
-/// The header, and what the body holds; or the fault, on one line.
+/// The header, and the contents of the body; or the fault, on one line.
 pub fn reading_to_lines(alloc: Global, reading: &Decoded<'_>) -> Result<String, AllocError>
     ensures { IfOk result (λ t. string_bytes t ≡ reading_lines (decoded_view reading.now)) }
 {

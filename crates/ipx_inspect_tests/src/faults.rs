@@ -1,4 +1,4 @@
-//! A read or write fault is status 1, and after it nothing more is written.
+//! A read or write fault is status 1, and nothing more is written after it.
 
 use crate::texts::{CHECKED, FIELDS, FORWARD, FRAMES, HEARD, PACKET, STATION, VECTOR};
 use faulty_io::Failing;
@@ -6,7 +6,8 @@ use ipx_inspect::{do_check, do_hop, do_show};
 use ipx_shown_frames::do_show_frames;
 use std::alloc::Global;
 
-/// Whether a reader that fails after so many calls makes `hop` answer so, having written this.
+/// Whether `hop` gives this answer and has written this text, if its reader fails after `left`
+/// calls.
 fn hop_reads(alloc: Global, left: usize, answer: Result<u8, u8>, text: &str) -> bool {
     let mut written = Vec::new(alloc);
     let is = do_hop(alloc, &mut Failing::new(PACKET, left), &mut written) == answer;

@@ -1,5 +1,5 @@
-//! Tests of the commands that the built program cannot show: a reader or a writer that fails, and
-//! want of memory. The rows that it can show are data: tests/rows.
+//! Tests of the commands for what the built program cannot show: a reader or a writer that fails,
+//! and out of memory. What it can show is tested by rows of data: tests/rows.
 #![tactic(auto)]
 
 #[cfg(test)]

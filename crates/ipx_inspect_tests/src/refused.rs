@@ -1,11 +1,11 @@
-//! Want of memory: each command answers as usual, or says that memory ran out, whichever request is
-//! refused. The writer has its room before.
+//! Out of memory: each command answers as usual, or says that memory ran out, whichever request is
+//! refused. The writer has its memory before.
 
 use crate::texts::{CHECKED, FIELDS, FORWARD, FRAMES, HEARD, NO_MEMORY, PACKET, STATION, VECTOR};
 use ipx_inspect::{do_check, do_hop, do_show};
 use ipx_shown_frames::do_show_frames;
 
-/// Whether the status goes with what was written: the usual lines, or that memory ran out.
+/// Whether the status fits what was written: the usual lines, or that memory ran out.
 fn is_told(answer: Result<u8, u8>, written: &[u8], lines: &str) -> bool {
     match answer {
         Ok(status) => status == 0 && written == lines.as_bytes(),
@@ -13,8 +13,7 @@ fn is_told(answer: Result<u8, u8>, written: &[u8], lines: &str) -> bool {
     }
 }
 
-/// The same of frames, of which one is refused: that memory ran out can stand behind their first
-/// lines.
+/// The same for frames, of which one is refused: that memory ran out may follow their first lines.
 fn is_told_behind(answer: Result<u8, u8>, written: &[u8]) -> bool {
     match answer {
         Ok(status) => status == 1 && written == HEARD.as_bytes(),

@@ -1,4 +1,4 @@
-//! What the tests read and what is then written.
+//! What the tests read, and what is then written.
 
 use ipx_wire::Node;
 
@@ -10,7 +10,7 @@ pub const FORWARD: &str =
 pub const FIELDS: &str =
     "ipx hops 0 kind 0 body 0\nto 00000022 00007f000005 4000\nfrom 00000011 00007f000003 4001\n";
 
-/// A frame that the station hears, and a byte.
+/// A frame that the station receives, and a byte.
 pub const FRAMES: &str = "0200000000010200000000428137ffff001e0004000000220200000000014002\
                           000000110200000000424002\nff\n";
 

@@ -82,7 +82,7 @@ hands_both ds es s t u f g i h k =
       failures = k.failures ∙ ap (raised_by (lost_of ks)) h.failures ∙ raised_on (lost_of ks) (lost_of hs) f ∙ ap (λ (n : ℕ). raised_by n f) (sym lost);
     }
 
--- the same where something came before
+-- the same if something came before
 pub hands_behind : (ds came : List PlaceDatagram) (s t u : Option PlaceTraffic) (f g : ℕ) → PlacesPass s t came [] → HandsOver ds [] t u f g → HandsOver ds came s u f g
 hands_behind ds came s t u f g first h =
     let went : List PlaceDatagram = datagrams_of (taken_of h.handed) in

@@ -1,4 +1,4 @@
--- What of ports for clients stays where a lobby hears, or gives.
+-- What stays of ports with ipxnet servers as a server receives or sends.
 use Rattle.std.proofs.Common.{◌≡◌, ℕ, Bool, true, false, List, [], ◌∷◌, ◌++◌, Option, Some, None, Result, Ok, Err, cond, filter, length, map, ap, refl, sym, ◌∙◌, subst}
 use Rattle.std.specs.Prelude.{◌&&◌, is_some, if◌then◌else◌, nat_lt, slice_get, slice_set}
 use Rattle.std.specs.Str.{bytes_eq}
@@ -27,7 +27,7 @@ use Rattle.ipx_ipxnet_ports.specs.OnServers.{AreForClients, AreForRouters, Hears
 use Rattle.ipx_ipxnet_ports.specs.PlaceTraffic.{HandsOver, PlaceDatagram, PlaceTraffic, PlacesPass, place_datagram}
 use Rattle.ipx_ipxnet_ports.proofs.Handing.{hands_behind}
 
--- ---- a lobby has its port, and as many clients at most
+-- ---- a server keeps its port, and how many clients it may have
 
 abbrev port_in : ServerView → ServerPort × ℕ
 port_in l = (l.port, l.most)
@@ -63,7 +63,7 @@ pub sending_leaves_ports : (now port : ℕ) (node : Node) (packet : List ℕ) (s
 sending_leaves_ports now port node packet sent old new r =
     ap (map port_in) r.servers ∙ ports_stay old.servers port r.server r.after r.at_port (ap port_in r.becomes ∙ giving_stays r.given (server_aged now r.server))
 
--- ---- what is said of a packet is by what it goes
+-- ---- what `send` returns for a packet follows from its copies
 
 said_by : (b : Bool) (p : Given) → nat_lt max_client_bytes (length p.bytes) ≡ b → count_in (packet_said (length p.bytes)) ≡ copies_count by_servers p
 said_by true p e = rw e refl
@@ -104,7 +104,7 @@ answered_apart : (joined : Bool) (heard : Disposition) → (joined ≡ true → 
 answered_apart true heard unanswered e = cc (ap is_some (unanswered refl))
 answered_apart false heard unanswered e = refl
 
--- who is answered was heard and is no joined router, and so is a client
+-- a sender that is answered was heard and is no joined router, so it is a client
 pub sends_known : (joined : Bool) (l : ServerView) (heard : Disposition) (d : PlaceDatagram) (answer : Option (List ℕ)) (c : Client) → is_some answer ≡ is_some (answer_of heard) → (is_dropped heard ≡ false → joined ≡ false → client_at d.place l.clients ≡ Some c) → (joined ≡ true → answer_of heard ≡ None)
     → AreForClients l (server_sends l heard d answer)
 sends_known joined l heard d answer c answered sender unanswered =
@@ -113,7 +113,7 @@ sends_known joined l heard d answer c answered sender unanswered =
     (answer_known d.port d.place l answer (λ e. ap (λ (o : Option Client). is_some o) (sender (answered_kept heard (one e)) (answered_apart joined heard unanswered (one e)))))
     (relays_known d.port d.bytes l (takers_of heard))
 
--- ---- what is sent on is for joined routers, and not what came from one
+-- ---- what is sent on is for joined routers, and did not come from one
 
 pub relays_joined : (port : ℕ) (bytes : List ℕ) (l : ServerView) (takers : Recipients) → AreForRouters l (relayed_on port bytes (routers_reached l takers))
 relays_joined port bytes l takers =
@@ -162,7 +162,7 @@ none_reached l [] = refl
 none_reached l (c ∷ cs) =
     client_past c (filter (λ c. takers_reach l Nobody c.place) cs) (takers_reach l Nobody c.place) (second_false (is_some (client_at c.place l.clients)) false refl) ∙ none_reached l cs
 
--- ---- what the core tells or asks all nodes by RIP and SAP goes to nobody
+-- ---- what the core advertises or asks to all nodes by RIP and SAP is sent to nobody
 
 given_to_nobody : (long broad : Bool) (drop : ServerDrop) (to_service : Bool) (rest : Result Recipients ServerDrop) → broad ≡ true → to_service ≡ true → takers_given (if long then Err drop else if broad then Ok (all_get to_service) else rest) ≡ Nobody
 given_to_nobody true broad drop to_service rest e f = refl
@@ -193,7 +193,7 @@ nothing_goes_round l heard d announcement noticed unanswered ring =
     let second : relayed_on d.port d.bytes (routers_reached l (takers_of heard)) ≡ [] = ap (relayed_on d.port d.bytes) (none_joined l (takers_of heard) l.routers ring) in
     ap (λ (ds : List PlaceDatagram). ds ++ relayed_on d.port d.bytes (routers_reached l (takers_of heard))) first ∙ second
 
--- ---- what is heard behind what the sockets answered
+-- ---- what is received after what the sockets returned
 
 pub hears_behind : (now most : ℕ) (d : PlaceDatagram) (room : List ℕ) (up : Option ℕ) (servers : List ServerView) (kept : ℕ) (s t : Option PlaceTraffic) (f f' : ℕ) (new : ServersView) → f' ≡ f → PlacesPass s t (d ∷ []) []
     → HearsAtServer now most d [] room up (servers_view servers kept t f') new → HearsAtServer now most d (d ∷ []) room up (servers_view servers kept s f) new

@@ -1,5 +1,5 @@
--- What ports for clients of ipxnet do with what comes from a place, and with the packets of their core.
--- All of it is own; what a lobby makes of bytes stands with it.
+-- What ports with ipxnet servers do with what comes from an address, and with packets of their core. Defined
+-- by this project; what a server makes of bytes is defined with the server.
 use Rattle.std.specs.Prelude.{◌≡◌, ◌≤◌, ◌⊎◌, ℕ, List, [], ◌∷◌, ◌++◌, All, Bool, true, false, Option, Some, None, IfSome, Result, Ok, Err, filter, is_some, length, map, nat_lt, slice_get, slice_set, take, if◌then◌else◌}
 use Rattle.ipx_wire.specs.Assigned.{broadcast_node}
 use Rattle.ipx_wire.specs.declared.address.Node.{Node}
@@ -23,16 +23,16 @@ use Rattle.ipx_carrier.specs.Counting.{raised}
 use Rattle.ipx_carrier.specs.Turns.{Given, Ways}
 use Rattle.ipx_ipxnet_ports.specs.PlaceTraffic.{HandsOver, PlaceDatagram, PlaceTraffic, PlacesPass, place_datagram}
 
--- each packet of the core is handed to the lobby of its port once, and one that is too long for clients
--- is not. Who the clients are, and so where it goes, changes with what comes
+-- each packet of the core is handed to the server of its port once, unless it is too long for clients. Where
+-- it is sent then depends on which clients are known
 abbrev pub by_servers : Ways Given
 by_servers p = if nat_lt max_client_bytes (length p.bytes) then None else Some (p ∷ [])
 
--- what of lobbies no call changes: the port of each, and how many clients it may have
+-- what no call changes of servers: the port of each, and how many clients it may have
 abbrev pub server_ports : List ServerView → List (ServerPort × ℕ)
 server_ports servers = map (λ l. (l.port, l.most)) servers
 
--- the clients that takers reach, in the order in which the lobby has them
+-- the clients that takers reach, in the order in which the server has them
 abbrev pub clients_reached : ServerView → Recipients → List Client
 clients_reached l takers = filter (λ c. takers_reach l takers c.place) l.clients
 
@@ -40,20 +40,21 @@ clients_reached l takers = filter (λ c. takers_reach l takers c.place) l.client
 abbrev pub relayed_to : ℕ → List ℕ → List Client → List PlaceDatagram
 relayed_to port bytes clients = map (λ c. place_datagram port bytes c.place) clients
 
--- the places of joined routers that takers have, in order, and the same bytes for each of these
+-- the addresses of joined routers that takers have, in order, and the same bytes for each of these
 abbrev pub routers_reached : ServerView → Recipients → List Place
 routers_reached l takers = filter (λ r. takers_join l takers r) l.routers
 
 abbrev pub relayed_on : ℕ → List ℕ → List Place → List PlaceDatagram
 relayed_on port bytes routers = map (λ r. place_datagram port bytes r) routers
 
--- an answer to a place, if there is one
+-- an answer to an address, if there is one
 abbrev pub answer_for : ℕ → Place → Option (List ℕ) → List PlaceDatagram
 answer_for port place None = []
 answer_for port place (Some answer) = place_datagram port answer place ∷ []
 
--- what a lobby sends of bytes that it heard, with this answer: first that, if there is one, to the place
--- that they came from, and then the bytes, as they came, to each of the clients that get them
+-- what a server sends for bytes that it received, with this answer. The answer goes first, if there is one,
+-- to the address that they came from. Then the bytes, as they arrived, go to each of the clients that get
+-- them
 abbrev pub server_sends : ServerView → Disposition → PlaceDatagram → Option (List ℕ) → List PlaceDatagram
 server_sends l heard d answer = answer_for d.port d.place answer
     ++ relayed_to d.port d.bytes (clients_reached l (takers_of heard))
@@ -63,28 +64,28 @@ abbrev pub notice_for : ℕ → ServerView → Option (List ℕ) → List PlaceD
 notice_for port l None = []
 notice_for port l (Some announcement) = relayed_on port announcement (routers_reached l Joined)
 
--- what goes on to joined routers: that notice, and the bytes, as they came, to each that gets them
+-- what is sent to joined routers: that announcement, and the bytes, as they arrived, to each that gets them
 abbrev pub joined_sends : ServerView → Disposition → PlaceDatagram → Option (List ℕ) → List PlaceDatagram
 joined_sends l heard d announcement = notice_for d.port l announcement
     ++ relayed_on d.port d.bytes (routers_reached l (takers_of heard))
 
--- each of these is for the place of a joined router
+-- each of these is for the address of a joined router
 abbrev pub AreForRouters : ServerView → List PlaceDatagram → Type 0
 AreForRouters l datagrams = All (λ d. is_joined_place d.place l.routers ≡ true) datagrams
 
--- each of these is for a place where a client is known
+-- each of these is for an address where a client is known
 abbrev pub AreForClients : ServerView → List PlaceDatagram → Type 0
 AreForClients l datagrams = All (λ d. is_some (client_at d.place l.clients) ≡ true) datagrams
 
--- what a lobby makes of bytes from a place: of those of no packet, and of those that begin with one
+-- what a server makes of bytes from an address, if they are no packet, and if they begin with one
 pub record HearsBytes (l : ServerView) (from : Place) (bytes : List ℕ) (now : ℕ) (heard : Disposition) : Type 0 where
   pub malformed : (f : IpxFault) → ipx_fault bytes ≡ Some f → heard ≡ Dropped (Malformed f)
   pub packet : (p : PacketView) → BeginsWith bytes p
       → heard ≡ server_hears (server_aged now l) from p (length bytes) now
 
--- bytes that a lobby heard go on, behind what came: all that it sends is handed to the sockets, with the
--- answer that is theirs, if they have one, and then what is for joined routers. Its clients are each at one
--- place, and those that get the bytes are not at the one that they came from
+-- bytes that a server received are sent on. All that it sends is handed to the sockets: the answer, if there
+-- is one, the bytes for its clients, and then what is for joined routers. Each client has one address, and
+-- none that gets the bytes is at their source address
 pub record GivesOn (l : ServerView) (heard : Disposition) (d : PlaceDatagram) (came : List PlaceDatagram) (old new : Option PlaceTraffic) (failed failed_after : ℕ) : Type 0 where
   pub answer : Option (List ℕ)
   pub answered : is_some answer ≡ is_some (answer_of heard)
@@ -97,7 +98,7 @@ pub record GivesOn (l : ServerView) (heard : Disposition) (d : PlaceDatagram) (c
   pub once : EachClientOnce l.clients
   pub back : is_taker (takers_of heard) d.place ≡ false
 
--- the core gets bytes, as far as its room takes them, where it is to have them; else it gets nothing
+-- the core gets the bytes that are for it, as far as they fit its buffer; otherwise it gets nothing
 abbrev pub TakesBytes : Bool → List ℕ → ℕ → List ℕ → Option ℕ → Type 0
 TakesBytes gets bytes most room (Some n) = (gets ≡ true) × (take n room ≡ take most bytes)
 TakesBytes gets bytes most room None = gets ≡ false
@@ -107,8 +108,8 @@ abbrev pub kept_count : Option ℕ → ℕ → ℕ
 kept_count None kept = raised kept
 kept_count (Some n) kept = kept
 
--- ports for clients, but for what their sockets are: their lobbies, how much was kept from the core, what
--- passed through the sockets, and how often those failed
+-- ports with servers, without their sockets: the servers, how much was kept from the core, what passed
+-- through the sockets, and how often those failed
 pub record ServersView : Type 0 where
   pub servers : List ServerView
   pub kept : ℕ
@@ -119,10 +120,10 @@ abbrev pub servers_view : List ServerView → ℕ → Option PlaceTraffic → �
 servers_view servers kept traffic failed =
     record { servers = servers; kept = kept; traffic = traffic; failed = failed }
 
--- bytes are heard that came from a place to the port of a lobby, and behind them nothing but these: they
--- are answered, and go on to clients and joined routers, as the lobby says, and the core gets them where it
--- is to. Nothing goes where no client is known then and no router is joined, nothing to those behind what one
--- of them sent, and an answer has no more bytes than it answers
+-- bytes came from an address to the port of a server, and only these. They are answered and sent to clients
+-- and joined routers, as the server says, and the core gets them if they are for it. Nothing is sent to an
+-- address where no client is known then and no router is joined. What came from a joined router is sent to no
+-- joined router. An answer is no longer than what it answers
 pub record HearsAtServer (now most : ℕ) (d : PlaceDatagram) (came : List PlaceDatagram) (room : List ℕ) (up : Option ℕ) (old new : ServersView) : Type 0 where
   pub server : ServerView
   pub after : ServerView
@@ -140,7 +141,8 @@ pub record HearsAtServer (now most : ℕ) (d : PlaceDatagram) (came : List Place
   pub servers : new.servers ≡ slice_set old.servers d.port after
   pub counted : new.kept ≡ kept_count up old.kept
 
--- the same of what the sockets say, which may be that nothing came, or that they failed, which they count
+-- the same for what the sockets return: a datagram; or that nothing came, or that they failed, which they
+-- count
 abbrev pub ReceivesAtServer : ℕ → ℕ → Option PlaceDatagram → List ℕ → Option ℕ → ServersView → ServersView → Type 0
 ReceivesAtServer now most None room up old new = (up ≡ None) × (new.servers ≡ old.servers)
     × (new.kept ≡ old.kept) × PlacesPass old.traffic new.traffic [] []
@@ -153,25 +155,25 @@ abbrev pub takers_given : Result Recipients ServerDrop → Recipients
 takers_given (Ok takers) = takers
 takers_given (Err drop) = Nobody
 
--- what is said of one of so many bytes
+-- what `send` returns for a packet of `size` bytes
 abbrev pub packet_said : ℕ → PacketSent
 packet_said size = if nat_lt max_client_bytes size then Unmapped else Transmitted 1
 
--- what goes to the places of those who get it, the clients first
+-- what is sent to the addresses that get the packet, clients first
 abbrev pub packet_sends : ℕ → List ℕ → ServerView → Recipients → List PlaceDatagram
 packet_sends port packet l takers = relayed_to port packet (clients_reached l takers)
     ++ relayed_on port packet (routers_reached l takers)
 
--- whom bytes of the core for a node reach: those of no packet, and those that begin with one
+-- who gets bytes of the core for a node, if they are no packet, and if they begin with one
 pub record GivesBytes (l : ServerView) (node : Node) (bytes : List ℕ) (now : ℕ) (given : Result Recipients ServerDrop) : Type 0 where
   pub malformed : (f : IpxFault) → ipx_fault bytes ≡ Some f
       → given ≡ server_gives (server_aged now l) node false (length bytes)
   pub packet : (p : PacketView) → BeginsWith bytes p
       → given ≡ server_gives (server_aged now l) node (is_to_service p.header) (length bytes)
 
--- a packet of the core for a node goes, as it is, to each of the clients that the lobby of its port says,
--- who are each at one place, and each of the joined routers; and what the lobby refuses is counted there.
--- One that tells or asks all nodes by RIP or SAP goes nowhere
+-- a packet of the core for a node is sent, as it is, to each of the clients that the server of its port says.
+-- Each of these has one address. It is also sent to each of the joined routers. What the server refuses is
+-- counted there. A packet to all nodes at the socket of RIP or SAP is sent to nobody
 pub record SendsThroughServer (now port : ℕ) (node : Node) (packet : List ℕ) (sent : PacketSent) (old new : ServersView) : Type 0 where
   pub server : ServerView
   pub after : ServerView

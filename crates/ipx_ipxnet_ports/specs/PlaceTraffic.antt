@@ -1,41 +1,41 @@
--- What passes through the sockets of lobbies: which bytes came from which place to a port, and which
--- went to which. All of it is own.
+-- What passes through the sockets of ipxnet servers: which bytes came to a port from which address, and which
+-- were sent to which. Defined by this project.
 use Rattle.std.specs.Prelude.{◌≡◌, ℕ, zero, suc, List, [], ◌∷◌, ◌++◌, Bool, not, Option, Some, None, Result, Ok, Err, IfSome, count_by, filter, map, take}
 use Rattle.ipx_carrier.specs.Counting.{raised}
 use Rattle.ipxnet_server.specs.declared.place.Place.{Place}
 use Rattle.ipx_ipxnet_ports.specs.declared.place_sockets.DatagramCame.{DatagramCame}
 
--- bytes that came from a place to a port, or went to it from there
+-- bytes that came to a port from an address, or were sent from there to it
 pub record PlaceDatagram : Type 0 where
   pub port : ℕ
   pub place : Place
   pub bytes : List ℕ
 
--- all that passed so far, the first one first
+-- all that passed so far, in order
 pub record PlaceTraffic : Type 0 where
   pub came : List PlaceDatagram
   pub went : List PlaceDatagram
 
--- the same bytes for a place
+-- the same bytes for an address
 abbrev pub place_datagram : ℕ → List ℕ → Place → PlaceDatagram
 place_datagram port bytes place = record { port = port; place = place; bytes = bytes }
 
--- what came is in the front of the room
+-- what came is at the front of the buffer
 abbrev pub came_from_place : ℕ → List ℕ → Option DatagramCame → Option PlaceDatagram
 came_from_place port room None = None
 came_from_place port room (Some c) = Some (place_datagram port (take c.size room) c.from)
 
--- the datagrams of an answer: one or none
+-- one datagram or none, as a list
 abbrev pub place_datagrams : Option PlaceDatagram → List PlaceDatagram
 place_datagrams None = []
 place_datagrams (Some d) = d ∷ []
 
--- sockets that tell what passes tell this besides what they told before
+-- sockets that record what passes record this after what they recorded before
 abbrev pub PlacesPass : Option PlaceTraffic → Option PlaceTraffic → List PlaceDatagram → List PlaceDatagram → Type 0
 PlacesPass old new came went =
     IfSome old (λ t. new ≡ Some (record { came = t.came ++ came; went = t.went ++ went }))
 
--- a count after so many failures, which stays at the greatest
+-- a count after this many failures, which stays at the greatest
 abbrev pub raised_by : ℕ → ℕ → ℕ
 raised_by zero n = n
 raised_by (suc k) n = raised (raised_by k n)
@@ -50,8 +50,8 @@ pub record HandedDatagram : Type 0 where
   pub datagram : PlaceDatagram
   pub taken : Bool
 
--- these came first, and then others were handed to the sockets, one after another: those that they took
--- went, and for each of the others one failure was counted
+-- after the datagrams that came, others were handed to the sockets, one after another. Those that they took
+-- were sent, and one failure was counted for each of the others
 pub record HandsOver (datagrams came : List PlaceDatagram) (old new : Option PlaceTraffic) (failed failed_after : ℕ) : Type 0 where
   pub handed : List HandedDatagram
   pub all : map (λ h. h.datagram) handed ≡ datagrams

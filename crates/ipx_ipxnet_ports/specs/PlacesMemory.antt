@@ -1,4 +1,4 @@
--- What sockets of lobbies in memory tell, by what they keep.
+-- What sockets in memory record.
 use Rattle.std.specs.Prelude.{List, map}
 use Rattle.ipx_ipxnet_ports.specs.declared.memory.MemoryDatagram.{MemoryDatagram}
 use Rattle.ipx_ipxnet_ports.specs.declared.memory.MemoryPlaces.{MemoryPlaces}
@@ -14,6 +14,6 @@ abbrev pub places_traffic : MemoryPlaces → PlaceTraffic
 places_traffic m =
     record { came = memory_datagrams m.came.items; went = memory_datagrams m.went.items }
 
--- what waits at all ports, the first one first
+-- what waits at all ports, in order
 abbrev pub datagrams_waiting : MemoryPlaces → List PlaceDatagram
 datagrams_waiting m = memory_datagrams m.waiting.items

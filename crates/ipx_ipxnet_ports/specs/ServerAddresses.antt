@@ -1,4 +1,5 @@
--- From which place a datagram of UDP comes, and whether it is heard. Own: who sends over IPv6 is nowhere.
+-- The source address of a UDP datagram, and whether it is accepted. Defined by this project: a datagram over
+-- IPv6 has no such address.
 use Rattle.std.specs.Prelude.{Vec, ℕ, List, Bool, true, Option, Some, None, if◌then◌else◌, nat_eq, option_map}
 use Rattle.std.specs.Cmp.Lexicographic.{pointwise}
 use Rattle.std.specs.Global.{Global}
@@ -14,11 +15,11 @@ abbrev pub place_behind : SocketAddr → Option Place
 place_behind (V4 a) = Some (record { ip = ipv4_octets (v4_ip a); udp_port = v4_port a })
 place_behind (V6 a) = None
 
--- the IP addresses that are named; where none are, each is heard
+-- the IP addresses that are named; None means any
 abbrev pub listed_ips : Option (Vec (List ℕ) Global) → Option (List (List ℕ))
 listed_ips ips = option_map (λ v. v.items) ips
 
--- those that are heard at a socket
+-- those from which a socket accepts datagrams
 abbrev pub ips_heard : ServerSocket → Option (List (List ℕ))
 ips_heard s = listed_ips s.hears
 
@@ -26,7 +27,7 @@ abbrev pub is_ip_heard : Option (List (List ℕ)) → List ℕ → Bool
 is_ip_heard None ip = true
 is_ip_heard (Some ips) ip = list_any (λ heard. pointwise nat_eq heard ip) ips
 
--- a place, if its IP address is heard
+-- an address, if its IP address is accepted
 abbrev pub place_heard : Option (List (List ℕ)) → Option Place → Option Place
 place_heard ips None = None
 place_heard ips (Some p) = if is_ip_heard ips p.ip then Some p else None

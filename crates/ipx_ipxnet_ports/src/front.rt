@@ -1,8 +1,8 @@
-//! Bytes that are put into a room.
+//! Bytes that are put into a buffer.
 
 ghost use Rattle.std.specs.Prelude.{◌≡◌, ◌≤◌, length, take};
 
-/// Puts bytes to the front of a room, as many as it takes.
+/// Puts bytes at the front of a buffer, as many as fit.
 pub fn put_front(bytes: &[u8], room: &mut [u8]) -> usize
     ensures put { take result room.new ≡ take (length room.old) bytes.now }
     ensures within { result ≤ length room.old }

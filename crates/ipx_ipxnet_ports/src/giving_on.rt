@@ -1,4 +1,4 @@
-//! What a lobby sends to places.
+//! What an ipxnet server sends to addresses.
 
 ghost use Rattle.std.specs.Prelude.{◌≡◌, ◌<◌, [], false};
 ghost use Rattle.ipxnet_server.specs.ServerClients.{EachClientOnce};
@@ -10,8 +10,8 @@ use crate::place_sockets::PlaceSockets;
 use ipx_wire::IPX_HEADER_SIZE;
 use ipxnet_server::{Disposition, IpxnetServer, Place, Recipients};
 
-/// Sends bytes by a port to each client of its lobby that takers reach, in order. Where that fails at
-/// one, the others get them still.
+/// Sends bytes by a port to each client of its server that the takers reach, in order. If that
+/// fails for one, the others still get them.
 pub fn send_to_clients<D: PlaceSockets>(
     sockets: &mut D,
     port: usize,
@@ -35,8 +35,8 @@ pub fn send_to_clients<D: PlaceSockets>(
     }
 }
 
-/// Sends bytes by a port to each joined router that takers have, in order. Where that fails at one, the
-/// others get them still.
+/// Sends bytes by a port to each joined router that the takers have, in order. If that fails for
+/// one, the others still get them.
 pub fn send_to_routers<D: PlaceSockets>(
     sockets: &mut D,
     port: usize,
@@ -59,7 +59,7 @@ pub fn send_to_routers<D: PlaceSockets>(
     }
 }
 
-/// Tells each joined router by a port that a client registered, if one did.
+/// Tells each joined router that a client registered, if one did.
 fn send_notice<D: PlaceSockets>(
     sockets: &mut D,
     port: usize,
@@ -78,7 +78,7 @@ fn send_notice<D: PlaceSockets>(
     }
 }
 
-/// Sends an answer by a port to a place, if there is one.
+/// Sends an answer by a port to an address, if there is one.
 fn send_answer<D: PlaceSockets>(
     sockets: &mut D,
     port: usize,
@@ -97,11 +97,11 @@ fn send_answer<D: PlaceSockets>(
     }
 }
 
-/// Sends by a port what its lobby has to send of bytes that came from a place and that it heard: the
-/// answer first, since a client takes the first datagram that it gets for it, and then the bytes, as
-/// they came, to the clients that get them; and behind these what is for joined routers.
+/// Sends by a port what its server makes of bytes that came from an address. The answer is first,
+/// because a client takes its first datagram for the answer. Then the bytes, as they arrived, go to
+/// the clients that get them. After these comes what is for joined routers.
 ///
-/// The caller owes that these are not at that place.
+/// None of the takers may be at that address.
 pub fn give_on<D: PlaceSockets>(
     sockets: &mut D,
     port: usize,

@@ -1,7 +1,8 @@
-//! Ports for the clients of DOSBox's ipxnet, as the segments of a router.
+//! A port driver of a router for the clients of DOSBox's ipxnet.
 //!
-//! [`PlaceSockets`] carry datagrams between places and ports, and [`Servers`] has a lobby for each port
-//! over them: what a client sends is answered and goes on to others, and the core gets what is for it.
+//! [`PlaceSockets`] carries datagrams between addresses and ports. [`Servers`] has an ipxnet server
+//! for each port over them. What a client sends is answered and sent to others, and the core gets
+//! what is for it.
 #![tactic(auto)]
 
 mod front;

@@ -1,4 +1,4 @@
-//! Sockets in memory, for tests and for what is run without a network.
+//! Sockets in memory, for tests and for runs without a network.
 
 ghost use Rattle.std.specs.Prelude.{◌≡◌, ◌++◌, ◌∷◌, [], None, Some, OnErr, OnOk};
 ghost use Rattle.ipx_ipxnet_ports.specs.PlaceTraffic.{place_datagram};
@@ -11,7 +11,7 @@ use ipx_wire::OutOfMemory;
 use ipxnet_server::Place;
 use std::alloc::Global;
 
-/// A datagram that came from a place, or that went to one.
+/// A datagram that came from an address, or that was sent to one.
 #[derive(Debug, Drop)]
 pub struct MemoryDatagram {
     pub port: usize,
@@ -19,10 +19,11 @@ pub struct MemoryDatagram {
     pub bytes: Vec<u8>,
 }
 
-/// Sockets whose datagrams are put into them, and which keep what came and went. Each has a place.
+/// Sockets that receive the datagrams that are put into them, and record what was received and
+/// sent. Each datagram has an address.
 ///
-/// Datagrams of a port come in the order in which they were put. Sending fails to the place that was
-/// named with [`MemoryPlaces::break_place`]; else want of memory is a failure, and nothing else is.
+/// Datagrams of a port are received in the order in which they were put. Sending fails to the
+/// address that [`MemoryPlaces::break_place`] named. Otherwise calls fail only if out of memory.
 #[derive(Drop)]
 pub struct MemoryPlaces {
     alloc: Global,
@@ -34,7 +35,7 @@ pub struct MemoryPlaces {
     failures: u64,
 }
 
-/// Keeps a datagram behind others.
+/// Records a datagram after others.
 fn keep_datagram(
     alloc: Global,
     datagrams: &mut Vec<MemoryDatagram>,
@@ -58,7 +59,7 @@ fn take_first(waiting: &mut Vec<MemoryDatagram>, port: usize) -> Option<MemoryDa
 }
 
 impl MemoryPlaces {
-    /// Sockets with so many ports, to which nothing came yet.
+    /// Sockets with this many ports, to which nothing came yet.
     pub fn new(alloc: Global, ports: usize) -> MemoryPlaces
         ensures ports { result.ports ≡ ports }
         ensures traffic { places_traffic result ≡ record { came = []; went = [] } }
@@ -76,7 +77,7 @@ impl MemoryPlaces {
         }
     }
 
-    /// Puts a datagram of a place behind those that wait at a port.
+    /// Puts a datagram from an address after those that wait at a port.
     pub fn put(&mut self, port: usize, place: Place, bytes: &[u8]) -> Result<(), OutOfMemory>
         ensures put { OnOk result (datagrams_waiting self.new
             ≡ datagrams_waiting self.old ++ place_datagram port bytes.now place ∷ []) }
@@ -89,14 +90,14 @@ impl MemoryPlaces {
         keep_datagram(self.alloc, &mut self.waiting, port, place, bytes)
     }
 
-    /// Sending to a place fails from now on, and to no other that was named before.
+    /// Sending to this address fails from now on. An address that was named before works again.
     pub fn break_place(&mut self, place: Place)
         ensures { self.new ≡ record self.old { broken = Some place } }
     {
         self.broken = Some(place);
     }
 
-    /// What went out so far, the first one first.
+    /// What was sent so far, in order.
     pub fn went(&self) -> &[MemoryDatagram]
         ensures { memory_datagrams result.now ≡ (places_traffic self.now).went }
     {
@@ -111,7 +112,7 @@ impl PlaceSockets for MemoryPlaces {
 
     ghost traffic = { λ m. Some (places_traffic m) };
 
-    // Each datagram has a place.
+    // Each datagram has an address.
     ghost filtered = { λ m. 0 };
 
     fn ports(&self) -> usize {

@@ -1,4 +1,4 @@
-//! The sockets of lobbies.
+//! The sockets of ipxnet servers.
 
 ghost use Rattle.std.specs.Prelude.{◌≡◌, ◌<◌, ◌≤◌, ℕ, [], ◌∷◌, Option, IfOk, IfSome, OnErr, OnOk, length};
 ghost use Rattle.ipx_ipxnet_ports.specs.PlaceTraffic.{PlaceTraffic, PlacesPass, came_from_place, failures_with, place_datagram, place_datagrams};
@@ -6,29 +6,31 @@ ghost use Rattle.ipx_ipxnet_ports.specs.PlaceTraffic.{PlaceTraffic, PlacesPass, 
 use ipx_carrier::DeviceFault;
 use ipxnet_server::Place;
 
-/// A datagram that came to a port: from which place, and how many bytes it has.
+/// A datagram that came to a port: its source address, and how many bytes it has.
 #[derive(Clone, Copy, Debug, PartialEq, Eq)]
 pub struct DatagramCame {
     pub from: Place,
     pub size: usize,
 }
 
-/// Sockets with ports, to which datagrams come from places, and by which they go to places. Ports are
+/// Sockets with ports, which receive datagrams from addresses and send datagrams to them. Ports are
 /// numbered from 0.
 ///
-/// They count how often they failed, which no one else can raise. What came from where and went where
-/// is known of those that keep it. What comes from no place they keep back, and count.
+/// They count their own failures, and nothing else can raise that count. What was received and sent
+/// is stated only for sockets that record it. A datagram without an IPv4 source address is not
+/// handed over, but counted.
 pub trait PlaceSockets {
-    /// How many ports there are. It stays.
+    /// How many ports there are. No call changes it.
     ghost port_count: { Self → ℕ };
 
     /// How often they failed. It stays at the greatest u64.
     ghost failed: { Self → ℕ };
 
-    /// What came and went so far, if they keep that.
+    /// What was received and sent so far, if the sockets record that.
     ghost traffic: { Self → Option PlaceTraffic };
 
-    /// How much came from no place. That never falls.
+    /// How many datagrams had no IPv4 source address, or one that is not accepted. That never
+    /// falls.
     ghost filtered: { Self → ℕ };
 
     /// How many ports there are.
@@ -39,13 +41,13 @@ pub trait PlaceSockets {
     fn failures(&self) -> u64
         ensures { result ≡ failed self.now };
 
-    /// How much came from no place.
+    /// How many datagrams had no IPv4 source address, or one that is not accepted.
     fn from_nowhere(&self) -> u64
         ensures { result ≡ filtered self.now };
 
-    /// Sends a datagram by a port to a place. Where that fails nothing is sent.
+    /// Sends a datagram by a port to an address. If that fails nothing is sent.
     ///
-    /// The caller owes a port that is there.
+    /// The port must exist.
     fn send(&mut self, port: usize, place: Place, bytes: &[u8]) -> Result<(), DeviceFault>
         requires { port < port_count self.old }
         ensures sent { OnOk result (PlacesPass (traffic self.old) (traffic self.new)
@@ -55,10 +57,10 @@ pub trait PlaceSockets {
         ensures ports { port_count self.new ≡ port_count self.old }
         ensures filtered { filtered self.new ≡ filtered self.old };
 
-    /// Takes the datagram that waits first at a port, if there is one: its bytes go to the front of the
-    /// room. What the room can't take of a longer one is lost.
+    /// Takes the first datagram that waits at a port, if there is one. Its bytes go to the front of
+    /// `room`. What doesn't fit of a longer one is lost.
     ///
-    /// The caller owes a port that is there.
+    /// The port must exist.
     fn receive(&mut self, port: usize, room: &mut [u8]) -> Result<Option<DatagramCame>, DeviceFault>
         requires { port < port_count self.old }
         ensures received { IfOk result (λ came. PlacesPass (traffic self.old) (traffic self.new)

@@ -1,4 +1,4 @@
-//! Ports for clients that register.
+//! Ports with ipxnet servers.
 
 ghost use Rattle.std.specs.Prelude.{◌≡◌, ◌<◌, ◌≤◌, ◌+◌, ◌^◌, [], Option, None, IfOk, IfSome, OnErr, length, min, slice_set, true};
 ghost use Rattle.ipx_carrier.specs.PortDrivers.{copies_count, count_in};
@@ -13,15 +13,16 @@ use ipx_carrier::{DeviceFault, PacketSent, PortDriver, PortDriverFilters, satura
 use ipx_wire::Node;
 use ipxnet_server::{IpxnetServer, MAX_CLIENT_BYTES, Place, Recipients};
 
-/// The room that a datagram is received into: more than any that goes on to clients has.
+/// The size of the buffer that a datagram is received into: more than any that is sent on to
+/// clients.
 const DATAGRAM_ROOM: usize = 1536;
 
-/// Ports for clients that register, each with a lobby of its own, which may be joined to those of
-/// other routers: what a client sends is answered and goes on to others, the core gets what is for it,
-/// and its packets go to clients. There are as many ports as both the sockets and the lobbies are for.
+/// Ports that each have an ipxnet server, which may be joined to those of other routers. What a
+/// client sends is answered and sent to others, the core gets what is for it, and its packets are
+/// sent to clients. There are as many ports as both the sockets and the servers are for.
 ///
-/// What can't be sent to one client is lost there, as it may be on the way, and the sockets count it,
-/// as they do where they can't receive: nothing of it keeps others from theirs.
+/// A failure to send to one client is a lost datagram, and keeps no other client from its own. The
+/// sockets count it, and also count failures to receive.
 #[derive(Drop)]
 pub struct Servers<D: PlaceSockets + Drop> {
     sockets: D,
@@ -30,8 +31,8 @@ pub struct Servers<D: PlaceSockets + Drop> {
     kept: u64,
 }
 
-/// What is said of a packet of the core of so many bytes: one that is not too long for clients was
-/// handed to its lobby, whoever gets it there.
+/// What `send` returns for a packet of the core of `size` bytes. One that is not too long for
+/// clients was handed to its server, whoever gets it.
 fn said_of(size: usize) -> PacketSent
     ensures { result ≡ packet_said size }
 {
@@ -43,7 +44,7 @@ fn said_of(size: usize) -> PacketSent
 }
 
 impl<D: PlaceSockets + Drop> Servers<D> {
-    /// Ports of these sockets, with their lobbies in order, at the moment 0.
+    /// Ports over these sockets, with their servers in order, at time 0.
     pub fn new(sockets: D, servers: Vec<IpxnetServer>) -> Servers<D>
         ensures sockets { result.sockets ≡ sockets }
         ensures servers { result.servers.items ≡ servers.items }
@@ -57,30 +58,30 @@ impl<D: PlaceSockets + Drop> Servers<D> {
         }
     }
 
-    /// Sets the moment, in ms, at which what comes and goes from now on does so. One calls it before
-    /// each turn, or before each burst of them.
+    /// Sets the time, in ms, of what is received and sent from now on. Call it before each turn, or
+    /// before each batch.
     pub fn set_moment(&mut self, moment: u64)
         ensures { self.new ≡ record self.old { moment = moment } }
     {
         self.moment = moment;
     }
 
-    /// The sockets, to be asked between two runs.
+    /// The sockets, to inspect between two runs.
     pub fn sockets(&self) -> &D
         ensures { result.now ≡ self.now.sockets }
     {
         &self.sockets
     }
 
-    /// The lobbies of the ports, in order: who their clients are, and what they dropped.
+    /// The servers of the ports, in order: their clients, and what they dropped.
     pub fn servers(&self) -> &[IpxnetServer]
         ensures { result.now ≡ self.now.servers.items }
     {
         &self.servers
     }
 
-    /// Sends a packet of the core to the clients of a port that its node stands for, and to the joined
-    /// routers behind which that may be.
+    /// Sends a packet of the core to the clients of a port that its node reaches. It is also sent
+    /// to the joined routers where the node may be.
     fn send_packet(&mut self, port: usize, node: Node, packet: &[u8]) -> PacketSent
         requires server { port < length self.old.servers.items }
         requires there { port < D.port_count self.old.sockets }
@@ -103,8 +104,8 @@ impl<D: PlaceSockets + Drop> Servers<D> {
         said_of(packet.len())
     }
 
-    /// Answers and gives on what came from a place to a port, and takes what is for the core into the
-    /// room.
+    /// Answers what came from an address to a port, and sends it on. What is for the core goes into
+    /// `room`.
     fn hear_datagram(
         &mut self,
         port: usize,
@@ -139,7 +140,7 @@ impl<D: PlaceSockets + Drop> Servers<D> {
 }
 
 impl Servers<ServerSockets> {
-    /// Something came to the socket of a port, as `ServerSockets::mark` says.
+    /// Marks a port: something came to its socket, as for `ServerSockets::mark`.
     pub fn mark(&mut self, port: usize)
         ensures { self.new ≡ record self.old {
           sockets = record self.old.sockets {
@@ -156,29 +157,30 @@ impl<D: PlaceSockets + Drop> PortDriver for Servers<D> {
     ghost use Rattle.ipx_carrier.specs.Turns.{Given};
     ghost use Rattle.ipxnet_server.specs.declared.port.ServerPort.{ServerPort};
 
-    // A packet that is handed to the lobby of its port.
+    // A packet that is handed to the server of its port.
     ghost Copy = { Given };
 
-    // The ports of the lobbies, with how many clients each may have, the moment, and how many ports the
-    // sockets have.
+    // The ports of the servers, with how many clients each may have, the time, and how many ports
+    // the sockets have.
     ghost Kept = { List (ServerPort × ℕ) × ℕ × ℕ };
 
     ghost kept = { λ l. (server_ports l.servers.items, l.moment, D.port_count l.sockets) };
 
     ghost port_count = { λ l. min (length l.servers.items) (D.port_count l.sockets) };
 
-    // What can't be sent or received fails there alone, and the sockets count it.
+    // These never fail: the sockets count what can't be sent or received.
     ghost failed = { λ l. 0 };
 
     ghost transmissions = { λ l. by_servers };
 
-    // What goes to places is told by the sockets.
+    // The sockets record what is sent to addresses.
     ghost traffic = { λ l. None };
 
-    // What is for clients alone isn't handed up, so they can't tell what will be.
+    // They can't tell what waits for the core, because what is only for clients is not handed to
+    // it.
     ghost waiting = { λ l. None };
 
-    // Whoever registers may speak.
+    // Any address may register.
     ghost access = { λ l. [] };
 
     ghost filtered = { λ l. l.kept + D.filtered l.sockets };
@@ -194,7 +196,8 @@ impl<D: PlaceSockets + Drop> PortDriver for Servers<D> {
     fn send(&mut self, port: usize, node: Node, packet: &[u8]) -> Result<PacketSent, DeviceFault>
         requires there { port < min (length self.old.servers.items)
             (D.port_count self.old.sockets) }
-        // The packet goes to the clients of its node, or to joined routers, or the lobby refuses it.
+        // The packet is sent to the clients of its node, or to joined routers, or the server
+        // refuses it.
         ensures sent { IfOk result (λ sent. SendsThroughServer self.old.moment port node packet.now sent
             (servers_view self.old.servers.items self.old.kept
             (D.traffic self.old.sockets) (D.failed self.old.sockets))
@@ -216,7 +219,8 @@ impl<D: PlaceSockets + Drop> PortDriver for Servers<D> {
     fn receive(&mut self, port: usize, room: &mut [u8]) -> Result<Option<usize>, DeviceFault>
         requires there { port < min (length self.old.servers.items)
             (D.port_count self.old.sockets) }
-        // A datagram came from a place and was heard, or none came, or the sockets failed.
+        // A datagram came from an address and the server received it, or none came, or the sockets
+        // failed.
         ensures received { IfOk result (λ up. (came : Option PlaceDatagram)
             × IfSome came (λ d. d.port ≡ port)
             × ReceivesAtServer self.old.moment (length room.old) came room.new up
@@ -225,7 +229,7 @@ impl<D: PlaceSockets + Drop> PortDriver for Servers<D> {
             (servers_view self.new.servers.items self.new.kept
             (D.traffic self.new.sockets) (D.failed self.new.sockets))) }
         ensures within { IfOk result (λ up. IfSome up (λ n. n ≤ length room.old)) }
-        // The room is as it was where nothing is for the core.
+        // The buffer is as it was if nothing is for the core.
         ensures untouched { IfOk result (λ up. up ≡ None → room.new ≡ room.old) }
         ensures goes_on { OnErr result ⊥ }
         ensures moment { self.new.moment ≡ self.old.moment }
@@ -247,8 +251,8 @@ impl<D: PlaceSockets + Drop> PortDriver for Servers<D> {
 }
 
 impl<D: PlaceSockets + Drop> PortDriverFilters for Servers<D> {
-    /// How much that came was kept from the core: what the lobbies did not give it, also what they
-    /// answered or gave on, and what came from no place.
+    /// How much of what came the core did not get. This counts what the servers did not give it,
+    /// including what they answered or sent on, and what the sockets did not hand over.
     fn filtered(&self) -> u128
         ensures total { result ≡ self.now.kept + D.filtered self.now.sockets }
         ensures few { result < 2 ^ 65 }

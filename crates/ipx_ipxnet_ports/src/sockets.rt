@@ -1,4 +1,4 @@
-//! Sockets of UDP as those of lobbies.
+//! UDP sockets for ipxnet servers.
 
 ghost use Rattle.std.specs.Prelude.{◌≡◌, ◌<◌, ◌≤◌, ◌↔◌, ◌++◌, ◌∷◌, [], Bool, IfOk, IfSome, IsSome, None, Ok, OnErr, OnOk, false, is_some, length, map, slice_get, slice_set, true};
 ghost use Rattle.ipx_carrier.specs.Counting.{raised};
@@ -15,23 +15,23 @@ use std::io::ErrorKind;
 use std::net::{Net, SocketAddr, UdpSocket};
 use std::os::fd::{AsRawFd, RawFd};
 
-/// The socket of a port, and the IP addresses from which datagrams are heard there. None stands for
-/// each.
+/// The socket of a port, and the IP addresses from which it accepts datagrams. None means any.
 #[derive(Drop)]
 pub struct ServerSocket {
     socket: UdpSocket,
     hears: Option<Vec<[u8; 4]>>,
 }
 
-/// Sockets that have one of UDP for each port. Datagrams come from the IP addresses that are heard
-/// there, whatever their port, and go to whatever place: who is a client is the lobby's to say. What
-/// comes from elsewhere or over IPv6 is from nowhere, and kept back.
+/// Sockets that have a UDP socket for each port. Datagrams are accepted from these IP addresses,
+/// with any port, and sent to any address: the server knows who is a client. What comes from
+/// another IP address, or over IPv6, is not handed over, but counted.
 ///
-/// Which datagrams come and which arrive is the network's. What the system doesn't take is a failure of
-/// sending; receiving never fails.
+/// Which datagrams arrive depends on the network. What the system doesn't take is a failure of
+/// `send`; `receive` never fails.
 ///
-/// They have a mark for each port, at which something may wait, and ask the system at those alone. One
-/// that is bound is marked. Whoever waits for them marks those at which something came.
+/// Each port has a mark: whether something may wait there. The system is asked only at marked
+/// ports. A newly bound port is marked. The caller that waits for the sockets marks those that the
+/// system reports.
 #[derive(Drop)]
 pub struct ServerSockets {
     sockets: Vec<ServerSocket>,
@@ -42,10 +42,10 @@ pub struct ServerSockets {
     nowhere: u64,
 }
 
-/// How often a port is asked again for a datagram where the system fails.
+/// How often a port is asked again for a datagram if the system fails.
 const TRIES: u32 = 8;
 
-/// The place that a datagram came from.
+/// The source address of a datagram.
 fn place_at(from: SocketAddr) -> Option<Place>
     ensures { result ≡ place_behind from }
 {
@@ -58,7 +58,7 @@ fn place_at(from: SocketAddr) -> Option<Place>
     }
 }
 
-/// Whether an IP address is one of these, or each is.
+/// Whether an IP address is one of these, or any is accepted.
 fn is_heard(ips: &Option<Vec<[u8; 4]>>, ip: [u8; 4]) -> bool
     ensures { result ≡ is_ip_heard (listed_ips ips.now) ip }
 {
@@ -69,7 +69,7 @@ fn is_heard(ips: &Option<Vec<[u8; 4]>>, ip: [u8; 4]) -> bool
 }
 
 impl ServerSocket {
-    /// The place that a datagram came from, if it is heard.
+    /// The source address of a datagram, if it is accepted.
     fn place_heard(&self, from: SocketAddr) -> Option<Place>
         ensures { result ≡ place_heard (ips_heard self.now) (place_behind from) }
     {
@@ -99,8 +99,9 @@ impl ServerSockets {
         }
     }
 
-    /// Binds one more port at a place, where datagrams from these IP addresses are heard; None stands
-    /// for each. The error is the system's, or want of memory, and then the ports are those before.
+    /// Binds one more port at an address, where datagrams from these IP addresses are accepted;
+    /// None means any. The error is the system's or out of memory, and the ports are then as
+    /// before.
     pub fn bind<R: Net>(&mut self, rt: &R, at: Place, hears: Option<Vec<[u8; 4]>>) -> io::Result<()>
         ensures bound { OnOk result (map ips_heard self.new.sockets.items
             ≡ map ips_heard self.old.sockets.items ++ listed_ips hears ∷ []) }
@@ -121,7 +122,7 @@ impl ServerSockets {
         Ok(())
     }
 
-    /// How many datagrams the system took to be sent. It stays at the greatest u64.
+    /// How many datagrams the system took to send. It stays at the greatest u64.
     pub fn sent(&self) -> u64
         ensures { result ≡ self.now.sent }
     {
@@ -135,7 +136,7 @@ impl ServerSockets {
         self.faults
     }
 
-    /// The descriptor of the socket of a port, to wait for it. The first port is 0.
+    /// The descriptor of the socket of a port, to wait for. The first port is 0.
     pub fn descriptor(&self, port: usize) -> Option<RawFd>
         ensures { IsSome result ↔ port < length self.now.sockets.items }
     {
@@ -150,8 +151,8 @@ impl ServerSockets {
         &self.marks
     }
 
-    /// Something came to a port, as the system said: what waits there is received. Where there is no
-    /// port of that number nothing happens.
+    /// Marks a port: something came, as the system said, and is to be received. Nothing happens if
+    /// the port does not exist.
     pub fn mark(&mut self, port: usize)
         ensures { self.new ≡ record self.old { marks = slice_set self.old.marks port true } }
     {
@@ -166,7 +167,7 @@ impl PlaceSockets for ServerSockets {
 
     ghost failed = { λ s. s.failures };
 
-    // What passes is the system's.
+    // They do not record what passes.
     ghost traffic = { λ s. None };
 
     ghost filtered = { λ s. s.nowhere };
@@ -212,17 +213,17 @@ impl PlaceSockets for ServerSockets {
         // A port without a mark is not asked, and nothing changes.
         ensures unmarked { is_port_marked self.old.marks port ≡ false
             → (result ≡ Ok None) × (self.new ≡ self.old) × (room.new ≡ room.old) }
-        // One with a mark is asked until something comes or nothing waits, eight times at most: the
-        // mark goes just where nothing waits. What came is answered or counted.
+        // A marked port is asked until something comes or nothing waits, at most eight times. The
+        // mark is cleared exactly if nothing waits. What came is returned or counted.
         ensures marked { is_port_marked self.old.marks port ≡ true → IfOk result (λ answer.
             (came : Bool) × AsksMarked port came self.old.marks self.new.marks
             self.old.faults self.new.faults
             × IsKeptOrAnswer came (is_some answer) self.old.nowhere self.new.nowhere) }
-        // What came from a place is answered, and what came from nowhere is counted.
+        // What came from an accepted address is returned, and anything else is counted.
         ensures within { IfOk result (λ came. IfSome came (λ c. c.size ≤ length room.old)) }
         ensures answered { IfOk result (λ came. IsSome came
             → self.new.nowhere ≡ self.old.nowhere) }
-        // It came from an IP address that is heard there.
+        // It came from an IP address that is accepted there.
         ensures heard { IfOk result (λ came. IfSome came (λ c.
             IfSome (slice_get self.old.sockets.items port)
             (λ s. is_ip_heard (ips_heard s) c.from.ip ≡ true))) }

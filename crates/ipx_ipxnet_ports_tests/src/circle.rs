@@ -1,5 +1,5 @@
-//! What comes from one of three players: it is answered, it goes on to the others, and the core gets
-//! what is for it.
+//! What becomes of a datagram of one of three players: it is answered, it is sent to the others,
+//! and the core gets what is for it.
 
 use crate::fixture::{
     ANSWER, CAME, FIRST, PORT, REGISTRATION, SECOND, THIRD, UNKNOWN_SENDER, behind_registrations,
@@ -10,7 +10,7 @@ use ipx_ipxnet_ports::MemoryPlaces;
 use ipx_wire::Node;
 use std::test::Fail;
 
-/// A ping of the first player, and what the router answers it.
+/// A ping of the first player, and the router's answer.
 const PING: [u8; 30] = [
     0xff, 0xff, 0, 0x1e, 0, 0, 0, 0, 0, 0, 0xff, 0xff, 0xff, 0xff, 0xff, 0xff, 0, 2, 0, 0, 0, 0,
     0x7f, 0, 0, 1, 0xbc, 0x47, 0, 2,
@@ -37,7 +37,7 @@ fn a_registration(rt: HostRuntime) -> Result<(), Fail> {
     let known = servers.servers()[0].clients();
     assert_eq!(rt; known.len(), 1);
     assert_eq!(rt; (known[0].place, known[0].since), (FIRST, 7));
-    // Now nothing comes.
+    // Now nothing waits.
     assert!(rt; matches!(servers.receive(0, &mut room), Ok(None)));
     assert_eq!(rt; servers.filtered(), 1);
     Ok(())
@@ -56,7 +56,7 @@ fn to_all(rt: HostRuntime) -> Result<(), Fail> {
     Ok(())
 }
 
-/// To the node of one: to that one alone.
+/// To the node of one player: only to that one.
 #[test]
 fn to_one(rt: HostRuntime) -> Result<(), Fail> {
     let mut servers = behind_registrations(rt.alloc(), &CAME)?;
@@ -66,7 +66,7 @@ fn to_one(rt: HostRuntime) -> Result<(), Fail> {
     Ok(())
 }
 
-/// A ping is answered first, and goes on behind that.
+/// A ping is answered first, and sent to the others after that.
 #[test]
 fn a_ping(rt: HostRuntime) -> Result<(), Fail> {
     let mut servers = behind_registrations(rt.alloc(), &PING)?;
@@ -81,7 +81,8 @@ fn a_ping(rt: HostRuntime) -> Result<(), Fail> {
     Ok(())
 }
 
-/// To the router's node: the core gets it as it came, as far as its room takes it, and no player does.
+/// To the router's node: the core gets it as it came, as far as it fits its buffer, and no player
+/// does.
 #[test]
 fn to_the_core(rt: HostRuntime) -> Result<(), Fail> {
     let bytes = packet(PORT.own);
@@ -99,7 +100,7 @@ fn to_the_core(rt: HostRuntime) -> Result<(), Fail> {
     Ok(())
 }
 
-/// Who asks all nodes for a route asks the router too.
+/// A request to all nodes for a route reaches the router too.
 #[test]
 fn to_all_and_the_core(rt: HostRuntime) -> Result<(), Fail> {
     let mut bytes = packet(Node::BROADCAST);
@@ -114,7 +115,7 @@ fn to_all_and_the_core(rt: HostRuntime) -> Result<(), Fail> {
     Ok(())
 }
 
-/// Who did not register: nothing comes of what it sends, and it gets nothing.
+/// What an unregistered sender sends is dropped, and it gets nothing.
 #[test]
 fn an_unknown_sender(rt: HostRuntime) -> Result<(), Fail> {
     let alloc = rt.alloc();
@@ -129,7 +130,7 @@ fn an_unknown_sender(rt: HostRuntime) -> Result<(), Fail> {
     for _datagram in 0..5_u32 {
         assert!(rt; matches!(servers.receive(0, &mut room), Ok(None)));
     }
-    // The answer to the first player is all that went.
+    // Only the answer to the first player was sent.
     assert!(rt; went_behind(servers.sockets(), 0, &[FIRST], &ANSWER));
     assert_eq!(rt; room, [0xaa; 1536]);
     assert_eq!(rt; servers.servers()[0].counts().unregistered, 2);

@@ -9,7 +9,8 @@ use ipx_ipxnet_ports::PlaceSockets;
 use ipx_wire::Node;
 use std::test::Fail;
 
-/// One of the others fails: the third one gets the request for a route, and the core does.
+/// Sending to one of the others fails. The third player gets the request for a route, and so does
+/// the core.
 #[test]
 fn a_player_that_fails(rt: HostRuntime) -> Result<(), Fail> {
     let alloc = rt.alloc();
@@ -43,7 +44,7 @@ fn a_player_that_fails(rt: HostRuntime) -> Result<(), Fail> {
     Ok(())
 }
 
-/// Of three others the one in the middle fails: those before and behind it get theirs, in order.
+/// Sending to the middle one of three others fails. Those before and after it get theirs, in order.
 #[test]
 fn a_player_in_the_middle_that_fails(rt: HostRuntime) -> Result<(), Fail> {
     let alloc = rt.alloc();

@@ -1,4 +1,4 @@
-//! A port, three players at their places, and what they send.
+//! A port, three players at their addresses, and what they send.
 
 use ipx_carrier::PortDriver;
 use ipx_ipxnet_ports::{MemoryDatagram, MemoryPlaces, PlaceSockets, Servers};
@@ -7,7 +7,7 @@ use ipxnet_server::{IpxnetServer, Place, ServerPort};
 use std::alloc::{AllocError, Global};
 use std::test::Fail;
 
-/// The port, which tells players the network 0000d05b.
+/// The port, whose network 0000d05b players are told.
 pub const PORT: ServerPort = ServerPort {
     network: Network(0xd05b),
     own: Node([2, 0, 0, 0, 0xd0, 0x5b]),
@@ -42,13 +42,13 @@ pub const REGISTRATION: [u8; 30] = [
     2,
 ];
 
-/// What the first player is answered.
+/// The answer to the first player.
 pub const ANSWER: [u8; 30] = [
     0xff, 0xff, 0, 0x1e, 0, 0, 0, 0, 0xd0, 0x5b, 0x7f, 0, 0, 1, 0xbc, 0x47, 0, 2, 0, 0, 0xd0, 0x5b,
     2, 0, 0, 0, 0xd0, 0x5b, 0, 2,
 ];
 
-/// What the second and the third one are.
+/// The answers to the second and the third.
 pub const SECOND_ANSWER: [u8; 30] = [
     0xff, 0xff, 0, 0x1e, 0, 0, 0, 0, 0xd0, 0x5b, 0x7f, 0, 0, 1, 0xbc, 0x48, 0, 2, 0, 0, 0xd0, 0x5b,
     2, 0, 0, 0, 0xd0, 0x5b, 0, 2,
@@ -59,8 +59,8 @@ pub const THIRD_ANSWER: [u8; 30] = [
     0, 0, 0, 0xd0, 0x5b, 0, 2,
 ];
 
-/// A packet of 34 bytes from the first player to socket 4001 of the second, as its driver sends it:
-/// both networks are the one that it was told.
+/// A packet of 34 bytes from the first player to socket 4001 of the second, as its driver sends it.
+/// Both networks are the one that it was told.
 pub const CAME: [u8; 34] = [
     0xff, 0xff, 0, 0x22, 0, 4, 0, 0, 0xd0, 0x5b, 0x7f, 0, 0, 1, 0xbc, 0x48, 0x40, 1, 0, 0, 0xd0,
     0x5b, 0x7f, 0, 0, 1, 0xbc, 0x47, 0x40, 1, 1, 2, 3, 4,
@@ -73,7 +73,7 @@ pub fn packet(to: Node) -> [u8; 34] {
     bytes
 }
 
-/// The lobby of the port.
+/// The server of the port.
 pub fn server(alloc: Global) -> Result<Vec<IpxnetServer>, AllocError> {
     let server = IpxnetServer::new(alloc, PORT, 64)?;
     let mut servers = Vec::new(alloc);
@@ -98,7 +98,7 @@ pub fn registrations(alloc: Global) -> Result<MemoryPlaces, Fail> {
     Ok(sockets)
 }
 
-/// The port, whose three players registered and were answered, and behind them these bytes of the first
+/// The port, whose three players registered and were answered; then these bytes come from the first
 /// one.
 pub fn behind_registrations(alloc: Global, bytes: &[u8]) -> Result<Servers<MemoryPlaces>, Fail> {
     let mut sockets = registrations(alloc)?;
@@ -111,8 +111,8 @@ pub fn behind_registrations(alloc: Global, bytes: &[u8]) -> Result<Servers<Memor
     Ok(servers)
 }
 
-/// Whether all that was sent behind so many datagrams went to these places, in this order, and is these
-/// bytes.
+/// Whether all that was sent after the first `before` datagrams went to these addresses, in this
+/// order, and is these bytes.
 pub fn went_behind(sockets: &MemoryPlaces, before: usize, places: &[Place], bytes: &[u8]) -> bool {
     let sent = sockets.went();
     if sent.len() != before + places.len() {

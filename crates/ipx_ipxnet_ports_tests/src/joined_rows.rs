@@ -1,9 +1,9 @@
-//! Rows of joined lobbies.
+//! Rows of joined servers.
 
 use crate::row_world::runs;
 use std::test::Fail;
 
-/// Two clients, and what the second router tells.
+/// Two clients, and what the second router advertises.
 const JOINED: &str = "row the second router tells of its clients' network
 in r ffff00280001 00000081ffffffffffff0453 0000008100007f0006020453 0002 0000d05c 0001 0001
 row a client registers: joined routers are told, by a header from its node to it
@@ -18,7 +18,7 @@ out j ffff001e0000 0000d05e7f000613602b0002 0000d05e7f000613602b0002
 out k ffff001e0000 0000d05e7f000613602b0002 0000d05e7f000613602b0002
 ";
 
-/// What goes to joined routers.
+/// What is sent to joined routers.
 #[test]
 fn rows_to_joined_routers(rt: HostRuntime) -> Result<(), Fail> {
     runs(
@@ -65,7 +65,7 @@ in e ffff05910004 0000d05e0a00000000094001 0000d05e7f000612602a4001 61*1395
     )
 }
 
-/// What comes from them, and where who sent it is from then on.
+/// What comes from them, and where its sender is known to be from then on.
 #[test]
 fn rows_from_joined_routers(rt: HostRuntime) -> Result<(), Fail> {
     runs(
@@ -131,7 +131,7 @@ in j ffff05910004 0000d05effffffffffff4001 0000d05e0a00000000014001 61*1395
     )
 }
 
-/// What comes for nobody here, and for routes.
+/// What comes for no client here, and for routes.
 #[test]
 fn rows_of_what_reaches_no_router(rt: HostRuntime) -> Result<(), Fail> {
     runs(
@@ -162,7 +162,7 @@ in f ffff00280001 000000000200000000d00453 0000d05e7f000613602b4001 0001 0000009
     )
 }
 
-/// What they may not.
+/// What they may not send.
 #[test]
 fn rows_of_what_joined_routers_may_not(rt: HostRuntime) -> Result<(), Fail> {
     runs(

@@ -1,5 +1,5 @@
-//! Tests of ports for clients that register, with literal values. They call what that crate makes
-//! public, and no crate stands on this one.
+//! Tests of ports with ipxnet servers, with literal values. They call what `ipx_ipxnet_ports` makes
+//! public, and no crate depends on this one.
 #![tactic(auto)]
 
 #[cfg(test)]

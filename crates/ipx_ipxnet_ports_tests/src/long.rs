@@ -1,5 +1,5 @@
-//! Long datagrams that come in: 1,424 bytes go on to players as they came, more do not, and the core
-//! gets 1,536 at most.
+//! Long datagrams: 1,424 bytes are sent to players as they came, more are not, and the core gets at
+//! most 1,536.
 
 use crate::fixture::{PORT, SECOND, SECOND_NODE, THIRD, behind_registrations, packet, went_behind};
 use ipx_carrier::{PortDriver, PortDriverFilters};
@@ -29,8 +29,8 @@ fn long(to: Node, length: [u8; 2]) -> [u8; 2000] {
     bytes
 }
 
-/// Whether a datagram of so many bytes, with this length in its header, goes to these places, as it
-/// came, and not to the core. What goes nowhere is too long, which is counted.
+/// Whether a datagram of `size` bytes is sent to these addresses, as it came, and not to the core.
+/// `length` is the length in its header. If it is sent nowhere it is too long, which is counted.
 fn goes_to(
     alloc: Global,
     to: Node,
@@ -86,7 +86,7 @@ fn long_ones_to_all(rt: HostRuntime) -> Result<(), Fail> {
     Ok(())
 }
 
-/// The core gets them whole, but for what is behind 1,536 bytes.
+/// The core gets them whole, up to 1,536 bytes.
 #[test]
 fn long_ones_to_the_core(rt: HostRuntime) -> Result<(), Fail> {
     for (length, size, got) in [
@@ -108,7 +108,7 @@ fn long_ones_to_the_core(rt: HostRuntime) -> Result<(), Fail> {
     Ok(())
 }
 
-/// A header that says more than 1,500, or more than came, begins no packet.
+/// A header with a length over 1,500, or over what came, begins no packet.
 #[test]
 fn long_ones_of_no_packet(rt: HostRuntime) -> Result<(), Fail> {
     for (length, size) in [(L1501, 1501), (L1425, 1424), (L2000, 2000)] {

@@ -1,4 +1,5 @@
-//! Players by the moments that are set: who is forgotten, who registers again, and how many are new.
+//! Players, by the times that are set: which are forgotten, which register again, and how many are
+//! new.
 
 use crate::fixture::{
     ANSWER, CAME, FIRST, REGISTRATION, SECOND, SECOND_ANSWER, THIRD, registrations, servers,
@@ -9,7 +10,7 @@ use ipx_ipxnet_ports::{MemoryPlaces, Servers};
 use ipxnet_server::Place;
 use std::test::Fail;
 
-/// Hears so many datagrams, of which the core gets nothing.
+/// Receives this many datagrams, of which the core gets nothing.
 fn hear(servers: &mut Servers<MemoryPlaces>, count: u32) -> Result<bool, Fail> {
     let mut room = [0xaa; 1536];
     for _datagram in 0..count {
@@ -20,7 +21,8 @@ fn hear(servers: &mut Servers<MemoryPlaces>, count: u32) -> Result<bool, Fail> {
     Ok(room == [0xaa; 1536])
 }
 
-/// Who was silent for a day is nobody, to others and to the port, until it registers again.
+/// A player that was silent for a day is unknown, to others and to the port, until it registers
+/// again.
 #[test]
 fn forgotten_and_back(rt: HostRuntime) -> Result<(), Fail> {
     let alloc = rt.alloc();
@@ -41,7 +43,7 @@ fn forgotten_and_back(rt: HostRuntime) -> Result<(), Fail> {
     assert_eq!(rt; servers.sockets().went().len(), 4);
     assert_eq!(rt; servers.servers()[0].counts().no_such_node, 1);
     assert_eq!(rt; servers.servers()[0].counts().unregistered, 1);
-    // The first player was heard a moment ago, and is the only one.
+    // The first player was just heard, and is the only one.
     assert_eq!(rt; servers.servers()[0].clients().len(), 1);
     assert_eq!(rt; servers.servers()[0].clients()[0].place, FIRST);
     assert!(rt; hear(&mut servers, 1)?);
@@ -52,7 +54,8 @@ fn forgotten_and_back(rt: HostRuntime) -> Result<(), Fail> {
     Ok(())
 }
 
-/// Who registers again from its place is answered as before, and is known once, from the first time on.
+/// A player that registers again from its address is answered as before, and is known once, since
+/// its first registration.
 #[test]
 fn registered_again(rt: HostRuntime) -> Result<(), Fail> {
     let alloc = rt.alloc();
@@ -71,7 +74,7 @@ fn registered_again(rt: HostRuntime) -> Result<(), Fail> {
     Ok(())
 }
 
-/// By a moment that was set back no time has passed: all are known as before.
+/// If the time is set back, no time has passed: all are known as before.
 #[test]
 fn a_moment_set_back(rt: HostRuntime) -> Result<(), Fail> {
     let alloc = rt.alloc();
@@ -90,7 +93,7 @@ fn a_moment_set_back(rt: HostRuntime) -> Result<(), Fail> {
     Ok(())
 }
 
-/// While the moment stands ten can register, and the eleventh can a second later.
+/// While the time does not move ten can register, and the eleventh can a second later.
 #[test]
 fn eleven_at_a_moment(rt: HostRuntime) -> Result<(), Fail> {
     let alloc = rt.alloc();

@@ -1,4 +1,4 @@
-//! Memory that is refused as a datagram is put, and as one comes and goes.
+//! Memory is refused as a datagram is put, received or sent.
 
 use crate::fixture::{
     ANSWER, CAME, FIRST, REGISTRATION, SECOND, SECOND_ANSWER, THIRD, THIRD_ANSWER, packet, server,
@@ -11,7 +11,7 @@ use ipxnet_server::{Place, ServerCounts};
 use std::alloc::Global;
 use std::test::Fail;
 
-/// Puts a datagram, again where memory is refused.
+/// Puts a datagram, again if memory is refused.
 fn put(sockets: &mut MemoryPlaces, place: Place, bytes: &[u8]) -> Result<(), OutOfMemory> {
     match sockets.put(0, place, bytes) {
         Ok(()) => Ok(()),
@@ -19,7 +19,7 @@ fn put(sockets: &mut MemoryPlaces, place: Place, bytes: &[u8]) -> Result<(), Out
     }
 }
 
-/// The port over these sockets, again where memory is refused.
+/// The port over these sockets, again if memory is refused.
 fn over(alloc: Global, sockets: MemoryPlaces) -> Result<Servers<MemoryPlaces>, Fail> {
     let all = match server(alloc) {
         Ok(all) => all,
@@ -28,7 +28,7 @@ fn over(alloc: Global, sockets: MemoryPlaces) -> Result<Servers<MemoryPlaces>, F
     Ok(Servers::new(sockets, all))
 }
 
-/// Whether all that went is of these, in this order, of which each is another.
+/// Whether all that was sent is among these, in this order, each once.
 fn are_of(went: &[MemoryDatagram], all: &[(Place, &[u8])]) -> bool {
     let mut found = 0;
     for (place, bytes) in all {
@@ -42,8 +42,8 @@ fn are_of(went: &[MemoryDatagram], all: &[(Place, &[u8])]) -> bool {
     found == went.len()
 }
 
-/// Where a datagram can't be put, those that wait are as they were. Where one that comes can't be kept,
-/// nothing came; where its answer can't, it did. The sockets fail, and that is counted.
+/// If a datagram can't be put, those that wait are as they were. If one that comes can't be
+/// recorded, nothing came; if its answer can't, it did. The sockets fail, and that is counted.
 #[test]
 fn refused_datagrams(rt: HostRuntime) -> Result<(), Fail> {
     let alloc = rt.alloc();
@@ -69,14 +69,15 @@ fn refused_datagrams(rt: HostRuntime) -> Result<(), Fail> {
     }
     assert_eq!(rt; servers.servers()[0].counts(), ServerCounts::new());
     assert_eq!(rt; servers.failures(), 0);
-    // Nothing waits, also where it was lost.
+    // Nothing waits, even if it was lost.
     assert!(rt; matches!(servers.receive(0, &mut room), Ok(None)));
     assert_eq!(rt; servers.servers()[0].clients().len(), known);
     Ok(())
 }
 
-/// Three players register, and the first one sends to all: one datagram at most is lost, on its way in
-/// or out, and all others go in order. A packet of the core then goes to all but at most one.
+/// Three players register, and the first one sends to all. At most one datagram is lost, received
+/// or sent, and all others are sent in order. Then a packet of the core is sent to all except at
+/// most one.
 #[test]
 fn refused_relays(rt: HostRuntime) -> Result<(), Fail> {
     let alloc = rt.alloc();
@@ -104,11 +105,12 @@ fn refused_relays(rt: HostRuntime) -> Result<(), Fail> {
     let failures = servers.sockets().failures();
     assert!(rt; are_of(servers.sockets().went(), &all));
     if servers.filtered() == 4 {
-        // All of them came, and one may not have gone.
+        // All of them came, and one may not have been sent.
         assert_eq!(rt; (went as u64 + failures, known), (5, 3));
         assert!(rt; failures <= 1);
     } else {
-        // One did not come: the first one's, without which its packet is a stranger's, or another's.
+        // One did not come: the first one's registration, without which its packet is an unknown
+        // sender's, or another.
         assert_eq!(rt; (servers.filtered(), failures), (3, 1));
         let strangers = servers.servers()[0].counts().unregistered;
         assert_eq!(rt; went as u64 + strangers, 3);

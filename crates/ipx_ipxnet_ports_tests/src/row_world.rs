@@ -1,9 +1,10 @@
 //! Rows of datagrams, as tests/players.rows has them, at its first router. `row` begins one, and
-//! says what it is of. `in WHO BYTES` is a datagram that is sent, `out WHO BYTES` one that comes:
-//! nothing else comes to anybody. `61*9` is nine bytes 61. A line that begins with a blank goes on.
+//! names it. `in WHO BYTES` is a datagram that is sent, and `out WHO BYTES` one that arrives;
+//! nothing else arrives anywhere. `61*9` is nine bytes 61. A line that begins with a blank
+//! continues the line before.
 //!
-//! a, b, c, u and v are at the port of network 0000d05b, which has room for four; e, f, g, i and s
-//! at that of 0000d05e, to which j and k are joined. h is a host of 00000081, and r the second
+//! a, b, c, u and v are at the port of network 0000d05b, which has room for four. e, f, g, i and s
+//! are at that of 0000d05e, to which j and k are joined. h is a host of 00000081, and r the second
 //! router there: what it sends has one of its two hops.
 
 use ipx_carrier::{Core, PortDriver, RouterCore};
@@ -28,7 +29,7 @@ const JOINED: ServerPort = ServerPort {
     own: OWN,
 };
 
-/// The port of the core behind both, and who is there.
+/// The port of the core after both, and who is there.
 const WIRED: usize = 2;
 
 const HOSTS: [(u8, Node); 2] = [
@@ -36,7 +37,7 @@ const HOSTS: [(u8, Node); 2] = [
     (b'r', Node([0, 0, 0x7f, 0, 6, 2])),
 ];
 
-/// Who is at which port, and where: the last byte of its IP address, and its port of UDP.
+/// Who is at which port, and the address: the last byte of the IP address, and the UDP port.
 const ENDS: [(u8, usize, u8, u16); 12] = [
     (b'a', 0, 11, 24611),
     (b'b', 0, 12, 24612),
@@ -52,7 +53,7 @@ const ENDS: [(u8, usize, u8, u16); 12] = [
     (b'k', 1, 9, 24609),
 ];
 
-/// A datagram of a row: whether it is sent to the router, and by whom, or to whom.
+/// A datagram of a row: whether it is sent to the router, and its sender or receiver.
 #[derive(Debug, Drop)]
 struct Datagram {
     is_sent: bool,
@@ -60,7 +61,7 @@ struct Datagram {
     bytes: Vec<u8>,
 }
 
-/// The router, and what came to each behind the last that was sent.
+/// The router, and what arrived at each after the last that was sent.
 #[derive(Drop)]
 struct RowWorld {
     core: RouterCore,
@@ -77,13 +78,13 @@ fn place(last: u8, udp_port: u16) -> Place {
     }
 }
 
-/// The port and the place of one who is at a port.
+/// The port and the address of a member at a port.
 fn end_of(who: u8) -> Option<(usize, Place)> {
     let end = ENDS.iter().find(|end| end.0 == who)?;
     Some((end.1, place(end.2, end.3)))
 }
 
-/// Puts the bytes of a word behind others.
+/// Puts the bytes of a word after others.
 fn put_word(alloc: Global, bytes: &mut Vec<u8>, word: &[u8]) -> Result<(), Fail> {
     let mut parts = word.split(|byte| *byte == b'*');
     let part = hex::decode(alloc, parts.next().unwrap_or_default())?;
@@ -155,7 +156,7 @@ fn world(alloc: Global, datagrams: &[Datagram]) -> Result<RowWorld, Fail> {
     })
 }
 
-/// Keeps what came to one.
+/// Records what arrived at a member.
 fn keep(alloc: Global, came: &mut Vec<Datagram>, who: u8, bytes: &[u8]) -> Result<(), Fail> {
     came.push(Datagram {
         is_sent: false,
@@ -166,8 +167,8 @@ fn keep(alloc: Global, came: &mut Vec<Datagram>, who: u8, bytes: &[u8]) -> Resul
 }
 
 impl RowWorld {
-    /// A datagram comes to the router, and what comes of it goes. What the router tells all nodes
-    /// of 00000081 is left aside.
+    /// The router receives a datagram, and sends what comes of it. What it advertises to all nodes
+    /// of 00000081 is left out.
     fn hear(&mut self, alloc: Global, sent: &Datagram) -> Result<(), Fail> {
         let mut room = [0; 1536];
         self.now += 1000;
@@ -196,7 +197,7 @@ impl RowWorld {
         self.take_sent(alloc)
     }
 
-    /// What the ports sent since then came to who is there.
+    /// What the ports sent since then arrived at their members.
     fn take_sent(&mut self, alloc: Global) -> Result<(), Fail> {
         for sent in &self.servers.sockets().went()[self.seen..] {
             let end = ENDS.iter().find(|end| end.1 == sent.port
@@ -212,7 +213,7 @@ impl RowWorld {
         Ok(())
     }
 
-    /// Whether a datagram came to whom it is for, which is taken from what came.
+    /// Whether a datagram arrived where it was expected. It is then removed from what arrived.
     fn came(&mut self, wanted: &Datagram) -> bool {
         let place = self.came.iter().position(|it| {
             it.who == wanted.who && it.bytes.as_slice() == wanted.bytes.as_slice()
@@ -227,8 +228,8 @@ impl RowWorld {
     }
 }
 
-/// Runs rows behind others: what comes of a datagram has come, and no more, before the next one is
-/// sent.
+/// Runs rows after others: exactly what is expected of a datagram has arrived before the next one
+/// is sent.
 pub fn runs(rt: &impl Abort, alloc: Global, before: &str, rows: &str) -> Result<(), Fail> {
     let text = format!(in alloc; "{before}{rows}")?;
     let datagrams = datagrams_of(alloc, &text)?;

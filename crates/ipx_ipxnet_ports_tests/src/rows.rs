@@ -1,9 +1,9 @@
-//! Rows of one port for clients, and of other networks.
+//! Rows of one port with an ipxnet server, and of other networks.
 
 use crate::row_world::runs;
 use std::test::Fail;
 
-/// Four clients, and what the second router tells.
+/// Four clients, and what the second router advertises.
 const CLIENTS: &str = "row a, b, c and u are clients
 in a ffff001e0000 000000000000000000000002 000000000000000000000002
 out a ffff001e0000 0000d05b7f00060b60230002 0000d05b0200000000d00002
@@ -18,7 +18,7 @@ in r ffff00300001 00000081ffffffffffff0453 0000008100007f0006020453 0002 0000d05
     0000d05f 0001 0001
 ";
 
-/// Who registers, and what comes to nobody before.
+/// Registrations, and that nothing arrives at anybody before.
 #[test]
 fn rows_of_registrations(rt: HostRuntime) -> Result<(), Fail> {
     runs(
@@ -63,7 +63,7 @@ in v ffff001e0000 000000000000000000000002 000000000000000000000002
     )
 }
 
-/// Who is pinged, and who answers.
+/// Pings, and their answers.
 #[test]
 fn rows_of_pings(rt: HostRuntime) -> Result<(), Fail> {
     runs(
@@ -136,7 +136,7 @@ in a ffff00210004 0000d05b7f000610602c4001 0000d05b7f00060b60234001 616263
     )
 }
 
-/// Sizes, who sent it, and what is no packet.
+/// Sizes, source addresses, and what is no packet.
 #[test]
 fn rows_of_sizes_and_of_what_goes_nowhere(rt: HostRuntime) -> Result<(), Fail> {
     runs(
@@ -202,7 +202,7 @@ in a ffff00210f04 0000d05c7f00060e60264001 0000d05b7f00060b60234001 616263
     )
 }
 
-/// And from there.
+/// And from other networks.
 #[test]
 fn rows_from_other_networks(rt: HostRuntime) -> Result<(), Fail> {
     runs(
@@ -243,7 +243,7 @@ out u ffff001e0100 0000d05bffffffffffff0002 0000008100007f0006140002
     )
 }
 
-/// Routes that clients ask for and tell.
+/// Routes that clients ask for and advertise.
 #[test]
 fn rows_of_routes(rt: HostRuntime) -> Result<(), Fail> {
     runs(
@@ -279,7 +279,7 @@ out a ffff00280001 0000d05b7f00060b60234001 0000d05b0200000000d00453 0002 0000d0
     )
 }
 
-/// Services that clients ask for and tell.
+/// Services that clients ask for and advertise.
 #[test]
 fn rows_of_services(rt: HostRuntime) -> Result<(), Fail> {
     runs(

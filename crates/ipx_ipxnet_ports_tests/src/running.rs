@@ -1,4 +1,5 @@
-//! A router with two lobbies: what a player asks it, and what goes from one lobby to the other.
+//! A router with two ipxnet servers: what a player asks it, and what is sent from one server to the
+//! other.
 
 use crate::fixture::{ANSWER, FIRST, PORT, REGISTRATION, SECOND, server};
 use ipx_carrier::{
@@ -12,7 +13,7 @@ use ipxnet_server::{IpxnetServer, Place, ServerCounts, ServerPort};
 use std::alloc::Global;
 use std::test::Fail;
 
-/// The other port, which tells players the network 00000099.
+/// The other port, whose network 00000099 players are told.
 const OTHER: ServerPort = ServerPort {
     network: Network(0x99),
     own: Node([2, 0, 0, 0, 0, 0x99]),
@@ -29,7 +30,7 @@ const TOLD: [u8; 40] = [
     0x5b, 2, 0, 0, 0, 0xd0, 0x5b, 4, 0x53, 0, 2, 0, 0, 0, 0x99, 0, 1, 0, 1,
 ];
 
-/// A packet of the first player to the second, on network 99; and one hop on.
+/// A packet of the first player to the second, on network 99; and the same one hop later.
 const ACROSS: [u8; 34] = [
     0xff, 0xff, 0, 0x22, 0, 4, 0, 0, 0, 0x99, 0x7f, 0, 0, 1, 0xbc, 0x48, 0x40, 1, 0, 0, 0, 0, 0x7f,
     0, 0, 1, 0xbc, 0x47, 0x40, 1, 1, 2, 3, 4,
@@ -40,7 +41,7 @@ const ARRIVES: [u8; 34] = [
     0x7f, 0, 0, 1, 0xbc, 0x47, 0x40, 1, 1, 2, 3, 4,
 ];
 
-/// What the second player is answered, at the other port.
+/// The answer to the second player, at the other port.
 const OTHER_ANSWER: [u8; 30] = [
     0xff, 0xff, 0, 0x1e, 0, 0, 0, 0, 0, 0x99, 0x7f, 0, 0, 1, 0xbc, 0x48, 0, 2, 0, 0, 0, 0x99, 2, 0,
     0, 0, 0, 0x99, 0, 2,
@@ -52,7 +53,7 @@ const ASKS_ALL: [u8; 40] = [
     0x5b, 0x7f, 0, 0, 1, 0xbc, 0x47, 4, 0x53, 0, 1, 0xff, 0xff, 0xff, 0xff, 0xff, 0xff, 0xff, 0xff,
 ];
 
-/// What a neighbour on network 99 tells before 50 routes, each of 8 bytes.
+/// The header of a neighbour's RIP response on network 99, before 50 routes of 8 bytes each.
 const TELLS: [u8; 32] = [
     0xff, 0xff, 1, 0xb0, 0, 1, 0, 0, 0, 0x99, 0xff, 0xff, 0xff, 0xff, 0xff, 0xff, 4, 0x53, 0, 0, 0,
     0x99, 0, 0, 0x7f, 0, 0, 5, 4, 0x53, 0, 2,
@@ -71,8 +72,8 @@ fn core(alloc: Global) -> Result<PriorityRouterCore, Fail> {
     Ok(PriorityRouterCore::new(alloc, Router::new(alloc, ports)?))
 }
 
-/// Both ports: the first player registers at the first one, asks, and sends to the second player, who
-/// registers at the other.
+/// Both ports. The first player registers at the first one, asks, and sends to the second player,
+/// who registers at the other.
 fn both_servers(alloc: Global) -> Result<Servers<MemoryPlaces>, Fail> {
     let mut sockets = MemoryPlaces::new(alloc, 2);
     sockets.put(0, FIRST, &REGISTRATION)?;
@@ -85,7 +86,7 @@ fn both_servers(alloc: Global) -> Result<Servers<MemoryPlaces>, Fail> {
     Ok(Servers::new(sockets, servers))
 }
 
-/// Whether a datagram went by a port to a place, and is these bytes.
+/// Whether a datagram was sent by a port to an address, and is these bytes.
 fn is_for(datagram: Option<&MemoryDatagram>, port: usize, place: Place, bytes: &[u8]) -> bool {
     match datagram {
         Some(it) => it.port == port && it.place == place && it.bytes.as_slice() == bytes,
@@ -93,7 +94,7 @@ fn is_for(datagram: Option<&MemoryDatagram>, port: usize, place: Place, bytes: &
     }
 }
 
-/// The neighbour tells 50 routes, from a network on, each of 1 hop and 2 ticks.
+/// The neighbour advertises 50 routes, from a network number on, each of 1 hop and 2 ticks.
 fn tells(first: u32) -> [u8; 432] {
     let mut bytes = [0; 432];
     bytes[..32].copy_from_slice(&TELLS);
@@ -105,7 +106,7 @@ fn tells(first: u32) -> [u8; 432] {
     bytes
 }
 
-/// Of more sockets than lobbies, or fewer, there are as many ports as both are for.
+/// If there are more sockets than servers, or fewer, there are as many ports as both are for.
 #[test]
 fn numbers_that_differ(rt: HostRuntime) -> Result<(), Fail> {
     let alloc = rt.alloc();
@@ -130,19 +131,20 @@ fn a_router_of_two_servers(rt: HostRuntime) -> Result<(), Fail> {
     let mut core = core(alloc)?;
     let mut servers = both_servers(alloc)?;
     let mut clock = SteppedClock::new(0, 10);
-    // Both registrations are answered. What the router asks and tells at its start goes to nobody.
+    // Both registrations are answered. What the router asks and advertises at its start is sent to
+    // nobody.
     let first = run_once_over_ports(alloc, &mut core, &mut servers, &mut clock)?;
     assert_eq!(rt; (first.heard, first.sent, first.unmapped), (0, 6, 0));
     let went = servers.sockets().went();
     assert_eq!(rt; went.len(), 2);
     assert!(rt; is_for(went.first(), 0, FIRST, &ANSWER));
     assert!(rt; is_for(went.get(1), 1, SECOND, &OTHER_ANSWER));
-    // What the first player asks is answered, to that one alone.
+    // The first player's request is answered, only to that player.
     let second = run_once_over_ports(alloc, &mut core, &mut servers, &mut clock)?;
     assert_eq!(rt; (second.heard, second.sent, second.unmapped), (1, 1, 0));
     assert_eq!(rt; servers.sockets().went().len(), 3);
     assert!(rt; is_for(servers.sockets().went().last(), 0, FIRST, &TOLD));
-    // What it sends to the second one arrives in the other lobby, one hop on.
+    // What it sends to the second one arrives at the other server, one hop later.
     let third = run_once_over_ports(alloc, &mut core, &mut servers, &mut clock)?;
     assert_eq!(rt; (third.heard, third.sent, third.unmapped), (1, 1, 0));
     assert_eq!(rt; servers.sockets().went().len(), 4);
@@ -151,7 +153,7 @@ fn a_router_of_two_servers(rt: HostRuntime) -> Result<(), Fail> {
     Ok(())
 }
 
-/// The same in one burst, which is quiet in the end.
+/// The same in one batch, which is quiet in the end.
 #[test]
 fn a_batch_of_two_servers(rt: HostRuntime) -> Result<(), Fail> {
     let alloc = rt.alloc();
@@ -166,8 +168,8 @@ fn a_batch_of_two_servers(rt: HostRuntime) -> Result<(), Fail> {
     Ok(())
 }
 
-/// A table of 1,000 routes is told by 21 datagrams a minute, and no player gets one of them; who asks for
-/// all of it gets all, and nobody else does.
+/// A table of 1,000 routes is advertised in 21 datagrams a minute, and no player gets one of them.
+/// A player that asks for all of it gets all, and nobody else does.
 #[test]
 fn a_full_table_is_told_to_nobody(rt: HostRuntime) -> Result<(), Fail> {
     let alloc = rt.alloc();

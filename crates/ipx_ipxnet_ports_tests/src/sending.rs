@@ -1,4 +1,4 @@
-//! Packets of the core, and the players that they go to.
+//! Packets of the core, and the players that they are sent to.
 
 use crate::fixture::{
     CAME, FIRST, SECOND, SECOND_NODE, THIRD, UNKNOWN_SENDER, packet, registrations, servers,
@@ -11,7 +11,7 @@ use ipxnet_server::ServerCounts;
 use std::alloc::Global;
 use std::test::Fail;
 
-/// The port, whose three players registered at the moment 5.
+/// The port, whose three players registered at time 5.
 fn three_players(alloc: Global) -> Result<Servers<MemoryPlaces>, Fail> {
     let mut servers = servers(alloc, registrations(alloc)?)?;
     servers.set_moment(5);
@@ -44,8 +44,8 @@ fn packets_to_players(rt: HostRuntime) -> Result<(), Fail> {
     Ok(())
 }
 
-/// To all nodes: to the sockets of RIP and SAP to nobody, and from them to each, as to NetBIOS. To a
-/// player's node: to that one, whatever the socket.
+/// To all nodes: to nobody at the sockets of RIP and SAP, and to each from those sockets, or for
+/// NetBIOS. To a player's node: to that one, at any socket.
 #[test]
 fn what_a_router_tells(rt: HostRuntime) -> Result<(), Fail> {
     let mut servers = three_players(rt.alloc())?;
@@ -71,7 +71,7 @@ fn what_a_router_tells(rt: HostRuntime) -> Result<(), Fail> {
     Ok(())
 }
 
-/// To a node that is nobody's: the lobby gets it, and nobody else.
+/// To a node that no client has: only the server gets it.
 #[test]
 fn packets_to_nobody(rt: HostRuntime) -> Result<(), Fail> {
     let mut servers = three_players(rt.alloc())?;
@@ -82,7 +82,7 @@ fn packets_to_nobody(rt: HostRuntime) -> Result<(), Fail> {
     Ok(())
 }
 
-/// 1,424 bytes go to a player, and one more does not.
+/// 1,424 bytes are sent to a player, and one more is not.
 #[test]
 fn packets_that_are_too_long(rt: HostRuntime) -> Result<(), Fail> {
     let mut servers = three_players(rt.alloc())?;

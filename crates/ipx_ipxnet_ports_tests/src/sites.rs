@@ -1,4 +1,4 @@
-//! A lobby that is joined to those of two other sites, over sockets.
+//! A server that is joined to those of two other sites, over sockets.
 
 use crate::fixture::{
     ANSWER, CAME, FIRST, PORT, REGISTRATION, SECOND_NODE, UNKNOWN_SENDER, packet, went_behind,
@@ -10,7 +10,7 @@ use ipxnet_server::{IpxnetServer, Place};
 use std::alloc::{AllocError, Global};
 use std::test::Fail;
 
-/// Where the routers of the other sites are.
+/// The addresses of the routers of the other sites.
 const SOUTH: Place = Place {
     ip: [198, 51, 100, 7],
     udp_port: 2130,
@@ -43,8 +43,8 @@ fn joined(alloc: Global, sockets: MemoryPlaces) -> Result<Servers<MemoryPlaces>,
     Ok(Servers::new(sockets, servers))
 }
 
-/// What goes between a player here and one at the south: each datagram once to whom it is for, the
-/// answer first, and nothing that a site sent to any site.
+/// What is sent between a player here and one in the south. Each datagram is sent once to each that
+/// gets it, the answer first, and nothing that a site sent goes to any site.
 #[test]
 fn datagrams_of_sites(rt: HostRuntime) -> Result<(), Fail> {
     let all = packet(Node::BROADCAST);
@@ -84,7 +84,8 @@ fn datagrams_of_sites(rt: HostRuntime) -> Result<(), Fail> {
     Ok(())
 }
 
-/// Packets of the core: to a node that no client here has by the sites, to all nodes here alone.
+/// Packets of the core: to a node that no client here has they are sent to the sites, to all nodes
+/// only here.
 #[test]
 fn packets_of_the_core_by_sites(rt: HostRuntime) -> Result<(), Fail> {
     let mut sockets = MemoryPlaces::new(rt.alloc(), 1);
@@ -104,7 +105,7 @@ fn packets_of_the_core_by_sites(rt: HostRuntime) -> Result<(), Fail> {
     Ok(())
 }
 
-/// A site to which sending fails keeps none from its datagram.
+/// A failure to send to one site keeps no other from its datagram.
 #[test]
 fn a_site_that_fails(rt: HostRuntime) -> Result<(), Fail> {
     let mut sockets = MemoryPlaces::new(rt.alloc(), 1);

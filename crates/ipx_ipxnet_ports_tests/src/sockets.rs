@@ -1,4 +1,4 @@
-//! Sockets of this machine: a port, two players, and one that does not register.
+//! Sockets of this machine: a port, two players, and an unregistered sender.
 
 use crate::fixture::{PORT, REGISTRATION, servers};
 use ipx_carrier::{DeviceFault, PacketSent, PortDriver, PortDriverFilters};
@@ -11,7 +11,7 @@ use std::net::Net;
 use std::process::Abort;
 use std::test::Fail;
 
-/// Places that no one else uses: the port's, two players', and that of one who does not register.
+/// Addresses that nothing else uses: the port's, two players', and that of an unregistered sender.
 const AT: Place = Place {
     ip: [127, 0, 0, 44],
     udp_port: 0x51c2,
@@ -32,12 +32,12 @@ const UNKNOWN_SENDER: Place = Place {
     ..AT
 };
 
-/// Another one there.
+/// Another address there.
 fn place(udp_port: u16) -> Place {
     Place { udp_port, ..AT }
 }
 
-/// What the first player is answered, whose node is 7f00002c51c3.
+/// The answer to the first player, whose node is 7f00002c51c3.
 const ANSWER: [u8; 30] = [
     0xff, 0xff, 0, 0x1e, 0, 0, 0, 0, 0xd0, 0x5b, 0x7f, 0, 0, 0x2c, 0x51, 0xc3, 0, 2, 0, 0, 0xd0,
     0x5b, 2, 0, 0, 0, 0xd0, 0x5b, 0, 2,
@@ -56,7 +56,7 @@ fn bound<R: Net>(rt: &R, alloc: Global, at: Place) -> io::Result<ServerSockets> 
     Ok(sockets)
 }
 
-/// Asks sockets until a datagram comes, or often enough.
+/// Asks sockets until a datagram comes, or the tries are used up.
 fn next_datagram(
     sockets: &mut ServerSockets,
     room: &mut [u8],
@@ -64,7 +64,7 @@ fn next_datagram(
     next_by(sockets, 0, room)
 }
 
-/// The same of another port.
+/// The same at another port.
 fn next_by(
     sockets: &mut ServerSockets,
     port: usize,
@@ -80,7 +80,7 @@ fn next_by(
     Ok(None)
 }
 
-/// So many bytes of a place.
+/// A datagram of `size` bytes from an address.
 fn came_from(from: Place, size: usize) -> Option<DatagramCame> {
     Some(DatagramCame { from, size })
 }
@@ -129,7 +129,8 @@ fn players_over_sockets(rt: HostRuntime) -> Result<(), Fail> {
     let answer = next_datagram(&mut second, &mut room)?;
     assert!(rt; answer == Some(DatagramCame { from: AT, size: 30 }));
     assert_eq!(rt; &room[10..16], [0x7f, 0, 0, 0x2c, 0x51, 0xc4].as_slice());
-    // What the first one sends to all comes to the second, and what a stranger sends to nobody.
+    // What the first one sends to all arrives at the second, and what an unknown sender sends
+    // arrives nowhere.
     assert!(rt; stranger.send(0, AT, &TO_ALL).is_ok());
     assert!(rt; next_packet(&mut servers, &mut room)? == None);
     assert_eq!(rt; servers.filtered(), 3);
@@ -145,12 +146,12 @@ fn players_over_sockets(rt: HostRuntime) -> Result<(), Fail> {
     assert!(rt; first.send(0, AT, &bytes).is_ok());
     assert!(rt; next_packet(&mut servers, &mut room)? == Some(34));
     assert_eq!(rt; &room[..34], bytes.as_slice());
-    // A packet of the core goes to the player of its node.
+    // A packet of the core is sent to the player of its node.
     let sent = servers.send(0, Node([0x7f, 0, 0, 0x2c, 0x51, 0xc3]), &bytes);
     assert!(rt; matches!(sent, Ok(PacketSent::Transmitted(1))));
     let packet = next_datagram(&mut first, &mut room)?;
     assert!(rt; came(packet, &room, &bytes));
-    // Nothing else came to anybody.
+    // Nothing else arrived anywhere.
     assert!(rt; first.receive(0, &mut room)? == None);
     assert!(rt; second.receive(0, &mut room)? == None);
     assert!(rt; stranger.receive(0, &mut room)? == None);
@@ -162,9 +163,9 @@ fn players_over_sockets(rt: HostRuntime) -> Result<(), Fail> {
     Ok(())
 }
 
-/// Two ports, bound in order: each has its own place and descriptor, hears what comes there, and sends
-/// from there. The one that was bound first has the lower number of the system, which gives the lowest
-/// that is free.
+/// Two ports, bound in order. Each has its own address and descriptor, receives what comes there,
+/// and sends from there. The one bound first has the lower descriptor, because the system gives the
+/// lowest that is free.
 #[test]
 fn two_ports_of_servers(rt: HostRuntime) -> Result<(), Fail> {
     let alloc = rt.alloc();
@@ -181,7 +182,7 @@ fn two_ports_of_servers(rt: HostRuntime) -> Result<(), Fail> {
     assert!(rt; in_order);
     assert!(rt; sockets.descriptor(2).is_none());
     let mut room = [0; 1536];
-    // What goes to the second place comes by the second port, and by no other.
+    // What is sent to the second address arrives at the second port, and at no other.
     assert!(rt; player.send(0, other, b"second").is_ok());
     assert!(rt; next_by(&mut sockets, 1, &mut room)? == came_from(place(20_942), 6));
     assert_eq!(rt; &room[..6], b"second".as_slice());
@@ -190,12 +191,12 @@ fn two_ports_of_servers(rt: HostRuntime) -> Result<(), Fail> {
     assert!(rt; next_by(&mut sockets, 0, &mut room)? == came_from(place(20_942), 5));
     assert_eq!(rt; &room[..5], b"first".as_slice());
     assert!(rt; sockets.receive(1, &mut room)? == None);
-    // What a port sends comes from its place.
+    // What a port sends comes from its address.
     assert!(rt; sockets.send(1, place(20_942), b"by second").is_ok());
     assert!(rt; next_by(&mut player, 0, &mut room)? == came_from(other, 9));
     assert!(rt; sockets.send(0, place(20_942), b"by first").is_ok());
     assert!(rt; next_by(&mut player, 0, &mut room)? == came_from(at, 8));
-    // What was counted stays as one more port is bound.
+    // Counts stay as one more port is bound.
     sockets.bind(&rt, place(20_943), None)?;
     assert_eq!(rt;
         (sockets.ports(), sockets.sent(), sockets.failures()),
@@ -204,7 +205,8 @@ fn two_ports_of_servers(rt: HostRuntime) -> Result<(), Fail> {
     Ok(())
 }
 
-/// A port that hears one other IP address hears nobody here, and counts that; one that hears this does.
+/// A port that accepts only another IP address receives nothing here, and counts that; one that
+/// accepts this address receives it.
 #[test]
 fn who_is_not_named_is_not_heard(rt: HostRuntime) -> Result<(), Fail> {
     let alloc = rt.alloc();
@@ -243,7 +245,7 @@ fn who_is_not_named_is_not_heard(rt: HostRuntime) -> Result<(), Fail> {
     Ok(())
 }
 
-/// A port is asked only where it is marked, and one that has nothing loses its mark.
+/// A port is asked only if it is marked, and one where nothing waits loses its mark.
 #[test]
 fn a_port_without_a_mark_is_not_asked(rt: HostRuntime) -> Result<(), Fail> {
     let alloc = rt.alloc();
@@ -260,7 +262,7 @@ fn a_port_without_a_mark_is_not_asked(rt: HostRuntime) -> Result<(), Fail> {
     Ok(())
 }
 
-/// What no datagram of UDP can hold is refused by the system, which is counted.
+/// The system refuses what no UDP datagram can hold, which is counted.
 #[test]
 fn a_datagram_that_the_system_refuses(rt: HostRuntime) -> Result<(), Fail> {
     let alloc = rt.alloc();
@@ -283,7 +285,7 @@ fn a_lobbys_place_in_use_is_refused(rt: HostRuntime) -> Result<(), Fail> {
     Ok(())
 }
 
-/// Memory that is refused as a port is bound: no socket is left over.
+/// Memory is refused as a port is bound: no socket stays open.
 #[test]
 fn refused_server_port(rt: HostRuntime) -> Result<(), Fail> {
     let alloc = rt.alloc();

@@ -102,7 +102,7 @@ given_counted k k' ports lent ports' items' last now room given port count node 
   refl,
 )
 
--- and where none is, nothing is counted
+-- and if none is given, nothing is counted
 pub none_counted : (k k' : PriorityCoreView) (ports : List PortCounts) (last : LastDrops) (now : ℕ) (room : List ℕ) (given : Option (ℕ × Node × ℕ)) → given ≡ None
     → PriorityGives k now (given_in room given) k' → CountsAsItGives (counted_of k ports last) now (given_in room given) (counted_of k' ports last)
 none_counted k k' ports last now room given is h = (h, ap (λ g. with_given (given_in room g) ports) (sym is), refl)

@@ -13,7 +13,7 @@ use Rattle.ipx_metrics.specs.declared.port_counts.PortCounts.{PortCounts}
 raised_grows : (n : ℕ) → n < 2 ^ 64 → n ≤ raised n
 raised_grows n h = omega arith
 
--- where one term of a sum rises as the sum is to, the sum does
+-- if one term of a sum rises by as much as the sum is to rise, the sum does
 moved_sum : {X : Type 0} (f : X → ℕ) (xs : List X) (i : ℕ) (y d : X) (before after : ℕ) → i < length xs → before ≡ sum_by f xs → before ≤ after → after < 2 ^ 64
     → f y ≡ counted (f (get_or xs i d) + (after - before)) → after ≡ sum_by f (slice_set xs i y)
 moved_sum f xs i y d before after h e le few is =
@@ -21,7 +21,7 @@ moved_sum f xs i y d before after h e le few is =
     let set = sum_by-set f xs i y d h in
     omega arith
 
--- where a term stays, so does the sum
+-- if a term is unchanged, so is the sum
 unmoved_sum : {X : Type 0} (f : X → ℕ) (xs : List X) (i : ℕ) (y d : X) → i < length xs → f y ≡ f (get_or xs i d) → sum_by f (slice_set xs i y) ≡ sum_by f xs
 unmoved_sum f xs i y d h is =
     let set = sum_by-set f xs i y d h in
@@ -192,7 +192,7 @@ made n0 n1 n2 n3 n4 n5 n6 n7 n8 n9 = record {
   table_full = n9;
 }
 
--- counts are the same where each is
+-- counts are the same if each is
 counts_same : (a b : OutcomeCounters) → a.forwarded ≡ b.forwarded → a.answered ≡ b.answered → a.heard ≡ b.heard → a.bad ≡ b.bad → a.propagated ≡ b.propagated → a.not_ours ≡ b.not_ours → a.no_route ≡ b.no_route → a.hop_limit ≡ b.hop_limit → a.bad_control ≡ b.bad_control → a.table_full ≡ b.table_full → a ≡ b
 counts_same a b e0 e1 e2 e3 e4 e5 e6 e7 e8 e9 =
     ap (λ v. made v a.answered a.heard a.bad a.propagated a.not_ours a.no_route a.hop_limit a.bad_control a.table_full) e0
@@ -206,7 +206,7 @@ counts_same a b e0 e1 e2 e3 e4 e5 e6 e7 e8 e9 =
     ∙ ap (λ v. made b.forwarded b.answered b.heard b.bad b.propagated b.not_ours b.no_route b.hop_limit v a.table_full) e8
     ∙ ap (λ v. made b.forwarded b.answered b.heard b.bad b.propagated b.not_ours b.no_route b.hop_limit b.bad_control v) e9
 
--- counts of ports make up those of the whole, and still do where one port counts what the whole does
+-- the counts of ports add up to the router's, and still do if one port counts what the router does
 pub still_sums : (ports : List PortCounts) (i n : ℕ) (before after : OutcomeCounters) → i < length ports → before ≡ outcomes_over ports → NoneFell before after → AreFew after
     → after ≡ outcomes_over (changed_at ports i (with_heard_there before after n))
 still_sums ports i n before after h e up few =

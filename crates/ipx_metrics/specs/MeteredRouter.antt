@@ -1,4 +1,5 @@
--- A router as a core, which counts at each of its ports, and keeps what it dropped last. All of it is own.
+-- A router as a core that counts at each of its ports, and keeps what it dropped last. Defined by this
+-- project.
 use Rattle.std.specs.Prelude.{◌≡◌, ℕ, Bool, List, length, Option, Some, None}
 use Rattle.ipx_router.specs.RouterView.{RouterView}
 use Rattle.ipx_carrier.specs.PriorityRouterCore.{PriorityQueues, PriorityCoreView, PriorityMisses, PriorityGives, PriorityHears, PriorityWithholds}
@@ -9,7 +10,7 @@ use Rattle.ipx_metrics.specs.PortCounts.{changed_at, with_heard_there, with_sent
 use Rattle.ipx_metrics.specs.declared.last_drops.LastDrops.{LastDrops}
 use Rattle.ipx_metrics.specs.declared.port_counts.PortCounts.{PortCounts}
 
--- what a router is as a core, and what it counted at each port and dropped last
+-- a router as a core, with its counts at each port and what it dropped last
 pub record CountedView : Type 0 where
   pub router : RouterView
   pub queues : PriorityQueues
@@ -19,7 +20,7 @@ pub record CountedView : Type 0 where
   pub port_counters : List PortCounts
   pub last : LastDrops
 
--- without the latter
+-- without these counts and drops
 abbrev pub without_counts : CountedView → PriorityCoreView
 without_counts c = record {
   router = c.router;
@@ -29,19 +30,19 @@ without_counts c = record {
   outcomes = c.outcomes;
 }
 
--- at that port, and at no other, it is counted what the router counted; where it dropped the bytes, they
--- are what it dropped last
+-- what the router counted is counted at that port, and at no other; if it dropped the bytes, they are what it
+-- dropped last
 pub record IsCountedHeard (old : CountedView) (port : ℕ) (bytes : List ℕ) (new : CountedView) : Type 0 where
   pub port_counters :
       new.port_counters ≡ changed_at old.port_counters port (with_heard_there old.outcomes new.outcomes (length bytes))
   pub last : AreNoted old.outcomes new.outcomes port bytes old.last new.last
 
--- it hears what the router does
+-- it hears as the router does
 abbrev pub CountsHeard : CountedView → ℕ → List ℕ → ℕ → CountedView → Type 0
 CountsHeard old port bytes now new = PriorityHears (without_counts old) port bytes now (without_counts new)
     × IsCountedHeard old port bytes new
 
--- memory is refused to it as it hears. What came is counted
+-- it runs out of memory as it hears; what came is counted
 abbrev pub CountsMissed : CountedView → ℕ → List ℕ → ℕ → CountedView → Type 0
 CountsMissed old port bytes now new = PriorityMisses (without_counts old) port bytes now (without_counts new)
     × IsCountedHeard old port bytes new
@@ -51,12 +52,12 @@ abbrev pub with_given : Option Given → List PortCounts → List PortCounts
 with_given None ports = ports
 with_given (Some g) ports = changed_at ports g.port (with_sent_there (length g.bytes))
 
--- it gives what the router does
+-- it gives what the router gives
 abbrev pub CountsAsItGives : CountedView → ℕ → Option Given → CountedView → Type 0
 CountsAsItGives old now given new = PriorityGives (without_counts old) now given (without_counts new)
     × (new.port_counters ≡ with_given given old.port_counters) × (new.last ≡ old.last)
 
--- memory is refused to it as it is asked, and nothing is counted
+-- it runs out of memory as it is asked, and nothing is counted
 abbrev pub CountsWithheld : CountedView → ℕ → CountedView → Type 0
 CountsWithheld old now new = PriorityWithholds (without_counts old) now (without_counts new)
     × (new.port_counters ≡ old.port_counters) × (new.last ≡ old.last)

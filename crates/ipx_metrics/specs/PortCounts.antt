@@ -1,4 +1,4 @@
--- What a router counts at each of its ports. All of it is own.
+-- What a router counts at each of its ports. Defined by this project.
 use Rattle.std.specs.Prelude.{ℕ, ◌+◌, ◌-◌, List, slice_index_or, slice_set}
 use Rattle.std.specs.List.{sum_by}
 use Rattle.ipx_carrier.specs.Counting.{counted, raised}
@@ -6,11 +6,11 @@ use Rattle.ipx_carrier.specs.OutcomeCounters.{none}
 use Rattle.ipx_carrier.specs.declared.outcome_counters.OutcomeCounters.{OutcomeCounters}
 use Rattle.ipx_metrics.specs.declared.port_counts.PortCounts.{PortCounts}
 
--- nothing passed yet
+-- nothing has passed
 abbrev pub no_traffic : PortCounts
 no_traffic = record { outcomes = none; heard_bytes = 0; sent = 0; sent_bytes = 0 }
 
--- these counts, each of which rises as that of a whole does
+-- these counts, each of which rises as the router's count does
 abbrev pub outcomes_moved : OutcomeCounters → OutcomeCounters → OutcomeCounters → OutcomeCounters
 outcomes_moved here before after = record {
   forwarded = counted (here.forwarded + (after.forwarded - before.forwarded));
@@ -25,29 +25,30 @@ outcomes_moved here before after = record {
   table_full = counted (here.table_full + (after.table_full - before.table_full));
 }
 
--- so many bytes came here, and what the whole counted of them before and behind is counted here
+-- this many bytes came here; what the router counted of them is counted here, given its counts before and
+-- after
 abbrev pub with_heard_there : OutcomeCounters → OutcomeCounters → ℕ → PortCounts → PortCounts
 with_heard_there before after bytes p = record p {
   outcomes = outcomes_moved p.outcomes before after;
   heard_bytes = counted (p.heard_bytes + bytes);
 }
 
--- a packet of so many bytes is given to be sent here
+-- a packet of this many bytes is given to be sent here
 abbrev pub with_sent_there : ℕ → PortCounts → PortCounts
 with_sent_there bytes p = record p {
   sent = raised p.sent;
   sent_bytes = counted (p.sent_bytes + bytes);
 }
 
--- the counts of one port change so, and those of no other
+-- the counts of one port change by `change`, and those of no other
 abbrev pub changed_at : List PortCounts → ℕ → (PortCounts → PortCounts) → List PortCounts
 changed_at ports port change = slice_set ports port (change (slice_index_or ports port no_traffic))
 
--- a count of each port, added up
+-- a count, summed over the ports
 abbrev pub over_ports : (OutcomeCounters → ℕ) → List PortCounts → ℕ
 over_ports of ports = sum_by (λ p. of p.outcomes) ports
 
--- what became of what came by all ports together
+-- the outcomes of what came by all ports together
 abbrev pub outcomes_over : List PortCounts → OutcomeCounters
 outcomes_over ports = record {
   forwarded = over_ports (λ f. f.forwarded) ports;

@@ -6,8 +6,8 @@ ghost use Rattle.ipx_metrics.specs.LastDrops.{AreNoted, IsDropOf, IsHeadAddress,
 use ipx_carrier::OutcomeCounters;
 use ipx_wire::{Address, IPX_HEADER_SIZE, address_at};
 
-/// A datagram that was dropped: the port that it came by, numbered from 0, and what its head says.
-/// None where it was shorter than a head.
+/// A datagram that was dropped: the port that it came by, starting at 0, and the addresses in its
+/// header. These are None if it was shorter than a header.
 #[derive(Clone, Copy, Debug, PartialEq, Eq)]
 pub struct LastDrop {
     pub port: usize,
@@ -15,7 +15,7 @@ pub struct LastDrop {
     pub from: Option<Address>,
 }
 
-/// The last one that a router dropped for each of five reasons; none where there was none.
+/// The last datagram that a router dropped for each of five reasons; None if there was none.
 #[derive(Clone, Copy, Debug, PartialEq, Eq)]
 pub struct LastDrops {
     pub bad: Option<LastDrop>,
@@ -25,13 +25,13 @@ pub struct LastDrops {
     pub bad_control: Option<LastDrop>,
 }
 
-/// Where the address of its receiver stands in a datagram.
+/// The offset of the destination address in a datagram.
 const TO: usize = 6;
 
-/// Where that of its sender does.
+/// The offset of the source address.
 const FROM: usize = 18;
 
-/// The receiver that a datagram names, where it is as long as a head.
+/// The destination of a datagram, if it is at least as long as a header.
 fn receiver_of(bytes: &[u8]) -> Option<Address>
     ensures { IsHeadAddress 6 bytes.now result }
 {
@@ -41,7 +41,7 @@ fn receiver_of(bytes: &[u8]) -> Option<Address>
     Some(address_at(&bytes[TO..]))
 }
 
-/// The sender, likewise.
+/// The source of a datagram, if it is at least as long as a header.
 fn sender_of(bytes: &[u8]) -> Option<Address>
     ensures { IsHeadAddress 18 bytes.now result }
 {
@@ -51,7 +51,7 @@ fn sender_of(bytes: &[u8]) -> Option<Address>
     Some(address_at(&bytes[FROM..]))
 }
 
-/// These bytes, which came by a port, as one that was dropped.
+/// The dropped datagram with these bytes, which came by this port.
 fn drop_of(port: usize, bytes: &[u8]) -> LastDrop
     ensures { IsDropOf port bytes.now result }
 {
@@ -62,7 +62,7 @@ fn drop_of(port: usize, bytes: &[u8]) -> LastDrop
     }
 }
 
-/// Notes these bytes as the last ones of a reason, where its count rose.
+/// Records these bytes as the last ones of a reason, if its count rose.
 fn note_if(last: &mut Option<LastDrop>, before: u64, after: u64, port: usize, bytes: &[u8])
     ensures { IsNotedIf before after port bytes.now last.old last.new }
 {
@@ -72,7 +72,7 @@ fn note_if(last: &mut Option<LastDrop>, before: u64, after: u64, port: usize, by
 }
 
 impl LastDrops {
-    /// None was dropped yet.
+    /// Nothing has been dropped yet.
     pub fn new() -> LastDrops
         ensures { result ≡ nothing_dropped }
     {
@@ -85,7 +85,7 @@ impl LastDrops {
         }
     }
 
-    /// Notes bytes that came by a port, by what their router counted before them and behind them.
+    /// Records bytes that came by a port, given the router's counts before and after them.
     pub fn note(
         &mut self,
         before: &OutcomeCounters,

@@ -1,6 +1,6 @@
 //! What a router counts at each of its ports, and what it dropped last.
 //!
-//! A [`MeteredRouter`] is a router as a core that counts so.
+//! A [`MeteredRouter`] is a router as a core that keeps these counts.
 #![tactic(auto)]
 
 mod last_drops;

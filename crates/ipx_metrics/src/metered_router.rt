@@ -14,9 +14,9 @@ use ipx_wire::{Node, OutOfMemory};
 use std::alloc::{AllocError, Global};
 use std::marker::Model;
 
-/// A router that runs over a device, as `PriorityRouterCore` is, and counts at each of its ports what
-/// passes and what becomes of it. What became of datagrams by all ports is what the router counts, and
-/// what it dropped last for a reason is kept.
+/// A router that runs over a device, like `PriorityRouterCore`. It also counts the traffic and the
+/// outcomes at each of its ports. The outcomes of all ports together are those that the router
+/// counts. It keeps the last datagram that it dropped for each reason.
 #[derive(Drop)]
 pub struct MeteredRouter {
     core: PriorityRouterCore,
@@ -87,8 +87,7 @@ impl MeteredRouter {
         })
     }
 
-    /// How many packets were dropped since their queue had no room for them. It stays at the greatest
-    /// u64.
+    /// How many packets were dropped because their queue was full. Saturates at the greatest u64.
     pub fn dropped(&self) -> u64
         ensures { result ≡ self.now.dropped }
     {
@@ -102,21 +101,21 @@ impl MeteredRouter {
         self.core.queued()
     }
 
-    /// The router, to be asked between two runs.
+    /// The router, for inspection between two runs.
     pub fn router(&self) -> &Router
         ensures { result.now ≡ self.now.router }
     {
         self.core.router()
     }
 
-    /// What became of the datagrams that it heard.
+    /// The outcomes of the datagrams that it heard.
     pub fn outcomes(&self) -> OutcomeCounters
         ensures { result ≡ self.now.outcomes }
     {
         self.core.outcomes()
     }
 
-    /// What it counted at each of its ports: of each fate as many together as it counts itself.
+    /// The counts of each of its ports. For each outcome they add up to its own count.
     pub fn port_counters(&self) -> &[PortCounts]
         ensures counts { result.now ≡ self.now.port_counters }
         ensures sums { self.now.outcomes ≡ outcomes_over result.now }
@@ -125,14 +124,15 @@ impl MeteredRouter {
         &self.ports
     }
 
-    /// What it dropped last.
+    /// The last datagrams that it dropped.
     pub fn last(&self) -> LastDrops
         ensures { result ≡ self.now.last }
     {
         self.last
     }
 
-    /// The router asks its neighbours once more, as `PriorityRouterCore::restart_discovery` says.
+    /// The router repeats its requests to its neighbours, as
+    /// `PriorityRouterCore::restart_discovery` says.
     pub fn restart_discovery(&mut self)
         ensures { self.new ≡ record self.old { started = false } }
     {

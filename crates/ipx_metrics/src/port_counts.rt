@@ -7,26 +7,26 @@ ghost use Rattle.ipx_metrics.specs.PortCounts.{outcomes_moved, no_traffic, with_
 
 use ipx_carrier::OutcomeCounters;
 
-/// What came to a router by one of its ports, what became of it, and what the router gave to be sent
-/// there. Each count stays at the greatest u64.
+/// What came to a router by one of its ports, the outcomes of that, and what the router gave to be
+/// sent there. Each count saturates at the greatest u64.
 #[derive(Clone, Copy, Debug, PartialEq, Eq)]
 pub struct PortCounts {
-    /// What became of the datagrams.
+    /// The outcomes of the datagrams.
     pub outcomes: OutcomeCounters,
     pub heard_bytes: u64,
-    /// The packets, each once, to however many nodes it goes.
+    /// The packets, each counted once, to however many nodes it goes.
     pub sent: u64,
     pub sent_bytes: u64,
 }
 
-/// A count, which rises as another one does.
+/// A count that rises as another one does.
 fn moved(count: u64, before: u64, after: u64) -> u64
     ensures { result ≡ counted (count + (after - before)) }
 {
     count.saturating_add(after.saturating_sub(before))
 }
 
-/// These counts, each of which rises as that of a whole does.
+/// These counts, each of which rises as the router's count does.
 fn moved_outcomes(
     here: &OutcomeCounters,
     before: &OutcomeCounters,
@@ -49,7 +49,7 @@ fn moved_outcomes(
 }
 
 impl PortCounts {
-    /// Nothing passed yet.
+    /// Nothing has passed yet.
     pub fn new() -> PortCounts
         ensures { result ≡ no_traffic }
     {
@@ -61,15 +61,15 @@ impl PortCounts {
         }
     }
 
-    /// How many datagrams came: each became something.
+    /// How many datagrams came: each has one outcome.
     pub fn heard(&self) -> u64
         ensures { result ≡ counted (outcomes_in self.now.outcomes) }
     {
         u64::try_from(self.outcomes.total()).unwrap_or(u64::MAX)
     }
 
-    /// Counts a datagram of so many bytes that came here, and what became of it: by what its router
-    /// counted before it and behind it.
+    /// Counts a datagram of this many bytes that came here, and its outcome, given the router's
+    /// counts before and after it.
     pub fn hear(&mut self, before: &OutcomeCounters, after: &OutcomeCounters, bytes: usize)
         ensures { self.new ≡ with_heard_there before.now after.now bytes self.old }
     {
@@ -77,7 +77,7 @@ impl PortCounts {
         self.heard_bytes = self.heard_bytes.saturating_add(bytes as u64);
     }
 
-    /// Counts a packet of so many bytes that is given to be sent here.
+    /// Counts a packet of this many bytes that is given to be sent here.
     pub fn send(&mut self, bytes: usize)
         ensures { self.new ≡ with_sent_there bytes self.old }
     {

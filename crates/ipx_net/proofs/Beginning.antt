@@ -1,5 +1,5 @@
--- Under the premises of the headline each end begins what its peer handed in, in the words of the
--- entries.
+-- Under the premises of the headline, what each end handed out is a prefix of what was handed in at its peer,
+-- in terms of the entries.
 use Rattle.std.proofs.Common.{◌↔◌, ℕ, inl, inr}
 use Rattle.spx_theory.specs.LogHeadline.{LogHeadline}
 use Rattle.spx_theory.specs.LogPremises.{HavePeer, IsEnd, LogPremises}

@@ -1,4 +1,4 @@
--- Hosts and routers that are made one after another, and the network that begins with them.
+-- Hosts and routers that are made one after another, and the network that starts with them.
 use Rattle.std.proofs.Common.{ℕ, zero, suc, ◌≡◌, ◌<◌, ◌≤◌, ◌+◌, ◌==◌, ◌∷◌, ◌++◌, Bool, true, false, cond, IfSome, arith, List, [], length, map, take, drop, get_or, All, Option, Some, None, sym, ◌∙◌, ap, subst}
 use Rattle.std.specs.Prelude.{Vec, slice_get}
 use Rattle.std.specs.Global.{Global}
@@ -28,7 +28,7 @@ zip_more R [] (b ∷ ys) x y are r = absurd are
 zip_more R (a ∷ xs) [] x y are r = absurd are
 zip_more R (a ∷ xs) (b ∷ ys) x y are r = (are.0, zip_more R xs ys x y are.1 r)
 
--- one more host behind the others
+-- one more host after the others
 pub one_more_host : (hosts : List Host) (i : ℕ) (d : Host) (old new : List HostState) → i < length hosts → AreHosts (take i hosts) old
     → AddsHost old new (get_or hosts i d).network (get_or hosts i d).node (get_or hosts i d).router (get_or hosts i d).listen → AreHosts (take (i + 1) hosts) new
 one_more_host hosts i d old new within are adds =
@@ -47,7 +47,7 @@ sound_more ps p sound none =
 pub more_routers : (ps : PortLists) (p : Vec Port Global) (old new : List RouterNow) (r : RouterNow) → AreRouters ps old → IsRouterOf p r → new ≡ old ++ r ∷ [] → AreRouters (ps ++ p ∷ []) new
 more_routers ps p old new r are is grown = subst (AreRouters (ps ++ p ∷ [])) (sym grown) (zip_more IsRouterOf ps old p r are is)
 
--- the first router that is refused, where those before it are not
+-- the first router that is refused, if those before it are not
 pub refused_at : (all ps : PortLists) (p : Vec Port Global) (f : NewFault) → map (λ x. x) ps ≡ take (length ps) all
     → (length ps < length all) × (p ≡ get_or all (length ps) p) → router_faults ps ≡ [] → ports_fault p.items ≡ Some f → first_refusal all ≡ Some f
 refused_at all ps p f so_far there sound fault =

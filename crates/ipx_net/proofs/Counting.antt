@@ -1,4 +1,4 @@
--- Units counted by their places.
+-- Units counted by their indices.
 use Rattle.std.proofs.Common.{◌≡◌, ◌<◌, ◌≤◌, ◌+◌, ◌-◌, ◌==◌, ℕ, zero, suc, List, [], ◌∷◌, ◌++◌, length, get_or, take, drop, refl, sym, ◌∙◌, ap, arith, Bool, true, false, cond, add-zero, zero-add, ltb, ltb-true, ltb-false, length-drop, length-take}
 use Rattle.std.specs.Prelude.{count_by, if◌then◌else◌}
 use Rattle.std.specs.List.Sorted.{IsPartitionPoint, IsPartitionedBy}
@@ -18,7 +18,7 @@ places-push at e n (x ∷ xs) =
     ≡ cond b (at ∷ places_from (at + 1) e xs) (places_from (at + 1) e xs) ++ (if n == e then (at + suc (length xs)) ∷ [] else []))
     [ true ↦ ap (λ ys. at ∷ ys) rest | false ↦ rest ]
 
--- a place of the list is not before its first
+-- an index in the list is not before its first one
 first_or_later : (at d : ℕ) (ps : List ℕ) (k : ℕ) → ((j : ℕ) → j < length ps → at + 1 ≤ get_or ps j d) → k < suc (length ps) → at ≤ get_or (at ∷ ps) k d
 first_or_later at d ps zero later h = omega arith
 first_or_later at d ps (suc k) later h = let w = later k (omega arith) in omega arith
@@ -31,7 +31,7 @@ not_before at e (x ∷ xs) k d h =
     elim (x == e) as (λ b. k < length (cond b (at ∷ ps) ps) → at ≤ get_or (cond b (at ∷ ps) ps) k d)
     [ true ↦ first_or_later at d ps k later | false ↦ λ w. let l = later k w in omega arith ] h
 
--- the places rise
+-- the indices rise
 with_first : (at d : ℕ) (ps : List ℕ) (i j : ℕ) → i ≤ j → ((k : ℕ) → k < length ps → at + 1 ≤ get_or ps k d) → ((a b : ℕ) → a ≤ b → b < length ps → get_or ps a d ≤ get_or ps b d)
     → j < suc (length ps) → get_or (at ∷ ps) i d ≤ get_or (at ∷ ps) j d
 with_first at d ps zero zero le above later h = omega arith
@@ -48,7 +48,8 @@ rising at e (x ∷ xs) i j d le h =
     elim (x == e) as (λ b. j < length (cond b (at ∷ ps) ps) → get_or (cond b (at ∷ ps) ps) i d ≤ get_or (cond b (at ∷ ps) ps) j d)
     [ true ↦ with_first at d ps i j le above later | false ↦ later i j le ] h
 
--- those of the first i places that are below a bound, and the others are not: i is how often the number stands below it
+-- if the first i indices are below a bound, and the others are not, i is how many times the number occurs
+-- below it
 pub counted : (at e : ℕ) (ns : List ℕ) (x i : ℕ) → i ≤ length (places_from at e ns)
     → ((k : ℕ) → k < i → get_or (places_from at e ns) k 0 < at + x) → ((k : ℕ) → i ≤ k → k < length (places_from at e ns) → at + x ≤ get_or (places_from at e ns) k 0)
     → i ≡ times e (take x ns)
@@ -75,14 +76,14 @@ counted at e (n ∷ ns) (suc x) i le below above =
     with_one at x ps t (suc i) rest le below above =
         let k = rest i (omega arith) (λ k h. let w = below (suc k) (omega arith) in omega arith) (λ k g h. let w = above (suc k) (omega arith) (omega arith) in omega arith) in omega arith
 
--- how often a number stands between two places
+-- how many times a number occurs between two indices
 pub times-between : (e a b : ℕ) (ns : List ℕ) → times e (drop a (take b ns)) ≡ times e (take b ns) - times e (take a ns)
 times-between e zero b ns = omega arith
 times-between e (suc a) zero ns = omega arith
 times-between e (suc a) (suc b) [] = refl
 times-between e (suc a) (suc b) (n ∷ ns) = let rest = times-between e a b ns in omega arith
 
--- a number stands no more often than there are elements
+-- a number does not occur more often than there are elements
 pub times-few : (e : ℕ) (ns : List ℕ) → times e ns ≤ length ns
 times-few e [] = omega arith
 times-few e (n ∷ ns) = let rest = times-few e ns in elim (n == e) as (λ b. cond b 1 0 + times e ns ≤ suc (length ns)) [ true ↦ omega arith | false ↦ omega arith ]
@@ -91,11 +92,11 @@ one_counted : (b : Bool) (t : ℕ) → cond b 1 0 + t ≡ cond b (1 + t) t
 one_counted true t = refl
 one_counted false t = zero-add t
 
--- as std counts
+-- the same as the count of std
 pub times-count : (e : ℕ) (ns : List ℕ) → times e ns ≡ count_by (λ n. n == e) ns
 times-count e ns = is_count_by (times e) (λ n. n == e) refl (λ x xs. one_counted (x == e) (times e xs)) ns
 
--- between two places there are no more than these are apart
+-- between two indices there are no more elements than their distance
 pub few_between : (e a b : ℕ) (ns : List ℕ) → times e (drop a (take b ns)) ≤ b - a
 few_between e a b ns =
     let few : times e (drop a (take b ns)) ≤ length (drop a (take b ns)) = times-few e (drop a (take b ns)) in

@@ -1,4 +1,4 @@
--- What is counted of the ends of a log, of what is told of them.
+-- What the summaries say follows from what is counted of the ends of a log.
 use Rattle.std.proofs.Common.{List}
 use Rattle.spx_theory.specs.Note.{Note}
 use Rattle.ipx_net.specs.Ends.{TellsLog}

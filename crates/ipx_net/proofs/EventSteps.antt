@@ -1,4 +1,4 @@
--- What the calls on hosts say, as what events at hosts do.
+-- The contracts of the calls on hosts, as what events at hosts do.
 use Rattle.std.proofs.Common.{ℕ, zero, suc, ◌≡◌, ◌≢◌, inl, inr, List, [], ◌∷◌, ◌++◌, length, take, set, Option, Some, None, Result, Ok, Err, refl, sym, ◌∙◌, ap, subst}
 use Rattle.std.specs.Prelude.{IfOk, IfSome, option_map, slice_get}
 use Rattle.std.proofs.lemmas.List.{append-nil}

@@ -1,4 +1,4 @@
--- What an event did is what the relation of steps says of it.
+-- The result of an event meets the relation of steps.
 use Rattle.std.proofs.Common.{ℕ, ◌≡◌, ◌<◌, ◌++◌, ◌==◌, All, List, [], ◌∷◌, Bool, true, false, Result, Ok, Err, IfOk, Option, Some, None, refl, sym, ap, subst, ◌∙◌, length, get_or}
 use Rattle.std.specs.Prelude.{option_map, slice_get}
 use Rattle.std.proofs.lemmas.List.{append-nil, length-map}
@@ -47,7 +47,7 @@ pub happened : {E : Type 0} (P : AnswerView → World → World → Type 0) (r :
 happened P (Ok g) old new routers b first now count grows = (grows b.parcels b.log count, refl)
 happened P (Err e) old new routers b first now count grows = tt
 
--- ---- a parcel where it is delivered
+-- ---- a parcel that is delivered
 
 pub letter_at : (ps : List Parcel) (b : IndexedLogView) (k : ℕ) (p : Parcel) → parcel_views ps ≡ b.parcels → k < length ps → p ≡ get_or ps k p → slice_get b.parcels k ≡ Some (parcel_view p)
 letter_at ps b k p views within read =
@@ -183,7 +183,7 @@ reached_router hosts routers routers' b router port parcel first now l g count a
 pub counted : (ps : List Parcel) (b : IndexedLogView) → parcel_views ps ≡ b.parcels → length b.parcels ≡ length ps
 counted ps b views = ap length (sym views) ∙ length-map ps parcel_view
 
--- ---- of calls that may want memory
+-- ---- calls that may run out of memory
 
 pub polled_ok : {E : Type 0} (r : Result StepResult E) (hosts : HostsView) (routers routers' : List RouterNow) (b : IndexedLogView) (router first now : ℕ) → length b.parcels ≡ first
     → IfOk r (λ g. MemberPolled routers router first now (step_result_view g) routers')

@@ -1,4 +1,4 @@
--- The laws of scenes that are reached, of a network.
+-- The laws of scenes that can be reached, for a network.
 use Rattle.std.proofs.Common.{ℕ, zero, suc, ◌≡◌, ◌≢◌, ◌≤◌, ◌⊎◌, arith, inl, inr, length, List, [], ◌∷◌, ◌++◌, Bool, true, false, map, None, Option, Some, refl, sym, ap, ◌∙◌, subst}
 use Rattle.std.specs.Prelude.{slice_get}
 use Rattle.std.proofs.lemmas.Bool.{cond-false}
@@ -35,7 +35,7 @@ use Rattle.ipx_net.specs.Theorems.{AreNumbered, AreReleasedByLog, AreWhereOpened
 abbrev pub IsLaw : (Scene → Type 0) → Type 0
 IsLaw P = (s : Scene) → Reached s → P s
 
--- the laws of scenes, each a clause of a function of `spx_theory` or `ipx_recovery`
+-- the laws of scenes, each one a clause of a function of `spx_theory` or `ipx_recovery`
 pub record SceneLaws : Type 0 where
   pub carried : IsLaw RoutersAlterHopsAlone
   pub sent : IsLaw UnitsAreSentInOrder
@@ -64,7 +64,7 @@ pub record SceneLaws : Type 0 where
   pub not_stuck_both_ways : IsLaw NoPairIsStuck
   pub not_stuck_by_addresses : IsLaw NothingIsStuckByAddresses
 
--- ---- what speaks of log and parcels alone
+-- ---- theorems of only log and parcels
 abbrev pub lain : List (List ℕ) → List Network → List Note → Scene
 lain parcels segments log = record { homes = []; ends = []; parcels = parcels; segments = segments; log = log }
 
@@ -97,7 +97,7 @@ premises law w spent kept =
     let at : PremisesAreRead (lain (map bytes_of w.parcels) (map segment_of w.parcels) w.log) = always PremisesAreRead (λ s r. let p = law s r in record { injected = p.injected; own = p.own; recent = p.recent; all = p.all }) w spent kept in
     record { injected = at.injected; own = at.own; recent = at.recent; all = at.all }
 
--- ---- of what speaks of addresses and log alone
+-- ---- theorems of only addresses and log
 abbrev pub addressed : List Home → List Note → Scene
 addressed homes log = record { homes = homes; ends = []; parcels = []; segments = []; log = log }
 
@@ -164,9 +164,9 @@ released_by_log w order t who n at =
     let both = t.released who (stand_of w.hosts n) (stands_there w who n at) in
     (λ is. both.0 (released_end w n is), λ has. unreleased_end w order who n at n.released refl (both.1 has))
 
--- ---- of what the log and the marks of ends say of messages
+-- ---- theorems of messages, by the log and the marks of ends
 
--- a list of marks that follows another has its marks, and after them at most one
+-- after more marks, each index has its old mark, or is that of at most one new mark
 last_or_before : (old : List Bool) (who : ℕ) → slice_get (old ++ false ∷ []) who ≡ Some false → (length old ≤ who) ⊎ (slice_get old who ≡ Some false)
 last_or_before [] who at = inl (omega arith)
 last_or_before (x ∷ xs) zero at = inr at
@@ -194,7 +194,7 @@ was_unmarked s es follows who n at well =
       | inr there ↦ inr (stand_unmarked s.ends who there)
     ]
 
--- what an end handed out, by what was so of it in a scene that was reached with the same log
+-- what an end handed out, by what held in a scene that can be reached with the same log
 still_joined : IsLaw HandsOutWhatItTook → IsLaw AbsentHandsOutNothing → (s : Scene) → Reached s → (who : ℕ) → (length s.ends ≤ who) ⊎ ((e : Stand) × (slice_get s.ends who ≡ Some e) × (e.overlong ≡ false))
     → handed_out who s.log ≡ (joined (taken_of who s.log)).messages
 still_joined law absent s r who (inl past) =

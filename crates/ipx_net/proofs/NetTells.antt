@@ -1,4 +1,4 @@
--- What is told of ends is right after an event, and after want of memory.
+-- The summaries of ends are right after an event, and after memory ran out.
 use Rattle.std.proofs.Common.{ℕ, ◌≡◌, ◌≤◌, List, [], true, false, Option, None, Some, length, take, refl, sym, ap, subst, ◌∙◌, arith, length-take}
 use Rattle.std.proofs.lemmas.List.{length-map}
 use Rattle.spx_theory.specs.EndsTold.{EndsAreTold}
@@ -49,7 +49,7 @@ tells_err v v' k t0 t1 t1' tells cleared same log spent =
       stands = λ going. let no : true ≡ false = sym spent ∙ going in cc;
     }
 
--- what is told before the new entries are read
+-- the summaries before the new entries are read
 pub tells_before : (v : NetView) (k : Option ℕ) (t0 t1 t1' : List EndInfo) (log : List Note) → TellsEnds v t0 → Restood (hosts_of v.now.world) k true t0 t1 → t1' ≡ t1
     → log ≡ v.now.world.log → TellsLog log t1'
 tells_before v k t0 t1 t1' log tells cleared same is =
@@ -62,7 +62,7 @@ range_on log log' is = omega (arith, ap length is, length-take (length log) log'
 pub tells_next : (w : World) (t : List EndInfo) → EndsAreTold (scene_of w) → TellsLog w.log t → TellsNext w t
 tells_next w t told log = λ who s l stands. (log.each who).next ∙ sym (told.next who s l stands)
 
--- a network in which nothing happened has no ends to tell of
+-- a network in which nothing happened has no ends and no summaries
 pub tells_new : (v : NetView) → v.now.world.log ≡ [] → v.now.world.ends ≡ [] → TellsEnds v []
 tells_new v log ends =
     record {

@@ -1,4 +1,4 @@
--- Parcels by their numbers, and what keeps an event from them.
+-- Parcels by their numbers, and the faults of an event that names one.
 use Rattle.std.proofs.Common.{ℕ, ◌≡◌, List, [], ◌∷◌, zero, suc, Option, None, Some, refl, sym, ap, ◌∙◌}
 use Rattle.std.specs.Prelude.{option_map, slice_get}
 use Rattle.ipx_wire.specs.declared.address.Network.{Network}

@@ -1,4 +1,4 @@
--- Which end is whose peer, as it is found.
+-- How the peer of an end is found.
 use Rattle.std.proofs.Common.{◌≡◌, ◌<◌, ◌↔◌, ℕ, List, [], ◌∷◌, length, Option, Some, None, get_or, map, sym, ◌∙◌, ap, subst, arith, zero, suc, false, not, nat_eq, eqb-true}
 use Rattle.std.specs.Prelude.{All, option_map}
 use Rattle.std.specs.Option.{option_eq}
@@ -14,7 +14,7 @@ use Rattle.ipx_net.specs.Begins.{BeginsAsRead}
 use Rattle.ipx_net.specs.Sights.{reading_view, scan_of}
 use Rattle.ipx_net.specs.declared.log_index.LogIndex.{LogIndex}
 
--- of an end with this peer
+-- for an end with this peer
 pub with_peer : (log : List Note) (end peer : ℕ) → ((s : Scan) (c d : ℕ) → PeerIsFound s c d) → end < length (scan log).roles → peer_of log end ≡ Some peer
     → BeginsAsRead log end ↔ IsBeginning (handed_out end log) (handed_in peer log)
 with_peer log end peer found made is =
@@ -28,7 +28,7 @@ with_peer log end peer found made is =
       },
     )
 
--- of one without
+-- for an end without a peer
 pub without_peer : (log : List Note) (end : ℕ) → ((s : Scan) (c d : ℕ) → PeerIsFound s c d) → end < length (scan log).roles → peer_of log end ≡ None
     → BeginsAsRead log end ↔ (handed_out end log ≡ [])
 without_peer log end found made is =
@@ -47,12 +47,12 @@ each_all P f xs = (to_each P f xs, from_each P f xs)
     from_each : {A B : Type 0} (P : B → Type 0) (f : A → B) (xs : List A) → Each P (map f xs) → All (λ x. P (f x)) xs
     from_each P f xs each k d h = each k (f (get_or xs k d)) (slice_get-map f xs k ∙ ap (option_map f) (slice_get-get_or xs k d h))
 
--- a peer that is found to be this end
+-- the found peer is this end
 pub is_this : (o : Option ℕ) (m : ℕ) → not (option_eq nat_eq o (Some m)) ≡ false → o ≡ Some m
 is_this None m e = cc
 is_this (Some k) m e = ap Some (eqb-true k m (not-false (nat_eq k m) e))
 
--- readings that are recent, by what is kept of them
+-- whether readings are recent, by the index
 pub fresh_by : (P : Type 0) (log : List Note) (kept : LogIndex) → scan log ≡ scan_of kept → (P ↔ All (λ r. IsRecent (scan_of kept) (reading_view r)) kept.readings.items) → P ↔ IsFresh log
 fresh_by P log kept same answer =
     let each = each_all (IsRecent (scan_of kept)) reading_view kept.readings.items in
@@ -60,7 +60,7 @@ fresh_by P log kept same answer =
     let back : IsFresh log → Each (IsRecent (scan_of kept)) (scan_of kept).readings = λ h. subst (λ (s : Scan). Each (IsRecent s) s.readings) same h in
     (λ p. there (each.0 (answer.0 p)), λ h. answer.1 (each.1 (back h)))
 
--- whether what an end with a peer handed out is a beginning, by what is kept of the log
+-- whether what an end with a peer handed out is a prefix, by the index
 pub begins_with : (P : Type 0) (log : List Note) (kept : LogIndex) (end peer : ℕ) → ((s : Scan) (c d : ℕ) → PeerIsFound s c d) → scan log ≡ scan_of kept → end < length kept.roles.items
     → peer_in (scan_of kept) end ≡ Some peer → (P ↔ IsBeginning (handed_out end log) (handed_in peer log)) → P ↔ BeginsAsRead log end
 begins_with P log kept end peer found same within is answer =

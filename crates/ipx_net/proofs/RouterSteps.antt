@@ -1,4 +1,4 @@
--- What routers do is what steps of a network say of them.
+-- What routers do meets the relation of steps of a network.
 use Rattle.std.proofs.Common.{ℕ, zero, suc, ◌≡◌, ◌-◌, All, List, [], ◌∷◌, Some, sym, subst, arith}
 use Rattle.std.specs.Prelude.{slice_get}
 use Rattle.std.proofs.lemmas.List.Elements.{All-head, All-tail}
@@ -16,7 +16,7 @@ use Rattle.spx_theory.specs.Scan.{Each}
 use Rattle.theory_steps.specs.Routers.{IsOwnLetter}
 use Rattle.ipx_net.specs.RouterMembers.{letter_of, letters_of, network_of, port_at}
 
--- what a router made itself is of no connection
+-- a packet that a router made itself is of no connection
 pub own_letters : (router : ℕ) (ports : List Port) (sent : List SendingView) → AreOwn sent → Each IsOwnLetter (letters_of router ports sent)
 own_letters router ports [] own k l = λ at. absurd (cc at)
 own_letters router ports (s ∷ sent) own zero l = λ at.
@@ -31,7 +31,7 @@ port_is ports (suc k) p is = let same : suc k - 1 ≡ k = omega arith in subst (
 get_all : {A : Type 0} (P : A → Type 0) (xs : List A) (k : ℕ) (x : A) → All P xs → slice_get xs k ≡ Some x → P x
 get_all P xs k x all at = subst P (get_or_from_slice_get xs k x x at) (all k x (slice_get_within xs k x at))
 
--- what a router forwards is the packet one hop on
+-- what a router forwards is the packet with one hop more
 pub carried_on : (r : RouterView) (number : ℕ) (bytes : List ℕ) (port : ℕ) (next : Node) (out : List ℕ) → All IsOwnNetwork r.ports
     → ForwardsOneHopOn r number bytes (Forward port next out) → IsOneOn (network_of (port_at r.ports number)) bytes out
 carried_on r number bytes port next out networks (arrived, is_port, came, each) =

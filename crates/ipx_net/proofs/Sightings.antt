@@ -1,4 +1,4 @@
--- What an entry adds to what was read off.
+-- What an entry adds to the index of a log.
 use Rattle.std.proofs.Common.{◌≡◌, ◌<◌, ◌≤◌, ◌+◌, ℕ, zero, suc, List, [], ◌∷◌, ◌++◌, length, get_or, drop, map, set, refl, sym, ◌∙◌, ap, arith, All, subst}
 use Rattle.std.specs.Prelude.{slice_index_or}
 use Rattle.std.proofs.lemmas.List.{map-append, map-set, length_push, get_or_default, drop_more}
@@ -26,7 +26,7 @@ joins_there roles who maker d new h joins =
     let same : get_or (map role_view roles) who no_role ≡ role_view old = view_at role_view roles who old no_role h (get_or_default roles who d old h) in
     map-set role_view roles who new ∙ ap (set (map role_view roles) who) (joins ∙ ap (joined_by maker) (sym same))
 
--- one entry more is read
+-- one more entry is read
 pub one_seen : (s t : Scan) (entries : List Entry) (at : ℕ) (e : Entry) → at < length entries → e ≡ get_or entries at e → t ≡ seen s (entry_note e)
     → seen_all s (entry_notes (drop at entries)) ≡ seen_all t (entry_notes (drop (at + 1) entries))
 one_seen s t entries at e h is step =
@@ -46,7 +46,7 @@ goes_on old added all s t before is after =
 more : (n : ℕ) (marks : List ParcelOrigin) → All (λ m. m.passed ≤ n) marks → All (λ m. m.passed ≤ n + 1) marks
 more n marks h k d w = let a = h k d w in omega arith
 
--- one router more passed than any that was marked
+-- a mark with at most one more router than any before
 pub one_more_passed : (marks : List ParcelOrigin) (m : ParcelOrigin) → All (λ x. x.passed ≤ length marks) marks → m.passed ≤ length marks + 1 → All (λ x. x.passed ≤ length (marks ++ m ∷ [])) (marks ++ m ∷ [])
 one_more_passed marks m old new =
     subst (λ n. All (λ x. x.passed ≤ n) (marks ++ m ∷ [])) (sym (length_push marks m)) (All-push (λ x. x.passed ≤ length marks + 1) marks m (more (length marks) marks old) new)

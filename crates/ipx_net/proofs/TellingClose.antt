@@ -1,4 +1,4 @@
--- What is told of the hosts, the states and the close of ends, from the theorems.
+-- What the summaries say of the hosts, the states and the close of ends, by the theorems.
 use Rattle.std.proofs.Common.{ℕ, zero, suc, ◌≡◌, ◌<◌, List, [], ◌∷◌, Bool, true, false, None, Option, Some, length, refl, sym, ap, ◌∙◌, inl, inr, arith}
 use Rattle.std.specs.Prelude.{slice_get}
 use Rattle.spx_link.specs.declared.state.State.{State}
@@ -20,9 +20,9 @@ tells_opened w t th stands who host buffers has =
     let n = th.opened who host buffers has in
     (stands who n.0 n.1).host ∙ n.2
 
--- ---- ends that are told
+-- ---- ends with summaries
 
--- an end of each number that is told
+-- there is an end for the number of each summary
 abbrev IsThere : World → ℕ → Type 0
 IsThere w who = (n : EndNow) × (slice_get w.ends who ≡ Some n)
 

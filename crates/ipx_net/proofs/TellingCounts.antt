@@ -1,4 +1,5 @@
--- What is told of ends with an entry more: new ends, and what they handed in and out and sent.
+-- The summaries after one more entry: new ends, the messages that they handed in and out, and the units that
+-- they sent.
 use Rattle.std.proofs.Common.{◌≡◌, ◌<◌, ◌≤◌, ◌+◌, ◌==◌, ℕ, zero, suc, List, [], ◌∷◌, ◌++◌, length, get_or, take, drop, Bool, true, false, cond, refl, sym, ◌∙◌, ap, arith, subst, eqb-true, length-append, length-set, length-take, ltb, ltb-true, ltb-false, None}
 use Rattle.std.proofs.lemmas.Bool.{eqb-false}
 use Rattle.std.proofs.lemmas.List.{map-append, get_or-set_same, get_or-set_other, take-append-drop, take_more, drop_more, set_past}
@@ -28,7 +29,7 @@ times_on : (e : ℕ) (ns : List ℕ) (w : ℕ) → times e (ns ++ w ∷ []) ≡ 
 times_on e [] w = omega arith
 times_on e (n ∷ ns) w = omega (arith, times_on e ns w)
 
--- an end that changes, and the others
+-- the summary of an end that changes, and those of the others
 pub change_at : (f : EndInfo → EndInfo) (w : ℕ) (told : List EndInfo) (who : ℕ) (b : Bool) → (w == who) ≡ b → w < length told
     → told_of (change f w told) who ≡ cond b (f (told_of told who)) (told_of told who)
 change_at f w told who true same h =
@@ -133,7 +134,7 @@ counted_on log (Told router parcel) told is old = kept log (Told router parcel) 
 counted_on log (Carried from parcel) told is old = kept log (Carried from parcel) told told (λ e. refl) (λ e. refl) refl (λ e. refl) old.count old
 counted_on log (Injected parcel) told is old = kept log (Injected parcel) told told (λ e. refl) (λ e. refl) refl (λ e. refl) old.count old
 
--- ---- what stays
+-- ---- what does not change
 
 same_stays : (e f : EndInfo) → f ≡ e → StaysAs e f
 same_stays e f is = record { host = ap (λ (x : EndInfo). x.host) is; state = ap (λ (x : EndInfo). x.state) is; peer = ap (λ (x : EndInfo). x.peer) is }
@@ -173,7 +174,7 @@ told_stays (Injected parcel) told = λ w. record { host = refl; state = refl; pe
 
 -- ---- along a log
 
--- a log up to a place, with the entry there, and what stands behind
+-- a log up to an index, followed by the entry there
 pub taken_more : (log : List Entry) (at : ℕ) (e : Entry) → at < length log → e ≡ get_or log at e → entry_notes (take (at + 1) log) ≡ entry_notes (take at log) ++ entry_note e ∷ []
 taken_more log at e h is =
     ap entry_notes (take_more log at e h ∙ ap (λ (x : Entry). take at log ++ x ∷ []) (sym is)) ∙ map-append entry_note (take at log) (e ∷ [])

@@ -1,4 +1,4 @@
--- The peers of ends, as the entries that make and join ends are gone through.
+-- The peers of ends, as the entries that make and join ends are read.
 use Rattle.std.proofs.Common.{◌≡◌, ◌<◌, ◌≤◌, ◌+◌, ◌⊎◌, inl, inr, ℕ, zero, suc, List, [], ◌∷◌, ◌++◌, length, get_or, set, take, drop, Bool, true, false, cond, Option, Some, None, refl, sym, ◌∙◌, ap, arith, subst, length-set}
 use Rattle.std.specs.Prelude.{slice_get}
 use Rattle.std.proofs.lemmas.Bool.{cases_eq}
@@ -49,7 +49,7 @@ get_set_is [] j y x is = absurd (cc is)
 get_set_is (z ∷ xs) zero y x is = sym (same_Some y x is)
 get_set_is (z ∷ xs) (suc j) y x is = get_set_is xs j y x is
 
--- ---- roles: an end that is not joined has no partner, and one that is stays so
+-- ---- roles: an end that is not joined has no partner, and a joined one stays joined
 
 abbrev pub AreLone : Scan → Type 0
 AreLone s = (c : ℕ) (r : Role) → slice_get s.roles c ≡ Some r → r.joined ≡ false → r.partner ≡ None
@@ -142,7 +142,7 @@ role_was s (Told router parcel) c r is not at = inl at
 role_was s (Carried from parcel) c r is not at = inl at
 role_was s (Injected parcel) c r is not at = inl at
 
--- ---- peers stay, and new ones come by the entry alone
+-- ---- peers stay, and only the entry makes new ones
 
 has_joined : (r : Role) (d : ℕ) → (r.joined ≡ false → r.partner ≡ None) → r.partner ≡ Some d → r.joined ≡ true
 has_joined r d lone is = by r.joined refl
@@ -204,7 +204,7 @@ swapped found s c d is = (found s d c).there (elim ((found s c d).only is) [ inl
 peer_there : Found → (s : Scan) (c d : ℕ) → peer_in s c ≡ Some d → c < length s.roles
 peer_there found s c d is = elim ((found s c d).only is) [ inl one ↦ slice_get_within s.roles c one.caller one.caller_is | inr two ↦ slice_get_within s.roles c two.callee two.callee_is ]
 
--- a peer at some place of a log is the peer for good
+-- a peer at some index of a log stays the peer
 for_good : Found → (log : List Entry) (at c d : ℕ) → peer_of (entry_notes (take at log)) c ≡ Some d → peer_of (entry_notes log) c ≡ Some d
 for_good found log at c d is =
     let front : List Note = entry_notes (take at log) in
@@ -214,7 +214,7 @@ for_good found log at c d is =
     let kept : ArePeersIn (seen_all (scan front) back) c d = peers_kept (scan front) back c d (lone_log front) ((found (scan front) c d).only is) in
     ap (λ (s : Scan). peer_in s c) whole ∙ (found (seen_all (scan front) back) c d).there kept
 
--- ---- a pair is told
+-- ---- a pair is set
 
 paired_either : (F : ℕ → Option ℕ) (who : ℕ) (p : Option ℕ) (told : List EndInfo) → F who ≡ p → ((d : ℕ) → F who ≡ Some d → F d ≡ Some who) → (e : ℕ)
     → ((told_of (made_peers who p told) e).peer ≡ F e) ⊎ ((told_of (made_peers who p told) e).peer ≡ (told_of told e).peer)

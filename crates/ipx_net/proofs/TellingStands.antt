@@ -1,4 +1,4 @@
--- What is told of where ends stand, as the ends of one host are gone through.
+-- Hosts and states in the summaries, as the ends of one host are updated.
 use Rattle.std.proofs.Common.{◌≡◌, ◌≢◌, ◌<◌, ◌+◌, ◌==◌, ◌⊎◌, inl, inr, ℕ, suc, List, [], ◌∷◌, length, Bool, true, false, cond, Option, Some, None, refl, sym, ◌∙◌, ap, arith, subst, eqb-true, length-set}
 use Rattle.std.specs.Prelude.{option_map, slice_get}
 use Rattle.std.proofs.lemmas.Bool.{cases_eq, cases_lt}
@@ -12,7 +12,7 @@ use Rattle.ipx_net.specs.Ends.{nobody, told_of}
 use Rattle.ipx_net.specs.ToldEnds.{StandsSo, change, logged, settled, standing, state_by, stood}
 use Rattle.ipx_net.specs.declared.endinfo.EndInfo.{EndInfo}
 
--- an end that is told otherwise, or as before
+-- a summary that changes, or stays
 pub change_where : (f : EndInfo → EndInfo) (w : ℕ) (told : List EndInfo) (who : ℕ)
     → (told_of (change f w told) who ≡ told_of told who) ⊎ ((w ≡ who) × (told_of (change f w told) who ≡ f (told_of told who)))
 change_where f w told who = elim (cases_eq w who) [
@@ -29,7 +29,7 @@ change_own f w told h = get_or-set_same told w (f (told_of told w)) nobody h
 pub change_other : (f : EndInfo → EndInfo) (w : ℕ) (told : List EndInfo) (who : ℕ) → (w ≡ who → ⊥) → told_of (change f w told) who ≡ told_of told who
 change_other f w told who differ = get_or-set_other told w who (f (told_of told w)) nobody (λ e. differ (sym e))
 
--- an id of a host stands at a place
+-- an id of a host has an index
 pub end_place : (here : List (ℕ × ℕ)) (id who : ℕ) → end_at here id ≡ Some who → (j : ℕ) × (x : ℕ × ℕ) × (slice_get here j ≡ Some x) × (x.0 ≡ id)
 end_place [] id who is = absurd (cc is)
 end_place (y ∷ ys) id who is = by_test (y.0 == id) refl (λ w. end_place ys id who w) is
@@ -53,7 +53,7 @@ one_id v host id id' who fit a b = by_station (slice_get v.stations host) refl a
     by_station None is x y = absurd (cc x)
     by_station (Some s) is x y = let order = (fit [] [] 0).hosts host s is in same_end v host id id' who (order.names id who x) (order.names id' who y)
 
--- ---- the ends of a host, up to a place
+-- ---- the ends of a host, up to an index
 
 pub record SettledTo (v : HostsView) (host : ℕ) (gone : Bool) (old : List EndInfo) (place : ℕ) (new : List EndInfo) : Type 0 where
   pub count : length new ≡ length old
@@ -73,7 +73,7 @@ pub settled_none : (v : HostsView) (host : ℕ) (gone : Bool) (o : Option (ℕ �
 settled_none v host gone None told is = refl
 settled_none v host gone (Some x) told is = absurd (cc is)
 
--- nothing is told here
+-- no summary changes here
 skipped : (v : HostsView) (host : ℕ) (gone : Bool) (old : List EndInfo) (place : ℕ) (cur : List EndInfo) → SettledTo v host gone old place cur
     → ((x : ℕ × ℕ) (who : ℕ) → slice_get (here_at v host) place ≡ Some x → end_at (here_at v host) x.0 ≢ Some who) → SettledTo v host gone old (place + 1) cur
 skipped v host gone old place cur s none =
@@ -87,7 +87,7 @@ skipped v host gone old place cur s none =
       others = s.others;
     }
 
--- an end is told
+-- the summary of an end is updated
 told_here : (v : HostsView) (host : ℕ) (gone : Bool) (old : List EndInfo) (place : ℕ) (cur : List EndInfo) (x : ℕ × ℕ) (w : ℕ) → FitTogether v
     → slice_get (here_at v host) place ≡ Some x → end_at (here_at v host) x.0 ≡ Some w → SettledTo v host gone old place cur
     → SettledTo v host gone old (place + 1) (change (standing host (state_by gone (state_on_host v host x.0))) w cur)

@@ -1,4 +1,4 @@
--- What is told of ends after an event: where they stand, by the one host that it may change.
+-- The summaries of ends after an event: hosts and states, by the one host that the event may change.
 use Rattle.std.proofs.Common.{◌≡◌, ◌≢◌, ◌<◌, ◌⊎◌, inl, inr, ℕ, List, [], ◌∷◌, ◌++◌, length, set, Bool, true, false, cond, Option, Some, None, Result, Ok, Err, refl, sym, ◌∙◌, ap, arith, subst}
 use Rattle.std.specs.Prelude.{option_map, slice_get}
 use Rattle.std.proofs.lemmas.Bool.{cases_eq}
@@ -35,7 +35,7 @@ use Rattle.ipx_net.proofs.TellingPeers.{get_beside, get_pushed, get_set_is, get_
 
 -- ---- an event changes the ends of one host
 
--- an end after an event: it came at that host, it stays what it was, or it was released there
+-- an end after an event: it was made at that host, or it did not change, or it was released there
 pub data WasSo (k : Option ℕ) (ends : List EndNow) (who : ℕ) (n' : EndNow) : Type 0 where
   Fresh : k ≡ Some n'.host → n'.released ≡ false → WasSo k ends who n'
   Stayed : (n : EndNow) → slice_get ends who ≡ Some n → n'.host ≡ n.host → n'.id ≡ n.id → n'.released ≡ n.released → WasSo k ends who n'
@@ -87,7 +87,7 @@ quiet_only o n who f c =
       stay = stay_same (host_there o who) o n c.ends;
     }
 
--- an end that was written, or another
+-- an end that was replaced, or another
 written_where : (xs : List EndNow) (j k : ℕ) (y x : EndNow) → slice_get (set xs j y) k ≡ Some x → ((j ≡ k) × (x ≡ y)) ⊎ (slice_get xs k ≡ Some x)
 written_where xs j k y x is = elim (cases_eq j k) [
   | inl same ↦ inl (same, get_set_is xs j y x (subst (λ (i : ℕ). slice_get (set xs j y) i ≡ Some x) (sym same) is))
@@ -178,7 +178,7 @@ happens_only (Events.Deliver parcel (Places.Host host)) a o n h =
 happens_only (Events.Deliver parcel (Places.Port router port)) a o n h = router_only parcel router h.before.router.ports h.outcome a o.world n.world h.does
 happens_only (Events.Inject segment next bytes) a o n h = unmoved None o.world n.world h.0.1.hosts h.0.1.ends
 
--- ---- what is told of the ends of one host
+-- ---- the summaries of the ends of one host
 
 relog : (log : List Note) (a b : List EndInfo) → length b ≡ length a → ((who : ℕ) → logged (told_of b who) ≡ logged (told_of a who)) → TellsLog log a → TellsLog log b
 relog log a b count same t =
@@ -243,7 +243,7 @@ at_or_not : (k : Option ℕ) (h : ℕ) → (k ≡ Some h) ⊎ (k ≡ Some h → 
 at_or_not None h = inr (λ is. absurd (cc is))
 at_or_not (Some g) h = elim (cases_eq g h) [ inl same ↦ inl (ap Some same) | inr differ ↦ inr (λ is. differ (same_Some g h is)) ]
 
--- what is told before and after an event, and between
+-- the summaries before and after an event, and between
 pub record Telling (k : Option ℕ) (w w' : World) (t0 t1 t2 t3 : List EndInfo) : Type 0 where
   pub order : InOrder w
   pub order' : InOrder w'
@@ -262,7 +262,7 @@ stands_now k w w' t0 t1 t2 t3 t who n at standing is =
     let s = restood_here (hosts_of w') k false t2 t3 t.settled n.host n.id who is (known_at w' t.order' who n at standing) within in
     record { host = s.host_is; state = s.state_is ∙ ap state_of (sym (held_standing w'.hosts n standing)) }
 
--- of an end whose host is not at hand, or that is released
+-- an end that is of another host, or that is released
 same_told : (k : Option ℕ) (w w' : World) (t0 t1 t2 t3 : List EndInfo) → Telling k w w' t0 t1 t2 t3 → (who : ℕ)
     → ((h id : ℕ) → k ≡ Some h → end_at (here_at (hosts_of w) h) id ≢ Some who) → ((h id : ℕ) → k ≡ Some h → end_at (here_at (hosts_of w') h) id ≢ Some who)
     → ((told_of t3 who).host ≡ (told_of t0 who).host) × ((told_of t3 who).state ≡ (told_of t0 who).state)

@@ -8,7 +8,7 @@ use Rattle.spx_theory.specs.Handed.{gathered, IsBeginning}
 use Rattle.ipx_net.specs.declared.entry.Entry.{Entry}
 use Rattle.ipx_net.specs.LogEntries.{entry_note, entry_notes}
 
--- what the entries from a place on add is what the entry there adds, and then what the others add
+-- what the entries from an index on add is what the first of them adds, followed by what the others add
 pub here : (f : Note → List MessageView) (log : List Entry) (at : ℕ) (e : Entry) (ms : List MessageView) → at < length log → e ≡ get_or log at e → f (entry_note e) ≡ ms
     → gathered f (entry_notes (drop at log)) ≡ ms ++ gathered f (entry_notes (drop (at + 1) log))
 here f log at e ms h is adds =
@@ -30,7 +30,7 @@ one_more P a b x y xs ys same front back alike = (
 pub refuse : (P : Type 0) → (P → ⊥) → IsTrue false ↔ P
 refuse P never = (λ h. cc, λ p. absurd (never p))
 
--- behind the last entry all that was handed out is held against what was handed in
+-- after the last entry, everything that was handed out was compared with what was handed in
 pub all_held : (P : Type 0) (log : List Entry) (at : ℕ) (f : Note → List MessageView) (ys : List MessageView) → length log ≤ at → (P ↔ IsBeginning (gathered f (entry_notes (drop at log))) ys) → IsTrue true ↔ P
 all_held P log at f ys past same =
     let none : gathered f (entry_notes (drop at log)) ≡ [] = ap (λ (es : List Entry). gathered f (entry_notes es)) (drop_all at log past) in

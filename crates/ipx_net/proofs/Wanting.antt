@@ -1,4 +1,4 @@
--- What makes something wants memory for what is made.
+-- A call that makes something needs memory for it.
 use Rattle.std.proofs.Common.{ℕ, zero, suc, ◌≡◌, ◌+◌, ◌<◌, ◌++◌, ◌∷◌, inl, inr, List, [], length, set, false, Option, Some, Result, Ok, Err, refl, sym, ◌∙◌, ap, subst, arith}
 use Rattle.std.specs.Prelude.{IfOk, IfSome, OnErr, slice_get, vec_capacity, vec_len}
 use Rattle.std.specs.Global.{Vec}
@@ -27,14 +27,14 @@ use Rattle.ipx_net.specs.EventWants.{HostWantsMemory, IsMade, TakeIsTold}
 use Rattle.ipx_net.specs.declared.step_result.StepResult.{StepResult}
 use Rattle.ipx_net.specs.declared.routers.RouterNow.{RouterNow}
 
--- an answer alone makes nothing
+-- an answer without entries and parcels makes nothing
 pub quiet_is_none : (g : StepResult) (a : AnswerView) → step_result_view g ≡ record { parcels = []; notes = []; answer = a } → IsMade (Ok g) → ⊥
 quiet_is_none g a is made =
     let P : StepResultView → Type 0 = λ v. 0 < length v.parcels + length v.notes in
     let none : 0 < 0 = subst P is made in
     omega (arith, none)
 
--- what makes notes alone made something where there are some, or was refused where there were to be some
+-- a call that makes only entries made something if there are some, or was refused if there were to be some
 pub made_or_refused : {W : Type 0} (r : Result StepResult OutOfMemory) (notes : List Note) (a : AnswerView) → IfOk r (λ g. step_result_view g ≡ record { parcels = []; notes = notes; answer = a }) → OnErr r (0 < length notes)
     → (0 < length notes → W) → IsMade r → W
 made_or_refused (Ok g) notes a is refused wants made =
@@ -103,19 +103,19 @@ pub on_err : {T E : Type 0} {P : Type 0} (r : Result T E) → P → OnErr r P
 on_err (Ok x) has = tt
 on_err (Err e) has = has
 
--- what finds no room behind others is something
+-- a list for which there is no space after others is not empty
 pub some_behind : (asked told : Vec Reply) → vec_capacity asked < vec_len asked + vec_len told → 0 < length (sendings asked.items ++ sendings told.items)
 some_behind asked told full =
     let some : 0 < length told.items = omega (arith, full, asked.ok.0, asked.ok.1, told.ok.0) in
     rw (length-append (sendings asked.items) (sendings told.items), length-map told.items sending_of) (omega (arith, some))
 
--- what told of packets, told of some
+-- if there are entries for packets, there are packets
 pub told_of_some : (g : StepResultView) (router : ℕ) (ports : List Port) (first : ℕ) (sent : List SendingView) → g ≡ told_growth router ports first sent → 0 < length g.parcels + length g.notes → 0 < length sent
 told_of_some g router ports first [] same made =
     let none : 0 < 0 = subst (λ (v : StepResultView). 0 < length v.parcels + length v.notes) same made in
     absurd (omega (arith, none))
 told_of_some g router ports first (s ∷ sent) same made = omega arith
 
--- a router of a list wants it as the list says
+-- a router of a list needs memory if the fact holds of it
 pub of_list : (P : RouterNow → Type 0) (routers : List RouterNow) (k : ℕ) (r : RouterNow) → slice_get routers k ≡ Some r → P r → IfSome (slice_get routers k) P
 of_list P routers k r at has = subst (λ (o : Option RouterNow). IfSome o P) (sym at) has

@@ -1,4 +1,4 @@
--- What a network answers, without where it lies in memory.
+-- The answer of a network, without its place in memory.
 use Rattle.std.specs.Prelude.{ℕ, List, Option}
 use Rattle.ipx_router.specs.declared.reason.Reason.{Reason}
 use Rattle.spx_messages.specs.declared.arrived.Arrived.{Arrived}

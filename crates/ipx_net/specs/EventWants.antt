@@ -1,5 +1,5 @@
--- Which events may want memory, by what stands before them: those that make an entry or a parcel,
--- or make a router's table grow. The entry point is `EventWantsMemory`.
+-- Which events may run out of memory, by the state before them: those that make an entry or a parcel, or make
+-- a router's table grow. The entry point is `EventWantsMemory`.
 use Rattle.std.specs.Prelude.{ℕ, ◌≡◌, ◌⊎◌, ◌<◌, ◌+◌, ◌++◌, true, false, List, length, Option, None, Some, Result, Ok, Err, slice_get}
 use Rattle.ipx_wire.specs.declared.address.Node.{Node}
 use Rattle.ipx_wire.specs.declared.memory.OutOfMemory.{OutOfMemory}
@@ -35,17 +35,17 @@ use Rattle.ipx_net.specs.declared.place.Place.{Place}
 use Rattle.ipx_net.specs.declared.place.Place.TheVariants as Places
 use Rattle.ipx_net.specs.declared.routers.RouterNow.{RouterNow}
 
--- what a take of an end tells: the unit that was held, and the message that it ended
+-- the entries of a take from an end: the unit that was held, and the message that it completed
 abbrev pub taken_notes : Held → ℕ → List Note
 taken_notes h who =
     unit_notes (take_end h).0 (first_of h.link.held) who ++ whole_notes (take_end h).0 who
 
--- a take that tells something; one of nothing tells nothing
+-- a take with entries; a take of nothing has none
 abbrev pub TakeIsTold : Option Held → ℕ → Type 0
 TakeIsTold None who = ⊥
 TakeIsTold (Some h) who = 0 < length (taken_notes h who)
 
--- a datagram that comes to a host makes a link there, or a link reads it
+-- a datagram that arrives at a host makes a link there, or a link reads it
 abbrev pub ArrivalIsTold : HostsView → ℕ → ℕ → List ℕ → ℕ → Type 0
 ArrivalIsTold v host parcel bytes now = (r : Arrived) × (new : HostsView)
     × (d : DeliveredAt v host bytes now r new)
@@ -63,7 +63,7 @@ IsSent (Outcomes.Replies sent) = Unit {0}
 IsSent (Outcomes.Heard n) = ⊥
 IsSent (Outcomes.Dropped reason) = ⊥
 
--- a router wants memory for bytes that come to its port, or does so for what it sends on
+-- a router needs memory for bytes that arrive at its port, or memory is needed for a parcel that it sends
 abbrev pub RouterWantsMemory : List RouterNow → ℕ → ℕ → List ℕ → ℕ → Type 0
 RouterWantsMemory routers router port bytes now = (before : RouterNow)
     × (slice_get routers router ≡ Some before) × (after : RouterView)
@@ -75,8 +75,8 @@ abbrev pub PollIsSent : HostsView → ℕ → ℕ → Type 0
 PollIsSent v host now = (r : Node × ℕ) × (room written : List ℕ) × (new : HostsView)
     × PolledAt v host now (Some r) room written new
 
--- a router that is polled wants memory for what it asks as it starts, or where it is time and it has
--- something to tell, or does so for packets that it gives
+-- a router that is polled needs memory for what it asks as it starts, or if an advertisement is due and it
+-- has something to advertise. Or memory is needed for the packets that it gives
 abbrev pub RouterPollWantsMemory : RouterNow → ℕ → Type 0
 RouterPollWantsMemory before now = (before.started ≡ false)
     ⊎ ((is_due before.router.told now ≡ true) × HasToTell (known_at before.router now) now)
@@ -96,9 +96,9 @@ DeliveryWantsMemory n parcel bytes (Places.Host host) =
 DeliveryWantsMemory n parcel bytes (Places.Port router port) =
     RouterWantsMemory n.routers router port bytes n.world.moment
 
--- an event may want memory: a call that no end refuses, a take that is told, a poll that gives a
--- packet, a delivery that is told, sent on or makes a router's table grow, and each release and
--- packet from outside. A moment wants none, nor do a window and a place that is asked for
+-- an event may run out of memory if it is a call that no end refuses, a take with entries, or a poll that
+-- gives a packet. So may a delivery that makes an entry or a parcel or a router's table grow, and each
+-- release and packet from outside. A clock tick needs none, nor do a window and a request to retransmit
 abbrev pub EventWantsMemory : NetNow → Event → Type 0
 EventWantsMemory n (Events.Dial host socket to buffers) =
     dial_fault (slice_get n.world.hosts host) ≡ None
@@ -116,9 +116,9 @@ EventWantsMemory n (Events.Deliver parcel place) = (letter : ParcelView)
     × DeliveryWantsMemory n parcel letter.bytes place
 EventWantsMemory n (Events.Inject segment next bytes) = Unit {0}
 
--- ---- words of the private functions
+-- ---- definitions for the private functions
 
--- an event made something, or memory was refused as it was to
+-- an event made something, or memory was refused while it did
 abbrev pub IsMade : Result StepResult OutOfMemory → Type 0
 IsMade (Ok g) = 0 < length (step_result_view g).parcels + length (step_result_view g).notes
 IsMade (Err e) = Unit {0}

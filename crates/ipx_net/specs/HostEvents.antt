@@ -17,21 +17,20 @@ use Rattle.theory_steps.specs.World.{EndNow, HostState, World, end_at}
 use Rattle.ipx_net.specs.AnswerView.{AnswerView, ArrivedAt, Done, End, Parcels, Refused, Taken}
 use Rattle.ipx_net.specs.StepResultView.{StepResultView}
 
--- a host refused, and the world is as it was
+-- the call of a host was refused, and the world is unchanged
 abbrev pub RefusedAt : ℕ → EndFault → AnswerView → World → World → Type 0
 RefusedAt host f a old new = (a ≡ Refused f) × RefusesAt old host new
 
--- the host of an end refused, and the world is as it was
+-- the call of the host of an end was refused, and the world is unchanged
 abbrev pub RefusedOf : ℕ → EndFault → AnswerView → World → World → Type 0
 RefusedOf who f a old new = (end' : EndNow) × (slice_get old.ends who ≡ Some end')
     × RefusedAt end'.host f a old new
 
--- what stands under the number of an end
+-- what the link of an end holds, by the end's number
 abbrev pub held_under : World → ℕ → Option Held
 held_under w who = end_held w.hosts w.ends who
 
--- it was done, where it meets no fault; or an end refused, with the fault that it meets or for want
--- of memory
+-- it was done, if there is no fault; or the call was refused, with its fault or since memory ran out
 abbrev pub IsDoneOrRefused : (World → World → Type 0) → (World → Option EndFault)
     → (World → EndFault → Type 0) → ℕ → AnswerView → World → World → Type 0
 IsDoneOrRefused P fault IsRefused who a old new =
@@ -52,19 +51,20 @@ abbrev pub Closing : ℕ → AnswerView → World → World → Type 0
 Closing who = IsDoneOrRefused (λ old new. Closes old who new) (λ w. close_fault (held_under w who))
     (λ w. CloseIsRefused (held_under w who)) who
 
--- the link of an end that stands gets a window, or a place of it is asked for: neither is refused
+-- the link of an end that is not released gets a window, or is asked to retransmit at an index: neither is
+-- refused
 abbrev pub Pacing : ℕ → ℕ → Bool → AnswerView → World → World → Type 0
 Pacing who window manual a old new = (a ≡ Done) × PacesOf old who window manual new
 
 abbrev pub AskingAgain : ℕ → ℕ → AnswerView → World → World → Type 0
 AskingAgain who place a old new = (a ≡ Done) × AsksAgainOf old who place new
 
--- an end that stands goes, and is not refused
+-- an end is released, and is not refused
 abbrev pub Releasing : ℕ → AnswerView → World → World → Type 0
 Releasing who a old new = (a ≡ Done) × ReleasesOf old who new
 
--- a unit was taken; or the message grew too long; or memory was wanted for the message that the
--- unit joins, and nothing changed
+-- a unit was taken; or the message grew too long; or memory ran out for the message of the unit, and nothing
+-- changed
 abbrev pub TakingFrom : ℕ → AnswerView → World → World → Type 0
 TakingFrom who a old new =
     ((t : TakenView) × (a ≡ Taken t) × TakesOf old who (Ok t) new)
@@ -80,7 +80,7 @@ abbrev pub PollingHost : ℕ → AnswerView → World → World → Type 0
 PollingHost host a old new = (result : Option (Node × ℕ)) × PollsHost old host result new
     × (a ≡ Parcels (made_by result (length old.parcels)))
 
--- the end that a datagram was for: the one that it made, or that of the link that it is for
+-- the end that a datagram was for: the one that it made, or the end of the link that it is for
 abbrev pub end_for : Arrived → HostState → ℕ → Option ℕ
 end_for (Arriveds.Bad f) s count = None
 end_for Arriveds.NotOurs s count = None
@@ -91,8 +91,8 @@ end_for Arriveds.Stranger s count = None
 end_for (Arriveds.Accepted id) s count = Some count
 end_for (Arriveds.Link id r) s count = end_at s.here id
 
--- what a delivery to a host is answered: what the host made of the datagram, and the end that it
--- was for. The host is the one after it, and so many ends there were before
+-- the answer to a delivery to a host: what the host did with the datagram, and the end that it was for. The
+-- host is that after the delivery, and `count` is the number of ends before it
 abbrev pub arrival_answer : Arrived → HostState → ℕ → AnswerView
 arrival_answer r s count = ArrivedAt (end_for r s count) r
 
@@ -100,7 +100,7 @@ abbrev pub DeliveringToHost : ℕ → ℕ → AnswerView → World → World →
 DeliveringToHost parcel host a old new = (r : Arrived) × (d : Delivers old parcel host r new)
     × (a ≡ arrival_answer r d.after (length old.ends))
 
--- the same of the hosts alone, with what it adds to the book
+-- the same of the hosts alone, with what it adds to the log
 pub record DeliversSo (old : HostsView) (host parcel : ℕ) (bytes : List ℕ) (now : ℕ)
     (g : StepResultView) (new : HostsView) : Type 0 where
   pub answer : Arrived

@@ -1,4 +1,4 @@
--- What a book holds: the parcels by their numbers, and the log.
+-- What an indexed log holds: the parcels by their numbers, and the log.
 use Rattle.std.specs.Prelude.{List, [], ◌++◌}
 use Rattle.spx_theory.specs.Note.{Note}
 use Rattle.theory_steps.specs.World.{ParcelView}
@@ -10,6 +10,6 @@ pub record IndexedLogView : Type 0 where
 abbrev pub blank : IndexedLogView
 blank = record { parcels = []; log = [] }
 
--- with these parcels and these entries behind those that it had
+-- with these parcels and these entries appended
 abbrev pub written_on : IndexedLogView → List ParcelView → List Note → IndexedLogView
 written_on b parcels log = record { parcels = b.parcels ++ parcels; log = b.log ++ log }

@@ -1,4 +1,4 @@
--- The entries of a log, without where they lie in memory.
+-- The entries of a log, without their place in memory.
 use Rattle.std.specs.Prelude.{List, map}
 use Rattle.spx_link.specs.declared.unit.Unit.{Unit}
 use Rattle.spx_units.specs.Message.{message_view}

@@ -1,4 +1,4 @@
--- A network as it is made: its hosts and routers, and nothing that happened.
+-- A new network: its hosts and routers, before anything happens.
 use Rattle.std.specs.Prelude.{◌≡◌, ◌≢◌, ◌<◌, ◌≤◌, false, All, filter_map, List, [], Option, None, IfSome, Vec, slice_get}
 use Rattle.std.specs.Global.{Global}
 use Rattle.std.specs.List.{AllZip}
@@ -19,7 +19,7 @@ PortLists = List (Vec Port Global)
 
 -- ---- what the caller owes
 
--- of a host: its own network, and 1 to 8,192 buffers where it listens
+-- of a host: a network that a port may have, and 1 to 8,192 buffers if it listens
 pub record IsHostOwed (h : Host) : Type 0 where
   pub not_local : h.network.0 ≢ local_network
   pub not_all : h.network.0 ≢ all_networks
@@ -33,7 +33,7 @@ ArePortsOwed ports = All IsOwnNetwork ports.items
 abbrev pub IsStationOf : Host → HostState → Type 0
 IsStationOf h s = BeginsAt h.network h.node h.router h.listen s
 
--- a router that knows nothing and asked nobody yet
+-- a router that knows nothing and has asked no neighbour yet
 pub record IsRouterOf (ports : Vec Port Global) (r : RouterNow) : Type 0 where
   pub ports_are : r.router.ports ≡ ports.items
   pub routes : r.router.routes.offers ≡ []
@@ -43,7 +43,7 @@ pub record IsRouterOf (ports : Vec Port Global) (r : RouterNow) : Type 0 where
   pub told : r.router.told ≡ None
   pub started : r.started ≡ false
 
--- each in its order
+-- each one in order
 abbrev pub AreHosts : List Host → List HostState → Type 0
 AreHosts hosts stations = AllZip IsStationOf hosts stations
 
@@ -65,6 +65,6 @@ pub record IsNewNet (hosts : List Host) (ports : PortLists) (n : NetView) : Type
 abbrev pub router_faults : PortLists → List NewFault
 router_faults ports = filter_map (λ p. ports_fault p.items) ports
 
--- that of the first
+-- the first of these
 abbrev pub first_refusal : PortLists → Option NewFault
 first_refusal ports = slice_get (router_faults ports) 0

@@ -1,4 +1,4 @@
--- What each event does to a network, and what it answers.
+-- What each event does to a network, and its answer.
 use Rattle.std.specs.Prelude.{ℕ, ◌≡◌, ◌<◌, ◌≤◌, List, [], ◌∷◌, None, length}
 use Rattle.spx_link.specs.Limits.{most_units}
 use Rattle.spx_units.specs.Message.{message_view}
@@ -19,7 +19,7 @@ use Rattle.ipx_net.specs.declared.event.Member.TheVariants as Members
 use Rattle.ipx_net.specs.declared.place.Place.{Place}
 use Rattle.ipx_net.specs.declared.place.Place.TheVariants as Places
 
--- the routers are as they were
+-- the routers are unchanged
 abbrev pub BesideRouters : (AnswerView → World → World → Type 0)
     → AnswerView → NetNow → NetNow → Type 0
 BesideRouters P a old new = P a old.world new.world × (new.routers ≡ old.routers)
@@ -60,7 +60,7 @@ IsOwed (Events.Poll member) = Unit {0}
 IsOwed (Events.Deliver parcel place) = Unit {0}
 IsOwed (Events.Inject segment next bytes) = Unit {0}
 
--- what a packet from outside adds to the book
+-- what a packet from outside adds to the log
 abbrev pub injected : Network → Node → List ℕ → ℕ → StepResultView
 injected segment next bytes first =
     record {

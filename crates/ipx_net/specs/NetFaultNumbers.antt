@@ -1,4 +1,4 @@
--- The numbers of a network's faults, as programs print them.
+-- The numbers of a network's faults, as programs print them. Defined by this project.
 use Rattle.std.specs.Prelude.{ℕ}
 use Rattle.ipx_net.specs.declared.fault.NetFault.{NetFault}
 use Rattle.ipx_net.specs.declared.fault.NetFault.TheVariants.{NoSuchParcel, NotOnSegment, NoSuchEnd, Full, OutOfMemory, Spent}

@@ -1,4 +1,4 @@
--- The faults that an event meets before anything is done.
+-- The faults that are found before an event does anything. Defined by this project.
 use Rattle.std.specs.Prelude.{ℕ, Bool, ◌==◌, if◌then◌else◌, nat_lt, nat_le, length, Option, Some, None, slice_get, option_map}
 use Rattle.ipx_wire.specs.declared.address.Network.{Network}
 use Rattle.theory_steps.specs.World.{ParcelView, HostState}
@@ -34,7 +34,7 @@ end_fault b = if b then None else Some NoSuchEnd
 abbrev pub member_fault : Bool → Option NetFault
 member_fault b = if b then None else Some NotOnSegment
 
--- the place is on another network than the parcel, or not there
+-- the place is on another network than the parcel, or does not exist
 abbrev pub segment_fault : Network → Option Network → Option NetFault
 segment_fault segment None = Some NotOnSegment
 segment_fault segment (Some network) = member_fault (network.0 == segment.0)
@@ -68,7 +68,7 @@ fault_before n (Events.Inject segment next bytes) = None
 abbrev pub most_entries : ℕ
 most_entries = 1000000
 
--- the first of all: memory was refused before, the log is full, the event names what is not there
+-- the first of all: memory was refused before, the log is full, the event names something that does not exist
 abbrev pub first_fault : NetView → Event → Option NetFault
 first_fault v e =
     if v.spent then Some Spent

@@ -1,5 +1,4 @@
--- A network as its contracts see it: hosts, ends, parcels, log and moment, its routers, and whether
--- it gave up.
+-- A network in contracts: hosts, ends, parcels, log, time and routers, and whether it gave up.
 use Rattle.std.specs.Prelude.{ℕ, Bool, List}
 use Rattle.spx_theory.specs.Note.{Note}
 use Rattle.theory_steps.specs.World.{ParcelView, World}
@@ -10,7 +9,7 @@ pub record NetNow : Type 0 where
   pub world : World
   pub routers : List RouterNow
 
--- once memory was refused, no further step is taken
+-- after memory was refused, no further step is taken
 pub record NetView : Type 0 where
   pub now : NetNow
   pub spent : Bool

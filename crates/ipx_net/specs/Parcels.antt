@@ -1,4 +1,4 @@
--- Parcels, without where their bytes lie in memory.
+-- Parcels, without the place of their bytes in memory.
 use Rattle.std.specs.Prelude.{List, map, option_map}
 use Rattle.theory_steps.specs.World.{ParcelView, AtHost, AtPort}
 use Rattle.theory_steps.specs.World as Worlds

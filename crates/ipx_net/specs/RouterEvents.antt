@@ -17,11 +17,11 @@ use Rattle.ipx_net.specs.NetView.{NetNow}
 use Rattle.ipx_net.specs.RouterMembers.{IsPolled, letter_of, letters_of, network_of, port_at}
 use Rattle.ipx_net.specs.declared.routers.RouterNow.{RouterNow}
 
--- the numbers of as many parcels, from the first on
+-- the numbers of as many parcels, from `first` on
 abbrev pub numbers : ℕ → List SendingView → List ℕ
 numbers first sent = map (λ k. first + k) (range_with_len 0 (length sent))
 
--- ---- what a router's packets add to the book
+-- ---- what a router's packets add to the log
 
 abbrev pub told_growth : ℕ → List Port → ℕ → List SendingView → StepResultView
 told_growth router ports first sent =
@@ -57,7 +57,7 @@ pub record MemberPolled (old : List RouterNow) (router first now : ℕ) (g : Ste
   pub grows : g ≡ told_growth router before.router.ports first sent
   pub routers : new ≡ set old router after
 
--- bytes came to a port of a router of a list, and the others stay
+-- bytes arrived at a port of a router of a list, and the other routers stay
 pub record MemberReached (old : List RouterNow) (router port parcel : ℕ) (bytes : List ℕ)
     (first now : ℕ) (g : StepResultView) (new : List RouterNow) : Type 0 where
   pub before : RouterNow
@@ -84,7 +84,7 @@ pub record PollingRouter (router : ℕ) (a : AnswerView) (old new : NetNow) : Ty
   pub answer : a ≡ Parcels (numbers (length old.world.parcels) sent)
   pub routers : new.routers ≡ set old.routers router after
 
--- an outcome, as the world is told of it
+-- an outcome, as a change of the world
 abbrev pub RouterDoes : ℕ → ℕ → List Port → OutcomeView → AnswerView → World → World → Type 0
 RouterDoes parcel router ports (Outcomes.Forward port next bytes) a old new =
     (a ≡ Parcels (length old.parcels ∷ []))

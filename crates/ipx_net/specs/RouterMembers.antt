@@ -1,5 +1,5 @@
--- A router as a member of a network: what it gives where it is polled, and as which parcels its
--- packets lie (Novell IPX Router Specification).
+-- A router as a member of a network: what it gives in a poll, and its packets as parcels (Novell IPX Router
+-- Specification).
 use Rattle.std.specs.Prelude.{ℕ, zero, suc, ◌≡◌, ◌++◌, true, List, [], MatchBool, Option, None, Some, map, slice_get}
 use Rattle.ipx_wire.specs.declared.address.Network.{Network}
 use Rattle.ipx_router.specs.declared.port.Port.{Port}
@@ -10,7 +10,7 @@ use Rattle.ipx_router.specs.Telling.{TellsIfDue}
 use Rattle.theory_steps.specs.World.{AtPort, ParcelView}
 use Rattle.ipx_net.specs.declared.routers.RouterNow.{RouterNow}
 
--- the port of a number, from 1 on
+-- the port of this number, from 1 on
 abbrev pub port_at : List Port → ℕ → Option Port
 port_at ports zero = None
 port_at ports (suc k) = slice_get ports k
@@ -19,7 +19,7 @@ abbrev pub network_of : Option Port → Network
 network_of None = record { 0 = 0 }
 network_of (Some p) = p.network
 
--- a packet of a router lies on the network of the port by which it leaves
+-- a packet of a router is on the network of the port by which it leaves
 abbrev pub letter_of : ℕ → List Port → SendingView → ParcelView
 letter_of router ports s =
     record {
@@ -32,7 +32,7 @@ letter_of router ports s =
 abbrev pub letters_of : ℕ → List Port → List SendingView → List ParcelView
 letters_of router ports sent = map (letter_of router ports) sent
 
--- at its first poll it asks its neighbours, and at each it tells what it knows where it is time
+-- at its first poll it asks its neighbours, and at each poll it advertises what it knows if that is due
 pub record IsPolled (old new : RouterNow) (now : ℕ) (sent : List SendingView) : Type 0 where
   pub asked : List SendingView
   pub told : List SendingView

@@ -1,4 +1,4 @@
--- What is read off a log, as the code keeps it.
+-- The index of a log, as the code keeps it.
 use Rattle.std.specs.Prelude.{ℕ, ◌≤◌, ◌+◌, map, vec_len, vec_capacity}
 use Rattle.spx_theory.specs.Scan.{Scan}
 use Rattle.ipx_net.specs.declared.parcel_origin.Maker.{Maker}
@@ -37,7 +37,7 @@ scan_of s =
       newest = s.newest;
     }
 
--- room for so many more of each
+-- space for so many more of each
 pub record HasRoom (more : ℕ) (s : LogIndex) : Type 0 where
   pub marks : vec_len s.marks + more ≤ vec_capacity s.marks
   pub sent : vec_len s.sent + more ≤ vec_capacity s.sent

@@ -1,4 +1,4 @@
--- The entries of a packet that a host gave, by the end that gave it: words of private functions.
+-- Definitions for private functions: the entries of a packet that a host sent, by the end that sent it.
 use Rattle.std.specs.Prelude.{ℕ, List, [], ◌∷◌, Option, Some, None}
 use Rattle.spx_link.specs.declared.outgoing.Sent.{Sent}
 use Rattle.spx_theory.specs.Note.{Note}

@@ -1,4 +1,4 @@
--- What an event adds to the book of a network, and its answer, without where they lie in memory.
+-- What an event adds to the log of a network, and its answer, without their place in memory.
 use Rattle.std.specs.Prelude.{ℕ, ◌≡◌, List, ◌++◌, length}
 use Rattle.spx_theory.specs.Note.{Note}
 use Rattle.theory_steps.specs.World.{ParcelView, World}
@@ -21,8 +21,7 @@ step_result_view g =
       answer = answer_view g.answer;
     }
 
--- with so many parcels before, whichever they are, and whatever the log is: a relation of the
--- worlds before and after
+-- for any `first` parcels before, and any log: a relation of the worlds before and after
 abbrev pub GrowsWorld : HostsView → HostsView → (first now : ℕ) → StepResultView
     → (AnswerView → World → World → Type 0) → Type 0
 GrowsWorld old new first now g P = (parcels : List ParcelView) (log : List Note)

@@ -1,5 +1,5 @@
--- What is so of every network: one list of its theorems, each a field. They are read off its log and
--- its parcels alone, or, while no memory was refused, off its links too.
+-- The theorems of every network, one field each. They speak of its log and its parcels only or, while no
+-- memory was refused, also of its links.
 use Rattle.std.specs.Prelude.{ℕ, ◌≡◌, ◌↔◌, true, false, List, ◌∷◌, ◌++◌, Some, Contains, slice_get}
 use Rattle.spx_theory.specs.Addresses.{AddressesTellPeers}
 use Rattle.spx_theory.specs.Allocation.{AloneReadsNothing}
@@ -21,25 +21,25 @@ use Rattle.ipx_recovery.specs.Stuck.{NoPairIsStuck, NoStateIsStuck, NothingIsStu
 use Rattle.theory_steps.specs.World.{EndNow, InOrder, World, scene_of}
 use Rattle.ipx_net.specs.NetView.{NetView}
 
--- each entry of a log names what is there
+-- each entry of a log names something that exists
 abbrev pub AreNumbered : List Note → Type 0
 AreNumbered log = (before after : List Note) (n : Note)
     → log ≡ before ++ n ∷ after → IsNumbered (scan before) n
 
--- an end that was opened is there, at the host of its entry
+-- an end that was opened exists, at the host of its entry
 abbrev pub AreWhereOpened : World → Type 0
 AreWhereOpened w = (who host buffers : ℕ) → Contains w.log (Opened who host buffers)
     → (n : EndNow) × (slice_get w.ends who ≡ Some n) × (n.host ≡ host)
 
--- an end is released just where an entry says so
+-- an end is released exactly if an entry says so
 abbrev pub AreReleasedByLog : World → Type 0
 AreReleasedByLog w = (who : ℕ) (n : EndNow) → slice_get w.ends who ≡ Some n
     → (n.released ≡ true) ↔ Contains w.log (Released who)
 
--- of links too
+-- theorems that also speak of links
 pub record LinkTheorems (w : World) : Type 0 where
-  -- that the theorems speak of something: hosts and ends fit one another, each end that is not
-  -- released has a link, and entries tell of ends that are there
+  -- hosts and ends fit together, each end that is not released has a link, and entries name ends that exist:
+  -- so the theorems are not empty
   pub order : InOrder w
   pub numbers : NumbersAreInOrder (scene_of w)
   pub told : EndsAreTold (scene_of w)
@@ -58,15 +58,15 @@ pub record LinkTheorems (w : World) : Type 0 where
   pub not_stuck_both_ways : NoPairIsStuck (scene_of w)
   pub not_stuck_by_addresses : NothingIsStuckByAddresses (scene_of w)
 
--- of log, parcels, the addresses of hosts and messages joined, also after want of memory; and of
--- links before it
+-- theorems of log, parcels, the addresses of hosts and joined messages, which also hold after memory was
+-- refused; and those of links, which hold before that
 pub record Theorems (v : NetView) : Type 0 where
   pub alters : RoutersAlterHopsAlone (scene_of v.now.world)
   pub in_order : UnitsAreSentInOrder (scene_of v.now.world)
   pub headline : LogHeadline v.now.world.log
-  -- one entry makes each parcel, and one each end
+  -- each parcel is made by one entry, and so is each end
   pub made_once : AreMadeOnce v.now.world.log
-  -- what is read off the log is what its entries say
+  -- the index of the log is what its entries say
   pub origins : OriginsAreRead (scene_of v.now.world)
   pub peers : PeersAreRead (scene_of v.now.world)
   pub between : BetweenIsRead (scene_of v.now.world)

@@ -1,4 +1,4 @@
--- How what is told of ends is kept: words of private functions.
+-- Definitions for private functions: how the summaries of ends are kept.
 use Rattle.std.specs.Prelude.{ℕ, ◌≡◌, ◌≢◌, ◌<◌, ◌+◌, Bool, true, false, List, [], ◌∷◌, ◌++◌, Option, Some, None, length, option_map, set, slice_get}
 use Rattle.spx_link.specs.declared.state.State.{State}
 use Rattle.spx_link.specs.SequenceMarks.{mark}
@@ -19,7 +19,7 @@ use Rattle.ipx_net.specs.declared.event.Member.TheVariants as Members
 use Rattle.ipx_net.specs.declared.place.Place.{Place}
 use Rattle.ipx_net.specs.declared.place.Place.TheVariants as Places
 
--- ---- what the log says but peers, entry by entry
+-- ---- what the log says except peers, entry by entry
 
 abbrev pub one_given : EndInfo → EndInfo
 one_given e = record e { given = e.given + 1 }
@@ -33,7 +33,7 @@ one_sent e = record e { next = mark (e.next + 1) }
 abbrev pub change : (EndInfo → EndInfo) → ℕ → List EndInfo → List EndInfo
 change f who told = set told who (f (told_of told who))
 
--- what is told with an entry more: a new end, or one more of an end
+-- the summaries after one more entry: of a new end, or of a change of one end
 abbrev pub told_with : Note → List EndInfo → List EndInfo
 told_with (Opened who host buffers) told = told ++ nobody ∷ []
 told_with (Accepted who parcel buffers) told = told ++ nobody ∷ []
@@ -42,7 +42,7 @@ told_with (HandsOut who m) told = change one_out who told
 told_with (SendsUnit who parcel) told = change one_sent who told
 told_with n told = told
 
--- of any number: how many messages it handed in and out, and its next number
+-- for any number: how many messages it handed in and out, and its next number
 pub record IsCounted (log : List Note) (who : ℕ) (e : EndInfo) : Type 0 where
   pub given : e.given ≡ length (handed_in who log)
   pub out : e.out ≡ length (handed_out who log)
@@ -52,7 +52,7 @@ pub record AreCounted (log : List Note) (told : List EndInfo) : Type 0 where
   pub count : length told ≡ length (scan log).roles
   pub each : (who : ℕ) → IsCounted log who (told_of told who)
 
--- host, state and peer are as they were
+-- host, state and peer are unchanged
 pub record StaysAs (e f : EndInfo) : Type 0 where
   pub host : f.host ≡ e.host
   pub state : f.state ≡ e.state
@@ -66,13 +66,13 @@ StayAs old new = (who : ℕ) → StaysAs (told_of old who) (told_of new who)
 abbrev pub with_peer : Option ℕ → EndInfo → EndInfo
 with_peer peer e = record e { peer = peer }
 
--- an end and its peer are each other's
+-- an end and its peer have each other as peer
 abbrev pub made_peers : ℕ → Option ℕ → List EndInfo → List EndInfo
 made_peers who None told = change (with_peer None) who told
 made_peers who (Some peer) told =
     change (with_peer (Some who)) peer (change (with_peer (Some peer)) who told)
 
--- all but the peer is as it was
+-- everything except the peer is unchanged
 pub record StaysBut (e f : EndInfo) : Type 0 where
   pub host : f.host ≡ e.host
   pub state : f.state ≡ e.state
@@ -83,16 +83,16 @@ pub record StaysBut (e f : EndInfo) : Type 0 where
 abbrev pub StayAlone : List EndInfo → List EndInfo → Type 0
 StayAlone old new = (who : ℕ) → StaysBut (told_of old who) (told_of new who)
 
--- ---- where ends stand
+-- ---- hosts and states of ends
 
 abbrev pub standing : ℕ → Option State → EndInfo → EndInfo
 standing host state e = record e { host = host; state = state }
 
--- all but host and state is as it was
+-- everything except host and state
 abbrev pub logged : EndInfo → EndInfo
 logged e = record e { host = 0; state = None }
 
--- an end stands there so
+-- the summary of an end has this host and state
 pub record StandsSo (host : ℕ) (state : Option State) (e : EndInfo) : Type 0 where
   pub host_is : e.host ≡ host
   pub state_is : e.state ≡ state
@@ -111,7 +111,7 @@ joins (Accepted who parcel buffers) = Some who
 joins (Joined who parcel) = Some who
 joins n = None
 
--- the end of a link of a host is told as it stands, or as gone
+-- the end of a link of a host is updated to its present state, or to released
 abbrev pub settled : HostsView → ℕ → Bool → Option (ℕ × ℕ) → List EndInfo → List EndInfo
 settled v host gone None told = told
 settled v host gone (Some x) told =
@@ -124,7 +124,7 @@ paired_by (Some who) log told = made_peers who (peer_of log who) told
 
 -- ---- the ends of a host, before and after an event
 
--- what the ends of a host are told as, gone or as they stand; all else stays
+-- the ends of a host are updated, to released or to their present states; everything else stays
 pub record Resettled (v : HostsView) (host : ℕ) (gone : Bool) (old new : List EndInfo)
     : Type 0 where
   pub count : length new ≡ length old
@@ -138,7 +138,7 @@ abbrev pub Restood : HostsView → Option ℕ → Bool → List EndInfo → List
 Restood v None gone old new = new ≡ old
 Restood v (Some host) gone old new = Resettled v host gone old new
 
--- host and state are as they were
+-- host and state are unchanged
 pub record StandAs (old new : List EndInfo) : Type 0 where
   pub host : (who : ℕ) → (told_of new who).host ≡ (told_of old who).host
   pub state : (who : ℕ) → (told_of new who).state ≡ (told_of old who).state

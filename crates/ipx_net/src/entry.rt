@@ -2,8 +2,8 @@
 
 use spx_units::Message;
 
-/// A unit that was taken: its datastream type, whether a message ends with it, and its data, which
-/// take the room of their bytes.
+/// A unit that was taken: its datastream type, whether it ends a message, and its data, which take
+/// no more space than their bytes.
 #[derive(Drop)]
 pub struct TakenUnit {
     pub stream: u8,
@@ -11,11 +11,11 @@ pub struct TakenUnit {
     pub body: Vec<u8>,
 }
 
-/// What happened in a network, one thing at a time. Ends, parcels, hosts and routers go by their
-/// numbers from 0; `who` is an end.
+/// What happened in a network, one thing at a time. Ends, parcels, hosts and routers are numbered
+/// from 0. `who` is an end.
 #[derive(Drop)]
 pub enum Entry {
-    /// A host opened an end, whose link has so many buffers.
+    /// A host opened an end. Its link has so many buffers.
     Opened {
         who: usize,
         host: usize,
@@ -27,22 +27,22 @@ pub enum Entry {
         parcel: usize,
         buffers: u16,
     },
-    /// The reply to its request came to an end.
+    /// The reply to its request arrived at an end.
     Joined {
         who: usize,
         parcel: usize,
     },
-    /// A message was handed in.
+    /// A message was handed in at an end, to be sent.
     HandIn {
         who: usize,
         message: Message,
     },
-    /// A message was handed out.
+    /// A complete message was handed out by an end.
     HandOut {
         who: usize,
         message: Message,
     },
-    /// A unit was taken.
+    /// A unit was taken from an end.
     UnitTaken {
         who: usize,
         unit: TakenUnit,
@@ -51,12 +51,12 @@ pub enum Entry {
     EndAsked {
         who: usize,
     },
-    /// An end read a packet.
+    /// An end has read a packet.
     Got {
         who: usize,
         parcel: usize,
     },
-    /// An end went.
+    /// An end was released.
     Released {
         who: usize,
     },
@@ -65,7 +65,7 @@ pub enum Entry {
         who: usize,
         parcel: usize,
     },
-    /// An end sent a unit again.
+    /// An end retransmitted a unit.
     Again {
         who: usize,
         parcel: usize,
@@ -75,17 +75,17 @@ pub enum Entry {
         who: usize,
         parcel: usize,
     },
-    /// A router sent a packet of its own.
+    /// A router sent a packet that it made itself.
     Told {
         router: usize,
         parcel: usize,
     },
-    /// A router carried a packet on.
+    /// A router forwarded a packet.
     Carried {
         from: usize,
         parcel: usize,
     },
-    /// A packet came from outside.
+    /// A packet was injected from outside.
     Injected {
         parcel: usize,
     },

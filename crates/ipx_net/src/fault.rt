@@ -20,19 +20,19 @@ pub enum NetFault {
     /// There is no such end, or it was released.
     #[error("no end of this number stands")]
     NoSuchEnd,
-    /// The log holds 1,000,000 entries.
+    /// The log has 1,000,000 entries.
     #[error("the log is full, at most 1000000 entries")]
     Full,
-    /// The log stands, and no further step is taken.
+    /// The log stays as it is, and no further step is taken.
     #[error("out of memory")]
     OutOfMemory,
-    /// Memory was refused before.
+    /// Memory was refused in an earlier step.
     #[error("memory was refused before, no step is taken")]
     Spent,
 }
 
 impl NetFault {
-    /// The fault's number, 32 to 37: what programs print and compare.
+    /// The fault's number, 32 to 37. Programs print and compare it.
     pub fn number(&self) -> u8
         ensures { result ≡ net_fault_number self.now }
     {

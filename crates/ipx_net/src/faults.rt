@@ -1,4 +1,4 @@
-//! What an event meets before anything is done.
+//! The faults that are found before an event does anything.
 
 ghost use Rattle.std.specs.Prelude.{◌≡◌, ◌<◌, ℕ, length, nat_lt, option_map, slice_get};
 ghost use Rattle.ipx_net_hosts.specs.Hosts.{stands};
@@ -16,7 +16,7 @@ use crate::routers::{RouterNow, network_at};
 use ipx_net_hosts::Hosts;
 use ipx_wire::Network;
 
-/// There is no such end, or it was released.
+/// The fault if there is no such end, or it was released.
 fn end_fault(hosts: &Hosts, who: usize) -> Option<NetFault>
     ensures { result ≡ end_fault (stands hosts.now who) }
 {
@@ -27,7 +27,7 @@ fn end_fault(hosts: &Hosts, who: usize) -> Option<NetFault>
     }
 }
 
-/// There is no such host or router.
+/// The fault if there is no such host or router.
 fn member_fault(count: usize, number: usize) -> Option<NetFault>
     ensures { result ≡ member_fault (nat_lt number count) }
 {
@@ -38,7 +38,7 @@ fn member_fault(count: usize, number: usize) -> Option<NetFault>
     }
 }
 
-/// The network of a place, if that is there.
+/// The network of a place, if that exists.
 fn network_of(hosts: &Hosts, routers: &[RouterNow], place: &Place) -> Option<Network>
     ensures { (indexed_log : IndexedLogView) (moment : ℕ)
         → result
@@ -50,7 +50,7 @@ fn network_of(hosts: &Hosts, routers: &[RouterNow], place: &Place) -> Option<Net
     }
 }
 
-/// The network of a parcel, if that is there.
+/// The network of a parcel, if that exists.
 fn segment_of(parcels: &[Parcel], parcel: usize) -> Option<Network>
     ensures { result ≡ option_map (λ p. p.segment) (slice_get parcels.now parcel) }
 {
@@ -58,7 +58,7 @@ fn segment_of(parcels: &[Parcel], parcel: usize) -> Option<Network>
     Some(parcel.segment)
 }
 
-/// A parcel is not there, or not on the network of a place.
+/// The fault if a parcel does not exist, or is not on the network of a place.
 fn place_fault(parcels: &[Parcel], parcel: usize, network: Option<Network>) -> Option<NetFault>
     ensures { result ≡ place_fault (slice_get (parcel_views parcels.now) parcel) network }
 {
@@ -69,7 +69,7 @@ fn place_fault(parcels: &[Parcel], parcel: usize, network: Option<Network>) -> O
     }
 }
 
-/// The fault that an event meets before anything is done, if it meets one.
+/// The fault that is found before an event does anything, if there is one.
 pub fn fault_of(
     hosts: &Hosts,
     routers: &[RouterNow],

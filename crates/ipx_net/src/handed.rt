@@ -1,4 +1,4 @@
-//! What ends handed in and out, in a log.
+//! The messages of a log that ends handed in and out.
 
 ghost use Rattle.std.specs.Prelude.{◌≡◌, ◌≤◌, ◌↔◌, [], ◌∷◌, IsTrue, MatchOption, drop, length};
 ghost use Rattle.spx_theory.specs.Handed.{IsBeginning, handed_in, handed_out, in_by, out_by};
@@ -15,7 +15,7 @@ fn is_same(one: &Message, other: &Message) -> bool
     one.stream == other.stream && one.body.as_slice() == other.body.as_slice()
 }
 
-/// The message that an entry says an end handed in.
+/// The message that was handed in at this end by an entry.
 fn handed_in_by(entry: &Entry, end: usize) -> Option<&Message>
     ensures { MatchOption result (in_by end (entry_note entry.now) ≡ []) (λ m.
         in_by end (entry_note entry.now) ≡ message_view m.now ∷ []) }
@@ -26,7 +26,7 @@ fn handed_in_by(entry: &Entry, end: usize) -> Option<&Message>
     }
 }
 
-/// The message that an entry says an end handed out.
+/// The message that this end handed out by an entry.
 fn handed_out_by(entry: &Entry, end: usize) -> Option<&Message>
     ensures { MatchOption result (out_by end (entry_note entry.now) ≡ []) (λ m.
         out_by end (entry_note entry.now) ≡ message_view m.now ∷ []) }
@@ -37,7 +37,7 @@ fn handed_out_by(entry: &Entry, end: usize) -> Option<&Message>
     }
 }
 
-/// The next message that an end handed in, and the place behind its entry.
+/// The next message that was handed in at an end, and the index after its entry.
 fn next_in(log: &[Entry], from: usize, end: usize) -> Option<(usize, &Message)>
     requires { from ≤ length log.now }
     ensures { MatchOption result (handed_in end (entry_notes (drop from log.now)) ≡ []) (λ r.
@@ -55,7 +55,8 @@ fn next_in(log: &[Entry], from: usize, end: usize) -> Option<(usize, &Message)>
     None
 }
 
-/// Whether what an end handed out begins what another one handed in. Both are gone through once.
+/// Whether the messages that an end handed out are a prefix of those that were handed in at another
+/// one. It reads each list once.
 pub fn is_beginning(log: &[Entry], end: usize, peer: usize) -> bool
     ensures { IsTrue result
         ↔ IsBeginning (handed_out end (entry_notes log.now))
@@ -78,7 +79,7 @@ pub fn is_beginning(log: &[Entry], end: usize, peer: usize) -> bool
     true
 }
 
-/// Whether an end handed out nothing.
+/// Whether an end handed out no message.
 pub fn is_silent(log: &[Entry], end: usize) -> bool
     ensures { IsTrue result ↔ (handed_out end (entry_notes log.now) ≡ []) }
 {

@@ -1,4 +1,4 @@
-//! What an event does, with the book as it is: what is to be added to that.
+//! What an event does, and what it adds to the log.
 
 ghost use Rattle.std.specs.Prelude.{◌≡◌, ◌++◌, None, IfOk, slice_get};
 ghost use Rattle.ipx_net_hosts.specs.Hosts.{FitTogether, KeepsMarks, SameHomes};
@@ -25,7 +25,7 @@ use ipx_net_hosts::Hosts;
 use ipx_wire::{Network, Node, OutOfMemory};
 use std::alloc::Global;
 
-/// A packet comes from outside, under this number.
+/// Injects a packet from outside, with this number.
 fn inject(
     alloc: Global,
     segment: Network,
@@ -53,7 +53,7 @@ fn inject(
     })
 }
 
-/// A host or a router is asked what it has to send.
+/// Polls a host or a router for packets to send.
 fn poll(
     alloc: Global,
     hosts: &mut Hosts,
@@ -80,7 +80,7 @@ fn poll(
     }
 }
 
-/// A parcel comes to a place on its network.
+/// Delivers a parcel to a place on its network.
 fn deliver(
     alloc: Global,
     hosts: &mut Hosts,
@@ -121,7 +121,7 @@ fn deliver(
     }
 }
 
-/// What an event does that meets no fault before.
+/// Does an event for which no fault was found.
 pub fn happen(
     alloc: Global,
     hosts: &mut Hosts,

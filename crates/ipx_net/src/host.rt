@@ -1,9 +1,9 @@
-//! A host, as a network is made with it.
+//! A host that a network is made with.
 
 use ipx_wire::{Network, Node, Socket};
 
-/// A host: where it stands, the node by which it reaches other networks, and the socket at which it
-/// listens, if at one, with the buffers of each link accepted there.
+/// A host: its network and node, and its router for other networks. If it listens at a socket, that
+/// socket, and the number of buffers of each link that is accepted there.
 ///
 /// The caller of the network owes a network other than 0 and FFFFFFFF, and 1 to 8,192 buffers.
 #[derive(Clone, Copy, Debug, PartialEq, Eq)]

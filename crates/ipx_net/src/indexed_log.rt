@@ -41,7 +41,7 @@ impl Model for IndexedLog {
     ghost invariant = { λ b. scan (entry_notes b.entries.items) ≡ scan_of b.scanned };
 }
 
-/// Moves items behind others, where there is room.
+/// Appends items. There is space for them.
 fn add_all<T: Drop>(items: &mut Vec<T>, more: Vec<T>)
     requires { vec_len items.old + vec_len more ≤ vec_capacity items.old }
     ensures { items.new.items ≡ items.old.items ++ more.items }
@@ -51,7 +51,7 @@ fn add_all<T: Drop>(items: &mut Vec<T>, more: Vec<T>)
 }
 
 impl IndexedLog {
-    /// A book of nothing. It takes no memory.
+    /// An empty log. It allocates nothing.
     pub fn new(alloc: Global) -> IndexedLog
         ensures { result ≡ blank }
     {
@@ -62,8 +62,8 @@ impl IndexedLog {
         }
     }
 
-    /// Parcels come, and entries that tell of them or of what else happened. Where memory is
-    /// refused, the book is as it was. Nothing takes no memory.
+    /// Appends parcels, and entries. If memory is refused, the log is as it was. If there is
+    /// nothing to append, nothing is allocated.
     pub fn append(&mut self, parcels: Vec<Parcel>, entries: Vec<Entry>) -> Result<(), OutOfMemory>
         ensures ok { OnOk result (self.new
             ≡ written_on self.old (parcel_views parcels.items) (entry_notes entries.items)) }
@@ -79,7 +79,7 @@ impl IndexedLog {
         Ok(())
     }
 
-    /// The log: what happened, from the beginning on.
+    /// The log: what happened, from the start on.
     pub fn log(&self) -> &[Entry]
         ensures { entry_notes result.now ≡ self.now.log }
     {
@@ -93,16 +93,16 @@ impl IndexedLog {
         &self.parcels
     }
 
-    /// The peer of an end: one of the two called, and each was made or joined by a packet of the
-    /// other. An end has at most one.
+    /// The peer of an end: one of the two dialled, and each was made or joined by a packet of the
+    /// other. An end has at most one peer.
     pub fn peer(&self, end: usize) -> Option<usize>
         ensures { result ≡ peer_of self.now.log end }
     {
         self.scanned.peer(end)
     }
 
-    /// Whether what an end handed out is a beginning of what its peer handed in. Without a peer: it
-    /// handed out nothing. It is false for a number of no end.
+    /// Whether the messages that an end handed out are a prefix of those that were handed in at its
+    /// peer. An end without a peer must have handed out none. It is false for a number of no end.
     pub fn begins(&self, end: usize) -> bool
         ensures { IsTrue result ↔ BeginsAsRead self.now.log end }
     {
@@ -116,8 +116,8 @@ impl IndexedLog {
         }
     }
 
-    /// Whether each packet that an end read of its peer was sent fewer than 32,768 units of each of
-    /// the two before.
+    /// Whether each packet that an end has read from its peer was sent fewer than 32,768 units of
+    /// each of the two before.
     pub fn fresh(&self) -> bool
         ensures { IsTrue result ↔ IsFresh self.now.log }
     {

@@ -1,11 +1,11 @@
-//! A network in memory: what happened in it, in order, and the packets on their way.
+//! A network in memory: what happened in it, in order, and the packets that were sent.
 //!
-//! One makes a [`Net`] of hosts and of the ports of routers, hands it one [`Event`] after another
-//! by [`Net::step`], and reads `log`, `parcels` and `ends`. No packet goes on by itself, and no
-//! time passes.
+//! Make a [`Net`] of hosts and of the ports of routers, pass it one [`Event`] after another with
+//! [`Net::step`], and read `log`, `parcels` and `ends`. No packet moves by itself, and no time
+//! passes by itself.
 //!
-//! A [`IndexedLog`] holds the log and the parcels. What is read off the log, as which packets an end read
-//! and who sent them, is kept beside it as it grows.
+//! An [`IndexedLog`] holds the log and the parcels. It also indexes the log as it grows: for
+//! example, the packets that an end has read, and their senders.
 #![tactic(auto)]
 
 mod answer;

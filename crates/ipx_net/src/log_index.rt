@@ -1,4 +1,4 @@
-//! What is read off a log, entry by entry.
+//! The index of a log, kept entry by entry.
 
 ghost use Rattle.std.specs.Prelude.{◌<◌, ◌≤◌, All, length};
 ghost use Rattle.ipx_net.specs.Places.{AreListed};
@@ -10,8 +10,8 @@ use crate::reading::Reading;
 use crate::role::{Role, join_role};
 use std::alloc::{AllocError, Global};
 
-/// What is read off a log: of each parcel, of each unit in order (the end that sent it for the
-/// first time), of each packet read, and of each end.
+/// The index of a log: of each parcel, of each unit in order (the end that first sent it), of each
+/// packet that was read, and of each end.
 #[derive(Drop)]
 pub struct LogIndex {
     pub marks: Vec<ParcelOrigin>,
@@ -20,7 +20,7 @@ pub struct LogIndex {
     pub roles: Vec<Role>,
     /// The end that the last entry made or joined.
     pub newest: Option<usize>,
-    /// Where the units of each end stand in `sent`.
+    /// The indices of the units of each end in `sent`.
     pub places: UnitPlaces,
     ghost listed: { AreListed places sent.items },
     ghost short: { All (λ m. m.passed ≤ length marks.items) marks.items },
@@ -33,7 +33,7 @@ impl LogIndex {
     ghost use Rattle.ipx_net.specs.LogEntries.{entry_note, entry_notes};
     ghost use Rattle.ipx_net.specs.Sights.{HasRoom, maker_view, scan_of};
 
-    /// Of no log yet.
+    /// Of an empty log.
     pub fn new(alloc: Global) -> LogIndex
         ensures { scan_of result ≡ unread }
     {
@@ -47,7 +47,7 @@ impl LogIndex {
         }
     }
 
-    /// Takes room for what these entries add.
+    /// Reserves space for what these entries add.
     pub fn reserve(&mut self, entries: &[Entry]) -> Result<(), AllocError>
         ensures same { scan_of self.new ≡ scan_of self.old }
         ensures room { OnOk result (HasRoom (length entries.now) self.new) }
@@ -61,7 +61,7 @@ impl LogIndex {
         self.places.reserve(entries)
     }
 
-    /// A parcel is made that no router carried.
+    /// Adds a parcel that no router forwarded.
     fn add_mark(&mut self, maker: Maker)
         requires { HasRoom 1 self.old }
         ensures scan { scan_of self.new ≡ marked (maker_view maker) (scan_of self.old) }
@@ -72,7 +72,7 @@ impl LogIndex {
         self.newest = None;
     }
 
-    /// An end sends a unit for the first time.
+    /// Adds a unit that an end sends for the first time.
     fn add_unit(&mut self, who: usize)
         requires { HasRoom 1 self.old }
         ensures scan { (parcel : ℕ)
@@ -86,7 +86,7 @@ impl LogIndex {
         self.newest = None;
     }
 
-    /// A router carries a parcel on.
+    /// Adds a parcel that a router forwards.
     fn carry(&mut self, from: usize)
         requires { HasRoom 1 self.old }
         ensures scan { (parcel : ℕ)
@@ -101,7 +101,7 @@ impl LogIndex {
         self.newest = None;
     }
 
-    /// An end reads a packet.
+    /// Adds a packet that an end reads.
     fn add_reading(&mut self, who: usize, parcel: usize)
         requires { HasRoom 1 self.old }
         ensures scan { scan_of self.new ≡ seen (scan_of self.old) (Got who parcel) }
@@ -119,7 +119,7 @@ impl LogIndex {
         self.newest = None;
     }
 
-    /// An end is opened.
+    /// Adds an end that its host opens.
     fn open(&mut self, buffers: u16)
         requires { HasRoom 1 self.old }
         ensures scan { (who host : ℕ)
@@ -131,7 +131,7 @@ impl LogIndex {
         self.newest = None;
     }
 
-    /// A request makes an end.
+    /// Adds an end that a request makes.
     fn accept(&mut self, who: usize, parcel: usize, buffers: u16)
         requires { HasRoom 1 self.old }
         ensures scan { scan_of self.new ≡ seen (scan_of self.old) (Accepted who parcel buffers) }
@@ -144,7 +144,7 @@ impl LogIndex {
         self.newest = Some(who);
     }
 
-    /// The reply to its request comes to an end.
+    /// Joins an end, to which the reply to its request has arrived.
     fn join(&mut self, who: usize, parcel: usize)
         ensures scan { scan_of self.new ≡ seen (scan_of self.old) (Joined who parcel) }
         ensures room { (more : ℕ) → HasRoom (more + 1) self.old → HasRoom more self.new }
@@ -154,7 +154,7 @@ impl LogIndex {
         self.newest = Some(who);
     }
 
-    /// One entry more.
+    /// Reads one more entry.
     pub fn read(&mut self, entry: &Entry)
         requires { HasRoom 1 self.old }
         ensures scan { scan_of self.new ≡ seen (scan_of self.old) (entry_note entry.now) }
@@ -183,7 +183,7 @@ impl LogIndex {
         }
     }
 
-    /// More entries, in order.
+    /// Reads more entries, in order.
     pub fn read_all(&mut self, entries: &[Entry])
         requires { HasRoom (length entries.now) self.old }
         ensures { scan_of self.new ≡ seen_all (scan_of self.old) (entry_notes entries.now) }

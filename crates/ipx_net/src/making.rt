@@ -1,4 +1,4 @@
-//! The hosts and routers of a network, as it is made.
+//! The hosts and routers of a new network.
 
 ghost use Rattle.std.specs.Prelude.{◌≡◌, ◌++◌, ◌∷◌, [], All, IfErr, IfOk, None, OnOk, false, unwrap_or};
 ghost use Rattle.ipx_router.specs.declared.fault.NewFault.TheVariants as NewFaults;
@@ -11,7 +11,7 @@ use ipx_router::{NewFault, Port, Router};
 use ipx_wire::OutOfMemory;
 use std::alloc::Global;
 
-/// The hosts of a network, in their order.
+/// The hosts of a network, in order.
 pub fn hosts_of(alloc: Global, hosts: &[Host]) -> Result<Hosts, OutOfMemory>
     ensures are { IfOk result (λ h. AreHosts hosts.now h.stations) }
     ensures ends { IfOk result (λ h. h.ends ≡ []) }
@@ -23,7 +23,7 @@ pub fn hosts_of(alloc: Global, hosts: &[Host]) -> Result<Hosts, OutOfMemory>
     Ok(made)
 }
 
-/// A router that asked nobody yet comes behind the others.
+/// Adds a router that has asked no neighbour yet.
 fn add(made: &mut Vec<RouterNow>, router: Router) -> Result<(), OutOfMemory>
     ensures { OnOk result (made.new.items
         ≡ made.old.items ++ record { router = router; started = false } ∷ []) }
@@ -35,8 +35,8 @@ fn add(made: &mut Vec<RouterNow>, router: Router) -> Result<(), OutOfMemory>
     Ok(())
 }
 
-/// The routers of a network, in their order. It is refused with the fault of the first router that
-/// is refused, else for want of memory.
+/// The routers of a network, in order. It fails with the fault of the first router that is refused,
+/// or else if out of memory.
 pub fn routers_of(alloc: Global, routers: Vec<Vec<Port>>) -> Result<Vec<RouterNow>, NewFault>
     requires { All ArePortsOwed routers.items }
     ensures are { IfOk result (λ v. AreRouters routers.items v.items) }
@@ -45,7 +45,7 @@ pub fn routers_of(alloc: Global, routers: Vec<Vec<Port>>) -> Result<Vec<RouterNo
         (λ f. f ≡ unwrap_or (first_refusal routers.items) NewFaults.OutOfMemory) }
 {
     let mut made = Vec::new(alloc);
-    // It is told last: the routers behind may be refused for their ports.
+    // This is returned last, since a later router may be refused for its ports.
     let mut out_of_memory = false;
     for ports in routers {
         let router = Router::new(alloc, ports)?;

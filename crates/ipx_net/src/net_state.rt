@@ -1,5 +1,4 @@
-//! The course of a network, event by event: its hosts, routers and log, without what is told of its
-//! ends.
+//! The state of a network: its hosts, routers and log, without the summaries of its ends.
 
 ghost use Rattle.std.specs.Prelude.{◌≡◌, ◌≤◌, ◌+◌, ◌-◌, ◌↔◌, All, IfErr, IfOk, IsTrue, None, OnOk, false, length, take, true, unwrap_or, vec_capacity, vec_len};
 ghost use Rattle.spx_theory.specs.Peers.{IsFresh};
@@ -46,10 +45,10 @@ use std::alloc::Global;
 use std::marker::Model;
 use theory_steps::{peers_of_worlds_are_in_step, steps_are_deeds};
 
-/// How many entries the log holds before no more steps are taken.
+/// The number of entries in the log after which no more steps are taken.
 const MAX_ENTRIES: usize = 1_000_000;
 
-/// The hosts and routers of a network, the packets on their way, and the log.
+/// The hosts and routers of a network, the packets that were sent, and the log.
 #[derive(Drop)]
 pub struct NetState {
     hosts: Hosts,
@@ -95,13 +94,12 @@ fn reached_host(place: Place) -> Option<usize>
 }
 
 impl NetState {
-    /// The course of a network of these hosts and routers, numbered from 0 in their order, at
-    /// moment 0. Nothing happened in it, its routers know nothing, and its hosts have no
-    /// connections.
+    /// Makes a network of these hosts and routers, numbered from 0 in their order. Its time is 0.
+    /// Nothing has happened in it: its routers know nothing, and its hosts have no connections.
     ///
     /// The caller owes networks other than 0 and FFFFFFFF, of hosts and of ports, and 1 to 8,192
-    /// buffers where a host listens. It is refused with the fault of the first router that is
-    /// refused, else for want of memory.
+    /// buffers for a host that listens. It fails with the fault of the first router that is
+    /// refused, or else if out of memory.
     pub fn new(
         alloc: Global,
         hosts: Vec<Host>,
@@ -128,7 +126,7 @@ impl NetState {
         })
     }
 
-    /// The fault that an event meets before anything is done, if it meets one.
+    /// The fault that is found before an event does anything, if there is one.
     pub fn first_fault(&self, event: &Event) -> Option<NetFault>
         ensures { result ≡ first_fault self.now event.now }
     {
@@ -141,8 +139,8 @@ impl NetState {
         fault_of(&self.hosts, &self.routers, &self.indexed_log, event)
     }
 
-    /// What an event does that meets no fault before. Where memory is refused, the network gives
-    /// up. Room is taken for what is told of the ends that it makes.
+    /// Does an event for which no fault was found. If memory is refused, the network gives up. It
+    /// reserves space for the summaries of the ends that the event makes.
     pub fn go_on(
         &mut self,
         told: &mut EndSummaries,
@@ -197,7 +195,7 @@ impl NetState {
         Ok(answer)
     }
 
-    /// What is so of every network.
+    /// The theorems of every network.
     pub fn holds(&self)
         ensures { Theorems self.now }
     {
@@ -228,7 +226,7 @@ impl NetState {
         nothing_is_stuck_by_addresses();
     }
 
-    /// The log: what happened, from the beginning on.
+    /// The log: what happened, from the start on.
     pub fn log(&self) -> &[Entry]
         ensures { entry_notes result.now ≡ self.now.now.world.log }
     {
@@ -242,15 +240,16 @@ impl NetState {
         self.indexed_log.parcels()
     }
 
-    /// Whether what an end handed out is a beginning of what its peer handed in.
+    /// Whether the messages that an end handed out are a prefix of those that were handed in at its
+    /// peer.
     pub fn begins(&self, end: usize) -> bool
         ensures { IsTrue result ↔ BeginsAsRead self.now.now.world.log end }
     {
         self.indexed_log.begins(end)
     }
 
-    /// Whether each packet that an end read of its peer was sent fewer than 32,768 units of each of
-    /// the two before.
+    /// Whether each packet that an end has read from its peer was sent fewer than 32,768 units of
+    /// each of the two before.
     pub fn fresh(&self) -> bool
         ensures { IsTrue result ↔ IsFresh self.now.now.world.log }
     {
@@ -275,7 +274,7 @@ impl NetState {
         }
     }
 
-    /// The ends of a host are told as they stand, or all as gone.
+    /// Updates the ends of a host: each to its present state, or all to released.
     pub fn stand(&self, told: &mut EndSummaries, host: Option<usize>, gone: bool)
         requires { self.now.spent ≡ false }
         ensures { Restood (hosts_of self.now.now.world) host gone
@@ -286,7 +285,7 @@ impl NetState {
         }
     }
 
-    /// What the entries of the log from a place on say of ends.
+    /// Updates the summaries from the entries of the log from an index on.
     pub fn tell(&self, told: &mut EndSummaries, from: usize)
         requires range { from ≤ length self.now.now.world.log }
         requires room { vec_len told.old.infos + (length self.now.now.world.log - from)

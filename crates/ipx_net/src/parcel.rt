@@ -1,16 +1,16 @@
-//! A packet on its way.
+//! A packet that was sent.
 
 use crate::place::Place;
 use ipx_wire::{Network, Node};
 
-/// A packet that was sent. It is never used up: it may be delivered often, late, or never.
+/// A packet that was sent. It is never used up: it may be delivered several times, late, or never.
 #[derive(Debug, Drop)]
 pub struct Parcel {
-    /// The network on which it lies.
+    /// The network that it was sent on.
     pub segment: Network,
-    /// The node there that it goes to next. FFFFFFFFFFFF is all of them.
+    /// Its next node there. FFFFFFFFFFFF is all nodes.
     pub next: Node,
     pub bytes: Vec<u8>,
-    /// Who sent it. None where it came from outside.
+    /// Its sender. `None` if it was injected from outside.
     pub sent_by: Option<Place>,
 }

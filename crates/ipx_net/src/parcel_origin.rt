@@ -1,20 +1,20 @@
-//! Where a parcel comes from.
+//! The origin of a parcel.
 
 ghost use Rattle.std.specs.Prelude.{◌≡◌, ◌≤◌, All, ℕ, map, slice_index_or};
 ghost use Rattle.spx_theory.specs.Peers.{end_of};
 ghost use Rattle.spx_theory.specs.Scan.{asker, nowhere};
 ghost use Rattle.ipx_net.specs.Sights.{maker_view, mark_view};
 
-/// Who made a parcel that no router carried.
+/// The maker of a parcel that no router forwarded.
 #[derive(Clone, Copy, Debug, PartialEq, Eq)]
 pub enum Maker {
-    /// An end, which sent a unit by it.
+    /// An end, which sent a unit in it.
     ByUnit(usize),
     /// An end, which sent a packet without a unit.
     BySystem(usize),
     /// A router.
     ByRouter(usize),
-    /// It came from outside.
+    /// It was injected from outside.
     FromOutside,
 }
 
@@ -29,7 +29,7 @@ impl Maker {
         }
     }
 
-    /// The end that made it without a unit, as requests and replies are made.
+    /// The end that made it without a unit, as in requests and replies.
     pub fn asker(&self) -> Option<usize>
         ensures { result ≡ asker (maker_view self.now) }
     {
@@ -40,9 +40,9 @@ impl Maker {
     }
 }
 
-/// Of a parcel: its origin, which is the parcel that routers carried on and on to this one; who
-/// made that; how many routers it passed; and how many units all ends had sent for the first time
-/// when its origin was made, it among them.
+/// The origin of a parcel: the parcel that routers forwarded, one after another, to make this one.
+/// With it are its maker and the number of routers that it passed. `units` is how many units all
+/// ends had sent for the first time when the origin was made, including its own.
 #[derive(Clone, Copy, Debug, PartialEq, Eq)]
 pub struct ParcelOrigin {
     pub origin: usize,
@@ -52,7 +52,7 @@ pub struct ParcelOrigin {
 }
 
 impl ParcelOrigin {
-    /// Of a parcel that no router carried, when so many units had been sent.
+    /// For a parcel that no router forwarded, made when so many units had been sent.
     pub fn made(parcel: usize, maker: Maker, units: usize) -> ParcelOrigin
         ensures { result ≡ record { origin = parcel; maker = maker; passed = 0; units = units } }
     {
@@ -65,7 +65,7 @@ impl ParcelOrigin {
     }
 }
 
-/// The mark of a parcel, by its number.
+/// The origin of a parcel, by its number.
 pub fn mark_at(marks: &[ParcelOrigin], parcel: usize) -> ParcelOrigin
     ensures passed { (most : ℕ) → All (λ m. m.passed ≤ most) marks.now → result.passed ≤ most }
     ensures value { mark_view result ≡ slice_index_or (map mark_view marks.now) parcel nowhere }

@@ -1,7 +1,7 @@
-//! Where packets come from and are delivered.
+//! Senders and receivers of packets.
 
-/// A place on a network: a host, or a port of a router. Hosts and routers go by their numbers from
-/// 0, ports by their numbers from 1.
+/// A place on a network: a host, or a port of a router. Hosts and routers are numbered from 0,
+/// ports from 1.
 #[derive(Clone, Copy, Debug, PartialEq, Eq)]
 pub enum Place {
     Host(usize),

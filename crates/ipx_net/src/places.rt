@@ -1,4 +1,4 @@
-//! Where the units of each end stand among all units sent.
+//! The indices of the units of each end among all units sent.
 
 ghost use Rattle.std.specs.Prelude.{◌≡◌, ◌<◌, ◌==◌, ◌++◌, ℕ, List, [], ◌∷◌, OnErr, count_by, drop, length, map, take};
 ghost use Rattle.spx_theory.specs.Scan.{times};
@@ -8,11 +8,11 @@ use crate::entry::Entry;
 use std::alloc::{AllocError, Global};
 use std::marker::Model;
 
-/// A list for each end, by its number: the places of its units among all units sent, rising. So the
-/// units of an end between two places are found by searching.
+/// A list for each end, by its number: the indices of its units among all units sent, in order. A
+/// search in it counts the units of an end between two indices.
 ///
-/// Where a unit was left out, of an end that has no list or for want of memory, the lists are not
-/// whole, and units are counted one by one.
+/// If a unit is missing, since its end has no list or memory ran out, the lists are not complete.
+/// Units are then counted one by one.
 #[derive(Drop)]
 pub struct UnitPlaces {
     lists: Vec<Vec<usize>>,
@@ -29,7 +29,7 @@ impl Model for UnitPlaces {
 }
 
 impl UnitPlaces {
-    /// Of no ends and no units.
+    /// Without ends and units.
     pub fn new(alloc: Global) -> UnitPlaces
         ensures { AreListed result [] }
     {
@@ -39,7 +39,7 @@ impl UnitPlaces {
         }
     }
 
-    /// Takes room for the units and ends of these entries.
+    /// Reserves space for the units and ends of these entries.
     pub fn reserve(&mut self, entries: &[Entry]) -> Result<(), AllocError>
         ensures same { self.new ≡ self.old }
         ensures refused { OnErr result (0 < length entries.now) }
@@ -51,7 +51,7 @@ impl UnitPlaces {
         Ok(())
     }
 
-    /// An end more.
+    /// Adds an end.
     pub fn open(&mut self)
         ensures { (sent : List ℕ) → AreListed self.old sent → AreListed self.new sent }
     {
@@ -61,7 +61,7 @@ impl UnitPlaces {
         }
     }
 
-    /// An end sends the unit of this place, which is the next.
+    /// Adds a unit that an end sends. Its index is the next one.
     pub fn add(&mut self, who: usize, place: usize)
         ensures { (sent : List ℕ) → length sent ≡ place → AreListed self.old sent
             → AreListed self.new (sent ++ who ∷ []) }
@@ -71,7 +71,7 @@ impl UnitPlaces {
         }
     }
 
-    /// How many units an end sent from a place on and below another one.
+    /// How many units an end sent from index `from` on and before index `to`.
     pub fn between(&self, sent: &[usize], who: usize, from: usize, to: usize) -> usize
         requires { AreListed self.now sent.now }
         ensures { result ≡ times who (drop from (take to sent.now)) }
@@ -83,7 +83,7 @@ impl UnitPlaces {
         places_below(list, to).saturating_sub(places_below(list, from))
     }
 
-    /// The list of an end. One that has none has the empty list.
+    /// The list of an end. It is empty for an end without a list.
     fn list(&self, who: usize) -> &[usize]
         ensures { result.now ≡ list_of self.now who }
     {
@@ -94,7 +94,7 @@ impl UnitPlaces {
     }
 }
 
-/// Takes room in the list of the end of a unit, if it has one.
+/// Reserves space in the list of the end of a unit, if it has one.
 fn reserve_for(lists: &mut Vec<Vec<usize>>, entry: &Entry, more: usize) -> Result<(), AllocError>
     ensures { map (λ v. v.items) lists.new.items ≡ map (λ v. v.items) lists.old.items }
 {
@@ -107,7 +107,7 @@ fn reserve_for(lists: &mut Vec<Vec<usize>>, entry: &Entry, more: usize) -> Resul
     Ok(())
 }
 
-/// How many places of a list are below this one.
+/// How many indices of a list are below this one.
 fn places_below(list: &[usize], place: usize) -> usize
     ensures { (sent : List ℕ) (e : ℕ) → list.now ≡ places_from 0 e sent
         → result ≡ times e (take place sent) }
@@ -115,7 +115,7 @@ fn places_below(list: &[usize], place: usize) -> usize
     list.partition_point(|one| *one < place)
 }
 
-/// How often an end stands from a place on and below another one.
+/// How many times an end occurs from index `from` on and before index `to`.
 fn count_between(sent: &[usize], who: usize, from: usize, to: usize) -> usize
     ensures { result ≡ count_by (λ one. one == who) (drop from (take to sent.now)) }
 {

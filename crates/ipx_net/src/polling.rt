@@ -1,4 +1,4 @@
-//! A host is polled.
+//! Polls of a host.
 
 ghost use Rattle.std.specs.Prelude.{◌≡◌, ◌<◌, ◌∷◌, [], IfOk, Some, length};
 ghost use Rattle.spx_theory.specs.PacketsOnWay.{note_of};
@@ -22,7 +22,7 @@ use ipx_wire::{Network, Node, OutOfMemory, SPX_MAX_PACKET_SIZE};
 use spx_link::Sent;
 use std::alloc::Global;
 
-/// The entry of a packet that an end gave.
+/// The entry of a packet that an end sent.
 fn entry_of(sent: Sent, who: usize, parcel: usize) -> Entry
     ensures { entry_note result ≡ note_of sent who parcel }
 {
@@ -33,7 +33,7 @@ fn entry_of(sent: Sent, who: usize, parcel: usize) -> Entry
     }
 }
 
-/// The entries of a packet: one, where an end gave it.
+/// The entries of a packet: one, if an end sent it.
 fn spoken(
     alloc: Global,
     spoke: Option<(usize, Sent)>,
@@ -48,7 +48,7 @@ fn spoken(
     Ok(entries)
 }
 
-/// A packet of a host as a parcel of a number, with the entries that tell of it.
+/// A packet of a host as a parcel with this number, with its entries.
 fn posted(
     alloc: Global,
     parcel: Parcel,
@@ -72,7 +72,7 @@ fn posted(
     })
 }
 
-/// What a host wrote as a parcel, which takes the room of these bytes.
+/// What a host wrote, as a parcel with only as much space as these bytes need.
 fn letter(
     alloc: Global,
     host: usize,
@@ -96,7 +96,7 @@ fn letter(
     })
 }
 
-/// A host is asked what it has to send. Where that is nothing, it takes no memory.
+/// Polls a host for packets to send. If there is none, nothing is allocated.
 pub fn poll_host(
     alloc: Global,
     hosts: &mut Hosts,

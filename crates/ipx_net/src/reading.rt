@@ -1,15 +1,15 @@
-//! A packet that an end read.
+//! A packet that an end has read.
 
 use crate::parcel_origin::Maker;
 
-/// Of a packet that an end read: the end, who made the packet's origin, and the units that all ends
-/// sent for the first time since then, as a range of all units sent.
+/// A packet that an end has read. It holds the end, the maker of the packet's origin, and the range
+/// of units that all ends sent for the first time between the two.
 #[derive(Clone, Copy, Debug, PartialEq, Eq)]
 pub struct Reading {
     pub who: usize,
     pub maker: Maker,
     pub from: usize,
     pub to: usize,
-    /// It made or joined the end: its entry follows the one that says so at once.
+    /// It made or joined the end: its entry comes directly after the one that says so.
     pub first: bool,
 }

@@ -1,12 +1,12 @@
-//! Whether what ends read of their peers was sent lately.
+//! Whether the packets that ends read from their peers are recent.
 
 use crate::log_index::LogIndex;
 use crate::reading::Reading;
 use crate::role::Role;
 use spx_theory::peer_is_found;
 
-/// So many units an end may have sent between the sending of a packet and its reading, less one:
-/// half of all sequence numbers.
+/// From this number of units on, sent by an end between the sending of a packet and its reading,
+/// the packet is too old. It is half of all sequence numbers.
 const TOO_MANY: usize = 32_768;
 
 impl LogIndex {
@@ -23,7 +23,7 @@ impl LogIndex {
     }
 
     /// The peer of an end: each was made or joined by a packet of the other, and one of them
-    /// called.
+    /// dialled.
     pub fn peer(&self, end: usize) -> Option<usize>
         ensures { result ≡ peer_in (scan_of self.now) end }
     {
@@ -49,7 +49,8 @@ impl LogIndex {
                 < TOO_MANY
     }
 
-    /// Whether a packet that an end read of its peer was sent fewer than 32,768 units of each ago.
+    /// Whether an end read a packet of its peer before either of the two sent 32,768 units since.
+    /// Other packets count as recent.
     fn is_recent(&self, reading: &Reading) -> bool
         ensures { IsTrue result ↔ IsRecent (scan_of self.now) (reading_view reading.now) }
     {
@@ -63,7 +64,7 @@ impl LogIndex {
         }
     }
 
-    /// Whether that holds of all that ends read.
+    /// Whether all packets that ends have read are recent.
     pub fn are_recent(&self) -> bool
         ensures { IsTrue result
             ↔ All (λ r. IsRecent (scan_of self.now) (reading_view r)) self.now.readings.items }

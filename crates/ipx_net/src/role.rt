@@ -1,4 +1,4 @@
-//! An end, as the log tells of it.
+//! An end, by what the log says of it.
 
 ghost use Rattle.std.specs.Prelude.{◌≡◌, false, true, None, map, set, slice_index_or};
 ghost use Rattle.spx_theory.specs.Scan.{asker, joined_by, no_role};
@@ -6,8 +6,8 @@ ghost use Rattle.ipx_net.specs.Sights.{maker_view, role_view};
 
 use crate::parcel_origin::Maker;
 
-/// Of an end: its buffers, whether it called, whether it was made by a request or joined, and the
-/// end whose packet without a unit did that.
+/// An end: its buffers, whether it dialled, and whether a request made it or a reply joined it.
+/// `partner` is the end whose packet without a unit did that.
 #[derive(Clone, Copy, Debug, PartialEq, Eq)]
 pub struct Role {
     pub buffers: u16,
@@ -17,7 +17,7 @@ pub struct Role {
 }
 
 impl Role {
-    /// Of an end that its host opened.
+    /// For an end that its host opened.
     pub fn opened(buffers: u16) -> Role
         ensures { role_view result
             ≡ record { buffers = buffers; called = true; joined = false; partner = None } }
@@ -30,7 +30,7 @@ impl Role {
         }
     }
 
-    /// Of an end that a request made, whose maker this is.
+    /// For an end that a request of this maker made.
     pub fn accepted(buffers: u16, maker: Maker) -> Role
         ensures { role_view result
             ≡ record {
@@ -48,7 +48,7 @@ impl Role {
         }
     }
 
-    /// Of the same end once a packet joined it, whose maker this is. It joins once.
+    /// The same end after a packet of this maker joined it. It joins only once.
     pub fn joined_by(self, maker: Maker) -> Role
         ensures { role_view result ≡ joined_by (maker_view maker) (role_view self) }
     {

@@ -18,14 +18,14 @@ use ipx_router::{Port, Reply, Router};
 use ipx_wire::{Network, OutOfMemory};
 use std::alloc::Global;
 
-/// A router of a network, and whether it asked its neighbours yet.
+/// A router of a network, and whether it has asked its neighbours yet.
 #[derive(Drop)]
 pub struct RouterNow {
     pub router: Router,
     pub started: bool,
 }
 
-/// The network of the port of a number.
+/// The network of a port, by its number.
 pub fn network_at(ports: &[Port], port: u8) -> Option<Network>
     ensures { result ≡ option_map (λ p. p.network) (port_at ports.now port) }
 {
@@ -34,7 +34,7 @@ pub fn network_at(ports: &[Port], port: u8) -> Option<Network>
     Some(port.network)
 }
 
-/// What a router asks as it starts: nothing where it did.
+/// The packets by which a router asks as it starts. None if it has asked already.
 fn questions(alloc: Global, member: &RouterNow) -> Result<Vec<Reply>, OutOfMemory>
     ensures asks { IfOk result (λ v. MatchBool member.now.started (sendings v.items ≡ [])
         (AreStarts 1 member.now.router.ports (sendings v.items))) }
@@ -49,8 +49,8 @@ fn questions(alloc: Global, member: &RouterNow) -> Result<Vec<Reply>, OutOfMemor
     member.router.start(alloc)
 }
 
-/// The packets that a router gives where it is polled at a moment: what it asks as it starts, once,
-/// and then what it tells where it is time.
+/// The packets that a router gives in a poll: what it asks as it starts, once, followed by its
+/// advertisements if they are due.
 pub fn poll_router(
     alloc: Global,
     member: &mut RouterNow,
@@ -82,7 +82,7 @@ pub fn post(router: usize, ports: &[Port], reply: Reply) -> Parcel
     }
 }
 
-/// The packets of a router as parcels, in their order.
+/// The packets of a router as parcels, in order.
 pub fn post_all(
     alloc: Global,
     router: usize,
@@ -100,7 +100,7 @@ pub fn post_all(
     Ok(parcels)
 }
 
-/// The entries that tell of parcels of a router's own, which are numbered from a first one on.
+/// The log entries of parcels that a router made itself. They are numbered from `first` on.
 pub fn told_entries(
     alloc: Global,
     router: usize,

@@ -1,4 +1,4 @@
-//! Events at routers, as growths of the book.
+//! Events at routers, with the entries that they add to the log.
 
 ghost use Rattle.std.specs.Prelude.{◌≡◌, ◌+◌, ◌<◌, ◌≤◌, IfOk, IfSome, OnErr, length, map, slice_get};
 ghost use Rattle.std.specs.List.{range_with_len};
@@ -18,7 +18,7 @@ use ipx_router::{Outcome, Port, Reply};
 use ipx_wire::OutOfMemory;
 use std::alloc::Global;
 
-/// So many numbers, from the first on.
+/// So many numbers, from `first` on.
 fn numbers(alloc: Global, first: usize, count: usize) -> Result<Vec<usize>, OutOfMemory>
     requires { first + count ≤ 18446744073709551615 }
     ensures numbers { IfOk result (λ v.
@@ -32,7 +32,7 @@ fn numbers(alloc: Global, first: usize, count: usize) -> Result<Vec<usize>, OutO
     Ok(all)
 }
 
-/// The packets of a router's own, the first of which gets this number.
+/// The packets that a router made itself. The first gets this number.
 fn told(
     alloc: Global,
     router: usize,
@@ -58,7 +58,7 @@ fn told(
     })
 }
 
-/// A packet that a router carried on, under this number.
+/// A packet that a router forwarded, with this number.
 fn carried(
     alloc: Global,
     router: usize,
@@ -87,8 +87,7 @@ fn carried(
     })
 }
 
-/// A router is asked what it has to send: its questions as it starts, and what it tells where it
-/// is time.
+/// Polls a router: what it asks as it starts, and its advertisements if they are due.
 pub fn poll_member(
     alloc: Global,
     routers: &mut [RouterNow],
@@ -108,7 +107,7 @@ pub fn poll_member(
     Ok(growth)
 }
 
-/// What becomes of an outcome.
+/// What an outcome adds to the log.
 fn routed(
     alloc: Global,
     router: usize,
@@ -129,7 +128,7 @@ fn routed(
     }
 }
 
-/// Bytes of a parcel come to a port of a router.
+/// Delivers the bytes of a parcel to a port of a router.
 pub fn deliver_member(
     alloc: Global,
     routers: &mut [RouterNow],

@@ -1,4 +1,4 @@
-//! What an event adds to the book.
+//! What an event adds to the log.
 
 ghost use Rattle.std.specs.Prelude.{◌≡◌, ◌∷◌, [], IfOk};
 ghost use Rattle.ipx_net.specs.AnswerView.{answer_view};
@@ -11,7 +11,7 @@ use crate::parcel::Parcel;
 use ipx_wire::OutOfMemory;
 use std::alloc::Global;
 
-/// The parcels that an event makes, the entries that tell of it, and its answer.
+/// The parcels that an event makes, its entries, and its answer.
 #[derive(Drop)]
 pub struct StepResult {
     pub parcels: Vec<Parcel>,
@@ -19,7 +19,7 @@ pub struct StepResult {
     pub answer: Answer,
 }
 
-/// An answer alone.
+/// Only an answer.
 pub fn quiet(alloc: Global, answer: Answer) -> StepResult
     ensures { step_result_view result
         ≡ record { parcels = []; notes = []; answer = answer_view answer } }
@@ -31,7 +31,7 @@ pub fn quiet(alloc: Global, answer: Answer) -> StepResult
     }
 }
 
-/// An answer with an entry.
+/// An answer with one entry.
 pub fn noted(alloc: Global, entry: Entry, answer: Answer) -> Result<StepResult, OutOfMemory>
     ensures { IfOk result (λ g. step_result_view g
         ≡ record { parcels = []; notes = entry_note entry ∷ []; answer = answer_view answer }) }

@@ -1,4 +1,4 @@
-//! What is told of the ends of a network, kept as its log grows.
+//! Summaries of the ends of a network, kept as its log grows.
 
 ghost use Rattle.std.specs.Prelude.{◌≡◌, ◌≢◌, ◌<◌, ◌≤◌, ◌+◌, ◌-◌, ◌^◌, ℕ, [], OnErr, OnOk, Some, length, set, slice_get, take, vec_capacity, vec_len};
 ghost use Rattle.ipx_net_hosts.specs.Hosts.{FitTogether};
@@ -19,13 +19,13 @@ use spx_link::State;
 use spx_theory::peer_is_found;
 use std::alloc::{AllocError, Global};
 
-/// What is told of each end, by its number.
+/// The summary of each end, by its number.
 #[derive(Drop)]
 pub struct EndSummaries {
     pub infos: Vec<EndInfo>,
 }
 
-/// An end of which nothing is known yet.
+/// The summary of an end of which nothing is known yet.
 fn nobody() -> EndInfo
     ensures { result ≡ nobody }
 {
@@ -39,7 +39,7 @@ fn nobody() -> EndInfo
     }
 }
 
-/// What is told of a number.
+/// The summary of an end, by its number.
 fn told_of(infos: &[EndInfo], who: usize) -> EndInfo
     ensures { result ≡ told_of infos.now who }
 {
@@ -49,7 +49,7 @@ fn told_of(infos: &[EndInfo], who: usize) -> EndInfo
     }
 }
 
-/// Tells this of an end, if there is one of that number.
+/// Replaces the summary of an end, if there is one of that number.
 fn put(infos: &mut [EndInfo], who: usize, info: EndInfo)
     ensures { infos.new ≡ set infos.old who info }
 {
@@ -58,7 +58,7 @@ fn put(infos: &mut [EndInfo], who: usize, info: EndInfo)
     }
 }
 
-/// An end handed in a message more.
+/// Counts one more message that was handed in at an end.
 fn add_given(infos: &mut [EndInfo], who: usize)
     requires { (told_of infos.old who).given + 1 < 2 ^ 64 }
     ensures { infos.new ≡ change one_given who infos.old }
@@ -74,7 +74,7 @@ fn add_given(infos: &mut [EndInfo], who: usize)
     );
 }
 
-/// An end handed out a message more.
+/// Counts one more message that an end handed out.
 fn add_out(infos: &mut [EndInfo], who: usize)
     requires { (told_of infos.old who).out + 1 < 2 ^ 64 }
     ensures { infos.new ≡ change one_out who infos.old }
@@ -90,7 +90,7 @@ fn add_out(infos: &mut [EndInfo], who: usize)
     );
 }
 
-/// An end sent a unit more for the first time.
+/// Counts one more unit that an end sent for the first time.
 fn add_sent(infos: &mut [EndInfo], who: usize)
     ensures { infos.new ≡ change one_sent who infos.old }
 {
@@ -105,7 +105,7 @@ fn add_sent(infos: &mut [EndInfo], who: usize)
     );
 }
 
-/// An end has this peer.
+/// Sets the peer of an end.
 fn set_peer(infos: &mut [EndInfo], who: usize, peer: Option<usize>)
     ensures { infos.new ≡ change (with_peer peer) who infos.old }
 {
@@ -113,7 +113,7 @@ fn set_peer(infos: &mut [EndInfo], who: usize, peer: Option<usize>)
     put(infos, who, EndInfo { peer, ..info });
 }
 
-/// An end stands at this host, and its link has that state.
+/// Sets the host of an end, and the state of its link.
 fn set_standing(infos: &mut [EndInfo], who: usize, host: usize, state: Option<State>)
     ensures { infos.new ≡ change (standing host state) who infos.old }
 {
@@ -152,7 +152,7 @@ fn joining(entry: &Entry) -> Option<usize>
 }
 
 impl EndSummaries {
-    /// Of no end yet.
+    /// Without ends.
     pub fn new(alloc: Global) -> EndSummaries
         ensures { result.infos.items ≡ [] }
     {
@@ -161,7 +161,7 @@ impl EndSummaries {
         }
     }
 
-    /// Takes room for the ends that these entries make.
+    /// Reserves space for the ends that these entries make.
     pub fn reserve(&mut self, entries: &[Entry]) -> Result<(), AllocError>
         ensures same { self.new.infos.items ≡ self.old.infos.items }
         ensures room { OnOk result
@@ -171,7 +171,7 @@ impl EndSummaries {
         self.infos.reserve(entries.len())
     }
 
-    /// One entry more.
+    /// Reads one more entry.
     fn read(&mut self, entry: &Entry)
         requires room { vec_len self.old.infos + 1 ≤ vec_capacity self.old.infos }
         requires few { (e : ℕ) → ((told_of self.old.infos.items e).given + 1 < 2 ^ 64)
@@ -200,7 +200,8 @@ impl EndSummaries {
         }
     }
 
-    /// The entries of a log from a place on: new ends, and what ends handed in and out and sent.
+    /// Reads the entries of a log from an index on: new ends, messages handed in and out, and units
+    /// sent.
     pub fn read_from(&mut self, log: &[Entry], from: usize)
         requires range { from ≤ length log.now }
         requires room { vec_len self.old.infos + (length log.now - from)
@@ -215,7 +216,7 @@ impl EndSummaries {
         }
     }
 
-    /// An end has this peer, or none, and its peer has this end.
+    /// Sets the peer of an end, or none, and this end as the peer of that one.
     fn pair(&mut self, who: usize, peer: Option<usize>)
         ensures { self.new.infos.items ≡ made_peers who peer self.old.infos.items }
     {
@@ -225,7 +226,7 @@ impl EndSummaries {
         }
     }
 
-    /// The peer of the end that an entry of a book made or joined.
+    /// Sets the peer of the end that an entry made or joined.
     fn pair_by(&mut self, entry: &Entry, indexed_log: &IndexedLog)
         ensures { self.new.infos.items
             ≡ paired_by (joins (entry_note entry.now)) indexed_log.now.log self.old.infos.items }
@@ -235,7 +236,7 @@ impl EndSummaries {
         }
     }
 
-    /// The peers of the ends that the entries of a book from a place on made or joined.
+    /// Sets the peers of the ends that the entries from an index on made or joined.
     pub fn pair_from(&mut self, indexed_log: &IndexedLog, from: usize)
         requires range { from ≤ length indexed_log.now.log }
         requires numbered { AreNumbered indexed_log.now.log }
@@ -253,7 +254,7 @@ impl EndSummaries {
         }
     }
 
-    /// The end of an id of a host is told as it stands, or as gone.
+    /// Updates the end with an id of a host: to its present state, or to released.
     fn stand(&mut self, hosts: &Hosts, host: usize, id: u16, gone: bool)
         ensures { self.new.infos.items ≡ stood (end_at (here_at hosts.now host) id) host
             (state_by gone (state_on_host hosts.now host id)) self.old.infos.items }
@@ -264,7 +265,7 @@ impl EndSummaries {
         }
     }
 
-    /// The end of a link of a host, by its place, is told as it stands, or as gone.
+    /// Updates the end of a link of a host, by its index: to its present state, or to released.
     fn stand_at(&mut self, hosts: &Hosts, host: usize, place: usize, gone: bool)
         ensures { self.new.infos.items ≡ settled hosts.now host gone
             (slice_get (here_at hosts.now host) place) self.old.infos.items }
@@ -274,7 +275,7 @@ impl EndSummaries {
         }
     }
 
-    /// The ends of a host are told as they stand, or all as gone.
+    /// Updates the ends of a host: each to its present state, or all to released.
     pub fn settle(&mut self, hosts: &Hosts, host: usize, gone: bool)
         requires { FitTogether hosts.now }
         ensures count { length self.new.infos.items ≡ length self.old.infos.items }

@@ -1,4 +1,4 @@
-//! A book: what it tells of small logs, written by hand.
+//! An indexed log: what it says of small logs written in the tests.
 
 use ipx_net::{Entry, IndexedLog, NetFault, Parcel};
 use ipx_wire::{Network, Node};
@@ -6,7 +6,7 @@ use spx_units::Message;
 use std::alloc::{AllocError, Global};
 use std::test::Fail;
 
-/// One entry more.
+/// Appends one entry.
 pub fn note(alloc: Global, indexed_log: &mut IndexedLog, entry: Entry) -> Result<(), Fail> {
     let entries = vec![in alloc; entry]?;
     indexed_log.append(Vec::new(alloc), entries)?;
@@ -51,7 +51,7 @@ pub fn joining(alloc: Global) -> Result<Vec<Entry>, AllocError> {
     Ok(entries)
 }
 
-/// A book of two peers.
+/// An indexed log of two peers.
 fn joined(alloc: Global) -> Result<IndexedLog, Fail> {
     let mut indexed_log = IndexedLog::new(alloc);
     indexed_log.append(Vec::new(alloc), joining(alloc)?)?;
@@ -78,7 +78,7 @@ fn peers(rt: HostRuntime) -> Result<(), Fail> {
     Ok(())
 }
 
-/// Parcels stand in the order in which they came.
+/// Parcels are in the order in which they were appended.
 #[test]
 fn parcels(rt: HostRuntime) -> Result<(), Fail> {
     let alloc = rt.alloc();
@@ -94,7 +94,7 @@ fn parcels(rt: HostRuntime) -> Result<(), Fail> {
     Ok(())
 }
 
-/// End 0 hands in 7 and 8, end 1 hands out 7 and then another byte.
+/// 7 and 8 are handed in at end 0, and end 1 hands out 7 followed by another byte.
 fn handed(alloc: Global, byte: u8) -> Result<IndexedLog, Fail> {
     let mut indexed_log = joined(alloc)?;
     note(
@@ -141,7 +141,7 @@ fn begins_rows(rt: HostRuntime) -> Result<(), Fail> {
     Ok(())
 }
 
-/// An end that has no peer hands out something.
+/// An end without a peer hands out something.
 #[test]
 fn alone(rt: HostRuntime) -> Result<(), Fail> {
     let mut indexed_log = joined(rt.alloc())?;
@@ -193,7 +193,7 @@ fn fresh_rows(rt: HostRuntime) -> Result<(), Fail> {
     Ok(())
 }
 
-/// The same where the units are of an end that was never opened: they are none of the two ends.
+/// The same with units of an end that was never opened: they belong to neither of the two ends.
 #[test]
 fn units_of_no_end(rt: HostRuntime) -> Result<(), Fail> {
     let alloc = rt.alloc();

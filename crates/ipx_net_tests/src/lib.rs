@@ -1,5 +1,5 @@
-//! Tests of the network in memory, with literal values. They call what that crate makes public, and
-//! no crate stands on this one.
+//! Tests of the network in memory, with literal values. They call the public functions of that
+//! crate. No crate depends on this one.
 #![tactic(auto)]
 
 #[cfg(test)]

@@ -1,4 +1,4 @@
-//! Networks as they are made, and which routers make none.
+//! New networks, and routers of which none can be made.
 
 ghost use Rattle.std.specs.Prelude.{◌≢◌, ◌<◌, ◌≤◌, All, IfOk, IfSome};
 ghost use Rattle.ipx_router.specs.NewRouter.{IsOwnNetwork};
@@ -79,7 +79,7 @@ fn twin_in_the_second_router(rt: HostRuntime) -> Result<(), Fail> {
     Ok(())
 }
 
-/// A router without ports, and then one with twins: the first is told.
+/// A router without ports, followed by one with two ports on one network: the first is reported.
 #[test]
 fn two_that_are_refused(rt: HostRuntime) -> Result<(), Fail> {
     let twins = ports_with(rt.alloc(), 0x11)?;
@@ -104,7 +104,7 @@ pub fn dial(alloc: Global, net: &mut Net) -> Result<Answer, NetFault> {
     net.step(alloc, event)
 }
 
-/// The request that host 0 gives comes to host 1.
+/// The request that host 0 sends is delivered to host 1.
 fn call(alloc: Global, net: &mut Net) -> Result<Answer, NetFault> {
     let member = Member::Host(0);
     net.step(alloc, Event::Poll { member })?;
@@ -122,7 +122,7 @@ fn a_call_in_a_new_network(rt: HostRuntime) -> Result<(), Fail> {
     Ok(())
 }
 
-/// The network, made once more where memory was refused.
+/// The network. If memory is refused, it is tried again.
 pub fn net_at_last(rt: &impl Abort, alloc: Global) -> Result<Net, NewFault> {
     match net_with(alloc, 0x33) {
         Ok(net) => Ok(net),
@@ -141,7 +141,7 @@ fn refused_memory_of_a_network(rt: HostRuntime) -> Result<(), Fail> {
     Ok(())
 }
 
-/// A router, and then one with twins.
+/// A router, followed by one with two ports on one network.
 fn twins(alloc: Global) -> Result<Vec<Vec<Port>>, AllocError>
     ensures { IfOk result (λ v. All ArePortsOwed v.items) }
 {
@@ -151,7 +151,7 @@ fn twins(alloc: Global) -> Result<Vec<Vec<Port>>, AllocError>
     Ok(routers)
 }
 
-/// The same, made once more where memory was refused.
+/// The same. If memory is refused, it is tried again.
 fn twins_at_last(alloc: Global) -> Result<Vec<Vec<Port>>, AllocError>
     ensures { IfOk result (λ v. All ArePortsOwed v.items) }
 {
@@ -161,7 +161,7 @@ fn twins_at_last(alloc: Global) -> Result<Vec<Vec<Port>>, AllocError>
     }
 }
 
-/// Where a router is refused, that is told, whatever memory is refused beside it.
+/// If a router is refused, that is reported, even if memory is refused too.
 #[test]
 fn refused_memory_before_a_twin(rt: HostRuntime) -> Result<(), Fail> {
     let routers = twins_at_last(rt.alloc())?;

@@ -1,4 +1,4 @@
-//! An end whose link has a window, and goes by hand.
+//! An end whose link has a window, and retransmits manually.
 
 use crate::made::{dial, net_at_last};
 use ipx_net::{Answer, Event, Member, Net, NetFault, Place};
@@ -23,7 +23,7 @@ fn deliver(alloc: Global, net: &mut Net, parcel: usize, to: usize) -> Result<(),
     Ok(())
 }
 
-/// What a host gives comes to the other one, if it gives something.
+/// Passes the packet of a host to the other one, if there is one.
 fn pass(alloc: Global, net: &mut Net, from: usize, to: usize) -> Result<bool, NetFault> {
     let Some(parcel) = poll(alloc, net, from)? else {
         return Ok(false);
@@ -54,8 +54,8 @@ fn pace(rt: &impl Abort, alloc: Global, net: &mut Net, window: u16) -> Result<()
     Ok(())
 }
 
-/// A unit is held back, goes, and goes again before it is delivered; then both come, and the far end
-/// takes the message once, as it was handed in. Both events make no entry.
+/// A unit waits for the window, is sent, and is sent again before it is delivered. Then both
+/// arrive, and the far end takes the message once and unchanged. The two events make no entry.
 #[test]
 fn paced_in_a_network(rt: HostRuntime) -> Result<(), Fail> {
     let alloc = rt.alloc();
@@ -85,7 +85,7 @@ fn paced_in_a_network(rt: HostRuntime) -> Result<(), Fail> {
     Ok(())
 }
 
-/// An end that is not there, or was released.
+/// An end that does not exist, or was released.
 #[test]
 fn paced_no_such_end(rt: HostRuntime) -> Result<(), Fail> {
     let alloc = rt.alloc();

@@ -1,12 +1,12 @@
-//! Hosts and routers that are polled where memory is refused: one that has something to send wants
-//! memory, and a quiet one none.
+//! Polls of hosts and routers while memory is refused: one that has something to send needs memory,
+//! and an idle one needs none.
 
 use crate::made::{dial, net_at_last};
 use ipx_net::{Answer, Event, Member, Net, NetFault};
 use std::alloc::Global;
 use std::test::Fail;
 
-/// How many packets a host or a router gives.
+/// The number of packets that a host or a router gives.
 fn polled(alloc: Global, net: &mut Net, member: Member) -> Result<usize, NetFault> {
     match net.step(alloc, Event::Poll { member })? {
         Answer::Parcels(numbers) => Ok(numbers.len()),
@@ -29,15 +29,15 @@ fn refused_memory_of_a_first_poll(rt: HostRuntime) -> Result<(), Fail> {
     Ok(())
 }
 
-/// Asks for so many bytes. Where requests are refused from one of 77,777 bytes on, until one of
-/// 77,778 bytes, this says from when to when.
+/// Requests so many bytes. A test run that refuses all requests from one of 77,777 bytes to one of
+/// 77,778 bytes takes these two as its limits.
 fn asks_for(alloc: Global, size: usize) -> bool {
     let block: Result<Vec<u8>, _> = Vec::with_capacity(alloc, size);
     block.is_ok()
 }
 
-/// A host that gave its request, one without a connection, and a router that told: at the same
-/// moment they have nothing to send. Between the two requests nothing is asked of memory: run it
+/// A host that has sent its request, one without a connection, and a router that has advertised: at
+/// the same time they have nothing to send. Between the two requests no memory is requested: run it
 /// with each request between them refused.
 #[test]
 fn no_memory_quiet_polls(rt: HostRuntime) -> Result<(), Fail> {

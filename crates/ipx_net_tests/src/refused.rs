@@ -1,4 +1,4 @@
-//! A book where memory is refused. Run these with each request for memory refused.
+//! An indexed log while memory is refused. Run these with each request for memory refused.
 
 use crate::book::{joining, parcel};
 use ipx_net::{Entry, IndexedLog, Parcel};
@@ -6,7 +6,7 @@ use std::alloc::{AllocError, Global};
 use std::process::Abort;
 use std::test::Fail;
 
-/// Entries, made once more where memory was refused.
+/// Entries. If memory is refused, they are made again.
 fn entries_at_last(alloc: Global) -> Result<Vec<Entry>, AllocError> {
     match joining(alloc) {
         Ok(entries) => Ok(entries),
@@ -20,7 +20,7 @@ fn one_parcel(alloc: Global) -> Result<Vec<Parcel>, AllocError> {
     Ok(parcels)
 }
 
-/// The same, made once more where memory was refused.
+/// The same. If memory is refused, it is tried again.
 fn parcel_at_last(alloc: Global) -> Result<Vec<Parcel>, AllocError> {
     match one_parcel(alloc) {
         Ok(parcels) => Ok(parcels),
@@ -28,7 +28,7 @@ fn parcel_at_last(alloc: Global) -> Result<Vec<Parcel>, AllocError> {
     }
 }
 
-/// Appends, and once more where memory was refused: the book is then as it was.
+/// Appends. If memory is refused, the log is as it was, and it is tried again.
 fn append_at_last(
     rt: &impl Abort,
     alloc: Global,

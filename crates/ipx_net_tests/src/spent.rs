@@ -1,5 +1,5 @@
-//! A message over a router where memory is refused: the log is the beginning of the usual one, and
-//! the next step is refused. Run it with each request refused.
+//! A message over a router while memory is refused: the log is a prefix of the usual one, and the
+//! next step is refused. Run it with each request refused.
 
 ghost use Rattle.std.specs.Prelude.{◌≡◌, ◌≢◌, ◌<◌, ◌≤◌, All, IfOk, IfSome};
 ghost use Rattle.ipx_net.specs.NetBeginnings.{IsHostOwed};
@@ -45,7 +45,7 @@ fn net(alloc: Global) -> Result<Net, NewFault> {
     Net::new(alloc, hosts, routers)
 }
 
-/// The network, made once more where memory was refused.
+/// The network. If memory is refused, it is tried again.
 fn net_at_last(alloc: Global) -> Result<Net, NewFault> {
     match net(alloc) {
         Ok(net) => Ok(net),
@@ -69,7 +69,7 @@ fn dial() -> Event
     }
 }
 
-/// A parcel comes to the next place on its way.
+/// A parcel is delivered to the next place on its way.
 fn deliver(parcel: usize) -> Event
     ensures { IsOwed result }
 {
@@ -82,7 +82,7 @@ fn deliver(parcel: usize) -> Event
     Event::Deliver { parcel, place }
 }
 
-/// The message that is handed in, made once more where memory was refused.
+/// The message that is handed in. If memory is refused, it is tried again.
 fn message_at_last(alloc: Global) -> Result<Message, AllocError> {
     match message(alloc, 0x61) {
         Ok(message) => Ok(message),
@@ -90,7 +90,7 @@ fn message_at_last(alloc: Global) -> Result<Message, AllocError> {
     }
 }
 
-/// The events by which a message of one byte comes from host 0 to host 1, by their numbers.
+/// The events that send a message of one byte from host 0 to host 1, by their numbers.
 fn event(alloc: Global, number: usize) -> Result<Event, AllocError>
     ensures { IfOk result (λ e. IsOwed e) }
 {
@@ -109,10 +109,10 @@ fn event(alloc: Global, number: usize) -> Result<Event, AllocError>
     }
 }
 
-/// How many entries the log has before each of the events, and after the last.
+/// The number of log entries before each of the events, and after the last.
 const LENGTHS: [usize; 13] = [0, 1, 2, 3, 5, 6, 7, 9, 10, 11, 12, 13, 15];
 
-/// An entry: what it is; its end, or the parcel that was carried on; and two numbers more.
+/// An entry: its kind; its end, or the parcel that was forwarded; and two more numbers.
 pub type Told = (&'static str, usize, usize, usize);
 
 /// The usual log. The byte of the message is 97.
@@ -134,7 +134,7 @@ const USUAL: [Told; 15] = [
     ("handed out", 1, 0, 97),
 ];
 
-/// The bytes of a body as one number, the first byte first.
+/// The bytes of a body as a big-endian number.
 fn number_of(body: &[u8]) -> usize {
     let mut number: usize = 0;
     for byte in body {
@@ -143,7 +143,7 @@ fn number_of(body: &[u8]) -> usize {
     number
 }
 
-/// An entry of a log as those of `USUAL`.
+/// An entry of a log, in the form of `USUAL`.
 pub fn told(entry: &Entry) -> Told {
     match entry {
         Entry::Opened { who, host, buffers } => ("opened", *who, *host, *buffers as usize),
@@ -192,15 +192,15 @@ fn told_of_a_message(entry: &Entry) -> Told {
     }
 }
 
-/// Whether the log is the beginning of the usual one that ends before the event of that number.
+/// Whether the log is the prefix of the usual one that ends before the event of that number.
 fn is_usual_before(net: &Net, number: usize) -> bool {
     let log = net.log();
     let is_as_long = LENGTHS.get(number) == Some(&log.len());
     is_as_long && log.iter().zip(USUAL).all(|pair| told(pair.0) == pair.1)
 }
 
-/// Takes the event of that number, once more where an end refused it. It answers whether the
-/// network goes on.
+/// Does the event of that number. If an end refuses it, it is tried again. The result is whether
+/// the network goes on.
 fn goes_on(rt: &impl Abort, alloc: Global, net: &mut Net, number: usize) -> Result<bool, Fail> {
     let mut answer = net.step(alloc, event(alloc, number)?);
     if let Ok(Answer::Refused(fault)) = &answer {
@@ -217,7 +217,7 @@ fn goes_on(rt: &impl Abort, alloc: Global, net: &mut Net, number: usize) -> Resu
     }
 }
 
-/// Whether a network is spent: no further step is taken, not even of the moment.
+/// Whether a network has given up: no further step is taken, not even a clock tick.
 pub fn is_spent(net: &mut Net, alloc: Global) -> bool {
     let ticked = net.step(alloc, Event::Tick { now: 5 });
     let taken = net.step(alloc, Event::Take { who: 0 });

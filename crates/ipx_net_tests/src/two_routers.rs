@@ -1,6 +1,6 @@
-//! The script of examples/two_routers.sim where memory is refused: each step answers as usual up to
-//! the one whose request was refused. Then the log is the beginning of the usual one, and the next
-//! step is refused. Run it with each request refused.
+//! The script of examples/two_routers.sim while memory is refused. Each step answers as usual up to
+//! the one whose request was refused. Then the log is a prefix of the usual one, and the next step
+//! is refused. Run it with each request refused.
 
 ghost use Rattle.std.specs.Prelude.{◌≡◌, ◌≢◌, ◌<◌, ◌≤◌, IfOk, IfSome};
 ghost use Rattle.ipx_net.specs.NetBeginnings.{IsHostOwed};
@@ -64,7 +64,7 @@ fn net(alloc: Global) -> Result<Net, NewFault> {
     Net::new(alloc, hosts, routers)
 }
 
-/// The network, made once more where memory was refused.
+/// The network. If memory is refused, it is tried again.
 fn net_at_last(alloc: Global) -> Result<Net, NewFault> {
     match net(alloc) {
         Ok(net) => Ok(net),
@@ -72,7 +72,7 @@ fn net_at_last(alloc: Global) -> Result<Net, NewFault> {
     }
 }
 
-/// What is done: an event that can be made again.
+/// An action: an event that can be made again.
 #[derive(Clone, Copy)]
 enum Deed {
     Dial,
@@ -104,7 +104,7 @@ fn message(alloc: Global) -> Result<Message, AllocError> {
     Ok(Message { stream: 0, body })
 }
 
-/// The same, made once more where memory was refused.
+/// The same. If memory is refused, it is tried again.
 fn message_at_last(alloc: Global) -> Result<Message, AllocError> {
     match message(alloc) {
         Ok(message) => Ok(message),
@@ -127,9 +127,9 @@ fn event(alloc: Global, deed: Deed) -> Result<Event, AllocError>
     }
 }
 
-/// The usual log; the message is `abc`. At first each router asks for routes and for services on both
-/// of its ports, and tells the one network on the other. On the network between them each answers
-/// the other's request for routes, the second router first; neither knows a service.
+/// The usual log; the message is `abc`. First, each router asks for routes and for services on both
+/// of its ports, and advertises the one network on the other. On the network between them each
+/// answers the other's request for routes, the second router first. Neither knows a service.
 const USUAL: [Told; 36] = [
     ("told", 0, 0, 0),
     ("told", 0, 1, 0),
@@ -169,14 +169,14 @@ const USUAL: [Told; 36] = [
     ("handed out", 1, 0, 0x61_62_63),
 ];
 
-/// Whether the log is the beginning of the usual one.
+/// Whether the log is a prefix of the usual one.
 fn is_beginning(net: &Net) -> bool {
     let log = net.log();
     log.len() <= USUAL.len() && log.iter().zip(USUAL).all(|pair| told(pair.0) == pair.1)
 }
 
-/// Takes a step, once more where an end refused it. None where memory ran out: the log is then the
-/// beginning of the usual one, and stays so.
+/// Takes a step. If an end refuses it, it is tried again. `None` if memory ran out: the log is then
+/// a prefix of the usual one, and stays so.
 fn step(rt: &impl Abort, alloc: Global, net: &mut Net, deed: Deed) -> Result<Option<Answer>, Fail> {
     let before = net.log().len();
     let mut answer = net.step(alloc, event(alloc, deed)?);
@@ -216,7 +216,7 @@ const PLACES: [(Place, u32, u8); 6] = [
     (Place::Port(1, 2), 0x33, 6),
 ];
 
-/// Polls a member until it is quiet. It answers whether the network goes on.
+/// Polls a member until it has nothing to send. The result is whether the network goes on.
 fn polls(rt: &impl Abort, alloc: Global, net: &mut Net, member: Member) -> Result<bool, Fail> {
     for _ in 0..20u32 {
         match step(rt, alloc, net, Deed::Poll(member))? {
@@ -229,13 +229,13 @@ fn polls(rt: &impl Abort, alloc: Global, net: &mut Net, member: Member) -> Resul
     Ok(true)
 }
 
-/// Whether a parcel goes to a place: to its node, or to all but the place that sent it.
+/// Whether a parcel goes to a place: to its node, or to all except the place that sent it.
 fn goes_to(parcel: &Parcel, place: (Place, u32, u8)) -> bool {
     let is_for_all = parcel.next.0 == [0xff; 6] && parcel.sent_by != Some(place.0);
     parcel.segment == Network(place.1) && (parcel.next == node(place.2) || is_for_all)
 }
 
-/// Delivers a parcel to each place that it goes to. It answers whether the network goes on.
+/// Delivers a parcel to each place that it goes to. The result is whether the network goes on.
 fn delivers(rt: &impl Abort, alloc: Global, net: &mut Net, number: usize) -> Result<bool, Fail> {
     for place in PLACES {
         let is_for = net
@@ -249,8 +249,8 @@ fn delivers(rt: &impl Abort, alloc: Global, net: &mut Net, number: usize) -> Res
     Ok(true)
 }
 
-/// Rounds, until so many parcels were made and delivered, of which the first were before. It answers
-/// whether the network goes on.
+/// Runs rounds until so many parcels have been made and delivered, of which the first ones were
+/// there before. The result is whether the network goes on.
 fn runs(
     rt: &impl Abort,
     alloc: Global,

@@ -1,4 +1,4 @@
--- From the entries that were heard to what is heard of a body.
+-- From the entries that were learned to the body that was.
 use Rattle.std.proofs.Common.{◌≡◌, ℕ, Bool, true, false, List, length, Option, Some, None, Result, Ok, Err, sym, subst}
 use Rattle.std.specs.Prelude.{IfOk, IfErr, OnOk, OnErr, MatchOption, MatchResult, nat_lt}
 use Rattle.ipx_wire.specs.declared.address.Address.{Address}
@@ -24,7 +24,7 @@ use Rattle.ipx_router.specs.Knowledge.{routes_in, services_in}
 use Rattle.ipx_query.specs.declared.answer_heard.AnswerHeard.{AnswerHeard}
 use Rattle.ipx_query.specs.QueryAnswers.{HearsRip, HearsRipMessage, HearsSap, HearsSapMessage, RipBodyWantsMemory, SapBodyWantsMemory, TakesRoutes, TakesServices, lone_port, source_at}
 
--- the answer of entries that were heard, by what was heard
+-- the answer of entries that were learned, by how many were
 abbrev pub Outcome : Bool → Result (Unit {0}) TableFault → Option AnswerHeard → Type 0
 Outcome ended heard a = MatchResult heard
     (λ x. a ≡ Some (record { ended = ended; cut = false }))

@@ -1,4 +1,4 @@
--- What a table says once one more entry of an answer was heard.
+-- What a table holds once one more entry of an answer was learned.
 use Rattle.std.proofs.Common.{◌≡◌, ℕ, ◌+◌, ◌<◌, drop, map, set, Bool, true, false, cond, Result, Err, List, [], ◌∷◌, ◌++◌, length, get_or, take, Option, Some, None, refl, sym, ap, ◌∙◌, subst, inl, inr, arith}
 use Rattle.std.specs.declared.cmp.Ordering.{Ordering}
 use Rattle.std.proofs.lemmas.Bool.{cases_lt}
@@ -26,7 +26,7 @@ use Rattle.ipx_router.specs.Told.{key_of_service}
 use Rattle.ipx_router.specs.Hearing.{AtEntry, HeardFirst, HeardRoutes, HeardServices, after_route, after_routes, after_service, after_services, is_heard, route_metric, service_metric}
 
 module _ {K M E : Type 0} (cmp : K → K → Ordering) (after : List E → Content K M) (entries : List E) where
-  -- one more entry was heard, or needed not be
+  -- one more entry was learned, or was not to be
   pub heard_one_more : (i : ℕ) → i < length entries → (t new : Table K M) → HeardFirst cmp after entries i t → IsTable cmp new → new.most ≡ t.most
       → ((p : K × Source) → content cmp new.offers p ≡ after (take (i + 1) entries) p) → HeardFirst cmp after entries (i + 1) new
   heard_one_more i lt t new h valid most says = record {
@@ -40,7 +40,7 @@ module _ {K M E : Type 0} (cmp : K → K → Ordering) (after : List E → Conte
     holds = says;
   }
 
-  -- none was heard yet
+  -- none was learned yet
   pub heard_none : (t : Table K M) → IsTable cmp t → ((p : K × Source) → content cmp t.offers p ≡ after (take 0 entries) p) → HeardFirst cmp after entries 0 t
   heard_none t valid says = record {
     within = omega arith;
@@ -50,7 +50,7 @@ module _ {K M E : Type 0} (cmp : K → K → Ordering) (after : List E → Conte
     holds = says;
   }
 
-  -- where the table refuses an entry, those before it were heard
+  -- if an entry does not fit the table, those before it were learned
   pub hearing_stops : (Stops Wants : Table K M → E → Type 0) (i : ℕ) (d e : E) (t new : Table K M) (result : Result (Unit {0}) TableFault) (f : TableFault)
       → i < length entries → get_or entries i d ≡ e → HeardFirst cmp after entries i t → new ≡ t → result ≡ Err f
       → (result ≡ Err Full → Stops t e) → (result ≡ Err OutOfMemory → Wants t e)
@@ -75,14 +75,14 @@ module _ (ports : List Port) (source : Source) (now : ℕ) (entries : List RipEn
   next : after_routes ports source now routes (take (i + 1) entries) ≡ after_route ports source now (after_routes ports source now routes (take i entries)) x
   next = fold_more (after_route ports source now) routes entries i d lt ∙ ap (λ (y : RipEntry). after_route ports source now (after_routes ports source now routes (take i entries)) y) there
 
-  -- an entry that is not heard changes nothing
+  -- an entry that is not learned changes nothing
   pub heard_skip : IsTable network_cmp t → is_heard ports x ≡ false → HeardRoutes ports source now entries routes (i + 1) t
   heard_skip valid e =
       heard_one_more network_cmp (after_routes ports source now routes) entries i lt t t h valid refl (λ p.
       let c : Routes = after_routes ports source now routes (take i entries) in
       h.holds p ∙ sym (ap (λ (r : Routes). r p) next ∙ ap (λ (b : Bool). let r : Routes = cond b (after_hear network_cmp route_dead c (x.network, source) (route_metric x) now) c in r p) e))
 
-  -- an entry that is heard replaces what its source said of its network
+  -- an entry that is learned replaces what its source advertised of its network
   pub heard_more : (new : Table Network RouteMetric) → IsTable network_cmp new → new.most ≡ t.most → is_heard ports x ≡ true
       → ((p : Network × Source) → routes_in new p ≡ after_hear network_cmp route_dead (routes_in t) (x.network, source) (route_metric x) now p)
       → HeardRoutes ports source now entries routes (i + 1) new
@@ -114,7 +114,7 @@ module _ (source : Source) (now : ℕ) (entries : List ServiceEntry) (services :
       ∙ ap (λ (o : Option (ServiceMetric × ℕ)). cond (is_same service_key_cmp (key_of_service x, source) p) (cond (service_dead (service_metric x)) None (Some (service_metric x, now))) o) (h.holds p)
       ∙ sym (ap (λ (s : Services). s p) (fold_more (after_service source now) services entries i d lt ∙ ap (λ (y : ServiceEntry). after_service source now (after_services source now services (take i entries)) y) there)))
 
--- one more item of a list was changed in its place
+-- one more item of a list was replaced
 pub map_one_more : {A : Type 0} (f : A → A) (xs ys : List A) (i : ℕ) (d c' : A) → i < length ys → length ys ≡ length xs
     → ys ≡ map f (take i xs) ++ drop i xs → c' ≡ f (get_or ys i d) → set ys i c' ≡ map f (take (i + 1) xs) ++ drop (i + 1) xs
 map_one_more f xs ys i d c' within same so is =

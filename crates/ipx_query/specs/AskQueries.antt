@@ -1,6 +1,6 @@
--- The queries of a host that asks routers: which are due, and their bytes (RIP request and SAP query
--- of the Novell IPX Router Specification). When one asks again is own.
--- The entry point is `AskGives`.
+-- The queries of a host that asks routers: which are due, and their bytes (RIP request and SAP query of the
+-- Novell IPX Router Specification). When a host asks again is defined by this project. The entry point is
+-- `AskGives`.
 use Rattle.std.specs.Prelude.{◌≡◌, ℕ, ◌+◌, ◌/◌, Bool, false, not, ◌&&◌, nat_le, nat_lt, min, List, [], ◌∷◌, position, slice_get, slice_set, Option, Some, None, unwrap_or, if◌then◌else◌}
 use Rattle.ipx_wire.specs.declared.address.Address.{Address}
 use Rattle.ipx_wire.specs.declared.address.Node.{Node}
@@ -16,7 +16,7 @@ use Rattle.ipx_query.specs.declared.question.TableQuery.TheVariants.{Networks, S
 use Rattle.ipx_query.specs.declared.queried_router.QueriedRouter.{QueriedRouter}
 use Rattle.ipx_query.specs.QueryView.{AskView, asked_for}
 
--- a question's packet type, and the socket that it is put to
+-- a question's packet type, and the socket that it is sent to
 abbrev pub question_type : TableQuery → ℕ
 question_type Networks = rip_type
 question_type (Services kind) = packet_exchange_type
@@ -51,25 +51,25 @@ pub record IsQuery (own : Address) (question : TableQuery) (node : Node)
   pub packet : IsIpx (packet_of (query_header own question node) body) bytes []
   pub in_range : IsBytes bytes
 
--- how many rounds have begun so long after the first: one at once, and one after each of two
--- seconds. After four seconds none is left
+-- how many rounds have begun this long after the first, in ms: one at once, and one after each of two
+-- seconds. After four seconds there are none
 abbrev pub rounds_by : ℕ → ℕ
 rounds_by passed = if nat_le 4000 passed then 0 else (min (passed / 1000) 2 + 1)
 
--- a router is due that answered nothing, and was not asked in the round
+-- a router is due if it has not answered, and was not asked in this round
 abbrev pub is_ask_due : ℕ → QueriedRouter → Bool
 is_ask_due rounds r = not r.answered && nat_lt r.rounds rounds
 
--- the asking begins where it has not yet
+-- asking begins, if it has not yet
 abbrev pub ask_begun : AskView → ℕ → AskView
 ask_begun ask now = record ask { begun = Some (unwrap_or ask.begun now) }
 
--- the router at a place was asked in a round
+-- the router at a position was asked in a round
 abbrev pub asked_at_place : ℕ → QueriedRouter → ℕ → AskView → AskView
 asked_at_place place r rounds ask =
     record ask { routers = slice_set ask.routers place (record r { rounds = rounds }) }
 
--- the first router that is due is asked, at its node; where none is, nobody is
+-- the first router that is due is asked, at its node; if none is due, none is asked
 abbrev pub GivesToPlace : AskView → ℕ → Option ℕ → Option Given → AskView → Type 0
 GivesToPlace ask rounds None given new = (given ≡ None) × (new ≡ ask)
 GivesToPlace ask rounds (Some place) given new = (r : QueriedRouter) × (bytes : List ℕ)
@@ -77,7 +77,7 @@ GivesToPlace ask rounds (Some place) given new = (r : QueriedRouter) × (bytes :
     × (given ≡ Some (record { port = 0; node = r.node; bytes = bytes }))
     × (new ≡ asked_at_place place r rounds ask)
 
--- what it gives as it is asked for a packet at a moment
+-- what the host gives as it is asked for a packet at a given time
 abbrev pub AskGives : AskView → ℕ → Option Given → AskView → Type 0
 AskGives old now given new = let rounds = rounds_by (asked_for old now) in
     GivesToPlace (ask_begun old now) rounds (position (is_ask_due rounds) old.routers) given new

@@ -1,6 +1,5 @@
--- What a host that pings hears (Novell SPX): an answer is what would let the link of its request
--- join, and what it knows by it.
--- The entry point is `PingHears`.
+-- What a host that pings receives (Novell SPX): an answer is what would let the link of its request join. The
+-- entry point is `PingHears`.
 use Rattle.std.specs.Prelude.{◌≡◌, ℕ, ◌==◌, ◌&&◌, Bool, nat_lt, is_none, List, Option, Some, None, MatchBool, MatchOption, if◌then◌else◌}
 use Rattle.ipx_wire.specs.declared.address.Address.{Address}
 use Rattle.ipx_wire.specs.declared.ipx.packet.IpxHeader.{IpxHeader}
@@ -26,7 +25,8 @@ is_from_pinged p h = (h.kind == spx_type) && (is_at_hand p.own.network h.to.netw
     && (is_node h.to.node p.own.node && ((h.to.socket.0 == p.own.socket.0)
     && is_address h.from p.to)))
 
--- an SPX packet that would let the link of the request join is an answer, by so many routers
+-- an SPX packet that would let the link of the request join is an answer, with the number of routers that it
+-- passed
 abbrev pub ReadsPing : PingCore → PacketView → Option ℕ → Type 0
 ReadsPing p d answer = MatchOption (spx_fault d.body)
     ((h : SpxHeader) × (body : List ℕ) × IsSpx h body d.body
@@ -40,14 +40,14 @@ IsPingAnswer p bytes answer = MatchOption (ipx_fault bytes)
     × MatchBool (is_from_pinged p d.header) (ReadsPing p d answer) (answer ≡ None))
     (λ f. answer ≡ None)
 
--- the first answer since the latest request was sent is counted, for that one, and how many routers it
--- passed is kept
+-- the first answer since the latest request was sent is counted for that request, with the number of routers
+-- that it passed
 abbrev pub ping_heard : Option ℕ → PingCore → PingCore
 ping_heard None p = p
 ping_heard (Some routers) p = if nat_lt 0 p.sent && is_none p.hops
     then record p { answered = raised p.answered; hops = Some routers; passed = routers } else p
 
--- what it is once it heard bytes: what is no answer changes nothing
+-- the host after it received bytes: what is not an answer changes nothing
 abbrev pub PingHears : PingCore → List ℕ → PingCore → Type 0
 PingHears old bytes new =
     (answer : Option ℕ) × IsPingAnswer old bytes answer × (new ≡ ping_heard answer old)

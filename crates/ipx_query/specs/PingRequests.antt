@@ -1,6 +1,5 @@
--- A host that pings a listener of SPX by requests for a connection, all of one id (Novell SPX; how
--- often it asks is own): what it gives.
--- The entry point is `PingGives`.
+-- The requests of a host that pings an SPX listener. Each asks for a connection, all with one id (Novell
+-- SPX); how often it asks is defined by this project. The entry point is `PingGives`.
 use Rattle.std.specs.Prelude.{◌≡◌, ℕ, ◌+◌, ◌-◌, ◌==◌, ◌||◌, ◌&&◌, Bool, nat_le, nat_lt, List, Option, Some, None, MatchBool, if◌then◌else◌}
 use Rattle.ipx_wire.specs.declared.address.Address.{Address}
 use Rattle.ipx_wire.specs.declared.address.Node.{Node}
@@ -21,7 +20,7 @@ ping_link own to id = dialed id own.socket to 1 0
 abbrev pub pinging_home : Address → Home
 pinging_home own = record { network = own.network; node = own.node }
 
--- the bytes are the request that this link gives first, and nothing else
+-- the bytes are exactly the request that this link gives first
 pub record IsPing (own to : Address) (id : ℕ) (bytes : List ℕ) : Type 0 where
   pub request : OutgoingView
   pub gives : (poll_link (ping_link own to id) 0).0 ≡ Some request
@@ -29,13 +28,13 @@ pub record IsPing (own to : Address) (id : ℕ) (bytes : List ℕ) : Type 0 wher
   pub clear : HasFreeBitsClear is.packet.body
   pub in_range : IsBytes bytes
 
--- the same node where the listener is on the host's own network, else the router
+-- the listener's node if it is on the host's own network, otherwise the router
 abbrev pub ping_node : PingCore → Node
 ping_node p =
     if (p.to.network.0 == p.own.network.0) || (p.to.network.0 == local_network) then p.to.node
     else p.router
 
--- a request is due that is left, a second or more after the one before
+-- a request is due if one is left, a second or more after the one before
 abbrev pub is_ping_due : PingCore → ℕ → Bool
 is_ping_due p now =
     nat_lt p.sent p.count && ((p.sent == 0) || nat_le 1000 (now - p.sent_at))
@@ -43,7 +42,7 @@ is_ping_due p now =
 abbrev pub ping_sent : PingCore → ℕ → PingCore
 ping_sent p now = record p { sent = p.sent + 1; sent_at = now; hops = None }
 
--- what it gives as it is asked for a packet at a moment
+-- what the host gives as it is asked for a packet at a given time
 abbrev pub PingGives : PingCore → ℕ → Option Given → PingCore → Type 0
 PingGives old now given new = MatchBool (is_ping_due old now)
     ((bytes : List ℕ) × IsPing old.own old.to old.id bytes

@@ -1,7 +1,6 @@
--- What a host that asks routers hears: which packets are answers, and what it knows by them (RIP and
--- SAP responses of the Novell IPX Router Specification). It hears entries as a router of one port
--- does.
--- The entry points are `AskHears`, and `AskMisses` where memory is refused.
+-- What a host that asks routers receives: which packets are answers, and what it learns from them (RIP and
+-- SAP responses of the Novell IPX Router Specification). It learns entries as a router of one port does. The
+-- entry points are `AskHears`, and `AskMisses` for out of memory.
 use Rattle.std.specs.Prelude.{◌≡◌, ℕ, ◌==◌, ◌||◌, ◌&&◌, Bool, true, nat_lt, List, [], ◌∷◌, length, map, Option, Some, None, MatchBool, MatchOption, if◌then◌else◌}
 use Rattle.std.specs.List.{list_any}
 use Rattle.ipx_wire.specs.declared.address.Address.{Address}
@@ -35,41 +34,41 @@ use Rattle.ipx_query.specs.QueryView.{AskView}
 
 -- ---- which packets are answers
 
--- the network at hand, or the host's own
+-- the local network (0), or the host's own
 abbrev pub is_at_hand : Network → Network → Bool
 is_at_hand own network = (network.0 == local_network) || (network.0 == own.0)
 
--- a router of that node was asked
+-- the router of that node was asked
 abbrev pub was_asked : Node → QueriedRouter → Bool
 was_asked node r = nat_lt 0 r.rounds && is_node r.node node
 
--- a packet is to the host's own node and socket, and from a node of its network that was asked
+-- a packet is to the host's own node and socket
 abbrev pub is_to_querier : AskView → Address → Bool
 is_to_querier ask to = is_at_hand ask.own.network to.network
     && (is_node to.node ask.own.node && (to.socket.0 == ask.own.socket.0))
 
--- a packet is from there, and from the socket that the question was put to: what answers another question
--- is no answer
+-- a packet is from a node of the host's network that was asked, and from the socket that the question was
+-- sent to: an answer to another question does not count
 abbrev pub is_from_asked : AskView → Address → Bool
 is_from_asked ask from = is_at_hand ask.own.network from.network
     && (list_any (was_asked from.node) ask.routers
     && (from.socket.0 == question_socket ask.question))
 
--- and no router forwarded it: one that answers on its own network sends with no hops
+-- a packet is an answer, which no router forwarded: a router that answers on its own network sends 0 hops
 abbrev pub is_answer : AskView → IpxHeader → Bool
 is_answer ask h = (h.hops == 0) && (is_to_querier ask h.to && is_from_asked ask h.from)
 
--- ---- what is heard of one
+-- ---- what is learned from one
 
--- the host as a router of one port, and whom an answer is from
+-- the host as a router of one port, and the source of an answer
 abbrev pub lone_port : Address → List Port
 lone_port own = record { network = own.network; node = own.node; cost = 1 } ∷ []
 
 abbrev pub source_at : Node → Source
 source_at node = record { port = 1; neighbour = node }
 
--- entries are heard in their order, as a router hears them: all of them, or those before the first
--- that finds the table full, and then the answer is cut
+-- entries are learned in order, as a router learns them: all of them, or those before the first for which the
+-- table is full
 abbrev pub TakesRoutes : Address → Node → ℕ → List RipEntry → Table Network RouteMetric → Bool
     → Table Network RouteMetric → Type 0
 TakesRoutes own node now entries old cut new = (new.most ≡ old.most) × MatchBool cut
@@ -84,8 +83,8 @@ TakesServices node now entries old cut new = (new.most ≡ old.most) × MatchBoo
     × AtEntry entries n (IsFullForService (source_at node) new))
     (HeardServices (source_at node) now entries (services_in old) (length entries) new)
 
--- a response is an answer, which ends with a packet that is not full: of under 50 routes, or under
--- 7 services. A request and what is no packet change nothing
+-- a response is an answer. Its last packet is not full: under 50 routes, or under 7 services. A request, and
+-- what is no packet, changes nothing
 abbrev pub HearsRipMessage : Address → Node → ℕ → Table Network RouteMetric → RipView
     → Option AnswerHeard → Table Network RouteMetric → Type 0
 HearsRipMessage own node now old (rip.Request asked) answer new = (answer ≡ None) × (new ≡ old)
@@ -114,14 +113,14 @@ HearsSap node now old body answer new = MatchOption (sap_fault body)
     × HearsSapMessage node now old m answer new)
     (λ f. (answer ≡ None) × (new ≡ old))
 
--- ---- what it is then
+-- ---- the host after that
 
 -- the router of the node answered
 abbrev pub router_heard : Node → Bool → QueriedRouter → QueriedRouter
 router_heard node ended r =
     if was_asked node r then record r { answered = true; ended = r.ended || ended } else r
 
--- an answer of the node was heard, or none was
+-- an answer of the node was learned, or there was none
 abbrev pub ask_heard : Node → ℕ → Option AnswerHeard → AskView → AskView
 ask_heard node now None ask = ask
 ask_heard node now (Some a) ask = record ask {
@@ -130,7 +129,7 @@ ask_heard node now (Some a) ask = record ask {
   cut = ask.cut || a.cut;
 }
 
--- a body of the node is heard by the question
+-- a body from the node is learned, as an answer to the question
 abbrev pub HearsBody : TableQuery → AskView → Node → List ℕ → ℕ → AskView → Type 0
 HearsBody Networks old node body now new = (answer : Option AnswerHeard)
     × (routes : Table Network RouteMetric) × HearsRip old.own node now old.routes body answer routes
@@ -145,16 +144,16 @@ HearsPacket old d now new = MatchBool (is_answer old d.header)
     (HearsBody old.question old d.header.from.node d.body now new)
     (new ≡ old)
 
--- what it is once it heard bytes at a moment: what is no answer changes nothing
+-- the host after it received bytes at a given time: what is not an answer changes nothing
 abbrev pub AskHears : AskView → List ℕ → ℕ → AskView → Type 0
 AskHears old bytes now new = MatchOption (ipx_fault bytes)
     ((d : PacketView) × (tail : List ℕ) × IsIpx d bytes tail × HearsPacket old d now new)
     (λ f. new ≡ old)
 
--- ---- where memory is refused
+-- ---- out of memory
 
--- an entry could not be heard, since its table had to grow by it: those before it were heard, and
--- nothing else changed
+-- an entry could not be learned, because its table had to grow: those before it were learned, and nothing
+-- else changed
 abbrev pub RipBodyWantsMemory : Address → Node → ℕ → Table Network RouteMetric → List ℕ
     → Table Network RouteMetric → Type 0
 RipBodyWantsMemory own node now old body new = (entries : List RipEntry) × (tail : List ℕ)

@@ -1,5 +1,5 @@
--- A host that asks routers of its own network what they know: whom it asks for what, and what it
--- heard so far. All of it is own.
+-- A host that asks routers of its own network what they know: which routers, the question, and what it has
+-- learned. Defined by this project.
 use Rattle.std.specs.Prelude.{◌≡◌, ◌^◌, ℕ, ◌-◌, ◌*◌, Bool, false, List, [], length, map, min, Option, None, unwrap_or}
 use Rattle.ipx_wire.specs.declared.address.Address.{Address}
 use Rattle.ipx_wire.specs.declared.address.Network.{Network}
@@ -15,27 +15,27 @@ pub record AskView : Type 0 where
   -- the host's network, node and socket
   pub own : Address
   pub question : TableQuery
-  -- the routers that are asked, in their order
+  -- the routers that are asked, in order
   pub routers : List QueriedRouter
-  -- the moment at which the first query was asked for
+  -- the time at which the first query was asked for
   pub begun : Option ℕ
-  -- the moment of the last answer
+  -- the time of the last answer
   pub heard_at : ℕ
-  -- what answers told
+  -- what was learned from answers
   pub routes : Table Network RouteMetric
   pub services : Table ServiceKey ServiceMetric
-  -- whether a table had no room for all that was told
+  -- whether a table was full before all that was advertised was learned
   pub cut : Bool
 
--- a router that was asked nothing yet
+-- a router that was not asked yet
 abbrev pub unasked : Node → QueriedRouter
 unasked node = record { node = node; rounds = 0; answered = false; ended = false }
 
--- for each router that is asked a table has the room of a router's own, as far as a count goes
+-- a table has the room of a router's own for each router that is asked, up to the greatest of 64 bits
 abbrev pub room_for : ℕ → ℕ → ℕ
 room_for most count = min (most * count) (2 ^ 64 - 1)
 
--- nobody was asked yet, and nothing was heard
+-- no router was asked yet, and nothing was learned
 pub record IsNewAsk (own : Address) (question : TableQuery) (nodes : List Node)
     (ask : AskView) : Type 0 where
   pub address : ask.own ≡ own
@@ -49,6 +49,6 @@ pub record IsNewAsk (own : Address) (question : TableQuery) (nodes : List Node)
   pub most_services : ask.services.most ≡ room_for 4096 (length nodes)
   pub whole : ask.cut ≡ false
 
--- how long ago the first query was asked for: 0 where it was not yet
+-- how long ago the first query was asked for; 0 if it was not yet
 abbrev pub asked_for : AskView → ℕ → ℕ
 asked_for ask now = now - unwrap_or ask.begun now

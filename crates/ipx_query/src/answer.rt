@@ -13,7 +13,7 @@ use ipx_tables::{RouteTable, ServiceTable, Source, TableFault};
 use ipx_wire::{Address, Node, OutOfMemory};
 use std::alloc::Global;
 
-/// Whom an answer is from: a node on the host's one port.
+/// The source of an answer: a node on the host's one port.
 fn source_of(node: Node) -> Source
     ensures { result ≡ source_at node }
 {
@@ -39,7 +39,7 @@ fn outcome_of(
     }
 }
 
-/// What is heard of a body as a RIP response: `None` where it is none.
+/// Learns a body as a RIP response. Returns `None` if it is not one.
 pub fn hear_rip(
     alloc: Global,
     own: Address,
@@ -65,7 +65,7 @@ pub fn hear_rip(
     }
 }
 
-/// What is heard of a body as a SAP response: `None` where it is none.
+/// Learns a body as a SAP response. Returns `None` if it is not one.
 pub fn hear_sap(
     alloc: Global,
     services: &mut ServiceTable,

@@ -3,8 +3,8 @@
 /// What became of a packet of an answer.
 #[derive(Clone, Copy, Debug, PartialEq, Eq)]
 pub struct AnswerHeard {
-    /// It is the last one of its answer: it is not full.
+    /// It is not full, so it is the last one of its answer.
     pub ended: bool,
-    /// Its table had no room for all of it.
+    /// The table was full before all of it was learned.
     pub cut: bool,
 }

@@ -15,7 +15,8 @@ use ipx_tables::{
 use ipx_wire::{Address, Network};
 use std::alloc::Global;
 
-/// No route to the network at hand, to all networks, or to the host's own is heard.
+/// Whether a route is learned: one to the local network, to all networks or to the host's own
+/// network is not.
 fn is_route_heard(own: Address, entry: &RipEntry) -> bool
     ensures { result ≡ is_heard (lone_port own) entry.now }
 {
@@ -23,8 +24,8 @@ fn is_route_heard(own: Address, entry: &RipEntry) -> bool
     !(network == Network::LOCAL || network == Network::ALL || network == own.network)
 }
 
-/// Hears the routes in order, each read where it stands. At the first that the table refuses it
-/// stops.
+/// Learns routes in order, reading each in place. It stops at the first that does not fit the
+/// table.
 pub fn hear_routes(
     alloc: Global,
     own: Address,
@@ -57,8 +58,8 @@ pub fn hear_routes(
     Ok(())
 }
 
-/// Hears the services in order, each read where it stands. At the first that the table refuses it
-/// stops.
+/// Learns services in order, reading each in place. It stops at the first that does not fit the
+/// table.
 pub fn hear_services(
     alloc: Global,
     services: &mut ServiceTable,

@@ -10,8 +10,8 @@ ghost use Rattle.ipx_query.specs.PingRequests.{IsPing};
 
 use ipx_wire::Address;
 
-/// Each ping is a packet by which a listener is asked for a connection, from the host's own address
-/// to the listener's.
+/// Each ping is a packet that asks a listener for a connection, from the host's own address to the
+/// listener's.
 pub fn pings_ask_for_a_connection()
     ensures { (own to : Address) (id : ℕ) (bytes : List ℕ) → 0 < id → id < no_id
         → IsPing own to id bytes → (p : PacketView) × (h : SpxHeader)

@@ -1,9 +1,9 @@
 //! What an operator's host asks: routers of its network what they know, and a listener whether it
 //! is there.
 //!
-//! [`QueryCore`] is a core of `ipx_carrier`. It gives RIP requests for all networks, or SAP queries
-//! for the services of a type, and hears what the routers that it asks answer. [`PingCore`] gives
-//! requests for a connection, and counts the replies. Bytes and moments are handed in.
+//! [`QueryCore`] is a core of `ipx_carrier`. It sends RIP requests for all networks, or SAP queries
+//! for the services of a type, and learns what the routers answer. [`PingCore`] sends requests for
+//! a connection, and counts the replies. Bytes and times are passed in.
 #![tactic(auto)]
 
 mod answer;

@@ -1,4 +1,4 @@
-//! The request by which a listener is pinged.
+//! The request that pings a listener.
 
 ghost use Rattle.std.specs.Prelude.{◌≡◌, ◌≤◌, length, take, true};
 ghost use Rattle.ipx_wire.specs.Ipx.{IsBytes};
@@ -12,10 +12,10 @@ use ipx_wire::{
     packet_type,
 };
 
-/// The id that stands for none.
+/// The connection id that means none.
 const NO_ID: u16 = 0xffff;
 
-/// What a link of that id with one buffer asks for a connection with.
+/// The header of the request for a connection that a link of that id with one buffer sends.
 fn request_of(own: Address, to: Address, id: u16) -> SpxHeader
     ensures { result ≡ (plain (ping_link own to id) Request true 0 no_id).header }
 {
@@ -40,8 +40,8 @@ fn are_bytes(bytes: &[u8])
     let _ = bytes;
 }
 
-/// Writes the request to the front of the buffer, and answers how many bytes it takes. The caller
-/// owes room for 42.
+/// Writes the request to the front of the buffer, and returns its length. The buffer must have room
+/// for 42 bytes.
 pub fn ping_into(own: Address, to: Address, id: u16, out: &mut [u8]) -> usize
     requires { 42 ≤ length out.old }
     ensures within { result ≤ 42 }

@@ -16,18 +16,18 @@ use ipx_wire::{
 };
 use std::alloc::Global;
 
-/// How many milliseconds lie between two requests.
+/// The time between two requests, in milliseconds.
 const INTERVAL: u64 = 1000;
 
-/// For how many milliseconds the last request is waited for.
+/// How long the last request is waited for, in milliseconds.
 const PING_TIMEOUT: u64 = 2000;
 
-/// A host that pings a listener of SPX, over a device of one port: by requests for a connection,
-/// all of one id, one a second. A listener answers each of them by the reply, and keeps one place
-/// for all.
+/// A host that pings an SPX listener, over a device of one port. It sends requests for a
+/// connection, all with one id, one a second. A listener answers each of them, and uses one
+/// connection slot for all.
 ///
-/// The first answer since the latest request was sent counts, for that request. It is over where
-/// all were sent, and the last one was answered or two seconds passed since.
+/// The first answer since the latest request was sent counts, for that request. Pinging is over if
+/// all requests were sent, and the last one was answered or two seconds passed since.
 #[derive(Clone, Copy, Debug, PartialEq, Eq)]
 pub struct PingCore {
     own: Address,
@@ -42,7 +42,7 @@ pub struct PingCore {
     passed: u8,
 }
 
-/// Whether a network is the one at hand, or the host's own.
+/// Whether a network is 0, the local network, or the host's own.
 fn is_here(own: Network, network: Network) -> bool
     ensures { result ≡ is_at_hand own network }
 {
@@ -56,7 +56,7 @@ fn is_same(a: Address, b: Address) -> bool
     a.network == b.network && a.node == b.node && a.socket == b.socket
 }
 
-/// Whether it would let the link of a request of that id join.
+/// Whether a packet with this header would let the link of a request of that id join.
 fn joins(own: Address, to: Address, id: u16, header: SpxHeader) -> bool
     ensures { result ≡ is_reply (ping_link own to id) header }
 {
@@ -66,9 +66,9 @@ fn joins(own: Address, to: Address, id: u16, header: SpxHeader) -> bool
 }
 
 impl PingCore {
-    /// A host that has sent nothing yet: its own address, the router for other networks, the
-    /// listener's address, an id from 0001 to FFFE that no connection of the host has, and how many
-    /// requests it sends.
+    /// A host that has sent nothing yet. `router` is the router for other networks, and `to` the
+    /// listener's address. `id` is from 0001 to FFFE, and no connection of the host has it. `count`
+    /// is how many requests it sends.
     pub fn new(own: Address, router: Node, to: Address, id: u16, count: u32) -> PingCore
         ensures { result ≡ new_ping own router to id count }
     {
@@ -86,7 +86,7 @@ impl PingCore {
         }
     }
 
-    /// How many requests were sent: the number of the latest one.
+    /// How many requests were sent, which is the number of the latest one.
     pub fn sent(&self) -> u32
         ensures { result ≡ self.now.sent }
     {
@@ -100,22 +100,22 @@ impl PingCore {
         self.answered
     }
 
-    /// How many routers the answer to the latest request passed, if it came.
+    /// How many routers the answer to the latest request passed, if it was answered.
     pub fn answer(&self) -> Option<u8>
         ensures { result ≡ self.now.hops }
     {
         self.hops
     }
 
-    /// How many routers the answer that came last passed, whichever request it counted for; 0 where
-    /// none came.
+    /// How many routers the last answer passed, whichever request it counted for; 0 if there was
+    /// none.
     pub fn passed(&self) -> u8
         ensures { result ≡ self.now.passed }
     {
         self.passed
     }
 
-    /// Whether it is over at a moment, in milliseconds.
+    /// Whether it is over at a given time, in milliseconds.
     pub fn is_done(&self, now: u64) -> bool
         ensures { result ≡ is_ping_over self.now now }
     {
@@ -124,14 +124,14 @@ impl PingCore {
         all_sent && (self.sent == 0 || self.hops.is_some() || late)
     }
 
-    /// 0 where a request was answered, and else 1: what a program ends with.
+    /// 0 if a request was answered, otherwise 1: the exit status of a program.
     pub fn status(&self) -> u8
         ensures { result ≡ ping_status self.now }
     {
         if self.answered == 0 { 1 } else { 0 }
     }
 
-    /// The node that a request goes to first.
+    /// The node that a request is sent to first.
     fn next_node(&self) -> Node
         ensures { result ≡ ping_node self.now }
     {
@@ -151,7 +151,7 @@ impl PingCore {
         some_left && (self.sent == 0 || late)
     }
 
-    /// Whether a packet is to this host, from the listener.
+    /// Whether a packet is from the listener to this host.
     fn is_from_listener(&self, header: IpxHeader) -> bool
         ensures { result ≡ is_from_pinged self.now header }
     {
@@ -163,7 +163,7 @@ impl PingCore {
             && is_same(header.from, self.to)
     }
 
-    /// How many routers an answer passed, if the packet from the listener is one.
+    /// How many routers a packet from the listener passed, if it is an answer.
     fn read(&self, packet: Packet<'_>) -> Option<u8>
         ensures { ReadsPing self.now (packet_view packet.entry) result }
     {
@@ -178,7 +178,7 @@ impl PingCore {
         }
     }
 
-    /// How many routers an answer passed, if the datagram is one.
+    /// How many routers a datagram passed, if it is an answer.
     fn answer_in(&self, bytes: &[u8]) -> Option<u8>
         ensures { IsPingAnswer self.now bytes.now result }
     {
@@ -193,7 +193,7 @@ impl PingCore {
         }
     }
 
-    /// Counts an answer, if it is one, and the latest request has none.
+    /// Counts an answer, if there is one and the latest request has none yet.
     fn note(&mut self, answer: Option<u8>)
         ensures { self.new ≡ ping_heard answer self.old }
     {

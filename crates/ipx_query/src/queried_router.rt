@@ -8,7 +8,7 @@ ghost use Rattle.ipx_query.specs.QueryView.{unasked};
 
 use ipx_wire::Node;
 
-/// A router that is asked, and what came of it so far.
+/// A router that is asked, and its state.
 #[derive(Clone, Copy, Debug, PartialEq, Eq)]
 pub struct QueriedRouter {
     /// Its node on the host's network.
@@ -17,12 +17,12 @@ pub struct QueriedRouter {
     pub rounds: u8,
     /// Whether it answered.
     pub answered: bool,
-    /// Whether its answer came to its end: a packet that is not full.
+    /// Whether its answer came to its end: a packet that was not full.
     pub ended: bool,
 }
 
 impl QueriedRouter {
-    /// A router that was asked nothing yet.
+    /// A router that was not asked yet.
     pub(crate) fn new(node: Node) -> QueriedRouter
         ensures { result ≡ unasked node }
     {
@@ -41,7 +41,7 @@ impl QueriedRouter {
         QueriedRouter { rounds, ..self }
     }
 
-    /// Whether it is the router of that node, and was asked.
+    /// Whether it has that node, and was asked.
     fn was_asked_at(&self, node: Node) -> bool
         ensures { result ≡ was_asked node self.now }
     {
@@ -55,7 +55,7 @@ impl QueriedRouter {
         !self.answered && self.rounds < rounds
     }
 
-    /// It answered, if it is the router of that node and was asked.
+    /// Notes that the router of that node answered, if it is this one and was asked.
     fn hear(&mut self, node: Node, ended: bool)
         ensures { self.new ≡ router_heard node ended self.old }
     {
@@ -66,7 +66,7 @@ impl QueriedRouter {
     }
 }
 
-/// The place of the first router that is to be asked in a round.
+/// The position of the first router that is to be asked in a round.
 pub fn due_place(routers: &[QueriedRouter], rounds: u8) -> Option<usize>
     ensures first { result ≡ position (is_ask_due rounds) routers.now }
     ensures there { IfSome result (λ place. place < length routers.now) }
@@ -81,7 +81,7 @@ pub fn has_asked(routers: &[QueriedRouter], node: Node) -> bool
     routers.iter().any(|router| router.was_asked_at(node))
 }
 
-/// The router of that node answered.
+/// Notes that the router of that node answered.
 pub fn hear_router(routers: &mut [QueriedRouter], node: Node, ended: bool)
     ensures { routers.new ≡ map (router_heard node ended) routers.old }
 {

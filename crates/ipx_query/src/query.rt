@@ -1,4 +1,4 @@
-//! The packets by which routers are asked.
+//! The packets that ask routers.
 
 ghost use Rattle.std.specs.Prelude.{◌≡◌, ◌≤◌, length, take};
 ghost use Rattle.ipx_wire.specs.Ipx.{IsBytes};
@@ -11,20 +11,20 @@ use ipx_wire::{Address, IpxHeader, Node, Packet, Socket, encode_into, packet_typ
 /// The most bytes of a question: a RIP request for one entry.
 const QUESTION_SIZE: usize = 10;
 
-/// A RIP request for all networks: operation 1, and network FFFFFFFF by FFFF hops and FFFF ticks.
+/// A RIP request for all networks: operation 1, and network FFFFFFFF with FFFF hops and FFFF ticks.
 const ALL_NETWORKS: [u8; QUESTION_SIZE] = [0, 1, 255, 255, 255, 255, 255, 255, 255, 255];
 
-/// After how many milliseconds there is another round.
+/// The time between two rounds, in milliseconds.
 const ROUND: u64 = 1000;
 
 /// How many rounds follow the first.
 const LATER_ROUNDS: u64 = 2;
 
-/// After how many milliseconds nobody is asked any more, and it is over.
+/// After this many milliseconds no router is asked any more, and the query is over.
 pub const LONGEST: u64 = 4000;
 
-/// How many rounds have begun so many milliseconds after the first. After four seconds none is
-/// left.
+/// How many rounds have begun this many milliseconds after the first. After four seconds there are
+/// none.
 pub fn rounds_after(passed: u64) -> u8
     ensures { result ≡ rounds_by passed }
 {
@@ -34,7 +34,7 @@ pub fn rounds_after(passed: u64) -> u8
     (passed / ROUND).min(LATER_ROUNDS) as u8 + 1
 }
 
-/// Writes what a question says to the front of the buffer, and answers how many bytes it takes.
+/// Writes the body of a question to the front of the buffer, and returns its length.
 fn question_into(question: TableQuery, out: &mut [u8]) -> usize
     requires { 10 ≤ length out.old }
     ensures within { result ≤ 10 }
@@ -55,7 +55,7 @@ fn question_into(question: TableQuery, out: &mut [u8]) -> usize
     }
 }
 
-/// The socket that a question is put to, and from which it is answered.
+/// The socket that a question is sent to, and that it is answered from.
 pub fn socket_of(question: TableQuery) -> Socket
     ensures { result.0 ≡ question_socket question }
 {
@@ -91,8 +91,8 @@ fn are_bytes(bytes: &[u8])
     let _ = bytes;
 }
 
-/// Writes the query to a node to the front of the buffer, and answers how many bytes it takes. The
-/// caller owes room for 40.
+/// Writes the query to a node to the front of the buffer, and returns its length. The buffer must
+/// have room for 40 bytes.
 pub fn query_into(own: Address, question: TableQuery, node: Node, out: &mut [u8]) -> usize
     requires { 40 ≤ length out.old }
     ensures within { result ≤ 40 }

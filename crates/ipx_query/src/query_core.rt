@@ -27,14 +27,14 @@ use ipx_wire::{Address, IpxHeader, Network, Node, OutOfMemory, decode};
 use std::alloc::Global;
 use std::marker::Model;
 
-/// For how many milliseconds no answer comes before it is over.
+/// After this many milliseconds without an answer the query is over.
 const QUIET: u64 = 200;
 
 /// A host that asks routers of its own network what they know, over a device of one port.
 ///
-/// Each router is asked at once, and again after one and after two seconds while it answered
-/// nothing. It is over where each answer came to its end and 200 ms passed without one, or after
-/// four seconds.
+/// Each router is asked at once, and again after one and after two seconds if it has not answered.
+/// The query is over if each answer came to its end and 200 ms passed without one, or after four
+/// seconds.
 #[derive(Drop)]
 pub struct QueryCore {
     own: Address,
@@ -69,7 +69,7 @@ impl Model for QueryCore {
     ghost invariant = { λ c. IsTable network_cmp c.routes × IsTable service_key_cmp c.services };
 }
 
-/// The routers of these nodes, asked nothing yet.
+/// The routers of these nodes, not asked yet.
 fn queried_routers(alloc: Global, nodes: &[Node]) -> Result<Vec<QueriedRouter>, OutOfMemory>
     ensures { IfOk result (λ v. v.items ≡ map unasked nodes.now) }
 {
@@ -80,14 +80,14 @@ fn queried_routers(alloc: Global, nodes: &[Node]) -> Result<Vec<QueriedRouter>, 
     Ok(routers)
 }
 
-/// Whether a network is the one at hand, or the host's own.
+/// Whether a network is 0, the local network, or the host's own.
 fn is_here(own: Network, network: Network) -> bool
     ensures { result ≡ is_at_hand own network }
 {
     network == Network::LOCAL || network == own
 }
 
-/// Notes that an answer was cut, if it was.
+/// Notes that a table was full, if it was.
 fn note_cut(cut: &mut bool, more: bool)
     ensures { cut.new ≡ (cut.old || more) }
 {
@@ -95,7 +95,7 @@ fn note_cut(cut: &mut bool, more: bool)
 }
 
 impl QueryCore {
-    /// A host that has asked nothing yet: its own network, node and socket, what it asks, and the
+    /// A host that has asked nothing yet. `own` is its network, node and socket. `nodes` are the
     /// nodes of the routers on its network, each named once.
     pub fn new(
         alloc: Global,
@@ -118,21 +118,21 @@ impl QueryCore {
         })
     }
 
-    /// The routers that are asked, in their order, and what came of each.
+    /// The routers that are asked, in order, and the state of each.
     pub fn routers(&self) -> &[QueriedRouter]
         ensures { result.now ≡ self.now.routers }
     {
         &self.routers
     }
 
-    /// Whether a table had no room for all that was told.
+    /// Whether a table was full before all that was advertised was learned.
     pub fn is_truncated(&self) -> bool
         ensures { result ≡ self.now.cut }
     {
         self.cut
     }
 
-    /// Whether it is over at a moment, in milliseconds.
+    /// Whether it is over at a given time, in milliseconds.
     pub fn is_done(&self, now: u64) -> bool
         ensures { result ≡ is_ask_over self.now now }
     {
@@ -146,7 +146,7 @@ impl QueryCore {
         }
     }
 
-    /// 0 where each router answered and no table was cut, and else 1: what a program ends with.
+    /// 0 if each router answered and no table was full, otherwise 1: the exit status of a program.
     pub fn status(&self) -> u8
         ensures { result ≡ ask_status self.now }
     {
@@ -166,8 +166,9 @@ impl QueryCore {
         self.routers.iter().all(|router| router.ended)
     }
 
-    /// The best route to each network that the routers told of, by network, and who told of it: the
-    /// least by ticks and hops. Its only fault is `OutOfMemory`.
+    /// The best route to each network that the routers advertised, ordered by network, and which
+    /// router advertised it. The best has the fewest ticks, then hops. Its only fault is
+    /// `OutOfMemory`.
     pub fn networks(
         &self,
         alloc: Global,
@@ -182,8 +183,9 @@ impl QueryCore {
         self.routes.list(alloc, now)
     }
 
-    /// The nearest offer of each service that the routers told of, by type and name, and who told
-    /// of it: the least by hops and address. Its only fault is `OutOfMemory`.
+    /// The nearest offer of each service that the routers advertised, ordered by type and name, and
+    /// which router advertised it. The nearest has the fewest hops, then the least address. Its
+    /// only fault is `OutOfMemory`.
     pub fn services(
         &self,
         alloc: Global,
@@ -213,15 +215,15 @@ impl QueryCore {
             && from.socket == socket_of(self.question)
     }
 
-    /// Whether a packet is to this host, from a router that was asked and the socket that it was asked at,
-    /// and no router forwarded it.
+    /// Whether a packet is to this host, from a router and a socket that were asked, and no router
+    /// forwarded it.
     fn is_answer(&self, header: IpxHeader) -> bool
         ensures { result ≡ is_answer self.now header }
     {
         header.hops == 0 && self.is_to_us(header.to) && self.is_from_router(header.from)
     }
 
-    /// The asking begins, if it has not yet. It answers how many rounds have begun by then.
+    /// Begins to ask, if it has not yet. Returns how many rounds have begun.
     fn begin(&mut self, now: u64) -> u8
         ensures begun { self.new ≡ ask_begun self.old now }
         ensures rounds { result ≡ rounds_by (asked_for self.old now) }
@@ -231,7 +233,7 @@ impl QueryCore {
         rounds_after(now.saturating_sub(begun))
     }
 
-    /// Asks the router at a place in a round, which is there.
+    /// Asks the router at a position, which must exist, in a round.
     fn ask(&mut self, place: usize, rounds: u8, room: &mut [u8]) -> (usize, Node, usize)
         requires there { place < length self.old.routers }
         requires room { 1536 ≤ length room.old }
@@ -299,7 +301,7 @@ impl QueryCore {
         }
     }
 
-    /// Hears the body of a packet from a node, by the question.
+    /// Learns the body of a packet from a node, as an answer to the question.
     fn hear_body(
         &mut self,
         alloc: Global,

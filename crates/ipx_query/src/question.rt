@@ -3,8 +3,8 @@
 /// What routers are asked.
 #[derive(Clone, Copy, Debug, PartialEq, Eq)]
 pub enum TableQuery {
-    /// Which networks they know: a RIP request for all.
+    /// Which networks they know: a RIP request for all networks.
     Networks,
-    /// Which services of a type they know, of all types by FFFF: a general SAP query.
+    /// Which services of a type they know, or of all types if it is FFFF: a general SAP query.
     Services(u16),
 }

@@ -1,4 +1,5 @@
--- What grows as a host pings: the turns, what was told behind them, and the times of answers. And one turn of a wire.
+-- What grows as a host pings: the turns, the events after them, and the times of answers. One turn of a core
+-- over a socket is here too.
 use Rattle.std.proofs.Common.{◌≡◌, ◌<◌, ℕ, ◌+◌, List, ◌++◌, [], ◌∷◌, length, take, get_or, min, max, sym, subst, ap, ◌∙◌, refl, arith, Option, true}
 use Rattle.std.specs.Io.KnownBytes.{Appends}
 use Rattle.std.proofs.KnownBytes.{Appends-nil, Appends-trans}
@@ -15,7 +16,7 @@ use Rattle.ipx_query_cmd.specs.PingLines.{least_time, most_time, news_text, news
 use Rattle.ipx_query_cmd.specs.PingRuns.{HasPinged, IsPingTurn, PingTurn, PingsOn, hears_reply, lines_told, ping_id, pinged_lines, times_told}
 use Rattle.ipx_query_cmd.specs.QueryTargets.{querier_address}
 
--- of one turn alone
+-- a course of exactly one turn
 pub one_turn : {C K : Type 0} (hears : C → ℕ → List ℕ → ℕ → C → Type 0) (gives : C → ℕ → Option Given → C → Type 0) (tells : K → ℕ → K → Type 0) (ports : ℕ)
     (course : List Turn) (old new : C) (before after : K) → length course ≡ 1 → Turns hears gives ports course old new → TellsMoments tells before after (moments_of course)
     → (turn : Turn) × IsTurn hears gives ports turn old new × tells before turn.moment after
@@ -40,7 +41,8 @@ pings_more [] t from mid to a b c h k = (
 )
 pings_more (u ∷ us) t from mid to a b c h k = (h.0, h.1, h.2, pings_more us t h.1 mid to h.0 b c h.3 k)
 
--- from one state of such a host to another these turns were taken, their times kept and their lines written
+-- from one state of such a host to another these turns were taken, their times recorded and their lines
+-- written
 pub record PingsSoFar (to : Address) (ts : List PingTurn) (from now : ℕ) (a b : PingCore) (times more : List ℕ) (w v : Option (List ℕ)) : Type 0 where
   pub pings : PingsOn ts from now a b
   pub kept : more ≡ times ++ times_told ts
@@ -60,7 +62,7 @@ one_more_turn to ts t from mid now a b c times some more w v u h k kept told = r
   told = subst (Appends w u) (flat_map_more (λ (p : PingTurn). news_text to p.news) [] ts t) (Appends-trans w v u (lines_told to ts) (news_text to t.news) h.told told);
 }
 
--- what a host that was opened, and pinged from there until it was over, has done
+-- what a host has done that was opened, and then pinged until it was over
 pub has_pinged : (file : HostConfig) (to : Address) (count : ℕ) (ts : List PingTurn) (old new : PingCore) (from last now : ℕ) → old ≡ new_ping (querier_address file) (node_at file.router) to ping_id count
     → from ≡ 0 → PingsOn ts from last old new → now ≡ last → is_ping_over new now ≡ true → HasPinged file to count ts new now
 has_pinged file to count ts old new from last now fresh none pings is over =

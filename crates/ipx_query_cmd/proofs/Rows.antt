@@ -1,5 +1,5 @@
--- What grows by one more: rows of a text, IP addresses, who answered, the width of a column, and turns. And
--- what a status of 0 comes of.
+-- What grows by one element: rows of a text, IP addresses, routers that answered, the width of a column, and
+-- turns. It also shows where an exit status of 0 comes from.
 use Rattle.std.proofs.Common.{◌≡◌, ◌≤◌, ◌<◌, ◌⊎◌, inl, inr, ℕ, ◌+◌, Bool, true, false, List, ◌++◌, [], ◌∷◌, length, map, max, take, get_or, sym, subst, ap, ◌∙◌, refl, arith, if◌then◌else◌}
 use Rattle.std.specs.Prelude.{filter}
 use Rattle.std.specs.List.{flat_map}
@@ -20,7 +20,7 @@ use Rattle.ipx_query_cmd.specs.KnownLines.{known_name_width}
 use Rattle.ipx_query_cmd.specs.OperatorLines.{ToldService, answering_nodes, name_width}
 use Rattle.ipx_query_cmd.specs.QueryTargets.{new_ips}
 
--- one more text behind those of the elements before
+-- one more text after those of the elements before
 pub texts_more : {X : Type 0} (f : X → List ℕ) (xs : List X) (i : ℕ) (d : X) (old part : List ℕ) → i < length xs → old ≡ flat_map f (take i xs) → part ≡ f (get_or xs i d)
     → old ++ part ≡ flat_map f (take (i + 1) xs)
 texts_more f xs i d old part lt was is =
@@ -60,7 +60,7 @@ module _ {X W : Type 0} (p : W → Bool) (g : X → W) (xs : List X) (i : ℕ) (
   pub passed_kept : p (g (get_or xs i d)) ≡ false → map g items ≡ filter p (map g (take (i + 1) xs))
   passed_kept is = sym (kept_more ∙ ap (λ b. map g items ++ (if b then g (get_or xs i d) ∷ [] else [])) is ∙ append-nil (map g items))
 
--- of one more IP address it is told whether it is new
+-- whether one more IP address is new
 abbrev pub if_new : List (List ℕ) → List ℕ → List (List ℕ)
 if_new earlier ip = if is_peer earlier ip then [] else ip ∷ []
 
@@ -75,7 +75,7 @@ pub ips_more : (ips : List (List ℕ)) (i : ℕ) (d : List ℕ) (old new : List 
 ips_more ips i d old new lt was is =
     is ∙ ap (λ t. t ++ if_new (take i ips) (get_or ips i d)) was ∙ sym (news_more [] (take i ips) (get_or ips i d)) ∙ ap (new_ips []) (sym (take_more ips i d lt))
 
--- of one more router it is told whether it answered
+-- whether one more router answered
 abbrev pub if_answered : QueriedRouter → List Node
 if_answered r = if r.answered then r.node ∷ [] else []
 
@@ -97,7 +97,7 @@ pub answers_more : (rs : List QueriedRouter) (i : ℕ) (d : QueriedRouter) (old 
 answers_more rs i d old new lt was is =
     is ∙ ap (λ t. t ++ if_answered (get_or rs i d)) was ∙ sym (answered_more (take i rs) (get_or rs i d)) ∙ ap answering_nodes (sym (take_more rs i d lt))
 
--- the column is as wide as one more name wants
+-- the column is as wide as one more name needs
 wide_more : (xs : List ToldService) (x : ToldService) → name_width (xs ++ x ∷ []) ≡ max (name_width xs) (length (name_text x.0.name))
 wide_more [] x = omega arith
 wide_more (y ∷ xs) x = omega (arith, wide_more xs x)
@@ -107,7 +107,7 @@ pub width_more : (xs : List ToldService) (i : ℕ) (d : ToldService) (old wide :
 width_more xs i d old wide lt was is =
     rw (was, is) (sym (wide_more (take i xs) (get_or xs i d)) ∙ ap name_width (sym (take_more xs i d lt)))
 
--- the column of known names is as wide as one more name wants
+-- the column of known names is as wide as one more name needs
 known_wide_more : (xs : List ServiceSpelled) (x : ServiceSpelled) → known_name_width (xs ++ x ∷ []) ≡ max (known_name_width xs) (length x.name)
 known_wide_more [] x = omega arith
 known_wide_more (y ∷ xs) x = omega (arith, known_wide_more xs x)
@@ -118,7 +118,7 @@ known_width_more g xs i d old wide lt was is =
     rw (was, is) (sym (known_wide_more (map g (take i xs)) (g (get_or xs i d)))
     ∙ ap known_name_width (sym (map-append g (take i xs) (get_or xs i d ∷ [])) ∙ ap (map g) (sym (take_more xs i d lt))))
 
--- moments, and later ones
+-- times, and later ones
 between_on : (from : ℕ) (ms ns : List ℕ) (mid to : ℕ) → PassBetween from ms mid → PassBetween mid ns to → PassBetween from (ms ++ ns) to
 between_on from [] [] mid to h k = omega (arith, h, k)
 between_on from [] (n ∷ ns) mid to h k = (omega (arith, h, k.0), k.1)
@@ -128,12 +128,12 @@ pub between_later : (from : ℕ) (ms : List ℕ) (mid to : ℕ) → PassBetween 
 between_later from [] mid to h k = omega (arith, h, k)
 between_later from (m ∷ ms) mid to h k = (h.0, between_later m ms mid to h.1 k)
 
--- what a clock told passed between what it told before and last
+-- the times that a clock returned lie between the one that it returned before and its last
 pub told_between : {R : Type 0} (old new : SteadyClock R) (ms : List ℕ) → TellsMoments NeverGoesBack old new ms → PassBetween old.last ms new.last
 told_between {R} old new [] h = omega (arith, ap (λ (c : SteadyClock R). c.last) h)
 told_between old new (m ∷ ms) h = (h.1.0, subst (λ (from : ℕ). PassBetween from ms new.last) h.1.1 (told_between h.0 new ms h.2))
 
--- turns, and more turns; and a moment behind them
+-- turns, followed by more turns, and a time after them
 turns_after : (ts us : List Turn) (a b c : AskView) → Turns hears_answer AskGives 1 ts a b → Turns hears_answer AskGives 1 us b c → Turns hears_answer AskGives 1 (ts ++ us) a c
 turns_after [] us a b c h k = subst (λ a. Turns hears_answer AskGives 1 us a c) h k
 turns_after (t ∷ ts) us a b c h k = (h.0, h.1, turns_after ts us h.0 b c h.2 k)
@@ -145,7 +145,7 @@ turns_on ts us from mid to a b c h k =
 pub turns_later : (ts : List Turn) (from mid to : ℕ) (a b : AskView) → AsksOn ts from mid a b → mid ≤ to → AsksOn ts from to a b
 turns_later ts from mid to a b h k = (h.0, between_later from (moments_of ts) mid to h.1 k)
 
--- what ends well ends as the host that asked
+-- a command that succeeds ends with the status of the host that asked
 pub status_of_host : (result status : ℕ) → (result ≡ 1) ⊎ (result ≡ status) → result ≡ 0 → status ≡ 0
 status_of_host result status (inl one) zero = absurd (omega (arith, one, zero))
 status_of_host result status (inr is) zero = sym is ∙ zero

@@ -1,5 +1,5 @@
--- What an operator is shown of the text that a router writes of what it knows. All of it is own.
--- The entry points are `known_networks_text` and `known_services_text`.
+-- What an operator is shown of a router's table file. Defined by this project. The entry points are
+-- `known_networks_text` and `known_services_text`.
 use Rattle.std.specs.Prelude.{ℕ, ◌+◌, ◌==◌, ◌||◌, List, [], ◌∷◌, ◌++◌, Bool, codes, filter, if◌then◌else◌, length, max}
 use Rattle.std.specs.List.{flat_map}
 use Rattle.std.specs.Str.{bytes_eq}
@@ -9,13 +9,13 @@ use Rattle.ipx_table_dump.specs.TableParts.{OwnSpelled, own_networks_read}
 use Rattle.ipx_table_dump.specs.TableRead.{NetworkSpelled, ServiceSpelled, networks_read, services_read}
 use Rattle.ipx_query_cmd.specs.OperatorLines.{ToldNetwork, at_left, at_right, json_byte, network_digits, network_json, network_row, service_head, told_count, type_digits}
 
--- the last line: how much there is, and in which file
+-- the last line: how many there are, and in which file
 abbrev pub written_in : List ℕ → List ℕ → List ℕ
 written_in count place = count ++ (codes ", by " ++ (shown_text place ++ 10 ∷ []))
 
 -- ---- networks
 
--- one of a port of the router: nothing lies between, and nobody tells it
+-- the network of a port of the router, which is directly connected and advertised by nobody
 abbrev pub direct_network_row : OwnSpelled → List ℕ
 direct_network_row own = own.network ++ codes "     0      0  -\n"
 
@@ -40,7 +40,8 @@ known_networks_table place owns bests =
     ++ (flat_map known_network_row bests
     ++ written_in (told_count (length owns + length bests) (codes "1 network") (codes " networks")) place))
 
--- those of its ports, and the best of each that neighbours told of, by a text of a file at this place
+-- the networks of its ports, and the best route of each network that neighbours advertised, by the text of
+-- its table file at this path
 abbrev pub known_networks_text : Bool → List ℕ → List ℕ → List ℕ
 known_networks_text json place text =
     if json
@@ -55,8 +56,8 @@ abbrev pub port_json : Port → List ℕ
 port_json p =
     codes "{\"network\":\"" ++ (network_digits p.network ++ codes "\",\"hops\":0,\"ticks\":0,\"by\":\"-\"}\n")
 
--- what is printed by a router with these ports, where these are the best that neighbours told of: each as a host
--- prints what it was told
+-- what is printed of a router with these ports, if these are the best routes that neighbours advertised: each
+-- is printed as a host prints an answer
 abbrev pub router_networks_text : Bool → List ℕ → List Port → List ToldNetwork → List ℕ
 router_networks_text json place ports listed =
     if json then flat_map port_json ports ++ flat_map network_json listed
@@ -83,7 +84,7 @@ known_service_row width s =
     s.kind ++ (codes "  " ++ (at_left width s.name ++ (codes "  " ++ (known_place_columns s
     ++ (codes "    " ++ (at_right 4 s.hops ++ (codes "  " ++ (s.next ++ codes "\n"))))))))
 
--- a name that is already as `name_text` has it, within quotes of JSON
+-- a byte of a name that already has the form of `name_text`, within JSON quotes
 abbrev pub known_json_byte : ℕ → List ℕ
 known_json_byte b = if b == 0x5c then 0x5c ∷ 0x5c ∷ [] else json_byte b
 
@@ -104,7 +105,7 @@ known_services_table place services =
     ++ (flat_map (known_service_row (known_name_width services)) services
     ++ written_in (told_count (length services) (codes "1 service") (codes " services")) place)
 
--- the best of each service of a type that neighbours told of
+-- the best offer of each service of a type that neighbours advertised
 abbrev pub known_services_text : Bool → List ℕ → ℕ → List ℕ → List ℕ
 known_services_text json place kind text =
     if json then flat_map known_service_json (services_of_type kind (services_read text))

@@ -1,4 +1,4 @@
--- What the commands of an operator print of what routers told. All of it is own.
+-- What the commands of an operator print of the answers of routers. Defined by this project.
 use Rattle.std.specs.Prelude.{◌≡◌, ◌==◌, ℕ, List, Bool, Option, Some, None, if◌then◌else◌, map}
 use Rattle.ipx_tables.specs.Listing.{IsListing}
 use Rattle.ipx_tables.specs.Route.{network_cmp, route_before}
@@ -10,8 +10,8 @@ use Rattle.ipx_query.specs.QueryView.{AskView}
 use Rattle.ipx_query_cmd.specs.declared.answer_times.AnswerTime.{AnswerTime}
 use Rattle.ipx_query_cmd.specs.OperatorLines.{ToldNetwork, ToldService, answering_nodes, networks_text, services_text}
 
--- a text lists the networks that a host was told, each with the best of what was told at a moment, and
--- says who answered
+-- a text lists the networks of the answers to a host, each with the best route at this time, and says which
+-- routers answered
 pub record ListsNetworks (json : Bool) (ask : AskView) (now : ℕ) (text : List ℕ) : Type 0 where
   pub listed : List ToldNetwork
   pub best : IsListing network_cmp route_before (routes_in ask.routes) now listed
@@ -19,7 +19,7 @@ pub record ListsNetworks (json : Bool) (ask : AskView) (now : ℕ) (text : List 
   pub who : map (λ a. a.node) answers ≡ answering_nodes ask.routers
   pub prints : text ≡ networks_text json listed answers
 
--- and so the services
+-- the same for services
 pub record ListsServices (json : Bool) (ask : AskView) (now : ℕ) (text : List ℕ) : Type 0 where
   pub listed : List ToldService
   pub best : IsListing service_key_cmp service_before (services_in ask.services) now listed
@@ -27,12 +27,12 @@ pub record ListsServices (json : Bool) (ask : AskView) (now : ℕ) (text : List 
   pub who : map (λ a. a.node) answers ≡ answering_nodes ask.routers
   pub prints : text ≡ services_text json listed answers
 
--- what a command ends with by the status of writing the text, 0 where all is written: the host's own then,
--- and else 1
+-- the exit status of a command, given the status of writing the text: the host's status if all is written,
+-- otherwise 1
 abbrev pub printed_status : ℕ → AskView → ℕ
 printed_status written ask = if written == 0 then ask_status ask else 1
 
--- the type that a word spells, in four hex digits; all types where none is given
+-- a word is a type in four hex digits; without a word, all types
 abbrev pub IsTypeWord : Option (List ℕ) → ℕ → Type 0
 IsTypeWord None kind = kind ≡ 0xffff
 IsTypeWord (Some word) kind = spelled_socket word ≡ Some (record { 0 = kind })

@@ -1,5 +1,5 @@
--- What an operator is shown of what routers told: a table, or a line of JSON for each. All of it is own.
--- The entry points are `networks_text` and `services_text`.
+-- What an operator is shown of the answers of routers: a table, or a line of JSON for each. Defined by this
+-- project. The entry points are `networks_text` and `services_text`.
 use Rattle.std.specs.Prelude.{ℕ, ◌-◌, ◌/◌, ◌%◌, ◌==◌, ◌&&◌, List, [], ◌∷◌, ◌++◌, Bool, codes, filter, if◌then◌else◌, length, map, max, nat_le, not}
 use Rattle.std.specs.Fmt.{decimal}
 use Rattle.std.specs.Int.{w16, w32, to_be_bytes}
@@ -18,7 +18,7 @@ use Rattle.ipx_inspect.specs.ShowLine.{name_text}
 use Rattle.ipx_query.specs.declared.queried_router.QueriedRouter.{QueriedRouter}
 use Rattle.ipx_query_cmd.specs.declared.answer_times.AnswerTime.{AnswerTime}
 
--- a network that was told, by whom and how far it is; and a service
+-- a network or service, the router that advertised it, and its distance
 abbrev pub ToldNetwork : Type 0
 ToldNetwork = Network × Source × RouteMetric
 
@@ -27,7 +27,7 @@ ToldService = ServiceKey × Source × ServiceMetric
 
 -- ---- columns and digits
 
--- a text at the right, or the left, of a column so wide
+-- a text, aligned right or left in a column of this width
 abbrev pub at_right : ℕ → List ℕ → List ℕ
 at_right width text = repeat (width - length text) (codes " ") ++ text
 
@@ -46,9 +46,9 @@ socket_digits socket = encode_lower (to_be_bytes w16 socket.0)
 abbrev pub type_digits : ℕ → List ℕ
 type_digits kind = encode_lower (to_be_bytes w16 kind)
 
--- ---- behind a table: how much it has, and who answered
+-- ---- after a table: how much it has, and which routers answered
 
--- so many tenths of a millisecond
+-- a time in tenths of a millisecond
 abbrev pub tenths_text : ℕ → List ℕ
 tenths_text tenths = decimal (tenths / 10) ++ (codes "." ++ (decimal (tenths % 10) ++ codes " ms"))
 
@@ -63,7 +63,7 @@ told_count count one many =
 abbrev pub behind_text : List ℕ → List AnswerTime → List ℕ
 behind_text count answers = count ++ (flat_map answered_text answers ++ 10 ∷ [])
 
--- those of the routers that answered, in their order
+-- the routers that answered, in their order
 abbrev pub answering_nodes : List QueriedRouter → List Node
 answering_nodes routers = map (λ r. r.node) (filter (λ r. r.answered) routers)
 
@@ -93,7 +93,7 @@ networks_text json listed answers =
 
 -- ---- services
 
--- how wide the column of names is: as the longest name, and at least as its head
+-- the width of the name column: that of the longest name, and at least that of its heading
 abbrev pub name_width : List ToldService → ℕ
 name_width [] = 4
 name_width (told ∷ listed) = max (length (name_text told.0.name)) (name_width listed)
@@ -115,7 +115,7 @@ service_row width told =
     ++ (at_right 4 (decimal told.2.hops) ++ (codes "  "
     ++ (node_digits told.1.neighbour ++ codes "\n"))))))))
 
--- a name within quotes of JSON is as `name_text` has it, with a backslash before each quote and backslash
+-- a byte of a name within JSON quotes: as in `name_text`, with a backslash before each quote and backslash
 abbrev pub json_byte : ℕ → List ℕ
 json_byte b =
     if b == 0x22 then 0x5c ∷ 0x22 ∷ []

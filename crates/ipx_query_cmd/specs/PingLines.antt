@@ -1,6 +1,5 @@
--- What an operator is told of a listener that is pinged: a line for each request, and one behind all.
--- All of it is own.
--- The entry points are `ping_news`, `news_text` and `ping_end_text`.
+-- What an operator is shown of a ping: a line for each request, and a last line. Defined by this project. The
+-- entry points are `ping_news`, `news_text` and `ping_end_text`.
 use Rattle.std.specs.Prelude.{ℕ, ◌+◌, ◌/◌, ◌==◌, ◌&&◌, List, [], ◌∷◌, ◌++◌, Option, Some, None, codes, if◌then◌else◌, is_none, length, max, min, nat_lt, not}
 use Rattle.std.specs.Fmt.{decimal}
 use Rattle.ipx_wire.specs.declared.address.Address.{Address}
@@ -10,14 +9,14 @@ use Rattle.ipx_query_cmd.specs.declared.ping_event.PingAnswer.{PingAnswer}
 use Rattle.ipx_query_cmd.specs.declared.ping_event.PingEvent.{PingEvent}
 use Rattle.ipx_query_cmd.specs.declared.ping_event.PingEvent.TheVariants.{Answered, Unanswered}
 
--- ---- what there is to tell
+-- ---- events
 
--- that the latest request has no answer, where one was sent
+-- the latest request has no answer, if one was sent
 abbrev pub unanswered : PingCore → Option PingEvent
 unanswered p = if nat_lt 0 p.sent && is_none p.hops then Some (Unanswered p.sent) else None
 
--- what came of a turn: the latest request before it was answered, after so many tenths of a
--- millisecond; or the next one was sent, and that one had no answer
+-- the event of a turn. It is an answer to the latest request, after this many tenths of a millisecond. Or the
+-- next request was sent, and the latest one before it had no answer
 abbrev pub ping_news : PingCore → PingCore → ℕ → Option PingEvent
 ping_news old new tenths =
     if not (new.answered == old.answered) then Some (Answered (record {
@@ -35,7 +34,7 @@ news_times (Some (Answered answer)) = answer.tenths ∷ []
 
 -- ---- lines
 
--- what a line begins with: the listener's address
+-- the listener's address, which begins each line
 abbrev pub pinged_text : Address → List ℕ
 pinged_text to =
     network_digits to.network ++ (codes " " ++ (node_digits to.node ++ (codes " "
@@ -56,9 +55,9 @@ news_text to None = []
 news_text to (Some (Answered answer)) = ping_line to answer
 news_text to (Some (Unanswered number)) = no_answer_line to number
 
--- ---- behind all
+-- ---- the last lines
 
--- of times the least, the greatest, and all of them together
+-- the least, the greatest, and the sum of times
 abbrev pub least_time : List ℕ → ℕ
 least_time [] = 0
 least_time (t ∷ []) = t
@@ -84,6 +83,6 @@ totals_line sent answered times =
     decimal sent ++ (codes " sent, " ++ (decimal answered ++ (codes " answered"
     ++ (times_text times ++ codes "\n"))))
 
--- that the last request has no answer, if it has none; and how many were sent and answered
+-- the last request has no answer, if so; and how many were sent and answered
 abbrev pub ping_end_text : Address → PingCore → List ℕ → List ℕ
 ping_end_text to p times = news_text to (unanswered p) ++ totals_line p.sent p.answered times

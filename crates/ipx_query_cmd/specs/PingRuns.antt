@@ -1,6 +1,5 @@
--- How the host of an operator pings: turn by turn, until it is over, with a line as one is due. All of
--- it is own.
--- The entry points are `HasPinged` and `pinged_lines`.
+-- How the host of an operator pings: turn by turn, until it is over, with a line for each event. Defined by
+-- this project. The entry points are `HasPinged` and `pinged_lines`.
 use Rattle.std.specs.Prelude.{◌≡◌, ◌≤◌, ℕ, List, [], ◌∷◌, ◌++◌, Option, flat_map, true}
 use Rattle.ipx_wire.specs.declared.address.Address.{Address}
 use Rattle.ipx_carrier.specs.Mapping.{node_at}
@@ -14,16 +13,16 @@ use Rattle.ipx_query_cmd.specs.PingLines.{news_text, news_times, ping_end_text, 
 use Rattle.ipx_query_cmd.specs.QueryTargets.{querier_address}
 use Rattle.ipx_query_cmd.specs.declared.ping_event.PingEvent.{PingEvent}
 
--- of its one port it hears what comes, and gives requests
+-- it hears what comes at its one port
 abbrev pub hears_reply : PingCore → ℕ → List ℕ → ℕ → PingCore → Type 0
 hears_reply old port bytes now new = PingHears old bytes new
 
--- a turn, and what was told behind it
+-- a turn, and its event
 pub record PingTurn : Type 0 where
   pub turn : Turn
   pub news : Option PingEvent
 
--- it was taken between two moments, and what came of it was told, with any time of an answer
+-- it was taken between two times, and this was its event, with some time if it was an answer
 pub record IsPingTurn (t : PingTurn) (from to : ℕ) (old new : PingCore) : Type 0 where
   pub turns : IsTurn hears_reply PingGives 1 t.turn old new
   pub after : from ≤ t.turn.moment
@@ -31,13 +30,13 @@ pub record IsPingTurn (t : PingTurn) (from to : ℕ) (old new : PingCore) : Type
   pub tenths : ℕ
   pub news : t.news ≡ ping_news old new tenths
 
--- from a moment to a moment of its clock it pinged turn by turn, in these turns
+-- from one time of its clock to another it took these turns
 abbrev pub PingsOn : List PingTurn → ℕ → ℕ → PingCore → PingCore → Type 0
 PingsOn [] from to old new = (new ≡ old) × (from ≤ to)
 PingsOn (t ∷ ts) from to old new = (mid : PingCore) × (between : ℕ)
     × IsPingTurn t from between old mid × PingsOn ts between to mid new
 
--- what was told behind turns, and the times of the answers
+-- the lines of turns, and the times of the answers
 abbrev pub lines_told : Address → List PingTurn → List ℕ
 lines_told to turns = flat_map (λ t. news_text to t.news) turns
 
@@ -48,8 +47,8 @@ times_told turns = flat_map (λ t. news_times t.news) turns
 abbrev pub ping_id : ℕ
 ping_id = 65534
 
--- the host of a file pinged a listener by so many requests, from nothing at the moment 0 of its clock,
--- turn by turn, until at this moment, behind all turns, it was over
+-- the host of a file pinged a listener with this many requests. It began with a new core at time 0 of its
+-- clock, took these turns, and was over at this time, which is not before any turn
 pub record HasPinged (file : HostConfig) (to : Address) (count : ℕ) (turns : List PingTurn)
     (ping : PingCore) (now : ℕ) : Type 0 where
   pub pings : PingsOn turns 0 now (new_ping (querier_address file) (node_at file.router) to ping_id count) ping

@@ -1,4 +1,5 @@
--- Whom the host of an operator pings, and who may speak to it, by its file. All of it is own.
+-- The targets of the host of an operator that pings, and the senders that it accepts, by its file. Defined by
+-- this project.
 use Rattle.std.specs.Prelude.{ℕ, List, [], ◌∷◌, Option, Some, None, if◌then◌else◌}
 use Rattle.ipx_wire.specs.declared.address.Address.{Address}
 use Rattle.ipx_carrier.specs.Device.{Access}
@@ -7,23 +8,23 @@ use Rattle.ipx_site.specs.declared.host.HostConfig.{HostConfig}
 use Rattle.ipx_query_cmd.specs.QueryTargets.{asked_ips}
 use Rattle.ipx_host.specs.Access.{is_on_own_network}
 
--- the one IP address, where a node has one
+-- the IP address of a node, if it has one
 abbrev pub ips_of_node : Option (List ℕ) → List (List ℕ)
 ips_of_node None = []
 ips_of_node (Some ip) = ip ∷ []
 
--- where requests go first: on the host's own network to the listener's node, else to the router of the
--- file
+-- where requests are sent first: to the listener's node on the host's own network, and otherwise to the
+-- router of the file
 abbrev pub ping_way : HostConfig → Address → List (List ℕ)
 ping_way file to =
     if is_on_own_network file to then ips_of_node (ip_at to.node) else file.router ∷ []
 
--- who may bring an answer: that node, or any router that the file names
+-- which senders may bring an answer: that node, or any router that the file names
 abbrev pub ping_carriers : HostConfig → Address → List (List ℕ)
 ping_carriers file to =
     if is_on_own_network file to then ips_of_node (ip_at to.node) else asked_ips file
 
--- it sends to the one, and hears the others; the routers of the file alone pass packets on to it
+-- it sends to the former, and accepts the latter; only the routers of the file forward packets to it
 abbrev pub guarded_pinger : HostConfig → Address → Access
 guarded_pinger file to = record {
   network = file.network;

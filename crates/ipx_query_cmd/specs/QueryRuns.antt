@@ -1,5 +1,5 @@
--- How the host of an operator asks: turn by turn, until it is over. All of it is own.
--- The entry point is `HasAsked`.
+-- How the host of an operator asks: turn by turn, until it is over. Defined by this project. The entry point
+-- is `HasAsked`.
 use Rattle.std.specs.Prelude.{◌≡◌, ◌≤◌, ℕ, List, [], ◌∷◌, true}
 use Rattle.ipx_carrier.specs.Turns.{Turn, Turns, moments_of}
 use Rattle.ipx_query.specs.QueryAnswers.{AskHears}
@@ -10,22 +10,22 @@ use Rattle.ipx_query.specs.declared.question.TableQuery.{TableQuery}
 use Rattle.ipx_site.specs.declared.host.HostConfig.{HostConfig}
 use Rattle.ipx_query_cmd.specs.QueryTargets.{asked_nodes, querier_address}
 
--- of its one port it hears what comes, and gives queries
+-- it hears what comes at its one port
 abbrev pub hears_answer : AskView → ℕ → List ℕ → ℕ → AskView → Type 0
 hears_answer old port bytes now new = AskHears old bytes now new
 
--- from a moment to a moment these passed, and time never went back
+-- these times lie between two others, and time never goes back
 abbrev pub PassBetween : ℕ → List ℕ → ℕ → Type 0
 PassBetween from [] to = from ≤ to
 PassBetween from (moment ∷ moments) to = (from ≤ moment) × PassBetween moment moments to
 
--- from a moment to a moment of its clock it was asked turn by turn, in these turns
+-- from one time of its clock to another it took these turns
 abbrev pub AsksOn : List Turn → ℕ → ℕ → AskView → AskView → Type 0
 AsksOn turns from to old new =
     Turns hears_answer AskGives 1 turns old new × PassBetween from (moments_of turns) to
 
--- the host of a file asked its routers a question, from nothing at the moment 0 of its clock, turn by
--- turn, until at this moment, behind all turns, it was over
+-- the host of a file sent a query to its routers. It began with a new core at time 0 of its clock, took
+-- turns, and was over at this time, which is not before any turn
 pub record HasAsked (file : HostConfig) (question : TableQuery) (ask : AskView) (now : ℕ) : Type 0 where
   pub fresh : AskView
   pub turns : List Turn

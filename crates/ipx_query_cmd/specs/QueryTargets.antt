@@ -1,4 +1,5 @@
--- Whom the host of an operator asks, and who may speak to it, by its file. All of it is own.
+-- The routers that the host of an operator asks, and the senders that it accepts, by its file. Defined by
+-- this project.
 use Rattle.std.specs.Prelude.{ℕ, List, [], ◌∷◌, ◌++◌, Some, map, if◌then◌else◌}
 use Rattle.ipx_wire.specs.declared.address.Address.{Address}
 use Rattle.ipx_wire.specs.declared.address.Node.{Node}
@@ -7,7 +8,7 @@ use Rattle.ipx_carrier.specs.Mapping.{node_at}
 use Rattle.ipx_site.specs.SourceFilter.{is_peer}
 use Rattle.ipx_site.specs.declared.host.HostConfig.{HostConfig}
 
--- of IP addresses behind earlier ones each that is none of those before it
+-- IP addresses without those that repeat an earlier one
 abbrev pub new_ips : List (List ℕ) → List (List ℕ) → List (List ℕ)
 new_ips earlier [] = []
 new_ips earlier (ip ∷ ips) =
@@ -28,7 +29,7 @@ querier_address file = record {
   socket = file.socket;
 }
 
--- it sends to those alone, and hears those alone, as routers
+-- it sends only to these, accepts only these, and takes them as routers
 abbrev pub guarded_querier : HostConfig → Access
 guarded_querier file = record {
   network = file.network;

@@ -9,15 +9,15 @@ use ipx_wire::Node;
 use std::alloc::{AllocError, Global};
 use std::rt::Clock;
 
-/// A router that answered, and after how many tenths of a millisecond.
+/// A router that answered, and the time until then in tenths of a millisecond.
 #[derive(Clone, Copy, Debug, PartialEq, Eq)]
 pub struct AnswerTime {
     pub node: Node,
     pub tenths: u64,
 }
 
-/// When routers answered first, by the system's clock, in the order in which they are asked. Nothing
-/// is proved of the times.
+/// When routers first answered, by the system's clock, in the order in which they are asked.
+/// Nothing is proved about the times.
 #[derive(Drop)]
 pub struct AnswerTimes<'a, R: Clock> {
     watch: StopWatch<'a, R>,
@@ -25,7 +25,7 @@ pub struct AnswerTimes<'a, R: Clock> {
 }
 
 impl<'a, R: Clock> AnswerTimes<'a, R> {
-    /// The times of so many routers, from now.
+    /// The times of `count` routers, measured from now.
     pub fn new(
         system: &'a R,
         alloc: Global,
@@ -41,7 +41,7 @@ impl<'a, R: Clock> AnswerTimes<'a, R> {
         })
     }
 
-    /// Notes who answered by now.
+    /// Records the routers that have answered by now.
     pub fn note(&mut self, routers: &[QueriedRouter]) {
         let now = self.watch.tenths();
         for (time, router) in self.tenths.iter_mut().zip(routers.iter()) {
@@ -51,7 +51,7 @@ impl<'a, R: Clock> AnswerTimes<'a, R> {
         }
     }
 
-    /// After how many tenths the router at a place answered.
+    /// The time until the router at an index answered, in tenths of a millisecond.
     fn at(&self, place: usize) -> u64 {
         match self.tenths.get(place) {
             Some(Some(tenths)) => *tenths,
@@ -59,7 +59,7 @@ impl<'a, R: Clock> AnswerTimes<'a, R> {
         }
     }
 
-    /// Those of the routers that answered, in their order.
+    /// The routers that answered, in their order.
     pub fn answers(
         &self,
         alloc: Global,

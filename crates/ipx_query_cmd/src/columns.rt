@@ -8,14 +8,14 @@ ghost use Rattle.ipx_query_cmd.specs.OperatorLines.{at_left, at_right, network_d
 use ipx_wire::{Network, Node, Socket};
 use std::alloc::{AllocError, Global};
 
-/// The blanks that are wanted beside a text in a column so wide.
+/// The spaces that fill a column of this width beside a text.
 fn blanks_beside(alloc: Global, width: usize, text: &str) -> Result<String, AllocError>
     ensures { IfOk result (λ t. string_bytes t ≡ repeat (width - length text.now) (codes " ")) }
 {
     " ".repeat(alloc, width.saturating_sub(text.len()))
 }
 
-/// A text at the right of a column so wide.
+/// A text, aligned right in a column of this width.
 pub fn at_right(alloc: Global, width: usize, text: &str) -> Result<String, AllocError>
     ensures { IfOk result (λ t. string_bytes t ≡ at_right width text.now) }
 {
@@ -23,7 +23,7 @@ pub fn at_right(alloc: Global, width: usize, text: &str) -> Result<String, Alloc
     format!(in alloc; "{blanks}{text}")
 }
 
-/// A number at the right of a column so wide.
+/// A number, aligned right in a column of this width.
 pub fn number_at_right(alloc: Global, width: usize, number: u16) -> Result<String, AllocError>
     ensures { IfOk result (λ t. string_bytes t ≡ at_right width (decimal number)) }
 {
@@ -31,7 +31,7 @@ pub fn number_at_right(alloc: Global, width: usize, number: u16) -> Result<Strin
     at_right(alloc, width, &text)
 }
 
-/// A text at the left of a column so wide.
+/// A text, aligned left in a column of this width.
 pub fn at_left(alloc: Global, width: usize, text: &str) -> Result<String, AllocError>
     ensures { IfOk result (λ t. string_bytes t ≡ at_left width text.now) }
 {

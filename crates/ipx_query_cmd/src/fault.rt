@@ -1,4 +1,4 @@
-//! Why an asking does not come to its end, or a file of tables is not printed.
+//! Why a query fails, or a table file is not printed.
 
 ghost use Rattle.std.specs.Prelude.{◌≡◌, ◌⊎◌};
 
@@ -6,13 +6,13 @@ use ipx_site::{BindErrorKind, BindFault, ClockFault, WaitFault};
 use ipx_wire::OutOfMemory;
 use std::alloc::{AllocError, AllocFailed};
 
-/// Why an asking does not come to its end.
+/// Why a query fails.
 #[derive(Clone, Copy, Debug, PartialEq, Eq)]
 pub enum AskFault {
     OutOfMemory,
-    /// Its socket can't be had.
+    /// Its socket could not be bound.
     Bind(BindErrorKind),
-    /// The system has no way to wait.
+    /// The system cannot wait for the socket.
     Wait,
     /// The system does not tell the time.
     Clock,
@@ -62,7 +62,7 @@ impl From<WaitFault> for AskFault {
     }
 }
 
-/// Prints why the asking of a file's host does not come to its end, and answers the status 1.
+/// Prints why the query of a file's host failed, and returns the exit status 1.
 pub fn tell_fault<R: Eprint>(rt: &R, path: &str, fault: AskFault) -> u8
     ensures { result ≡ 1 }
 {
@@ -76,11 +76,11 @@ pub fn tell_fault<R: Eprint>(rt: &R, path: &str, fault: AskFault) -> u8
     1
 }
 
-/// Why there are no lines of a file of tables.
+/// Why the lines of a table file could not be made.
 #[derive(Clone, Copy, Debug, PartialEq, Eq)]
 pub enum KnownFault {
     OutOfMemory,
-    /// A word of it is no text.
+    /// A word of it is not UTF-8 text.
     NoText,
 }
 
@@ -90,8 +90,8 @@ impl From<AllocError> for KnownFault {
     }
 }
 
-/// Prints why there are no lines of the file of tables at a place, and answers the status: 1 for want
-/// of memory, and else 2.
+/// Prints why the lines of the table file at a path could not be made, and returns the exit status:
+/// 1 if out of memory, otherwise 2.
 pub fn tell_known_fault<R: Eprint>(rt: &R, place: &str, fault: KnownFault) -> u8
     ensures { (result ≡ 1) ⊎ (result ≡ 2) }
 {

@@ -1,4 +1,4 @@
-//! What a router wrote down, printed by its file.
+//! Prints the table file of the router that a file describes.
 
 ghost use Rattle.std.specs.Prelude.{◌≡◌, ◌≤◌, ℕ, List, IsOkAnd, string_bytes};
 ghost use Rattle.std.specs.Io.KnownBytes.{Appends};
@@ -13,7 +13,7 @@ use std::alloc::Global;
 use std::io::Write;
 use std::rt::{Clock, Files};
 
-/// Tells that a router's file names no file of tables, and answers the status.
+/// Reports that a router's file names no table file, and returns the exit status.
 fn tell_no_tables<R: Eprint>(rt: &R, path: &str, command: &str) -> u8
     ensures { result ≡ 2 }
 {
@@ -23,8 +23,8 @@ fn tell_no_tables<R: Eprint>(rt: &R, path: &str, command: &str) -> u8
     2
 }
 
-/// Writes the lines of the file of tables at a place, or tells why there are none, and answers the
-/// status.
+/// Writes the lines of the table file at a path, or reports why there are none, and returns the
+/// exit status.
 fn write_known<R: Eprint, W: Write>(
     rt: &R,
     place: &str,
@@ -42,7 +42,7 @@ fn write_known<R: Eprint, W: Write>(
     }
 }
 
-/// Prints the networks that the router of a file wrote down, and tells where that is old.
+/// Prints the networks in the table file of a router, and reports if that file is old.
 pub fn networks_by_router<R: Files + Clock + Eprint, W: Write>(
     rt: &R,
     alloc: Global,
@@ -69,7 +69,7 @@ pub fn networks_by_router<R: Files + Clock + Eprint, W: Write>(
     }
 }
 
-/// Prints its services of a type.
+/// Prints the services of a type in the table file of a router, and reports if that file is old.
 pub fn services_by_router<R: Files + Clock + Eprint, W: Write>(
     rt: &R,
     alloc: Global,

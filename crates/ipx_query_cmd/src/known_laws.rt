@@ -1,4 +1,4 @@
-//! A law of what is printed of the text that a router wrote. It does nothing.
+//! A law on what is printed of a table file. It does nothing.
 
 ghost use Rattle.std.specs.Prelude.{◌≡◌, ℕ, List, Bool};
 ghost use Rattle.ipx_wire.specs.declared.address.Network.{Network};
@@ -16,8 +16,8 @@ ghost use Rattle.ipx_query_cmd.specs.OperatorLines.{ToldNetwork};
 
 use ipx_table_dump::{bests_are_read_back, own_networks_are_read_back};
 
-/// Of the text of what a router knows the networks of its ports are printed, and the best of each
-/// other one as a host prints what it was told, and nothing else.
+/// From the table file of a router, the networks of its ports are printed, and the best route of
+/// each other network. The form is that of a host's answers. Nothing else is printed.
 pub fn known_networks_are_the_bests()
     ensures { (json : Bool) (place : List ℕ) (ports : List Port) (routes : Table Network RouteMetric)
         (services : Table ServiceKey ServiceMetric) (now : ℕ) (text : List ℕ)

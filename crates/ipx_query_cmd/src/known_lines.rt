@@ -1,4 +1,4 @@
-//! The lines of networks and services that a router wrote down.
+//! The lines of networks in a table file.
 
 ghost use Rattle.std.specs.Prelude.{◌≡◌, ◌⊎◌, IfOk, map, string_bytes};
 ghost use Rattle.std.specs.List.{flat_map};
@@ -15,7 +15,7 @@ use ipx_table_dump::{NetworkWords, OwnWords, networks_of_text, own_networks_of_t
 use std::alloc::{AllocError, Global};
 use std::str;
 
-/// A word of a text of tables.
+/// A word of a table file.
 pub fn word_in(word: &[u8]) -> Result<&str, KnownFault>
     ensures { IfOk result (λ s. s.now ≡ word.now) }
 {
@@ -25,7 +25,7 @@ pub fn word_in(word: &[u8]) -> Result<&str, KnownFault>
     }
 }
 
-/// How much there is, and in which file.
+/// The last line: how many there are, and in which file.
 pub fn written_to_line(alloc: Global, count: &str, place: &str) -> Result<String, AllocError>
     ensures { IfOk result (λ t. string_bytes t ≡ written_in count.now place.now) }
 {
@@ -140,8 +140,8 @@ fn knowns_to_table(
     Ok(table)
 }
 
-/// All that is printed of the networks that a text of the file at a place tells: a table, or a line
-/// of JSON for each.
+/// All that is printed of the networks in the text of a table file: a table, or a line of JSON for
+/// each.
 pub fn known_networks_to_text(
     alloc: Global,
     json: bool,

@@ -1,4 +1,4 @@
-//! The lines of services that a router wrote down.
+//! The lines of services in a table file.
 
 ghost use Rattle.std.specs.Prelude.{◌≡◌, ◌==◌, ◌||◌, IfOk, filter, map, string_bytes};
 ghost use Rattle.std.specs.List.{flat_map};
@@ -19,14 +19,14 @@ use std::alloc::{AllocError, Global};
 /// The type that stands for all.
 const ALL_TYPES: u16 = 0xffff;
 
-/// Whether a service is of a type, whose digits these are.
+/// Whether a service is of this type, whose digits are given.
 fn is_of_type(kind: u16, digits: &[u8], service: &ServiceWords<'_>) -> bool
     ensures { result ≡ ((kind == 0xffff) || bytes_eq (service_spelled service.now).kind digits.now) }
 {
     kind == ALL_TYPES || service.kind == digits
 }
 
-/// The services of a type, or all.
+/// The services of a type, or all of them.
 fn services_of_type<'a>(
     alloc: Global,
     kind: u16,
@@ -45,7 +45,7 @@ fn services_of_type<'a>(
     Ok(found)
 }
 
-/// How wide the column of names is.
+/// The width of the name column.
 fn name_width(services: &[ServiceWords<'_>]) -> usize
     ensures { result ≡ known_name_width (map service_spelled services.now) }
 {
@@ -56,7 +56,7 @@ fn name_width(services: &[ServiceWords<'_>]) -> usize
     width
 }
 
-/// Where a service is, in the columns of a table.
+/// The address of a service, in the columns of a table.
 fn place_to_columns(alloc: Global, service: &ServiceWords<'_>) -> Result<String, KnownFault>
     ensures { IfOk result (λ t. string_bytes t ≡ known_place_columns (service_spelled service.now)) }
 {
@@ -84,7 +84,7 @@ fn known_to_row(
     Ok(row)
 }
 
-/// A byte of a name within quotes of JSON.
+/// A byte of a name within JSON quotes.
 fn name_byte_to_json(alloc: Global, byte: u8) -> Result<String, AllocError>
     ensures { IfOk result (λ t. string_bytes t ≡ known_json_byte byte) }
 {
@@ -176,8 +176,8 @@ fn knowns_to_table(
     Ok(table)
 }
 
-/// All that is printed of the services of a type that a text of the file at a place tells: a table,
-/// or a line of JSON for each.
+/// All that is printed of the services of a type in the text of a table file: a table, or a line of
+/// JSON for each.
 pub fn known_services_to_text(
     alloc: Global,
     json: bool,

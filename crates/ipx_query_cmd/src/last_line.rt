@@ -1,4 +1,4 @@
-//! The line behind a table: how much it has, and who answered.
+//! The line after a table: how much it has, and which routers answered.
 
 ghost use Rattle.std.specs.Prelude.{◌≡◌, IfOk, string_bytes};
 ghost use Rattle.std.specs.List.{flat_map};
@@ -8,7 +8,7 @@ use crate::answer_times::AnswerTime;
 use crate::columns::node_to_digits;
 use std::alloc::{AllocError, Global};
 
-/// A time of so many tenths of a millisecond.
+/// A time in tenths of a millisecond.
 pub fn tenths_to_text(alloc: Global, tenths: u128) -> Result<String, AllocError>
     ensures { IfOk result (λ t. string_bytes t ≡ tenths_text tenths) }
 {
@@ -36,7 +36,7 @@ fn answers_to_text(alloc: Global, answers: &[AnswerTime]) -> Result<String, Allo
     Ok(text)
 }
 
-/// A count of what is called `one` where it is one, and else has `many` behind it.
+/// A count: the text `one` for 1, and otherwise the number followed by `many`.
 pub fn count_to_text(
     alloc: Global,
     count: usize,
@@ -51,7 +51,7 @@ pub fn count_to_text(
     format!(in alloc; "{count}{many}")
 }
 
-/// A count, and who answered.
+/// A count, followed by the routers that answered.
 pub fn answers_to_line(
     alloc: Global,
     count: &str,

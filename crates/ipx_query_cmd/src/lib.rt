@@ -1,9 +1,9 @@
-//! What an operator types: a host asks the routers of its file which networks or services they know,
-//! or a listener whether it is there.
+//! The commands of an operator. A host asks the routers of its file which networks or services they
+//! know, or pings a listener.
 //!
-//! [`do_networks`] is the command `ipx networks`, and [`do_services`] `ipx services`; they print a
-//! table, or lines of JSON. [`do_ping`] is `ipx ping`. Each runs by the file of a host; the first two
-//! by that of a router too, and print what it wrote down, and ask nobody.
+//! [`do_networks`] is the command `ipx networks`, and [`do_services`] is `ipx services`. They print
+//! a table, or lines of JSON. [`do_ping`] is `ipx ping`. Each takes the file of a host. The first
+//! two also take that of a router: they then print the router's table file, and ask nobody.
 #![tactic(auto)]
 
 mod age;

@@ -7,7 +7,7 @@ ghost use Rattle.ipx_query_cmd.specs.OperatorLines.{json_byte, json_name};
 
 use std::alloc::{AllocError, Global};
 
-/// A byte of a name: itself where it is a sign of ASCII but for the blank and the backslash, else a
+/// A byte of a name. Printable ASCII except space and backslash is kept. Any other byte becomes a
 /// backslash, an x and its two hex digits.
 fn name_byte_to_text(alloc: Global, byte: u8) -> Result<String, AllocError>
     ensures { IfOk result (λ t. string_bytes t ≡ name_byte byte) }
@@ -31,7 +31,7 @@ fn name_bytes_to_text(alloc: Global, bytes: &[u8]) -> Result<String, AllocError>
     Ok(text)
 }
 
-/// The place of the first zero byte.
+/// The index of the first zero byte.
 fn zero_place(bytes: &[u8]) -> Option<usize>
     ensures place { result ≡ position (λ b. b == 0) bytes.now }
     ensures within { IfSome result (λ i. i < length bytes.now) }
@@ -39,7 +39,7 @@ fn zero_place(bytes: &[u8]) -> Option<usize>
     bytes.iter().position(|byte| *byte == 0)
 }
 
-/// What stands before the first zero byte.
+/// The bytes before the first zero byte.
 fn before_zero(bytes: &[u8]) -> &[u8]
     ensures { result.now ≡ before_first (λ b. b == 0) bytes.now }
 {
@@ -60,7 +60,7 @@ pub fn name_to_text(alloc: Global, name: &[u8]) -> Result<String, AllocError>
     name_bytes_to_text(alloc, bytes)
 }
 
-/// A byte of a name within quotes of JSON, where a quote or a backslash has a backslash before it.
+/// A byte of a name within JSON quotes, with a backslash before each quote and backslash.
 pub fn json_byte_to_text(alloc: Global, byte: u8) -> Result<String, AllocError>
     ensures { IfOk result (λ t. string_bytes t ≡ json_byte byte) }
 {
@@ -86,7 +86,7 @@ fn json_bytes_to_text(alloc: Global, bytes: &[u8]) -> Result<String, AllocError>
     Ok(text)
 }
 
-/// The name of a service within quotes of JSON.
+/// The name of a service within JSON quotes.
 pub fn name_to_json(alloc: Global, name: &[u8]) -> Result<String, AllocError>
     ensures { IfOk result (λ t. string_bytes t ≡ json_name name.now) }
 {

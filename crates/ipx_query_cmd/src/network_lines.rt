@@ -11,7 +11,7 @@ use ipx_tables::{RouteMetric, Source};
 use ipx_wire::Network;
 use std::alloc::{AllocError, Global};
 
-/// A network, who tells of it, and how far it is.
+/// A network, the router that advertises it, and its distance.
 type ToldNetwork = (Network, Source, RouteMetric);
 
 fn network_to_row(alloc: Global, told: &ToldNetwork) -> Result<String, AllocError>

@@ -20,7 +20,7 @@ use std::io::Write;
 use std::net::Net;
 use std::rt::{Clock, Files};
 
-/// All that is printed of what a host was told.
+/// All that is printed of the answers to a host.
 fn asked_to_text<R: Net + Clock>(
     alloc: Global,
     json: bool,
@@ -35,7 +35,8 @@ fn asked_to_text<R: Net + Clock>(
     networks_to_text(alloc, json, &listed, &answers)
 }
 
-/// Prints what a host was told, tells who did not answer, and answers the status.
+/// Prints the answers to a host, reports the routers that did not answer, and returns the exit
+/// status.
 fn print_asked<R: Net + Clock + Eprint, W: Write>(
     rt: &R,
     alloc: Global,
@@ -56,7 +57,7 @@ fn print_asked<R: Net + Clock + Eprint, W: Write>(
     status_of(written, &asked.host.core)
 }
 
-/// Asks by the host of a file, and prints what it was told.
+/// Asks by the host of a file, and prints the answers.
 fn networks_by_host<R: Net + Clock + Eprint, W: Write>(
     rt: &R,
     alloc: Global,
@@ -78,14 +79,14 @@ fn networks_by_host<R: Net + Clock + Eprint, W: Write>(
 }
 
 /// The command `networks`: asks the router of a host's file, and the routers that it names, which
-/// networks they know, and writes each with the least of what they told: a table, or with `json` a
-/// line of JSON for each. The host's address and socket are taken meanwhile. It takes up to four
-/// seconds. By the file of a router it prints what this wrote into its file of tables, and asks
-/// nobody.
+/// networks they know. It writes each network with the best of the answers: a table, or with `json`
+/// a line of JSON for each. The host's address and socket are in use meanwhile. It takes up to four
+/// seconds. With the file of a router it prints the router's table file, and asks nobody.
 ///
-/// The answer is the status: 0 where each router that was asked answered, and all is written; 1
-/// where one did not, more was told than there is room for, the writer fails, the socket can't be
-/// had or memory is refused; 2 for a fault of a file. What is wrong is a line on standard error.
+/// Returns the exit status. It is 0 if each router that was asked answered, and all is written. It
+/// is 1 if one did not answer, the answers exceed the space for them, the writer fails, the socket
+/// cannot be bound, or memory runs out. It is 2 for a fault of a file. A line on standard error
+/// says what is wrong.
 pub fn do_networks<R: Net + Files + Clock + Eprint, W: Write>(
     rt: &R,
     alloc: Global,
@@ -94,13 +95,14 @@ pub fn do_networks<R: Net + Files + Clock + Eprint, W: Write>(
     writer: &mut W,
 ) -> u8
     ensures few { result ≤ 2 }
-    // Where it ends well, the host of some text of a file has asked, each router answered, and what
-    // is written is the listing of what they told; or it lists what the router of that text wrote.
+    // On status 0, some file text describes a host or a router. If a host, it has asked, each
+    // router answered, and the listing of the answers is written. If a router, the listing of its
+    // table file is written.
     ensures listed { result ≡ 0 → (text : List ℕ) × (lines : List ℕ) × IsFileText text
         × (ListsAsked Networks (ListsNetworks json) text lines
         ⊎ ListsWritten (ListsKnownNetworks json) text lines)
         × Appends (W.contents writer.old) (W.contents writer.new) lines }
-    // For a fault of a file nothing is written.
+    // On a fault of a file, nothing is written.
     ensures untouched { result ≡ 2 → writer.new ≡ writer.old }
 {
     match load_config(rt, alloc, path) {

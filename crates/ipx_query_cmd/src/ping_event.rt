@@ -1,4 +1,4 @@
-//! What there is to tell of a ping.
+//! What a ping reports.
 
 ghost use Rattle.std.specs.Prelude.{◌≡◌, ◌++◌, OnOk};
 ghost use Rattle.ipx_query_cmd.specs.PingLines.{news_times, ping_news, unanswered};
@@ -6,8 +6,8 @@ ghost use Rattle.ipx_query_cmd.specs.PingLines.{news_times, ping_news, unanswere
 use ipx_query::PingCore;
 use std::alloc::AllocFailed;
 
-/// An answer: of which request, after how many tenths of a millisecond, and how many routers it
-/// passed.
+/// An answer: the number of its request, the time in tenths of a millisecond, and how many routers
+/// it passed.
 #[derive(Clone, Copy, Debug, PartialEq, Eq)]
 pub struct PingAnswer {
     pub number: u32,
@@ -15,7 +15,7 @@ pub struct PingAnswer {
     pub routers: u8,
 }
 
-/// What came of a request.
+/// The result of a request.
 #[derive(Clone, Copy, Debug, PartialEq, Eq)]
 pub enum PingEvent {
     Answered(PingAnswer),
@@ -23,7 +23,7 @@ pub enum PingEvent {
     Unanswered(u32),
 }
 
-/// That the latest request has no answer, where one was sent.
+/// That the latest request has no answer, if one was sent.
 pub fn unanswered(core: &PingCore) -> Option<PingEvent>
     ensures { result ≡ unanswered core.now }
 {
@@ -34,8 +34,8 @@ pub fn unanswered(core: &PingCore) -> Option<PingEvent>
     }
 }
 
-/// What came of a turn, by the core before and after it, and the time since the request before was
-/// sent.
+/// The event of a turn, given the core before and after it, and the time since the previous request
+/// was sent.
 pub fn news_of(before: &PingCore, after: &PingCore, tenths: u64) -> Option<PingEvent>
     ensures { result ≡ ping_news before.now after.now tenths }
 {
@@ -53,7 +53,7 @@ pub fn news_of(before: &PingCore, after: &PingCore, tenths: u64) -> Option<PingE
     }
 }
 
-/// Keeps the time of an answer.
+/// Records the time of an answer.
 pub fn keep_time(times: &mut Vec<u64>, news: Option<PingEvent>) -> Result<(), AllocFailed<u64>>
     ensures { OnOk result (times.new.items ≡ times.old.items ++ news_times news) }
 {

@@ -9,7 +9,7 @@ use crate::ping_event::{PingAnswer, PingEvent};
 use ipx_wire::Address;
 use std::alloc::{AllocError, Global};
 
-/// The listener's address, with which a line begins.
+/// The listener's address, which begins each line.
 fn pinged_to_text(alloc: Global, to: Address) -> Result<String, AllocError>
     ensures { IfOk result (λ t. string_bytes t ≡ pinged_text to) }
 {
@@ -37,7 +37,7 @@ fn no_answer_to_line(alloc: Global, to: Address, number: u32) -> Result<String, 
     format!(in alloc; "{pinged}: no answer {number}\n")
 }
 
-/// The line of what came of a request; nothing where nothing did.
+/// The line of a request's result; empty if there is none.
 pub fn news_to_text(
     alloc: Global,
     to: Address,
@@ -72,7 +72,7 @@ fn most_time(times: &[u64]) -> u64
     most
 }
 
-/// All of them together.
+/// The sum of the times.
 fn whole_time(times: &[u64]) -> u128
     ensures { result ≡ whole_time times.now }
 {
@@ -83,7 +83,7 @@ fn whole_time(times: &[u64]) -> u128
     whole
 }
 
-/// The least, the mean and the greatest of times; nothing where there are none.
+/// The least, the mean and the greatest time; empty if there are none.
 fn times_to_text(alloc: Global, times: &[u64]) -> Result<String, AllocError>
     ensures { IfOk result (λ t. string_bytes t ≡ times_text times.now) }
 {
@@ -97,7 +97,7 @@ fn times_to_text(alloc: Global, times: &[u64]) -> Result<String, AllocError>
     format!(in alloc; ", least {least}, mean {mean}, most {most}")
 }
 
-/// The line behind all: how many requests were sent and answered, and in which times.
+/// The last line: how many requests were sent and answered, and their times.
 pub fn totals_to_line(
     alloc: Global,
     sent: u32,

@@ -1,4 +1,4 @@
-//! Whom the host of a file pings, and who may speak to it.
+//! The targets of a host that pings, and the senders that it accepts.
 
 ghost use Rattle.std.specs.Prelude.{◌≡◌, IfOk};
 ghost use Rattle.ipx_carrier.specs.Mapping.{ip_at};
@@ -12,8 +12,9 @@ use ipx_site::{AccessList, HostConfig};
 use ipx_wire::{Address, Node};
 use std::alloc::{AllocError, Global};
 
-/// The id of each request of each run, so that a listener answers all of them from one connection: of a
-/// new id each, four runs would take all that it holds for a host of which it has heard nothing.
+/// The id of each request of each run, so that a listener answers all of them from one connection.
+/// With a new id for each run, four runs would take all connections that it holds for a host from
+/// which it has heard nothing.
 pub const PING_ID: u16 = 65_534;
 
 /// The IP address of a node, if it has one.
@@ -26,7 +27,7 @@ fn ips_of(alloc: Global, node: Node) -> Result<Vec<[u8; 4]>, AllocError>
     }
 }
 
-/// Where requests go first.
+/// The IP addresses to which requests are sent: at most one.
 fn way_of(alloc: Global, file: &HostConfig, to: Address) -> Result<Vec<[u8; 4]>, AllocError>
     ensures { IfOk result (λ v. v.items ≡ ping_way file.now to) }
 {
@@ -37,7 +38,7 @@ fn way_of(alloc: Global, file: &HostConfig, to: Address) -> Result<Vec<[u8; 4]>,
     }
 }
 
-/// Who may bring an answer.
+/// The IP addresses that may bring an answer.
 fn carriers_of(alloc: Global, file: &HostConfig, to: Address) -> Result<Vec<[u8; 4]>, AllocError>
     ensures { IfOk result (λ v. v.items ≡ ping_carriers file.now to) }
 {
@@ -48,8 +49,8 @@ fn carriers_of(alloc: Global, file: &HostConfig, to: Address) -> Result<Vec<[u8;
     }
 }
 
-/// The guard of a host that pings: it sends to the first on the way, and hears who may bring an
-/// answer.
+/// The access list of a host that pings. It sends to the first node on the way, and accepts those
+/// that may bring an answer.
 pub fn access_list_of(
     alloc: Global,
     file: &HostConfig,

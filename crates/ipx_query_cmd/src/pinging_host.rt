@@ -1,4 +1,4 @@
-//! The host of a file that pings a listener, over its socket.
+//! The host of a file that pings a listener over its socket.
 
 ghost use Rattle.std.specs.Prelude.{◌≡◌, ◌∷◌, ◌++◌, [], ℕ, IfOk, IfSome, List, OnOk, map, true};
 ghost use Rattle.std.specs.Io.KnownBytes.{Appends};
@@ -27,7 +27,7 @@ use std::io::Write;
 use std::net::Net;
 use std::rt::Clock;
 
-/// A host that pings, and the times of the answers, in tenths of a millisecond.
+/// A host that pings, with the times of the answers in tenths of a millisecond.
 pub struct PingingHost<'a, R: Clock> {
     pub core: PingCore,
     to: Address,
@@ -52,7 +52,7 @@ impl<'a, R: Clock> Drop for PingingHost<'a, R> {
     }
 }
 
-/// Writes a text whole, so that whoever reads has it.
+/// Writes a whole text and flushes it, so that readers get it at once.
 fn write_now<W: Write>(writer: &mut W, text: &str) -> Result<(), AskFault>
     ensures { OnOk result (Appends (W.contents writer.old) (W.contents writer.new) text.now) }
 {
@@ -65,7 +65,7 @@ fn write_now<W: Write>(writer: &mut W, text: &str) -> Result<(), AskFault>
     }
 }
 
-/// Writes the line of what came of a request, if anything did.
+/// Writes the line of a request's result, if there is one.
 fn write_news<W: Write>(
     alloc: Global,
     to: Address,
@@ -80,7 +80,7 @@ fn write_news<W: Write>(
 }
 
 impl<'a, R: Net + Clock> PingingHost<'a, R> {
-    /// A host that is bound as its file says, and pings an address by so many requests.
+    /// A host that is bound as its file says, and pings an address with `count` requests.
     pub fn open(
         rt: &'a R,
         alloc: Global,
@@ -95,7 +95,8 @@ impl<'a, R: Net + Clock> PingingHost<'a, R> {
         ensures udp_port { IfOk result (λ h.
             map (λ s. s.udp_port) h.own_socket.device.device.sockets.items ≡ file.now.udp_port ∷ []) }
         ensures clock { IfOk result (λ h. h.clock.last ≡ 0) }
-        // It sends to the first on the way alone, and hears those alone who may bring an answer.
+        // It sends only to the first node on the way, and accepts only those that may bring an
+        // answer.
         ensures access_list { IfOk result (λ h.
             map access_by h.own_socket.device.access_lists.items ≡ guarded_pinger file.now to ∷ []) }
     {
@@ -115,7 +116,8 @@ impl<'a, R: Net + Clock> PingingHost<'a, R> {
         })
     }
 
-    /// Takes one turn. It answers whether there may be more to do at once, and what came of it.
+    /// Takes one turn. It returns whether there may be more to do at once, and the event of the
+    /// turn.
     fn turn(&mut self, alloc: Global) -> Result<(bool, Option<PingEvent>), AskFault>
         ensures pings { IfOk result (λ r. (turn : PingTurn) × (r.1 ≡ turn.news)
             × IsPingTurn turn self.old.clock.last self.new.clock.last self.old.core self.new.core) }
@@ -133,8 +135,8 @@ impl<'a, R: Net + Clock> PingingHost<'a, R> {
         Ok((active, news))
     }
 
-    /// Takes one turn, writes the line that is due, and waits where there is nothing to do. It
-    /// answers the moment, in milliseconds, where it is over.
+    /// Takes one turn, writes the line that is due, and waits if there is nothing to do. Once the
+    /// ping is over, it returns the time in milliseconds.
     fn step<W: Write>(&mut self, alloc: Global, writer: &mut W) -> Result<Option<u64>, AskFault>
         ensures pings { OnOk result ((turn : PingTurn)
             × IsPingTurn turn self.old.clock.last self.new.clock.last self.old.core self.new.core
@@ -157,8 +159,8 @@ impl<'a, R: Net + Clock> PingingHost<'a, R> {
         Ok(None)
     }
 
-    /// Pings, turn by turn, until it is over, and writes each line as it comes. It answers that
-    /// moment, in milliseconds.
+    /// Pings, turn by turn, until it is over, and writes each line as it comes. It returns that
+    /// time in milliseconds.
     pub fn ping<W: Write>(&mut self, alloc: Global, writer: &mut W) -> Result<u64, AskFault>
         ensures pings { OnOk result ((turns : List PingTurn)
             × PingsOn turns self.old.clock.last self.new.clock.last self.old.core self.new.core
@@ -176,7 +178,7 @@ impl<'a, R: Net + Clock> PingingHost<'a, R> {
         Err(AskFault::Wait)
     }
 
-    /// Writes what is told behind all.
+    /// Writes the last lines.
     pub fn conclude<W: Write>(&self, alloc: Global, writer: &mut W) -> Result<(), AskFault>
         ensures { OnOk result (Appends (W.contents writer.old) (W.contents writer.new)
             (ping_end_text self.now.to self.now.core self.now.times.items)) }

@@ -1,4 +1,4 @@
-//! The command `ping`: whether a listener of SPX is there, and how far.
+//! The command `ping`: whether an SPX listener is there, and how far away.
 
 ghost use Rattle.std.specs.Prelude.{◌≡◌, ◌≤◌, ℕ, List, IfOk, false};
 ghost use Rattle.std.specs.Io.KnownBytes.{Appends};
@@ -22,7 +22,7 @@ use std::io::Write;
 use std::net::Net;
 use std::rt::{Clock, Files};
 
-/// Pings an address by the host of a file, and answers the status.
+/// Pings an address by the host of a file, and returns the exit status.
 fn ping_by<R: Net + Clock, W: Write>(
     rt: &R,
     alloc: Global,
@@ -43,7 +43,7 @@ fn ping_by<R: Net + Clock, W: Write>(
     Ok(host.core.status())
 }
 
-/// Pings an address by the host of the file at a path. What is wrong is told.
+/// Pings an address by the host of the file at a path. It reports what is wrong.
 fn ping_at<R: Net + Files + Clock + Eprint, W: Write>(
     rt: &R,
     alloc: Global,
@@ -76,13 +76,14 @@ fn ping_at<R: Net + Files + Clock + Eprint, W: Write>(
     }
 }
 
-/// The command `ping`: asks a listener by the host of a file for a connection, so many times, one a
-/// second, and writes a line for each that is answered, and for each that is not, as it comes, and
-/// a line behind all. The host's address and socket are taken meanwhile.
+/// The command `ping`: asks a listener for a connection, `count` times, once a second, by the host
+/// of a file. It writes a line for each request that is answered, and for each that is not, as it
+/// happens, and a line at the end. The host's address and socket are in use meanwhile.
 ///
-/// The answer is the status: 0 where one was answered, and all is written; 1 where none was, the
-/// writer fails, the socket can't be had or memory is refused; 2 for a fault of the words or the
-/// file, or where nothing goes to the address. What is wrong is a line on standard error.
+/// Returns the exit status. It is 0 if one request was answered, and all is written. It is 1 if
+/// none was, the writer fails, the socket cannot be bound, or memory runs out. It is 2 for a fault
+/// of the words or the file. It is also 2 if the address is on the host's own network and its node
+/// has no IP address. A line on standard error says what is wrong.
 pub fn do_ping<R: Net + Files + Clock + Eprint, W: Write>(
     rt: &R,
     alloc: Global,
@@ -91,13 +92,13 @@ pub fn do_ping<R: Net + Files + Clock + Eprint, W: Write>(
     count: u16,
     writer: &mut W,
 ) -> u8
-    // Words that name no address are told, and nothing is read or bound.
+    // Words that name no address are reported, and nothing is read or bound.
     ensures words { ((a : AnAddress) → NamesAddress target.entry a → ⊥)
         → (result ≡ 2) × (writer.new ≡ writer.old) }
     ensures few { result ≤ 2 }
-    // Where it ends well, the host of some text of a file has pinged the address that the words
-    // name, to which something goes, one request was answered, and what is written is what came of
-    // them, line by line.
+    // On status 0, some file text describes a host that pinged the address of the words, to which
+    // packets can be sent. One request was answered, and the result of each request is written,
+    // line by line.
     ensures pinged { result ≡ 0 → (text : List ℕ) × (file : AHostFile) × (to : AnAddress)
         × (turns : List PingTurn) × (ping : APingCore) × (now : ℕ)
         × IsFileText text × IsHostText text file × NamesAddress target.entry to
@@ -105,7 +106,7 @@ pub fn do_ping<R: Net + Files + Clock + Eprint, W: Write>(
         × HasPinged file (far_address file to) count turns ping now × (ping_status ping ≡ 0)
         × Appends (W.contents writer.old) (W.contents writer.new)
         (pinged_lines (far_address file to) turns ping) }
-    // For a fault of the words or of the file nothing is written.
+    // On a fault of the words or of the file, nothing is written.
     ensures untouched { result ≡ 2 → writer.new ≡ writer.old }
 {
     match target.address() {

@@ -1,4 +1,4 @@
-//! The host of a file that asks its routers, over its socket.
+//! The host of a file that asks its routers over its socket.
 
 ghost use Rattle.std.specs.Prelude.{◌≡◌, ◌∷◌, [], IfOk, IfSome, List, OnOk, map, true};
 ghost use Rattle.ipx_carrier.specs.Turns.{Turn};
@@ -20,7 +20,7 @@ use std::alloc::{AllocError, Global};
 use std::net::Net;
 use std::rt::Clock;
 
-/// For how many milliseconds it waits at most before it looks again whether it is over.
+/// The longest wait in milliseconds before it checks again whether it is over.
 pub const POLL_INTERVAL: u64 = 20;
 
 /// A host that asks.
@@ -44,7 +44,7 @@ impl<'a, R: Clock> Drop for QueryHost<'a, R> {
     }
 }
 
-/// The core of the host of a file that asks at these IP addresses.
+/// The core of the host of a file that asks these IP addresses.
 fn core_of(
     alloc: Global,
     file: &HostConfig,
@@ -71,7 +71,7 @@ impl<'a, R: Net + Clock> QueryHost<'a, R> {
         ensures udp_port { IfOk result (λ h.
             map (λ s. s.udp_port) h.own_socket.device.device.sockets.items ≡ file.now.udp_port ∷ []) }
         ensures clock { IfOk result (λ h. h.clock.last ≡ 0) }
-        // Those alone are sent to and heard that it asks.
+        // It sends only to those that it asks, and accepts only those.
         ensures access_list { IfOk result (λ h.
             map access_by h.own_socket.device.access_lists.items ≡ guarded_querier file.now ∷ []) }
     {
@@ -80,7 +80,7 @@ impl<'a, R: Net + Clock> QueryHost<'a, R> {
         let access_list = access_list_of(alloc, file, &ips)?;
         let (own_socket, poller) = QuerySocket::open(rt, alloc, file, access_list)?;
         let times = AnswerTimes::new(rt, alloc, ips.len())?;
-        // (last, since it owns most of what goes where one of these fails)
+        // This is last, because it owns most of what is freed if one of these fails.
         let core = core_of(alloc, file, question, &ips)?;
         Ok(QueryHost {
             core,
@@ -91,7 +91,7 @@ impl<'a, R: Net + Clock> QueryHost<'a, R> {
         })
     }
 
-    /// Takes one turn. It answers whether there may be more to do at once.
+    /// Takes one turn. It returns whether there may be more to do at once.
     fn turn(&mut self, alloc: Global) -> Result<bool, AskFault>
         ensures asks { OnOk result ((turns : List Turn)
             × AsksOn turns self.old.clock.last self.new.clock.last self.old.core self.new.core) }
@@ -103,8 +103,8 @@ impl<'a, R: Net + Clock> QueryHost<'a, R> {
         Ok(active)
     }
 
-    /// Takes one turn, and waits where there is nothing to do. It answers the moment, in
-    /// milliseconds, where it is over.
+    /// Takes one turn, and waits if there is nothing to do. Once the query is over, it returns the
+    /// time in milliseconds.
     #[tactic(auto, using(crate::proofs::Rows::between_later, crate::proofs::Rows::turns_later))]
     fn step(&mut self, alloc: Global) -> Result<Option<u64>, AskFault>
         ensures asks { OnOk result ((turns : List Turn)
@@ -124,7 +124,7 @@ impl<'a, R: Net + Clock> QueryHost<'a, R> {
         Ok(None)
     }
 
-    /// Asks, turn by turn, until it is over. It answers that moment, in milliseconds.
+    /// Asks, turn by turn, until it is over. It returns that time in milliseconds.
     pub fn ask(&mut self, alloc: Global) -> Result<u64, AskFault>
         ensures asks { OnOk result ((turns : List Turn)
             × AsksOn turns self.old.clock.last self.new.clock.last self.old.core self.new.core) }
@@ -139,7 +139,7 @@ impl<'a, R: Net + Clock> QueryHost<'a, R> {
         Err(AskFault::Wait)
     }
 
-    /// Those of its routers that answered, and after which time.
+    /// The routers that answered, and the time until then.
     pub fn answers(&self, alloc: Global) -> Result<Vec<AnswerTime>, AllocError>
         ensures { IfOk result (λ v.
             map (λ a. a.node) v.items ≡ answering_nodes self.now.core.routers) }
@@ -147,8 +147,8 @@ impl<'a, R: Net + Clock> QueryHost<'a, R> {
         self.times.answers(alloc, self.core.routers())
     }
 
-    /// Tells on standard error which routers did not answer, or know nothing of what was asked for,
-    /// and whether there was no room for all that was told.
+    /// Reports on standard error which routers did not answer, or know nothing that was asked for.
+    /// It also reports if there was no space for all of the answers.
     pub fn tell<P: Eprint>(&self, rt: &P, knows_nothing: &str) {
         for router in self.core.routers() {
             if !router.answered {

@@ -1,4 +1,4 @@
-//! A question, asked by the host of a file until it is over.
+//! A query by the host of a file, until it is over.
 
 ghost use Rattle.std.specs.Prelude.{◌≡◌, IfErr, IfOk};
 ghost use Rattle.ipx_query_cmd.specs.QueryRuns.{HasAsked};
@@ -12,14 +12,14 @@ use std::alloc::Global;
 use std::net::Net;
 use std::rt::Clock;
 
-/// A host that asked, and the moment at which that was over, in milliseconds.
+/// A host that asked, and the time at which that was over, in milliseconds.
 #[derive(Drop)]
 pub struct Asked<'a, R: Clock> {
     pub host: QueryHost<'a, R>,
     pub over: u64,
 }
 
-/// Asks a question by the host of a file.
+/// Sends a query by the host of a file.
 fn ask_by<'a, R: Net + Clock>(
     rt: &'a R,
     alloc: Global,
@@ -33,8 +33,8 @@ fn ask_by<'a, R: Net + Clock>(
     Ok(Asked { host, over })
 }
 
-/// Asks a question by the host of the file at a path, which was read. What is wrong is told, and the
-/// status answered.
+/// Sends a query by the host of the file at a path, which was read. On a fault it reports what is
+/// wrong and returns the exit status.
 pub fn ask<'a, R: Net + Clock + Eprint>(
     rt: &'a R,
     alloc: Global,
@@ -51,7 +51,7 @@ pub fn ask<'a, R: Net + Clock + Eprint>(
     }
 }
 
-/// The status of a host that asked, where writing what it was told ended with this one.
+/// The exit status of a host that asked, given the status of writing the answers.
 pub fn status_of(written: u8, core: &QueryCore) -> u8
     ensures { result ≡ printed_status written core.now }
 {

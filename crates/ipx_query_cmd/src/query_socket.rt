@@ -1,4 +1,4 @@
-//! The socket of a host that asks, with its guard.
+//! The socket of a host that asks, with its access list.
 
 ghost use Rattle.std.specs.Prelude.{◌≡◌, ◌∷◌, [], IfOk, OnOk, length, map};
 ghost use Rattle.ipx_carrier.specs.Turns.{IsTurn, Turn, peers_of};
@@ -10,7 +10,7 @@ use ipx_site::{AccessList, HostConfig, Poller, SourceFilter, UdpSockets};
 use std::alloc::Global;
 use std::net::Net;
 
-/// The socket of a host that asks, with its guard. No broadcast goes anywhere.
+/// The socket of a host that asks, with its access list. Broadcasts are sent to nobody.
 pub struct QuerySocket {
     device: SourceFilter<UdpSockets>,
     peers: Vec<Vec<[u8; 4]>>,
@@ -33,7 +33,7 @@ fn is_active(report: Report) -> bool {
 }
 
 impl QuerySocket {
-    /// One socket with its guard, and one list of nobody.
+    /// One socket with its access list, and one empty list of peers.
     fn new(
         sockets: UdpSockets,
         access_lists: Vec<AccessList>,
@@ -51,7 +51,8 @@ impl QuerySocket {
         }
     }
 
-    /// The socket of the host of a file with this guard, bound, with what waits for it.
+    /// The bound socket of the host of a file, with this access list, and a poller that waits for
+    /// it.
     pub fn open<R: Net>(
         rt: &R,
         alloc: Global,
@@ -71,7 +72,7 @@ impl QuerySocket {
         Ok((QuerySocket::new(sockets, access_lists, peers), poller))
     }
 
-    /// Takes one turn of a core over it. It answers whether there may be more to do at once.
+    /// Takes one turn of a core over it. It returns whether there may be more to do at once.
     pub fn turn<C: Core, K: Clock>(
         &mut self,
         alloc: Global,
@@ -82,7 +83,7 @@ impl QuerySocket {
             × IsTurn C.hears C.gives (C.port_count core.old) turn core.old core.new
             × K.tells clock.old turn.moment clock.new) }
     {
-        // (it asks its one port in each turn, whether the wait said so or not)
+        // It reads its one port in each turn, whether or not the wait reported it.
         self.device.mark_all();
         let before = self.device.filtered();
         let Ok(report) = turn(alloc, core, &mut self.device, &self.peers, clock) else {

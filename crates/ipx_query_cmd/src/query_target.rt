@@ -1,4 +1,4 @@
-//! Whom the host of a file asks, and who may speak to it.
+//! The routers that the host of a file asks, and the senders that it accepts.
 
 ghost use Rattle.std.specs.Prelude.{◌≡◌, ◌∷◌, [], IfOk, map};
 ghost use Rattle.ipx_carrier.specs.Mapping.{node_at};
@@ -21,7 +21,7 @@ pub fn querier_address(file: &HostConfig) -> Address
     }
 }
 
-/// Each of these IP addresses that is none of those before it.
+/// These IP addresses, without those that repeat an earlier one.
 fn new_ips(alloc: Global, ips: &[[u8; 4]]) -> Result<Vec<[u8; 4]>, AllocFailed<[u8; 4]>>
     ensures { IfOk result (λ v. v.items ≡ new_ips [] ips.now) }
 {
@@ -54,7 +54,7 @@ pub fn nodes_of(alloc: Global, ips: &[[u8; 4]]) -> Result<Vec<Node>, AllocError>
     Ok(nodes)
 }
 
-/// A guard that sends to these alone, and hears these alone, as routers.
+/// An access list that sends only to these, accepts only these, and takes them as routers.
 pub fn access_list_of(
     alloc: Global,
     file: &HostConfig,

@@ -14,13 +14,13 @@ use ipx_tables::{ServiceKey, ServiceMetric, Source};
 use ipx_wire::Address;
 use std::alloc::{AllocError, Global};
 
-/// A service, who tells of it, and how far and where it is.
+/// A service, the router that advertises it, and its distance and address.
 type ToldService = (ServiceKey, Source, ServiceMetric);
 
-/// The width of the column of names, at least that of its head.
+/// The least width of the name column: that of its heading.
 pub const HEAD: usize = 4;
 
-/// How wide the column of names is.
+/// The width of the name column.
 fn name_width(alloc: Global, listed: &[ToldService]) -> Result<usize, AllocError>
     ensures { IfOk result (λ w. w ≡ name_width listed.now) }
 {
@@ -32,7 +32,7 @@ fn name_width(alloc: Global, listed: &[ToldService]) -> Result<usize, AllocError
     Ok(width)
 }
 
-/// Where a service is, in the columns of a table.
+/// The address of a service, in the columns of a table.
 fn place_to_columns(alloc: Global, at: Address) -> Result<String, AllocError>
     ensures { IfOk result (λ t. string_bytes t ≡ place_columns at) }
 {
@@ -104,7 +104,7 @@ fn services_to_json(alloc: Global, listed: &[ToldService]) -> Result<String, All
     Ok(lines)
 }
 
-/// The head of a table whose column of names is so wide.
+/// The heading of a table whose name column has this width.
 pub fn head_to_line(alloc: Global, width: usize) -> Result<String, AllocError>
     ensures { IfOk result (λ t. string_bytes t ≡ service_head width) }
 {

@@ -25,7 +25,7 @@ use std::rt::{Clock, Files};
 /// The type that a query has for services of all types.
 const ALL_TYPES: u16 = 0xffff;
 
-/// The type that a word spells, in four hex digits; all types where no word is given.
+/// Parses a type in four hex digits; all types if there is no word.
 fn type_of(word: Option<&str>) -> Option<u16>
     ensures known { IfSome result (λ kind. IsTypeWord (option_map (λ w. w.now) word.entry) kind) }
     ensures unknown { result ≡ None → (kind : ℕ) → IsTypeWord (option_map (λ w. w.now) word.entry) kind → ⊥ }
@@ -39,7 +39,7 @@ fn type_of(word: Option<&str>) -> Option<u16>
     }
 }
 
-/// All that is printed of what a host was told.
+/// All that is printed of the answers to a host.
 fn asked_to_text<R: Net + Clock>(
     alloc: Global,
     json: bool,
@@ -54,7 +54,8 @@ fn asked_to_text<R: Net + Clock>(
     services_to_text(alloc, json, &listed, &answers)
 }
 
-/// Prints what a host was told, tells who did not answer, and answers the status.
+/// Prints the answers to a host, reports the routers that did not answer, and returns the exit
+/// status.
 fn print_asked<R: Net + Clock + Eprint, W: Write>(
     rt: &R,
     alloc: Global,
@@ -75,7 +76,7 @@ fn print_asked<R: Net + Clock + Eprint, W: Write>(
     status_of(written, &asked.host.core)
 }
 
-/// Asks for the services of a type by the host of a file, and prints what it was told.
+/// Asks for the services of a type by the host of a file, and prints the answers.
 fn services_by_host<R: Net + Clock + Eprint, W: Write>(
     rt: &R,
     alloc: Global,
@@ -97,7 +98,7 @@ fn services_by_host<R: Net + Clock + Eprint, W: Write>(
     }
 }
 
-/// Prints the services of a type by the file at a path, of a host or of a router.
+/// Prints the services of a type by the file of a host or a router at a path.
 fn list_services<R: Net + Files + Clock + Eprint, W: Write>(
     rt: &R,
     alloc: Global,
@@ -125,15 +126,15 @@ fn list_services<R: Net + Files + Clock + Eprint, W: Write>(
 }
 
 /// The command `services`: asks the router of a host's file, and the routers that it names, which
-/// services of a type they know, a word of four hex digits, or of all types where there is none. It
-/// writes each with the least of what they told: a table, or with `json` a line of JSON for each.
-/// The host's address and socket are taken meanwhile. It takes up to four seconds. By the file of a
-/// router it prints what this wrote into its file of tables, and asks nobody.
+/// services they know. The type is a word of four hex digits; without it, all types are asked for.
+/// It writes each service with the best of the answers: a table, or with `json` a line of JSON for
+/// each. The host's address and socket are in use meanwhile. It takes up to four seconds. With the
+/// file of a router it prints the router's table file, and asks nobody.
 ///
-/// The answer is the status: 0 where each router that was asked answered, and all is written; 1
-/// where one did not, more was told than there is room for, the writer fails, the socket can't be
-/// had or memory is refused; 2 for a fault of the word or of a file. What is wrong is a line on
-/// standard error.
+/// Returns the exit status. It is 0 if each router that was asked answered, and all is written. It
+/// is 1 if one did not answer, the answers exceed the space for them, the writer fails, the socket
+/// cannot be bound, or memory runs out. It is 2 for a fault of the word or of a file. A line on
+/// standard error says what is wrong.
 pub fn do_services<R: Net + Files + Clock + Eprint, W: Write>(
     rt: &R,
     alloc: Global,
@@ -142,19 +143,19 @@ pub fn do_services<R: Net + Files + Clock + Eprint, W: Write>(
     json: bool,
     writer: &mut W,
 ) -> u8
-    // A word that spells no type is told, and nothing is read or bound.
+    // A word that is no type is reported, and nothing is read or bound.
     ensures words { ((kind : ℕ) → IsTypeWord (option_map (λ w. w.now) word.entry) kind → ⊥)
         → (result ≡ 2) × (writer.new ≡ writer.old) }
     ensures few { result ≤ 2 }
-    // Where it ends well, the host of some text of a file has asked for the services of the type,
-    // each router answered, and what is written is the listing of what they told; or it lists what
-    // the router of that text wrote.
+    // On status 0, some file text describes a host or a router. If a host, it has asked for the
+    // services of the type, each router answered, and the listing of the answers is written. If a
+    // router, the listing of its table file is written.
     ensures listed { result ≡ 0 → (text : List ℕ) × (lines : List ℕ) × (kind : ℕ)
         × IsFileText text × IsTypeWord (option_map (λ w. w.now) word.entry) kind
         × (ListsAsked (Services kind) (ListsServices json) text lines
         ⊎ ListsWritten (ListsKnownServices json kind) text lines)
         × Appends (W.contents writer.old) (W.contents writer.new) lines }
-    // For a fault of the word or of a file nothing is written.
+    // On a fault of the word or of a file, nothing is written.
     ensures untouched { result ≡ 2 → writer.new ≡ writer.old }
 {
     match type_of(word) {

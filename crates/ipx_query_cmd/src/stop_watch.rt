@@ -1,12 +1,12 @@
-//! How much time passed, by the system's clock.
+//! Measures time by the system's clock.
 
 use std::rt::Clock;
 use std::time::Instant;
 
-/// How many nanoseconds a tenth of a millisecond has.
+/// The nanoseconds in a tenth of a millisecond.
 const TENTH: u128 = 100_000;
 
-/// The time since a moment. Nothing is proved of it.
+/// The time since a start. Nothing is proved about it.
 #[derive(Drop)]
 pub struct StopWatch<'a, R: Clock> {
     system: &'a R,
@@ -14,7 +14,7 @@ pub struct StopWatch<'a, R: Clock> {
 }
 
 impl<'a, R: Clock> StopWatch<'a, R> {
-    /// The time from now on.
+    /// Starts now.
     pub fn new(system: &'a R) -> StopWatch<'a, R> {
         StopWatch {
             system,
@@ -22,12 +22,12 @@ impl<'a, R: Clock> StopWatch<'a, R> {
         }
     }
 
-    /// Begins anew.
+    /// Restarts now.
     pub fn restart(&mut self) {
         self.start = Instant::now(self.system).ok();
     }
 
-    /// How many tenths of a millisecond have passed; 0 where the system tells no time.
+    /// The tenths of a millisecond that have passed; 0 if the system does not tell the time.
     pub fn tenths(&self) -> u64 {
         let Some(start) = self.start else {
             return 0;

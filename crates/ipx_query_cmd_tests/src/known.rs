@@ -1,4 +1,4 @@
-//! What a router wrote down, as tables and lines of JSON, and memory that is refused.
+//! Table files printed as tables and lines of JSON, also when out of memory.
 
 use ipx_query_cmd::{KnownFault, known_networks_to_text, known_services_to_text};
 use std::alloc::Global;
@@ -22,7 +22,7 @@ fn services(alloc: Global, json: bool, kind: u16) -> Result<String, KnownFault> 
     known_services_to_text(alloc, json, "hq.tables", kind, TEXT.as_bytes())
 }
 
-/// Whether these lines were made, or memory was refused.
+/// Whether these lines were made, or memory ran out.
 fn is_made(made: Result<String, KnownFault>, wanted: &str) -> bool {
     match made {
         Ok(text) => text.as_str() == wanted,
@@ -30,7 +30,7 @@ fn is_made(made: Result<String, KnownFault>, wanted: &str) -> bool {
     }
 }
 
-/// Its own networks come first, and what is spare is left out.
+/// The router's own networks come first, and spare routes are left out.
 #[test]
 fn known_networks(rt: HostRuntime) {
     let table = "network   hops  ticks  by\n\
@@ -43,7 +43,7 @@ fn known_networks(rt: HostRuntime) {
     assert!(rt; is_made(networks(rt.alloc(), true), lines));
 }
 
-/// Those of a type, or all.
+/// The services of a type, or all of them.
 #[test]
 fn known_services(rt: HostRuntime) {
     let table = "type  name       network   node          socket  hops  by\n\
@@ -60,7 +60,7 @@ fn known_services(rt: HostRuntime) {
     assert!(rt; is_made(services(rt.alloc(), true, 0x640), line));
 }
 
-/// A word that is no text is a fault.
+/// A word that is not UTF-8 is a fault.
 #[test]
 fn known_words_are_text(rt: HostRuntime) {
     let text = b"\xff own port 1 cost 6\n";

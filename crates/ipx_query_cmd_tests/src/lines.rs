@@ -1,4 +1,4 @@
-//! Tables and lines of JSON, and memory that is refused.
+//! Tables and lines of JSON, also when out of memory.
 
 use ipx_query_cmd::{AnswerTime, networks_to_text, services_to_text};
 use ipx_tables::{RouteMetric, ServiceKey, ServiceMetric, Source};
@@ -30,7 +30,7 @@ fn service(name: &[u8], hops: u16) -> (ServiceKey, Source, ServiceMetric) {
     (key, source, ServiceMetric { hops, at })
 }
 
-/// Numbers stand at the right of their columns, and routers that answered behind them.
+/// Numbers are aligned right in their columns, and routers that answered follow the table.
 #[test]
 fn networks_in_a_table(rt: HostRuntime) -> Result<(), Fail> {
     let alloc = rt.alloc();
@@ -74,8 +74,8 @@ fn networks_as_json(rt: HostRuntime) -> Result<(), Fail> {
     Ok(())
 }
 
-/// The column of names is as wide as the longest one. A blank, a backslash and what is no sign of ASCII
-/// stand as their hex digits, and an empty name as a dash.
+/// The name column is as wide as the longest name. A space, a backslash and anything but printable
+/// ASCII appear as hex digits, and an empty name as a dash.
 #[test]
 fn services_in_a_table(rt: HostRuntime) -> Result<(), Fail> {
     let alloc = rt.alloc();
@@ -101,8 +101,8 @@ fn services_in_a_table(rt: HostRuntime) -> Result<(), Fail> {
     Ok(())
 }
 
-/// Within quotes a name stands as in a table, with a backslash before each quote and backslash of that:
-/// a backslash of its own is two of them and the digits 5c.
+/// Within JSON quotes a name appears as in a table, with a backslash before each quote and
+/// backslash. A backslash of the name itself becomes two backslashes, x and the digits 5c.
 #[test]
 fn services_as_json(rt: HostRuntime) -> Result<(), Fail> {
     let alloc = rt.alloc();
@@ -116,8 +116,8 @@ fn services_as_json(rt: HostRuntime) -> Result<(), Fail> {
     Ok(())
 }
 
-/// Memory that is refused as networks are listed: the same call answers then, the whole listing. Run it
-/// with each request refused.
+/// If listing networks runs out of memory, the same call then returns the whole listing. Run this
+/// with each allocation refused.
 #[test]
 fn refused_lines(rt: HostRuntime) -> Result<(), Fail> {
     let alloc = rt.alloc();
@@ -143,7 +143,7 @@ fn refused_lines(rt: HostRuntime) -> Result<(), Fail> {
     Ok(())
 }
 
-/// The same of services.
+/// The same for services.
 #[test]
 fn refused_lines_of_services(rt: HostRuntime) -> Result<(), Fail> {
     let alloc = rt.alloc();

@@ -1,4 +1,4 @@
-//! Lines of pings, and memory that is refused.
+//! Lines of pings, also when out of memory.
 
 use ipx_query_cmd::{PingAnswer, PingEvent, news_to_text, totals_to_line};
 use ipx_wire::{Address, Network, Node, Socket};
@@ -18,7 +18,7 @@ fn answered(number: u32, tenths: u64, routers: u8) -> Option<PingEvent> {
     }))
 }
 
-/// One router is one, and any other number are many.
+/// One router is singular, and any other number is plural.
 #[test]
 fn lines_of_a_ping(rt: HostRuntime) -> Result<(), Fail> {
     let alloc = rt.alloc();
@@ -56,7 +56,8 @@ fn the_line_behind_all(rt: HostRuntime) -> Result<(), Fail> {
     Ok(())
 }
 
-/// Memory that is refused: the same call answers then. Run it with each request refused.
+/// If a call runs out of memory, the same call then succeeds. Run this with each allocation
+/// refused.
 #[test]
 fn refused_ping_lines(rt: HostRuntime) -> Result<(), Fail> {
     let alloc = rt.alloc();

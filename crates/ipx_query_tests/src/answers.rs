@@ -1,4 +1,4 @@
-//! What answers tell, and what is listed of it.
+//! What answers advertise, and what is listed of it.
 
 use crate::fixture::{FIRST, SECOND, asked, hear};
 use ipx_query::{QueryCore, TableQuery};
@@ -7,25 +7,25 @@ use ipx_wire::{Address, Network, Node, Socket};
 use std::alloc::Global;
 use std::test::Fail;
 
-/// Of the first router: network 22 by 2 hops and 8 ticks, network 1 by 1 hop and 2 ticks.
+/// From the first router: network 22 by 2 hops and 8 ticks, network 1 by 1 hop and 2 ticks.
 const FIRST_TELLS: &str = "ffff003000010000001100007f00000940030000001100007f0000010453\
     000200000022000200080000000100010002";
 
-/// Of the second router: network 22 by 3 hops and 7 ticks, network 33 by 16 hops; networks 0, 11
-/// and ffffffff, which are not heard.
+/// From the second router: network 22 by 3 hops and 7 ticks, network 33 by 16 hops; and networks 0,
+/// 11 and ffffffff, which are not learned.
 const SECOND_TELLS: &str = "ffff004800010000001100007f00000940030000001100007f0000020453\
     00020000002200030007000000330010000200000000000100010000001100010001ffffffff00010001";
 
-/// Of the second router, later: network 22 is not reached any more.
+/// From the second router, later: network 22 is unreachable.
 const SECOND_LOSES: &str = "ffff002800010000001100007f00000940030000001100007f0000020453\
     00020000002200100007";
 
-/// A service of type 0004 at socket 0451 of network 0a01: HQ-FILES by 1 hop, of the first router.
+/// A service of type 0004 at socket 0451 of network 0a01: HQ-FILES by 1 hop, from the first router.
 const FIRST_SERVICE: &str = "ffff006000040000001100007f00000940030000001100007f0000010452\
     0002000448512d46494c455300000000000000000000000000000000000000000000\
     00000000000000000000000000000000000000000a0100000000000104510001";
 
-/// The same by 2 hops, of the second router.
+/// The same by 2 hops, from the second router.
 const SECOND_SERVICE: &str = "ffff006000040000001100007f00000940030000001100007f0000020452\
     0002000448512d46494c455300000000000000000000000000000000000000000000\
     00000000000000000000000000000000000000000a0100000000000104510002";
@@ -44,8 +44,8 @@ fn lists(
     Ok(core.networks(alloc, now)?.as_slice() == wanted)
 }
 
-/// Of two routers that tell of one network the one with fewer ticks counts; 16 hops are none; and
-/// what is said later counts.
+/// If two routers advertise one network, the one with fewer ticks counts. 16 hops mean unreachable,
+/// and what is advertised later counts.
 #[test]
 fn networks_of_two_routers(rt: HostRuntime) -> Result<(), Fail> {
     let alloc = rt.alloc();
@@ -65,7 +65,7 @@ fn networks_of_two_routers(rt: HostRuntime) -> Result<(), Fail> {
     Ok(())
 }
 
-/// A service that two routers tell of is listed once, by the nearer one.
+/// A service that two routers advertise is listed once, from the nearer one.
 #[test]
 fn services_of_two_routers(rt: HostRuntime) -> Result<(), Fail> {
     let alloc = rt.alloc();

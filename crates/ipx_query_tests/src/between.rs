@@ -1,8 +1,8 @@
-//! A host that asks, beside a router that answers: which networks it tells, and a listener behind
-//! it.
+//! A host that asks, next to a router that answers: which networks it advertises, and a listener
+//! beyond it.
 //!
-//! The nodes are 00007f0000xx: the host is 9 on network 11, the router 1 there and 4 on network 22,
-//! the listener 7 there at socket 4000.
+//! The nodes are 00007f0000xx. The host is 9 on network 11. The router is 1 there and 4 on network
+//! 22, where the listener is 7, at socket 4000.
 
 ghost use Rattle.std.specs.Prelude.{◌≡◌};
 
@@ -43,7 +43,7 @@ fn router(alloc: Global) -> Result<RouterCore, OutOfMemory> {
     Ok(RouterCore::new(alloc, router))
 }
 
-/// What a core gives to a node at a moment, within 16 packets, or no bytes.
+/// What a core gives to a node at a given time, within 16 packets, or no bytes.
 fn given_to<C: Core>(
     alloc: Global,
     core: &mut C,
@@ -62,7 +62,7 @@ fn given_to<C: Core>(
     Ok(Vec::new(alloc))
 }
 
-/// The router tells the network behind it, by one router and one tick.
+/// The router advertises the network beyond it, by one router and one tick.
 #[test]
 fn a_router_is_asked(rt: HostRuntime) -> Result<(), Fail> {
     let alloc = rt.alloc();
@@ -87,7 +87,7 @@ fn a_router_is_asked(rt: HostRuntime) -> Result<(), Fail> {
     Ok(())
 }
 
-/// Each ping passes one router, there and back, and takes one place of the listener's.
+/// Each ping passes one router, there and back. All use one connection slot of the listener.
 #[test]
 fn a_listener_is_pinged(rt: HostRuntime) -> Result<(), Fail> {
     let alloc = rt.alloc();

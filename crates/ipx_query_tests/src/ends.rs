@@ -10,14 +10,14 @@ use std::test::Fail;
 const SECOND_TELLS: &str =
     "ffff002800010000001100007f00000940030000001100007f000002045300020000002200020008";
 
-/// A host that asks the first router alone, at the moment 0.
+/// A host that asks only the first router, at time 0.
 fn one_asked(alloc: Global) -> Result<QueryCore, Fail> {
     let mut core = QueryCore::new(alloc, OWN, TableQuery::Networks, &[FIRST])?;
     given(alloc, &mut core, 0)?;
     Ok(core)
 }
 
-/// Where each answer ended, 200 ms behind the last packet.
+/// If each answer ended, it is over 200 ms after the last packet.
 #[test]
 fn over_once_each_ended(rt: HostRuntime) -> Result<(), Fail> {
     let alloc = rt.alloc();
@@ -38,7 +38,8 @@ fn over_once_each_ended(rt: HostRuntime) -> Result<(), Fail> {
     Ok(())
 }
 
-/// Where one answers nothing, four seconds behind the first query; before that it has not begun.
+/// If a router does not answer, it is over four seconds after the first query. Before that query it
+/// has not begun.
 #[test]
 fn over_at_four_seconds(rt: HostRuntime) -> Result<(), Fail> {
     let alloc = rt.alloc();
@@ -51,7 +52,7 @@ fn over_at_four_seconds(rt: HostRuntime) -> Result<(), Fail> {
     Ok(())
 }
 
-/// Of 1,050 routes of one router 1,024 find room, which is said.
+/// Of 1,050 routes of one router 1,024 fit, and the table is said to be full.
 #[test]
 fn a_table_is_cut(rt: HostRuntime) -> Result<(), Fail> {
     let alloc = rt.alloc();

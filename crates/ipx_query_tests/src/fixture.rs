@@ -21,7 +21,7 @@ pub fn host(alloc: Global, question: TableQuery) -> Result<QueryCore, OutOfMemor
     QueryCore::new(alloc, OWN, question, &[FIRST, SECOND])
 }
 
-/// What the host gives at a moment, in hex, behind the last byte of the node that it goes to.
+/// What the host gives at a given time, in hex, after the last byte of the node that it is sent to.
 pub fn given(alloc: Global, core: &mut QueryCore, now: u64) -> Result<Option<String>, Fail> {
     let mut room = [0; 1536];
     let Some((port, node, count)) = core.next(alloc, now, &mut room)? else {
@@ -32,7 +32,7 @@ pub fn given(alloc: Global, core: &mut QueryCore, now: u64) -> Result<Option<Str
     Ok(Some(format!(in alloc; "{port} {last} {text}")?))
 }
 
-/// The host gives this text at a moment, or nothing by an empty one.
+/// The host gives this text at a given time, or nothing if the text is empty.
 pub fn gives(alloc: Global, core: &mut QueryCore, now: u64, wanted: &str) -> Result<bool, Fail> {
     match given(alloc, core, now)? {
         None => Ok(wanted.is_empty()),
@@ -40,7 +40,7 @@ pub fn gives(alloc: Global, core: &mut QueryCore, now: u64, wanted: &str) -> Res
     }
 }
 
-/// The host asks both routers at the moment 0.
+/// The host asks both routers at time 0.
 pub fn asked(alloc: Global, question: TableQuery) -> Result<QueryCore, Fail> {
     let mut core = host(alloc, question)?;
     given(alloc, &mut core, 0)?;
@@ -48,14 +48,14 @@ pub fn asked(alloc: Global, question: TableQuery) -> Result<QueryCore, Fail> {
     Ok(core)
 }
 
-/// The host hears a packet in hex at a moment.
+/// The host receives a packet in hex at a given time.
 pub fn hear(alloc: Global, core: &mut QueryCore, text: &str, now: u64) -> Result<(), Fail> {
     let bytes = hex::decode(alloc, text)?;
     core.hear(alloc, 0, &bytes, now)?;
     Ok(())
 }
 
-/// A RIP response from the first router to the host, of so many routes: to the network 01000000 and
+/// A RIP response from the first router to the host, of `count` routes: to the network 01000000 and
 /// the next ones, by 1 hop and 2 ticks.
 pub fn routes_from(alloc: Global, first: u16, count: u16) -> Result<Vec<u8>, Fail> {
     let head = "ffff0000000100000011000000000000400300000011000000000000045300020000";

@@ -1,5 +1,5 @@
 //! Tests of a host that asks, with literal values. They call what `ipx_query` makes public, and no
-//! crate stands on this one.
+//! crate depends on this one.
 #![tactic(auto)]
 
 #[cfg(test)]

@@ -1,4 +1,4 @@
-//! Requests that ping a listener, and what answers them.
+//! Requests that ping a listener, and their answers.
 
 use ipx_carrier::Core;
 use ipx_query::PingCore;
@@ -21,8 +21,8 @@ const LISTENER: Address = Address {
     socket: Socket(0x4002),
 };
 
-/// The request of id 0102 by one buffer: a system packet that wants an acknowledgement, of stream
-/// 00, to id ffff, by sequence, acknowledge and allocation numbers 0.
+/// The request of id 0102 with one buffer: a system packet that asks for an acknowledgement, of
+/// stream 00, to id ffff, with sequence, acknowledge and allocation numbers 0.
 const REQUEST: &str = "ffff002a00050000002200000a02001e40020000001100007f0000094003\
     c0000102ffff000000000000";
 
@@ -33,9 +33,9 @@ const REPLY: &str = "ffff002a02050000001100007f00000940030000002200000a02001e400
 const LATER: &str = "ffff002a03050000001100007f00000940030000002200000a02001e4002\
     800003050102000000000000";
 
-/// What is no answer: it wants an acknowledgement; it is no system packet; of stream fe; to another
-/// id; from id ffff, and from id 0; from another socket, node and network; to another socket, node
-/// and network; of type 4; with an SPX header that is cut.
+/// What is not an answer: it asks for an acknowledgement; it is not a system packet; of stream fe;
+/// to another id; from id ffff, and from id 0; from another socket, node and network; to another
+/// socket, node and network; of type 4; with a truncated SPX header.
 const STRANGE: [&str; 14] = [
     "ffff002a02050000001100007f00000940030000002200000a02001e4002c00003050102000000000000",
     "ffff002a02050000001100007f00000940030000002200000a02001e4002000003050102000000000000",
@@ -53,12 +53,12 @@ const STRANGE: [&str; 14] = [
     "ffff002902050000001100007f00000940030000002200000a02001e40028000030501020000000000",
 ];
 
-/// A host that sends so many requests to the listener over the router.
+/// A host that sends this many requests to the listener through the router.
 fn pinger(count: u32) -> PingCore {
     PingCore::new(OWN, ROUTER, LISTENER, 0x0102, count)
 }
 
-/// Whether the core gives the request at a moment, and to this node.
+/// Whether the core gives the request at a given time, to this node.
 fn asks(alloc: Global, core: &mut PingCore, now: u64, first: Node) -> Result<bool, Fail> {
     let mut room = [0; 1536];
     let Some((port, node, count)) = core.next(alloc, now, &mut room)? else {
@@ -68,7 +68,7 @@ fn asks(alloc: Global, core: &mut PingCore, now: u64, first: Node) -> Result<boo
     Ok(port == 0 && node == first && text.as_str() == REQUEST)
 }
 
-/// It gives nothing at a moment.
+/// Whether it gives nothing at a given time.
 fn rests(alloc: Global, core: &mut PingCore, now: u64) -> Result<bool, Fail> {
     let mut room = [0; 1536];
     Ok(core.next(alloc, now, &mut room)?.is_none())
@@ -144,7 +144,7 @@ fn what_is_no_answer(rt: HostRuntime) -> Result<(), Fail> {
     Ok(())
 }
 
-/// A listener on the host's own network is asked without a router; without requests it is over at
+/// A listener on the host's own network is asked without a router. Without requests it is over at
 /// once.
 #[test]
 fn at_hand_and_none(rt: HostRuntime) -> Result<(), Fail> {

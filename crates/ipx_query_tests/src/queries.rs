@@ -39,7 +39,7 @@ fn gives_both(
     Ok(first && second && gives(alloc, core, now, "")?)
 }
 
-/// Each router is asked at once, and after one and two seconds; after four nobody is.
+/// Each router is asked at once, and after one and two seconds; after four no router is.
 #[test]
 fn three_rounds(rt: HostRuntime) -> Result<(), Fail> {
     let alloc = rt.alloc();
@@ -70,7 +70,7 @@ fn queries_for_services(rt: HostRuntime) -> Result<(), Fail> {
     Ok(())
 }
 
-/// A router that answered is asked no more, the other one is.
+/// A router that answered is not asked again, the other one is.
 #[test]
 fn one_answers(rt: HostRuntime) -> Result<(), Fail> {
     let alloc = rt.alloc();
@@ -94,7 +94,7 @@ fn one_answers(rt: HostRuntime) -> Result<(), Fail> {
     Ok(())
 }
 
-/// Rounds that nobody asked for are not made up for, and where the clock goes back nobody is asked.
+/// Rounds that were missed are not made up for, and if the clock goes back no router is asked.
 #[test]
 fn late_and_early(rt: HostRuntime) -> Result<(), Fail> {
     let alloc = rt.alloc();
@@ -106,7 +106,7 @@ fn late_and_early(rt: HostRuntime) -> Result<(), Fail> {
     Ok(())
 }
 
-/// Over a device, each query goes to the IP address of its router.
+/// Over a device, each query is sent to the IP address of its router.
 #[test]
 fn over_a_device(rt: HostRuntime) -> Result<(), Fail> {
     let alloc = rt.alloc();

@@ -1,4 +1,4 @@
-//! Memory that is refused: the same call answers then. Run it with each request refused.
+//! Memory is refused, and the same call works after that. Run it with each request refused.
 
 use crate::fixture::{FIRST, OWN};
 use ipx_carrier::Core;
@@ -19,7 +19,7 @@ fn querier_at_last(alloc: Global) -> Result<QueryCore, Fail> {
     }
 }
 
-/// An answer that finds no memory is no answer yet, and is one as it comes again.
+/// If memory runs out for an answer, it is no answer yet, and is one when it comes again.
 #[test]
 fn refused_answer(rt: HostRuntime) -> Result<(), Fail> {
     let alloc = rt.alloc();

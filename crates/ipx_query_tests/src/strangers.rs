@@ -1,12 +1,12 @@
-//! Packets that are no answer change nothing.
+//! Packets that are not an answer change nothing.
 
 use crate::fixture::{OWN, asked, hear, host};
 use ipx_carrier::Core;
 use ipx_query::{QueryCore, TableQuery};
 use std::test::Fail;
 
-/// One route, from the first router to the host: an answer. Its network of origin may be 0, and so
-/// may that which it goes to.
+/// One route, from the first router to the host: an answer. Its source network may be 0, and so may
+/// its destination network.
 const ANSWERS: [&str; 3] = [
     "ffff002800010000001100007f00000940030000001100007f000001045300020000002200020008",
     "ffff002800010000001100007f00000940030000000000007f000001045300020000002200020008",
@@ -14,8 +14,8 @@ const ANSWERS: [&str; 3] = [
 ];
 
 /// To another socket, node and network; to all nodes; from a node that was not asked, and from one
-/// of another network; from the socket of SAP; a request, an operation 3, no operation; a datagram that is cut, and none; and
-/// an answer that a router forwarded, and one that fifteen did.
+/// of another network; from the socket of SAP; a request, an operation 3, no operation; a truncated
+/// datagram, and an empty one; and an answer that one router forwarded, and one that fifteen did.
 const STRANGE: [&str; 14] = [
     "ffff002800010000001100007f00000904530000001100007f000001045300020000002200020008",
     "ffff002800010000001100007f00000840030000001100007f000001045300020000002200020008",
@@ -62,7 +62,7 @@ fn answers_are_heard(rt: HostRuntime) -> Result<(), Fail> {
     Ok(())
 }
 
-/// What came before the first query is no answer, nor is one of another question.
+/// What came before the first query is not an answer, nor is an answer to another question.
 #[test]
 fn too_early(rt: HostRuntime) -> Result<(), Fail> {
     let alloc = rt.alloc();
@@ -76,7 +76,7 @@ fn too_early(rt: HostRuntime) -> Result<(), Fail> {
     Ok(())
 }
 
-/// A host that asks nobody hears nobody.
+/// A host that asks no router accepts no answer.
 #[test]
 fn nobody_is_asked(rt: HostRuntime) -> Result<(), Fail> {
     let alloc = rt.alloc();

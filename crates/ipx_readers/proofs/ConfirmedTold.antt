@@ -1,4 +1,4 @@
--- Of an end that is told Confirmed, from the theorems of a network and from what is told of its ends.
+-- An end whose summary says Confirmed, by the theorems of a network and the summaries of its ends.
 use Rattle.std.proofs.Common.{ℕ, zero, suc, ◌≡◌, ◌≢◌, ◌<◌, List, [], ◌∷◌, true, false, None, Option, Some, length, map, refl, sym, ap, ◌∙◌, subst, arith}
 use Rattle.std.specs.Prelude.{IfSome, nat_lt, slice_get, slice_index_or}
 use Rattle.std.proofs.lemmas.Bool.{ltb-true}
@@ -52,12 +52,12 @@ have_peers v th going premises told tells who is =
     let closed = links.confirmed premises who (stand_of w.hosts n) h.0.link (record { there = stands_there w.hosts w.ends who n e.1; link = link }) h.2 in
     (closed.0, closed.3.peers)
 
--- ---- what is told of one end
+-- ---- the summary of one end
 
 pub told_at : (t : List EndInfo) (k : ℕ) (x d : EndInfo) → true ≡ nat_lt k (length t) → x ≡ slice_index_or t k d → told_of t k ≡ x
 told_at t k x d within is = get_or_default t k nobody d (ltb-true k (length t) (sym within)) ∙ sym is
 
--- the peer that is told of a confirmed end holds all
+-- the peer in the summary of a confirmed end holds everything
 pub peer_holds : (v : NetView) (t : List EndInfo) (end : ℕ) (x : EndInfo) → told_of t end ≡ x → x.state ≡ Some Confirmed → (v.spent ≡ false → TellsClosed v.now.world t)
     → v.spent ≡ false → Premises v.now.world.log → IfSome x.peer (HoldsAll (scene_of v.now.world) end)
 peer_holds v t end x told is closing going premises =

@@ -1,5 +1,5 @@
-//! What a reader of a network in memory may conclude, from the public clauses of [`Net`] alone: he
-//! has a `&Net`, and does not know which events made it.
+//! What a reader of a network in memory may conclude from the public clauses of [`Net`] alone. The
+//! reader has a `&Net`, and does not know which events made it.
 #![tactic(auto)]
 
 mod closing;

@@ -1,4 +1,4 @@
--- There is one round of two links at a moment, and one alone.
+-- There is exactly one round of two links at a time.
 use Rattle.std.proofs.Common.{◌≡◌, ℕ, ◌∷◌, ◌++◌, [], List, Option, Some, None, refl, sym, ap, ◌∙◌}
 use Rattle.spx_link.specs.declared.unit.Unit.{Unit}
 use Rattle.spx_link.specs.declared.received.Received.{Received}

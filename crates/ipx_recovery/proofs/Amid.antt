@@ -1,4 +1,5 @@
--- In the midst of what a link gives at a moment and its peer reads at once: what stays so from packet to packet.
+-- During the packets that a link gives at one time and its peer reads at once: the invariant from packet to
+-- packet.
 use Rattle.std.proofs.Common.{ℕ, ◌+◌, ◌-◌, ◌<◌, ◌≤◌, ◌≡◌, ◌⊎◌, ◌&&◌, ◌==◌, Bool, true, false, length, length-drop, take, Some, sym, ap, ◌∙◌, subst, inl, inr, ⊎_elim, arith, slice_get}
 use Rattle.std.proofs.lemmas.Bool.{cases_Bool, cases_lt, eq-eqb}
 use Rattle.spx_link.specs.declared.queue.Queued.{Queued}
@@ -32,7 +33,7 @@ use Rattle.spx_theory.specs.Named.{AreNamed}
 abbrev pub Unread : LinkView → End → End → Type 0
 Unread b c d = b.peer_ended ≡ false → (k : ℕ) (u : Unit) → k < d.read → slice_get c.units k ≡ Some u → is_end u ≡ false
 
--- in the midst of what a0 gives at a moment, which b0 reads
+-- during what a0 gives at a time, which b0 reads
 pub record Mid (now : ℕ) (a0 b0 : LinkView) (c0 d0 : End) (a b : LinkView) (c d : End) : Type 0 where
   pub first : Follows a c d
   pub second : Follows b d c
@@ -56,11 +57,11 @@ pub record Mid (now : ℕ) (a0 b0 : LinkView) (c0 d0 : End) (a b : LinkView) (c 
   pub asks : (a ≡ a0) ⊎ Owes b ⊎ Owed a0
   pub closes : a0.owes_confirm ≡ true → b0.end_queued ≡ true → length d0.units ≤ c0.read → (a.owes_confirm ≡ true) ⊎ (b.state ≡ S.Confirmed)
   pub unread : Unread b0 c0 d0 → Unread b c d
-  -- nobody paces the two
+  -- both links have the window and the retransmission of a new link
   pub pace : IsUnpaced a
   pub pace_b : IsUnpaced b
 
--- a link that is as another, in window and by hand
+-- a link with the same window and way of retransmission
 pub unpaced_as : (l k : LinkView) → pace_of k ≡ pace_of l → IsUnpaced l → IsUnpaced k
 unpaced_as l k same u = record { window = ap (λ (p : ℕ × Bool). p.0) same ∙ u.window; manual = ap (λ (p : ℕ × Bool). p.1) same ∙ u.manual }
 
@@ -88,13 +89,13 @@ fed_on : (c d e : End) → Fed c d → Fed d e → Fed c e
 fed_on c d e one two =
     record { sent = two.sent ∙ one.sent; taken = two.taken ∙ one.taken; buffers = two.buffers ∙ one.buffers; units = two.units ∙ one.units; base = omega (arith, one.base, two.base); limit = omega (arith, one.limit, two.limit); read = omega (arith, one.read, two.read) }
 
--- as many are outstanding as stand in the queue at least
+-- the queue has at least as many units as are outstanding
 pub outstanding_there : (a : LinkView) (c d : End) → Follows a c d → AreSound c d → (a.out ≤ length a.queue) × (length a.queue ≡ length c.units - c.base)
 outstanding_there a c d f s =
     let long : length a.queue ≡ length c.units - c.base = sym (length-map a.queue unit_of) ∙ (ap length f.tracks.queue ∙ length-drop c.base c.units) in
     (omega (arith, long, f.tracks.counts.out, s.within.sent), long)
 
--- a confirmed link stays so
+-- a confirmed link stays confirmed
 confirmed_on : (l m : LinkView) → l.state ≡ S.Confirmed → StateAfter l m → m.state ≡ S.Confirmed
 confirmed_on l m was (inl same) = same.0 ∙ was
 confirmed_on l m was (inr (inl done)) = done.0

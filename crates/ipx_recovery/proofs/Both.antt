@@ -1,4 +1,5 @@
--- The other way at the same time: the second link's half of each round and the first link's half of the next are a round of the two the other way round.
+-- The other direction at the same time: the second link's half of each round and the first link's half of the
+-- next are a round of the two in the other order.
 use Rattle.std.proofs.Common.{ℕ, ◌+◌, ◌-◌, ◌<◌, ◌≤◌, ◌≡◌, ◌++◌, true, false, List, [], length, take, drop, sym, ap, ◌∙◌, subst, inl, inr, ⊎_elim, arith, slice_get}
 use Rattle.std.proofs.lemmas.Bool.{cases_lt}
 use Rattle.std.proofs.lemmas.List.{append-nil}
@@ -21,7 +22,7 @@ use Rattle.ipx_recovery.proofs.Ready.{Ready, able_empty, never_ended, still_owes
 use Rattle.ipx_recovery.proofs.Rounding.{rounded_on}
 use Rattle.ipx_recovery.proofs.Turning.{Enough, enough_on, at_last, many, ready_at, rounds_deliver, sends_is, shares_hold, waits}
 
--- after the first link's half of a round the two are ready the other way round
+-- after the first link's half of a round, the two are ready in the other order
 half_ready : (since since_b now : ℕ) (a b : LinkView) (c d : End) (a1 b1 b2 : LinkView) (us : List Unit) → Ready since since_b a b c d → a.end_queued ≡ false → (h : Half now a b c d a1 b1 b2 us)
     → Ready since_b now b2 a1 h.y.after h.x.one
 half_ready since since_b now a b c d a1 b1 b2 us r open' h =
@@ -56,7 +57,8 @@ half_ready since since_b now a b c d a1 b1 b2 us r open' h =
       pace_b = mid.pace;
     }
 
--- what comes of the units of a link that speaks second in each round: with n whole rounds the other way round, and a half of one at the end
+-- the units of a link that sends second in each round: after n whole rounds in the other order, and a half
+-- one at the end
 pub record Backed (b : LinkView) (e c : End) (b' : LinkView) (n : ℕ) (ws : List Unit) : Type 0 where
   pub taken : ℕ
   pub later : c.taken ≤ taken
@@ -99,7 +101,7 @@ backed laws sb sa now b a e c b1 a1 a2 vs past low buffers r goes' takes moments
           (on.0, omega (arith, on.1, ap length one.units));
     }
 
--- the units of the second link come too
+-- the units of the second link arrive too
 pub record CameBack (b b' : LinkView) (c d : End) (units_a : List Unit) : Type 0 where
   pub queue : b'.queue ≡ []
   pub units : units_a ≡ drop c.taken d.units

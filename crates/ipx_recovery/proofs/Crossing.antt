@@ -1,4 +1,5 @@
--- All that a link gives at a moment, read by its peer at once: what becomes of the two links and their ends of the machine.
+-- Everything that a link gives at one time, read by its peer at once: how the two links and their ends of the
+-- machine change.
 use Rattle.std.proofs.Common.{ℕ, ◌+◌, ◌-◌, ◌<◌, ◌≤◌, ◌≡◌, min, nat_lt, true, false, length, take, get_or, Some, None, sym, ap, ◌∙◌, subst, inl, inr, ⊎_elim, arith, slice_get}
 use Rattle.std.proofs.lemmas.Bool.{cases_lt, lt-ltb, leb-true, cond-true, cond-false}
 use Rattle.std.proofs.lemmas.Option.{slice_get-get_or}
@@ -63,16 +64,16 @@ cross laws now a0 b0 c0 d0 names joined a b a' b' (goes {a1 = a1} {b1 = b1} g r 
     let next = step laws now a0 b0 c0 d0 names a b c d mid g a1 gave s open' in
     cross laws now a0 b0 c0 d0 names joined a1 b1 a' b' rest s.after (got (packet_now s.position s.after d) d) (subst (λ z. Mid now a0 b0 c0 d0 a1 z.1 s.after (got (packet_now s.position s.after d) d)) read next)
 
--- ---- what has crossed
+-- ---- the result
 
--- a link that rests has nothing outstanding that is due
+-- a link that gives nothing has no outstanding unit that is due
 not_late : (l : LinkView) (now k : ℕ) (q : Queued) → l.manual ≡ false → is_working l.state ≡ true → late_if_working l now ≡ None → k < l.out → slice_get l.queue k ≡ Some q → due q.at now ≡ false
 not_late l now k q clock works none below is =
     let found : late l now ≡ None = sym (cond-false l.manual (asked_again l) (late l now) clock) ∙ (sym (cond-true (is_working l.state) (wanted l now) None works) ∙ none) in
     let front : slice_get (take l.out l.queue) k ≡ Some q = slice_get-take l.out l.queue k below ∙ is in
     no_place (λ (x : Queued). due x.at now) (take l.out l.queue) k q found front
 
--- it met each: a unit that is outstanding was read, and an answer is owed
+-- each outstanding unit was read, and an answer is owed
 pub all_met : (now : ℕ) (a0 b0 : LinkView) (c0 d0 : End) (a b : LinkView) (x : Crossed now a0 b0 c0 d0 a b) → is_working a0.state ≡ true → (k : ℕ) → k < a.out
     → Has x.two (x.one.base + k) × Owes b
 all_met now a0 b0 c0 d0 a b x works k below =
@@ -85,7 +86,7 @@ all_met now a0 b0 c0 d0 a b x works k below =
       | inr met ↦ (met.1, met.2)
     ]
 
--- all that was sent is read
+-- everything that was sent is read
 pub all_read : (now : ℕ) (a0 b0 : LinkView) (c0 d0 : End) (a b : LinkView) (x : Crossed now a0 b0 c0 d0 a b) → is_working a0.state ≡ true → x.two.read ≡ x.one.sent
 all_read now a0 b0 c0 d0 a b x works =
     let mid = x.mid in
@@ -98,7 +99,7 @@ all_read now a0 b0 c0 d0 a b x works =
     (cases_lt n x.one.base)) in
     omega (arith, up, mid.line.there.read)
 
--- all that may be sent is sent
+-- everything that may be sent is sent
 pub all_sent : (now : ℕ) (a0 b0 : LinkView) (c0 d0 : End) (a b : LinkView) (x : Crossed now a0 b0 c0 d0 a b) → is_working a0.state ≡ true → x.one.sent ≡ min x.one.limit (length x.one.units)
 all_sent now a0 b0 c0 d0 a b x works =
     let mid = x.mid in
@@ -119,7 +120,7 @@ all_sent now a0 b0 c0 d0 a b x works =
     (λ (none : length a.queue ≤ a.out). omega (arith, none, there.1, t.out, mid.line.within.sent, mid.line.there.sent))
     (cases_lt a.out (length a.queue))
 
--- one that owed something told its peer
+-- a link that owed something has told its peer
 pub told_owed : (now : ℕ) (a0 b0 : LinkView) (c0 d0 : End) (a b : LinkView) (x : Crossed now a0 b0 c0 d0 a b) → Owed a0 → Told x.one b x.two
 told_owed now a0 b0 c0 d0 a b x owed =
     elim x.mid.gave [

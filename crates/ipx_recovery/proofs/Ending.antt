@@ -1,4 +1,4 @@
--- Polls at one moment end: each that gives a packet leaves less to give at that moment.
+-- Polls at one time end: each that gives a packet leaves less to give at that time.
 use Rattle.std.proofs.Common.{◌≡◌, ℕ, zero, suc, ◌+◌, ◌-◌, ◌<◌, ◌≤◌, ◌==◌, ◌||◌, Bool, true, false, List, [], ◌∷◌, length, set, take, Option, Some, None, is_some, if◌then◌else◌, nat_le, nat_lt, ltb-true, refl, sym, ap, ◌∙◌, ⊎_elim, arith, slice_get, length-set, length-take}
 use Rattle.std.proofs.lemmas.Bool.{cond_both, cond-true, cond-false, cases_Bool, lt-leb}
 use Rattle.std.specs.Prelude.{⊤}
@@ -28,12 +28,12 @@ lates now (q ∷ qs) = one_if (due q.at now) + lates now qs
 abbrev asks : LinkView → ℕ → Bool
 asks l now = (l.asked_count == 0) || due l.asked_at now
 
--- what is left to give at a moment
+-- what is left to give at this time
 abbrev pub left : LinkView → ℕ → ℕ
 left l now =
     one_if l.owes_reply + (one_if l.owes_confirm + (one_if l.owes_ack + ((length l.queue - l.out) + (lates now l.queue + (one_if (due l.spoke now) + (one_if (asks l now) + one_if (is_some l.again)))))))
 
--- a moment is not 500 ms behind itself
+-- a time is not 500 ms after itself
 pub not_yet : (now : ℕ) → due now now ≡ false
 not_yet now = lt-leb (now + 500) now (omega arith)
 
@@ -58,7 +58,7 @@ Fewer l now (Some o) m = left m now < left l now
 abbrev pub FewerBy : LinkView → ℕ → Option OutgoingView × LinkView → Type 0
 FewerBy l now r = Fewer l now r.0 r.1
 
--- the place that was asked for
+-- the index that was asked for
 place_some : (count k : ℕ) (o : Option ℕ) → place_below count o ≡ Some k → is_some o ≡ true
 place_some count k None is = absurd (cc)
 place_some count k (Some j) is = refl
@@ -71,7 +71,7 @@ place_under count k (Some j) is = by_bool (nat_lt j count) refl is
     by_bool true less same = let e : j ≡ k = cc in omega (arith, ltb-true j count less, e)
     by_bool false less same = absurd (cc)
 
--- where one goes again, the link is working
+-- if a unit is sent again, the link is working
 pub wanted_working : (l : LinkView) (now k : ℕ) → late_if_working l now ≡ Some k → (is_working l.state ≡ true) × (wanted l now ≡ Some k)
 wanted_working l now k is =
     ⊎_elim
@@ -79,7 +79,7 @@ wanted_working l now k is =
     (λ (not_so : is_working l.state ≡ false). absurd (cc (sym (cond-false (is_working l.state) (wanted l now) None not_so) ∙ is)))
     (cases_Bool (is_working l.state))
 
--- by the clock, the first that is late is due
+-- without manual retransmission, the first late unit is due
 pub late_due : (l : LinkView) (now k : ℕ) (q : Queued) → l.manual ≡ false → late_if_working l now ≡ Some k → slice_get l.queue k ≡ Some q → due q.at now ≡ true
 late_due l now k q clock late' is =
     ⊎_elim
@@ -92,7 +92,7 @@ late_due l now k q clock late' is =
     (λ (not_so : is_working l.state ≡ false). absurd (cc (sym (cond-false (is_working l.state) (wanted l now) None not_so) ∙ late')))
     (cases_Bool (is_working l.state))
 
--- one that goes again is due no more, or no more asked for
+-- a unit that is sent again is no longer due, or no longer asked for
 again_fewer : (l : LinkView) (now k : ℕ) (q : Queued) → late_if_working l now ≡ Some k → slice_get l.queue k ≡ Some q → left (sends_again l now k q).1 now < left l now
 again_fewer l now k q late' is =
     let spoke : one_if (due now now) ≡ 0 = ap one_if (not_yet now) in
@@ -149,7 +149,7 @@ fewer_at S.Lost l now = tt
 pub polls_fewer : (l : LinkView) (now : ℕ) (o : OutgoingView) (m : LinkView) → poll_link l now ≡ (Some o, m) → left m now < left l now
 polls_fewer l now o m is = rw is at (fewer_at l.state l now)
 
--- all that is given at a moment is some packets
+-- everything that is given at one time is a finite list of packets
 pub record Conveyed (a b : LinkView) (now : ℕ) : Type 0 where
   pub told : LinkView
   pub heard : LinkView

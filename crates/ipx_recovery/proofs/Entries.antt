@@ -1,4 +1,4 @@
--- What stands in the queue of a link that speaks: what stood there, or what it sent now.
+-- The queue of a link that sends: the old entries, or what it sent now.
 use Rattle.std.proofs.Common.{ℕ, ◌+◌, ◌<◌, ◌≤◌, ◌≡◌, ◌⊎◌, ◌||◌, true, false, List, Option, Some, None, sym, ap, ◌∙◌, subst, inl, inr, ⊎_elim, arith, slice_get}
 use Rattle.std.proofs.lemmas.Bool.{cases_Bool}
 use Rattle.spx_link.specs.declared.queue.Queued.{Queued}
@@ -20,12 +20,12 @@ use Rattle.ipx_recovery.proofs.Hearing.{Owes, owes_by_ack, owes_by_confirm}
 use Rattle.ipx_recovery.proofs.Giving.{KindOf}
 use Rattle.ipx_recovery.proofs.Lists.{get_set}
 
--- a number stands for one place of those that are outstanding
+-- a number identifies one index of those that are outstanding
 same_place : (n base out next sent place seq : ℕ) → next ≡ mark sent → base + out ≡ sent → out ≤ 8192 → place < out → base ≤ n → n < sent
     → seq ≡ mark n → seq ≡ mark (distance next out + place) → n ≡ base + place
 same_place n base out next sent place seq a b c d e f g h = omega arith
 
--- at this place stands what stood there, or what was sent now
+-- the entry at this index is the old one, or what was sent now
 abbrev pub Entry : LinkView → ℕ → End → Option ℕ → ℕ → Queued → Type 0
 Entry a now c o k q = ((k < a.out) × (slice_get a.queue k ≡ Some q)) ⊎ ((q.at ≡ now) × (o ≡ Some (c.base + k)))
 
@@ -80,7 +80,7 @@ owes_on b m acks confirms owes =
     (λ (other : b.owes_ack ≡ false). owes_by_confirm m (confirms (sym (ap (λ x. x || b.owes_confirm) other) ∙ owes)))
     (cases_Bool b.owes_ack)
 
--- a unit that is outstanding: due, and not sent too often; or sent now and read by the peer, which owes an answer
+-- an outstanding unit: due, and not sent too often; or sent now and read by the peer, which owes an answer
 abbrev pub IsMet : ℕ → LinkView → End → End → ℕ → Queued → Type 0
 IsMet now b c d k q = ((due q.at now ≡ true) × (q.count < most_sends)) ⊎ ((q.at ≡ now) × Has d (c.base + k) × Owes b)
 

@@ -1,4 +1,4 @@
--- What a poll of a link that is joined leaves of it, for each kind of packet, and when it gives nothing.
+-- A joined link after a poll, for each kind of packet, and when a poll gives nothing.
 use Rattle.std.proofs.Common.{ℕ, ◌+◌, ◌<◌, ◌≡◌, ◌⊎◌, true, false, length, set, take, Option, Some, None, nat_le, refl, sym, ◌∙◌, inl, inr, ⊎_elim, arith, get_or, slice_get, length-take}
 use Rattle.std.proofs.lemmas.Bool.{cond-true, cond-false, cases_Bool}
 use Rattle.std.proofs.lemmas.List.Quantifiers.{position-Some}
@@ -17,7 +17,7 @@ use Rattle.spx_link.specs.Poll.{OutgoingView, base, late, asked_again, wanted, l
 use Rattle.ipx_recovery.proofs.PollCases.{IsResting, probing, poll_by}
 use Rattle.ipx_recovery.proofs.Ending.{late_due, place_under, wanted_working}
 
--- a mark is set: it gives something whatever the moment
+-- a flag is set: it gives something at any time
 abbrev pub Owed : LinkView → Type 0
 Owed l = (l.owes_reply ≡ true) ⊎ (l.owes_confirm ≡ true) ⊎ (l.owes_ack ≡ true)
 
@@ -32,7 +32,7 @@ pub record SameQueue (l m : LinkView) : Type 0 where
   pub out : m.out ≡ l.out
   pub probes : m.probes ≡ l.probes
 
--- the first unit that was not sent is outstanding, since now
+-- the first unit that was not sent is outstanding, sent now
 pub record SentNext (l : LinkView) (now : ℕ) (m : LinkView) : Type 0 where
   pub unit : Queued
   pub there : slice_get l.queue l.out ≡ Some unit
@@ -81,7 +81,7 @@ pub record Gave (l : LinkView) (now : ℕ) (g : OutgoingView) (m : LinkView) : T
   pub pace : pace_of m ≡ pace_of l
   pub kind : KindOf g.what l now g m
 
--- a unit that is due (or by hand asked for), or a probe, was sent ten times
+-- a unit that is due (or asked for, with manual retransmission), or a probe, was sent ten times
 pub record LateTooOften (l : LinkView) (now : ℕ) : Type 0 where
   pub place : ℕ
   pub unit : Queued

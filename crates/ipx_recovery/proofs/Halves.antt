@@ -1,4 +1,4 @@
--- The two halves of a round: what the first link gives, and what the second answers.
+-- The two halves of a round: the packets of the first link, and those of the second.
 use Rattle.std.proofs.Common.{ℕ, ◌+◌, ◌≤◌, ◌≡◌, ◌⊎◌, min, true, false, List, [], length, take, drop, sym, ap, ◌∙◌, inl, inr, arith, slice_get}
 use Rattle.spx_link.specs.declared.unit.Unit.{Unit}
 use Rattle.spx_link.specs.declared.state.State.TheVariants as S
@@ -16,8 +16,9 @@ use Rattle.ipx_recovery.proofs.Amid.{Mid, Unread, unpaced_as}
 use Rattle.ipx_recovery.proofs.Crossing.{Crossed, cross, told_owed}
 use Rattle.ipx_recovery.proofs.Ready.{Able, Ready, able_empty, able_heard, able_same, mid_start, never_ended, owed_by, still_sends}
 
--- what a round leaves where the first link still sends its units: all that was sent is read, and all that may be is sent. Either the peer told what
--- may be sent next; or no unit was sent or is outstanding, no mark is left that would keep a probe back, and where none was there no unit waits
+-- the result of a round if the first link still sends its units: everything that was sent is read, and
+-- everything that may be sent is. Either the peer said what may be sent next; or no unit was sent or is
+-- outstanding, no flag is left that would prevent a probe, and if none was set, no unit waits
 pub record Worked (a a' : LinkView) (c d one two : End) : Type 0 where
   pub read : two.read ≡ one.sent
   pub base : one.base ≡ one.sent
@@ -52,13 +53,13 @@ pub record Rounded (now now_b : ℕ) (a b a' b' : LinkView) (c d : End) (units_b
   -- the second link is as it was, or had the end; then the first is confirmed
   pub back : SameBack b b' ⊎ EndsBack a a' b b'
 
--- in the midst of a round: the second link read all, and its user took all
+-- the middle of a round: the second link has read everything, and its user has taken everything
 pub record Half (now : ℕ) (a b : LinkView) (c d : End) (a1 b1 b2 : LinkView) (units_b : List Unit) : Type 0 where
   pub x : Crossed now a b c d a1 b1
   pub t : TookAll b1 b2 units_b
   pub y : TakenTo b2 x.two x.one
 
--- the peer can still send: it gave up nothing, or all is read by now
+-- the peer can still send: it has not given up, or everything is read by now
 pub able_back : (since since_b now : ℕ) (a b : LinkView) (c d : End) (a1 b1 b2 : LinkView) (us : List Unit) → Ready since since_b a b c d → Half now a b c d a1 b1 b2 us → is_working b2.state ≡ true → Able b2
 able_back since since_b now a b c d a1 b1 b2 us r h works =
     let mid = h.x.mid in

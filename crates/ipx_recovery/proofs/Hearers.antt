@@ -1,4 +1,4 @@
--- What packets that are read one after another make of an end of the machine, and of a link.
+-- How packets that are read one after another change an end of the machine, and a link.
 use Rattle.std.proofs.Common.{ℕ, ◌+◌, ◌-◌, ◌<◌, ◌≤◌, ◌≡◌, ◌⊎◌, max, true, length, drop, Option, Some, None, refl, sym, ap, ◌∙◌, inl, inr, arith, slice_get}
 use Rattle.std.proofs.lemmas.Bool.{cond_both}
 use Rattle.spx_link.specs.declared.queue.Queued.{Queued}
@@ -12,7 +12,7 @@ use Rattle.spx_link.specs.Offer.{queued}
 use Rattle.ipx_recovery.proofs.Hearing.{StateAfter, Reads}
 use Rattle.ipx_recovery.proofs.Lists.{none_left, slice_get-drop}
 
--- it learned, and may have read more
+-- it read the numbers, and may have read more units
 pub record Fed (old new : End) : Type 0 where
   pub sent : new.sent ≡ old.sent
   pub taken : new.taken ≡ old.taken
@@ -22,7 +22,7 @@ pub record Fed (old new : End) : Type 0 where
   pub limit : old.limit ≤ new.limit
   pub read : old.read ≤ new.read
 
--- it learned this packet
+-- it read the numbers of this packet
 pub record Learned (p : Packet) (new : End) : Type 0 where
   pub base : p.read ≤ new.base
   pub limit : p.allows ≤ new.limit
@@ -50,9 +50,9 @@ fed_got p c =
       record { base = omega (arith, f.1.0); limit = omega (arith, f.1.1) },
     )
 
--- ---- the link that hears
+-- ---- the link that reads
 
--- what came of its state
+-- its state after that
 abbrev pub Course : LinkView → LinkView → Type 0
 Course l m =
     ((m.state ≡ l.state) × (m.peer_ended ≡ l.peer_ended)) ⊎ ((m.state ≡ S.Confirmed) × (l.end_queued ≡ true) × (length m.queue ≡ 0) × (m.peer_ended ≡ l.peer_ended))

@@ -1,4 +1,4 @@
--- What a link that is joined makes of a packet of its peer.
+-- How a joined link reads a packet of its peer.
 use Rattle.std.proofs.Common.{ℕ, zero, suc, ◌∷◌, Some, slice_get, ◌-◌, ◌≡◌, ◌≢◌, ◌⊎◌, ◌==◌, ◌&&◌, ◌||◌, not, nat_le, nat_lt, Bool, true, false, List, [], ◌++◌, length, drop, Option, refl, sym, ap, ◌∙◌, subst, inl, inr, ⊎_elim, eqb-true}
 use Rattle.std.proofs.lemmas.Bool.{cond_both, and_parts, cond-true, cases_Bool, eq-eqb}
 use Rattle.std.proofs.lemmas.List.{append-nil}
@@ -20,13 +20,13 @@ use Rattle.ipx_recovery.proofs.Lists.{or_first, or_left, or_right, or_second}
 abbrev pub Owes : LinkView → Type 0
 Owes l = (l.owes_ack || l.owes_confirm) ≡ true
 
--- the state after: the same, or confirmed with nothing left, or the peer ended
+-- the state after it: the same, or confirmed with an empty queue, or the peer ended
 abbrev pub StateAfter : LinkView → LinkView → Type 0
 StateAfter l m =
     ((m.state ≡ l.state) × (m.peer_ended ≡ l.peer_ended)) ⊎ ((m.state ≡ S.Confirmed) × (l.end_queued ≡ true) × (length m.queue ≡ 0) × (m.peer_ended ≡ l.peer_ended))
     ⊎ ((m.state ≡ after_end l.state) × (m.peer_ended ≡ true) × (m.owes_confirm ≡ true))
 
--- unless the peer ended, no unit that it holds more is an end
+-- unless the peer ended, no unit that it newly holds is an end
 pub record HoldsMore (l m : LinkView) : Type 0 where
   pub units : List Unit
   pub held : m.held ≡ l.held ++ units
@@ -56,10 +56,10 @@ pub record Reads (l : LinkView) (h : SpxHeader) (r : Received × LinkView) : Typ
   pub acks : l.owes_ack ≡ true → r.1.owes_ack ≡ true
   pub confirms : l.owes_confirm ≡ true → r.1.owes_confirm ≡ true
   pub state : StateAfter l r.1
-  -- a packet that asks for an answer, and one with a unit
+  -- a packet that asks for an answer, and a packet with a unit
   pub answers : h.wants_ack ≡ true → is_system h ≡ true → Owes r.1
   pub keeps : is_system h ≡ false → l.peer_ended ≡ false → Owes r.1
-  -- a confirmation where nothing is left; and what it holds more
+  -- a confirmation if the queue is empty; and what it newly holds
   pub confirmed : h.stream ≡ confirm_stream → l.end_queued ≡ true → length r.1.queue ≡ 0 → r.1.state ≡ S.Confirmed
   pub more : MoreHeld l r.1
 
@@ -69,7 +69,8 @@ owes_by_ack l e = or_left l.owes_ack l.owes_confirm e
 pub owes_by_confirm : (l : LinkView) → l.owes_confirm ≡ true → Owes l
 owes_by_confirm l e = or_right l.owes_ack l.owes_confirm e
 
--- a link m with these marks and this state, whose other fields are those of l that read the numbers
+-- a link m with these flags and this state, and with the other fields of l after the packet's numbers were
+-- read
 leaf : (l : LinkView) (h : SpxHeader) (r : Received × LinkView) → is_system h ≡ false → r.0 ≢ R.Stranger
     → r.1.queue ≡ drop (acknowledged l.next l.out h.ack) l.queue → r.1.out ≡ l.out - acknowledged l.next l.out h.ack
     → r.1.spoke ≡ l.spoke → r.1.probes ≡ 0 → r.1.own ≡ l.own → r.1.peer ≡ l.peer → r.1.end_queued ≡ l.end_queued

@@ -1,4 +1,4 @@
--- Lists by their places, and words of truth values.
+-- Lists by their indices, and truth values.
 use Rattle.std.proofs.Common.{ℕ, zero, suc, ◌+◌, ◌<◌, ◌≤◌, ◌≡◌, ◌≢◌, ◌⊎◌, ◌&&◌, ◌||◌, Bool, true, false, List, [], ◌∷◌, ◌++◌, length, take, drop, set, Some, None, refl, sym, ap, ◌∙◌, inl, inr, arith, slice_get}
 use Rattle.std.proofs.lemmas.Grind.{common_steps}
 use Rattle.std.proofs.lemmas.List.Sums.{fails_before_first}
@@ -28,9 +28,9 @@ pub or_second : (p q : Bool) → (p || q) ≡ false → q ≡ false
 or_second true q e = absurd (cc e)
 or_second false q e = e
 
--- ---- what stands at a place
+-- ---- the element at an index
 
--- after a set, at a place stands what stood there or what was written
+-- after a replacement, the element at an index is the old one or the new one
 pub get_set : {A : Type 0} (xs : List A) (j k : ℕ) (x y : A) → slice_get (set xs j x) k ≡ Some y → ((j ≡ k) × (x ≡ y)) ⊎ ((j ≢ k) × (slice_get xs k ≡ Some y))
 get_set [] j k x y e = cc
 get_set (z ∷ zs) zero zero x y e = inl (refl, cc)
@@ -64,7 +64,7 @@ slice_get-behind (x ∷ xs) ys j =
     let e : length (x ∷ xs) + j ≡ suc (length xs + j) = omega arith in
     ap (slice_get (x ∷ (xs ++ ys))) e ∙ slice_get-behind xs ys j
 
--- where a search finds nothing, it fails everywhere
+-- if a search finds nothing, the test fails everywhere
 pub no_place : {A : Type 0} (p : A → Bool) (xs : List A) (k : ℕ) (x : A) → position p xs ≡ None → slice_get xs k ≡ Some x → p x ≡ false
 no_place p xs k x none is =
     let all : length xs ≤ position_or_len p xs = grind (arith, common_steps) in
@@ -82,7 +82,7 @@ none_left zero xs e = e
 none_left (suc n) [] e = refl
 none_left (suc n) (x ∷ xs) e = absurd (omega (arith, e))
 
--- what stands before a place and from there to another
+-- the part before an index, followed by the part from there to another
 pub seam : {A : Type 0} (t n m : ℕ) (xs : List A) → t ≤ n → n ≤ m → drop t (take n xs) ++ drop n (take m xs) ≡ drop t (take m xs)
 seam zero zero m xs low high = refl
 seam zero (suc n) zero xs low high = absurd (omega (arith, high))

@@ -1,4 +1,4 @@
--- Two links in step as they are between rounds, and what of that stays while one hears and takes.
+-- Two links in step between rounds, and what stays of that while one reads and takes.
 use Rattle.std.proofs.Common.{ℕ, ◌+◌, ◌<◌, ◌≤◌, ◌≡◌, ◌⊎◌, ◌||◌, true, false, List, length, Some, refl, sym, ap, ◌∙◌, inl, inr, ⊎_elim, arith, slice_get}
 use Rattle.std.proofs.lemmas.Bool.{cases_Bool, le-leb}
 use Rattle.spx_link.specs.declared.unit.Unit.{Unit}
@@ -21,15 +21,15 @@ use Rattle.ipx_recovery.proofs.Entries.{owes_on}
 use Rattle.ipx_recovery.proofs.Hearers.{Course, HeardBy, heard_same}
 use Rattle.spx_theory.specs.Named.{AreNamed}
 
--- no unit outstanding and no probe was sent ten times
+-- no outstanding unit and no probe was sent ten times
 abbrev pub Able : LinkView → Type 0
 Able l = ((k : ℕ) (q : Queued) → k < l.out → slice_get l.queue k ≡ Some q → q.count < most_sends) × (l.probes < most_sends)
 
--- no unit outstanding was sent later
+-- no outstanding unit was sent later
 abbrev pub SentBy : LinkView → ℕ → Type 0
 SentBy l since = (k : ℕ) (q : Queued) → k < l.out → slice_get l.queue k ≡ Some q → q.at ≤ since
 
--- two links as they are between rounds, where the second has queued no end
+-- two links between rounds, if the second has queued no end
 pub record Ready (since since_b : ℕ) (a b : LinkView) (c d : End) : Type 0 where
   pub first : Follows a c d
   pub second : Follows b d c
@@ -78,7 +78,7 @@ mid_start now since a b c d past first second line joined spoke by able ended pa
       pace_b = pace_b;
     }
 
--- who owes an answer has a mark
+-- a link that owes an answer has a flag set
 pub owed_by : (b : LinkView) → Owes b → Owed b
 owed_by b owes =
     ⊎_elim
@@ -94,7 +94,7 @@ after_end_stops S.PeerEnded = refl
 after_end_stops S.Confirmed = refl
 after_end_stops S.Lost = refl
 
--- who still sends after it heard did not change
+-- a link that still sends after it read has the same state
 pub still_sends : (l m : LinkView) → Course l m → is_working m.state ≡ true → m.state ≡ l.state
 still_sends l m (inl same) works = same.0
 still_sends l m (inr (inl done)) works = absurd (cc (sym (ap is_working done.0) ∙ works))
@@ -104,7 +104,7 @@ still_sends l m (inr (inr ended)) works =
       | inr s ↦ absurd (cc (sym (ap is_working s.0) ∙ works))
     ]
 
--- no unit of a link that queued no end is one
+-- no unit of a link that queued no end is an end
 pub never_ended : (a b : LinkView) (c d : End) → Follows a c d → Follows b d c → b.end_queued ≡ false → a.peer_ended ≡ true → ⊥
 never_ended a b c d f g open' is =
     let shut : Formed d.units true = (f.tracks.ended is).0 in

@@ -1,4 +1,5 @@
--- One round of two links in step: all that was sent is read, and what the first link may send next is told to it.
+-- One round of two links in step: everything that was sent is read, and the first link is told what it may
+-- send next.
 use Rattle.std.proofs.Common.{ℕ, ◌+◌, ◌<◌, ◌≤◌, ◌≡◌, ◌⊎◌, ◌==◌, true, false, List, [], length, take, drop, sym, ap, ◌∙◌, subst, inl, inr, ⊎_elim, arith, slice_get}
 use Rattle.std.proofs.lemmas.Bool.{cases_lt, lt-ltb, le-leb, eq-eqb}
 use Rattle.spx_link.specs.declared.unit.Unit.{Unit}
@@ -26,7 +27,7 @@ rest_owes_none l now r (inl e) = cc (sym e ∙ r.reply)
 rest_owes_none l now r (inr (inl e)) = cc (sym e ∙ r.confirm)
 rest_owes_none l now r (inr (inr e)) = cc (sym e ∙ r.ack)
 
--- a link that waits with nothing outstanding and no room, and was silent, may probe
+-- a link that waits with nothing outstanding and no allocation, and was silent, may probe
 must_probe : (l : LinkView) (now : ℕ) → is_working l.state ≡ true → l.out < length l.queue → l.room ≡ 0 → l.out ≡ 0 → l.spoke + resend_after ≤ now → may_probe l now ≡ true
 must_probe l now works waits room out silent =
     and_both (is_working l.state) _ works
@@ -34,7 +35,7 @@ must_probe l now works waits room out silent =
 
 module _ (laws : LinkLaws) (since since_b now now_b : ℕ) (a b : LinkView) (c d : End) (past : since + resend_after ≤ now) (r : Ready since since_b a b c d)
     (a1 b1 b2 a2 b' a' : LinkView) (us vs : List Unit) (w : Twice now now_b a b c d a1 b1 b2 us a2 b') (tb : TookAll a2 a' vs) (z : TakenTo a' w.x.two w.x.one) where
-  -- the peer said nothing in this round
+  -- the peer sent nothing in this round
   abbrev Silent : Type 0
   Silent = (b' ≡ b2) × (a2 ≡ a1)
 
@@ -167,7 +168,7 @@ module _ (laws : LinkLaws) (since since_b now now_b : ℕ) (a b : LinkView) (c d
         pace_b = m.pace;
       }
 
-  -- a confirmation that is owed comes to the first link, which has nothing left by then
+  -- a confirmation that is owed reaches the first link, whose queue is empty by then
   closes_on : b1.peer_ended ≡ true → b1.owes_confirm ≡ true → a.end_queued ≡ true → a'.state ≡ S.Confirmed
   closes_on ended owes queued =
       let h = w.half in

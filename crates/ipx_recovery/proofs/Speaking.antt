@@ -1,4 +1,4 @@
--- A packet that one link gives and the other reads at once, as the two ends of the machine see it.
+-- A packet that one link gives and the other reads at once, for the two ends of the machine.
 use Rattle.std.proofs.Common.{ℕ, ◌+◌, ◌<◌, ◌≤◌, ◌≡◌, ◌≢◌, length, take, drop, Option, Some, None, true, refl, sym, ap, ◌∙◌, subst, arith, slice_get}
 use Rattle.spx_link.specs.declared.outgoing.Sent.{Sent}
 use Rattle.spx_link.specs.declared.outgoing.Sent.TheVariants as Sents
@@ -17,7 +17,7 @@ pub swapped : (c d : End) → AreSound c d → AreSound d c
 swapped c d s =
     record { there = s.back; back = s.there; within = s.peer_within; peer_within = s.within; bag = s.peer_bag; peer_bag = s.bag }
 
--- an end that spoke: it may have sent one more, and nothing else is another
+-- an end that sent: it may have sent one more unit, and nothing else changed
 pub record Grew (old new : End) : Type 0 where
   pub base : new.base ≡ old.base
   pub sent : old.sent ≤ new.sent
@@ -37,7 +37,7 @@ PositionIs Sents.Again c o = (n : ℕ) × (o ≡ Some n) × (c.base ≤ n) × (n
 PositionIs Sents.Ack c o = o ≡ None
 PositionIs Sents.Probe c o = o ≡ None
 
--- the packet that a link gave as it became m, where c was its end and d is its peer's
+-- the packet that a link gave when it became m; c was its end, and d is its peer's
 pub record Spoken (what : Sent) (m : LinkView) (g : OutgoingView) (c d : End) : Type 0 where
   pub after : End
   pub position : Option ℕ
@@ -62,7 +62,7 @@ mailed_tracks l o c e d t =
       formed = t.formed;
     }
 
--- what an end says now was so
+-- what an end says now is true
 was_now : (c d : End) (o : Option ℕ) → AreSound c d → ((n : ℕ) → o ≡ Some n → (c.base ≤ n) × (n < c.sent)) → WasSent c d (packet_now o c d)
 was_now c d o s at =
     record {
@@ -134,9 +134,9 @@ spoken laws Sents.Again m g c d s (n, low, high, says) = again_spoken laws m g c
 spoken laws Sents.Ack m g c d s says = plain_spoken laws Sents.Ack m g c d refl s says
 spoken laws Sents.Probe m g c d s says = plain_spoken laws Sents.Probe m g c d refl s says
 
--- ---- the one that reads it at once
+-- ---- the link that reads it at once
 
--- of its peer, a link follows the units alone
+-- of its peer, a link follows only the units
 pub peer_tracks : (l : Core) (c d e : End) → e.units ≡ d.units → Tracks l c d → Tracks l c e
 peer_tracks l c d e same t =
     record {

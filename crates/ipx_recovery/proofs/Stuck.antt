@@ -1,4 +1,4 @@
--- What rounds do to the links of two peers of a network that is reached.
+-- What rounds do to the links of two peers of a network that can be reached.
 use Rattle.std.proofs.Common.{ℕ, ◌≡◌, length, drop, sym, ap, ◌∙◌, subst, inl, inr, slice_get, take, false, Some, ◌++◌}
 use Rattle.std.proofs.lemmas.Bool.{eq-eqb}
 use Rattle.spx_link.specs.LinkView.{is_end}
@@ -21,7 +21,7 @@ use Rattle.ipx_recovery.proofs.Speaking.{swapped}
 use Rattle.ipx_recovery.proofs.Lists.{slice_get-take}
 use Rattle.ipx_recovery.proofs.Well.{WellAt, none_is_end, wells}
 
--- an end and its peer, whichever called
+-- an end and its peer, whichever dialled
 pub record Follow (s : Scene) (c d : ℕ) (a b : LinkView) : Type 0 where
   pub one : End
   pub two : End
@@ -82,7 +82,7 @@ left_is s c d one two units taken = ap (λ n. drop n one.units) (sym taken) ∙ 
 back_named : (b a : LinkView) → AreNamed b a → AreNamed a b
 back_named b a n = record { peer = n.peer_back; peer_back = n.peer }
 
--- each is called what the other calls its peer, whichever called
+-- each has the id by which the other addresses its peer, whichever dialled
 named : (s : Scene) (c d : ℕ) (e f : Stand) (a b : LinkView) → PeersAreNamed s → ArePeersIn (scan s.log) c d → Stands s c e a → Stands s d f b → AreNamed a b
 named s c d e f a b law (inl j) one two = law c d j e f a b one two
 named s c d e f a b law (inr j) one two = back_named b a (law d c j f e b a two one)

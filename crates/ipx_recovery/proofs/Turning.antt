@@ -1,4 +1,4 @@
--- LosslessRound after round: how many are enough.
+-- Round after round: how many are enough.
 use Rattle.std.proofs.Common.{ℕ, zero, suc, ◌+◌, ◌-◌, ◌*◌, ◌/◌, ◌<◌, ◌≤◌, ◌≡◌, ◌⊎◌, ◌++◌, true, false, List, [], length, take, drop, refl, sym, ap, ◌∙◌, subst, inl, inr, arith, eqb-true}
 use Rattle.std.proofs.lemmas.Bool.{false_from_ne_true}
 use Rattle.std.proofs.lemmas.Option.{slice_get_within}
@@ -27,7 +27,7 @@ abbrev pub many : ℕ → ℕ → ℕ
 many zero m = 0
 many (suc s) m = m + many s m
 
--- all is acknowledged, and the peer told what may be sent next
+-- everything is acknowledged, and the peer said what may be sent next
 pub record Settled (c d : End) : Type 0 where
   pub base : c.base ≡ c.sent
   pub limit : c.limit ≡ c.sent + d.buffers
@@ -37,7 +37,7 @@ pub record Waiting (a : LinkView) (c : End) : Type 0 where
   pub base : c.base ≡ c.sent
   pub held : a.held ≡ []
 
--- how far it came: n rounds more are enough for s shares of units
+-- how far it is: n more rounds are enough for s shares of units
 pub data Phase (a : LinkView) (c d : End) (s : ℕ) : ℕ → Type 0 where
   at_first : {n : ℕ} → 3 + s ≤ n → Phase a c d s n
   waits : {n : ℕ} → a.held ≡ [] → 2 + s ≤ n → Phase a c d s n
@@ -54,7 +54,7 @@ pub record StillSends (a : LinkView) (c d : End) (n : ℕ) : Type 0 where
 abbrev pub Enough : LinkView → End → End → ℕ → Type 0
 Enough a c d n = (c.base ≡ length c.units) ⊎ StillSends a c d n
 
--- all that a link queued is acknowledged where its queue is empty
+-- if the queue of a link is empty, everything that it queued is acknowledged
 none_queued : (since since_b : ℕ) (a b : LinkView) (c d : End) → Ready since since_b a b c d → length a.queue ≡ 0 → c.base ≡ length c.units
 none_queued since since_b a b c d r none = omega (arith, none, (outstanding_there a c d r.first r.line).1, r.line.there.base, r.line.there.read, r.line.within.sent)
 
@@ -120,9 +120,9 @@ at_last a c d within (inr sends) = last sends.shares sends.few sends.phase
 
 -- ---- the units that are taken
 
--- ---- rounds in turn
+-- ---- rounds one after another
 
--- the second link had no end; or it had, and the first, whose end it was, is confirmed
+-- the second link had no end; or it had, and then the first, whose end it was, is confirmed
 abbrev pub Closing : LinkView → LinkView → Type 0
 Closing a b =
     ((b.state ≡ S.Live) × (b.peer_ended ≡ false)) ⊎ ((b.state ≡ S.PeerEnded) × (b.peer_ended ≡ true) × (a.end_queued ≡ true → a.state ≡ S.Confirmed))
@@ -195,7 +195,7 @@ turned laws a b a' b' moments us vs (after {a1 = a1} {b1 = b1} {now = now} {mome
       unread = λ z. next.unread (one.unread z);
     }
 
--- ---- how many rounds that is
+-- ---- the number of those rounds
 
 times : (s m : ℕ) → many s m ≡ s * m
 times zero m = sym (zero-mul m)

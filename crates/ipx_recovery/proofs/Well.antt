@@ -1,4 +1,5 @@
--- In every scene that is reached: a link that may still end has not had its peer's end, and until it has, no unit that it took or holds is one.
+-- In every scene that can be reached: a link that may still end has not had its peer's end. Until it has, no
+-- unit that it took or holds is one.
 use Rattle.std.proofs.Common.{ℕ, ◌<◌, ◌≡◌, ◌≢◌, ◌==◌, true, false, List, [], ◌∷◌, ◌++◌, length, set, Some, refl, sym, ap, ◌∙◌, subst, inl, inr, arith, slice_get, ne_eqb, length-set, ◌≤◌}
 use Rattle.std.proofs.lemmas.Bool.{cond_both, cond-false}
 use Rattle.std.proofs.lemmas.List.{append-nil, length-append}
@@ -115,7 +116,7 @@ receive_keeps laws l h body = receive_keeps_at l.state l h body refl (laws.allow
 lost_keeps : (l : LinkView) → Keeps l (lose_link l)
 lost_keeps l = record { well = λ w. record { buffers = w.buffers; open' = λ may. absurd (cc may); held = w.held }; before = λ e. e }
 
--- a take: what is left, and the unit
+-- a take: the link after it, and the unit
 pub record TakesWell (l k : LinkView) (u : Unit) : Type 0 where
   pub keeps : Keeps l k
   pub unit : Well l → l.peer_ended ≡ false → is_end u ≡ false
@@ -155,7 +156,7 @@ gathered-append who (x ∷ xs) ys = ap (λ zs. taken_by who x ++ zs) (gathered-a
     assoc [] vs ws = refl
     assoc (u ∷ us) vs ws = ap (λ zs. u ∷ zs) (assoc us vs ws)
 
--- a log with entries of no take for this end
+-- a log with more entries, none of them a take of this end
 taken_on : (who : ℕ) (log new ns : List Note) → new ≡ log ++ ns → taken_of who ns ≡ [] → taken_of who new ≡ taken_of who log
 taken_on who log new ns is none = ap (taken_of who) is ∙ (gathered-append who log ns ∙ (ap (λ us. taken_of who log ++ us) none ∙ append-nil (taken_of who log)))
 
@@ -165,7 +166,7 @@ well_on who log new ns l k is none keeps w =
 
 pub record Wells (s : Scene) : Type 0 where
   pub links : AllWell s
-  -- who is not there yet took nothing
+  -- an end that does not exist yet took nothing
   pub past : (who : ℕ) → length s.ends ≤ who → taken_of who s.log ≡ []
 
 set_well : (s s' : Scene) (who : ℕ) (w : Stand) (ns : List Note) → s'.log ≡ s.log ++ ns → s'.ends ≡ set s.ends who w → who < length s.ends → ((j : ℕ) → who ≢ j → taken_of j ns ≡ [])
@@ -202,7 +203,7 @@ same_well s s' ns log ends none f =
       past = λ j beyond. taken_on j s.log s'.log ns log (none j) ∙ f.past j (omega (arith, beyond, ap length ends));
     }
 
--- one link is written, which the call kept well
+-- one link is replaced, by a call that keeps this
 link_well : (s s' : Scene) (who : ℕ) (e : Stand) (l k : LinkView) (ns : List Note) → s'.log ≡ s.log ++ ns → s'.ends ≡ set s.ends who (linked e k) → ((j : ℕ) → taken_of j ns ≡ []) → Stands s who e l → Keeps l k → Wells s → Wells s'
 link_well s s' who e l k ns log ends none stands keeps f =
     set_well s s' who (linked e k) ns log ends (slice_get_within s.ends who e stands.there) (λ j other. none j)
@@ -309,7 +310,7 @@ wells laws {s} (begun is) =
     }
 wells laws {s} (happened old deed reached does) = next_well laws old s deed does (wells laws reached)
 
--- ---- what that says of the units that are read
+-- ---- what this means for the units that are read
 
 pub none_is_end : (log : List Note) (who : ℕ) (l : LinkView) → WellAt log who l → l.peer_ended ≡ false → (k : ℕ) (u : Unit) → slice_get (taken_of who log ++ l.held) k ≡ Some u → is_end u ≡ false
 none_is_end log who l w e k u is = Hearing.no_end (taken_of who log ++ l.held) k u (any_end-append (taken_of who log) l.held (w.taken e) (w.link.held e)) is

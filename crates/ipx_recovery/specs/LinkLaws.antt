@@ -1,5 +1,5 @@
--- What is proved below of the machine and of one link, as the proofs here are given it: each field is
--- a clause of a public function of `spx_link` or `theory_pairs`.
+-- The laws of lower crates that the proofs here use: of the machine and of one link. Each field is a clause
+-- of a public function of `spx_link` or `theory_pairs`.
 use Rattle.std.specs.Prelude.{ℕ, ◌≡◌, List}
 use Rattle.ipx_wire.specs.declared.spx.packet.SpxHeader.{SpxHeader}
 use Rattle.spx_link.specs.ByClock.{pace_of}
@@ -13,11 +13,11 @@ use Rattle.theory_pairs.specs.Allowances.{AllowanceLaws}
 use Rattle.theory_pairs.specs.PairSteps.{StepLaws}
 
 pub record LinkLaws : Type 0 where
-  -- the machine, a step at a time
+  -- the machine, one step at a time
   pub step : (s : Step) (m n : Machine)
       → IsStep s m n → AreSound m.one m.two → AreSound n.one n.two
   pub gets : (c d : End) (p : Packet) → AreSound c d → WasSent d c p → AreSound (got p c) d
-  -- a link beside its end of it
+  -- a link and its end of it
   pub steps : StepLaws
   -- what each call of a link keeps
   pub allowances : AllowanceLaws
@@ -25,6 +25,6 @@ pub record LinkLaws : Type 0 where
   pub endings : (l : LinkView) (now : ℕ) → SameEndings l (poll_link l now).1
   pub state : (l : LinkView) (now : ℕ)
       → StaysOrIsLost l.state (poll_link l now).1.state (poll_link l now).0
-  -- what is read leaves the window and the way that units go again
+  -- a read keeps the window and the way of retransmission
   pub paces : (l : LinkView) (h : SpxHeader) (body : List ℕ)
       → pace_of (receive_link l h body).1 ≡ pace_of l

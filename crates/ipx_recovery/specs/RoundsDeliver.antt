@@ -1,4 +1,4 @@
--- What rounds do to two links in step: the first link's units come to the second's user.
+-- What rounds do to two links in step: the first link's units arrive at the second's user.
 use Rattle.std.specs.Prelude.{ℕ, ◌<◌, ◌≤◌, ◌≡◌, ◌≢◌, ◌⊎◌, true, false, List, [], length, drop, Some, slice_get}
 use Rattle.spx_link.specs.declared.unit.Unit.{Unit}
 use Rattle.spx_link.specs.declared.queue.Queued.{Queued}
@@ -12,15 +12,15 @@ use Rattle.theory_pairs.specs.Tracks.{Follows}
 use Rattle.spx_theory.specs.Named.{AreNamed}
 use Rattle.ipx_recovery.specs.LosslessRounds.{LosslessRounds, rounds_for}
 
--- two links are the two ends of one machine, and each is called what the other calls its peer
+-- two links are the two ends of one machine, and each has the id by which the other addresses its peer
 pub record AreInStep (a b : LinkView) (one two : End) : Type 0 where
   pub first : Follows a one two
   pub second : Follows b two one
   pub line : AreSound one two
   pub names : AreNamed a b
 
--- the next poll of a joined link cannot answer Lost: no unit outstanding was sent ten times, and
--- fewer probes than ten were sent since the peer was heard
+-- the next poll of a joined link cannot answer Lost: no outstanding unit was sent ten times, and fewer than
+-- ten probes were sent since a packet of the peer was read
 pub record HasNotGivenUp (l : LinkView) : Type 0 where
   pub sent : (k : ℕ) (q : Queued) → k < l.out → slice_get l.queue k ≡ Some q → q.count < most_sends
   pub probes : l.probes < most_sends
@@ -29,8 +29,8 @@ pub record HasNotGivenUp (l : LinkView) : Type 0 where
 abbrev pub IsSending : State → Type 0
 IsSending s = (s ≡ States.Live) ⊎ (s ≡ States.Ending)
 
--- two ends of which the first has units for the second, which has not had its end. Nobody paces
--- either: by hand, what nobody asks for does not go again
+-- two ends of which the first has units for the second, which has not had its end. Both links have the window
+-- and the retransmission of a new link: with manual retransmission, a unit that nobody asks for is not sent again
 pub record CanDeliver (a b : LinkView) (one two : End) : Type 0 where
   pub step : AreInStep a b one two
   pub sends : IsSending a.state
@@ -43,9 +43,8 @@ pub record CanDeliver (a b : LinkView) (one two : End) : Type 0 where
   pub unpaced : IsUnpaced a
   pub unpaced_b : IsUnpaced b
 
--- all units of the first are acknowledged, and the second's user took those that were left, in
--- order. Where the first queued its end it is confirmed, and the second has it; else both stay as
--- they were
+-- all units of the first are acknowledged, and the second's user took those that were left, in order. If the
+-- first queued its end, it is confirmed, and the second has it; otherwise both states stay
 pub record IsDelivered (a b a' b' : LinkView) (left units_b : List Unit) : Type 0 where
   pub queue : a'.queue ≡ []
   pub units : units_b ≡ left
@@ -58,7 +57,7 @@ RoundsDeliver =
     → CanDeliver a b one two → LosslessRounds a b moments a' b' units_b units_a
     → rounds_for a b ≤ length moments → IsDelivered a b a' b' (drop two.taken one.units) units_b
 
--- both ways at once, where both are live
+-- in both directions at once, if both are live
 abbrev pub RoundsDeliverBothWays : Type 0
 RoundsDeliverBothWays =
     (a b a' b' : LinkView) (one two : End) (moments : List ℕ) (units_b units_a : List Unit)

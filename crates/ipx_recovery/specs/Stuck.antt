@@ -1,5 +1,5 @@
--- No state that a network reaches is stuck: whatever was lost, doubled or kept back before, rounds
--- without loss are enough for what an end has queued.
+-- No state that a network reaches is stuck: whatever was lost, duplicated or delayed before, rounds without
+-- loss are enough for what an end has queued.
 use Rattle.std.specs.Prelude.{ℕ, ◌≤◌, ◌≡◌, List, length, drop}
 use Rattle.spx_link.specs.declared.unit.Unit.{Unit}
 use Rattle.spx_link.specs.declared.state.State.TheVariants as States
@@ -13,8 +13,8 @@ use Rattle.spx_theory.specs.Scene.{Scene, Stand, Stands}
 use Rattle.ipx_recovery.specs.RoundsDeliver.{HasNotGivenUp, IsDelivered, IsSending}
 use Rattle.ipx_recovery.specs.LosslessRounds.{LosslessRounds, rounds_for}
 
--- the links of an end and its peer: the first still sends, the second is live, neither has given up,
--- and nobody paces them
+-- the links of an end and its peer: the first still sends, the second is live, neither has given up, and
+-- both have the window and the retransmission of a new link
 pub record CanGoOn (a b : LinkView) : Type 0 where
   pub sends : IsSending a.state
   pub live : b.state ≡ States.Live
@@ -27,7 +27,7 @@ pub record CanGoOn (a b : LinkView) : Type 0 where
 abbrev pub untaken : ℕ → ℕ → List Note → List Unit
 untaken c d log = drop (length (taken_of d log)) (units_of c log)
 
--- so many rounds of the links of c and its peer d deliver all that c's user handed in
+-- so many rounds of the links of c and its peer d deliver everything that c's user handed in
 abbrev pub PeersGoOn : Scene → Type 0
 PeersGoOn s =
     (c d : ℕ) → ArePeers s.log c d → (e f : Stand) (a b a' b' : LinkView)
@@ -38,7 +38,7 @@ PeersGoOn s =
 abbrev pub NoStateIsStuck : Scene → Type 0
 NoStateIsStuck s = Premises s.log → PeersGoOn s
 
--- both ways at once, where both are live
+-- in both directions at once, if both are live
 abbrev pub NoPairIsStuck : Scene → Type 0
 NoPairIsStuck s =
     Premises s.log → (c d : ℕ) → ArePeers s.log c d → (e f : Stand) (a b a' b' : LinkView)
@@ -48,7 +48,7 @@ NoPairIsStuck s =
     → IsDelivered a b a' b' (untaken c d s.log) units_b
     × IsDelivered b a b' a' (untaken d c s.log) units_a
 
--- where addresses tell ends apart, as `spx_theory`'s law has it, none is needed of whose packets are read
+-- if addresses identify ends, as `spx_theory`'s law says, no premise is needed about whose packets are read
 abbrev pub NothingIsStuckByAddresses : Scene → Type 0
 NothingIsStuckByAddresses s =
     AddressesDiffer s → NothingReleased s.log → NothingInjected s.log → IsFresh s.log → PeersGoOn s

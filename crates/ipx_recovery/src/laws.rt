@@ -13,7 +13,7 @@ use spx_link::{poll_keeps_units, soundness, unpaced_links_go_by_the_clock};
 use spx_theory::{addresses_tell_peers, peers_are_in_step, peers_are_named, peers_follow};
 use theory_pairs::{calls_are_steps, packets_allow_what_was_taken};
 
-/// The laws of the machine and of one link, on which the theorems stand.
+/// The laws of the machine and of one link, on which the theorems depend.
 fn link_laws()
     ensures { LinkLaws }
 {
@@ -24,33 +24,33 @@ fn link_laws()
     unpaced_links_go_by_the_clock();
 }
 
-/// For any two links at any moment there is one round, and one alone.
+/// For any two links at any time there is exactly one round.
 pub fn round_is_one()
     ensures { (a b : LinkView) (now : ℕ) → RoundIsOne a b now }
 {}
 
-/// So there are rounds, one after another, at any moments.
+/// So there are rounds, one after another, at any times.
 pub fn rounds_exist()
     ensures { (a b : LinkView) (moments : List ℕ) → RoundsExist a b moments }
 {}
 
-/// After so many rounds all that the first of two links in step has queued is acknowledged, and the
-/// user of the second took all its units, in order and none twice.
+/// After enough rounds, everything that the first of two links in step has queued is acknowledged.
+/// The user of the second took all its units, in order and without duplicates.
 pub fn rounds_deliver()
     ensures { RoundsDeliver }
 {
     link_laws();
 }
 
-/// Where both are live it goes both ways at once.
+/// If both links are live, it works in both directions at once.
 pub fn rounds_deliver_both_ways()
     ensures { RoundsDeliverBothWays }
 {
     link_laws();
 }
 
-/// Of every scene that is reached, under the three premises: rounds without loss are enough for
-/// what an end has queued for its peer.
+/// For every scene that can be reached, under the three premises: rounds without loss are enough
+/// for what an end has queued for its peer.
 pub fn no_state_is_stuck()
     ensures { (s : Scene) → Reached s → NoStateIsStuck s }
 {
@@ -61,7 +61,7 @@ pub fn no_state_is_stuck()
     peers_are_named();
 }
 
-/// The same, both ways at once.
+/// The same, in both directions at once.
 pub fn no_pair_is_stuck()
     ensures { (s : Scene) → Reached s → NoPairIsStuck s }
 {
@@ -72,8 +72,8 @@ pub fn no_pair_is_stuck()
     peers_are_named();
 }
 
-/// Where no two hosts share network and node and nothing was released, the same without the premise
-/// that each end reads its own peer alone.
+/// If no two hosts share network and node and nothing was released, the same holds without the
+/// premise that each end reads only its own peer.
 pub fn nothing_is_stuck_by_addresses()
     ensures { (s : Scene) → Reached s → NothingIsStuckByAddresses s }
 {

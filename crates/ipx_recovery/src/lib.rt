@@ -1,9 +1,9 @@
-//! No state that two ends of a network reach is one that they cannot get out of: theory, without
-//! code.
+//! Two ends of a network never reach a state from which they cannot recover. This crate is theory,
+//! without code.
 //!
-//! `specs/` has rounds (`LosslessRounds`), a network that loses nothing for a moment; what they do
-//! to two links in step (`RoundsDeliver`); and to two peers of a network (`Stuck`). Each function
-//! here is a law.
+//! `specs/` has rounds (`LosslessRounds`), in which a network loses nothing for a while; what they
+//! do to two links in step (`RoundsDeliver`); and to two peers of a network (`Stuck`). Each
+//! function here is a law.
 #![tactic(auto)]
 
 mod laws;

@@ -1,4 +1,4 @@
--- Bodies of packets that several ports tell alike.
+-- Packet bodies that several ports advertise unchanged.
 use Rattle.std.proofs.Common.{◌≡◌, ℕ, ◌<◌, ◌≤◌, ◌+◌, Bool, true, false, cond, not, List, [], ◌∷◌, ◌++◌, length, take, drop, get_or, map, refl, sym, ap, subst, append-nil}
 use mathlib.Core.Bool.{true≢false}
 use Rattle.std.specs.Global.{Global}
@@ -25,11 +25,11 @@ pub bodies_more : (services rest : List ServiceEntry) (bodies : List (Vec ℕ Gl
 bodies_more services rest bodies left b some says short later are =
     subst (AreBodiesOf services) (sym (append_assoc bodies (b ∷ []) later)) (left (b ∷ later) (some, says, short, are))
 
--- and no more
+-- and no more bodies
 pub bodies_done : (services rest : List ServiceEntry) (bodies : List (Vec ℕ Global)) → IsLeftToCut services rest bodies → rest ≡ [] → AreBodiesOf services bodies
 bodies_done services rest bodies left none = subst (AreBodiesOf services) (append-nil bodies) (left [] none)
 
--- where none of them passes, all are kept that do not
+-- if no item passes a test, a filter for those that fail it keeps all
 pub all_kept : {A : Type 0} (test : A → Bool) (items : List A) → list_any test items ≡ false → filter (λ item. not (test item)) items ≡ items
 all_kept test [] none = refl
 all_kept {A} test (item ∷ items) none = by (test item) none (all_kept test items)
@@ -39,12 +39,12 @@ all_kept {A} test (item ∷ items) none = by (test item) none (all_kept test ite
     by true n rest = absurd (true≢false n)
     by false n rest = ap (λ (l : List A). item ∷ l) (rest n)
 
--- so where none came by a port, all are told there
+-- if no service came by a port, all are advertised there
 pub told_all_alike : (number : ℕ) (heard : List (ServiceKey × Source × ServiceMetric)) → list_any (λ item. item.1.port == number) heard ≡ false → map told_service heard ≡ told_of_other_ports number heard
 told_all_alike number heard none = ap (map told_service) (sym (all_kept (λ (item : ServiceKey × Source × ServiceMetric). item.1.port == number) heard none))
 
 module _ (to : Recipient) (bodies : List (Vec ℕ Global)) (old : List Reply) where
-  -- of the bodies from a place on packets are still to be added
+  -- packets of the bodies from this index on are still to be added
   abbrev pub AreLeft : ℕ → List Reply → Type 0
   AreLeft i new = (services : List ServiceEntry) → AreBodiesOf services bodies → (rest : List ServiceEntry) × AreBodiesOf rest (drop i bodies)
       × IsLeftToAdd (AreServicePackets to false) services rest old new
@@ -56,7 +56,7 @@ module _ (to : Recipient) (bodies : List (Vec ℕ Global)) (old : List Reply) wh
     next : (services : List ServiceEntry) → AreBodiesOf services (drop i bodies) → AreBodiesOf services (b ∷ drop (i + 1) bodies)
     next services are = subst (λ (v : Vec ℕ Global). AreBodiesOf services (v ∷ drop (i + 1) bodies)) (sym here) (subst (AreBodiesOf services) (drop_more bodies i b lt) are)
 
-    -- no body is longer than a packet holds
+    -- every body fits in a packet
     pub left_short : (services : List ServiceEntry) × AreBodiesOf services bodies → length b.items ≤ 450
     left_short w = let h = left w.0 w.1 in (next h.0 h.1).2
 
@@ -68,7 +68,7 @@ module _ (to : Recipient) (bodies : List (Vec ℕ Global)) (old : List Reply) wh
         let now = next h.0 h.1 in
         (drop 7 h.0, now.3, cut_more 7 (λ part. IsSapPacket to (sap.Response false part)) services h.0 old new h.2 r now.0 (is (take 7 h.0) now.1))
 
-  -- and no more
+  -- and no more packets
   pub left_over : (i : ℕ) (new : List Reply) → AreLeft i new → length bodies ≤ i → AddsBodies to bodies old new
   left_over i new left over services are =
       let h = left services are in

@@ -1,4 +1,4 @@
--- All told routes: the networks of other ports, and among them the best offers.
+-- All advertised routes: the networks of other ports, merged in order into the best offers.
 use Rattle.std.proofs.Common.{◌≡◌, ℕ, ◌<◌, Bool, true, false, List, [], ◌∷◌, ◌++◌, length, cond, drop, get_or, map, Option, Some, None, refl, sym, ap, ◌∙◌, subst, inl, inr, arith}
 use mathlib.Core.Bool.{true≢false}
 use Rattle.std.specs.Prelude.{Contains, MatchBool, is_none, take_while, ◌==◌}
@@ -43,11 +43,11 @@ module _ (ports : List Port) (at : PortNow) where
   abbrev told_of_item : Network × Source × RouteMetric → RipEntry
   told_of_item item = told_route item.0 item.2 at
 
-  -- what is told of the best offers
+  -- what is advertised of the best offers
   abbrev pub told_items : List (Network × Source × RouteMetric) → List RipEntry
   told_items items = map told_of_item (filter (is_told_item ports at) items)
 
-  -- with what is told of the offers that the walk has left, the entries so far are all
+  -- the entries so far, with what is advertised of the offers that the walk has left, are all
   abbrev pub AreLeft : List RipEntry → List (Network × Source × RouteMetric) → List RipEntry → List RipEntry → Type 0
   AreLeft own left all entries = entries ++ merged own (told_items left) ≡ all
 
@@ -78,7 +78,7 @@ module _ (ports : List Port) (at : PortNow) where
         let kept = filter_only (is_told_item ports at) heard from.0 from.1 in
         (from.0, kept.0, kept.1, from.2)
 
-    -- no network of a port is that of an offer which is told
+    -- no network of a port is that of an advertised offer
     apart : (x y : RipEntry) → Contains own x → Contains (told_items heard) y → x.network.0 ≡ y.network.0 → ⊥
     apart x y c d same =
         let t = item_of y d in
@@ -101,7 +101,7 @@ module _ (ports : List Port) (at : PortNow) where
     pub all_are_told : AreToldRoutes ports routes at all_told
     all_are_told = told_all ports routes at heard listing one own all_told p adds
 
-    -- where there are entries, some route is told
+    -- if there are entries, some route is advertised
     pub some_are_told : 0 < length all_told → (t : RipEntry) × IsToldRoute ports routes at t
     some_are_told some = first all_told all_are_told some
       where
@@ -110,7 +110,7 @@ module _ (ports : List Port) (at : PortNow) where
         first (x ∷ xs) are lt = (x, (are.stands x).0 (0, omega arith, refl))
 
 module _ (ports : List Port) (routes : Routes) (at : PortNow) (asked : List RipEntry) (all : asks_all asked ≡ true) where
-  -- a request for all asks for what is told
+  -- a request for all asks for everything that is advertised
   pub all_asked_for : (entries : List RipEntry) → AreToldRoutes ports routes at entries → AreRoutesAsked ports routes at asked entries
   all_asked_for entries are = subst (λ (b : Bool). MatchBool b (AreToldRoutes ports routes at entries) (AreToldOf (IsToldRoute ports routes at) asked entries)) (sym all) are
 

@@ -1,4 +1,4 @@
--- All told services of a kind.
+-- All advertised services of a kind.
 use Rattle.std.proofs.Common.{◌≡◌, ℕ, ◌<◌, Bool, true, false, List, [], ◌∷◌, ◌++◌, length, cond, map, not, refl, ap, ◌∙◌, subst, arith}
 use Rattle.std.specs.Prelude.{◌==◌, ◌&&◌}
 use Rattle.std.specs.List.{filter}
@@ -23,11 +23,11 @@ module _ (at : PortNow) (kind : ℕ) where
   abbrev asked : ServiceKey × Source × ServiceMetric → Bool
   asked = is_item_asked at false kind
 
-  -- what is told of the best offers that are asked for
+  -- what is advertised of the best offers that are asked for
   abbrev pub asked_items : List (ServiceKey × Source × ServiceMetric) → List ServiceEntry
   asked_items items = map told_service (filter asked items)
 
-  -- with what is told of the offers that the walk has left, the entries so far are all
+  -- the entries so far, with what is advertised of the offers that the walk has left, are all
   abbrev pub AreLeft : List (ServiceKey × Source × ServiceMetric) → List ServiceEntry → List ServiceEntry → Type 0
   AreLeft left all entries = entries ++ asked_items left ≡ all
 
@@ -44,7 +44,7 @@ module _ (at : PortNow) (kind : ℕ) where
   abbrev by_other_port : ServiceKey × Source × ServiceMetric → Bool
   by_other_port item = not (item.1.port == at.number)
 
-  -- they are those of the kind among what is told of all best offers
+  -- they are those of the kind among what is advertised of all best offers
   of_kind : (items : List (ServiceKey × Source × ServiceMetric)) → filter (is_of_kind kind) (map told_service (filter by_other_port items)) ≡ asked_items items
   of_kind [] = refl
   of_kind (item ∷ items) = by (by_other_port item) (is_of_kind kind (told_service item)) refl (of_kind items)
@@ -63,7 +63,7 @@ module _ (at : PortNow) (kind : ℕ) where
         subst (AreServicesAsked services at false kind) (of_kind heard)
         (services_picked services at (map told_service (filter by_other_port heard)) (told_services_all services at heard listing one) kind)
 
-    -- where there are entries, some service is to be sent
+    -- if there are entries, some service is to be sent
     pub some_asked : 0 < length (asked_items heard) → HasToReply services at false kind
     some_asked some = first (asked_items heard) all_asked some
       where

@@ -1,4 +1,4 @@
--- A packet without what is behind it.
+-- A packet without the bytes after it.
 use Rattle.std.proofs.Common.{◌≡◌, ◌≤◌, ℕ, ◌+◌, List, ◌++◌, [], length, take, drop, arith, sym, ap, ◌∙◌, refl, subst, take-append-drop}
 use Rattle.std.proofs.lemmas.List.{append-nil, drop-append-le, drop-drop, get_or_append_left, length-drop, length-take, take-append-le, take_at, drop_at}
 use Rattle.byteorder.specs.Endian.{big_number}
@@ -38,7 +38,7 @@ packet_fewer p bytes tail len x =
       size = omega (arith, len);
     }
 
--- the bytes of a packet without what is behind it
+-- the bytes of a packet without those after it
 pub packet_alone : (p : PacketView) (bytes tail : List ℕ) → IsIpx p bytes tail → IsIpx p (take (30 + length p.body) bytes) []
 packet_alone p bytes tail x =
     let len : length (take (30 + length p.body) bytes) ≡ 30 + length p.body = omega (arith, x.size, length-take (30 + length p.body) bytes) in

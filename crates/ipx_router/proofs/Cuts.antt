@@ -32,25 +32,25 @@ module _ {E : Type 0} (most : ℕ) (IsPacketOf : List E → SendingView → Type
       let w = left (sending_of r ∷ later) (some, is, cut) in
       (w.0, sendings_push new r later ∙ w.1, w.2)
 
-  -- and no more
+  -- and no more packets
   pub cut_done : rest ≡ [] → AddsPackets (AreCutOf most IsPacketOf entries) old new
   cut_done none = let w = left [] none in (w.0, sym (append-nil (sendings new)) ∙ w.1, w.2)
 
 pub cut_none : {E : Type 0} (most : ℕ) (IsPacketOf : List E → SendingView → Type 0) (entries : List E) (old : List Reply) → IsLeftToAdd (AreCutOf most IsPacketOf) entries entries old old
 cut_none most IsPacketOf entries old later cut = (later, refl, cut)
 
--- packets added to none
+-- packets added to an empty list
 pub added_alone : (ArePackets : List SendingView → Type 0) (new : List Reply) → AddsPackets ArePackets [] new → ArePackets (sendings new)
 added_alone ArePackets new p = subst ArePackets (sym p.1) p.2
 
--- what holds of each packet of a part holds of all packets of a list
+-- what holds of the packet of each part holds of all packets of a list
 pub cut_all : {E : Type 0} (most : ℕ) (IsPacketOf : List E → SendingView → Type 0) (P : SendingView → Type 0) → ((part : List E) (s : SendingView) → IsPacketOf part s → P s)
     → (entries : List E) (sent : List SendingView) → AreCutOf most IsPacketOf entries sent → All P sent
 cut_all most IsPacketOf P by entries [] cut = All-nil P
 cut_all most IsPacketOf P by entries (s ∷ sent) cut =
     All-cons P s sent (by (take most entries) s cut.1) (cut_all most IsPacketOf P by (drop most entries) sent cut.2)
 
--- what is taken of a list of at most so many is taken of the list
+-- take and drop of at most so many do not depend on whether the list is shorter
 pub take_fewer : {E : Type 0} (most n : ℕ) (xs : List E) → n ≡ min (length xs) most → (take n xs ≡ take most xs) × (drop n xs ≡ drop most xs)
 take_fewer most n xs e = elim (cases_lt most (length xs)) [
   | inl less ↦ let same : n ≡ most = omega arith in rw same (refl, refl)
@@ -68,7 +68,7 @@ module _ (to : Recipient) where
   service_packets_port nearest entries sent cut =
       cut_all 7 (λ part. IsSapPacket to (sap.Response nearest part)) (λ (s : SendingView). s.port ≡ to.number) (λ part s p. let q : IsSapPacket to (sap.Response nearest part) s = p in q.port) entries sent cut
 
-  -- RIP and SAP are no SPX
+  -- RIP and SAP are not SPX
   pub rip_packet_own : (m : RipView) (s : SendingView) → IsRipPacket to m s → IsOwn s
   rip_packet_own m s p =
       let q : IsRipPacket to m s = p in

@@ -1,4 +1,5 @@
--- What holds of the packets of every answer: they leave by ports that are there, and those of the router's own are no SPX.
+-- What holds of the packets of every answer: they leave by ports that exist, and the router's own are not
+-- SPX.
 use Rattle.ipx_wire.specs.Assigned.{rip_socket, sap_socket}
 use Rattle.std.proofs.Common.{◌≡◌, ℕ, ◌+◌, Bool, true, false, List, [], ◌∷◌, Option, Some, None, Result, Ok, Err, sym, subst, arith}
 use Rattle.std.specs.Prelude.{IfOk, MatchBool, MatchOption}
@@ -42,7 +43,8 @@ use Rattle.ipx_router.specs.Starting.{AreAsked, AreStarts, all_asked}
 use Rattle.ipx_router.specs.Telling.{AreTellings, AreTold, TellsIfDue, is_due}
 use Rattle.ipx_router.proofs.Cuts.{rip_packet_own, route_packets_own, route_packets_port, sap_packet_own, service_packets_own, service_packets_port}
 
--- a fact of answers that holds of what is heard and dropped, and of replies of the router's own by the port that was asked on
+-- a fact of answers that holds if entries were learned, if the packet was dropped, and for replies of the
+-- router by the port that the request came in on
 module _ (at : PortNow) (d : PacketView) (Q : OutcomeView → Type 0) (heard : (n : ℕ) → Q (Heard n)) (dropped : (r : Reason) → Q (Dropped r))
     (replies : (sent : List SendingView) → All (λ (s : SendingView). s.port ≡ at.number) sent → AreOwn sent → Q (Replies sent)) where
   heard_fits : (ports : List Port) (routes : Routes) (source : Source) (entries : List RipEntry) (a : OutcomeView) (new : Table Network RouteMetric) → HearsRoutes ports routes source at.now entries a new → Q a
@@ -83,7 +85,7 @@ module _ (at : PortNow) (d : PacketView) (Q : OutcomeView → Type 0) (heard : (
     pub sap_fits : AnswersSap services at d a new → Q a
     sap_fits h = sap_fits_by (sap_fault d.body) h
 
--- ---- replies leave by the port that was asked on
+-- ---- replies leave by the port that the request came in on
 
 on_ports : (count number : ℕ) (sent : List SendingView) → IsPortNumber count number → All (λ (s : SendingView). s.port ≡ number) sent → AreOnPorts count sent
 on_ports count number sent is all = All-weaker (λ (s : SendingView). s.port ≡ number) (λ (s : SendingView). IsPortNumber count s.port) (λ s e. (omega (arith, e, is.0), omega (arith, e, is.1))) sent all
@@ -100,7 +102,7 @@ sap_there_ok count services at is d new (Ok x) h =
     sap_fits at d (IsOnPort count) (λ n. tt) (λ r. tt) (λ sent by own. on_ports count at.number sent is by) services (router_outcome x) new h
 sap_there_ok count services at is d new (Err e) h = tt
 
--- ---- replies are no SPX
+-- ---- replies are not SPX
 
 abbrev RepliesOwn : OutcomeView → Type 0
 RepliesOwn a = AreOwn (replies_of a)
@@ -127,7 +129,7 @@ pub receives_own : {O : Type 0} (view : O → OutcomeView) (old : RouterView) (p
 receives_own view old port bytes now new (Ok x) r = bytes_own _ _ (view x) _ bytes (ipx_fault bytes) r.answers.2
 receives_own view old port bytes now new (Err e) r = tt
 
--- ---- and so is what the router asks and tells
+-- ---- and neither is what the router asks and advertises
 
 asked_own : (number : ℕ) (port : Port) (sent : List SendingView) → AreAsked number port sent → AreOwn sent
 asked_own number port sent asked =

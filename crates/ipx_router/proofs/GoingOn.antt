@@ -1,4 +1,4 @@
--- What is answered where bytes may be changed: a packet for another network goes on, and all else is answered as it stands.
+-- Answers in place: a packet for another network is forwarded, and everything else is answered unchanged.
 use Rattle.std.proofs.Common.{◌≡◌, ℕ, ◌+◌, List, length, Option, Some, None, Result, Ok, Err, refl, sym, subst}
 use Rattle.std.specs.Prelude.{IfOk, OnErr, MatchOption}
 use Rattle.ipx_wire.specs.declared.address.Network.{Network}
@@ -50,7 +50,7 @@ module _ (ports : List Port) (routes : Table Network RouteMetric) (services : Ta
   pub on_one_hop : ((body tail : List ℕ) → IsIpx (packet_of h body) bytes tail → 30 + length body ≡ count → IsForwardOf at.port (packet_of h body) a) → ForwardsEachReading at.port bytes a
   on_one_hop one = λ d begins. subst (λ (e : PacketView). IsForwardOf at.port e a) (sym (on.only d begins)) (one on.body on.tail on.packet on.size)
 
--- ---- all else
+-- ---- everything else
 
 module _ (k : Known) (at : PortNow) (bytes : List ℕ) (none : NoneIsOnward at.port bytes) (a : OutcomeView) (new : Tables) where
   concern_nothing : (d : PacketView) → BeginsWith bytes d → (c : Concern) → concern_of at.port d.header ≡ c → AnswersByConcern k at d a new c → ForwardsNothing a

@@ -1,4 +1,4 @@
--- What a table says once one more entry was heard.
+-- What a table says after one more entry was learned.
 use Rattle.std.proofs.Common.{◌≡◌, ℕ, ◌+◌, ◌<◌, Bool, true, false, cond, Result, Err, List, [], ◌∷◌, ◌++◌, length, get_or, take, Option, Some, None, refl, sym, ap, ◌∙◌, subst, inl, inr, arith}
 use Rattle.std.specs.declared.cmp.Ordering.{Ordering}
 use Rattle.std.specs.declared.cmp.Ordering.TheVariants.{Less, Equal, Greater}
@@ -29,7 +29,7 @@ use Rattle.ipx_router.specs.Hearing.{AtEntry, HeardFirst, HeardRoutes, HeardServ
 use Rattle.ipx_router.specs.Ports.{AreFromPorts, IsPortNumber}
 
 module _ {K M E : Type 0} (cmp : K → K → Ordering) (after : List E → Content K M) (entries : List E) where
-  -- one more entry was heard, or needed not be
+  -- one more entry was learned, or did not need to be
   pub heard_one_more : (i : ℕ) → i < length entries → (t new : Table K M) → HeardFirst cmp after entries i t → IsTable cmp new → new.most ≡ t.most
       → ((p : K × Source) → content cmp new.offers p ≡ after (take (i + 1) entries) p) → HeardFirst cmp after entries (i + 1) new
   heard_one_more i lt t new h valid most says = record {
@@ -43,7 +43,7 @@ module _ {K M E : Type 0} (cmp : K → K → Ordering) (after : List E → Conte
     holds = says;
   }
 
-  -- none was heard yet
+  -- no entry was learned yet
   pub heard_none : (t : Table K M) → IsTable cmp t → ((p : K × Source) → content cmp t.offers p ≡ after (take 0 entries) p) → HeardFirst cmp after entries 0 t
   heard_none t valid says = record {
     within = omega arith;
@@ -53,7 +53,7 @@ module _ {K M E : Type 0} (cmp : K → K → Ordering) (after : List E → Conte
     holds = says;
   }
 
-  -- where the table refuses an entry, those before it were heard
+  -- if the table refuses an entry, those before it were learned
   pub hearing_stops : (Stops Wants : Table K M → E → Type 0) (i : ℕ) (d e : E) (t new : Table K M) (result : Result (Unit {0}) TableFault) (f : TableFault)
       → i < length entries → get_or entries i d ≡ e → HeardFirst cmp after entries i t → new ≡ t → result ≡ Err f
       → (result ≡ Err Full → Stops t e) → (result ≡ Err OutOfMemory → Wants t e)
@@ -78,14 +78,14 @@ module _ (ports : List Port) (source : Source) (now : ℕ) (entries : List RipEn
   next : after_routes ports source now routes (take (i + 1) entries) ≡ after_route ports source now (after_routes ports source now routes (take i entries)) x
   next = fold_more (after_route ports source now) routes entries i d lt ∙ ap (λ (y : RipEntry). after_route ports source now (after_routes ports source now routes (take i entries)) y) there
 
-  -- an entry that is not heard changes nothing
+  -- an entry that is not to be learned changes nothing
   pub heard_skip : IsTable network_cmp t → is_heard ports x ≡ false → HeardRoutes ports source now entries routes (i + 1) t
   heard_skip valid e =
       heard_one_more network_cmp (after_routes ports source now routes) entries i lt t t h valid refl (λ p.
       let c : Routes = after_routes ports source now routes (take i entries) in
       h.holds p ∙ sym (ap (λ (r : Routes). r p) next ∙ ap (λ (b : Bool). let r : Routes = cond b (after_hear network_cmp route_dead c (x.network, source) (route_metric x) now) c in r p) e))
 
-  -- an entry that is heard replaces what its source said of its network
+  -- an entry that is learned replaces what its source said of its network
   pub heard_more : (new : Table Network RouteMetric) → IsTable network_cmp new → new.most ≡ t.most → is_heard ports x ≡ true
       → ((p : Network × Source) → routes_in new p ≡ after_hear network_cmp route_dead (routes_in t) (x.network, source) (route_metric x) now p)
       → HeardRoutes ports source now entries routes (i + 1) new
@@ -96,7 +96,7 @@ module _ (ports : List Port) (source : Source) (now : ℕ) (entries : List RipEn
       ∙ ap (λ (o : Option (RouteMetric × ℕ)). cond (is_same network_cmp (x.network, source) p) (cond (route_dead (route_metric x)) None (Some (route_metric x, now))) o) (h.holds p)
       ∙ sym (ap (λ (r : Routes). r p) next ∙ ap (λ (b : Bool). let r : Routes = cond b (after_hear network_cmp route_dead c (x.network, source) (route_metric x) now) c in r p) e))
 
--- the item that a walk has next, among all that it had
+-- the next item of a walk, by its index among all items
 pub walked_to : {E : Type 0} (ys : List E) (e : E) (rest all : List E) (d : E) → ys ++ e ∷ rest ≡ all → (length ys < length all) × (get_or all (length ys) d ≡ e)
 walked_to ys e rest all d is =
     (omega (arith, ap length is, length-append ys (e ∷ rest)), ap (λ es. get_or es (length ys) d) (sym is) ∙ get_or-append_seam ys e rest d)
@@ -117,7 +117,7 @@ module _ (source : Source) (now : ℕ) (entries : List ServiceEntry) (services :
       ∙ ap (λ (o : Option (ServiceMetric × ℕ)). cond (is_same service_key_cmp (key_of_service x, source) p) (cond (service_dead (service_metric x)) None (Some (service_metric x, now))) o) (h.holds p)
       ∙ sym (ap (λ (s : Services). s p) (fold_more (after_service source now) services entries i d lt ∙ ap (λ (y : ServiceEntry). after_service source now (after_services source now services (take i entries)) y) there)))
 
--- ---- offers stay over ports that are there
+-- ---- offers stay on ports that exist
 
 second_equal : (a b : Ordering) → is_eq (ordering_then a b) ≡ true → b ≡ Equal
 second_equal Less b h = cc
@@ -140,7 +140,7 @@ module _ {K M : Type 0} (cmp : K → K → Ordering) where
   sources_at count p q said old v port ports true e h = subst (IsPortNumber count) (same_port cmp p q e) port
   sources_at count p q said old v port ports false e h = ports h
 
-  -- what is heard on a port that is there keeps all offers over such ports
+  -- an offer that is learned on a port that exists keeps all offers on such ports
   pub sources_more : (dead : M → Bool) (count : ℕ) (source : Source) (c new : Content K M) (key : K) (metric : M) (now : ℕ) → IsPortNumber count source.port → AreFromPorts count c
       → ((p : K × Source) → new p ≡ after_hear cmp dead c (key, source) metric now p) → AreFromPorts count new
   sources_more dead count source c new key metric now port ports said q v h =

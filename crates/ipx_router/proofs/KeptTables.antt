@@ -26,7 +26,7 @@ tables_empty routes services no_routes no_services most_routes most_services = r
   most_services = most_services;
 }
 
--- tables of the same room whose offers came by ports that are there
+-- tables of the same size whose offers came by ports that exist
 pub sound_kept : (ports : List Port) (old new : Tables) → IsSound ports old → IsTable network_cmp new.0 → IsTable service_key_cmp new.1
     → new.0.most ≡ old.0.most → new.1.most ≡ old.1.most → AreFromPorts (length ports) (routes_in new.0) → AreFromPorts (length ports) (services_in new.1) → IsSound ports new
 sound_kept ports old new is routes services most_routes most_services routes_from services_from = record {

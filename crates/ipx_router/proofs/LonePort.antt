@@ -1,4 +1,4 @@
--- A router of one port has nothing to tell, and one of more ports always has.
+-- A router of one port has nothing to advertise, and one of more ports always has.
 use Rattle.std.proofs.Common.{◌≡◌, ℕ, ◌+◌, ◌<◌, ◌≤◌, List, [], ◌∷◌, length, Option, Some, None, refl, sym, ap, ◌∙◌, subst, inl, arith}
 use Rattle.std.specs.Prelude.{MatchOption, ◌==◌}
 use Rattle.std.specs.declared.cmp.Ordering.{Ordering}
@@ -71,7 +71,7 @@ nothing_to_tell [] routes services now few routes_from services_from = refl
 nothing_to_tell (p ∷ []) routes services now few routes_from services_from = ([], [], refl, nothing p routes services now routes_from services_from, refl)
 nothing_to_tell (p ∷ q ∷ ports) routes services now few routes_from services_from = absurd (omega arith)
 
--- the first port's network is told on the second
+-- the first port's network is advertised on the second
 pub something_to_tell : (ports : List Port) (routes : Routes) (services : Services) (now : ℕ) → 2 ≤ length ports → HasToTell (record { ports = ports; routes = routes; services = services }) now
 something_to_tell [] routes services now many = absurd (omega arith)
 something_to_tell (p ∷ []) routes services now many = absurd (omega arith)

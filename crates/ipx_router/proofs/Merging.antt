@@ -1,4 +1,4 @@
--- Two rising lists of routes in one.
+-- Two rising lists of routes, merged into one.
 use Rattle.std.proofs.Common.{◌≡◌, ℕ, zero, suc, ◌+◌, ◌<◌, true, false, List, [], ◌∷◌, ◌++◌, length, drop, get_or, ◌⊎◌, inl, inr, refl, sym, ap, ◌∙◌, subst, arith}
 use Rattle.std.specs.Prelude.{Contains, nat_lt, take_while}
 use Rattle.std.specs.List.{All, prefix_len}
@@ -16,7 +16,7 @@ use Rattle.ipx_router.specs.Told.{route_key}
 use Rattle.ipx_router.specs.Placing.{is_below}
 use Rattle.ipx_router.proofs.Rising.{network_total, nothing_rises}
 
--- each entry of the second list stands behind those of the first that are below it
+-- each entry of the second list comes after those of the first that are lower
 abbrev pub merged : List RipEntry → List RipEntry → List RipEntry
 merged own [] = own
 merged own (e ∷ es) =
@@ -60,7 +60,7 @@ module _ (own : List RipEntry) (network : Network) where
   own_is : (x : RipEntry) → Contains own x → Contains front x ⊎ Contains rest x
   own_is x c = Contains-append_cases front rest x (subst (λ l. Contains l x) (sym parts) c)
 
--- ---- what stands in it
+-- ---- its items
 
 pub merged_has : (own es : List RipEntry) (x : RipEntry) → Contains own x ⊎ Contains es x → Contains (merged own es) x
 merged_has own [] x c = elim c [ inl a ↦ a | inr b ↦ absurd (omega (arith, b.1)) ]
@@ -148,7 +148,7 @@ rises_right [] ys r = r
 rises_right (x ∷ xs) ys r = rises_right xs ys (rises_tail x (xs ++ ys) r)
 
 module _ (own : List RipEntry) (e : RipEntry) where
-  -- what stands in front is below
+  -- what comes before the entry is lower
   front_under : (x : RipEntry) → Contains (front own e.network) x → IsUnder x e
   front_under x c =
       let test = is_below e.network in
@@ -156,7 +156,7 @@ module _ (own : List RipEntry) (e : RipEntry) where
       let same : get_or own c.0 x ≡ x = sym (get_or-take (prefix_len test own) own c.0 x place) ∙ c.2 in
       under_from x e (subst (λ y. test y ≡ true) same (prefix_len_passes test own c.0 x place))
 
-  -- and the rest above
+  -- and the rest is higher
   rest_over : Rises own → ((x : RipEntry) → Contains own x → x.network.0 ≡ e.network.0 → ⊥) → (x : RipEntry) → Contains (rest own e.network) x → IsUnder e x
   rest_over r apart x c =
       let test = is_below e.network in

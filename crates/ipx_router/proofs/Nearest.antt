@@ -1,4 +1,4 @@
--- The nearest service, one more at a time.
+-- The nearest service, with one more service at a time.
 use Rattle.std.proofs.Common.{◌≡◌, ℕ, Bool, true, false, cond, List, [], ◌∷◌, ◌++◌, Option, Some, None, refl, sym, ap, ◌∙◌, subst, inl, inr}
 use mathlib.Core.Bool.{true≢false}
 use Rattle.std.specs.Prelude.{Contains, MatchOption}
@@ -37,7 +37,7 @@ decide : (b : Bool) → (b ≡ true → b ≡ false) → b ≡ false
 decide true h = h refl
 decide false h = refl
 
--- what is not nearer than h is not nearer than what is nearer than h
+-- if x is not nearer than h, and y is nearer than h, then x is not nearer than y
 not_nearer_than_nearer : (x y h : ServiceEntry) → is_nearer y h ≡ true → is_nearer x h ≡ false → is_nearer x y ≡ false
 not_nearer_than_nearer x y h near far =
     decide (is_nearer x y) (λ e. absurd (true≢false (sym (ap is_lt (nearness_total.trans x y h (is_less (nearness x y) e) (is_less (nearness y h) near))) ∙ far)))
@@ -76,7 +76,7 @@ kept told kind h y n near false e = record {
   ];
 }
 
--- of a near service and the one that is held the nearer is the nearest
+-- the nearer of a near service and the held one is the nearest
 pub nearest_more : (held : Option ServiceEntry) (told : List ServiceEntry) (kind : ℕ) (y : ServiceEntry) → MatchOption held (NoneIsNear (Contains told) kind) (IsNearest (Contains told) kind) → is_near kind y ≡ true
     → IsNearest (Contains (told ++ y ∷ [])) kind (nearer held y)
 nearest_more None told kind y n near = record {

@@ -1,4 +1,4 @@
--- The nearest told service, by a walk over the best offers.
+-- The nearest advertised service, by a walk over the best offers.
 use Rattle.std.proofs.Common.{◌≡◌, ℕ, Bool, true, false, cond, not, List, [], ◌∷◌, ◌++◌, Option, Some, None, map, refl, sym, ap, subst}
 use Rattle.std.specs.Prelude.{Contains, IfNone, IfSome, MatchOption, ◌==◌, ◌&&◌}
 use Rattle.std.specs.List.{filter}
@@ -22,7 +22,7 @@ module _ (at : PortNow) where
   abbrev by_other_port : ServiceKey × Source × ServiceMetric → Bool
   by_other_port item = not (item.1.port == at.number)
 
-  -- what is told of items
+  -- what is advertised of the items
   abbrev told_of : List (ServiceKey × Source × ServiceMetric) → List ServiceEntry
   told_of items = map told_service (filter by_other_port items)
 
@@ -41,7 +41,7 @@ module _ (at : PortNow) where
   ]
 
   module _ (kind : ℕ) where
-    -- of what is told of the items it is the nearest, or none is near
+    -- it is the nearest of what is advertised of the items, or none is near
     abbrev pub IsNearestOf : List (ServiceKey × Source × ServiceMetric) → Option ServiceEntry → Type 0
     IsNearestOf items o = MatchOption o (NoneIsNear (Contains (told_of items)) kind) (IsNearest (Contains (told_of items)) kind)
 
@@ -52,14 +52,14 @@ module _ (at : PortNow) where
           let parts = both _ _ asked in
           subst (λ (es : List ServiceEntry). IsNearest (Contains es) kind (nearer held (told_service item))) (sym (told_push items item parts.0)) (nearest_more held (told_of items) kind (told_service item) so_far parts.1)
 
-      -- an item that is not told, or not near, is passed over
+      -- an item that is not advertised, or not near, is skipped
       pub walk_far : is_item_asked at true kind item ≡ false → IsNearestOf (items ++ item ∷ []) held
       walk_far asked = elim (by_other_port item) as (λ b. by_other_port item ≡ b → (b && is_near kind (told_service item)) ≡ false → IsNearestOf (items ++ item ∷ []) held) [
         | true ↦ λ e far. subst (λ (es : List ServiceEntry). MatchOption held (NoneIsNear (Contains es) kind) (IsNearest (Contains es) kind)) (sym (told_push items item e)) (nearest_skip held (told_of items) kind (told_service item) so_far far)
         | false ↦ λ e far. subst (λ (es : List ServiceEntry). MatchOption held (NoneIsNear (Contains es) kind) (IsNearest (Contains es) kind)) (sym (told_pass items item e)) so_far
       ] refl asked
 
-    -- what the whole walk gives is the nearest of what is told
+    -- the whole walk gives the nearest of what is advertised
     module _ (services : Services) (heard : List (ServiceKey × Source × ServiceMetric)) (listing : IsListing service_key_cmp service_before services at.now heard)
         (one : (c : Services) (key : ServiceKey) (now : ℕ) (a b : Source × ServiceMetric) → IsBest service_before c key now a → IsBest service_before c key now b → a ≡ b) where
       pub walked_nearest : (o : Option ServiceEntry) → IsNearestOf heard o → IfSome o (IsNearest (IsToldService services at) kind) × IfNone o (NoneIsNear (IsToldService services at) kind)

@@ -1,4 +1,4 @@
--- A router's answer is one.
+-- A router's answer is determined.
 use Rattle.ipx_wire.specs.Assigned.{rip_socket, sap_socket}
 use Rattle.std.proofs.Common.{◌≡◌, ℕ, ◌<◌, inl, inr, Bool, true, false, List, [], ◌∷◌, length, Option, Some, None, refl, sym, ap, ◌∙◌, subst}
 use Rattle.std.specs.Prelude.{MatchBool, MatchOption, if◌then◌else◌}
@@ -51,7 +51,7 @@ use Rattle.ipx_router.proofs.OneList.{list_is_one}
 use Rattle.ipx_router.proofs.OnePacket.{OneListOfBytes, bytes_one, cuts_one, own_packet_one}
 use Rattle.ipx_router.proofs.OneHearing.{OneCount, no_room}
 
--- what layouts and tables give
+-- facts of the layouts and tables
 pub record Facts : Type 0 where
   pub one_ipx : (p q : PacketView) (bytes s t : List ℕ) → IsIpx p bytes s → IsIpx q bytes t → (p ≡ q) × (s ≡ t)
   pub one_rip : (m n : RipView) (bytes s t : List ℕ) → IsRip m bytes s → IsRip n bytes t → (m ≡ n) × (s ≡ t)
@@ -63,7 +63,7 @@ pub record Facts : Type 0 where
   pub routes_count : OneCount Network RouteMetric network_cmp
   pub services_count : OneCount ServiceKey ServiceMetric service_key_cmp
 
--- the route to a network is one
+-- the route to a network is unique
 heard_one : Facts → (routes : Routes) (now : ℕ) (network : Network) (r s : Route) → IsHeardRoute routes now network r → IsHeardRoute routes now network s → r ≡ s
 heard_one f routes now network r s x y = x.2 ∙ ap over_neighbour (f.one_best routes network now x.0 y.0 x.1 y.1) ∙ sym y.2
 
@@ -104,7 +104,7 @@ forwards_one f ports routes at d a b x y =
     let moved = subst (λ (r : Option Route). IsForwardingAnswer at.port d (by_route d.header r) a) route x.2 in
     fate_one f at.port d (by_route d.header y.0) a b moved y.2
 
--- what is told of a network is one
+-- what is advertised of a network is unique
 told_one : Facts → (ports : List Port) (routes : Routes) (at : PortNow) (x y : RipEntry) → x.network ≡ y.network → IsToldRoute ports routes at x → IsToldRoute ports routes at y → x ≡ y
 told_one f ports routes at x y same is_x is_y =
     let moved = subst (λ (n : Network). IsRouteTo ports routes at.now n is_x.route) same is_x.leads in
@@ -141,7 +141,7 @@ routes_asked_one : Facts → (ports : List Port) (routes : Routes) (at : PortNow
 unfolding RoutesAsked
 routes_asked_one f ports routes at asked xs ys x y = routes_asked_by f (asks_all asked) ports routes at asked xs ys x y
 
--- a packet with a message is one
+-- a packet with a message is unique
 pub rip_packet_one : Facts → (to : Recipient) (m : RipView) (s t : SendingView) → IsRipPacket to m s → IsRipPacket to m t → s ≡ t
 rip_packet_one f to m = own_packet_one f.ipx_bytes to 1 rip_socket (λ (body : List ℕ). IsRip m body []) (λ x y in_x in_y is_x is_y. f.rip_bytes m x y [] in_x in_y is_x is_y)
 
@@ -157,7 +157,7 @@ replies_routes_one f ports routes at to asked ss ts x y =
     let moved = subst (λ (es : List RipEntry). AreRoutePackets to es ss) entries x.packets in
     route_packets_one f to y.entries ss ts moved y.packets
 
--- the nearest service is one
+-- the nearest service is unique
 near_total : IsTotalOrder nearness
 near_total =
     then_total (on_total (λ (e : ServiceEntry). e.hops) nat_cmp_total)
@@ -216,9 +216,9 @@ replies_services_one f services at to nearest kind ss ts x y =
     let moved = subst (λ (es : List ServiceEntry). AreServicePackets to nearest es ss) entries x.packets in
     service_packets_one f to nearest y.entries ss ts moved y.packets
 
--- what is heard of a response is one
+-- what is learned of a response is determined
 module _ (f : Facts) (ports : List Port) (routes : Routes) (source : Source) (now : ℕ) (entries : List RipEntry) where
-  -- the entry that the table is full for found no room in another table, which heard more
+  -- the entry for which one table is full did not fit in another table that learned more entries
   pub full_route : (n m : ℕ) (new other : Table Network RouteMetric) → HeardRoutes ports source now entries routes n new → AtEntry entries n (IsFullForRoute ports source new) → IsTable network_cmp new
       → HeardRoutes ports source now entries routes m other → n < m → new.most ≡ other.most → ⊥
   full_route n m new other heard at valid more lt room =

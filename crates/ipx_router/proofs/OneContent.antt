@@ -1,4 +1,4 @@
--- What a router holds after its answer is one.
+-- What a router holds after its answer is determined.
 use Rattle.std.proofs.Common.{◌≡◌, ℕ, List, inl, inr, sym, ◌∙◌, subst, arith}
 use Rattle.std.proofs.lemmas.Bool.{cases_lt}
 use Rattle.ipx_wire.specs.declared.address.Network.{Network}

@@ -1,4 +1,4 @@
--- A response finds room for all of its entries, or meets the first for which the table is full: not both.
+-- Either all entries of a response fit in the table, or the table is full for one of them: never both.
 use Rattle.std.proofs.Common.{◌≡◌, ℕ, suc, ◌+◌, ◌<◌, Bool, cond, List, [], ◌∷◌, ◌++◌, length, take, Option, Some, None, fold, sym, ap, ◌∙◌, arith}
 use Rattle.std.specs.Prelude.{slice_get}
 use Rattle.std.specs.declared.cmp.Ordering.{Ordering}
@@ -11,12 +11,12 @@ use Rattle.ipx_tables.specs.Content.{Content, IsTable, Table, after_hear, conten
 use Rattle.ipx_tables.specs.Room.{Fits, IsFull}
 use Rattle.ipx_router.specs.Hearing.{HeardFirst}
 
--- how many offers a table holds follows from what it says
+-- the number of offers of a table follows from what it says
 abbrev pub OneCount : (K M : Type 0) → (K → K → Ordering) → Type 0
 OneCount K M cmp = (a b : Table K M) → IsTable cmp a → IsTable cmp b → ((p : K × Source) → content cmp a.offers p ≡ content cmp b.offers p) → length a.offers ≡ length b.offers
 
 module _ {K M : Type 0} {cmp : K → K → Ordering} (counts : OneCount K M cmp) (dead : M → Bool) where
-  -- where a table is full for an offer, no table of its size says what hearing it would leave
+  -- if a table is full for an offer, no table of its size says what that offer would leave
   full_for : (t : Table K M) (p : K × Source) (metric : M) (now most : ℕ) (c : Content K M) → IsTable cmp t → IsFull cmp dead t p metric → Fits cmp most c → t.most ≡ most
       → ((q : K × Source) → c q ≡ after_hear cmp dead (content cmp t.offers) p metric now q) → ⊥
   full_for t p metric now most c valid full fits room says =
@@ -36,7 +36,7 @@ module _ {K M E : Type 0} {cmp : K → K → Ordering} (counts : OneCount K M cm
       let taken : take (n + 1) entries ≡ take n entries ++ e ∷ [] = take_more entries n e lt ∙ ap (λ (x : E). take n entries ++ x ∷ []) (get_or_from_slice_get entries n e e there) in
       ap (fold step start) taken ∙ fold-append step start (take n entries) (e ∷ [])
 
-  -- the entry that one finds the table full for finds no room in the other
+  -- the entry for which one table is full does not fit in the other
   pub no_room : (entries : List E) (n m : ℕ) (e : E) (new other : Table K M) → slice_get entries n ≡ Some e
       → ((c : Content K M) (q : K × Source) → step c e q ≡ after_hear cmp dead c (key_of e) (metric_of e) now q)
       → HeardFirst cmp (fold step start) entries n new → IsFull cmp dead new (key_of e) (metric_of e) → IsTable cmp new

@@ -1,4 +1,4 @@
--- A list in the order of its keys is one for the items that stand in it.
+-- A list in the order of its keys is determined by its items.
 use Rattle.std.proofs.Common.{◌≡◌, ℕ, zero, suc, ◌<◌, List, [], ◌∷◌, length, get_or, ◌⊎◌, inl, inr, refl, sym, ap, ◌∙◌, subst, arith}
 use Rattle.std.specs.Prelude.{Contains}
 use Rattle.std.specs.Cmp.{IsTotalOrder}
@@ -29,7 +29,7 @@ module _ {X K : Type 0} {cmp : K → K → Ordering} (o : IsTotalOrder cmp) (key
   tail_rises : (x : X) (xs : List X) → IsRising cmp key_of (x ∷ xs) → IsRising cmp key_of xs
   tail_rises x xs rising i j d lt within = rising (suc i) (suc j) d (omega arith) (omega (arith, within))
 
-  -- the head stands below what is behind it
+  -- the key of the head is less than those after it
   head_below : (x : X) (xs : List X) (y : X) → IsRising cmp key_of (x ∷ xs) → Contains xs y → cmp (key_of x) (key_of y) ≡ Less
   head_below x xs y rising c =
       let less : cmp (key_of x) (key_of (get_or xs c.0 y)) ≡ Less = rising 0 (suc c.0) y (omega arith) (omega (arith, c.1)) in
@@ -54,7 +54,7 @@ module _ {X K : Type 0} {cmp : K → K → Ordering} (o : IsTotalOrder cmp) (key
     ]
   ]
 
-  -- what stands behind one head stands behind the other, which is the same
+  -- if two heads are the same, the items after the one are items after the other
   tail_has : (x y : X) (xs ys : List X) → IsRising cmp key_of (x ∷ xs) → x ≡ y → ((z : X) → Contains (x ∷ xs) z → Contains (y ∷ ys) z) → (z : X) → Contains xs z → Contains ys z
   tail_has x y xs ys rising same all z c = elim (contains_cases y ys z (all z (contains_tail x xs z c))) [
     | inl is ↦
@@ -64,7 +64,7 @@ module _ {X K : Type 0} {cmp : K → K → Ordering} (o : IsTotalOrder cmp) (key
     | inr behind ↦ behind
   ]
 
-  -- lists that rise and have the same items are one list
+  -- rising lists with the same items are equal
   rising_one : (xs ys : List X) → IsRising cmp key_of xs → IsRising cmp key_of ys → ((z : X) → Contains xs z → Contains ys z) → ((z : X) → Contains ys z → Contains xs z) → xs ≡ ys
   rising_one [] [] up_x up_y h k = refl
   rising_one [] (y ∷ ys) up_x up_y h k = absurd (contains_none y (k y (contains_head y ys)))
@@ -74,7 +74,7 @@ module _ {X K : Type 0} {cmp : K → K → Ordering} (o : IsTotalOrder cmp) (key
       let rest : xs ≡ ys = rising_one xs ys (tail_rises x xs up_x) (tail_rises y ys up_y) (tail_has x y xs ys up_x same h) (tail_has y x ys xs up_y (sym same) k) in
       λ i. same i ∷ rest i
 
-  -- the list of just what a fact holds of is one
+  -- the list of all those for which a fact holds is unique
   pub list_is_one : (fact : X → Type 0) (xs ys : List X) → IsListOf cmp key_of fact xs → IsListOf cmp key_of fact ys → xs ≡ ys
   list_is_one fact xs ys is_x is_y =
       rising_one xs ys is_x.in_order is_y.in_order (λ z c. (is_y.stands z).1 ((is_x.stands z).0 c)) (λ z c. (is_x.stands z).1 ((is_y.stands z).0 c))

@@ -1,4 +1,4 @@
--- A packet of the router's own is one, and a list is cut into packets in one way.
+-- A packet that the router makes is determined, and a list is split into packets in one way.
 use Rattle.std.proofs.Common.{◌≡◌, ℕ, ◌+◌, ◌<◌, List, [], ◌∷◌, length, take, drop, get_or, refl, sym, ap, ◌∙◌, subst, arith, append-nil}
 use Rattle.std.proofs.lemmas.List.{get_or-drop}
 use Rattle.ipx_wire.specs.Ipx.{IsBytes, IsIpx, PacketView}

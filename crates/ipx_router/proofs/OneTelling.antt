@@ -1,4 +1,4 @@
--- What a router tells is one, and what it asks as it starts.
+-- What a router advertises is determined, and so is what it asks as it starts.
 use Rattle.std.proofs.Common.{◌≡◌, ℕ, ◌+◌, Bool, true, false, List, [], ◌∷◌, ◌++◌, Option, Some, sym, ◌∙◌, subst}
 use Rattle.std.specs.Prelude.{MatchBool}
 use Rattle.ipx_wire.specs.Assigned.{rip_socket, sap_socket}
@@ -18,7 +18,7 @@ use Rattle.ipx_router.proofs.Rising.{network_total}
 use Rattle.ipx_router.proofs.OneList.{list_is_one}
 use Rattle.ipx_router.proofs.OneAnswer.{Facts, key_total, rip_packet_one, route_packets_one, sap_packet_one, service_packets_one}
 
--- the parts of a list that are the same
+-- lists with equal parts are equal
 parts : {X : Type 0} (xs ys a b c d : List X) → xs ≡ a ++ b → ys ≡ c ++ d → a ≡ c → b ≡ d → xs ≡ ys
 parts xs ys a b c d of_x of_y front back = of_x ∙ (λ i. front i ++ back i) ∙ sym of_y
 
@@ -28,7 +28,7 @@ told_routes_one ports routes at = list_is_one network_total route_key (IsToldRou
 told_services_one : (services : Services) (at : PortNow) (xs ys : List ServiceEntry) → AreToldServices services at xs → AreToldServices services at ys → xs ≡ ys
 told_services_one services at = list_is_one key_total key_of_service (IsToldService services at)
 
--- what is told on a port
+-- what is advertised on a port
 told_one : Facts → (ports : List Port) (routes : Routes) (services : Services) (at : PortNow) (a b : List SendingView) → AreTold ports routes services at a → AreTold ports routes services at b → a ≡ b
 told_one f ports routes services at a b x y =
     let to_rip = all_nodes at.number at.port rip_socket in
@@ -41,7 +41,7 @@ told_one f ports routes services at a b x y =
     (route_packets_one f to_rip y.told_routes x.route_packets y.route_packets moved_routes y.in_route_packets)
     (service_packets_one f to_sap false y.told_services x.service_packets y.service_packets moved_services y.in_service_packets)
 
--- what is told on all of them
+-- what is advertised on all ports
 tellings_one : Facts → (ports : List Port) (routes : Routes) (services : Services) (now number : ℕ) (left : List Port) (a b : List SendingView) → AreTellings ports routes services now number left a → AreTellings ports routes services now number left b → a ≡ b
 tellings_one f ports routes services now number [] a b x y = x ∙ sym y
 tellings_one f ports routes services now number (port ∷ left) a b x y =

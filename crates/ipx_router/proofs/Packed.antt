@@ -1,4 +1,4 @@
--- Entries put into packets one by one.
+-- Entries added to packets one by one.
 use Rattle.std.proofs.Common.{◌≡◌, ℕ, ◌+◌, ◌≤◌, ◌<◌, List, [], ◌∷◌, ◌++◌, length, take, drop, sym, ap, ◌∙◌, subst, arith, append-nil}
 use Rattle.std.proofs.lemmas.List.{append_assoc, drop_at, length-append, length-take-le, length_push, take_at}
 use Rattle.ipx_router.specs.declared.outcome.Reply.{Reply}
@@ -14,7 +14,7 @@ module _ {E : Type 0} (Are : List E → List SendingView → Type 0) where
   packed_none = record { last = omega arith; packed = λ rest later cut. cut }
 
   module _ (entries : List E) (sent : List Reply) (hand : List E) (h : ArePacked Are entries sent hand) where
-    -- one more entry in hand
+    -- one more entry in the open packet
     pub packed_push : (e : E) → ArePacked Are (entries ++ e ∷ []) sent (hand ++ e ∷ [])
     packed_push e = record {
       last = omega (arith, length_push hand e, length_push entries e, h.last);
@@ -23,7 +23,7 @@ module _ {E : Type 0} (Are : List E → List SendingView → Type 0) where
           (h.packed (e ∷ rest) later (subst (λ es. Are es later) (append_assoc hand (e ∷ []) rest) cut));
     }
 
-    -- no entry more: the packets of those in hand are the last ones
+    -- no more entries: the packets of the open entries are the last ones
     pub packed_done : (new : List Reply) → AddsPackets (Are hand) sent new → Are entries (sendings new)
     packed_done new adds =
         let all = h.packed [] adds.0 (subst (λ es. Are es adds.0) (sym (append-nil hand)) adds.2) in
@@ -33,7 +33,7 @@ module _ {E : Type 0} (Are : List E → List SendingView → Type 0) where
     packed_some some = omega (arith, h.last, some)
 
 module _ {E : Type 0} (most : ℕ) (IsPacketOf : List E → SendingView → Type 0) (entries : List E) (sent : List Reply) (hand : List E) (h : ArePacked (AreCutOf most IsPacketOf) entries sent hand) where
-  -- the packet in hand is full, and was sent
+  -- the open packet is full, and was closed
   pub packed_close : (r : Reply) → length hand ≡ most → 0 < most → IsPacketOf hand (sending_of r) → ArePacked (AreCutOf most IsPacketOf) entries (sent ++ r ∷ []) []
   packed_close r full some is = record {
     last = omega arith;
@@ -46,14 +46,14 @@ module _ {E : Type 0} (most : ℕ) (IsPacketOf : List E → SendingView → Type
         (longer, subst (λ part. IsPacketOf part (sending_of r)) (sym front) is, subst (λ es. AreCutOf most IsPacketOf es later) (sym behind) cut));
   }
 
-  -- none is in hand, and none follows
+  -- the open packet is empty, and no entry follows
   pub packed_whole : hand ≡ [] → AreCutOf most IsPacketOf entries (sendings sent)
   packed_whole none =
       packed_done (AreCutOf most IsPacketOf) entries sent hand h sent ([], sym (append-nil (sendings sent)), none)
 
--- ---- a body that was written in its place
+-- ---- a body that was written in place
 
--- what lies behind a place once the part from there on was written
+-- what follows an index after the part from there on was written
 pub part_written : (at len : ℕ) (old part rest beyond : List ℕ) → at ≤ length old → at + length part ≡ length old → len ≡ length old → rest ≡ []
     → drop at (take len ((take at old ++ (part ++ rest)) ++ drop (length (take at old ++ (part ++ rest))) beyond)) ≡ part
 part_written at len old part rest beyond within fits whole none =

@@ -1,4 +1,4 @@
--- From what is picked of what is told to what was asked for.
+-- From what is picked of the advertised entries to what was asked for.
 use Rattle.std.proofs.Common.{◌≡◌, ◌≢◌, ℕ, Bool, true, false, List, [], ◌∷◌, ◌++◌, Option, Some, None, refl, sym, subst, ap, ◌∙◌, inl, inr}
 use mathlib.Core.Bool.{true≢false}
 use Rattle.std.specs.Prelude.{MatchOption, ◌==◌}
@@ -26,7 +26,7 @@ use Rattle.ipx_router.proofs.ToldRoutes.{OneBest, one_route}
 
 -- ---- routes
 
--- one more network is asked for, of which this or nothing is told
+-- one more network is asked for, of which this entry or nothing is advertised
 pub asked_more : (IsTold : RipEntry → Type 0) (asked entries : List RipEntry) (e : RipEntry) (o : Option RipEntry) → AreToldOf IsTold asked entries → IsToldOf IsTold e.network o
     → AreToldOf IsTold (asked ++ e ∷ []) (entries ++ cons_option o [])
 asked_more IsTold [] entries e None none nothing = inr (nothing, rw none refl)
@@ -50,7 +50,7 @@ asks_all_by ys e later asked are all =
     subst (λ (es : List RipEntry). asks_all es ≡ true) are (list_any-append test ys (e ∷ later) ∙ or_right (list_any test ys) (list_any test (e ∷ later)) (or_left (test e) (list_any test later) all))
 
 module _ (one : OneBest) (ports : List Port) (routes : Routes) (at : PortNow) (network : Network) where
-  -- nothing is told of a network that has no route
+  -- nothing is advertised of a network that has no route
   pub no_route_told : IsRouteOrNone ports routes at.now network None → IsToldOf (IsToldRoute ports routes at) network None
   no_route_told none t told same =
       let leads = subst (λ (n : Network). IsRouteTo ports routes at.now n told.route) same told.leads in
@@ -64,13 +64,13 @@ module _ (one : OneBest) (ports : List Port) (routes : Routes) (at : PortNow) (n
       let way = one_route one ports routes at.now network told.route route (subst (λ (n : Network). IsRouteTo ports routes at.now n told.route) same told.leads) leads in
       told.elsewhere (ap (λ (r : Route). r.port) way ∙ here)
 
-  -- a route that leaves by another port is told
+  -- a route that leaves by another port is advertised
   pub elsewhere_told : (route : Route) → IsRouteTo ports routes at.now network route → route.port ≢ at.number → IsToldOf (IsToldRoute ports routes at) network (Some (told_route network route.metric at))
   elsewhere_told route leads other = (record { route = route; leads = leads; elsewhere = other; is = refl }, refl)
 
 -- ---- services
 
--- those of a list that pass a test
+-- the items of a list that pass a test
 pub list_of_passing : {X K : Type 0} (cmp : K → K → Ordering) (key_of : X → K) (F : X → Type 0) (p : X → Bool) (xs : List X) → IsListOf cmp key_of F xs → IsListOf cmp key_of (λ x. F x × (p x ≡ true)) (filter p xs)
 list_of_passing cmp key_of F p xs are = record {
   in_order = AllPairs-filter (λ a b. cmp (key_of a) (key_of b) ≡ Less) p xs are.in_order;

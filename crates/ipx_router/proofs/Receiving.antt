@@ -1,4 +1,4 @@
--- From what is answered once old offers have gone to what the router answers.
+-- From the answer after old offers were removed to what the router answers.
 use Rattle.std.proofs.Common.{◌≡◌, ℕ, Bool, List, length, Option, None, Result, Ok, Err, refl, sym, subst}
 use Rattle.std.specs.Prelude.{IfOk, IfErr, OnErr, MatchOption, MatchResult, count_by}
 use Rattle.std.proofs.Math.Path.{fun_ext}
@@ -32,13 +32,13 @@ use Rattle.ipx_router.specs.Answer.{AnswersBytes, AnswersRip, AnswersRipMessage,
 use Rattle.ipx_router.specs.WantOfMemory.{BytesWantMemory, BytesWantMemoryInPlace, HearingRoutesWantsMemory, HearingServicesWantsMemory, RipWantsMemory, SapWantsMemory, WantsMemory, WantsMemoryInPlace}
 use Rattle.ipx_router.specs.Forwarded.{ForwardsEachReading, ForwardsOneHopOn, ForwardsPacket}
 
--- what tables say once old offers have gone is what is known then
+-- what tables say after old offers were removed is what is known then
 pub known_same : (ports : List Port) (now : ℕ) (old_routes routes : Table Network RouteMetric) (old_services services : Table ServiceKey ServiceMetric)
     → ((p : Network × Source) → routes_in routes p ≡ after_age (routes_in old_routes) now p) → ((p : ServiceKey × Source) → services_in services p ≡ after_age (services_in old_services) now p)
     → known_in ports routes services ≡ known_aged ports old_routes old_services now
 known_same ports now old_routes routes old_services services r s = λ i. record { ports = ports; routes = fun_ext r i; services = fun_ext s i }
 
--- ---- on the port of a number
+-- ---- on the port of this number
 
 module _ {O : Type 0} (old : RouterView) (port now : ℕ) (bytes : List ℕ) (arrived : Port) (is : IsPort old.ports port arrived) where
   pub receives_on : (view : O → OutcomeView) → (new : RouterView) → KeepsAllButOffers old new → new.told ≡ old.told → AreTables (tables new)

@@ -57,7 +57,7 @@ module _ {X K : Type 0} {cmp : K → K → Ordering} (o : IsTotalOrder cmp) (key
       ]
 
 module _ {X : Type 0} (xs : List X) (at : ℕ) (y : X) (fits : at ≤ length xs) where
-  -- an insert keeps what stands in the list
+  -- an insert keeps the items of the list
   pub insert_keeps : (x : X) → Contains xs x → Contains (insert xs at y) x
   insert_keeps x (k, lt, is) =
       let long = length-insert xs at y fits in
@@ -66,7 +66,7 @@ module _ {X : Type 0} (xs : List X) (at : ℕ) (y : X) (fits : at ≤ length xs)
         | inr high ↦ (k + 1, omega arith, get_or-insert_above xs at y x k high fits ∙ is)
       ]
 
-  -- and puts the item there
+  -- and adds the item
   pub insert_there : Contains (insert xs at y) y
   insert_there = (at, omega (arith, length-insert xs at y fits), get_or-insert_at xs at y y fits)
 
@@ -90,7 +90,7 @@ nothing_rises cmp key_of i j d lt in_range = absurd (omega arith)
 pub network_total : IsTotalOrder network_cmp
 network_total = on_total (λ (n : Network). n.0) nat_cmp_total
 
--- where an entry of the network stands already
+-- if the list has an entry of the network
 pub puts_nothing : (old : List RipEntry) (entry : RipEntry) (i : ℕ) → IsRising network_cmp route_key old → IsAtKey network_cmp route_key old entry.network i → PutsEntry old entry old
 puts_nothing old entry i rising at = record {
   in_order = rising;
@@ -99,7 +99,7 @@ puts_nothing old entry i rising at = record {
   there = (get_or old i entry, Contains-get_or old i entry at.in_range, network_exact _ _ (at.ties entry));
 }
 
--- where it goes in
+-- if the entry is inserted
 pub puts_new : (old new : List RipEntry) (entry : RipEntry) (at : ℕ) → IsRising network_cmp route_key old → IsGapFor network_cmp route_key old entry.network at → new ≡ insert old at entry → PutsEntry old entry new
 puts_new old new entry at rising gap is = subst (PutsEntry old entry) (sym is) (record {
   in_order = insert_rising network_total route_key old rising entry at gap;

@@ -1,4 +1,4 @@
--- Whether some route is told on a port, and whether it is asked for.
+-- Whether some route is advertised on a port, and whether it is asked for.
 use Rattle.std.proofs.Common.{◌≡◌, ◌<◌, Bool, true, false, List, [], ◌∷◌, ◌++◌, length, Result, Ok, Err, refl, subst, inl, inr, arith}
 use Rattle.std.specs.Prelude.{Contains, OnErr, MatchBool, ◌==◌}
 use borrow.Author.Tests.{eqb-true}
@@ -45,7 +45,7 @@ module _ (ports : List Port) (routes : Routes) (at : PortNow) where
         let t = told_route item.0 item.2 at in
         (t, item_told ports routes at heard listing t (item, c, e, refl))
 
-  -- ---- what is told and asked for
+  -- ---- what is advertised and asked for
 
   abbrev IsTold : RipEntry → Type 0
   IsTold = IsToldRoute ports routes at
@@ -70,7 +70,7 @@ module _ (ports : List Port) (routes : Routes) (at : PortNow) where
       (w.1, x, (w.0, w.2, w.3), (are.stands x).0 (here x entries), inl (eqb-true _ _ w.4))
   entries_to_reply asked x entries false all are = named_to_reply asked x entries are
 
-  -- what is asked for and has an entry is to be sent
+  -- if a request asks for a list that is not empty, some route is to be sent
   pub has_to_reply : (asked entries : List RipEntry) → AreRoutesAsked ports routes at asked entries → 0 < length entries → HasRouteToReply ports routes at asked
   has_to_reply asked [] are some = absurd (omega arith)
   has_to_reply asked (x ∷ entries) are some = entries_to_reply asked x entries (asks_all asked) refl are

@@ -24,7 +24,7 @@ use Rattle.ipx_router.proofs.Cuts.{route_packets_port, service_packets_port, sen
 abbrev ByPort : ℕ → List SendingView → Type 0
 ByPort number sent = All (λ (s : SendingView). s.port ≡ number) sent
 
--- all leave by ports from a first one on
+-- all leave by ports from this number on
 abbrev ByPorts : ℕ → ℕ → List SendingView → Type 0
 ByPorts first count sent = All (λ (s : SendingView). (first ≤ s.port) × (s.port < first + count)) sent
 
@@ -41,7 +41,7 @@ asks_two number port old mid new r s e f p q = (
   (sending_of r, sending_of s, refl, p, q),
 )
 
--- routes and then services
+-- routes, followed by services
 pub tells_both : (ports : List Port) (routes : Routes) (services : Services) (at : PortNow) (old mid new : List Reply) (told_routes : List RipEntry) (told_services : List ServiceEntry) (for_routes for_services : Recipient)
     → for_routes ≡ all_nodes at.number at.port rip_socket → for_services ≡ all_nodes at.number at.port sap_socket
     → AreToldRoutes ports routes at told_routes → AreToldServices services at told_services
@@ -63,7 +63,7 @@ tells_both ports routes services at old mid new rs ss tr ts er es of_r of_s p q 
   },
 )
 
--- what was added to nothing is all
+-- what was added to an empty list is the whole list
 pub adds_to_none : (P : List SendingView → Type 0) (old new : List Reply) → old ≡ [] → AddsPackets P old new → P (sendings new)
 adds_to_none P old new none adds = subst P (sym (adds.1 ∙ ap (λ (rs : List Reply). sendings rs ++ adds.0) none)) adds.2
 

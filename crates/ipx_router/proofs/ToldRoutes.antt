@@ -1,4 +1,4 @@
--- The told routes, from the networks of the ports and the listing of the best offers.
+-- The advertised routes, from the networks of the ports and the list of the best offers.
 use Rattle.std.proofs.Common.{◌≡◌, ℕ, ◌+◌, ◌<◌, Bool, true, false, not, nat_eq, List, [], length, get_or, Option, Some, None, refl, sym, ap, ◌∙◌, subst, inl, inr, arith}
 use mathlib.Core.Bool.{true≢false}
 use borrow.Author.Tests.{eqb-true, eqb-false}
@@ -56,7 +56,7 @@ is_none_None (Some n) e = cc
 abbrev pub OneBest : Type 0
 OneBest = (c : Routes) (key : Network) (now : ℕ) (a b : Source × RouteMetric) → IsBest route_before c key now a → IsBest route_before c key now b → a ≡ b
 
--- by the place of the port or the best offer
+-- by the index of the port, or by the best offer
 abbrev ByRoute : Routes → ℕ → Network → Route → Option ℕ → Type 0
 ByRoute routes now network route o = MatchOption o (IsHeardRoute routes now network route) (λ place. route ≡ over_port place)
 
@@ -66,11 +66,11 @@ module _ (one : OneBest) where
       p.2 ∙ ap over_neighbour (one routes network now p.0 q.0 p.1 q.1) ∙ sym q.2
   one_route_by routes now network (Some place) a b p q = p ∙ sym q
 
-  -- a network has one route at most
+  -- a network has at most one route
   pub one_route : (ports : List Port) (routes : Routes) (now : ℕ) (network : Network) (a b : Route) → IsRouteTo ports routes now network a → IsRouteTo ports routes now network b → a ≡ b
   one_route ports routes now network a b p q = one_route_by routes now network (direct_route ports network) a b p q
 
-  -- and is told in one way
+  -- and is advertised in one way
   one_told : (ports : List Port) (routes : Routes) (at : PortNow) (a b : RipEntry) → IsToldRoute ports routes at a → IsToldRoute ports routes at b → a.network ≡ b.network → a ≡ b
   one_told ports routes at a b p q e =
       let r : p.route ≡ q.route = one_route ports routes at.now b.network p.route q.route (subst (λ n. IsRouteTo ports routes at.now n p.route) e p.leads) q.leads in
@@ -87,7 +87,7 @@ module _ (ports : List Port) (routes : Routes) (at : PortNow) where
         is = t.1;
       }
 
-  -- a told network of a port leaves by another port
+  -- an advertised network of a port leaves by another port
   pub port_says : (x : RipEntry) (t : IsToldRoute ports routes at x) (place : ℕ) → direct_route ports x.network ≡ Some place → t.route ≡ over_port place
       → (place < length ports) × ((get_or ports place no_port).network ≡ x.network) × (is_told_port ports at (get_or ports place no_port).network ≡ true)
   port_says x t place there is =
@@ -113,7 +113,7 @@ module _ (ports : List Port) (routes : Routes) (at : PortNow) where
           is = t.3 ∙ ap (λ (n : Network). told_route n item.2 at) (sym named);
         }
 
-    -- a told network that is heard has a best offer that came by another port
+    -- an advertised network that is no port's has a best offer that came by another port
     pub item_says : (one : OneBest) (x : RipEntry) (t : IsToldRoute ports routes at x) → direct_route ports x.network ≡ None → IsHeardRoute routes at.now x.network t.route
         → (i : ℕ) × (d : Network × Source × RouteMetric) × (i < length heard) × ((get_or heard i d).0 ≡ x.network) × (is_told_item ports at (get_or heard i d) ≡ true)
     item_says one x t none r =
@@ -132,7 +132,7 @@ module _ (ports : List Port) (routes : Routes) (at : PortNow) where
       told_is : (x : RipEntry) → Contains told x → IsToldRoute ports routes at x
       told_is x c = elim (h.only x c) [ inl old ↦ port_told x (p.only x old) | inr item ↦ item_told x item ]
 
-      -- an entry of the network is the one that is told
+      -- an entry of the network is the one that is advertised
       stands_by : (x : RipEntry) → IsToldRoute ports routes at x → HasNetwork told x.network → Contains told x
       stands_by x t y = subst (Contains told) (one_told one ports routes at y.0 x (told_is y.0 y.1) t y.2) y.1
 
@@ -158,7 +158,7 @@ module _ (ports : List Port) (routes : Routes) (at : PortNow) where
         stands = λ x. (told_is x, λ t. stands_by x t (stands_as x t (direct_route ports x.network) refl t.leads));
       }
 
--- ---- the told routes in the making
+-- ---- the advertised routes, one after another
 
 first_port : (ports : List Port) (at : PortNow) → AreToldPorts ports at 0 []
 first_port ports at = record {
@@ -168,7 +168,7 @@ first_port ports at = record {
 }
 
 module _ (ports : List Port) (at : PortNow) (n : ℕ) (d : Port) (lt : n < length ports) (told : List RipEntry) (p : AreToldPorts ports at n told) where
-  -- a network that is not told
+  -- a network that is not advertised
   pub port_skip : is_told_port ports at (get_or ports n d).network ≡ false → AreToldPorts ports at (n + 1) told
   port_skip not_told = record {
     in_order = p.in_order;
@@ -182,7 +182,7 @@ module _ (ports : List Port) (at : PortNow) (n : ℕ) (d : Port) (lt : n < lengt
     ];
   }
 
-  -- a network that is told
+  -- a network that is advertised
   pub port_more : (new : List RipEntry) → is_told_port ports at (get_or ports n d).network ≡ true → PutsEntry told (told_route (get_or ports n d).network no_way at) new → AreToldPorts ports at (n + 1) new
   port_more new is_told puts = record {
     in_order = puts.in_order;

@@ -1,4 +1,4 @@
--- The told services, from the listing of the best offers.
+-- The advertised services, from the list of the best offers.
 use Rattle.std.proofs.Common.{◌≡◌, ℕ, Bool, true, false, not, List, get_or, map, sym, ap, ◌∙◌, subst}
 use borrow.Author.Tests.{eqb-false}
 use Rattle.std.specs.Prelude.{Contains, ◌==◌, ◌&&◌}
@@ -76,7 +76,7 @@ module _ (services : Services) (at : PortNow) (heard : List (ServiceKey × Sourc
     abbrev test : ServiceKey × Source × ServiceMetric → Bool
     test = is_item_asked at nearest kind
 
-    -- an item that is asked for is told
+    -- an item that is asked for is advertised
     pub item_replied : (item : ServiceKey × Source × ServiceMetric) → Contains heard item → test item ≡ true → HasToReply services at nearest kind
     item_replied item c e =
         let parts = both _ _ e in

@@ -1,6 +1,5 @@
--- What a router does with the bytes that come in on a port: what it answers, and what it holds
--- then.
--- The entry point is `Receives`, at the end.
+-- What a router answers to the bytes that come in on a port, and what it knows after that. The entry point is
+-- `Receives`, at the end.
 use Rattle.std.specs.Prelude.{◌≡◌, ℕ, List, length, MatchOption, count_by}
 use Rattle.ipx_wire.specs.declared.address.Network.{Network}
 use Rattle.ipx_wire.specs.declared.ipx.packet.IpxHeader.{IpxHeader}
@@ -31,7 +30,7 @@ use Rattle.ipx_router.specs.Forward.{Forwards}
 use Rattle.ipx_router.specs.Replying.{RepliesRoutes, RepliesServices}
 use Rattle.ipx_router.specs.Hearing.{AtEntry, HeardRoutes, HeardServices, IsFullForRoute, IsFullForService, is_heard, source_of}
 
--- all entries of a response were heard, or those before the first that found the table full
+-- all entries of a response were handled, or those before the first for which the table was full
 abbrev pub HearsRoutes : List Port → Routes → Source → ℕ → List RipEntry → OutcomeView
     → Table Network RouteMetric → Type 0
 HearsRoutes ports routes source now entries (Heard n) new = (n ≡ count_by (is_heard ports) entries)
@@ -103,15 +102,15 @@ AnswersBytes k at bytes a new = MatchOption (ipx_fault bytes)
     (AnswersPacket k at bytes a new)
     (λ f. (a ≡ Dropped (Bad f)) × HoldsKnown k new)
 
--- what a router answers to bytes that come in on its port of a number at a moment, and the offers
--- that it holds then
+-- what a router answers to bytes that come in on its port of this number at a time, and the offers that it
+-- holds after that
 abbrev pub RouterAnswers : RouterView → ℕ → List ℕ → ℕ → OutcomeView → RouterView → Type 0
 RouterAnswers old port bytes now a new = (arrived : Port) × IsPort old.ports port arrived
     × AnswersBytes (known_at old now) (record { number = port; port = arrived; now = now })
     bytes a (tables new)
 
--- what a router does with bytes that come in: its answer, and the router that it is then.
--- What the answer sends is packets, of numbers under 256.
+-- what a router does with bytes that come in: its answer, and its new state. All bytes that the answer sends
+-- are numbers under 256.
 pub record Receives (old : RouterView) (port : ℕ) (bytes : List ℕ) (now : ℕ) (a : OutcomeView)
     (new : RouterView) : Type 0 where
   pub answers : RouterAnswers old port bytes now a new

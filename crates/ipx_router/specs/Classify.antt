@@ -1,5 +1,4 @@
--- What a packet is to a router, by its header: control for the router itself, or on its way to
--- another network.
+-- How a router classifies a packet by its header: control for the router itself, or for another network.
 use Rattle.std.specs.Prelude.{◌==◌, ◌||◌, ◌&&◌, Bool, not, nat_eq, if◌then◌else◌}
 use Rattle.std.specs.Cmp.Lexicographic.{pointwise}
 use Rattle.ipx_wire.specs.declared.address.Node.{Node}
@@ -14,7 +13,7 @@ use Rattle.ipx_router.specs.RouterPackets.{broadcast}
 abbrev pub is_node : Node → Node → Bool
 is_node a b = pointwise nat_eq a.0 b.0
 
--- it is for the port at which it came in, or for all nodes there, and comes from another node of
+-- it is for the node of the port at which it came in, or for all nodes there, and comes from another node of
 -- that network
 abbrev pub is_from_neighbour : Port → IpxHeader → Bool
 is_from_neighbour arrived h =
@@ -31,7 +30,7 @@ concern_on_network arrived h =
     )
     else Dropped NotOurs
 
--- packets of type 20 are not propagated; what is for the network at hand is control, or not ours
+-- packets of type 20 are not propagated; a packet for the local network is control, or not for the router
 abbrev pub concern_of : Port → IpxHeader → Concern
 concern_of arrived h =
     if h.kind == netbios_propagation_type then Dropped Propagated

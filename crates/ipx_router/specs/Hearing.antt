@@ -1,4 +1,4 @@
--- What a router hears from the entries of a RIP or SAP response.
+-- What a router learns from the entries of a RIP or SAP response.
 use Rattle.std.specs.Prelude.{◌≡◌, ◌≤◌, ℕ, ◌==◌, ◌||◌, Bool, true, not, List, length, take, slice_get, Some, fold, if◌then◌else◌}
 use Rattle.std.specs.declared.cmp.Ordering.{Ordering}
 use Rattle.std.specs.List.{list_any}
@@ -20,11 +20,11 @@ use Rattle.ipx_router.specs.declared.port.PortNow.{PortNow}
 use Rattle.ipx_router.specs.Knowledge.{Routes, Services}
 use Rattle.ipx_router.specs.Told.{key_of_service}
 
--- whom a response is heard from
+-- the source of a response: the node that sent it, on the port that it came in on
 abbrev pub source_of : PortNow → IpxHeader → Source
 source_of at h = record { port = at.number; neighbour = h.from.node }
 
--- no route to the network at hand, to all networks, or to a port's own network is heard
+-- entries for network 0, for all networks, or for a port's own network are not learned
 abbrev pub is_heard : List Port → RipEntry → Bool
 is_heard ports e = not ((e.network.0 == local_network) || (e.network.0 == all_networks)
     || list_any (λ p. p.network.0 == e.network.0) ports)
@@ -36,7 +36,7 @@ abbrev pub service_metric : ServiceEntry → ServiceMetric
 service_metric e = record { hops = e.hops; at = e.at }
 
 module _ (ports : List Port) (source : Source) (now : ℕ) where
-  -- what is known once an entry was heard, as it stands
+  -- what is known after an entry, whether it was learned or not
   abbrev pub after_route : Routes → RipEntry → Routes
   after_route routes e =
       if is_heard ports e
@@ -55,7 +55,7 @@ module _ (source : Source) (now : ℕ) where
   abbrev pub after_services : Services → List ServiceEntry → Services
   after_services = fold after_service
 
--- the first n entries were heard, each of them found room, and the others were not heard
+-- the first n entries were handled, each of them fitted in the table, and the others were not handled
 pub record HeardFirst {K M E : Type 0} (cmp : K → K → Ordering) (after : List E → Content K M)
     (entries : List E) (n : ℕ) (new : Table K M) : Type 0 where
   pub within : n ≤ length entries
@@ -72,13 +72,13 @@ abbrev pub HeardServices : Source → ℕ → List ServiceEntry → Services →
 HeardServices source now entries services =
     HeardFirst service_key_cmp (after_services source now services) entries
 
--- there is an entry at a place, and the fact holds of it
+-- there is an entry at this index, and the fact holds of it
 pub record AtEntry {E : Type 0} (entries : List E) (place : ℕ) (Fact : E → Type 0) : Type 0 where
   pub entry : E
   pub there : slice_get entries place ≡ Some entry
   pub holds : Fact entry
 
--- the entry is to be heard, and finds the table full
+-- the entry is to be learned, and the table is full for it
 abbrev pub IsFullForRoute : List Port → Source → Table Network RouteMetric → RipEntry → Type 0
 IsFullForRoute ports source t e = (is_heard ports e ≡ true)
     × IsFull network_cmp route_dead t (e.network, source) (route_metric e)
@@ -87,7 +87,7 @@ abbrev pub IsFullForService : Source → Table ServiceKey ServiceMetric → Serv
 IsFullForService source t e =
     IsFull service_key_cmp service_dead t (key_of_service e, source) (service_metric e)
 
--- the entry is to be heard, and makes the table grow
+-- the entry is to be learned, and the table has to grow for it
 abbrev pub GrowsByRoute : List Port → Source → Table Network RouteMetric → RipEntry → Type 0
 GrowsByRoute ports source t e = (is_heard ports e ≡ true)
     × Grows network_cmp route_dead t (e.network, source) (route_metric e)

@@ -1,18 +1,18 @@
--- What becomes of a datagram whose bytes the router may change, without where it lies in memory.
+-- What is done with a datagram in a buffer that the router may change, without its place in memory.
 use Rattle.std.specs.Prelude.{◌≡◌, ◌≤◌, ℕ, List, length, take, drop}
 use Rattle.ipx_router.specs.declared.outcome.InPlace.{InPlace}
 use Rattle.ipx_router.specs.declared.outcome.InPlace.TheVariants as in_place
 use Rattle.ipx_router.specs.RouterPackets.{sendings}
 use Rattle.ipx_router.specs.OutcomeView.{OutcomeView, Forward, Replies, Heard, Dropped}
 
--- the answer, by the bytes that lie in the datagram's room then: what goes on is the first of them
+-- the answer, with the bytes of the buffer after the call: a forwarded packet is the first `count` of them
 abbrev pub outcome_in : List ℕ → InPlace → OutcomeView
 outcome_in room (in_place.Forward port next count) = Forward port next (take count room)
 outcome_in room (in_place.Replies rs) = Replies (sendings rs.items)
 outcome_in room (in_place.Heard n) = Heard n
 outcome_in room (in_place.Dropped reason) = Dropped reason
 
--- only a packet that goes on is changed: what lies behind it stays, and where none goes on all stays
+-- only a forwarded packet is changed: bytes after it stay, and if none is forwarded all bytes stay
 abbrev pub ChangesPacketAlone : List ℕ → List ℕ → InPlace → Type 0
 ChangesPacketAlone old new (in_place.Forward port next count) =
     (count ≤ length old) × (drop count new ≡ drop count old)

@@ -1,4 +1,4 @@
--- What a router knows at a moment: its ports, and the offers that it heard and that are not old.
+-- What a router knows at a time: its ports, and the offers that it learned and that are not old.
 use Rattle.std.specs.Prelude.{◌≡◌, ℕ, List}
 use Rattle.ipx_wire.specs.declared.address.Network.{Network}
 use Rattle.ipx_tables.specs.declared.route.RouteMetric.{RouteMetric}
@@ -35,12 +35,12 @@ pub record Known : Type 0 where
   pub routes : Routes
   pub services : Services
 
--- what is known by ports and tables as they are
+-- what is known by these ports and tables as they are
 abbrev pub known_in : List Port → Table Network RouteMetric → Table ServiceKey ServiceMetric → Known
 known_in ports routes services =
     record { ports = ports; routes = routes_in routes; services = services_in services }
 
--- what is known at a moment: offers that are old then have gone
+-- what is known at a time, without the offers that are old then
 abbrev pub known_aged : List Port → Table Network RouteMetric
     → Table ServiceKey ServiceMetric → ℕ → Known
 known_aged ports routes services now = record {
@@ -59,7 +59,7 @@ Tables = Table Network RouteMetric × Table ServiceKey ServiceMetric
 abbrev pub tables : RouterView → Tables
 tables r = (r.routes, r.services)
 
--- no network and no service stands twice from one source, and they are 1,024 and 4,096 at most
+-- no network or service is listed twice from one source, and there are at most 1,024 and 4,096 offers
 pub record AreTables (t : Tables) : Type 0 where
   pub routes : IsTable network_cmp t.0
   pub services : IsTable service_key_cmp t.1
@@ -71,7 +71,7 @@ pub record HoldsKnown (k : Known) (new : Tables) : Type 0 where
   pub routes : HoldsRoutes new.0 k.routes
   pub services : HoldsServices new.1 k.services
 
--- all that a router's calls leave as it was, but for the offers that it holds
+-- all that a router's calls keep: everything except the offers that it holds
 pub record KeepsAllButOffers (old new : RouterView) : Type 0 where
   pub ports : new.ports ≡ old.ports
   pub most_routes : new.routes.most ≡ old.routes.most

@@ -1,5 +1,5 @@
--- What a router tells and asks is one: two lists of packets that meet the relation of `tell` are the
--- same list, byte for byte and in the same order, and so are two that meet that of `start`.
+-- What a router advertises and asks is determined. Two lists of packets that meet the contract of `tell` are
+-- equal, byte for byte and in order. So are two lists that meet the contract of `start`.
 use Rattle.std.specs.Prelude.{◌≡◌, ℕ, List, Option}
 use Rattle.ipx_wire.specs.declared.address.Network.{Network}
 use Rattle.ipx_tables.specs.declared.service.ServiceKey.{ServiceKey}
@@ -10,14 +10,14 @@ use Rattle.ipx_router.specs.RouterPackets.{SendingView}
 use Rattle.ipx_router.specs.Starting.{AreStarts}
 use Rattle.ipx_router.specs.Telling.{TellsIfDue}
 
--- the same ports, and of each network, each service and each source the same is known
+-- the same ports, and the same known of each network, service and source
 pub record IsKnownAlike (k other : Known) : Type 0 where
   pub ports : k.ports ≡ other.ports
   pub routes : (p : Network × Source) → k.routes p ≡ other.routes p
   pub services : (p : ServiceKey × Source) → k.services p ≡ other.services p
 
--- whoever knows alike and told last at the same time tells the same packets now, and has told at the
--- same time then
+-- two routers that know the same and advertised last at the same time advertise the same packets now, and
+-- have the same time of the last advertisement after that
 abbrev pub IsOneTelling : Type 0
 IsOneTelling = (k other : Known) (last : Option ℕ) (now : ℕ) (a b : List SendingView)
     (told_a told_b : Option ℕ) → IsKnownAlike k other → TellsIfDue k last now a told_a
@@ -28,7 +28,7 @@ abbrev pub IsOneHolding : Type 0
 IsOneHolding = (k : Known) (new other : Tables) → HoldsKnown k new → HoldsKnown k other
     → HoldsRoutes new.0 (routes_in other.0) × HoldsServices new.1 (services_in other.1)
 
--- the packets by which ports, numbered from a first one on, are asked
+-- the packets by which a router asks on ports, which are numbered from a first number on
 abbrev pub IsOneStart : Type 0
 IsOneStart = (number : ℕ) (ports : List Port) (a b : List SendingView)
     → AreStarts number ports a → AreStarts number ports b → a ≡ b

@@ -1,4 +1,4 @@
--- Words of the private functions that answer in place.
+-- Definitions for the private functions that answer in place.
 use Rattle.std.specs.Prelude.{◌≡◌, ℕ, ◌+◌, List, length, None}
 use Rattle.ipx_wire.specs.declared.ipx.packet.IpxHeader.{IpxHeader}
 use Rattle.ipx_wire.specs.Assigned.{ipx_header_size}
@@ -8,7 +8,7 @@ use Rattle.ipx_router.specs.declared.port.Port.{Port}
 use Rattle.ipx_router.specs.Classify.{concern_of}
 use Rattle.ipx_router.specs.OutcomeView.{OutcomeView, Forward, Replies, Heard, Dropped}
 
--- bytes begin with one packet, which is for another network, of this header and so many bytes
+-- the bytes begin with a packet for another network, of this header, and it has `count` bytes
 pub record IsOnward (arrived : Port) (bytes : List ℕ) (h : IpxHeader) (count : ℕ) : Type 0 where
   pub body : List ℕ
   pub tail : List ℕ

@@ -1,4 +1,4 @@
--- Words of the private functions that pick from what is told.
+-- Definitions for the private functions that pick from what is advertised.
 use Rattle.std.specs.Prelude.{◌≡◌, ◌≢◌, ℕ, ◌==◌, ◌&&◌, Bool, not, Option, Some, None, if◌then◌else◌}
 use Rattle.ipx_wire.specs.declared.address.Network.{Network}
 use Rattle.ipx_control.specs.declared.rip.packet.RipEntry.{RipEntry}
@@ -10,12 +10,12 @@ use Rattle.ipx_router.specs.declared.port.PortNow.{PortNow}
 use Rattle.ipx_router.specs.Told.{told_service}
 use Rattle.ipx_router.specs.Replying.{is_asked, is_nearer}
 
--- what is told of a network, or that nothing is
+-- what is advertised of a network, or that nothing is
 abbrev pub IsToldOf : (RipEntry → Type 0) → Network → Option RipEntry → Type 0
 IsToldOf IsTold network None = (t : RipEntry) → IsTold t → t.network ≢ network
 IsToldOf IsTold network (Some t) = IsTold t × (t.network ≡ network)
 
--- the nearer of a service and the one that is held, if there is one
+-- the nearer of a service and the held one, if there is one
 abbrev pub nearer : Option ServiceEntry → ServiceEntry → ServiceEntry
 nearer None service = service
 nearer (Some held) service = if is_nearer service held then service else held

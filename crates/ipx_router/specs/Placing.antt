@@ -1,4 +1,4 @@
--- Words of the private functions that make the lists of told routes and services.
+-- Definitions for the private functions that list the advertised routes and services.
 use Rattle.std.specs.Prelude.{◌≡◌, ◌<◌, ◌⊎◌, ℕ, ◌+◌, ◌==◌, ◌&&◌, Bool, true, false, not, List, filter, map, slice_index_or, Option, Some, None, is_none, Contains, nat_lt}
 use Rattle.ipx_wire.specs.declared.address.Network.{Network}
 use Rattle.ipx_control.specs.declared.rip.packet.RipEntry.{RipEntry}
@@ -14,12 +14,11 @@ use Rattle.ipx_router.specs.declared.port.PortNow.{PortNow}
 use Rattle.ipx_router.specs.RouteChoice.{direct_route}
 use Rattle.ipx_router.specs.Told.{route_key, told_route, told_service}
 
--- an entry of the network stands in the list
+-- the list has an entry of the network
 abbrev pub HasNetwork : List RipEntry → Network → Type 0
 HasNetwork told network = (x : RipEntry) × Contains told x × (x.network ≡ network)
 
--- the list stays in order, and all that it gains is the entry, unless one of its network stood
--- there
+-- the list stays in order and gains only this entry, unless it has one of that network
 pub record PutsEntry (old : List RipEntry) (entry : RipEntry) (new : List RipEntry) : Type 0 where
   pub in_order : IsRising network_cmp route_key new
   pub keeps : (x : RipEntry) → Contains old x → Contains new x
@@ -41,7 +40,7 @@ abbrev pub IsToldPort : List Port → PortNow → RipEntry → Type 0
 IsToldPort ports at x =
     (is_told_port ports at x.network ≡ true) × (x ≡ told_route x.network no_way at)
 
--- the networks of the first n ports, as far as they are told
+-- the networks of the first n ports, without those that are not advertised
 pub record AreToldPorts (ports : List Port) (at : PortNow) (n : ℕ)
     (told : List RipEntry) : Type 0 where
   pub in_order : IsRising network_cmp route_key told
@@ -59,7 +58,7 @@ abbrev pub IsToldItem : List Port → PortNow → List (Network × Source × Rou
 IsToldItem ports at heard x = (item : Network × Source × RouteMetric) × Contains heard item
     × (is_told_item ports at item ≡ true) × (x ≡ told_route item.0 item.2 at)
 
--- the first n of the best offers were added, as far as they are told
+-- of the first n best offers, those that are advertised were added
 pub record AddsHeard (ports : List Port) (at : PortNow)
     (heard : List (Network × Source × RouteMetric)) (n : ℕ) (old new : List RipEntry) : Type 0 where
   pub in_order : IsRising network_cmp route_key new
@@ -73,6 +72,6 @@ pub record AddsHeard (ports : List Port) (at : PortNow)
 abbrev pub is_below : Network → RipEntry → Bool
 is_below network entry = nat_lt entry.network.0 network.0
 
--- the services that came by another port than that of a number, as they are told
+-- the services that came by another port than this one, as they are advertised
 abbrev pub told_of_other_ports : ℕ → List (ServiceKey × Source × ServiceMetric) → List ServiceEntry
 told_of_other_ports number heard = map told_service (filter (λ item. not (item.1.port == number)) heard)

@@ -1,4 +1,4 @@
--- The numbers of the reasons for which a datagram is dropped.
+-- The numbers of the reasons to drop a datagram. Defined by this project.
 use Rattle.std.specs.Prelude.{ℕ}
 use Rattle.ipx_router.specs.declared.reason.Reason.{Reason}
 use Rattle.ipx_router.specs.declared.reason.Reason.TheVariants.{Bad, Propagated, NotOurs, NoRoute, HopLimit, BadControl, TableFull}

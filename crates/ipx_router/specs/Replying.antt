@@ -1,4 +1,4 @@
--- What a router answers to a request for routes, and to a query for services.
+-- Replies to a request for routes, and to a query for services.
 use Rattle.std.specs.Prelude.{◌≡◌, ◌≢◌, ◌⊎◌, ℕ, ◌==◌, ◌||◌, ◌&&◌, Bool, true, false, List, [], ◌∷◌, MatchBool, nat_lt, if◌then◌else◌}
 use Rattle.std.specs.List.{list_any}
 use Rattle.std.specs.declared.cmp.Ordering.{Ordering}
@@ -19,7 +19,7 @@ use Rattle.ipx_router.specs.Told.{AreToldRoutes, IsListOf, IsToldRoute, IsToldSe
 abbrev pub asks_all : List RipEntry → Bool
 asks_all = list_any (λ e. e.network.0 == all_networks)
 
--- what is told of the asked networks, in the order asked, without those of which nothing is told
+-- what is advertised of the asked networks, in the order asked, without those of which nothing is advertised
 abbrev pub AreToldOf : (RipEntry → Type 0) → List RipEntry → List RipEntry → Type 0
 AreToldOf IsTold [] entries = entries ≡ []
 AreToldOf IsTold (e ∷ asked) entries =
@@ -27,7 +27,7 @@ AreToldOf IsTold (e ∷ asked) entries =
     × IsTold t × (t.network ≡ e.network) × AreToldOf IsTold asked rest)
     ⊎ (((t : RipEntry) → IsTold t → t.network ≢ e.network) × AreToldOf IsTold asked entries)
 
--- the told routes that a request asks for
+-- the advertised routes that a request asks for
 abbrev pub AreRoutesAsked : List Port → Routes → PortNow → List RipEntry → List RipEntry → Type 0
 AreRoutesAsked ports routes at asked entries = MatchBool (asks_all asked)
     (AreToldRoutes ports routes at entries)
@@ -40,7 +40,7 @@ pub record RepliesRoutes (ports : List Port) (routes : Routes) (at : PortNow) (t
   pub are : AreRoutesAsked ports routes at asked entries
   pub packets : AreRoutePackets to entries sent
 
--- a service of the kind asked for, of which FFFF is every one
+-- a service of the kind asked for; kind FFFF asks for every kind
 abbrev pub is_of_kind : ℕ → ServiceEntry → Bool
 is_of_kind kind e = (kind == 65535) || (e.kind == kind)
 
@@ -54,11 +54,11 @@ nearness a b =
 abbrev pub is_nearer : ServiceEntry → ServiceEntry → Bool
 is_nearer a b = is_lt (nearness a b)
 
--- only what is told with fewer than 16 hops is near
+-- a service of the kind is near if it is advertised with fewer than 16 hops
 abbrev pub is_near : ℕ → ServiceEntry → Bool
 is_near kind e = is_of_kind kind e && nat_lt e.hops 16
 
--- the nearest of what is told
+-- the nearest advertised service of a kind
 pub record IsNearest (IsTold : ServiceEntry → Type 0) (kind : ℕ) (e : ServiceEntry) : Type 0 where
   pub told : IsTold e
   pub near : is_near kind e ≡ true
@@ -71,11 +71,11 @@ abbrev pub AreNearest : (ServiceEntry → Type 0) → ℕ → List ServiceEntry 
 AreNearest IsTold kind [] = NoneIsNear IsTold kind
 AreNearest IsTold kind (e ∷ es) = IsNearest IsTold kind e × (es ≡ [])
 
--- a query asks for a service: for each of the kind, or for the nearest of those
+-- a query asks for a service: for each of the kind, or for those of the kind that are near
 abbrev pub is_asked : Bool → ℕ → ServiceEntry → Bool
 is_asked nearest kind e = if nearest then is_near kind e else is_of_kind kind e
 
--- the told services that a query asks for, by kind and name
+-- the advertised services that a query asks for, by kind and name
 abbrev pub AreServicesAsked : Services → PortNow → Bool → ℕ → List ServiceEntry → Type 0
 AreServicesAsked services at nearest kind entries = MatchBool nearest
     (AreNearest (IsToldService services at) kind entries)

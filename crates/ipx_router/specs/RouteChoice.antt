@@ -1,4 +1,4 @@
--- The route to a network: over a port on that network, or over the neighbour with the best offer.
+-- The route to a network: by a port on that network, or by the neighbour with the best offer.
 use Rattle.std.specs.Prelude.{◌≡◌, ℕ, ◌+◌, ◌==◌, List, Option, Some, None, MatchOption, position}
 use Rattle.ipx_wire.specs.declared.address.Network.{Network}
 use Rattle.ipx_tables.specs.declared.route.RouteMetric.{RouteMetric}
@@ -9,7 +9,7 @@ use Rattle.ipx_router.specs.declared.port.Port.{Port}
 use Rattle.ipx_router.specs.declared.route.Route.{Route}
 use Rattle.ipx_router.specs.Knowledge.{Routes}
 
--- where a network is a port's own, that port's place in the list
+-- the index in the list of the port that is on this network, if there is one
 abbrev pub direct_route : List Port → Network → Option ℕ
 direct_route ports network = position (λ p. p.network.0 == network.0) ports
 

@@ -1,4 +1,4 @@
--- The packets of a router's own, and how lists are cut into them.
+-- The packets that a router makes itself, and how lists are split into them.
 use Rattle.std.specs.Prelude.{◌≡◌, ◌≢◌, ◌<◌, ℕ, Bool, List, [], ◌∷◌, All, length, take, drop, map}
 use Rattle.ipx_wire.specs.declared.address.Node.{Node}
 use Rattle.ipx_wire.specs.declared.ipx.packet.IpxHeader.{IpxHeader}
@@ -15,7 +15,7 @@ use Rattle.ipx_router.specs.declared.packets.Recipient.{Recipient}
 use Rattle.ipx_router.specs.declared.port.Port.{Port}
 use Rattle.ipx_router.specs.declared.port.PortNow.{PortNow}
 
--- a packet to be sent, without where its bytes lie in memory
+-- a packet to send, without its place in memory
 pub record SendingView : Type 0 where
   pub port : ℕ
   pub next : Node
@@ -27,12 +27,12 @@ sending_of r = record { port = r.port; next = r.next; bytes = r.bytes.items }
 abbrev pub sendings : List Reply → List SendingView
 sendings = map sending_of
 
--- the bytes are the packet and nothing behind it, each a number under 256
+-- the bytes are the packet with nothing after it, each a number under 256
 pub record AreBytesOf (p : PacketView) (bytes : List ℕ) : Type 0 where
   pub packet : IsIpx p bytes []
   pub in_range : IsBytes bytes
 
--- a packet that no end of SPX reads
+-- a packet that no SPX endpoint reads
 pub record IsOwn (s : SendingView) : Type 0 where
   pub packet : PacketView
   pub is : IsIpx packet s.bytes []
@@ -41,7 +41,7 @@ pub record IsOwn (s : SendingView) : Type 0 where
 abbrev pub AreOwn : List SendingView → Type 0
 AreOwn = All IsOwn
 
--- whom a request or query is answered
+-- the recipient of a reply to a request or query: the node and socket that it came from
 abbrev pub recipient_at : PortNow → IpxHeader → Recipient
 recipient_at at h =
     record { number = at.number; port = at.port; node = h.from.node; socket = h.from.socket }
@@ -59,7 +59,7 @@ all_nodes number port socket = record {
   socket = record { 0 = socket };
 }
 
--- the header of a packet of the router's own, from its port to a node and socket of that port's
+-- the header of a packet that the router makes itself, from its port to a node and socket of that port's
 -- network
 abbrev pub own_header : Recipient → ℕ → ℕ → IpxHeader
 own_header to kind socket = record {
@@ -69,7 +69,7 @@ own_header to kind socket = record {
   from = record { network = to.port.network; node = to.port.node; socket = record { 0 = socket } };
 }
 
--- a packet of the router's own with such a body, and nothing behind it
+-- a packet that the router makes itself with such a body, and nothing after it
 pub record IsOwnPacket (to : Recipient) (kind socket : ℕ) (IsBody : List ℕ → Type 0)
     (s : SendingView) : Type 0 where
   pub port : s.port ≡ to.number
@@ -86,17 +86,16 @@ IsSapPacket to message =
     IsOwnPacket to packet_exchange_type sap_socket (λ body. IsSap message body [])
 
 module _ {E : Type 0} (most : ℕ) (IsPacketOf : List E → SendingView → Type 0) where
-  -- the packets that a list is cut into: each holds as many entries as it may, and the last what is
-  -- left
+  -- the packets that a list is split into: each holds as many entries as it may, and the last one the rest
   abbrev pub AreCutOf : List E → List SendingView → Type 0
   AreCutOf entries [] = entries ≡ []
   AreCutOf entries (s ∷ ss) =
       (0 < length entries) × IsPacketOf (take most entries) s × AreCutOf (drop most entries) ss
 
--- the packets of a list of routes, of 50 at most
+-- the packets of a list of routes, 50 at most each
 abbrev pub AreRoutePackets : Recipient → List RipEntry → List SendingView → Type 0
 AreRoutePackets to = AreCutOf 50 (λ part. IsRipPacket to (rip.Response part))
 
--- the packets of a list of services, of 7 at most
+-- the packets of a list of services, 7 at most each
 abbrev pub AreServicePackets : Recipient → Bool → List ServiceEntry → List SendingView → Type 0
 AreServicePackets to nearest = AreCutOf 7 (λ part. IsSapPacket to (sap.Response nearest part))

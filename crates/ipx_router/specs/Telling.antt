@@ -1,4 +1,4 @@
--- What a router tells its neighbours of itself, and when.
+-- What a router advertises to its neighbours, and when.
 use Rattle.std.specs.Prelude.{◌≡◌, ◌⊎◌, ℕ, ◌+◌, ◌-◌, ◌^◌, ◌<◌, Bool, true, false, List, [], ◌∷◌, ◌++◌, Option, Some, None, nat_le, MatchBool}
 use Rattle.ipx_wire.specs.Assigned.{rip_socket, sap_socket}
 use Rattle.ipx_control.specs.declared.rip.packet.RipEntry.{RipEntry}
@@ -10,7 +10,7 @@ use Rattle.ipx_router.specs.Told.{AreToldRoutes, AreToldServices, IsToldRoute, I
 use Rattle.ipx_router.specs.RouterPackets.{SendingView, AreRoutePackets, AreServicePackets, all_nodes}
 use Rattle.ipx_router.specs.Ports.{IsPort}
 
--- the packets that tell what is known on one port: routes, and then services
+-- the packets that advertise what is known on one port: routes, followed by services
 pub record AreTold (ports : List Port) (routes : Routes) (services : Services) (at : PortNow)
     (sent : List SendingView) : Type 0 where
   pub told_routes : List RipEntry
@@ -25,7 +25,7 @@ pub record AreTold (ports : List Port) (routes : Routes) (services : Services) (
   pub in_service_packets :
       AreServicePackets (all_nodes at.number at.port sap_socket) false told_services service_packets
 
--- the packets of each port, which are numbered from a first one on
+-- the packets of each port; the ports are numbered from a first number on
 abbrev pub AreTellings : List Port → Routes → Services → ℕ → ℕ → List Port → List SendingView
     → Type 0
 AreTellings ports routes services now number [] sent = sent ≡ []
@@ -34,29 +34,29 @@ AreTellings ports routes services now number (port ∷ later) sent =
     × AreTold ports routes services (record { number = number; port = port; now = now }) first
     × AreTellings ports routes services now (number + 1) later rest
 
--- at first, and then when a minute has passed since the last time
+-- an advertisement is due at once, and then a minute after the last
 abbrev pub is_due : Option ℕ → ℕ → Bool
 is_due None now = true
 is_due (Some last) now = nat_le 60000 (now - last)
 
--- it is time from this moment on, and not before. Where there is none, it is never time at a moment
--- that a clock can show
+-- an advertisement is due from this time on, and not before. Without such a time, none is due at any 64-bit
+-- time
 abbrev pub IsNextTelling : Option ℕ → Option ℕ → Type 0
 IsNextTelling last None = (now : ℕ) → now < 2 ^ 64 → is_due last now ≡ false
 IsNextTelling last (Some t) = (now : ℕ) → is_due last now ≡ nat_le t now
 
--- the packets by which a router tells what it knows, if it is time, and when it told last then
+-- the packets that advertise what a router knows, if it is due, and the time of the last advertisement then
 abbrev pub TellsIfDue : Known → Option ℕ → ℕ → List SendingView → Option ℕ → Type 0
 TellsIfDue k last now sent told = MatchBool (is_due last now)
     (AreTellings k.ports k.routes k.services now 1 k.ports sent × (told ≡ Some now))
     ((sent ≡ []) × (told ≡ last))
 
--- a route or a service is to be told on a port
+-- a route or a service is to be advertised on a port
 abbrev pub IsSomeTold : Known → PortNow → Type 0
 IsSomeTold k at = ((e : RipEntry) × IsToldRoute k.ports k.routes at e)
     ⊎ ((e : ServiceEntry) × IsToldService k.services at e)
 
--- on some port something is to be told
+-- on some port there is something to advertise
 abbrev pub HasToTell : Known → ℕ → Type 0
 HasToTell k now = (number : ℕ) × (port : Port) × IsPort k.ports number port
     × IsSomeTold k (record { number = number; port = port; now = now })

@@ -1,5 +1,5 @@
--- What a router tells on a port: its routes and services, without those that leave by that port
--- (Novell IPX Router Specification, split horizon).
+-- What a router advertises on a port: its routes and services, without those that leave by that port (Novell
+-- IPX Router Specification, split horizon).
 use Rattle.std.specs.Prelude.{◌≡◌, ◌≢◌, ◌↔◌, ℕ, ◌+◌, List, Contains, min}
 use Rattle.std.specs.declared.cmp.Ordering.{Ordering}
 use Rattle.ipx_wire.specs.declared.address.Network.{Network}
@@ -19,21 +19,21 @@ use Rattle.ipx_router.specs.Knowledge.{Routes, Services}
 use Rattle.ipx_router.specs.declared.route.Route.{Route}
 use Rattle.ipx_router.specs.RouteChoice.{IsRouteTo}
 
--- the list, in the order of the keys, of just what a fact holds of
+-- the list, in the order of the keys, of all those for which a fact holds
 pub record IsListOf {X K : Type 0} (cmp : K → K → Ordering) (key_of : X → K) (fact : X → Type 0)
     (xs : List X) : Type 0 where
   pub in_order : IsRising cmp key_of xs
   pub stands : (x : X) → Contains xs x ↔ fact x
 
--- hops as they are told: one more, and 16 at most
+-- hops as they are advertised: one more, and 16 at most
 abbrev pub told_hops : ℕ → ℕ
 told_hops hops = min (hops + 1) 16
 
--- ticks as they are told on a port of this cost
+-- ticks as they are advertised on a port of this cost
 abbrev pub told_ticks : ℕ → ℕ → ℕ
 told_ticks ticks cost = min (ticks + cost) 65535
 
--- a route as it is told on a port
+-- a route as it is advertised on a port
 abbrev pub told_route : Network → RouteMetric → PortNow → RipEntry
 told_route network metric at =
     record {
@@ -42,7 +42,7 @@ told_route network metric at =
       ticks = told_ticks metric.ticks at.port.cost;
     }
 
--- what is told of a route that leaves by another port
+-- what is advertised of a route that leaves by another port
 pub record IsToldRoute (ports : List Port) (routes : Routes) (at : PortNow)
     (entry : RipEntry) : Type 0 where
   pub route : Route
@@ -53,25 +53,25 @@ pub record IsToldRoute (ports : List Port) (routes : Routes) (at : PortNow)
 abbrev pub route_key : RipEntry → Network
 route_key entry = entry.network
 
--- the routes that are told on a port, by network
+-- the routes that are advertised on a port, by network
 abbrev pub AreToldRoutes : List Port → Routes → PortNow → List RipEntry → Type 0
 AreToldRoutes ports routes at = IsListOf network_cmp route_key (IsToldRoute ports routes at)
 
 abbrev pub key_of_service : ServiceEntry → ServiceKey
 key_of_service entry = record { kind = entry.kind; name = entry.name }
 
--- a service as it is told
+-- a service as it is advertised
 abbrev pub told_service : ServiceKey × Source × ServiceMetric → ServiceEntry
 told_service item =
     record { kind = item.0.kind; name = item.0.name; at = item.2.at; hops = told_hops item.2.hops }
 
--- what is told of a service whose best offer came by another port
+-- what is advertised of a service whose best offer came by another port
 pub record IsToldService (services : Services) (at : PortNow) (entry : ServiceEntry) : Type 0 where
   pub best : Source × ServiceMetric
   pub heard : IsBest service_before services (key_of_service entry) at.now best
   pub elsewhere : best.0.port ≢ at.number
   pub is : entry ≡ told_service (key_of_service entry, best.0, best.1)
 
--- the services that are told on a port, by kind and name
+-- the services that are advertised on a port, by kind and name
 abbrev pub AreToldServices : Services → PortNow → List ServiceEntry → Type 0
 AreToldServices services at = IsListOf service_key_cmp key_of_service (IsToldService services at)

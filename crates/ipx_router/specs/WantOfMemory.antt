@@ -1,5 +1,5 @@
--- When a router may want memory for the bytes that come in on a port, and what it holds then.
--- The entry points are `WantsMemory` and `WantsMemoryInPlace`, at the end.
+-- When a router may run out of memory for bytes that come in on a port, and what it holds after that. The
+-- entry points are `WantsMemory` and `WantsMemoryInPlace`, at the end.
 use Rattle.std.specs.Prelude.{◌≡◌, ◌≢◌, ◌<◌, ◌⊎◌, ℕ, Bool, true, Contains, List}
 use Rattle.ipx_wire.specs.declared.address.Network.{Network}
 use Rattle.ipx_wire.specs.declared.ipx.packet.IpxHeader.{IpxHeader}
@@ -30,8 +30,8 @@ use Rattle.ipx_router.specs.Classify.{concern_of}
 use Rattle.ipx_router.specs.Replying.{is_asked}
 use Rattle.ipx_router.specs.Hearing.{AtEntry, GrowsByRoute, GrowsByService, HeardRoutes, HeardServices, source_of}
 
--- an entry of a response could not be heard, since the table had to grow by it: those before it
--- were heard, and the others were not
+-- an entry of a response was not learned, since the table had to grow for it. Those before it were handled,
+-- and the others were not
 abbrev pub HearingRoutesWantsMemory : List Port → Routes → Source → ℕ → List RipEntry
     → Table Network RouteMetric → Type 0
 HearingRoutesWantsMemory ports routes source now entries new =
@@ -44,11 +44,11 @@ HearingServicesWantsMemory services source now entries new =
     (n : ℕ) × HeardServices source now entries services n new
     × AtEntry entries n (GrowsByService source new)
 
--- an entry asks for a route: for that of a network, or for each
+-- an entry asks for a route: for the route to its network, or for all routes
 abbrev pub AsksForRoute : RipEntry → RipEntry → Type 0
 AsksForRoute asked told = (asked.network.0 ≡ all_networks) ⊎ (told.network ≡ asked.network)
 
--- some route is to be sent: it is told on the port, and asked for
+-- some route is to be sent: it is advertised on the port, and asked for
 abbrev pub HasRouteToReply : List Port → Routes → PortNow → List RipEntry → Type 0
 HasRouteToReply ports routes at asked = (e t : RipEntry) × Contains asked e
     × IsToldRoute ports routes at t × AsksForRoute e t
@@ -72,7 +72,7 @@ SapMessageWantsMemory services at h (sap.Query nearest kind) new =
 SapMessageWantsMemory services at h (sap.Response nearest entries) new =
     HearingServicesWantsMemory services (source_of at h) at.now entries new
 
--- only a body that is a RIP or SAP packet wants memory
+-- only a body that is a RIP or SAP packet needs memory
 abbrev pub RipWantsMemory : List Port → Routes → PortNow → PacketView
     → Table Network RouteMetric → Type 0
 RipWantsMemory ports routes at d new = (m : RipView) × (tail : List ℕ) × IsRip m d.body tail
@@ -83,7 +83,7 @@ abbrev pub SapWantsMemory : Services → PortNow → PacketView → Table Servic
 SapWantsMemory services at d new = (m : SapView) × (tail : List ℕ) × IsSap m d.body tail
     × SapMessageWantsMemory services at d.header m new
 
--- a packet for another network is to be forwarded: there is a route, and fewer than fifteen routers
+-- a packet for another network is to be forwarded: there is a route, and fewer than fifteen routers have
 -- forwarded it
 pub record HasToForward (ports : List Port) (routes : Routes) (at : PortNow)
     (h : IpxHeader) : Type 0 where
@@ -91,7 +91,7 @@ pub record HasToForward (ports : List Port) (routes : Routes) (at : PortNow)
   pub leads : IsRouteTo ports routes at.now h.to.network route
   pub hops : h.hops < 15
 
--- what is dropped by its header wants no memory
+-- a packet that is dropped by its header needs no memory
 abbrev pub ConcernWantsMemory : Known → PortNow → PacketView → Tables → Concern → Type 0
 ConcernWantsMemory k at d new (concerns.Dropped reason) = ⊥
 ConcernWantsMemory k at d new concerns.Rip =
@@ -105,8 +105,8 @@ abbrev pub BytesWantMemory : Known → PortNow → List ℕ → Tables → Type 
 BytesWantMemory k at bytes new = (d : PacketView) × (tail : List ℕ) × IsIpx d bytes tail
     × ConcernWantsMemory k at d new (concern_of at.port d.header)
 
--- when a router may want memory for bytes that come in on its port of a number at a moment, and the
--- offers that it holds then
+-- when a router may run out of memory for bytes that come in on its port of this number at a time, and the
+-- offers that it holds after that
 abbrev pub WantsMemory : RouterView → ℕ → List ℕ → ℕ → RouterView → Type 0
 WantsMemory old port bytes now new = (arrived : Port) × IsPort old.ports port arrived
     × BytesWantMemory (known_at old now) (record { number = port; port = arrived; now = now })
@@ -120,7 +120,7 @@ NoneIsOnward arrived bytes =
 abbrev pub BytesWantMemoryInPlace : Known → PortNow → List ℕ → Tables → Type 0
 BytesWantMemoryInPlace k at bytes new = NoneIsOnward at.port bytes × BytesWantMemory k at bytes new
 
--- the same where the router may change the bytes: a packet for another network wants none
+-- the same if the router may change the bytes: a packet for another network needs no memory
 abbrev pub WantsMemoryInPlace : RouterView → ℕ → List ℕ → ℕ → RouterView → Type 0
 WantsMemoryInPlace old port bytes now new = (arrived : Port) × IsPort old.ports port arrived
     × BytesWantMemoryInPlace (known_at old now)

@@ -45,7 +45,7 @@ fn outcome_of_hearing(heard: Result<u16, TableFault>) -> Result<Outcome, OutOfMe
     }
 }
 
-/// What becomes of a packet for socket 0453.
+/// The answer to a packet for socket 0453.
 fn answer_rip(
     alloc: Global,
     ports: &[Port],
@@ -80,7 +80,7 @@ fn answer_rip(
     }
 }
 
-/// What becomes of a packet for socket 0452.
+/// The answer to a packet for socket 0452.
 fn answer_sap(
     alloc: Global,
     services: &mut ServiceTable,
@@ -119,8 +119,8 @@ fn answer_sap(
     }
 }
 
-/// What becomes of a packet for the router's RIP or SAP socket.
-#[inline(never)] // so that it is out of the way of forwarding
+/// The answer to a packet for the router's RIP or SAP socket.
+#[inline(never)] // keeps it out of the forwarding path
 fn answer_control(
     alloc: Global,
     ports: &[Port],
@@ -188,7 +188,7 @@ fn answer_packet(
     }
 }
 
-/// What becomes of bytes that came in on a port, once offers that are old have gone.
+/// The answer to bytes that came in on a port, after old offers were removed.
 pub fn answer_to(
     alloc: Global,
     ports: &[Port],
@@ -217,7 +217,8 @@ pub fn answer_to(
     }
 }
 
-/// What becomes of bytes that came in on a port. Offers that are old go first, for good.
+/// Removes old offers, and then answers bytes that came in on a port. The removal stays, whatever
+/// the answer is.
 pub fn receive_at(
     alloc: Global,
     ports: &[Port],

@@ -1,5 +1,5 @@
-//! Bodies of packets that several ports tell alike: they are written once, and each port puts its header
-//! in front of them.
+//! Packet bodies that several ports advertise unchanged. They are written once, and each port puts
+//! its own header in front.
 
 ghost use Rattle.std.specs.Prelude.{Vec, ◌≡◌, ◌≤◌, List, [], false, length, OnOk, IfOk};
 ghost use Rattle.ipx_control.specs.declared.sap.packet.ServiceEntry.{ServiceEntry};
@@ -27,7 +27,7 @@ pub fn service_bodies(alloc: Global, services: &[ServiceEntry]) -> Result<Vec<Ve
     Ok(bodies)
 }
 
-/// Adds the packets of bodies, to a recipient.
+/// Adds one packet to a recipient for each body.
 pub fn add_bodies(
     alloc: Global,
     replies: &mut Vec<Reply>,

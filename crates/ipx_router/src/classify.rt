@@ -1,4 +1,4 @@
-//! What a packet is to a router, by its header.
+//! How a router classifies a packet by its header.
 
 ghost use Rattle.std.specs.Prelude.{◌≡◌};
 ghost use Rattle.ipx_router.specs.Classify.{concern_of, concern_on_network, is_from_neighbour};
@@ -7,7 +7,7 @@ use crate::port::Port;
 use crate::reason::Reason;
 use ipx_wire::{IpxHeader, Network, Node, Socket, packet_type};
 
-/// What a packet is to the router.
+/// What the router has to do with a packet.
 pub enum Concern {
     Dropped(Reason),
     /// It is for the router's RIP socket.
@@ -41,7 +41,7 @@ fn on_network(arrived: Port, header: IpxHeader) -> Concern
     Concern::Dropped(Reason::NotOurs)
 }
 
-/// What a packet is to the router, by the port that it came in on and its header.
+/// Classifies a packet by the port that it came in on and its header.
 pub fn concern_with(arrived: Port, header: IpxHeader) -> Concern
     ensures { result ≡ concern_of arrived header }
 {

@@ -1,4 +1,4 @@
-//! Forwarding: what becomes of a packet for another network.
+//! Forwarding of packets for another network.
 
 ghost use Rattle.std.specs.Prelude.{◌≡◌, ◌≤◌, ◌<◌, ◌+◌, ℕ, List, [], length, take, drop, IfOk, IfSome, OnErr};
 ghost use Rattle.ipx_wire.specs.Assigned.{ipx_header_size};
@@ -22,7 +22,7 @@ use ipx_wire::{
 };
 use std::alloc::Global;
 
-/// Changes the bytes of a packet with this header to those one hop on.
+/// Changes a packet with this header in place: one hop more, and the source network if it was 0.
 fn forward_in_place(bytes: &mut [u8], arrived: Port, header: IpxHeader)
     requires room { 30 ≤ length bytes.old }
     requires hops { header.hops < 15 }
@@ -35,7 +35,7 @@ fn forward_in_place(bytes: &mut [u8], arrived: Port, header: IpxHeader)
     }
 }
 
-/// A copy of a packet, changed in place to the packet one hop on.
+/// A copy of the packet alone, changed in place to the forwarded packet.
 fn forwarded_copy(
     alloc: Global,
     arrived: Port,
@@ -52,7 +52,7 @@ fn forwarded_copy(
     Ok(bytes)
 }
 
-/// The bytes of a packet one hop on.
+/// The bytes of the forwarded packet.
 fn forwarded_bytes(
     alloc: Global,
     arrived: Port,
@@ -68,9 +68,9 @@ fn forwarded_bytes(
     Ok(bytes)
 }
 
-/// What becomes of a packet for another network, by its header.
+/// How a packet for another network is handled, by its header.
 pub enum Forwarding {
-    /// It leaves by the port of a number, to the next node.
+    /// It leaves by the port of this number, to this next node.
     Forward { port: u8, next: Node },
     Dropped(Reason),
 }
@@ -93,8 +93,8 @@ fn fate_by_route(header: IpxHeader, route: Option<Route>) -> Forwarding
     }
 }
 
-/// What becomes of a packet for another network. Memory is taken for the packet that is forwarded,
-/// and for nothing else.
+/// The answer to a packet for another network. Memory is allocated only for a packet that is
+/// forwarded.
 pub fn forward(
     alloc: Global,
     ports: &[Port],
@@ -124,8 +124,8 @@ pub fn forward(
     }
 }
 
-/// Changes the packet of this header and of so many bytes, with which bytes begin, to the one that
-/// is one hop on.
+/// Changes the packet at the front of the bytes to the forwarded packet. It has this header and
+/// `count` bytes.
 fn change_front(bytes: &mut [u8], count: usize, arrived: Port, header: IpxHeader)
     requires room { (ipx_header_size ≤ count) × (count ≤ length bytes.old) }
     requires hops { header.hops < 15 }
@@ -139,8 +139,8 @@ fn change_front(bytes: &mut [u8], count: usize, arrived: Port, header: IpxHeader
     are_bytes(packet);
 }
 
-/// What becomes of a packet for another network, of this header and of so many bytes, with which
-/// bytes begin. It is changed where it is forwarded, and takes no memory.
+/// The answer to a packet for another network that is at the front of the bytes. It has this header
+/// and `count` bytes. If it is forwarded, it is changed in place. Nothing is allocated.
 pub fn forward_front(
     ports: &[Port],
     routes: &RouteTable,

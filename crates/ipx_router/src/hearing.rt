@@ -1,4 +1,4 @@
-//! What a router hears from its neighbours.
+//! What a router learns from its neighbours.
 
 ghost use Rattle.std.specs.Prelude.{◌≡◌, ◌≤◌, ℕ, IfOk, IfErr, length, count_by};
 ghost use Rattle.ipx_tables.specs.Content.{IsTable};
@@ -18,7 +18,7 @@ use ipx_tables::{
 use ipx_wire::{IpxHeader, Network};
 use std::alloc::Global;
 
-/// Whom a response is heard from: the node that sent it, on the port that it came in on.
+/// The source of a response: the node that sent it, and the port that it came in on.
 pub fn neighbour_of(at: PortNow, header: IpxHeader) -> Source
     ensures { result ≡ source_of at header }
 {
@@ -35,8 +35,9 @@ fn is_route_heard(ports: &[Port], entry: &RipEntry) -> bool
     !(network == Network::LOCAL || network == Network::ALL || has_network(ports, network))
 }
 
-/// Hears the entries in order, each read where it stands, and answers how many: none of the
-/// networks that a router does not learn. At the first that the table refuses it stops.
+/// Learns the entries in order, and gives their number without those of networks that a router does
+/// not learn. It stops at the first entry that the table refuses. Entries are read from the packet,
+/// without a copy.
 pub fn hear_routes(
     alloc: Global,
     ports: &[Port],
@@ -75,8 +76,8 @@ pub fn hear_routes(
     Ok(heard)
 }
 
-/// Hears the services in order, each read where it stands, and answers how many. At the first that
-/// the table refuses it stops.
+/// Learns the services in order, and gives their number. It stops at the first service that the
+/// table refuses. Entries are read from the packet, without a copy.
 pub fn hear_services(
     alloc: Global,
     services: &mut ServiceTable,

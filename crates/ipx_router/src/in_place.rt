@@ -1,4 +1,4 @@
-//! What a router answers to a datagram whose bytes it may change.
+//! Answers to datagrams in a buffer that the router may change.
 
 ghost use Rattle.std.specs.Prelude.{◌≡◌, ℕ, List, length, IfOk, IfNone, IfSome, OnErr};
 ghost use Rattle.ipx_router.specs.Knowledge.{known_aged, known_in};
@@ -19,8 +19,8 @@ use ipx_tables::{RouteTable, ServiceTable};
 use ipx_wire::{IPX_HEADER_SIZE, IpxHeader, OutOfMemory, decode};
 use std::alloc::Global;
 
-/// The header of the packet that bytes begin with and how many bytes it has, if it is for another
-/// network. Nothing is lent, so that the bytes may be changed.
+/// The header and length of the packet at the front of the bytes, if it is for another network. The
+/// result borrows nothing, so the bytes can be changed.
 #[inline(always)]
 fn onward_packet(arrived: Port, bytes: &[u8]) -> Option<(IpxHeader, usize)>
     ensures some { IfSome result (λ p. IsOnward arrived bytes.now p.0 p.1) }
@@ -35,7 +35,7 @@ fn onward_packet(arrived: Port, bytes: &[u8]) -> Option<(IpxHeader, usize)>
     }
 }
 
-/// An answer that forwards nothing, where the bytes stay.
+/// An answer that forwards nothing, so the bytes stay unchanged.
 fn left_in_place(outcome: Outcome) -> InPlace
     requires { ForwardsNothing (router_outcome outcome) }
     ensures same { (room : List ℕ) → outcome_in room result ≡ router_outcome outcome }
@@ -49,8 +49,8 @@ fn left_in_place(outcome: Outcome) -> InPlace
     }
 }
 
-/// What becomes of bytes that are no packet for another network: they stay.
-#[inline(never)] // so that it is out of the way of forwarding
+/// The answer to bytes that are no packet for another network. They stay unchanged.
+#[inline(never)] // keeps it out of the forwarding path
 fn answer_unchanged(
     alloc: Global,
     ports: &[Port],
@@ -80,7 +80,7 @@ fn answer_unchanged(
     Ok(left_in_place(outcome))
 }
 
-/// What becomes of bytes that came in on a port, once offers that are old have gone.
+/// The answer to bytes that came in on a port, after old offers were removed.
 fn answer_in_place(
     alloc: Global,
     ports: &[Port],
@@ -114,8 +114,8 @@ fn answer_in_place(
     }
 }
 
-/// What becomes of bytes that came in on a port, and that may be changed. Offers that are old go
-/// first, for good.
+/// Removes old offers, and then answers bytes that came in on a port and that may be changed. The
+/// removal stays, whatever the answer is.
 pub fn receive_in_place_at(
     alloc: Global,
     ports: &[Port],

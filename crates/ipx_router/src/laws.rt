@@ -1,4 +1,4 @@
-//! Laws of a router, which follow from what it answers.
+//! Laws of a router, which follow from its contracts.
 
 ghost use Rattle.std.specs.Prelude.{◌≡◌, ℕ, List};
 ghost use Rattle.ipx_router.specs.Knowledge.{HoldsRoutes, HoldsServices, routes_in, services_in};
@@ -13,8 +13,8 @@ use ipx_control::{
 use ipx_tables::{RouteMetric, ServiceKey, ServiceMetric, content_counts, one_best};
 use ipx_wire::{Network, bytes_are_one_packet, packet_is_one_list_of_bytes};
 
-/// A router that receives bytes on a port at a moment has one answer: which packet is forwarded and
-/// in which bytes, which replies are sent, how many entries are heard, or why it is dropped.
+/// A router has exactly one answer to given bytes on a port at a time. That is the packet to
+/// forward and its bytes, the replies, the number of learned entries, or the reason to drop.
 pub fn answer_is_one()
     ensures { (old new other : RouterView) (port : ℕ) (bytes : List ℕ) (now : ℕ)
         (a b : OutcomeView)
@@ -31,7 +31,7 @@ pub fn answer_is_one()
     content_counts::<ServiceKey, ServiceMetric>();
 }
 
-/// What it holds after that answer is one too: the same offers of routes, and of services.
+/// Its state after that answer is determined too: the same offers of routes and of services.
 pub fn offers_are_one()
     ensures { (old new other : RouterView) (port : ℕ) (bytes : List ℕ) (now : ℕ)
         (a b : OutcomeView)
@@ -50,9 +50,9 @@ pub fn offers_are_one()
     content_counts::<ServiceKey, ServiceMetric>();
 }
 
-/// What a router tells is one, byte for byte and in one order, and so is when it told last then:
-/// whoever knows the same of each network and service, and told last at the same time, tells the
-/// same. What it holds after that is one too.
+/// The packets that a router advertises are determined, byte for byte and in order, and so is the
+/// time of the last advertisement. Two routers that know the same of each network and service, and
+/// advertised last at the same time, advertise the same. They also hold the same offers after it.
 pub fn telling_is_one()
     ensures packets { IsOneTelling }
     ensures holds { IsOneHolding }
@@ -68,7 +68,7 @@ pub fn telling_is_one()
     content_counts::<ServiceKey, ServiceMetric>();
 }
 
-/// What it asks as it starts is one.
+/// The packets that a router sends as it starts are determined.
 pub fn start_is_one()
     ensures { IsOneStart }
 {

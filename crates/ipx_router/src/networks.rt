@@ -8,14 +8,14 @@ ghost use Rattle.ipx_router.specs.RouteChoice.{direct_route};
 use crate::port::Port;
 use ipx_wire::Network;
 
-/// Whether a port stands on the network.
+/// Whether a port is on the network.
 pub fn has_network(ports: &[Port], network: Network) -> bool
     ensures { result ≡ list_any (λ p. p.network.0 == network.0) ports.now }
 {
     ports.iter().any(|port| port.network == network)
 }
 
-/// The network of the first port that repeats the network of an earlier one.
+/// The network of the first port whose network an earlier port has.
 pub fn twin_of(ports: &[Port]) -> Option<Network>
     ensures { result ≡ first_twin [] ports.now }
 {
@@ -27,7 +27,7 @@ pub fn twin_of(ports: &[Port]) -> Option<Network>
     None
 }
 
-/// The place of the port whose own network it is.
+/// The index of the port that is on this network.
 pub fn direct_port(ports: &[Port], network: Network) -> Option<usize>
     ensures { result ≡ direct_route ports.now network }
 {

@@ -1,4 +1,4 @@
-//! The packets of a router's own.
+//! The packets that a router makes itself.
 
 ghost use Rattle.std.specs.Prelude.{◌≡◌, ◌≤◌, ◌+◌, [], drop, false, length, OnOk, IfOk};
 ghost use Rattle.ipx_wire.specs.Assigned.{packet_exchange_type, sap_socket};
@@ -20,19 +20,19 @@ use ipx_wire::{
 };
 use std::alloc::Global;
 
-/// How many entries a packet holds at most.
+/// The most entries that a packet holds.
 pub const MAX_ROUTES_PER_PACKET: usize = 50;
 
 pub const MAX_SERVICES_PER_PACKET: usize = 7;
 
-/// The bytes of an operation, of a route and of a service.
+/// The sizes in bytes of an operation, of a route and of a service.
 const OPERATION_SIZE: usize = 2;
 
 const ROUTE_SIZE: usize = 8;
 
 const SERVICE_SIZE: usize = 64;
 
-/// Whom a packet of the router's own goes to: a node and socket of the network of a port.
+/// The recipient of a packet that the router makes: a node and socket on the network of a port.
 #[derive(Clone, Copy)]
 pub struct Recipient {
     pub number: u8,
@@ -41,7 +41,7 @@ pub struct Recipient {
     pub socket: Socket,
 }
 
-/// Whom a request or query is answered: the node and socket that it came from.
+/// The recipient of a reply: the node and socket that asked.
 pub fn recipient_of(at: PortNow, header: IpxHeader) -> Recipient
     ensures { result ≡ recipient_at at header }
 {
@@ -53,7 +53,7 @@ pub fn recipient_of(at: PortNow, header: IpxHeader) -> Recipient
     }
 }
 
-/// All nodes of a port's network, at a socket.
+/// All nodes on a port's network, at a socket.
 pub fn everyone(number: u8, port: Port, socket: Socket) -> Recipient
     ensures { result ≡ all_nodes number port socket.0 }
 {
@@ -111,7 +111,7 @@ fn header_to(to: Recipient, kind: u8, socket: Socket) -> IpxHeader
     }
 }
 
-/// A RIP packet of the router's own, to a recipient.
+/// A RIP packet to a recipient.
 pub fn rip_packet(alloc: Global, to: Recipient, message: &Rip) -> Result<Reply, OutOfMemory>
     requires { length (rip_entries (rip_view message.now)) ≤ 50 }
     ensures { IfOk result (λ r. IsRipPacket to (rip_view message.now) (sending_of r)) }
@@ -130,7 +130,7 @@ pub fn rip_packet(alloc: Global, to: Recipient, message: &Rip) -> Result<Reply, 
     })
 }
 
-/// A SAP packet of the router's own, to a recipient.
+/// A SAP packet to a recipient.
 pub fn sap_packet(alloc: Global, to: Recipient, message: &Sap) -> Result<Reply, OutOfMemory>
     requires { IsSapWithinLimit (sap_view message.now) }
     ensures { IfOk result (λ r. IsSapPacket to (sap_view message.now) (sending_of r)) }
@@ -149,7 +149,7 @@ pub fn sap_packet(alloc: Global, to: Recipient, message: &Sap) -> Result<Reply, 
     })
 }
 
-/// A packet whose body stands in its place already: the header goes in front of it.
+/// A packet whose body is in its place already. This puts the header in front of it.
 fn closed(to: Recipient, header: IpxHeader, mut bytes: Vec<u8>) -> Reply
     requires some { 30 ≤ length bytes.items }
     requires limit { length bytes.items ≤ 1500 }
@@ -167,7 +167,7 @@ fn closed(to: Recipient, header: IpxHeader, mut bytes: Vec<u8>) -> Reply
     }
 }
 
-/// A response of routes that stand in a longer list.
+/// A RIP response with these routes.
 pub fn routes_packet(
     alloc: Global,
     to: Recipient,
@@ -183,7 +183,7 @@ pub fn routes_packet(
     Ok(closed(to, header, bytes))
 }
 
-/// A response of services that stand in a longer list.
+/// A SAP response with these services.
 pub fn services_packet(
     alloc: Global,
     to: Recipient,
@@ -201,7 +201,7 @@ pub fn services_packet(
     Ok(closed(to, header, bytes))
 }
 
-/// The body of a response of services that stand in a longer list.
+/// The body of a SAP response with these services.
 pub fn services_body(alloc: Global, services: &[ServiceEntry]) -> Result<Vec<u8>, OutOfMemory>
     requires { length services.now ≤ 7 }
     ensures says { IfOk result (λ v. IsSap (services_response false services.now) v.items []) }
@@ -212,7 +212,7 @@ pub fn services_body(alloc: Global, services: &[ServiceEntry]) -> Result<Vec<u8>
     Ok(body)
 }
 
-/// A packet of services whose body stands elsewhere.
+/// A SAP packet with a body that was written before.
 pub fn services_packet_with(alloc: Global, to: Recipient, body: &[u8]) -> Result<Reply, OutOfMemory>
     requires { length body.now ≤ 450 }
     ensures { IfOk result (λ r. IsOwnPacket to packet_exchange_type sap_socket

@@ -1,4 +1,4 @@
-//! Replies in the making: entries are put in one by one, and each packet is closed when it is full.
+//! Replies in the making: entries are added one by one, and each packet is closed when it is full.
 
 ghost use Rattle.std.specs.Prelude.{◌≡◌, ◌≤◌, ◌<◌, ◌++◌, ◌∷◌, [], IfOk, List, OnErr, OnOk, drop, false, length, take_while};
 ghost use Rattle.std.specs.List.{prefix_len};
@@ -17,8 +17,8 @@ use ipx_control::{RipEntry, ServiceEntry};
 use ipx_wire::{Network, OutOfMemory};
 use std::alloc::Global;
 
-/// Packets of routes, and the routes of the packet in hand. They take no memory before a route is
-/// put in.
+/// The closed packets of routes, and the routes of the open packet. Nothing is allocated before the
+/// first route is added.
 #[derive(Drop)]
 pub struct RoutePackets {
     to: Recipient,
@@ -38,8 +38,8 @@ impl RoutePackets {
         }
     }
 
-    /// Closes the packet in hand, which is full.
-    #[inline(never)] // so that a walk has in line only what it does for each route
+    /// Closes the open packet, which is full.
+    #[inline(never)] // keeps the loop over routes small
     fn close(&mut self, alloc: Global) -> Result<(), OutOfMemory>
         requires { length self.old.hand.items ≡ 50 }
         ensures to { self.new.to ≡ self.old.to }
@@ -55,7 +55,7 @@ impl RoutePackets {
         Ok(())
     }
 
-    /// Puts in one more route.
+    /// Adds one route.
     #[inline]
     pub fn put(&mut self, alloc: Global, route: RipEntry) -> Result<(), OutOfMemory>
         ensures to { self.new.to ≡ self.old.to }
@@ -72,7 +72,7 @@ impl RoutePackets {
         Ok(())
     }
 
-    /// Puts in a list of routes.
+    /// Adds a list of routes.
     pub fn put_all(&mut self, alloc: Global, list: &[RipEntry]) -> Result<(), OutOfMemory>
         ensures to { self.new.to ≡ self.old.to }
         ensures put { OnOk result ((routes : List RipEntry)
@@ -88,8 +88,8 @@ impl RoutePackets {
         Ok(())
     }
 
-    /// Puts in the routes of a list before the first that is not below a network, and answers the
-    /// others.
+    /// Adds the routes of a list before the first one whose network is not lower than this, and
+    /// gives the rest of the list.
     pub fn put_below<'a>(
         &mut self,
         alloc: Global,
@@ -111,7 +111,7 @@ impl RoutePackets {
         Ok(rest)
     }
 
-    /// The packets of all routes that were put in. It wants memory only where one was.
+    /// The packets of all routes that were added. It allocates only if one was.
     pub fn finish(self, alloc: Global) -> Result<Vec<Reply>, OutOfMemory>
         ensures packets { IfOk result (λ v. (routes : List RipEntry)
             → ArePacked (AreRoutePackets self.to) routes self.sent.items self.hand.items
@@ -129,7 +129,7 @@ impl RoutePackets {
     }
 }
 
-/// How many routes of a list stand before the first that is not below a network.
+/// The number of routes in a list before the first one whose network is not lower than this.
 fn count_below(list: &[RipEntry], network: Network) -> usize
     ensures count { result ≡ prefix_len (is_below network) list.now }
     ensures within { result ≤ length list.now }
@@ -139,8 +139,8 @@ fn count_below(list: &[RipEntry], network: Network) -> usize
         .count()
 }
 
-/// Packets of services, and the services of the packet in hand. They take no memory before a
-/// service is put in.
+/// The closed packets of services, and the services of the open packet. Nothing is allocated before
+/// the first service is added.
 #[derive(Drop)]
 pub struct ServicePackets {
     to: Recipient,
@@ -161,8 +161,8 @@ impl ServicePackets {
         }
     }
 
-    /// Closes the packet in hand, which is full.
-    #[inline(never)] // so that a walk has in line only what it does for each service
+    /// Closes the open packet, which is full.
+    #[inline(never)] // keeps the loop over services small
     fn close(&mut self, alloc: Global) -> Result<(), OutOfMemory>
         requires { length self.old.hand.items ≡ 7 }
         ensures to { self.new.to ≡ self.old.to }
@@ -178,7 +178,7 @@ impl ServicePackets {
         Ok(())
     }
 
-    /// Puts in one more service.
+    /// Adds one service.
     #[inline]
     pub fn put(&mut self, alloc: Global, service: ServiceEntry) -> Result<(), OutOfMemory>
         ensures to { self.new.to ≡ self.old.to }
@@ -195,7 +195,7 @@ impl ServicePackets {
         Ok(())
     }
 
-    /// The packets of all services that were put in. It wants memory only where one was.
+    /// The packets of all services that were added. It allocates only if one was.
     pub fn finish(self, alloc: Global) -> Result<Vec<Reply>, OutOfMemory>
         ensures packets { IfOk result (λ v. (services : List ServiceEntry)
             → ArePacked (AreServicePackets self.to false) services

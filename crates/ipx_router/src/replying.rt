@@ -1,4 +1,4 @@
-//! What a router answers to a request for routes, and to a query for services.
+//! Replies to a request for routes, and to a query for services.
 
 ghost use Rattle.std.specs.Prelude.{◌≡◌, ◌≤◌, IfNone, IfOk, IfSome, List, OnErr, length, true, false};
 ghost use Rattle.ipx_control.specs.declared.rip.packet.RipEntry.{RipEntry};
@@ -21,8 +21,8 @@ use ipx_tables::{
 use ipx_wire::{Network, OutOfMemory};
 use std::alloc::Global;
 
-/// What is told of the networks that a request names, in the order asked, or nothing where it asks
-/// for all. Each of them is looked up, and none is listed.
+/// What is advertised of the networks that a request names, in the order of the request, or `None`
+/// if it asks for all. Each network is looked up, and no list of all routes is made.
 fn named_routes(
     alloc: Global,
     ports: &[Port],
@@ -49,8 +49,8 @@ fn named_routes(
     Ok(Some(told))
 }
 
-/// The packets of all routes that are told on a port: those of the other ports have their places
-/// among the best offers.
+/// The packets of all routes that are advertised on a port. The networks of the other ports are
+/// merged in order into the best offers.
 fn route_replies(
     alloc: Global,
     ports: &[Port],
@@ -102,7 +102,7 @@ fn is_nearer_than(a: &ServiceEntry, b: &ServiceEntry) -> bool
         .is_lt()
 }
 
-/// The nearer of a service and the one that is held, if there is one.
+/// The nearer of a service and the held one, if there is one.
 fn nearer_of(held: Option<ServiceEntry>, service: ServiceEntry) -> ServiceEntry
     ensures { result ≡ nearer held service }
 {
@@ -117,7 +117,7 @@ fn nearer_of(held: Option<ServiceEntry>, service: ServiceEntry) -> ServiceEntry
     }
 }
 
-/// The nearest told service of a kind: a walk over the best offers, which lists nothing.
+/// The nearest advertised service of a kind. It walks over the best offers and makes no list.
 fn nearest_service(services: &ServiceTable, at: PortNow, kind: u16) -> Option<ServiceEntry>
     ensures found { IfSome result
         (IsNearest (IsToldService (services_in services.now) at) kind) }
@@ -134,8 +134,7 @@ fn nearest_service(services: &ServiceTable, at: PortNow, kind: u16) -> Option<Se
     nearest
 }
 
-/// The packets that answer a request for routes. Where no route is to be sent, there are none, and
-/// that takes no memory.
+/// The packets that answer a request for routes. If no route is to be sent, nothing is allocated.
 pub fn reply_routes(
     alloc: Global,
     ports: &[Port],
@@ -162,7 +161,7 @@ pub fn reply_routes(
     Ok(replies)
 }
 
-/// Whether a query asks for a service that is told.
+/// Whether a query asks for an advertised service.
 fn is_asked_for(nearest: bool, kind: u16, service: &ServiceEntry) -> bool
     ensures { result ≡ is_asked nearest kind service.now }
 {
@@ -172,7 +171,7 @@ fn is_asked_for(nearest: bool, kind: u16, service: &ServiceEntry) -> bool
     is_of_kind_asked(kind, service)
 }
 
-/// Whether the best offer of a service came by another port, and is asked for.
+/// Whether the best offer of a service came by another port and is asked for.
 fn is_best_asked(
     item: (ServiceKey, Source, ServiceMetric),
     at: PortNow,
@@ -185,7 +184,7 @@ fn is_best_asked(
     item.1.port != at.number && is_asked_for(nearest, kind, &service)
 }
 
-/// The packet of the nearest told service of a kind, if there is one.
+/// The packet of the nearest advertised service of a kind, if there is one.
 fn nearest_replies(
     alloc: Global,
     services: &ServiceTable,
@@ -205,7 +204,7 @@ fn nearest_replies(
     Ok(replies)
 }
 
-/// The packets of the told services of a kind.
+/// The packets of the advertised services of a kind.
 fn service_replies(
     alloc: Global,
     services: &ServiceTable,
@@ -227,8 +226,7 @@ fn service_replies(
     packets.finish(alloc)
 }
 
-/// The packets that answer a query for services. Where no service is to be sent, there are none,
-/// and that takes no memory.
+/// The packets that answer a query for services. If no service is to be sent, nothing is allocated.
 pub fn reply_services(
     alloc: Global,
     services: &ServiceTable,

@@ -11,8 +11,8 @@ use crate::port::Port;
 use ipx_tables::{RouteMetric, RouteTable};
 use ipx_wire::{Network, Node};
 
-/// The number of the port that it leaves by, the neighbour that is next unless the network is the
-/// port's own, and how far the network is.
+/// A route: the number of its port, the next router, and the metric. There is no next router if the
+/// port is on the network itself.
 #[derive(Clone, Copy)]
 pub struct Route {
     pub port: u8,
@@ -38,8 +38,8 @@ fn heard_route(routes: &RouteTable, network: Network, now: u64) -> Option<Route>
     }
 }
 
-/// The route to a network: over a port on it, or else over the neighbour with the best offer.
-#[inline(always)] // a route is seven pieces, which else pass through memory at each packet
+/// The route to a network: by a port on it, or else by the neighbour with the best offer.
+#[inline(always)] // otherwise a route passes through memory for each packet
 pub fn route_to(ports: &[Port], routes: &RouteTable, network: Network, now: u64) -> Option<Route>
     requires { length ports.now ≤ 16 }
     ensures port { AreFromPorts (length ports.now) (routes_in routes.now)

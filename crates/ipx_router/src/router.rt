@@ -26,7 +26,7 @@ use ipx_wire::OutOfMemory;
 use std::alloc::Global;
 use std::marker::Model;
 
-/// A router: its ports, numbered from 1, and what it heard from its neighbours.
+/// A router: its ports, numbered from 1, and what it learned from its neighbours.
 #[derive(Drop)]
 pub struct Router {
     ports: Vec<Port>,
@@ -52,10 +52,11 @@ impl Model for Router {
 }
 
 impl Router {
-    /// A router of these ports, numbered from 1 in their order, which knows nothing yet.
+    /// Makes a router of these ports. They are numbered from 1 in their order. It has learned
+    /// nothing yet.
     ///
-    /// The caller owes networks other than 0, which means the network at hand, and FFFFFFFF, which
-    /// means all. What else is wrong with the ports is answered by `NewFault`.
+    /// The caller owes networks other than 0, which means the local network, and FFFFFFFF, which
+    /// means all networks. Any other fault of the ports is returned as `NewFault`.
     pub fn new(alloc: Global, ports: Vec<Port>) -> Result<Router, NewFault>
         requires { All IsOwnNetwork ports.items }
         ensures ports { IfOk result (λ r. r.ports ≡ ports.items) }
@@ -84,7 +85,7 @@ impl Router {
         })
     }
 
-    /// Its ports, 1 to 16. The first is port 1. A caller counts them before it names a port to
+    /// Its ports, 1 to 16. The first is port 1. Check their number before you pass a port to
     /// `receive`.
     pub fn ports(&self) -> &[Port]
         ensures ports { result.now ≡ self.now.ports }
@@ -103,11 +104,12 @@ impl Router {
         self.ports[number as usize - 1]
     }
 
-    /// What becomes of bytes that come in on a port. It is called for each datagram, at once.
+    /// Handles bytes that came in on a port. Call it for each datagram, as soon as it arrives.
     ///
-    /// `port` is the number of one of the router's ports, and `now` a moment in milliseconds: the
-    /// caller owes the first. Offers that are three minutes old go first, for good, whatever is
-    /// answered. After want of memory the entries before it were heard, and the others were not.
+    /// `port` is the number of one of the router's ports, which the caller owes. `now` is a time in
+    /// milliseconds. Offers that are three minutes old are removed first, and stay removed whatever
+    /// the answer is. If memory runs out, the entries before that were learned, and the others were
+    /// not.
     pub fn receive(
         &mut self,
         alloc: Global,
@@ -121,7 +123,7 @@ impl Router {
         ensures refused { OnErr result (WantsMemory self.old port bytes.now now self.new) }
         ensures one_hop_on { IfOk result (λ o. ForwardsOneHopOn self.old port bytes.now (router_outcome o)) }
         ensures there { IfOk result (λ o. IsOnPort (length self.old.ports) (router_outcome o)) }
-        // What the router makes itself is no packet of SPX.
+        // No packet that the router makes itself is an SPX packet.
         ensures own { IfOk result (λ o. AreOwn (replies_of (router_outcome o))) }
         ensures rest { KeepsAllButOffers self.old self.new }
         ensures valid { AreTables (tables self.new) }
@@ -143,11 +145,11 @@ impl Router {
         )
     }
 
-    /// The same, where the bytes are the caller's to change: a packet that is forwarded is changed
-    /// where it stands, and wants no memory. Whoever has one room for all datagrams calls it.
+    /// The same, in a buffer that the router may change. A packet to forward is changed in place,
+    /// and that allocates nothing. It suits a caller that has one buffer for all datagrams.
     ///
-    /// Bytes behind that packet stay, and all of them where none is forwarded, also after want of
-    /// memory.
+    /// Bytes after that packet do not change. If no packet is forwarded, or memory runs out, no
+    /// byte changes.
     pub fn receive_in_place(
         &mut self,
         alloc: Global,
@@ -186,8 +188,8 @@ impl Router {
         )
     }
 
-    /// The packets by which it asks its neighbours for all routes and services. It is called once,
-    /// as the router starts.
+    /// The packets by which the router asks its neighbours for all routes and services. Call it
+    /// once, at the start.
     pub fn start(&self, alloc: Global) -> Result<Vec<Reply>, OutOfMemory>
         ensures asks { IfOk result (λ v. AreStarts 1 self.now.ports (sendings v.items)) }
         ensures there { IfOk result (λ v. AreOnPorts (length self.now.ports) (sendings v.items)) }
@@ -196,12 +198,13 @@ impl Router {
         ask_all(alloc, &self.ports)
     }
 
-    /// The packets by which it tells its neighbours routes and services, if it is time: at first,
-    /// and then when 60,000 milliseconds have passed since the last time. It is called every so
-    /// often; `now` is a moment in milliseconds.
+    /// The packets that advertise routes and services to the neighbours, if an advertisement is
+    /// due. The first is due at once, and the next 60,000 milliseconds after the last. Call it
+    /// regularly. `now` is a time in milliseconds.
     ///
-    /// Offers that are three minutes old go first, for good, whatever is answered. Memory is wanted
-    /// only where it is time and something is to be told, and then it is still time.
+    /// Offers that are three minutes old are removed first, and stay removed whatever the answer
+    /// is. It allocates only if an advertisement is due and there is something to advertise. If
+    /// memory runs out, the advertisement is still due.
     pub fn tell(&mut self, alloc: Global, now: u64) -> Result<Vec<Reply>, OutOfMemory>
         ensures tells { IfOk result (λ v.
             TellsIfDue (known_at self.old now) self.old.told now (sendings v.items) self.new.told) }
@@ -224,25 +227,25 @@ impl Router {
         )
     }
 
-    /// What it heard of routes. Offers that are old may still stand there: they count no more, and
-    /// what asks the table at a moment leaves them out.
+    /// The learned routes. The table may still hold old offers. They are not used: queries of the
+    /// table that take a time leave them out.
     pub fn routes(&self) -> &RouteTable
         ensures { result.now ≡ self.now.routes }
     {
         &self.routes
     }
 
-    /// What it heard of services, likewise.
+    /// The learned services, with old offers in the same way.
     pub fn services(&self) -> &ServiceTable
         ensures { result.now ≡ self.now.services }
     {
         &self.services
     }
 
-    /// The moment, in milliseconds, from which on `tell` finds that it is time; before it `tell`
-    /// gives nothing. None where no clock can show that moment.
+    /// The time in milliseconds at which the next advertisement is due. Before that, `tell` gives
+    /// nothing. `None` means that the time would not fit into 64 bits.
     ///
-    /// Whoever waits for datagrams wakes by then, and calls `tell`.
+    /// A caller that waits for datagrams wakes at this time, and calls `tell`.
     pub fn next_advertisement(&self) -> Option<u64>
         ensures { IsNextTelling self.now.told result }
     {

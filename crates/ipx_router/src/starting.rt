@@ -1,4 +1,4 @@
-//! What a router asks its neighbours as it starts.
+//! What a router asks its neighbours when it starts.
 
 ghost use Rattle.std.specs.Prelude.{◌≡◌, ◌≤◌, length, OnOk, IfOk};
 ghost use Rattle.ipx_router.specs.Starting.{AreAsked, AreStarts};
@@ -35,7 +35,7 @@ fn ask_on(alloc: Global, asked: &mut Vec<Reply>, number: u8, port: Port) -> Resu
     Ok(())
 }
 
-/// The packets by which a router asks on all its ports.
+/// The packets by which a router asks on all its ports for routes and services.
 pub fn ask_all(alloc: Global, ports: &[Port]) -> Result<Vec<Reply>, OutOfMemory>
     requires { length ports.now ≤ 16 }
     ensures asks { IfOk result (λ v. AreStarts 1 ports.now (sendings v.items)) }

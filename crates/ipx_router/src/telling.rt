@@ -1,4 +1,4 @@
-//! What a router tells its neighbours of itself.
+//! What a router advertises to its neighbours.
 
 ghost use Rattle.std.specs.Prelude.{◌≡◌, ◌≤◌, true, length, map, OnErr, OnOk, IfOk, IfSome};
 ghost use Rattle.ipx_tables.specs.Listing.{IsListing};
@@ -21,10 +21,10 @@ use ipx_tables::{
 use ipx_wire::{Network, OutOfMemory, Socket};
 use std::alloc::Global;
 
-/// How long routes and services are not told again, in milliseconds.
+/// The time between two advertisements, in milliseconds.
 const PERIOD: u64 = 60_000;
 
-/// Whether it is time to tell.
+/// Whether an advertisement is due.
 fn is_time(told: Option<u64>, now: u64) -> bool
     ensures { result ≡ is_due told now }
 {
@@ -34,7 +34,7 @@ fn is_time(told: Option<u64>, now: u64) -> bool
     }
 }
 
-/// The moment from which on it is time to tell.
+/// The time at which the next advertisement is due.
 pub fn next_time(told: Option<u64>) -> Option<u64>
     ensures { IsNextTelling told result }
 {
@@ -44,7 +44,7 @@ pub fn next_time(told: Option<u64>) -> Option<u64>
     }
 }
 
-/// Adds the packets that tell on a port the routes and services that were heard.
+/// Adds the packets that advertise the learned routes and services on a port.
 fn tell_on(
     alloc: Global,
     told: &mut Vec<Reply>,
@@ -68,7 +68,7 @@ fn tell_on(
     add_services_told(alloc, told, heard_services, bodies, at)
 }
 
-/// The packets that tell on each port the routes and services that were heard.
+/// The packets that advertise the learned routes and services on each port.
 fn tell_heard(
     alloc: Global,
     ports: &[Port],
@@ -105,8 +105,8 @@ fn tell_heard(
     Ok(told)
 }
 
-/// The packets that tell routes and services on each port. Each table is listed once for all ports, and
-/// services that several ports tell alike are written once.
+/// The packets that advertise routes and services on each port. Each table is listed once for all
+/// ports. Services that several ports advertise unchanged are written once.
 fn tell_each(
     alloc: Global,
     ports: &[Port],
@@ -129,8 +129,8 @@ fn tell_each(
     tell_heard(alloc, ports, &heard_routes, &heard_services, &bodies, now)
 }
 
-/// The packets that tell routes and services on all ports. On a lone port there is nothing to tell:
-/// all that the router knows leaves by it.
+/// The packets that advertise routes and services on all ports. If there is one port, there is
+/// nothing to advertise, since all routes and services are reached by it.
 fn tell_all(
     alloc: Global,
     ports: &[Port],
@@ -150,8 +150,9 @@ fn tell_all(
     tell_each(alloc, ports, routes, services, now)
 }
 
-/// The packets by which it tells its neighbours, if it is time, and when it told last. Offers that
-/// are old go first, for good.
+/// The packets that advertise to the neighbours, if an advertisement is due. It also updates the
+/// time of the last advertisement. Old offers are removed first, and stay removed whatever the
+/// answer is.
 pub fn tell_at(
     alloc: Global,
     ports: &[Port],

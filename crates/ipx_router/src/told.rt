@@ -1,4 +1,4 @@
-//! What a router tells on a port.
+//! What a router advertises on a port.
 
 ghost use Rattle.std.specs.Prelude.{◌≡◌, ◌<◌, ◌≤◌, OnOk, OnErr, IfErr, IfOk, IfSome, Some, None, false, length, map, ◌==◌};
 ghost use Rattle.std.specs.List.{list_any};
@@ -24,11 +24,11 @@ use ipx_tables::{Metric, RouteMetric, RouteTable, ServiceKey, ServiceMetric, Sou
 use ipx_wire::{Network, OutOfMemory, Socket};
 use std::alloc::Global;
 
-/// How many ports are to tell all services before their bodies are written once for all: a copy of one costs
-/// half of what another writing does.
+/// The fewest ports that advertise all services for which the bodies are written once and copied. A
+/// copy of a body costs half as much as to write it again.
 const FEWEST_ALIKE: u8 = 3;
 
-/// A route as it is told on a port.
+/// A route as it is advertised on a port.
 pub fn told_entry(network: Network, metric: RouteMetric, at: PortNow) -> RipEntry
     ensures { result ≡ told_route network metric at }
 {
@@ -40,7 +40,7 @@ pub fn told_entry(network: Network, metric: RouteMetric, at: PortNow) -> RipEntr
     }
 }
 
-/// Where the entry of a network stands, or where it would go.
+/// The index of the entry of a network, or the index where it would be inserted.
 fn place_of(told: &[RipEntry], network: Network) -> Result<usize, usize>
     requires { IsRising network_cmp route_key told.now }
     ensures found { IfOk result (IsAtKey network_cmp route_key told.now network) }
@@ -49,7 +49,7 @@ fn place_of(told: &[RipEntry], network: Network) -> Result<usize, usize>
     told.binary_search_by(|held| held.network.cmp(&network))
 }
 
-/// Puts an entry in at its place, unless there is one of its network.
+/// Inserts an entry in order, unless there is one of its network.
 fn put_entry(told: &mut Vec<RipEntry>, entry: RipEntry) -> Result<(), OutOfMemory>
     requires { IsRising network_cmp route_key told.old.items }
     ensures { OnOk result (PutsEntry told.old.items entry told.new.items) }
@@ -63,14 +63,14 @@ fn put_entry(told: &mut Vec<RipEntry>, entry: RipEntry) -> Result<(), OutOfMemor
     }
 }
 
-/// Whether the route to a network leaves by another port that is on it.
+/// Whether the network is that of another port.
 fn is_over_other_port(ports: &[Port], network: Network, at: PortNow) -> bool
     ensures { result ≡ is_told_port ports.now at network }
 {
     direct_port(ports, network).is_some_and(|place| place + 1 != at.number as usize)
 }
 
-/// The networks of the other ports, as they are told.
+/// The networks of the other ports, as they are advertised.
 pub fn told_ports(alloc: Global, ports: &[Port], at: PortNow) -> Result<Vec<RipEntry>, OutOfMemory>
     ensures told { IfOk result (λ v. AreToldPorts ports.now at (length ports.now) v.items) }
     ensures refused { OnErr result ((x : RipEntry) × IsToldPort ports.now at x) }
@@ -85,7 +85,7 @@ pub fn told_ports(alloc: Global, ports: &[Port], at: PortNow) -> Result<Vec<RipE
     Ok(told)
 }
 
-/// Whether the best offer of a network is its route, and came by another port.
+/// Whether the best offer of a network is its route and came by another port.
 pub fn is_over_other_neighbour(
     ports: &[Port],
     item: (Network, Source, RouteMetric),
@@ -115,7 +115,7 @@ fn add_heard(
     Ok(())
 }
 
-/// What is told on a port of the routes that were heard, by network.
+/// The learned routes that are advertised on a port, in the order of their networks.
 pub fn routes_as_told(
     alloc: Global,
     ports: &[Port],
@@ -132,7 +132,7 @@ pub fn routes_as_told(
     Ok(told)
 }
 
-/// What is told on a port of a network: its route, unless that leaves by the port.
+/// What is advertised on a port of a network: its route, unless that leaves by the port.
 pub fn told_of(
     ports: &[Port],
     routes: &RouteTable,
@@ -152,7 +152,7 @@ pub fn told_of(
     Some(told_entry(network, route.metric, at))
 }
 
-/// A service as it is told.
+/// A service as it is advertised.
 pub fn told_service_of(item: &(ServiceKey, Source, ServiceMetric)) -> ServiceEntry
     ensures { result ≡ told_service item.now }
 {
@@ -165,7 +165,7 @@ pub fn told_service_of(item: &(ServiceKey, Source, ServiceMetric)) -> ServiceEnt
     }
 }
 
-/// The services that came by another port, as they are told.
+/// The services that came by another port, as they are advertised.
 fn services_by_other_ports(
     alloc: Global,
     heard: &[(ServiceKey, Source, ServiceMetric)],
@@ -181,7 +181,7 @@ fn services_by_other_ports(
     Ok(told)
 }
 
-/// All services that were heard, as they are told where none of them came.
+/// All learned services, as they are advertised on a port by which none of them came.
 fn all_services_as_told(
     alloc: Global,
     heard: &[(ServiceKey, Source, ServiceMetric)],
@@ -202,8 +202,8 @@ fn is_heard_at(heard: &[(ServiceKey, Source, ServiceMetric)], number: u8) -> boo
     heard.iter().any(|item| item.1.port == number)
 }
 
-/// At how many of so many ports none of these services came. It is asked for speed: what is told is the
-/// same, whatever it answers.
+/// The number of ports by which none of these services came. It serves speed only: the packets are
+/// the same, whatever the number is.
 fn count_ports_without(ports: u8, heard: &[(ServiceKey, Source, ServiceMetric)]) -> u8
     ensures { result ≤ ports }
 {
@@ -216,8 +216,8 @@ fn count_ports_without(ports: u8, heard: &[(ServiceKey, Source, ServiceMetric)])
     count
 }
 
-/// The bodies of the packets of all services, or nothing where too few of so many ports tell them all for
-/// that to be quicker.
+/// The bodies of the packets of all services, or `None` if too few of the ports advertise all of
+/// them for that to be faster.
 pub fn bodies_told_alike(
     alloc: Global,
     ports: u8,
@@ -234,8 +234,8 @@ pub fn bodies_told_alike(
     Ok(Some(bodies))
 }
 
-/// Adds the packets that tell on a port the services that came by another one: those of the bodies,
-/// where none came by it.
+/// Adds the packets that advertise on a port the services that came by another one. If none came by
+/// this port, it uses the bodies.
 pub fn add_services_told(
     alloc: Global,
     told: &mut Vec<Reply>,

@@ -1,4 +1,4 @@
-//! Services that several ports tell alike, byte by byte.
+//! Services that several ports advertise unchanged, byte by byte.
 
 use crate::fixture::{hears, line_of, port};
 use crate::services::services;
@@ -6,7 +6,7 @@ use ipx_router::{NewFault, Reply, Router};
 use std::alloc::{AllocError, Global};
 use std::test::Fail;
 
-/// The 47 bytes of a name behind its first letter.
+/// The 47 bytes of a name after its first letter.
 const ZEROS: &str = "\
 0000000000000000000000000000000000000000000000000000000000000000000000000000000000000000000000";
 
@@ -24,7 +24,7 @@ fn four_ports(alloc: Global) -> Result<Router, NewFault> {
     }
 }
 
-/// The packets of services among those that are told, as text.
+/// The packets of services among those that are advertised, as text.
 fn services_told(alloc: Global, told: &[Reply]) -> Result<String, Fail> {
     let mut text = String::new(alloc);
     for reply in told {
@@ -35,7 +35,8 @@ fn services_told(alloc: Global, told: &[Reply]) -> Result<String, Fail> {
     Ok(text)
 }
 
-/// The packet that tells on a port so many services from a letter on, each one hop farther than it was heard.
+/// The packet that advertises on a port so many services, named by letters from this one on. Each
+/// has one hop more than it was learned with.
 fn packet(alloc: Global, number: u8, first: u8, count: u8) -> Result<String, AllocError> {
     let place = match number {
         1 => "0000001100007f000001",

@@ -1,4 +1,5 @@
-//! All routes or services, asked for at once: which entries, in which order, in how many packets.
+//! Requests for all routes or services: the entries of the replies, their order, and the number of
+//! packets.
 
 use crate::fixture::{hears, lengths, replies_to, three_ports};
 use crate::order::{full_of_routes, full_of_services};
@@ -16,7 +17,7 @@ const ALL_ROUTES_1: &str =
 const ALL_ROUTES_2: &str =
     "ffff0028000100000022ffffffffffff04530000002200007f00000340010001ffffffffffffffff";
 
-/// Networks 5, 15, 22, 33 and 44: those of the other ports stand between those heard.
+/// Networks 5, 15, 22, 33 and 44: those of the other ports are in order among the learned ones.
 const IN_ORDER: &str = "1 00007f000003 \
 ffff004800010000001100007f00000340010000001100007f00000104530002\
 00000005000200030000001500030004000000220001000100000033000100010000004400040005\n";
@@ -33,7 +34,7 @@ fn own_networks_among_others(rt: HostRuntime) -> Result<(), Fail> {
     Ok(())
 }
 
-/// Whether there are so many packets of one length, and then one of another.
+/// Whether there are so many packets of one length, followed by one of another.
 fn are_full_but_the_last(sizes: &[usize], many: usize, full: usize, last: usize) -> bool {
     let front = sizes.iter().take(many).all(|size| *size == full);
     front && sizes[many..] == [last]

@@ -1,4 +1,4 @@
-//! What a router answers to a datagram of which the first bytes alone were received.
+//! What a router answers to a datagram of which only the first bytes were received.
 
 use crate::fixture::{answer, three_ports};
 use ipx_router::{Outcome, Reason};

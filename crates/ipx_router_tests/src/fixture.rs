@@ -30,7 +30,8 @@ pub fn three_ports(alloc: Global) -> Result<Router, NewFault> {
     Router::new(alloc, ports)
 }
 
-/// What the router answers to a packet in hex. No hex, or a port that is not there, is no memory.
+/// What the router answers to a packet in hex. If the text is no hex or the port does not exist,
+/// that is reported as out of memory.
 pub fn answer(
     alloc: Global,
     router: &mut Router,
@@ -64,7 +65,7 @@ pub fn text_of(alloc: Global, replies: &[Reply]) -> Result<String, Fail> {
     Ok(text)
 }
 
-/// The text of the packets that answer a packet, or of none.
+/// The text of the packets that answer a packet, or no text.
 pub fn replies_to(
     alloc: Global,
     router: &mut Router,
@@ -77,7 +78,7 @@ pub fn replies_to(
     }
 }
 
-/// The packet that goes on, as text, or no text.
+/// The packet that is forwarded, as text, or no text.
 pub fn onward_text(alloc: Global, outcome: &Outcome) -> Result<String, Fail> {
     match outcome {
         Outcome::Forward(reply) => line_of(alloc, reply),
@@ -85,12 +86,12 @@ pub fn onward_text(alloc: Global, outcome: &Outcome) -> Result<String, Fail> {
     }
 }
 
-/// What the router tells, as text.
+/// What the router advertises, as text.
 pub fn told_text(alloc: Global, router: &mut Router, now: u64) -> Result<String, Fail> {
     text_of(alloc, &router.tell(alloc, now)?)
 }
 
-/// Whether the router hears so many entries of a packet on port 2.
+/// Whether the router learns so many entries of a packet on port 2.
 pub fn hears(alloc: Global, router: &mut Router, text: &str, count: usize) -> Result<bool, Fail> {
     match answer(alloc, router, 2, text, 0)? {
         Outcome::Heard(heard) => Ok(heard as usize == count),
@@ -98,7 +99,8 @@ pub fn hears(alloc: Global, router: &mut Router, text: &str, count: usize) -> Re
     }
 }
 
-/// How many bytes each packet has that answers a packet. What is no reply has a packet of 0.
+/// The length of each packet that answers a packet. An answer that is no reply counts as one packet
+/// of 0.
 pub fn lengths(
     alloc: Global,
     router: &mut Router,

@@ -7,7 +7,7 @@ use std::alloc::{AllocError, Global};
 use std::process::Abort;
 use std::test::Fail;
 
-/// A RIP response on port 2 with 50 networks from a first one on.
+/// A RIP response on port 2 with 50 networks, from this one on.
 pub fn fifty_networks(alloc: Global, first: u32) -> Result<String, AllocError> {
     let mut text = String::from_str(
         alloc,
@@ -42,12 +42,12 @@ fn full_table(rt: HostRuntime) -> Result<(), Fail> {
     twenty_four_find_room(&rt, alloc, &mut router)
 }
 
-/// Packets to the last network that found room, and to the first that did not.
+/// Packets to the last network that fitted in the table, and to the first that did not.
 const TO_LAST: &str = "ffff001e0000000007e700007f00000540000000001100007f0000034001";
 
 const TO_PAST: &str = "ffff001e0000000007e800007f00000540000000001100007f0000034001";
 
-/// 24 more find room, and the others do not.
+/// 24 more fit in the table, and the others do not.
 fn twenty_four_find_room(rt: &impl Abort, alloc: Global, router: &mut Router) -> Result<(), Fail> {
     let full = answer(alloc, router, 2, &fifty_networks(alloc, 2000)?, 0)?;
     assert!(rt; matches!(full, Outcome::Dropped(Reason::TableFull)));

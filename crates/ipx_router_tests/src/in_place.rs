@@ -1,4 +1,5 @@
-//! Worked rows of datagrams that a router may change, with literal bytes before and after.
+//! Worked cases of datagrams in a buffer that the router may change, with literal bytes before and
+//! after.
 
 use crate::fixture::{NETWORK_44, answer, three_ports};
 use crate::nothing::bytes_at_last;
@@ -9,7 +10,7 @@ use std::alloc::Global;
 use std::process::Abort;
 use std::test::Fail;
 
-/// What the router answers in place. A port that is not there is no memory.
+/// What the router answers in place. A port that does not exist is reported as out of memory.
 fn answer_in_place(
     alloc: Global,
     router: &mut Router,
@@ -22,7 +23,7 @@ fn answer_in_place(
     router.receive_in_place(alloc, number, bytes, 0)
 }
 
-/// The answer as text: of a packet that goes on port, next node and how many bytes it has.
+/// The answer as text. For a forwarded packet, that is its port, next node and length.
 fn answer_text(alloc: Global, outcome: &InPlace) -> Result<String, Fail> {
     let text = match outcome {
         InPlace::Forward { port, next, count } => {
@@ -42,7 +43,7 @@ fn answer_text(alloc: Global, outcome: &InPlace) -> Result<String, Fail> {
     Ok(text)
 }
 
-/// The port, the bytes that come in, the answer, and all the bytes behind it.
+/// The port, the bytes that come in, the answer, and all bytes of the buffer after it.
 #[derive(Clone, Copy)]
 struct Case {
     port: u8,
@@ -51,8 +52,8 @@ struct Case {
     after: &'static str,
 }
 
-/// What is changed: by a learned route, with padding; by a port, with a source network of 0; and
-/// the last hop that there is.
+/// Packets that are changed: by a learned route, with padding; by a port, with a source network of
+/// 0; and one that takes its last hop.
 const CHANGED: [Case; 3] = [
     Case {
         port: 1,
@@ -74,8 +75,8 @@ const CHANGED: [Case; 3] = [
     },
 ];
 
-/// What is left: dropped for its hops, for its network, for its type and for its length; a response
-/// that is heard, and a request that is answered.
+/// Packets that stay unchanged: dropped for its hops, its network, its type or its length; a
+/// response that is learned, and a request that is answered.
 const LEFT: [(u8, &str, &str); 6] = [
     (
         3,
@@ -154,8 +155,8 @@ const ONWARD: [[u8; 30]; 2] = [
 const EVERY_ROUTE: &str =
     "ffff0028000100000011ffffffffffff04530000001100007f00000304530001ffffffffffffffff";
 
-/// What goes on wants no memory: it is asked once alone. What is answered may want some, and leaves
-/// the bytes then.
+/// A packet that is forwarded needs no memory, so it is tried only once. One that is answered may
+/// need some. If it is refused, the bytes stay unchanged.
 #[test]
 fn refused_memory_in_place(rt: HostRuntime) -> Result<(), Fail> {
     let alloc = rt.alloc();

@@ -1,5 +1,5 @@
-//! Worked rows of the two orders in which a table keeps its offers, by key and by the moment heard,
-//! and of what wants no memory.
+//! Worked cases of the two orders in which a table keeps its offers, by key and by the time
+//! learned, and of what needs no memory.
 
 use crate::metrics::route;
 use ipx_tables::{RouteTable, Source, TableFault, route_table};
@@ -63,8 +63,9 @@ fn what_is_heard_again_grows_old_later(rt: &impl Abort, alloc: Global) -> Result
     Ok(())
 }
 
-/// Of 1,024 networks, heard at 0, the even ones are heard again, the last first, at the moment of
-/// their number. At 180,000 all odd ones go together, and at 180,101 the even ones up to 100.
+/// 1,024 networks are learned at 0. The even ones are learned again, the last first, each at the
+/// time of its number. At 180,000 all odd ones expire together, and at 180,101 the even ones up to
+/// 100.
 fn many_grow_old_together(rt: &impl Abort, alloc: Global) -> Result<(), Fail> {
     let mut table = networks_to(alloc, 1024)?;
     for half in 0..512u32 {
@@ -79,7 +80,7 @@ fn many_grow_old_together(rt: &impl Abort, alloc: Global) -> Result<(), Fail> {
     Ok(())
 }
 
-/// Of 64 networks, each heard at the moment of its number, five grow old, and then twenty more.
+/// Of 64 networks, each learned at the time of its number, five expire, and then twenty more.
 fn few_grow_old_and_then_more(rt: &impl Abort, alloc: Global) -> Result<(), Fail> {
     let mut table = route_table(alloc);
     for network in 1..=64u32 {
@@ -92,7 +93,7 @@ fn few_grow_old_and_then_more(rt: &impl Abort, alloc: Global) -> Result<(), Fail
     Ok(())
 }
 
-/// Networks 1 to a last one, each heard once, and asked for again where memory was refused.
+/// Networks 1 to `last`, each learned once. If memory is refused, it is tried again.
 fn networks_to(alloc: Global, last: u32) -> Result<RouteTable, TableFault> {
     let mut table = route_table(alloc);
     for network in 1..=last {
@@ -103,19 +104,20 @@ fn networks_to(alloc: Global, last: u32) -> Result<RouteTable, TableFault> {
     Ok(table)
 }
 
-/// Whether at most so many offers are read for the best of each network from 1 to a last one.
+/// Whether at most so many offers are read for the best one of each network from 1 to `last`.
 fn reads_few(table: &RouteTable, last: u32, most: usize) -> bool {
     (1..=last).all(|network| table.best_steps(&Network(network), 0).1 <= most)
 }
 
-/// One offer of the key, one more, and a digit of the table's length each: 11 of 1,024, 3 of 5.
+/// One offer of the key, one more, and one for each binary digit of the table's length: 11 for
+/// 1,024, 3 for 5.
 fn few_offers_are_read(rt: &impl Abort, alloc: Global) -> Result<(), Fail> {
     assert!(rt; reads_few(&networks_to(alloc, 1024)?, 1024, 13));
     assert!(rt; reads_few(&networks_to(alloc, 5)?, 5, 5));
     Ok(())
 }
 
-/// Whether each of the networks from 1 to a last one is heard again.
+/// Whether each of the networks from 1 to `last` is learned again.
 fn all_heard_again(alloc: Global, table: &mut RouteTable, last: u32) -> bool {
     let mut all = true;
     for network in 1..=last {
@@ -124,8 +126,8 @@ fn all_heard_again(alloc: Global, table: &mut RouteTable, last: u32) -> bool {
     all
 }
 
-/// A full table hears 1,024 offers again. Run with each request for memory refused, it shows that
-/// none is made by then.
+/// A full table learns 1,024 offers again. A run with each request for memory refused shows that it
+/// makes none.
 #[test]
 fn refused_memory_of_a_full_table(rt: HostRuntime) -> Result<(), Fail> {
     let mut table = networks_to(rt.alloc(), 1024)?;
@@ -133,7 +135,7 @@ fn refused_memory_of_a_full_table(rt: HostRuntime) -> Result<(), Fail> {
     Ok(())
 }
 
-/// Whether the networks from 1,025 to 2,048 are learned, and one more finds the table full.
+/// Whether the networks from 1,025 to 2,048 are learned, and the table is full for one more.
 fn others_fill(alloc: Global, table: &mut RouteTable, now: u64) -> bool {
     let mut all = true;
     for network in 1_025..=2_048u32 {
@@ -142,8 +144,8 @@ fn others_fill(alloc: Global, table: &mut RouteTable, now: u64) -> bool {
     all && hear(alloc, table, Network(2_049), now) == Err(TableFault::Full)
 }
 
-/// A full table that grew old learns as many others. Run with each request for memory refused, it
-/// shows that none is made by then: what goes leaves its room.
+/// A full table whose offers expired learns as many others. A run with each request for memory
+/// refused shows that it makes none: the space of a removed offer is used again.
 #[test]
 fn refused_memory_of_a_table_that_grew_old(rt: HostRuntime) -> Result<(), Fail> {
     let mut table = networks_to(rt.alloc(), 1024)?;
@@ -152,7 +154,7 @@ fn refused_memory_of_a_table_that_grew_old(rt: HostRuntime) -> Result<(), Fail> 
     Ok(())
 }
 
-/// A full table whose offers were all taken back learns as many others, in the same way.
+/// A full table whose offers were all withdrawn learns as many others, in the same way.
 #[test]
 fn refused_memory_of_a_table_that_was_emptied(rt: HostRuntime) -> Result<(), Fail> {
     let mut table = networks_to(rt.alloc(), 1024)?;

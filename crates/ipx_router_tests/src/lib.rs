@@ -1,5 +1,5 @@
-//! Tests of RIP and SAP packets, of tables and of a router, with literal values. They call what
-//! those crates make public, and no crate stands on this one.
+//! Tests of RIP and SAP packets, of tables and of a router, with literal values. They call the
+//! public functions of those crates. No crate depends on this one.
 #![tactic(auto)]
 
 #[cfg(test)]

@@ -1,4 +1,5 @@
-//! Worked rows of the two metrics: which is better, which is dead, and each one hop further.
+//! Worked cases of the two metrics: which is better, which is unreachable, and each with one hop
+//! more.
 
 use ipx_tables::{Metric, RouteMetric, ServiceMetric};
 use ipx_wire::{Address, Network, Node, Socket};

@@ -1,5 +1,5 @@
-//! A router where memory is refused and nothing is to be sent: it wants none. Run it with each
-//! request refused.
+//! A router that has nothing to send needs no memory. Run these tests with each request for memory
+//! refused.
 
 use crate::fixture::port;
 use crate::refused::{answer_at_last, ports_at_last, services_at_last};
@@ -16,7 +16,7 @@ const ALL_OF_TYPE_9: &str = "ffff0022000400000011ffffffffffff04520000001100007f0
 const NEAREST_OF_TYPE_9: &str =
     "ffff0022000400000011ffffffffffff04520000001100007f000003400100030009";
 
-/// A packet in hex as bytes, made once more where memory was refused.
+/// A packet in hex as bytes. If memory is refused, it is tried again.
 pub fn bytes_at_last(alloc: Global, text: &str) -> Result<Vec<u8>, Fail> {
     match hex::decode(alloc, text.as_bytes()) {
         Ok(bytes) => Ok(bytes),
@@ -24,7 +24,7 @@ pub fn bytes_at_last(alloc: Global, text: &str) -> Result<Vec<u8>, Fail> {
     }
 }
 
-/// Whether no packet answers what comes in on port 1, asked once alone.
+/// Whether no packet answers what comes in on port 1. It is tried only once.
 fn is_answered_by_none(alloc: Global, router: &mut Router, text: &str) -> Result<bool, Fail> {
     let bytes = bytes_at_last(alloc, text)?;
     if router.ports().is_empty() {
@@ -51,7 +51,7 @@ fn refused_memory_where_nothing_is_asked(rt: HostRuntime) -> Result<(), Fail> {
 const NETWORKS_44_AND_55: &str =
     "ffff0030000100000022ffffffffffff04530000002200007f0000090453000200000044000100030000005500020004";
 
-/// Whether both networks are heard on port 2 once more, asked once alone.
+/// Whether both networks are learned on port 2 again. It is tried only once.
 fn are_heard_again(alloc: Global, router: &mut Router, now: u64) -> Result<bool, Fail> {
     let bytes = bytes_at_last(alloc, NETWORKS_44_AND_55)?;
     if router.ports().len() < 2 {
@@ -79,7 +79,7 @@ fn one_port(alloc: Global) -> Result<Router, NewFault> {
     Router::new(alloc, ports)
 }
 
-/// The router of one port, made once more where memory was refused.
+/// The router of one port. If memory is refused, it is tried again.
 fn one_port_at_last(alloc: Global) -> Result<Router, NewFault> {
     match one_port(alloc) {
         Ok(router) => Ok(router),

@@ -1,4 +1,4 @@
-//! Worked rows of tables of offers, and each call that takes memory.
+//! Worked cases of tables of offers, and each call that allocates.
 
 use crate::metrics::{route, service};
 use ipx_tables::{
@@ -9,7 +9,7 @@ use std::alloc::Global;
 use std::process::Abort;
 use std::test::Fail;
 
-/// A neighbour 00007f0000xx, heard on a port.
+/// A neighbour 00007f0000xx on a port.
 fn source(port: u8, last: u8) -> Source {
     Source {
         port,
@@ -19,7 +19,7 @@ fn source(port: u8, last: u8) -> Source {
 
 const KEY: Network = Network(0x22);
 
-/// Whether the best offer for network 22 is of a source and with a metric.
+/// Whether the best offer for network 22 is from this source and has this metric.
 fn is_best(table: &RouteTable, now: u64, from: Source, metric: RouteMetric) -> bool {
     table.best(&KEY, now) == Some((from, metric))
 }
@@ -82,7 +82,7 @@ fn each_offer_by_network_and_neighbour(rt: &impl Abort, alloc: Global) -> Result
     Ok(())
 }
 
-/// 1,024 networks, each heard from the first neighbour of port 1.
+/// 1,024 networks, each learned from the first neighbour of port 1.
 fn full_table(alloc: Global) -> Result<RouteTable, Fail> {
     let mut table = route_table(alloc);
     for network in 1..1025u32 {
@@ -118,7 +118,7 @@ fn an_offer_of_a_later_moment_is_young(rt: &impl Abort, alloc: Global) -> Result
     Ok(())
 }
 
-/// Networks 44, 33 and 11, some of them from two sources, and some 200 seconds later.
+/// Networks 44, 33 and 11, some from two sources, and some 200 seconds later.
 fn three_networks(alloc: Global) -> Result<RouteTable, Fail> {
     let mut table = route_table(alloc);
     for (network, port, metric, now) in [
@@ -173,7 +173,7 @@ fn services_go_by_hops(rt: HostRuntime) -> Result<(), Fail> {
     Ok(())
 }
 
-/// Passes as well where a request for memory in it is refused.
+/// This also passes if a request for memory in it is refused.
 #[test]
 fn refused_memory_changes_nothing(rt: HostRuntime) -> Result<(), Fail> {
     let mut table: Offers<Network, RouteMetric> = Offers::new(rt.alloc(), 2);

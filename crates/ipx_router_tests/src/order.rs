@@ -1,4 +1,4 @@
-//! A table that is full on the way of a response: each entry needs room when its turn comes.
+//! A table that becomes full during a response: each entry needs space only when its turn comes.
 
 use crate::fixture::{answer, hears, lengths, three_ports};
 use crate::full::fifty_networks;
@@ -8,7 +8,7 @@ use std::alloc::Global;
 use std::process::Abort;
 use std::test::Fail;
 
-/// A router that heard networks 1000 to 2023 on port 2: as many as it may hold.
+/// A router that learned networks 1000 to 2023 on port 2: as many as it may hold.
 pub fn full_of_routes(alloc: Global) -> Result<Router, Fail> {
     let mut router = three_ports(alloc)?;
     for i in 0..21u32 {
@@ -27,7 +27,7 @@ pub fn full_of_routes(alloc: Global) -> Result<Router, Fail> {
 const NEW_NETWORK_FIRST: &str = "ffff0030000100000022ffffffffffff04530000002200007f00000904530002\
     0000270f00010001000003e800100001";
 
-/// The same two, the other way round.
+/// The same two in the other order.
 const DEAD_NETWORK_FIRST: &str = "ffff0030000100000022ffffffffffff04530000002200007f00000904530002\
     000003e8001000010000270f00010001";
 
@@ -69,15 +69,15 @@ fn one_made_room(rt: &impl Abort, alloc: Global, router: &mut Router) -> Result<
     Ok(())
 }
 
-/// The forty bytes of a name behind its first eight, which are all zero.
+/// The forty bytes of a name after its first eight, all zero.
 const REST_OF_NAME: &str =
     "00000000000000000000000000000000000000000000000000000000000000000000000000000000";
 
 /// The address of each service, and 1 hop.
 const AT_ONE_HOP: &str = "0000004400000000000104510001";
 
-/// A SAP response on port 2 with seven services of type 4, which are named by numbers from a first
-/// one on.
+/// A SAP response on port 2 with seven services of type 4, which are named by numbers from `first`
+/// on.
 fn seven_services(alloc: Global, first: u64) -> Result<String, Fail> {
     let mut text = String::from_str(
         alloc,
@@ -95,7 +95,7 @@ const TYPE_5: &str = "ffff0060000400000022ffffffffffff04520000002200007f00000904
     0005000000000000000000000000000000000000000000000000000000000000000000000000000000000000000000000000\
     0000004400000000000104510001";
 
-/// A router that heard 4,096 services on port 2, one of type 5: as many as it may hold.
+/// A router that learned 4,096 services on port 2, one of type 5: as many as it may hold.
 pub fn full_of_services(alloc: Global) -> Result<Router, Fail> {
     let mut router = three_ports(alloc)?;
     let _ = answer(alloc, &mut router, 2, TYPE_5, 0)?;
@@ -112,7 +112,7 @@ const NEW_SERVICE_FIRST: &str = "ffff00a0000400000022ffffffffffff045200000022000
     0005000000000000000000000000000000000000000000000000000000000000000000000000000000000000000000000000\
     0000004400000000000104510010";
 
-/// The same two, the other way round.
+/// The same two in the other order.
 const DEAD_SERVICE_FIRST: &str = "ffff00a0000400000022ffffffffffff04520000002200007f00000904520002\
     0005000000000000000000000000000000000000000000000000000000000000000000000000000000000000000000000000\
     0000004400000000000104510010\

@@ -1,4 +1,4 @@
-//! Packets that are cut: what is read of each of their beginnings.
+//! Packets that are cut off: what is read of each of their prefixes.
 
 use ipx_control::{ControlFault, Rip, Sap, decode_rip, decode_sap};
 use ipx_wire::{IpxFault, SpxFault, decode, decode_spx};
@@ -39,7 +39,7 @@ fn packet_rows(rt: &impl Abort) -> Result<(), Fail> {
     Ok(())
 }
 
-/// How many entries a response has, or why it is none.
+/// The number of entries of a response, or why it is none.
 fn entries_in(alloc: Global, body: &[u8]) -> Result<usize, ControlFault> {
     match decode_rip(alloc, body)? {
         Rip::Response(entries) => Ok(entries.len()),
@@ -62,7 +62,7 @@ fn rip_rows(rt: &impl Abort, alloc: Global) {
     }
 }
 
-/// And all those between.
+/// The lengths between those.
 fn more_rip_rows(rt: &impl Abort, alloc: Global) {
     for length in 2..10 {
         assert_eq!(rt; entries_in(alloc, &TWO_ROUTES[30..30 + length]), Ok(0));

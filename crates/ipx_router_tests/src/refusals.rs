@@ -1,4 +1,4 @@
-//! What a router knows after want of memory in the midst of a response.
+//! What a router knows if memory runs out during a response.
 
 use crate::fixture::{answer, port};
 use crate::refused::answer_at_last;
@@ -26,7 +26,7 @@ fn two_ports(alloc: Global) -> Result<Router, NewFault> {
     Router::new(alloc, ports)
 }
 
-/// The same, made once more where memory was refused.
+/// The same. If memory is refused, it is tried again.
 fn two_ports_at_last(alloc: Global) -> Result<Router, NewFault> {
     match two_ports(alloc) {
         Ok(router) => Ok(router),
@@ -34,8 +34,8 @@ fn two_ports_at_last(alloc: Global) -> Result<Router, NewFault> {
     }
 }
 
-/// Where memory is refused, the last entry was not heard, and the response that comes again is
-/// heard whole. Run it with each request refused.
+/// If memory is refused, the last entry was not learned. The response is learned completely when it
+/// comes again. Run this with each request refused.
 #[test]
 fn refused_memory_of_two_networks(rt: HostRuntime) -> Result<(), Fail> {
     let alloc = rt.alloc();
@@ -51,7 +51,7 @@ fn refused_memory_of_two_networks(rt: HostRuntime) -> Result<(), Fail> {
     Ok(())
 }
 
-/// The last entry was not heard. The first was, or was at hand as memory was refused.
+/// The last entry was not learned. The first one was, or memory was refused for it.
 fn is_heard_again(rt: &impl Abort, alloc: Global, router: &mut Router) -> Result<(), Fail> {
     let last = answer(alloc, router, 2, TO_NETWORK_44, 0)?;
     assert!(rt; matches!(last, Outcome::Dropped(Reason::NoRoute(Network(0x44)))));

@@ -1,5 +1,5 @@
-//! A router where memory is refused: any one refused request is answered as want of memory, and
-//! the same call answers then. Run it with each request refused.
+//! A router that is refused memory: any one refused request is returned as out of memory, and the
+//! same call succeeds after that. Run these tests with each request refused.
 
 use crate::fixture::{NETWORK_44, TO_NETWORK_44, answer, three_ports};
 use crate::services::{query, services};
@@ -8,7 +8,7 @@ use std::alloc::{AllocError, Global};
 use std::process::Abort;
 use std::test::Fail;
 
-/// The router of `three_ports`, made once more where memory was refused.
+/// The router of `three_ports`. If memory is refused, it is tried again.
 pub fn ports_at_last(alloc: Global) -> Result<Router, NewFault> {
     match three_ports(alloc) {
         Ok(router) => Ok(router),
@@ -16,7 +16,7 @@ pub fn ports_at_last(alloc: Global) -> Result<Router, NewFault> {
     }
 }
 
-/// What the router answers, asked once more where memory was refused.
+/// What the router answers. If memory is refused, it is asked again.
 pub fn answer_at_last(
     alloc: Global,
     router: &mut Router,
@@ -29,7 +29,7 @@ pub fn answer_at_last(
     }
 }
 
-/// How many packets are told, asked once more where memory was refused.
+/// The number of packets that are advertised. If memory is refused, it is tried again.
 fn told_at_last(alloc: Global, router: &mut Router, now: u64) -> Result<usize, Fail> {
     match router.tell(alloc, now) {
         Ok(told) => Ok(told.len()),
@@ -37,7 +37,7 @@ fn told_at_last(alloc: Global, router: &mut Router, now: u64) -> Result<usize, F
     }
 }
 
-/// How many packets ask at the start, asked once more where memory was refused.
+/// The number of packets that ask at the start. If memory is refused, it is tried again.
 fn asked_at_last(alloc: Global, router: &Router) -> Result<usize, Fail> {
     match router.start(alloc) {
         Ok(asked) => Ok(asked.len()),
@@ -45,7 +45,7 @@ fn asked_at_last(alloc: Global, router: &Router) -> Result<usize, Fail> {
     }
 }
 
-/// How many packets answer.
+/// The number of packets in the answer.
 fn number_of_replies(outcome: &Outcome) -> usize {
     match outcome {
         Outcome::Replies(replies) => replies.len(),
@@ -65,7 +65,7 @@ fn refused_memory(rt: HostRuntime) -> Result<(), Fail> {
     refused_memory_of_services(&rt, alloc, &mut router)
 }
 
-/// Requests for every route and for that to network 44.
+/// Requests for every route, and for the route to network 44.
 const REQUESTS: [&str; 2] = [
     "ffff0028000100000011ffffffffffff04530000001100007f00000304530001ffffffffffffffff",
     "ffff0028000100000011ffffffffffff04530000001100007f0000030453000100000044ffffffff",
@@ -74,7 +74,7 @@ const REQUESTS: [&str; 2] = [
 /// A query for the nearest service of any kind.
 const NEAREST: &str = "ffff0022000400000011ffffffffffff04520000001100007f00000340010003ffff";
 
-/// The same for answers and for a packet that goes on.
+/// The same for replies, and for a packet that is forwarded.
 fn refused_memory_of_routes(
     rt: &impl Abort,
     alloc: Global,
@@ -93,7 +93,7 @@ fn refused_memory_of_routes(
     Ok(())
 }
 
-/// Services in hex, made once more where memory was refused.
+/// Services in hex. If memory is refused, it is tried again.
 pub fn services_at_last(alloc: Global, first: u8, count: u8) -> Result<String, AllocError> {
     match services(alloc, first, count, 2) {
         Ok(text) => Ok(text),
@@ -101,7 +101,7 @@ pub fn services_at_last(alloc: Global, first: u8, count: u8) -> Result<String, A
     }
 }
 
-/// A query in hex, made once more where memory was refused.
+/// A query in hex. If memory is refused, it is tried again.
 fn query_at_last(alloc: Global, operation: u8) -> Result<String, AllocError> {
     match query(alloc, 0x11, operation, "0004") {
         Ok(text) => Ok(text),
@@ -109,7 +109,7 @@ fn query_at_last(alloc: Global, operation: u8) -> Result<String, AllocError> {
     }
 }
 
-/// The same for services, on a router that heard none.
+/// The same for services, on a router that learned none.
 fn refused_memory_of_services(
     rt: &impl Abort,
     alloc: Global,

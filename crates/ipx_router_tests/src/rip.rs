@@ -10,7 +10,7 @@ const TWO_NETWORKS: [u8; 25] = [
     0, 2, 0, 0, 0, 0x11, 0, 1, 0, 2, 0, 0, 0, 0x33, 0, 1, 0, 2, 0, 0, 0, 0x44, 0, 1, 0,
 ];
 
-/// The two networks that are told there.
+/// The two complete entries of it.
 const NETWORKS_11_AND_33: [RipEntry; 2] = [
     RipEntry {
         network: Network(0x11),
@@ -101,8 +101,8 @@ fn written_rip(rt: HostRuntime) -> Result<(), Fail> {
     Ok(())
 }
 
-/// Passes as well where a request for memory in it is refused: then memory ran out, and bytes of no
-/// packet still get their fault.
+/// This also passes if a request for memory in it is refused. It is then reported as out of memory,
+/// and bytes that are no packet still give their fault.
 #[test]
 fn refused_memory_of_rip(rt: HostRuntime) {
     match decode_rip(rt.alloc(), &TWO_NETWORKS) {

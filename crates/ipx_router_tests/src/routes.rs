@@ -1,4 +1,4 @@
-//! Worked rows of routes, with literal bytes.
+//! Worked cases of routes, with literal bytes.
 
 use crate::fixture::{
     NETWORK_44, TO_NETWORK_44, answer, onward_text, replies_to, text_of, three_ports, told_text,
@@ -9,7 +9,7 @@ use std::alloc::Global;
 use std::process::Abort;
 use std::test::Fail;
 
-/// What the router of `route_rows` tells at first.
+/// What the router of `route_rows` advertises first.
 const TOLD: &str = "\
 1 ffffffffffff ffff0038000100000011ffffffffffff04530000001100007f00000104530002000000220001000100000033000100010000004400020004
 2 ffffffffffff ffff0030000100000022ffffffffffff04530000002200007f0000020453000200000011000100020000003300010002

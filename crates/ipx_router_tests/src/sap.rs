@@ -158,8 +158,8 @@ fn reads_services_back(rt: &impl Abort, alloc: Global, out: &[u8; 131]) -> Resul
     Ok(())
 }
 
-/// Passes as well where a request for memory in it is refused: then memory ran out, and bytes of no
-/// packet still get their fault.
+/// This also passes if a request for memory in it is refused. It is then reported as out of memory,
+/// and bytes that are no packet still give their fault.
 #[test]
 fn refused_memory_of_sap(rt: HostRuntime) {
     let mut body = [0; 66];

@@ -1,4 +1,4 @@
-//! Worked rows of services, with literal bytes.
+//! Worked cases of services, with literal bytes.
 
 use crate::fixture::{answer, hears, lengths, replies_to, three_ports};
 use ipx_control::ControlFault;
@@ -7,12 +7,12 @@ use std::alloc::{AllocError, Global};
 use std::process::Abort;
 use std::test::Fail;
 
-/// The 47 bytes of a name behind its first letter.
+/// The 47 bytes of a name after its first letter.
 const ZEROS: &str = "\
 0000000000000000000000000000000000000000000000000000000000000000000000000000000000000000000000";
 
-/// A SAP response on port 2 that tells so many services of kind 0004, whose names begin with the
-/// letters from one on and are zero behind, all at 00000044 000000000001 0451.
+/// A SAP response on port 2 with so many services of kind 0004, all at 00000044 000000000001 0451.
+/// Each name is one letter, from `first` on, followed by zeros.
 pub fn services(alloc: Global, first: u8, count: u8, hops: u8) -> Result<String, AllocError> {
     let length = hex::encode(alloc, (32 + 64 * count as u16).to_be_bytes())?;
     let mut text = format!(in alloc;
@@ -54,7 +54,7 @@ fn is_silent(
     Ok(lengths(alloc, router, number, &text)?.is_empty())
 }
 
-/// The service of the lower name, of two that are as near.
+/// Of two services that are equally near, the one with the lower name.
 const NEAREST: &str = "\
 1 00007f000003 ffff006000040000001100007f00000340010000001100007f0000010452\
 000400044100\

@@ -1,4 +1,4 @@
--- What is written of one frame, a part after another.
+-- The output for one frame, one part after another.
 use Rattle.std.proofs.Common.{◌≡◌, ℕ, List, ◌++◌, Option, Some, None, Result, Ok, Err, refl, sym, ap, ◌∙◌, subst, append_assoc, inl, inr}
 use Rattle.std.specs.Prelude.{IfOk, IsOkAnd, OnErr, ◌⊎◌}
 use Rattle.std.specs.Io.KnownBytes.{Appends}
@@ -35,7 +35,7 @@ packet_left (Err e) bytes text a b fits is left = elim left [
   | inr some ↦ inr (some.0, (some.1.0, shows_of_text bytes text fits is some.0 some.1.0 some.1.1), some.2)
 ]
 
--- ---- the frame's line, and the packet's lines behind it
+-- ---- the frame's line, and the packet's lines after it
 
 pub head_written : {L E : Type 0} (lines : Result L E) (text : L → List ℕ) (status : L → ℕ) (s : ℕ) (a b : Option (List ℕ)) (head : List ℕ) → IfOk lines (λ l. text l ≡ head)
     → IsOkAnd lines (λ l. (s ≡ status l) × Appends a b (text l)) → Appends a b head

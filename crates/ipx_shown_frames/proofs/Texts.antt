@@ -1,4 +1,4 @@
--- What is written of the lines of an input, one after another.
+-- The output for the lines of an input, one after another.
 use Rattle.std.proofs.Common.{◌≡◌, ◌<◌, ◌≤◌, ℕ, ◌+◌, zero, suc, List, ◌++◌, ◌∷◌, [], length, map, take, get_or, max, true, ltb, lt-ltb, Option, Some, None, Result, Ok, Err, inl, inr, false, arith, sym, ap, ◌∙◌, refl, subst}
 use Rattle.std.specs.Prelude.{◌==◌, IfOk, IfSome, OnErr, ◌⊎◌}
 use Rattle.std.specs.Io.KnownBytes.{Appends}
@@ -25,7 +25,7 @@ enumerate_from-push {X} n (y ∷ xs) x =
     let same : n + 1 + length xs ≡ n + length (y ∷ xs) = omega arith in
     ap (λ (ps : List (ℕ × X)). (n, y) ∷ ps) (rest ∙ ap (λ (k : ℕ). enumerate_from (n + 1) xs ++ (k, x) ∷ []) same)
 
--- nothing is written of no lines
+-- nothing is written for no lines
 texts_none : (own : Node) (texts : List (List ℕ)) → ShowsTexts own (take 0 texts) [] 0
 texts_none own texts = ([], tt, refl, refl)
 
@@ -84,7 +84,7 @@ input_left (Err e) own input texts a b short is left =
     let leaves = subst (λ (ts : List (List ℕ)). LeavesTexts own ts a b) is left in
     rw few leaves
 
--- where memory runs out before the first line
+-- if memory runs out before the first line
 pub none_left : (own : Node) (input : List ℕ) (a b : Option (List ℕ)) → length input ≤ 1000000 → AppendsFront a b no_memory_line → LeavesFrames own input a b
 none_left own input a b short front =
     let few : ltb 1000000 (length input) ≡ false = le-ltb _ _ short in

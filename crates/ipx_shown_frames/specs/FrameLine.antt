@@ -1,4 +1,4 @@
--- The lines that `show --frame` prints of a frame, or of why bytes are none.
+-- The lines that `show --frame` prints for a frame, or for bytes that are none.
 use Rattle.std.specs.Prelude.{ℕ, List, [], ◌∷◌, ◌++◌, codes}
 use Rattle.std.specs.Fmt.{decimal}
 use Rattle.std.specs.Int.{w16, to_be_bytes}
@@ -46,7 +46,7 @@ frame_fault_name (PacketLong have most) =
 frame_fault_name (NoRoom want have) =
     codes "NoRoom " ++ (decimal want ++ (codes " " ++ decimal have))
 
--- the line of bytes that are no frame: the fault with its number
+-- the line for bytes that are not a frame: the fault with its number
 abbrev pub no_frame_line : FrameFault → List ℕ
 no_frame_line fault =
     codes "refused " ++ (numbered (frame_fault_number fault) (frame_fault_name fault) ++ 10 ∷ [])

@@ -1,4 +1,4 @@
-//! The lines that `show --frame` prints of a frame, or of why bytes are none.
+//! The lines that `show --frame` prints for a frame, or for bytes that are none.
 
 ghost use Rattle.std.specs.Prelude.{◌≡◌, ◌++◌, IfOk, codes, string_bytes};
 ghost use Rattle.hex.specs.Hex.{encode_lower};
@@ -60,7 +60,7 @@ fn frame_fault_to_name(alloc: Global, fault: FrameFault) -> Result<String, Alloc
     }
 }
 
-/// The line of bytes that are no frame, and its status.
+/// The line for bytes that are not a frame, and its status.
 pub fn refused_lines(alloc: Global, fault: FrameFault) -> Result<(String, u8), OutOfMemory>
     ensures { IfOk result (λ r. (string_bytes r.0 ≡ no_frame_line fault) × (r.1 ≡ 1)) }
 {

@@ -1,4 +1,4 @@
-//! One frame, as a station hears it.
+//! One frame, as a station receives it.
 
 ghost use Rattle.std.specs.Prelude.{◌≡◌, ◌++◌, IfErr, IfOk, OnErr, ℕ, List};
 ghost use Rattle.std.specs.Io.KnownBytes.{Appends};
@@ -15,7 +15,7 @@ use ipx_wire::Node;
 use std::alloc::Global;
 use std::io::Write;
 
-/// Writes what `show` prints of a packet.
+/// Writes what `show` prints for a packet.
 fn show_packet<W: Write>(alloc: Global, packet: &[u8], writer: &mut W) -> Result<u8, u8>
     ensures written { IfOk result (λ status. (lines : List ℕ) × Shows packet.now lines status
         × Appends (W.contents writer.old) (W.contents writer.new) lines) }
@@ -30,7 +30,7 @@ fn show_packet<W: Write>(alloc: Global, packet: &[u8], writer: &mut W) -> Result
     do_show(alloc, &text, writer)
 }
 
-/// Writes the line of a frame that is heard, and those of its packet behind it.
+/// Writes the line of a frame that is received, and then those of its packet.
 fn show_heard<W: Write>(
     alloc: Global,
     encapsulation: Encapsulation,
@@ -50,12 +50,12 @@ fn show_heard<W: Write>(
     show_packet(alloc, frame.packet, writer)
 }
 
-/// Writes the frame that the bytes are, as the station `own` hears it, and what `show` prints of its
-/// packet; or the fault that keeps the station from hearing it.
+/// Writes the frame that the bytes are, as the station `own` receives it, and what `show` prints
+/// for its packet. If the station does not receive it, it writes the fault.
 ///
-/// `Ok` is the status: 0 for a frame with a packet, 1 where the bytes, or what the packet's body
-/// holds, are refused. `Err` is the status 1 of a write fault, after which nothing more is written,
-/// or of want of memory, which writes `fault (14) OutOfMemory`.
+/// `Ok` is the status: 0 for a frame with a packet, and 1 if the bytes, or the contents of the
+/// packet's body, are refused. `Err` is always 1. After a write fault nothing more is written. If
+/// out of memory, it writes `fault (14) OutOfMemory`.
 pub fn show_frame<W: Write>(
     alloc: Global,
     own: Node,

@@ -1,4 +1,4 @@
-//! That `show --frame` writes one thing for one input.
+//! `show --frame` has one output for one input.
 
 ghost use Rattle.std.specs.Prelude.{◌≡◌, ℕ, List};
 ghost use Rattle.ipx_wire.specs.declared.address.Node.{Node};
@@ -7,7 +7,7 @@ ghost use Rattle.ipx_shown_frames.specs.ShownFrame.{ShowsFrames};
 use ipx_ethernet::bytes_are_one_frame;
 use ipx_inspect::reading_is_one;
 
-/// What `show --frame` writes for an input, and the status, are one.
+/// For one input `show --frame` has one output and one status.
 pub fn shown_frames_are_one()
     ensures { (own : Node) (input a b : List ℕ) (s t : ℕ) → ShowsFrames own input a s
         → ShowsFrames own input b t → (a ≡ b) × (s ≡ t) }

@@ -1,5 +1,5 @@
-//! What `ipx show --frame` prints: Ethernet frames, as one station hears them, and their packets as
-//! `ipx show` prints these.
+//! What `ipx show --frame` prints: Ethernet frames, as one station receives them, and their packets
+//! as `ipx show` prints them.
 #![tactic(auto)]
 
 mod frame_line;

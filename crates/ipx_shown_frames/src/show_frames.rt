@@ -1,4 +1,4 @@
-//! `ipx show --frame`: the frames of an input, a line of hex each.
+//! `ipx show --frame`: the frames of an input, one line of hex each.
 
 ghost use Rattle.std.specs.Prelude.{◌≡◌, ◌≤◌, ◌⊎◌, IfErr, IfOk, OnErr, ℕ, List, length, map, string_bytes};
 ghost use Rattle.std.specs.Io.KnownBytes.{Appends};
@@ -34,7 +34,7 @@ fn bytes_of(alloc: Global, line: &[u8]) -> Result<Option<Vec<u8>>, OutOfMemory>
     }
 }
 
-/// Writes what the line of input at this place holds.
+/// Writes the output for one line of input, with its number.
 fn show_line<W: Write>(
     alloc: Global,
     own: Node,
@@ -73,7 +73,7 @@ fn texts_of<'a>(alloc: Global, text: &'a [u8]) -> Result<Vec<&'a [u8]>, AllocErr
     text.split(|byte| *byte == b'\n').collect(alloc)
 }
 
-/// Writes what each line holds, and answers the greatest of their statuses.
+/// Writes the output for each line, and returns the greatest of their statuses.
 fn show_texts<W: Write>(alloc: Global, own: Node, texts: &[&[u8]], writer: &mut W) -> Result<u8, u8>
     requires { length texts.now ≤ 1000001 }
     ensures written { IfOk result (λ status.
@@ -116,14 +116,14 @@ fn show_input<W: Write>(alloc: Global, own: Node, input: &[u8], writer: &mut W) 
     show_texts(alloc, own, &texts, writer)
 }
 
-/// The command `show --frame`: reads lines, each a frame in hex, at most 1,000,000 bytes, and writes
-/// of each what the station `own` hears: the frame and what `show` prints of its packet, or the
-/// fault that keeps it from being heard.
+/// The command `show --frame`: reads lines, each a frame in hex, at most 1,000,000 bytes. For each
+/// it writes the frame, as the station `own` receives it, and what `show` prints for its packet. If
+/// the station does not receive the frame, it writes the fault.
 ///
-/// `Ok` is the greatest status of the lines: 0 for a frame with a packet, 1 for one that is refused,
-/// or whose packet's body is, 2 for a line that is no hex and for an input that is too long. `Err`
-/// is the status 1 of a read or write fault, after which nothing more is written, or of want of
-/// memory, which writes `fault (14) OutOfMemory`; what was written before it stands.
+/// `Ok` is the greatest status of the lines. It is 0 for a frame with a packet, and 1 for one that
+/// is refused, or whose packet's body is. It is 2 for a line that is not hex, and for an input that
+/// is too long. `Err` is always 1. After a read or write fault nothing more is written. If out of
+/// memory, it writes `fault (14) OutOfMemory` after what was written before.
 pub fn do_show_frames<R: Read, W: Write>(
     alloc: Global,
     own: Node,

@@ -1,4 +1,4 @@
--- Things done one after another, one more at a time.
+-- Actions one after another, one more at a time.
 use Rattle.std.proofs.Common.{◌≡◌, ◌<◌, ℕ, ◌+◌, Bool, true, false, not, inl, inr, List, [], ◌∷◌, ◌++◌, length, take, drop, get_or, map, Result, Ok, Err, refl, sym, ap, ◌∙◌, subst, arith, take-append-drop}
 use Rattle.std.specs.Prelude.{◌||◌, ◌==◌}
 use Rattle.std.specs.List.{range_with_len}
@@ -34,14 +34,14 @@ each_more Does (y ∷ ys) x p q a b c done next = (
   or_more p done.1 done.2 q done.5,
 )
 
--- one that is stopped stops all
+-- an action that is stopped stops all
 pub each_stop : {S X : Type 0} (Does : X → S → Result Bool LineFault → S → Type 0) (xs : List X) (x : X) (ys : List X) (p : Bool) (stop : LineFault) (a b c : S)
     → DoesEach Does xs a (Ok p) b → Does x b (Err stop) c → DoesEach Does (xs ++ x ∷ ys) a (Err stop) c
 each_stop {S} Does [] x ys p stop a b c done next = inl (subst (λ (s : S). Does x s (Err stop) c) done.1 next)
 each_stop Does (z ∷ zs) x ys p stop a b c done next =
     inr (done.0, done.1, done.3, each_stop Does zs x ys done.2 stop done.0 b c done.4 next)
 
--- the same, at an index of a list
+-- the same, with an index of a list
 pub each_at : {S X : Type 0} (Does : X → S → Result Bool LineFault → S → Type 0) (xs : List X) (i : ℕ) (d : X) (p q : Bool) (a b c : S)
     → i < length xs → DoesEach Does (take i xs) a (Ok p) b → Does (get_or xs i d) b (Ok q) c → DoesEach Does (take (i + 1) xs) a (Ok (p || q)) c
 each_at {X = X} Does xs i d p q a b c lt done next =
@@ -75,7 +75,7 @@ each_stop_number Does first n most j p stop a b c is lt done next =
     (subst (λ (l : List ℕ). DoesEach Does l a (Ok p) b) (sym front) done)
     (subst (λ (k : ℕ). Does k b (Err stop) c) (sym here) next)
 
--- ---- over and over
+-- ---- again and again
 
 pub record Going {S : Type 0} (Does : S → Result Bool LineFault → S → Type 0) (a b : S) (n : ℕ) (any : Bool) : Type 0 where
   pub states : List S

@@ -29,7 +29,7 @@ end_lines_more n names who (x ∷ xs) info text b at is are begins = (
   end_lines_more n names (who + 1) xs info are.2 b at (omega (arith, is)) are.4 begins,
 )
 
--- the line of one more end was written behind those before it
+-- the line of one more end was written after those before it
 pub written_more : (n : NetView) (names : List (List ℕ)) (infos : List EndInfo) (who : ℕ) (info d : EndInfo) (b : Bool) (old before now : Option (List ℕ)) → who < length infos → info ≡ get_or infos who d
     → ((lines : List ℕ) × AreEndLines n names 0 (take who infos) lines × Appends old before lines) → (IsTrue b ↔ Begins n.now.world.log who) → Appends before now (end_summary_line names who info b)
     → (lines : List ℕ) × AreEndLines n names 0 (take (who + 1) infos) lines × Appends old now lines

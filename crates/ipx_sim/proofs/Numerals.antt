@@ -9,17 +9,17 @@ use Rattle.std.proofs.lemmas.Int.Digits.{digits_value_more}
 use Rattle.std.proofs.lemmas.Str.Parse.{digits_value-take-le}
 use Rattle.ipx_sim.specs.ScriptFields.{numeral_up_to}
 
--- what is no digit stands for nothing
+-- text with another character than digits has no value
 pub no_digit : (most radix : ℕ) (ds : List ℕ) (i : ℕ) → i < length ds → is_digit (get_or ds i 0) radix ≡ false → None ≡ numeral_up_to most radix ds
 no_digit most radix ds i lt other = rw (list_all_at (λ (c : ℕ). is_digit c radix) ds i 0 lt other) refl
 
--- nor does what stands for too much, be it the first digits alone
+-- nor has text whose value is too great, even if only its first digits are read
 pub too_much : (most radix : ℕ) (ds : List ℕ) (i : ℕ) → 1 ≤ radix → most < digits_value radix (take i ds) → None ≡ numeral_up_to most radix ds
 too_much most radix ds i some more =
     let above : most < digits_value radix ds = omega (arith, digits_value-take-le radix ds i some, more) in
     rw (lt-leb (digits_value radix ds) most above, and_right (list_all (λ (c : ℕ). is_digit c radix) ds) false refl) refl
 
--- the number so far, with one more digit behind it
+-- the number so far, with one more digit after it
 pub longer : (radix : ℕ) (ds : List ℕ) (i n : ℕ) → i < length ds → n ≡ digits_value radix (take i ds) → digits_value radix (take (i + 1) ds) ≡ n * radix + digit_value (get_or ds i 0)
 longer radix ds i n lt is = rw is (digits_value_more radix ds i lt)
 

@@ -10,12 +10,12 @@ use Rattle.ipx_net.specs.declared.event.Event.TheVariants as Events
 use Rattle.ipx_net.specs.declared.fault.NetFault.{NetFault}
 use Rattle.ipx_net.specs.declared.fault.NetFault.TheVariants as NetFaults
 
--- what a step answered, without where it lies in memory
+-- what a step answered, apart from where it is in memory
 abbrev pub outcome_view : Result Answer NetFault → Result AnswerView NetFault
 outcome_view (Ok a) = Ok (answer_view a)
 outcome_view (Err f) = Err f
 
--- a fault of the event leaves all as it was; after want of memory log and parcels stand
+-- a fault of the event leaves all as it was; if out of memory, log and parcels stay
 pub record IsFaulted (old : NetView) (e : Event) (f : NetFault) (new : NetView) : Type 0 where
   pub fault : f ≢ NetFaults.OutOfMemory → (first_fault old e ≡ Some f) × (new ≡ old)
   pub memory : f ≡ NetFaults.OutOfMemory → (first_fault old e ≡ None) × (new.spent ≡ true)
@@ -32,7 +32,7 @@ abbrev pub Stepped : NetView → Event → Result AnswerView NetFault → NetVie
 Stepped old e (Ok a) new = IsAnswered old e a new
 Stepped old e (Err f) new = IsFaulted old e f new
 
--- an event whose answer is told by lines of its own: all but what is taken
+-- an event whose answer has lines of its own: all but a take
 abbrev pub IsTold : Event → Type 0
 IsTold (Events.Dial host socket to buffers) = Unit {0}
 IsTold (Events.Send who message) = Unit {0}
@@ -46,6 +46,6 @@ IsTold (Events.Poll member) = Unit {0}
 IsTold (Events.Deliver parcel place) = Unit {0}
 IsTold (Events.Inject segment next bytes) = Unit {0}
 
--- what the caller owes: what a step wants, and an event that is told
+-- what the caller owes: what a step needs, and an event with lines
 abbrev pub IsActOwed : Event → Type 0
 IsActOwed e = IsOwed e × IsTold e

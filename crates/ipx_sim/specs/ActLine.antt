@@ -1,4 +1,4 @@
--- The lines that tell of an event at a network: its answer, or the fault that refused it.
+-- The lines that report an event at a network: its answer, or the fault that refused it.
 use Rattle.std.specs.Prelude.{ℕ, List, [], ◌∷◌, ◌++◌, codes, length, slice_get, Option, Some, None, Result, Ok, Err, ◌==◌, if◌then◌else◌}
 use Rattle.std.specs.List.{flat_map}
 use Rattle.std.specs.Fmt.{decimal}
@@ -17,12 +17,12 @@ use Rattle.ipx_net.specs.declared.event.Event.TheVariants as Events
 use Rattle.ipx_net.specs.declared.fault.NetFault.{NetFault}
 use Rattle.ipx_sim.specs.ScriptWords.{end_fault_name, net_fault_name, received_word}
 
--- a call on an end that the end refused
+-- for a call on an end that the end refused
 abbrev pub refused_line : EndFault → List ℕ
 refused_line f =
     codes "refused " ++ (numbered (end_fault_number f) (end_fault_name f) ++ 10 ∷ [])
 
--- an event that the network refused
+-- for an event that the network refused
 abbrev pub fault_line : NetFault → List ℕ
 fault_line f = codes "fault " ++ (numbered (net_fault_number f) (net_fault_name f) ++ 10 ∷ [])
 
@@ -32,7 +32,7 @@ bytes_text bytes = if length bytes == 0 then codes "-" else encode_lower bytes
 
 -- ---- parcels
 
--- a parcel by its number: the network on which it lies, the node that is next, and its bytes
+-- a parcel with its number: its network, its next node, and its bytes
 abbrev pub parcel_line : ℕ → ParcelView → List ℕ
 parcel_line number p =
     codes "parcel " ++ (decimal number ++ (codes " " ++ (encode_lower (to_be_bytes w32 p.segment.0)
@@ -45,7 +45,7 @@ line_of_parcel number (Some p) = parcel_line number p
 abbrev pub line_at : List ParcelView → ℕ → List ℕ
 line_at parcels number = line_of_parcel number (slice_get parcels number)
 
--- those that were made, or that there were none
+-- the parcels that were made, or that there were none
 abbrev pub made_lines : List ParcelView → List ℕ → List ℕ
 made_lines parcels numbers =
     if length numbers == 0 then codes "quiet\n" else flat_map (line_at parcels) numbers
@@ -68,7 +68,7 @@ arrived_text who (Arriveds.Link id r) = end_text who ++ received_word r
 
 -- ---- answers
 
--- a moment that was set is told; what else was done prints `ok`
+-- a time that was set is printed; anything else done prints `ok`
 abbrev pub done_line : Option ℕ → List ℕ
 done_line None = codes "ok\n"
 done_line (Some now) = codes "now " ++ (decimal now ++ 10 ∷ [])
@@ -86,7 +86,7 @@ moment_of (Events.Poll member) = None
 moment_of (Events.Deliver parcel place) = None
 moment_of (Events.Inject segment next bytes) = None
 
--- what was taken has no line here
+-- a take has no line here
 abbrev pub answer_lines : Option ℕ → List ParcelView → AnswerView → List ℕ
 answer_lines moment parcels (End who) = codes "end " ++ (decimal who ++ 10 ∷ [])
 answer_lines moment parcels Done = done_line moment
@@ -110,7 +110,7 @@ answer_status (Refused f) = 1
 
 -- ---- an event: its answer, or a fault
 
--- the parcels are those after it
+-- the parcels are those after the event
 abbrev pub act_lines : Option ℕ → List ParcelView → Result AnswerView NetFault → List ℕ
 act_lines moment parcels (Ok a) = answer_lines moment parcels a
 act_lines moment parcels (Err f) = fault_line f

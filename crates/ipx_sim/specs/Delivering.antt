@@ -1,5 +1,5 @@
--- To which places a parcel comes, which parcels were delivered, and how the others are. All of it is
--- own.
+-- Which places a parcel reaches, which parcels were delivered, and how the others are delivered. Defined by
+-- this project.
 use Rattle.std.specs.Prelude.{ℕ, ◌≡◌, ◌≤◌, ◌+◌, ◌==◌, ◌&&◌, ◌||◌, Bool, true, false, not, nat_lt, if◌then◌else◌, MatchBool, List, length, slice_get, slice_index_or, Option, Some, None, Result, Ok, Err, IfOk}
 use Rattle.std.specs.List.{range_with_len}
 use Rattle.std.specs.Str.{bytes_eq}
@@ -25,8 +25,8 @@ is_sender (Some (AtHost a)) (Places.Port router port) = false
 is_sender (Some (AtPort router port)) (Places.Host b) = false
 is_sender (Some (AtPort router port)) (Places.Port r p) = (router == r) && (port == p)
 
--- whether a parcel comes to a place of its network: that of the node that is next, or, by
--- broadcast, each but its sender's
+-- whether a parcel reaches a place of its network: that of its next node, or, for a broadcast, each except
+-- its sender's
 abbrev pub comes_to : ParcelView → ScriptTarget → Bool
 comes_to p spot =
     (p.segment.0 == spot.network.0)
@@ -37,7 +37,7 @@ abbrev pub comes_from : Option ParcelView → ScriptTarget → Bool
 comes_from None spot = false
 comes_from (Some p) spot = comes_to p spot
 
--- whether the parcel of this number comes there
+-- whether the parcel with this number reaches a place
 abbrev pub is_due_parcel : NetView → ℕ → ScriptTarget → Bool
 is_due_parcel n parcel spot = comes_from (slice_get n.now.world.parcels parcel) spot
 
@@ -45,7 +45,7 @@ abbrev pub reached_of : Result AnswerView NetFault → Result Bool LineFault
 reached_of (Ok a) = Ok true
 reached_of (Err f) = Err (Stops.Fault f)
 
--- where it comes there
+-- it is delivered if it reaches the place
 abbrev pub DeliversParcelTo : ℕ → ScriptTarget → NetView → Result Bool LineFault → NetView → Type 0
 DeliversParcelTo parcel spot old result new =
     MatchBool (is_due_parcel old parcel spot)
@@ -66,12 +66,12 @@ is_delivered d parcel = slice_index_or d.marks parcel false
 abbrev pub was_delivered : DeliveredView → ℕ → Bool
 was_delivered d parcel = nat_lt parcel d.below || is_delivered d parcel
 
--- this parcel too, and no other one
+-- this parcel is now delivered too, and no other one
 pub record Marks (parcel : ℕ) (old new : DeliveredView) : Type 0 where
   pub below : new.below ≡ old.below
   pub marked : (k : ℕ) → was_delivered new k ≡ (was_delivered old k || (k == parcel))
 
--- to each place to which it comes, where it was never delivered
+-- to each place that it reaches, if it was never delivered
 abbrev pub DeliversNew : DeliveredView → List ScriptTarget → ℕ
     → NetView → Result Bool LineFault → NetView → Type 0
 DeliversNew d spots parcel old result new =
@@ -83,8 +83,8 @@ pub record Stage : Type 0 where
   pub net : NetView
   pub delivered : DeliveredView
 
--- all parcels from that number on, in their order, also those that arise meanwhile: none is left,
--- and all count as delivered
+-- all parcels from that number on, in order, including those that are made meanwhile: none is left, and all
+-- count as delivered
 abbrev pub DeliversAll : List ScriptTarget → Stage → Result Bool LineFault → Stage → Type 0
 DeliversAll spots old result new =
     (count : ℕ)

@@ -1,4 +1,4 @@
--- What `fill`, `take`, `run` and `pump` do to a network, step by step. All of it is own.
+-- What `fill`, `take`, `run` and `pump` do to a network, step by step. Defined by this project.
 use Rattle.std.specs.Prelude.{ℕ, ◌≡◌, ◌%◌, ◌==◌, ◌⊎◌, Bool, true, false, not, MatchBool, List, [], ◌∷◌, length, MatchOption, Result, Ok, Err}
 use Rattle.std.specs.List.{range_with_len}
 use Rattle.spx_units.specs.Message.{message_view}
@@ -18,7 +18,7 @@ use Rattle.ipx_sim.specs.declared.names.ScriptTarget.{ScriptTarget}
 use Rattle.ipx_sim.specs.declared.stop.LineFault.{LineFault}
 use Rattle.ipx_sim.specs.declared.stop.LineFault.TheVariants as Stops
 
--- as often as a loop goes round at most
+-- how often a loop repeats at most
 abbrev pub most_times : ℕ
 most_times = 18446744073709551615
 
@@ -58,14 +58,14 @@ TakesOnce end = TakesEvent (λ outcome. is_unit_taken (take_result outcome)) (Ev
 abbrev pub Drains : ℕ → NetView → Result Bool LineFault → NetView → Type 0
 Drains end = Repeats most_times (TakesOnce end)
 
--- where the end has a state, which a released one has not
+-- if the end has a state, which a released one has not
 abbrev pub DrainsStanding : ℕ → NetView → Result Bool LineFault → NetView → Type 0
 DrainsStanding end old result new =
     (infos : List EndInfo) × TellsEnds old infos
     × MatchOption (told_of infos end).state (DoesNothing old result new)
     (λ state. Drains end old result new)
 
--- each end that there is
+-- each end that exists
 abbrev pub DrainsAll : NetView → Result Bool LineFault → NetView → Type 0
 DrainsAll old result new =
     (infos : List EndInfo) × TellsEnds old infos
@@ -75,7 +75,7 @@ abbrev pub DrainsIf : Bool → NetView → Result Bool LineFault → NetView →
 DrainsIf takes old result new =
     MatchBool takes (DrainsAll old result new) (DoesNothing old result new)
 
--- ---- handing in
+-- ---- queueing messages
 
 abbrev pub hand_in_result : Result AnswerView NetFault → Result Bool LineFault
 hand_in_result (Ok (Refused f)) = Err (Stops.Refused f)
@@ -88,8 +88,8 @@ hand_in_result (Ok (Heard n)) = Ok true
 hand_in_result (Ok (Dropped reason)) = Ok true
 hand_in_result (Err f) = Err (Stops.Fault f)
 
--- the message of this number: stream 0, and one byte, the number modulo 256. Where memory for it is
--- refused, nothing happens
+-- the message of this number: stream 0, and one byte, the number modulo 256. If memory for it is refused,
+-- nothing happens
 abbrev pub SendsNumber : ℕ → ℕ → NetView → Result Bool LineFault → NetView → Type 0
 SendsNumber end number old result new =
     ((message : Message)
@@ -97,7 +97,7 @@ SendsNumber end number old result new =
     × TakesEvent hand_in_result (Events.Send end message) old result new)
     ⊎ ((result ≡ Err Stops.Memory) × (new ≡ old))
 
--- so many of them, from number 0 on
+-- this many of them, from number 0 on
 abbrev pub FillsEnd : ℕ → ℕ → NetView → Result Bool LineFault → NetView → Type 0
 FillsEnd end count = DoesEach (SendsNumber end) (range_with_len 0 count)
 
@@ -124,17 +124,17 @@ PollsOut member = Repeats most_times (PollsOnce member)
 
 -- ---- rounds
 
--- what changes the network alone
+-- what changes only the network
 abbrev pub OnNet : (NetView → Result Bool LineFault → NetView → Type 0)
     → Stage → Result Bool LineFault → Stage → Type 0
 OnNet Does old result new = Does old.net result new.net × (new.delivered ≡ old.delivered)
 
--- each member is polled out, all is delivered, and, where it takes, each end is taken from
+-- each member is polled until it is quiet, all is delivered, and, if the round takes, each end is taken from
 abbrev pub RunRound : List Member → List ScriptTarget → Bool → Stage → Result Bool LineFault → Stage → Type 0
 RunRound members spots takes =
     Then (Then (OnNet (DoesEach PollsOut members)) (DeliversAll spots)) (OnNet (DrainsIf takes))
 
--- so many at most: one of which nothing comes is the last
+-- at most this many: one in which nothing happens is the last
 abbrev pub RunRounds : ℕ → List Member → List ScriptTarget → Bool
     → Stage → Result Bool LineFault → Stage → Type 0
 RunRounds count members spots takes = Repeats count (RunRound members spots takes)

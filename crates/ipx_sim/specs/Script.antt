@@ -1,11 +1,11 @@
--- What a line of a script owes the network, and an input that is too long for one.
+-- What a line of a script owes the network, and an input that is too long for a script.
 use Rattle.std.specs.Prelude.{ℕ, ◌<◌, List, length, codes}
 use Rattle.ipx_inspect.specs.Text.{max_input}
 use Rattle.ipx_sim.specs.Act.{IsActOwed}
 use Rattle.ipx_sim.specs.declared.line.ScriptLine.{ScriptLine}
 use Rattle.ipx_sim.specs.declared.line.ScriptLine.TheVariants as Lines
 
--- a line that is an event meets what `act` wants of it
+-- a line that is an event meets what `act` needs
 abbrev pub IsLineOwed : ScriptLine → Type 0
 IsLineOwed (Lines.Act event) = IsActOwed event
 IsLineOwed (Lines.Tick milliseconds) = Unit {0}

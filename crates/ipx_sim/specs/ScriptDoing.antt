@@ -1,6 +1,6 @@
--- One thing done after another, each of which may be stopped: how the lines of a script are put
--- together. What is done leads from one state to another, and answers whether something came of it,
--- or what stopped it. All of it is own.
+-- Actions one after another, each of which may be stopped: how the lines of a script are composed. An action
+-- leads from one state to another. Its result is whether something happened, or what stopped it. Defined by
+-- this project.
 use Rattle.std.specs.Prelude.{ℕ, ◌≡◌, ◌<◌, ◌==◌, ◌⊎◌, ◌||◌, Bool, true, false, not, List, [], ◌∷◌, length, Result, Ok, Err}
 use Rattle.ipx_net.specs.AnswerView.{AnswerView}
 use Rattle.ipx_net.specs.NetView.{NetView}
@@ -9,7 +9,7 @@ use Rattle.ipx_net.specs.declared.fault.NetFault.{NetFault}
 use Rattle.ipx_sim.specs.Act.{Stepped}
 use Rattle.ipx_sim.specs.declared.stop.LineFault.{LineFault}
 
--- one event; what came of it is read by this
+-- one event, whose outcome is read by `reads`
 abbrev pub TakesEvent : (Result AnswerView NetFault → Result Bool LineFault) → Event
     → NetView → Result Bool LineFault → NetView → Type 0
 TakesEvent reads e old result new =
@@ -19,8 +19,7 @@ TakesEvent reads e old result new =
 abbrev pub DoesNothing : {S : Type 0} → S → Result Bool LineFault → S → Type 0
 DoesNothing old result new = (result ≡ Ok false) × (new ≡ old)
 
--- one and then the other: something comes of both where it comes of one, and what stops one of them
--- stops both
+-- one and then the other: something happened if it did in one of them, and what stops one stops both
 abbrev pub Then : {S : Type 0} → (S → Result Bool LineFault → S → Type 0)
     → (S → Result Bool LineFault → S → Type 0) → S → Result Bool LineFault → S → Type 0
 Then {S} First Second old (Ok any) new =
@@ -30,19 +29,19 @@ Then {S} First Second old (Err stop) new =
     First old (Err stop) new
     ⊎ ((between : S) × (a : Bool) × First old (Ok a) between × Second between (Err stop) new)
 
--- with each of a list, in its order
+-- the action with each item of a list, in order
 abbrev pub DoesEach : {S X : Type 0} → (X → S → Result Bool LineFault → S → Type 0) → List X
     → S → Result Bool LineFault → S → Type 0
 DoesEach Does [] old result new = DoesNothing old result new
 DoesEach Does (x ∷ xs) old result new = Then (Does x) (DoesEach Does xs) old result new
 
--- over and over, where something comes of it each time; the list has the states after each
+-- again and again, if something happens each time; the list has the states after each
 abbrev pub Iterates : {S : Type 0} → (S → Result Bool LineFault → S → Type 0) → List S → S → S → Type 0
 Iterates Does [] old new = new ≡ old
 Iterates Does (next ∷ states) old new = Does old (Ok true) next × Iterates Does states next new
 
--- over and over until nothing comes of it, and at most so often; something came of all that where
--- it came of the first time
+-- again and again until nothing happens, and at most this often; something happened in all if it did the
+-- first time
 abbrev pub Repeats : {S : Type 0} → ℕ → (S → Result Bool LineFault → S → Type 0)
     → S → Result Bool LineFault → S → Type 0
 Repeats {S} most Does old (Ok any) new =

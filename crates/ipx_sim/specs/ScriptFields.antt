@@ -1,4 +1,4 @@
--- How the fields of a script's lines are read. All of it is own.
+-- How the fields of a script's lines are read. Defined by this project.
 use Rattle.std.specs.Prelude.{ℕ, Bool, [], ◌==◌, ◌&&◌, ◌||◌, nat_lt, nat_le, if◌then◌else◌, List, length, map, codes, Option, Some, None, option_map}
 use Rattle.std.specs.Borrow.{Bor}
 use Rattle.std.specs.Char.{is_ascii_digit, is_ascii_lowercase, is_digit}
@@ -15,7 +15,7 @@ use Rattle.ipx_wire.specs.declared.address.Node.{Node}
 use Rattle.ipx_wire.specs.declared.address.Socket.{Socket}
 use Rattle.spx_link.specs.Limits.{most_units}
 
--- a line of blanks alone
+-- a line of only blanks
 abbrev pub is_blank_line : List ℕ → Bool
 is_blank_line line = list_all (λ b. b == 32) line
 
@@ -23,7 +23,7 @@ is_blank_line line = list_all (λ b. b == 32) line
 abbrev pub line_fields : List ℕ → List (List ℕ)
 line_fields line = slice_split (λ b. b == 32) line
 
--- and without where they lie in memory
+-- the same, apart from where they are in memory
 abbrev pub fields_view : List (Bor (List ℕ)) → List (List ℕ)
 fields_view fields = map (λ f. f.now) fields
 
@@ -37,18 +37,18 @@ is_name_text name =
 
 -- ---- numbers
 
--- a number that lies from one to another
+-- a number between these two
 abbrev pub within : ℕ → ℕ → Option ℕ → Option ℕ
 within low high None = None
 within low high (Some n) = if nat_le low n && nat_le n high then Some n else None
 
--- what digits of a radix stand for, where all are digits and it is at most so much
+-- the value of digits of a radix, if all are digits and it is at most `most`
 abbrev pub numeral_up_to : ℕ → ℕ → List ℕ → Option ℕ
 numeral_up_to most radix digits =
     if list_all (λ c. is_digit c radix) digits && nat_le (digits_value radix digits) most
     then Some (digits_value radix digits) else None
 
--- a number in decimal digits alone, of at most 1,000,000,000
+-- a number in decimal digits only, at most 1,000,000,000
 abbrev pub number_in : List ℕ → Option ℕ
 number_in field = if length field == 0 then None else numeral_up_to 1000000000 10 field
 
@@ -68,7 +68,7 @@ network_in field =
     if nat_lt 0 (length field) && nat_le (length field) 8
     then option_map (λ n. record { 0 = n }) (numeral_up_to 0xffff_ffff 16 field) else None
 
--- one that a host or a port may have: neither 0 nor ffffffff
+-- a network that a host or a port may have: neither 0 nor ffffffff
 abbrev pub own : Option Network → Option Network
 own None = None
 own (Some n) = if (n.0 == local_network) || (n.0 == all_networks) then None else Some n

@@ -1,4 +1,4 @@
--- The names of a network's hosts and routers, and its places. All of it is own.
+-- The names of a network's hosts and routers, and its places. Defined by this project.
 use Rattle.std.specs.Prelude.{ℕ, ◌+◌, Bool, false, ◌==◌, ◌&&◌, if◌then◌else◌, List, drop, take, map, position, string_bytes, Option, Some, None, option_map}
 use Rattle.std.specs.List.{list_any}
 use Rattle.std.specs.Str.{bytes_eq}
@@ -10,7 +10,7 @@ use Rattle.ipx_sim.specs.ScriptFields.{number_in, within}
 use Rattle.ipx_sim.specs.declared.names.Names.{Names}
 use Rattle.ipx_sim.specs.declared.names.ScriptTarget.{ScriptTarget}
 
--- the names of hosts and of routers, and all members and places, without where they lie in memory
+-- the names of hosts and of routers, and all members and places, apart from where they are in memory
 pub record NamesView : Type 0 where
   pub hosts : List (List ℕ)
   pub routers : List (List ℕ)
@@ -26,7 +26,7 @@ map_view m =
       spots = m.spots.items;
     }
 
--- where a name first stands among others
+-- the position of a name among others
 unfoldable pub place_among : List (List ℕ) → List ℕ → Option ℕ
 place_among names name = position (λ known. bytes_eq known name) names
 
@@ -44,14 +44,14 @@ member_of None router = option_map Members.Router router
 abbrev pub member_in : NamesView → List ℕ → Option Member
 member_in m name = member_of (host_in m name) (router_in m name)
 
--- whether two places are one
+-- whether two places are the same
 abbrev pub same_place : Place → Place → Bool
 same_place (Places.Host a) (Places.Host b) = a == b
 same_place (Places.Host a) (Places.Port router port) = false
 same_place (Places.Port router port) (Places.Host b) = false
 same_place (Places.Port router port) (Places.Port r p) = (router == r) && (port == p)
 
--- a port of a router, where the router has it
+-- a port of a router, if the router has it
 abbrev pub port_target : List ScriptTarget → Option ℕ → Option ℕ → Option Place
 port_target spots (Some router) (Some port) =
     if list_any (λ s. same_place s.place (Places.Port router port)) spots

@@ -1,4 +1,4 @@
--- What the lines of a script behind the layout name. All of it is own.
+-- What the lines of a script after the layout mean. Defined by this project.
 use Rattle.std.specs.Prelude.{ℕ, ◌≡◌, ◌==◌, ◌||◌, Bool, false, true, if◌then◌else◌, List, [], ◌∷◌, codes, length, slice_index_or, Option, Some, None, option_map, Result, Ok, Err}
 use Rattle.std.specs.Str.{bytes_eq}
 use Rattle.spx_units.specs.Message.{MessageView, message_view}
@@ -18,7 +18,7 @@ use Rattle.ipx_sim.specs.declared.script_fault.ScriptFault.TheVariants as Halts
 use Rattle.ipx_sim.specs.declared.line.ScriptLine.{ScriptLine}
 use Rattle.ipx_sim.specs.declared.line.ScriptLine.TheVariants as Lines
 
--- an event, without where its bytes lie in memory
+-- an event, apart from where its bytes are in memory
 pub data EventView : Type 0 where
   Dial : ℕ → Socket → Address → ℕ → EventView
   Send : ℕ → MessageView → EventView
@@ -45,7 +45,7 @@ event_view (Events.Poll member) = Poll member
 event_view (Events.Deliver parcel place) = Deliver parcel place
 event_view (Events.Inject segment next bytes) = Inject segment next bytes.items
 
--- and so a line
+-- a line, likewise
 pub data ScriptLineView : Type 0 where
   Act : EventView → ScriptLineView
   Tick : ℕ → ScriptLineView
@@ -62,21 +62,21 @@ script_line_view (Lines.Take end) = Take end
 script_line_view (Lines.Run rounds) = Run rounds
 script_line_view (Lines.Pump rounds) = Pump rounds
 
--- what is named by what was named before, if that was
+-- the function applied to the value, if there is one
 infixl 10 ◌>>=◌
 abbrev pub ◌>>=◌ : {A B : Type 0} → Option A → (A → Option B) → Option B
 Some x >>= f = f x
 None >>= f = None
 
--- the field of a place, from 0
+-- the field at this position, from 0
 abbrev pub arg : List (List ℕ) → ℕ → List ℕ
 arg args place = slice_index_or args place []
 
--- the fields, where there are just so many
+-- the fields, if there are exactly this many
 abbrev pub exactly : ℕ → List (List ℕ) → Option (List (List ℕ))
 exactly count args = if length args == count then Some args else None
 
--- the one field that is there
+-- the only field
 abbrev pub only_in : List (List ℕ) → Option (List ℕ)
 only_in args = option_map (λ fields. arg fields 0) (exactly 1 args)
 
@@ -111,7 +111,7 @@ deliver_in m args = do
   place ← place_in m (arg fields 1)
   Some (Deliver parcel place)
 
--- by its word, an event whose reading wants no memory
+-- by its word, an event that is read without memory
 abbrev pub event_in : NamesView → List ℕ → List (List ℕ) → Option EventView
 event_in m word args =
     if bytes_eq word (codes "dial") then dial_in m args
@@ -155,7 +155,7 @@ counted_in line args = do
   field ← only_in args
   option_map line (number_in field)
 
--- by its word, a line whose reading wants no memory
+-- by its word, a line that is read without memory
 abbrev pub plain_in : NamesView → List ℕ → List (List ℕ) → Option ScriptLineView
 plain_in m word args =
     if bytes_eq word (codes "fill") then fill_in args
@@ -165,7 +165,7 @@ plain_in m word args =
     else if bytes_eq word (codes "pump") then counted_in Pump args
     else option_map Act (event_in m word args)
 
--- a line by its fields, of which the first one is its word
+-- a line by its fields, of which the first is its word
 abbrev pub line_in : NamesView → List (List ℕ) → Option ScriptLineView
 line_in m [] = None
 line_in m (word ∷ args) =
@@ -173,12 +173,13 @@ line_in m (word ∷ args) =
     else if bytes_eq word (codes "inject") then inject_in args
     else plain_in m word args
 
--- whether it brings bytes, whose reading wants memory
+-- whether the line has bytes, which need memory to be read
 abbrev pub brings_bytes : List (List ℕ) → Bool
 brings_bytes [] = false
 brings_bytes (word ∷ args) = bytes_eq word (codes "send") || bytes_eq word (codes "inject")
 
--- what is read is the line that is named; none is bad; and only bytes can want memory
+-- the result is the line that the fields name; it is bad if they name none; and only bytes can run out of
+-- memory
 abbrev pub ReadsScriptLine : Option ScriptLineView → Bool → Result ScriptLine ScriptFault → Type 0
 ReadsScriptLine named wants (Ok line) = named ≡ Some (script_line_view line)
 ReadsScriptLine named wants (Err Halts.Bad) = named ≡ None

@@ -1,5 +1,4 @@
--- How programs name the faults of ends and of networks, what a link answers, and the states of a
--- link.
+-- The names of the faults of ends and of networks, of a link's answers, and of the states of a link.
 use Rattle.std.specs.Prelude.{ℕ, List, ◌++◌, codes, Option, Some, None}
 use Rattle.std.specs.Fmt.{decimal}
 use Rattle.spx_link.specs.declared.fault.LinksFault.{LinksFault}

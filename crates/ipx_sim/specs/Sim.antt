@@ -1,5 +1,5 @@
--- A script's network between two lines, what a delivery marks, and what lines of several steps print.
--- All of it is own.
+-- A script's network between two lines, what a delivery marks, and what lines of several steps print. Defined
+-- by this project.
 use Rattle.std.specs.Prelude.{ℕ, ◌≡◌, ◌==◌, Bool, true, false, MatchBool, List, [], ◌∷◌, ◌++◌, codes, Option, Some, None, Result, Ok, Err}
 use Rattle.std.specs.Fmt.{decimal}
 use Rattle.hex.specs.Hex.{encode_lower}
@@ -18,7 +18,7 @@ use Rattle.ipx_sim.specs.declared.simulation.Simulation.{Simulation}
 use Rattle.ipx_sim.specs.declared.stop.LineFault.{LineFault}
 use Rattle.ipx_sim.specs.declared.stop.LineFault.TheVariants as Stops
 
--- a network, the names in it, the moment in milliseconds, and which parcels were delivered
+-- a network, the names in it, the time in milliseconds, and which parcels were delivered
 pub record SimView : Type 0 where
   pub net : NetView
   pub map : NamesView
@@ -50,7 +50,7 @@ parcel_of (Now now) = None
 parcel_of (Poll member) = None
 parcel_of (Inject segment next bytes) = None
 
--- it counts as delivered where that took place, which status 0 says
+-- it counts as delivered if that took place, which status 0 says
 abbrev pub MarksWhere : Option ℕ → ℕ → DeliveredView → DeliveredView → Type 0
 MarksWhere None status old new = new ≡ old
 MarksWhere (Some parcel) status old new =
@@ -58,7 +58,7 @@ MarksWhere (Some parcel) status old new =
 
 -- ---- several steps
 
--- what ends a line before it is done; want of memory ends the script, and has no line
+-- what ends a line before it is done; out of memory ends the script, and has no line
 abbrev pub stop_line : LineFault → List ℕ
 stop_line (Stops.Fault f) = fault_line f
 stop_line (Stops.Refused f) = refused_line f
@@ -91,14 +91,14 @@ pub record Told : Type 0 where
   pub net : NetView
   pub text : List ℕ
 
--- one is taken and told
+-- one is taken and printed
 abbrev pub TellsTake : ℕ → Told → Result Bool LineFault → Told → Type 0
 TellsTake end old result new =
     (outcome : Result AnswerView NetFault) × Stepped old.net (Events.Take end) outcome new.net
     × (result ≡ is_unit_taken (take_result outcome))
     × (new.text ≡ old.text ++ taken_text end (take_result outcome))
 
--- and at the end that nothing was held at first, or what ended it
+-- and last that nothing was held at first, or what ended it
 abbrev pub last_text : Result Bool LineFault → List ℕ
 last_text (Ok true) = []
 last_text (Ok false) = codes "nothing\n"

@@ -1,5 +1,5 @@
--- The lines at the end of a script: what became of each end, and whether all that was read of peers
--- was fresh.
+-- The lines at the end of a script: what became of each end, and whether all that was read of peers was
+-- fresh.
 use Rattle.std.specs.Prelude.{ℕ, ◌≡◌, ◌+◌, ◌↔◌, Bool, IsTrue, List, [], ◌∷◌, ◌++◌, codes, slice_get, Option, Some, None, if◌then◌else◌}
 use Rattle.std.specs.Fmt.{decimal}
 use Rattle.std.specs.Int.{w16, to_be_bytes}
@@ -34,13 +34,13 @@ end_counts_text info =
     codes " in " ++ (decimal info.given ++ (codes " out " ++ (decimal info.out
     ++ (codes " next " ++ encode_lower (to_be_bytes w16 info.next)))))
 
--- and whether what it handed out begins what its peer handed in
+-- and whether what it handed out is a prefix of what its peer handed in
 abbrev pub end_summary_line : List (List ℕ) → ℕ → EndInfo → Bool → List ℕ
 end_summary_line names who info begins =
     standing_text names who info ++ (end_counts_text info
     ++ (codes " begins " ++ (yes_no begins ++ 10 ∷ [])))
 
--- the lines of ends, of which the first has this number
+-- the lines of ends, numbered from this number on
 abbrev pub AreEndLines : NetView → List (List ℕ) → ℕ → List EndInfo → List ℕ → Type 0
 AreEndLines n names who [] text = text ≡ []
 AreEndLines n names who (info ∷ infos) text =

@@ -1,4 +1,4 @@
-//! One event at a network, and the lines that tell of it.
+//! One event at a network, and the lines that report it.
 
 ghost use Rattle.std.specs.Prelude.{◌≡◌, IfErr, IfOk, Result};
 ghost use Rattle.std.specs.Io.KnownBytes.{Appends};
@@ -14,7 +14,7 @@ use ipx_net::{Answer, Event, Net, NetFault};
 use std::alloc::Global;
 use std::io::Write;
 
-/// The moment that an event sets, if it sets one.
+/// The time that an event sets, if it sets one.
 fn moment_of(event: &Event) -> Option<u64>
     ensures { result ≡ moment_of event.now }
 {
@@ -24,7 +24,7 @@ fn moment_of(event: &Event) -> Option<u64>
     }
 }
 
-/// The step itself: whatever came, it is what the network's own contract has of that event.
+/// The step itself. Its result is what the network's own contract says of that event.
 pub fn step(alloc: Global, net: &mut Net, event: Event) -> Result<Answer, NetFault>
     requires { IsOwed event }
     ensures { Stepped net.old event (outcome_view result) net.new }
@@ -32,14 +32,14 @@ pub fn step(alloc: Global, net: &mut Net, event: Event) -> Result<Answer, NetFau
     net.step(alloc, event)
 }
 
-/// Does one event at a network and writes the lines that tell of it: of its answer, or of the fault
-/// that refused it.
+/// Does one event at a network and writes the lines that report it: those of its answer, or of the
+/// fault that refused it.
 ///
 /// The caller owes what the caller of `Net::step` owes, and an event other than `Take`, which has
-/// no line. `Ok` is the status of the line: 1 where an end refused, or the network met a fault,
-/// else 0. `Err` is the status 1 with which the command ends: a write fault, after which nothing
-/// more is written, or want of memory in printing, which writes `fault (14) OutOfMemory`. The event
-/// took place then too.
+/// no line. `Ok` is the status of the line: 1 if an end refused, or the network met a fault,
+/// otherwise 0. `Err` is always 1, with which the command ends. After a write fault nothing more is
+/// written. If out of memory while printing, it writes `fault (14) OutOfMemory`. The event took
+/// place in both cases.
 pub fn act<W: Write>(alloc: Global, net: &mut Net, event: Event, writer: &mut W) -> Result<u8, u8>
     requires { IsActOwed event }
     ensures written { (outcome : Result AnswerView NetFault) × Stepped net.old event outcome net.new

@@ -1,4 +1,4 @@
-//! Parcels that are delivered to the places to which they come.
+//! Delivery of parcels to the places that they reach.
 
 ghost use Rattle.std.specs.Prelude.{◌≡◌, ◌==◌, ◌||◌, [], OnOk, false, option_map, slice_index_or, ℕ};
 ghost use Rattle.ipx_net.specs.Parcels.{parcel_view, place_view};
@@ -13,15 +13,15 @@ use ipx_net::{Answer, Event, Net, NetFault, Parcel, Place};
 use ipx_wire::Node;
 use std::alloc::{AllocError, Global};
 
-/// Which parcels were delivered. Rounds are over with all below a number, so that none of these is
-/// looked at again.
+/// Which parcels were delivered. Rounds are done with all parcels below a number, so that none of
+/// these is looked at again.
 #[derive(Drop)]
 pub struct Delivered {
     below: usize,
     marks: Vec<bool>,
 }
 
-/// True at a place, and false at each before it that was not there.
+/// Sets a mark. Each mark before it that does not exist yet becomes false.
 fn mark_at(marks: &mut Vec<bool>, place: usize) -> Result<(), AllocError>
     ensures { OnOk result ((k : ℕ) → slice_index_or marks.new.items k false
         ≡ (slice_index_or marks.old.items k false || (k == place))) }
@@ -38,7 +38,7 @@ fn mark_at(marks: &mut Vec<bool>, place: usize) -> Result<(), AllocError>
 }
 
 impl Delivered {
-    /// None was.
+    /// No parcel was delivered.
     pub fn new(alloc: Global) -> Delivered
         ensures { delivered_view result ≡ record { below = 0; marks = [] } }
     {
@@ -48,7 +48,7 @@ impl Delivered {
         }
     }
 
-    /// A parcel was delivered. The caller owes one that is there.
+    /// A parcel was delivered. It must exist.
     pub fn mark(&mut self, parcel: usize) -> Result<(), AllocError>
         ensures { OnOk result (Marks parcel (delivered_view self.old) (delivered_view self.new)) }
     {
@@ -58,7 +58,7 @@ impl Delivered {
         mark_at(&mut self.marks, parcel)
     }
 
-    /// Whether a parcel was delivered by a line of its own.
+    /// Whether a parcel was delivered by a `deliver` line.
     fn is_delivered(&self, parcel: usize) -> bool
         ensures { result ≡ is_delivered (delivered_view self.now) parcel }
     {
@@ -76,8 +76,8 @@ fn is_sender(sent_by: Option<Place>, place: Place) -> bool
     }
 }
 
-/// Whether a parcel comes to a place of its network: that whose node is next, or by broadcast all
-/// but its sender's.
+/// Whether a parcel reaches a place of its network: the place of its next node, or, for a
+/// broadcast, each except its sender's.
 fn comes_to(parcel: &Parcel, spot: &ScriptTarget) -> bool
     ensures { result ≡ comes_to (parcel_view parcel.now) spot.now }
 {
@@ -90,7 +90,7 @@ fn comes_to(parcel: &Parcel, spot: &ScriptTarget) -> bool
     parcel.next == spot.node
 }
 
-/// Whether the parcel of a number comes to a place.
+/// Whether the parcel with this number reaches a place.
 fn is_due_parcel(net: &Net, parcel: usize, spot: &ScriptTarget) -> bool
     ensures { result ≡ is_due_parcel net.now parcel spot.now }
 {
@@ -108,7 +108,7 @@ fn reached(outcome: Result<Answer, NetFault>) -> Result<bool, LineFault>
     Ok(true)
 }
 
-/// Delivers a parcel to a place where it comes there, and answers whether it does.
+/// Delivers a parcel to a place if it reaches it, and returns whether it does.
 fn deliver_to(
     alloc: Global,
     net: &mut Net,
@@ -124,7 +124,7 @@ fn deliver_to(
     reached(step(alloc, net, Event::Deliver { parcel, place }))
 }
 
-/// Delivers a parcel to each place to which it comes, and answers whether there was one.
+/// Delivers a parcel to each place that it reaches, and returns whether there was one.
 fn deliver_one(
     alloc: Global,
     net: &mut Net,
@@ -140,7 +140,7 @@ fn deliver_one(
     Ok(any)
 }
 
-/// Delivers a parcel as `deliver_one` does, unless it was delivered.
+/// Delivers a parcel as `deliver_one` does, unless it was delivered already.
 fn deliver_unless(
     alloc: Global,
     net: &mut Net,
@@ -156,8 +156,8 @@ fn deliver_unless(
     deliver_one(alloc, net, spots, parcel)
 }
 
-/// Delivers each parcel that was never delivered, in order of number, those too that arise
-/// meanwhile. It answers whether one was delivered.
+/// Delivers each parcel that was never delivered, in order of number, including those that are made
+/// meanwhile. Returns whether one was delivered.
 pub fn deliver_all(
     alloc: Global,
     net: &mut Net,

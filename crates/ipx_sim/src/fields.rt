@@ -15,17 +15,17 @@ use ipx_wire::{Address, Network, Node, OutOfMemory, Socket};
 use spx_link::MAX_UNITS;
 use std::alloc::{AllocError, Global};
 
-/// The greatest number of a script.
+/// The greatest number in a script.
 const MAX_NUMBER: u32 = 1_000_000_000;
 
-/// Whether a line holds nothing but blanks.
+/// Whether a line holds only blanks.
 pub fn is_blank(line: &[u8]) -> bool
     ensures { result ≡ is_blank_line line.now }
 {
     line.iter().all(|byte| *byte == b' ')
 }
 
-/// The fields of a line, parted by one blank.
+/// The fields of a line, separated by one blank.
 pub fn fields_of<'a>(alloc: Global, line: &'a [u8]) -> Result<Vec<&'a [u8]>, AllocError>
     ensures { IfOk result (λ v. fields_view v.items ≡ line_fields line.now) }
 {
@@ -47,7 +47,7 @@ pub fn is_name(field: &[u8]) -> bool
     are_name_bytes(field) && !field.is_empty() && field.len() <= 16
 }
 
-/// A number with one more digit behind it.
+/// A number with one more digit after it.
 fn with_digit(number: u32, radix: u32, byte: u8) -> Option<u32>
     requires low { 2 ≤ radix }
     requires high { radix ≤ 36 }
@@ -59,7 +59,7 @@ fn with_digit(number: u32, radix: u32, byte: u8) -> Option<u32>
     number.checked_mul(radix)?.checked_add(digit)
 }
 
-/// What digits stand for, where all are digits and it is at most so much.
+/// The value of digits, if all are digits and it is at most `most`.
 fn numeral_of(field: &[u8], radix: u32, most: u32) -> Option<u32>
     requires low { 2 ≤ radix }
     requires high { radix ≤ 36 }
@@ -75,7 +75,7 @@ fn numeral_of(field: &[u8], radix: u32, most: u32) -> Option<u32>
     Some(number)
 }
 
-/// A number in decimal digits alone, at most 1,000,000,000.
+/// A number in decimal digits only, at most 1,000,000,000.
 pub fn number_of(field: &[u8]) -> Option<u32>
     ensures { result ≡ number_in field.now }
 {
@@ -93,7 +93,7 @@ pub fn index_of(field: &[u8]) -> Option<usize>
     Some(number as usize)
 }
 
-/// A number, where it has at most 16 bits.
+/// A number, if it has at most 16 bits.
 fn short_from(number: Option<u32>) -> Option<u16>
     ensures { result ≡ within 0 65535 number }
 {

@@ -1,4 +1,4 @@
-//! The lines that lay a network out.
+//! The lines that describe a network.
 
 ghost use Rattle.std.specs.Prelude.{◌<◌, ◌≤◌, All, IfOk, IfSome};
 ghost use Rattle.spx_link.specs.Limits.{most_units};
@@ -15,7 +15,7 @@ use ipx_wire::{Node, Socket};
 use std::alloc::Global;
 use std::marker::Model;
 
-/// How many hosts there are at most, and how many routers.
+/// The most hosts, and the most routers.
 const MAX_MEMBERS: usize = 16;
 
 /// What the lines of a layout gave so far.
@@ -50,7 +50,7 @@ fn listen_of(args: &[&[u8]]) -> Option<Option<(Socket, u16)>>
     }
 }
 
-/// `NET NODE ROUTERNODE`, and where it listens.
+/// `NET NODE ROUTERNODE`, and its listener.
 fn host_of(args: &[&[u8]]) -> Option<Host>
     ensures { IfSome result IsHostOwed }
 {
@@ -79,7 +79,7 @@ fn port_of(args: &[&[u8]]) -> Option<Port>
     })
 }
 
-/// Three fields a port.
+/// Three fields for each port.
 fn ports_of(alloc: Global, args: &[&[u8]]) -> Result<Vec<Port>, ScriptFault>
     ensures { IfOk result ArePortsOwed }
 {
@@ -93,7 +93,7 @@ fn ports_of(alloc: Global, args: &[&[u8]]) -> Result<Vec<Port>, ScriptFault>
     Ok(ports)
 }
 
-/// Whether these ports make a router: the line is bad where they do not.
+/// Whether these ports make a router; if they do not, the line is bad.
 fn try_router(alloc: Global, ports: &[Port]) -> Result<(), ScriptFault>
     requires { All IsOwnNetwork ports.now }
 {
@@ -115,7 +115,7 @@ fn new_name(alloc: Global, map: &Names, name: &[u8]) -> Result<String, ScriptFau
     }
 }
 
-/// A host comes into the map.
+/// Adds a host to the map.
 fn map_host(map: &mut Names, name: String, host: Host) -> Result<(), ScriptFault> {
     let number = map.hosts.len();
     map.hosts.push(name)?;
@@ -128,7 +128,7 @@ fn map_host(map: &mut Names, name: String, host: Host) -> Result<(), ScriptFault
     Ok(())
 }
 
-/// The ports of a router come into the map.
+/// Adds the ports of a router to the map.
 fn map_ports(map: &mut Names, router: usize, ports: &[Port]) -> Result<(), ScriptFault> {
     for (port, number) in ports.iter().zip(1..17) {
         map.spots.push(ScriptTarget {
@@ -140,7 +140,7 @@ fn map_ports(map: &mut Names, router: usize, ports: &[Port]) -> Result<(), Scrip
     Ok(())
 }
 
-/// A router comes into the map.
+/// Adds a router to the map.
 fn map_router(map: &mut Names, name: String, ports: &[Port]) -> Result<(), ScriptFault> {
     let number = map.routers.len();
     map.routers.push(name)?;
@@ -190,7 +190,7 @@ impl Layout {
         Ok(())
     }
 
-    /// Reads one line of a script. It is false, and nothing was read, where the line is neither
+    /// Reads one line of a script. Returns false, and nothing was read, if the line is neither
     /// blank nor one of a layout.
     pub fn read(&mut self, alloc: Global, line: &[u8]) -> Result<bool, ScriptFault> {
         if is_blank(line) {
@@ -208,27 +208,27 @@ impl Layout {
         Ok(true)
     }
 
-    /// The hosts that were laid out, in order.
+    /// The hosts of the layout, in order.
     pub fn hosts(&self) -> &[Host]
         ensures { All IsHostOwed result.now }
     {
         &self.hosts
     }
 
-    /// The ports of each router that was laid out, in order.
+    /// The ports of each router of the layout, in order.
     pub fn routers(&self) -> &[Vec<Port>]
         ensures { All ArePortsOwed result.now }
     {
         &self.routers
     }
 
-    /// The names and places that were laid out.
+    /// The names and places of the layout.
     pub fn map(&self) -> &Names {
         &self.map
     }
 
-    /// The network that was laid out, in which nothing happened yet. Each router was tried at its
-    /// own line, so memory alone can be wanting.
+    /// The network of the layout, in which nothing has happened yet. Each router was checked at its
+    /// own line, so the only fault is out of memory.
     pub fn finish(self, alloc: Global) -> Result<Simulation, ScriptFault> {
         let Layout {
             hosts,

@@ -1,6 +1,6 @@
 //! Scripts over a network in memory: `ipx sim`.
 //!
-//! `act` does one event and tells of it, `summary` tells of all ends, `do_sim` runs a script.
+//! `act` does one event and reports it, `summary` reports all ends, and `do_sim` runs a script.
 #![tactic(auto)]
 
 mod acting;

@@ -2,19 +2,19 @@
 
 use ipx_net::Event;
 
-/// A line behind the layout. Ends and parcels go by their numbers from 0.
+/// A line after the layout. Ends and parcels are numbered from 0.
 #[derive(Drop)]
 pub enum ScriptLine {
     /// `dial`, `send`, `close`, `release`, `poll`, `deliver` or `inject`: one event.
     Act(Event),
-    /// The moment rises by so many milliseconds.
+    /// The time rises by this many milliseconds.
     Tick(u32),
-    /// So many messages of one byte are handed in at an end.
+    /// This many messages of one byte are queued at an end.
     Fill { end: usize, count: u32 },
     /// An end is taken from until nothing is held.
     Take(usize),
-    /// So many rounds at most.
+    /// At most this many rounds.
     Run(u32),
-    /// So many rounds at most, each with a take of each end.
+    /// At most this many rounds, each with a take of each end.
     Pump(u32),
 }

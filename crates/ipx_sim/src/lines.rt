@@ -1,4 +1,4 @@
-//! The lines that tell of an event.
+//! The lines that report an event.
 
 ghost use Rattle.std.specs.Prelude.{◌≡◌, ◌++◌, ◌∷◌, [], IfOk, codes, string_bytes};
 ghost use Rattle.ipx_inspect.specs.Line.{fault_text, reason_text, spx_fault_text};
@@ -16,7 +16,7 @@ use ipx_wire::{IpxFault, OutOfMemory, SpxFault};
 use spx_messages::{Arrived, EndFault};
 use std::alloc::{AllocError, Global};
 
-/// `refused (n) TEXT`, where an end refused a call.
+/// `refused (n) TEXT`, for a call that an end refused.
 pub fn refused_to_line(alloc: Global, fault: EndFault) -> Result<String, AllocError>
     ensures { IfOk result (λ t. string_bytes t ≡ refused_line fault) }
 {
@@ -25,7 +25,7 @@ pub fn refused_to_line(alloc: Global, fault: EndFault) -> Result<String, AllocEr
     format!(in alloc; "refused {text}\n")
 }
 
-/// `fault (n) NAME`, where a network refused an event.
+/// `fault (n) NAME`, for an event that a network refused.
 pub fn fault_to_line(alloc: Global, fault: NetFault) -> Result<String, AllocError>
     ensures { IfOk result (λ t. string_bytes t ≡ fault_line fault) }
 {
@@ -43,7 +43,7 @@ pub fn bytes_to_text(alloc: Global, bytes: &[u8]) -> Result<String, AllocError>
     hex::encode(alloc, bytes)
 }
 
-/// A parcel by its number: where it lies, who is next, and its bytes.
+/// A parcel with its number: its network, its next node, and its bytes.
 fn parcel_to_line(alloc: Global, number: usize, parcel: &Parcel) -> Result<String, AllocError>
     ensures { IfOk result (λ t. string_bytes t ≡ parcel_line number (parcel_view parcel.now)) }
 {
@@ -98,7 +98,7 @@ fn end_to_text(alloc: Global, end: Option<usize>) -> Result<String, AllocError>
     }
 }
 
-/// What an end of a host made of a datagram.
+/// What an end of a host did with a datagram.
 fn told_by_end(alloc: Global, end: Option<usize>, word: &str) -> Result<String, AllocError>
     ensures { IfOk result (λ t. string_bytes t ≡ end_text end ++ word.now) }
 {
@@ -169,7 +169,7 @@ fn done_to_line(alloc: Global, moment: Option<u64>) -> Result<String, AllocError
     }
 }
 
-/// The lines of an answer, of an event that set that moment, if it set one.
+/// The lines of an answer to an event that set this time, if it set one.
 fn answer_to_lines(
     alloc: Global,
     moment: Option<u64>,
@@ -191,7 +191,7 @@ fn answer_to_lines(
     }
 }
 
-/// 1 where an end refused, else 0.
+/// 1 if an end refused, otherwise 0.
 fn answer_to_status(answer: &Answer) -> u8
     ensures { result ≡ answer_status (answer_view answer.now) }
 {

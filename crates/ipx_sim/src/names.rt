@@ -11,7 +11,7 @@ use ipx_net::{Member, Place};
 use ipx_wire::{Network, Node};
 use std::alloc::Global;
 
-/// A place, and where it stands.
+/// A place, and its network and node.
 #[derive(Clone, Copy)]
 pub struct ScriptTarget {
     pub place: Place,
@@ -35,7 +35,7 @@ fn is_named(known: &String, name: &[u8]) -> bool
     known.as_bytes() == name
 }
 
-/// Where a name first stands among others.
+/// The position of a name among others.
 fn place_among(names: &[String], name: &[u8]) -> Option<usize>
     ensures { result ≡ place_among (map string_bytes names.now) name.now }
 {
@@ -54,14 +54,14 @@ fn port_number_of(field: &[u8]) -> Option<u8>
     u8::try_from(number_of(field)?).ok()
 }
 
-/// Whether a place is one of those that are there.
+/// Whether a place is one of those that exist.
 fn is_among(spots: &[ScriptTarget], place: Place) -> bool
     ensures { result ≡ list_any (λ s. same_place s.place place) spots.now }
 {
     spots.iter().any(|spot| spot.place == place)
 }
 
-/// Where the first dot stands.
+/// The position of the first dot.
 fn dot_of(field: &[u8]) -> Option<usize>
     ensures value { result ≡ position (λ b. b == 46) field.now }
     ensures bound { IfSome result (λ dot. dot < length field.now) }
@@ -107,7 +107,7 @@ impl Names {
         }
     }
 
-    /// A port of a router, where the router has it.
+    /// A port of a router, if the router has it.
     fn port(&self, router: &[u8], port: &[u8]) -> Option<Place>
         ensures { result ≡ port_in (map_view self.now) router.now port.now }
     {

@@ -1,4 +1,4 @@
-//! How a line of a script is read.
+//! Reading a line of a script.
 
 ghost use Rattle.std.specs.Prelude.{◌≡◌, IfOk, IfSome, option_copied, option_map, true};
 ghost use Rattle.std.specs.Str.{bytes_eq};
@@ -27,7 +27,7 @@ fn is_word(word: &[u8], known: &[u8]) -> bool
     word == known
 }
 
-/// The one field that is there.
+/// The only field.
 fn only<'a>(args: &[&'a [u8]]) -> Option<&'a [u8]>
     ensures { option_copied result ≡ only_in (fields_view args.now) }
 {
@@ -96,7 +96,7 @@ fn deliver_of(map: &Names, args: &[&[u8]]) -> Option<Event>
     })
 }
 
-/// An event that takes no memory to be read.
+/// An event that is read without memory.
 fn event_of(map: &Names, command: &[u8], args: &[&[u8]]) -> Option<Event>
     ensures value { option_map event_view result
         ≡ event_in (map_view map.now) command.now (fields_view args.now) }
@@ -174,7 +174,7 @@ fn act_of(event: Option<Event>) -> Option<ScriptLine>
     Some(ScriptLine::Act(event?))
 }
 
-/// A line that takes no memory to be read.
+/// A line that is read without memory.
 fn plain_of(map: &Names, command: &[u8], args: &[&[u8]]) -> Option<ScriptLine>
     ensures value { option_map script_line_view result
         ≡ plain_in (map_view map.now) command.now (fields_view args.now) }
@@ -237,7 +237,7 @@ fn inject_of(alloc: Global, args: &[&[u8]]) -> Result<ScriptLine, ScriptFault>
     }
 }
 
-/// Reads the fields of a line that is not blank, behind the layout. What it names is there.
+/// Reads the fields of a line after the layout that is not blank. What it names must exist.
 pub fn read_line(alloc: Global, map: &Names, fields: &[&[u8]]) -> Result<ScriptLine, ScriptFault>
     ensures read { ReadsLine (map_view map.now) (fields_view fields.now) result }
     ensures owed { IfOk result IsLineOwed }

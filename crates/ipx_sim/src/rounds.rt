@@ -1,5 +1,5 @@
-//! Messages that are handed in, and rounds: all members are polled, and all that was not delivered
-//! yet is delivered.
+//! Queued messages, and rounds: all members are polled, and all that was not delivered yet is
+//! delivered.
 
 ghost use Rattle.std.specs.Prelude.{◌≡◌};
 ghost use Rattle.ipx_sim.specs.Act.{outcome_view};
@@ -16,7 +16,7 @@ use ipx_net::{Answer, Event, Member, Net, NetFault};
 use spx_units::Message;
 use std::alloc::Global;
 
-/// Whether a message was handed in.
+/// Whether a message was queued.
 fn sent(outcome: Result<Answer, NetFault>) -> Result<bool, LineFault>
     ensures { result ≡ hand_in_result (outcome_view outcome) }
 {
@@ -26,7 +26,7 @@ fn sent(outcome: Result<Answer, NetFault>) -> Result<bool, LineFault>
     }
 }
 
-/// Hands in a message of one byte: its number, modulo 256.
+/// Queues a message of one byte: its number, modulo 256.
 fn send_number(alloc: Global, net: &mut Net, end: usize, number: u32) -> Result<bool, LineFault>
     ensures { SendsNumber end number net.old result net.new }
 {
@@ -35,8 +35,8 @@ fn send_number(alloc: Global, net: &mut Net, end: usize, number: u32) -> Result<
     sent(step(alloc, net, Event::Send { who: end, message }))
 }
 
-/// Hands in messages of one byte, which counts them from 0, modulo 256. It answers whether one was
-/// handed in.
+/// Queues `count` messages of one byte each, which is their number from 0, modulo 256. Returns
+/// whether one was queued.
 pub fn fill(alloc: Global, net: &mut Net, end: usize, count: u32) -> Result<bool, LineFault>
     ensures { FillsEnd end count net.old result net.new }
 {
@@ -57,14 +57,14 @@ fn made_some(outcome: Result<Answer, NetFault>) -> Result<bool, LineFault>
     }
 }
 
-/// Polls a member once, and answers whether it sent something.
+/// Polls a member once, and returns whether it sent something.
 fn poll_once(alloc: Global, net: &mut Net, member: Member) -> Result<bool, LineFault>
     ensures { PollsOnce member net.old result net.new }
 {
     made_some(step(alloc, net, Event::Poll { member }))
 }
 
-/// Polls a member until it is quiet, and answers whether it sent something.
+/// Polls a member until it is quiet, and returns whether it sent something.
 fn poll_out(alloc: Global, net: &mut Net, member: Member) -> Result<bool, LineFault>
     ensures { PollsOut member net.old result net.new }
 {
@@ -79,7 +79,7 @@ fn poll_out(alloc: Global, net: &mut Net, member: Member) -> Result<bool, LineFa
     Ok(any)
 }
 
-/// Polls all members, each until it is quiet, and answers whether one sent something.
+/// Polls all members, each until it is quiet, and returns whether one sent something.
 fn poll_all(alloc: Global, net: &mut Net, members: &[Member]) -> Result<bool, LineFault>
     ensures { DoesEach PollsOut members.now net.old result net.new }
 {
@@ -90,7 +90,7 @@ fn poll_all(alloc: Global, net: &mut Net, members: &[Member]) -> Result<bool, Li
     Ok(any)
 }
 
-/// One round. It answers whether a parcel was made or delivered, or a unit taken.
+/// One round. Returns whether a parcel was made or delivered, or a unit taken.
 fn run_round(
     alloc: Global,
     net: &mut Net,
@@ -108,8 +108,8 @@ fn run_round(
     Ok(polled | reached | taken)
 }
 
-/// At most so many rounds. One in which nothing comes about is the last. It answers whether
-/// something came about.
+/// At most this many rounds. One in which nothing happens is the last. Returns whether something
+/// happened.
 pub fn run_rounds(
     alloc: Global,
     net: &mut Net,

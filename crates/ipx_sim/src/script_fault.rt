@@ -1,4 +1,4 @@
-//! Why a script goes no further.
+//! Why a script stops.
 
 ghost use Rattle.std.specs.Prelude.{◌≡◌};
 ghost use Rattle.ipx_sim.specs.declared.script_fault.ScriptFault.TheVariants as Halts;
@@ -6,14 +6,14 @@ ghost use Rattle.ipx_sim.specs.declared.script_fault.ScriptFault.TheVariants as 
 use ipx_wire::OutOfMemory;
 use std::alloc::{AllocError, AllocFailed};
 
-/// Why a script goes no further.
+/// Why a script stops.
 #[derive(Clone, Copy, Debug, PartialEq, Eq)]
 pub enum ScriptFault {
-    /// The line at hand is of no known form, or names what is not there.
+    /// The current line is of no known form, or names what does not exist.
     Bad,
     /// Memory was refused.
     Memory,
-    /// The command has ended: a write failed, or it was told already that memory ran out.
+    /// The command has ended: a write failed, or it has already reported that memory ran out.
     Ended,
 }
 

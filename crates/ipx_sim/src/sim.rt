@@ -12,10 +12,10 @@ use ipx_wire::OutOfMemory;
 use std::alloc::Global;
 use std::io::{Read, Write};
 
-/// One more than the most lines that such a script has, which count from 1.
+/// One more than the most lines that a script has, which count from 1.
 const LINES_END: u32 = 1_000_002;
 
-/// Why a script goes no further, and at which line.
+/// Why a script stops, and at which line.
 #[derive(Clone, Copy)]
 struct Halted {
     line: u32,
@@ -26,7 +26,7 @@ fn bad_line(alloc: Global, line: u32) -> Result<(String, u8), OutOfMemory> {
     Ok((format!(in alloc; "line {line} bad\n")?, 2))
 }
 
-/// Tells why a script goes no further.
+/// Reports why a script stops.
 fn tell_halted<W: Write>(alloc: Global, halted: Halted, writer: &mut W) -> Result<u8, u8>
     ensures { IfErr result (λ status. status ≡ 1) }
 {
@@ -37,7 +37,7 @@ fn tell_halted<W: Write>(alloc: Global, halted: Halted, writer: &mut W) -> Resul
     }
 }
 
-/// Reads the lines of the layout, and answers the number of the first other line.
+/// Reads the lines of the layout, and returns the number of the first other line.
 fn lay_out(alloc: Global, layout: &mut Layout, input: &[u8]) -> Result<u32, Halted> {
     for (number, line) in (1..LINES_END).zip(input.split(|byte| *byte == b'\n')) {
         match layout.read(alloc, line) {
@@ -49,7 +49,7 @@ fn lay_out(alloc: Global, layout: &mut Layout, input: &[u8]) -> Result<u32, Halt
     Ok(LINES_END)
 }
 
-/// Runs the lines from that number on, and answers the greatest of their statuses.
+/// Runs the lines from that number on, and returns the greatest of their statuses.
 fn run_lines<W: Write>(
     alloc: Global,
     simulation: &mut Simulation,
@@ -70,7 +70,7 @@ fn run_lines<W: Write>(
     Ok(status)
 }
 
-/// The network that the script lays out, and the number of its first other line.
+/// The network of the script's layout, and the number of its first other line.
 fn laid_out(alloc: Global, input: &[u8]) -> Result<(Simulation, u32), Halted> {
     let mut layout = Layout::new(alloc);
     let first = lay_out(alloc, &mut layout, input)?;
@@ -107,8 +107,8 @@ fn too_long(alloc: Global) -> Result<(String, u8), OutOfMemory>
     Ok((String::from_str(alloc, "line 0 bad\n")?, 2))
 }
 
-/// Writes the line of a script that is too long, and answers its status. `Err` is the status 1 of a
-/// write fault or of want of memory.
+/// Writes the line for a script that is too long, and returns its status. `Err` is always 1, for a
+/// write fault or out of memory.
 pub fn tell_too_long<W: Write>(alloc: Global, writer: &mut W) -> Result<u8, u8>
     ensures written { IfOk result (λ status. (status ≡ 2)
         × Appends (W.contents writer.old) (W.contents writer.new) too_long_line) }
@@ -117,14 +117,14 @@ pub fn tell_too_long<W: Write>(alloc: Global, writer: &mut W) -> Result<u8, u8>
     write_lines(writer, too_long(alloc))
 }
 
-/// The command `sim`: reads a script of at most 1,000,000 bytes, lays the network out, and runs
-/// line by line. Each line writes what it came to; a summary follows the last one.
+/// The command `sim`: reads a script of at most 1,000,000 bytes, builds the network of its layout,
+/// and runs line by line. Each line writes what happened; a summary follows the last one.
 ///
-/// `Ok` is the status that goes with the lines that were written: 0; 1 where an end refused or the
-/// network met a fault; 2 for a bad line, behind which nothing is read and no summary written, and
-/// for an input that is too long, of which nothing is run. `Err` is the status 1 of a read or write
-/// fault, after which nothing more is written, or of want of memory outside the network, which
-/// writes `fault (14) OutOfMemory`.
+/// `Ok` is the status of the lines written. It is 0; or 1 if an end refused or the network met a
+/// fault. It is 2 for a bad line, after which nothing is read and no summary is written. It is 2
+/// for an input that is too long, of which nothing is run. `Err` is always 1. After a read or write
+/// fault nothing more is written. If out of memory outside the network, it writes `fault (14)
+/// OutOfMemory`.
 pub fn do_sim<R: Read, W: Write>(alloc: Global, reader: &mut R, writer: &mut W) -> Result<u8, u8>
     ensures long { IfOk result (λ status. IfSome (R.remaining reader.old) (λ input. IsTooLong input
         → (status ≡ 2) × Appends (W.contents writer.old) (W.contents writer.new) too_long_line)) }

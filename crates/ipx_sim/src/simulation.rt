@@ -1,4 +1,4 @@
-//! A network on which a script runs, line by line.
+//! A network that a script runs on, line by line.
 
 ghost use Rattle.std.specs.Prelude.{◌≡◌, ◌≢◌, [], IfErr, IfOk, IsOkAnd, List, OnOk, ℕ, string_bytes};
 ghost use Rattle.std.specs.Io.KnownBytes.{Appends};
@@ -29,8 +29,7 @@ use spx_messages::Taken;
 use std::alloc::{AllocError, Global};
 use std::io::Write;
 
-/// A network, the names of its members, the moment in milliseconds, and which parcels were
-/// delivered.
+/// A network, the names of its members, the time in milliseconds, and which parcels were delivered.
 pub struct Simulation {
     net: Net,
     map: Names,
@@ -60,7 +59,7 @@ fn say<W: Write>(writer: &mut W, line: Result<String, AllocError>) -> Result<(),
         .map_err(|_| ScriptFault::Ended)
 }
 
-/// The line of what stopped a line of the script, and the line's status.
+/// Writes the line for what stopped a line of the script, and returns its status.
 fn tell<W: Write>(
     alloc: Global,
     done: Result<bool, LineFault>,
@@ -88,7 +87,7 @@ fn message_to_line(alloc: Global, end: usize, stream: u8, body: &[u8]) -> Result
     format!(in alloc; "end {end} got {stream} {body}\n")
 }
 
-/// The line of what was taken: none of nothing and of a part.
+/// The line for what was taken; empty for nothing and for a part.
 fn taken_to_line(alloc: Global, end: usize, taken: &Taken) -> Result<String, AllocError>
     ensures { IfOk result (λ t. string_bytes t ≡ taken_line end (taken_view taken.now)) }
 {
@@ -100,7 +99,8 @@ fn taken_to_line(alloc: Global, end: usize, taken: &Taken) -> Result<String, All
     }
 }
 
-/// Takes from an end once, and tells what came. It answers whether a unit came, or what stopped it.
+/// Takes from an end once, and writes what was taken. Returns whether it was a unit, or what
+/// stopped it.
 fn take_told_once<W: Write>(
     alloc: Global,
     net: &mut Net,
@@ -122,8 +122,8 @@ fn take_told_once<W: Write>(
     }
 }
 
-/// Takes from an end until nothing is held, and tells what came. It answers whether a unit came, or
-/// what stopped it.
+/// Takes from an end until nothing is held, and writes what was taken. Returns whether there was a
+/// unit, or what stopped it.
 fn take_told<W: Write>(
     alloc: Global,
     net: &mut Net,
@@ -141,7 +141,7 @@ fn take_told<W: Write>(
     Ok(Ok(any))
 }
 
-/// Tells that nothing was held, or what stopped a take.
+/// Writes that nothing was held, or what stopped a take.
 fn tell_taken<W: Write>(
     alloc: Global,
     done: Result<bool, LineFault>,
@@ -169,7 +169,7 @@ fn parcel_of(event: &Event) -> Option<usize>
 }
 
 impl Simulation {
-    /// A network in which nothing happened yet.
+    /// A network in which nothing has happened yet.
     pub fn new(alloc: Global, net: Net, map: Names) -> Simulation
         ensures { sim_view result ≡ record {
           net = net;
@@ -186,8 +186,8 @@ impl Simulation {
         }
     }
 
-    /// A parcel counts as delivered where it was, which status 0 says: a delivery is never refused
-    /// by an end, so that another status is a fault.
+    /// Marks a parcel as delivered if it was, which status 0 says. An end never refuses a delivery,
+    /// so another status is a fault.
     fn mark(&mut self, parcel: Option<usize>, status: u8) -> Result<(), ScriptFault>
         ensures marks { OnOk result (MarksWhere parcel status
             (delivered_view self.old.delivered) (delivered_view self.new.delivered)) }
@@ -203,7 +203,7 @@ impl Simulation {
         Ok(())
     }
 
-    /// Does one event and tells of it.
+    /// Does one event and reports it.
     fn do_event<W: Write>(
         &mut self,
         alloc: Global,
@@ -218,7 +218,7 @@ impl Simulation {
         Ok(status)
     }
 
-    /// The moment rises.
+    /// Sets the time later.
     fn tick<W: Write>(
         &mut self,
         alloc: Global,
@@ -230,7 +230,7 @@ impl Simulation {
         self.do_event(alloc, Event::Tick { now }, writer)
     }
 
-    /// Hands in messages of one byte.
+    /// Queues messages of one byte.
     fn fill<W: Write>(
         &mut self,
         alloc: Global,
@@ -253,7 +253,7 @@ impl Simulation {
         tell_taken(alloc, done, writer)
     }
 
-    /// At most so many rounds, with a take of each end or without.
+    /// Runs at most this many rounds, with a take of each end or without.
     fn run<W: Write>(
         &mut self,
         alloc: Global,
@@ -272,7 +272,7 @@ impl Simulation {
         tell(alloc, done, writer)
     }
 
-    /// Runs a line and answers its status.
+    /// Runs a line and returns its status.
     fn run_line<W: Write>(
         &mut self,
         alloc: Global,
@@ -291,8 +291,8 @@ impl Simulation {
         }
     }
 
-    /// Reads and runs a line behind the layout, and answers its status: 1 where an end refused, or
-    /// the network met a fault, else 0. A bad line does nothing.
+    /// Reads and runs a line after the layout, and returns its status: 1 if an end refused, or the
+    /// network met a fault, otherwise 0. A bad line does nothing.
     pub fn do_line<W: Write>(
         &mut self,
         alloc: Global,

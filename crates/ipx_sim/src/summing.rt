@@ -23,8 +23,8 @@ fn name_of(names: &[String], host: usize) -> &str
     }
 }
 
-/// Writes an end, its host and its state, as the line of an end begins. The names are those of the
-/// hosts, in order.
+/// Writes an end, its host and its state, which is how the line of an end begins. The names are
+/// those of the hosts, in order.
 pub fn write_standing<W: Write>(
     writer: &mut W,
     names: &[String],
@@ -48,7 +48,8 @@ fn digits_of(number: u16) -> [u8; 4]
     digits
 }
 
-/// Writes how many messages went in and out of an end, and its next number, as its line goes on.
+/// Writes how many messages went in and out of an end, and its next number, which is how its line
+/// continues.
 pub fn write_counts<W: Write>(writer: &mut W, info: EndInfo) -> Written<()>
     ensures { OnOk result (Appends (W.contents writer.old) (W.contents writer.new)
         (end_counts_text info)) }
@@ -75,7 +76,7 @@ fn write_end<W: Write>(
     write!(writer, " begins {begins}\n")
 }
 
-/// Whether what an end handed out begins what its peer handed in.
+/// Whether what an end handed out is a prefix of what its peer handed in.
 fn begins_of(net: &Net, who: usize) -> bool
     ensures { IsTrue result ↔ Begins net.now.now.world.log who }
 {
@@ -110,7 +111,7 @@ fn write_summary<W: Write>(writer: &mut W, net: &Net, names: &[String]) -> Writt
     write_fresh(writer, net.fresh())
 }
 
-/// Writes the last lines of a script: one for each end, by what the network tells of ends, and one
+/// Writes the last lines of a script: one for each end, from what the network tells of it, and one
 /// that says whether all that was read of peers was fresh. The names are those of the hosts, in
 /// order; a host without one prints an empty name.
 ///

@@ -49,7 +49,7 @@ pub fn is_unit(taken: &Taken) -> bool
     }
 }
 
-/// Takes from an end once, and answers whether a unit was held.
+/// Takes from an end once, and returns whether a unit was held.
 fn take_some(alloc: Global, net: &mut Net, end: usize) -> Result<bool, LineFault>
     ensures { TakesOnce end net.old result net.new }
 {
@@ -57,7 +57,7 @@ fn take_some(alloc: Global, net: &mut Net, end: usize) -> Result<bool, LineFault
     Ok(is_unit(&taken))
 }
 
-/// Takes from an end until nothing is held, and answers whether a unit was taken.
+/// Takes from an end until nothing is held, and returns whether a unit was taken.
 fn drain(alloc: Global, net: &mut Net, end: usize) -> Result<bool, LineFault>
     ensures { Drains end net.old result net.new }
 {
@@ -72,7 +72,7 @@ fn drain(alloc: Global, net: &mut Net, end: usize) -> Result<bool, LineFault>
     Ok(any)
 }
 
-/// The state of an end, if it has one: a released one has not.
+/// The state of an end, if it has one: a released end has none.
 fn state_of(net: &Net, end: usize) -> Option<State>
     ensures { (infos : List EndInfo) × TellsEnds net.now infos
         × (result ≡ (told_of infos end).state) }
@@ -97,7 +97,7 @@ fn count_of(net: &Net) -> usize
     net.ends().len()
 }
 
-/// Takes from so many ends, from end 0 on, each until nothing is held there.
+/// Takes from the first `count` ends, from end 0 on, each until nothing is held there.
 fn drain_each(alloc: Global, net: &mut Net, count: usize) -> Result<bool, LineFault>
     ensures { DoesEach DrainsStanding (range_with_len 0 count) net.old result net.new }
 {
@@ -116,7 +116,7 @@ fn drain_all(alloc: Global, net: &mut Net) -> Result<bool, LineFault>
     drain_each(alloc, net, count)
 }
 
-/// Takes from each end, where the round takes.
+/// Takes from each end, if the round takes.
 pub fn drain_if(alloc: Global, net: &mut Net, takes: bool) -> Result<bool, LineFault>
     ensures { DrainsIf takes net.old result net.new }
 {

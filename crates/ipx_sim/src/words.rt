@@ -1,4 +1,4 @@
-//! How programs name faults, answers and states.
+//! The names of faults, answers and states in programs.
 
 ghost use Rattle.std.specs.Prelude.{◌≡◌, IfOk, string_bytes};
 ghost use Rattle.ipx_sim.specs.Summary.{yes_no};
@@ -66,7 +66,7 @@ pub fn net_fault_name(fault: NetFault) -> &'static str
     }
 }
 
-/// What a link answered to a packet, in a word.
+/// What a link answered to a packet, in one word.
 pub fn received_word(received: Received) -> &'static str
     ensures { result.now ≡ received_word received }
 {
@@ -83,7 +83,7 @@ pub fn received_word(received: Received) -> &'static str
     }
 }
 
-/// The state of an end, in a word. An end without one was released.
+/// The state of an end, in one word. An end without a state was released.
 pub fn state_word(state: Option<State>) -> &'static str
     ensures { result.now ≡ state_word state }
 {
@@ -98,7 +98,7 @@ pub fn state_word(state: Option<State>) -> &'static str
     }
 }
 
-/// The last word of a line that says whether something is so.
+/// The last word of a line that says whether something holds.
 pub fn yes_no(yes: bool) -> &'static str
     ensures { result.now ≡ yes_no yes }
 {

@@ -1,4 +1,4 @@
-//! A read or write fault is status 1, and after it nothing more is written.
+//! A read or write fault is status 1, and nothing more is written after it.
 
 use faulty_io::Failing;
 use ipx_sim::do_sim;
@@ -8,7 +8,8 @@ const SCRIPT: &str = "tick 7\n";
 
 const TOLD: &str = "now 7\nfresh yes\n";
 
-/// Whether a reader that fails after so many calls makes `sim` answer so, having written this.
+/// Whether `sim` gives this answer and has written this text, if its reader fails after `left`
+/// calls.
 fn sim_reads(alloc: Global, left: usize, answer: Result<u8, u8>, text: &str) -> bool {
     let mut written = Vec::new(alloc);
     let is = do_sim(alloc, &mut Failing::new(SCRIPT, left), &mut written) == answer;

@@ -1,11 +1,11 @@
-//! What `sim` prints where a host, a table or a message takes no more. The scripts are too long for rows.
+//! What `sim` prints if a host, a table or a message is full. The scripts are too long for rows.
 
 use ipx_sim::do_sim;
 use std::alloc::Global;
 use std::process::Abort;
 use std::test::Fail;
 
-/// What a script prints that has this status.
+/// What a script with this status prints.
 fn printed(rt: &impl Abort, alloc: Global, script: &str, status: u8) -> Result<String, Fail> {
     let mut text = Vec::new(alloc);
     let mut input = script.as_bytes();
@@ -13,7 +13,7 @@ fn printed(rt: &impl Abort, alloc: Global, script: &str, status: u8) -> Result<S
     Ok(String::from_str(alloc, std::str::from_utf8(&text)?)?)
 }
 
-/// Whether a script has this status, and prints these lines last.
+/// Whether a script has this status, and these last lines.
 fn ends_with(
     rt: &impl Abort,
     alloc: Global,
@@ -24,7 +24,7 @@ fn ends_with(
     Ok(printed(rt, alloc, script, status)?.ends_with(last))
 }
 
-/// A text so many times.
+/// A text, repeated this many times.
 fn repeated(alloc: Global, text: &str, count: u32) -> Result<String, Fail> {
     let mut all = String::new(alloc);
     for _ in 0..count {
@@ -38,7 +38,7 @@ host b 11 00007f000004 00007f000001 listen 4000 8
 host c 11 00007f000005 00007f000001
 ";
 
-/// The lines of ends at the end of a script, from a first one on.
+/// The lines of ends at the end of a script, from this number on.
 fn live_ends(alloc: Global, host: &str, first: u32) -> Result<String, Fail> {
     let mut lines = String::new(alloc);
     for end in first..first + 16 {
@@ -48,7 +48,7 @@ fn live_ends(alloc: Global, host: &str, first: u32) -> Result<String, Fail> {
     Ok(lines)
 }
 
-/// A host with sixteen connections has no room for another host's request.
+/// A host with sixteen connections does not accept another host's request.
 #[test]
 fn a_host_that_is_full(rt: HostRuntime) -> Result<(), Fail> {
     let alloc = rt.alloc();
@@ -79,7 +79,7 @@ fn fifty_networks(alloc: Global, number: u32) -> Result<String, Fail> {
     Ok(text)
 }
 
-/// Twenty responses are heard, and the next one finds no room for all its entries.
+/// Twenty responses are learned, and the next one does not fit the table whole.
 #[test]
 fn a_table_that_is_full(rt: HostRuntime) -> Result<(), Fail> {
     let alloc = rt.alloc();
@@ -100,7 +100,7 @@ dial a 4001 11 00007f000004 4000 8
 run 10
 ";
 
-/// What comes before the sequence number of a unit that ends no message, and behind it.
+/// What comes before and after the sequence number of a unit that ends no message.
 const UNIT: &str = "ffff024000050000001100007f00000440000000001100007f0000034001400000010001";
 
 const LAST_OF_OVERLONG: &str = "end 1 kept

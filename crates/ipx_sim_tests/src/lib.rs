@@ -1,4 +1,4 @@
-//! Tests of `sim` that are no rows: a reader or a writer that fails, a loop of routers, and what
+//! Tests of `sim` that are not rows: a reader or a writer that fails, a routing loop, and what
 //! takes too many packets. The rows are data: tests/rows.
 #![tactic(auto)]
 

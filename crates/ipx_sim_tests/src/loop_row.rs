@@ -1,10 +1,10 @@
-//! Two routers that forged routes make send a packet to each other: fifteen routers carry it, and
-//! the sixteenth drops it.
+//! Forged routes make two routers send a packet to each other. It is forwarded fifteen times, and
+//! dropped the sixteenth time.
 
 use ipx_sim::do_sim;
 
-/// Neither router is asked for its packets. Forged RIP makes each of them hear that network 44 is
-/// reached by the other one.
+/// Neither router is asked for its packets. Forged RIP makes each of them learn that network 44 is
+/// reached through the other one.
 const SCRIPT: &str = "router r 11 00007f000001 1 22 00007f000002 1
 router s 22 00007f000004 1 33 00007f000006 1
 inject 22 00007f000002 ffff002800010000002200007f00000204530000002200007f000004045300020000004400010001

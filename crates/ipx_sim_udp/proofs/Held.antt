@@ -1,4 +1,4 @@
--- What is held under an id that a call found, and what stands at a place of a list.
+-- What is held under an id that a call found, and what is at a position of a list.
 use Rattle.std.proofs.Common.{◌≡◌, ◌∙◌, ◌<◌, ℕ, List, length, get_or, set, Option, Some, None, Result, Ok, Err, refl, subst, ap}
 use Rattle.std.specs.Prelude.{◌↔◌, IfSome, slice_get}
 use Rattle.std.proofs.lemmas.List.{set-get_or}
@@ -9,18 +9,18 @@ went : {T E : Type 0} → Result T E → Type 0
 went (Ok x) = Unit {0}
 went (Err e) = ⊥
 
--- a call that went well is no refusal
+-- a call that succeeded was not refused
 pub no_fault : {T E : Type 0} (x : T) (e : E) → ◌≡◌ {A = Result T E} (Ok x) (Err e) → ⊥
 unfolding went
 no_fault x e same = subst went same tt
 
--- a call that went well found something under its id
+-- a call that succeeded found something under its id
 pub found : {T E : Type 0} (x : T) (e : E) (P : Held → Type 0) (at : Option Held) → (◌≡◌ {A = Result T E} (Ok x) (Err e) ↔ (at ≡ None)) → IfSome at P
     → (h : Held) × (at ≡ Some h) × P h
 found x e P None unknown p = absurd (no_fault x e (unknown.1 refl))
 found x e P (Some h) unknown p = (h, refl, p)
 
--- what was read at a place stands there
+-- what was read at a position is there
 pub stands : {A : Type 0} (xs : List A) (i : ℕ) (x : A) → i < length xs → x ≡ get_or xs i x → slice_get xs i ≡ Some x
 stands xs i x there is = slice_get_read xs (length xs) i x refl there is
 

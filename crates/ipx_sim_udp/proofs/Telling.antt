@@ -1,4 +1,4 @@
--- The lines of ends, one more at a time, and what is told of an end.
+-- The lines of ends, one more at a time, and what is printed of an end.
 use Rattle.std.proofs.Common.{◌≡◌, ◌∙◌, ℕ, ◌+◌, ◌<◌, List, [], ◌∷◌, ◌++◌, length, get_or, take, append-nil, append_assoc, Option, Some, None, Result, Ok, Err, refl, sym, ap, subst, arith}
 use Rattle.std.specs.Prelude.{◌↔◌, IfSome, option_map, slice_get}
 use Rattle.std.specs.Result.{result_ok}
@@ -27,7 +27,7 @@ lines_more s names who (x ∷ xs) e at is =
     append_assoc (udp_end_line names who (info_of s x)) (end_lines s names (who + 1) xs) (udp_end_line names at (info_of s e))
     ∙ ap (λ (t : List ℕ). udp_end_line names who (info_of s x) ++ t) (lines_more s names (who + 1) xs e at (omega (arith, is)))
 
--- the line of one more end was written behind those before it
+-- the line of one more end was written after those before it
 pub written_more : (s : UdpNet) (names : List (List ℕ)) (ends : List End) (who : ℕ) (d : End) (info : EndInfo) (old before now : Option (List ℕ)) → who < length ends
     → info ≡ info_of s (get_or ends who d) → Appends old before (end_lines s names 0 (take who ends)) → Appends before now (udp_end_line names who info)
     → Appends old now (end_lines s names 0 (take (who + 1) ends))
@@ -42,7 +42,7 @@ written_more s names ends who d info old before now lt is wrote more =
 
 -- ---- ends
 
--- what an endpoint answers of an id is so of what is held under it
+-- what an endpoint answers for an id holds for what it has under that id
 pub told : {T E : Type 0} (e : E) (f : Held → T) (at : Option Held) (r : Result T E) → ((r ≡ Err e) ↔ (at ≡ None)) → IfSome at (λ h. r ≡ Ok (f h))
     → result_ok r ≡ option_map f at
 told e f None r unknown known = ap result_ok (unknown.1 refl)
@@ -57,7 +57,7 @@ pub next_told : {E : Type 0} (e : E) (at : Option Held) (r : Result Numbers E) �
 next_told e None r unknown known = ap next_in (unknown.1 refl)
 next_told e (Some h) r unknown known = ap next_in known
 
--- what is so of an endpoint that was read at its host is so of that host
+-- what holds for an endpoint that was read at its host holds for that host
 pub at_host : {T : Type 0} (f : Option Held → T) (hosts : List (Runner HostCore)) (host id : ℕ) (r : Runner HostCore) (e : EndpointView) (x : T)
     → slice_get hosts host ≡ Some r → e ≡ r.core.endpoint → x ≡ f (held_at e id) → x ≡ f (held_by_runner (slice_get hosts host) id)
 at_host f hosts host id r e x there same is =

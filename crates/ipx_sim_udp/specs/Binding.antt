@@ -1,4 +1,4 @@
--- A host of a script, as its socket is bound. All of it is own.
+-- A host of a script, as its socket is bound. Defined by this project.
 use Rattle.std.specs.Prelude.{◌≡◌, ◌≢◌, ℕ, List, [], ◌∷◌, IfSome, None, Some, length}
 use Rattle.ipx_wire.specs.declared.address.Socket.{Socket}
 use Rattle.spx_messages.specs.EndpointView.{buffers_at, held_at}
@@ -11,12 +11,11 @@ use Rattle.ipx_sim.specs.declared.names.ScriptTarget.{ScriptTarget}
 use Rattle.ipx_sim_udp.specs.Mapped.{ArePeersAt}
 use Rattle.ipx_sim_udp.specs.declared.runner.Runner.{Runner}
 
--- a clock that goes on by 10 milliseconds a turn
+-- a clock at 0 that advances by 10 milliseconds a turn
 abbrev pub IsAtStart : SteppedClock → Type 0
 IsAtStart clock = (clock.moment ≡ 0) × (clock.step ≡ 10)
 
--- a host has the address of its line, no link, and one socket, and listens where its line says and
--- nowhere else
+-- a host has the address of its line, no link, and one socket; it listens if its line says so, and only there
 pub record IsHostOf (spots : List ScriptTarget) (number : ℕ) (h : Host) (r : Runner HostCore) : Type 0 where
   pub network : r.core.endpoint.network ≡ h.network
   pub node : r.core.endpoint.node ≡ h.node

@@ -1,4 +1,4 @@
--- The lines at the end of a script over sockets: one for each end. All of it is own.
+-- The lines at the end of a script over sockets: one for each end. Defined by this project.
 use Rattle.std.specs.Prelude.{ℕ, ◌+◌, List, [], ◌∷◌, ◌++◌, None}
 use Rattle.ipx_net.specs.declared.endinfo.EndInfo.{EndInfo}
 use Rattle.ipx_sim.specs.Summary.{end_counts_text, standing_text}
@@ -6,7 +6,7 @@ use Rattle.ipx_sim_udp.specs.UdpCalls.{next_at, link_state_of}
 use Rattle.ipx_sim_udp.specs.declared.layout_binding.End.{End}
 use Rattle.ipx_sim_udp.specs.declared.layout_binding.UdpNet.{UdpNet}
 
--- what is told of an end: where it stands, how many messages went in and out, and its next number
+-- what is printed of an end: its host and state, how many messages went in and out, and its next number
 abbrev pub info_of : UdpNet → End → EndInfo
 info_of s end' =
     record {
@@ -18,11 +18,11 @@ info_of s end' =
       peer = None;
     }
 
--- its line: as of a network in memory, without what only a log can tell
+-- its line: as for a network in memory, without what only a log can tell
 abbrev pub udp_end_line : List (List ℕ) → ℕ → EndInfo → List ℕ
 udp_end_line names who info = standing_text names who info ++ (end_counts_text info ++ 10 ∷ [])
 
--- the lines of ends, of which the first has this number
+-- the lines of ends, numbered from this number on
 abbrev pub end_lines : UdpNet → List (List ℕ) → ℕ → List End → List ℕ
 end_lines s names who [] = []
 end_lines s names who (end' ∷ ends) =

@@ -1,4 +1,4 @@
--- The IP addresses of what a script lays out, and the peers of each place. All of it is own.
+-- The IP addresses of a script's layout, and the peers of each place. Defined by this project.
 use Rattle.std.specs.Prelude.{◌≡◌, ◌==◌, ◌&&◌, ℕ, Bool, not, List, map, Option, Some, is_some}
 use Rattle.std.specs.List.{filter, list_all}
 use Rattle.ipx_wire.specs.declared.address.Network.{Network}
@@ -14,7 +14,7 @@ use Rattle.ipx_sim.specs.declared.names.ScriptTarget.{ScriptTarget}
 abbrev pub has_ip : Node → Bool
 has_ip node = is_some (ip_at node)
 
--- so have the nodes of what was laid out: of a host, and of the router that it names
+-- so have the nodes of a host's line: the host's own, and the router that it names
 abbrev pub is_host_mapped : Host → Bool
 is_host_mapped h = has_ip h.node && has_ip h.router
 
@@ -25,7 +25,7 @@ are_ports_mapped ports = list_all (λ p. has_ip p.node) ports
 abbrev pub is_beside : Place → Network → ScriptTarget → Bool
 is_beside place network s = (s.network.0 == network.0) && not (same_place s.place place)
 
--- the IP addresses of the nodes of spots that are beside a place, in their order
+-- the IP addresses of the nodes of spots that are beside a place, in order
 abbrev pub beside : Place → Network → List ScriptTarget → List (Option (List ℕ))
 beside place network spots = map (λ s. ip_at s.node) (filter (is_beside place network) spots)
 

@@ -1,4 +1,4 @@
--- Why a line of a script stops, and what it prints then. All of it is own.
+-- Why a line of a script stops, and what it prints then. Defined by this project.
 use Rattle.std.specs.Prelude.{ℕ, Bool, true, false, List, ◌++◌, codes, Option, Some, None, Result, Ok, Err}
 use Rattle.std.specs.Fmt.{decimal}
 use Rattle.ipx_carrier.specs.declared.fault.RunFault.{RunFault}
@@ -9,12 +9,12 @@ use Rattle.ipx_sim.specs.declared.script_fault.ScriptFault.TheVariants as Halts
 use Rattle.ipx_sim_udp.specs.declared.stop.UdpScriptFault.{UdpScriptFault}
 use Rattle.ipx_sim_udp.specs.declared.stop.UdpScriptFault.TheVariants as Stops
 
--- by the fault of a turn
+-- from the fault of a turn
 abbrev pub turn_stop : RunFault → UdpScriptFault
 turn_stop Faults.OutOfMemory = Stops.Memory
 turn_stop Faults.Device = Stops.Device
 
--- by what the reading of a line met
+-- from a fault of reading a line
 abbrev pub halt_stop : ScriptFault → UdpScriptFault
 halt_stop Halts.Bad = Stops.Bad
 halt_stop Halts.Memory = Stops.Memory
@@ -26,13 +26,12 @@ no_such_end_line = codes "fault (34) NoSuchEnd\n"
 abbrev pub ok_line : List ℕ
 ok_line = codes "ok\n"
 
--- a line that is bad, by its number
+-- the text for a bad line, with its number
 abbrev pub bad_script_line : ℕ → List ℕ
 bad_script_line number = codes "line " ++ (decimal number ++ codes " bad\n")
 
--- what a line behind the layout prints, and its status: `ok` where it is done and says so, and what
--- refused it where an end did or there is none. At any other stop the script goes no further, and
--- what ends it says why
+-- what a line after the layout prints, and its status. That is `ok` if it is done and says so, or what
+-- refused it if an end did or does not exist. At any other stop the script ends, and its end says why
 abbrev pub told_of_line : Result Bool UdpScriptFault → Option (List ℕ × ℕ)
 told_of_line (Ok true) = Some (ok_line, 0)
 told_of_line (Ok false) = Some (codes "", 0)

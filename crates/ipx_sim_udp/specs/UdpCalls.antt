@@ -1,4 +1,4 @@
--- What the lines of a script do to its hosts and to its ends. All of it is own.
+-- What the lines of a script do to its hosts and to its ends. Defined by this project.
 use Rattle.std.specs.Prelude.{◌≡◌, ◌⊎◌, ℕ, ◌+◌, ◌<◌, ◌%◌, zero, suc, List, [], ◌∷◌, ◌++◌, Option, Some, None, Result, Ok, Err, option_map, slice_get, slice_set}
 use Rattle.ipx_wire.specs.declared.address.Address.{Address}
 use Rattle.ipx_wire.specs.declared.address.Socket.{Socket}
@@ -25,12 +25,12 @@ abbrev pub Dials : Socket → Address → ℕ → ℕ → ℕ → EndpointView �
 Dials socket to buffers now id old new =
     IsNextFree old.links id × AddsEnd old new id (dialed id socket to buffers now)
 
--- a message is cut, and its units are queued on the link of an id
+-- a message is split, and its units are queued on the link with an id
 abbrev pub Sends : ℕ → MessageView → EndpointView → EndpointView → Type 0
 Sends id message old new = (h : Held) × (held_at old id ≡ Some h)
     × ChangesEnd old new id (record h { link = offer_link h.link (cut_of message) })
 
--- the end of the link of an id is asked for
+-- the end of the link with an id is asked for
 abbrev pub ClosesEnd : ℕ → EndpointView → EndpointView → Type 0
 ClosesEnd id old new = (h : Held) × (held_at old id ≡ Some h)
     × ChangesEnd old new id (record h { link = end_link h.link })
@@ -43,18 +43,18 @@ AtHost DoesNamed host old new = (runner : Runner HostCore) × (after : EndpointV
     × (slice_get old host ≡ Some runner) × DoesNamed runner.core.endpoint after
     × (new ≡ slice_set old host (record runner { core = record runner.core { endpoint = after } }))
 
--- so it is of the host of an end
+-- the host of an end does that
 abbrev pub AtEnd : (ℕ → EndpointView → EndpointView → Type 0) → ℕ → UdpNet → UdpNet → Type 0
 AtEnd DoesNamed who old new = (end' : End) × (slice_get old.ends.items who ≡ Some end')
     × AtHost (DoesNamed end'.id) end'.host old.hosts.items new.hosts.items
 
--- there is no end of the number, or none of its host
+-- no end has this number, or its host does not exist
 abbrev pub IsNoEnd : UdpNet → ℕ → Type 0
 IsNoEnd s who = (slice_get s.ends.items who ≡ None)
     ⊎ ((end' : End) × (slice_get s.ends.items who ≡ Some end')
     × (slice_get s.hosts.items end'.host ≡ None))
 
--- routers, the order of the turns, the moment and the packets that had no address stay
+-- routers, the order of the turns, the time and the count of unmapped packets stay
 pub record KeepsOtherParts (old new : UdpNet) : Type 0 where
   pub routers : new.routers ≡ old.routers
   pub order : new.order ≡ old.order
@@ -63,12 +63,12 @@ pub record KeepsOtherParts (old new : UdpNet) : Type 0 where
 
 -- ---- lines
 
--- an end that is new: nothing went in or out of it
+-- a new end: no message went in or out of it
 abbrev pub new_udp_end : ℕ → ℕ → End
 new_udp_end host id = record { host = host; id = id; given = 0; out = 0 }
 
--- `dial`: the host asks for a connection, whose end is behind the others. Where the host refuses, no
--- end is made, and none either where there is no host of the number
+-- `dial`: the host asks for a connection, whose end comes after the others. If the host refuses, or does not
+-- exist, no end is made
 abbrev pub DialsFromHost : ℕ → Socket → Address → ℕ → UdpNet → UdpNet → Result (Unit {0}) UdpScriptFault → Type 0
 DialsFromHost host socket to buffers old new (Ok x) = (id : ℕ)
     × AtHost (Dials socket to buffers old.moment id) host old.hosts.items new.hosts.items
@@ -84,8 +84,7 @@ DialsFromHost host socket to buffers old new (Err Stops.NoSuchEnd) = ⊥
 DialsFromHost host socket to buffers old new (Err Stops.Device) = ⊥
 DialsFromHost host socket to buffers old new (Err Stops.Write) = ⊥
 
--- `send`: a message is handed in at an end, and counted. Where the end refuses, or there is none, it
--- is not
+-- `send`: a message is queued at an end, and counted. If the end refuses, or does not exist, it is not
 abbrev pub SendsAt : ℕ → MessageView → UdpNet → UdpNet → Result (Unit {0}) UdpScriptFault → Type 0
 SendsAt who message old new (Ok x) = (end' : End) × (slice_get old.ends.items who ≡ Some end')
     × AtHost (Sends end'.id message) end'.host old.hosts.items new.hosts.items
@@ -116,12 +115,12 @@ ClosesAt who old new (Err Stops.Write) = ⊥
 abbrev pub of_byte : ℕ → MessageView
 of_byte byte = record { stream = 0; body = byte ∷ [] }
 
--- one is handed in at an end, or memory for it was refused and nothing happened
+-- one is queued at an end, or memory for it was refused and nothing happened
 abbrev pub SendsByte : ℕ → ℕ → UdpNet → UdpNet → Result (Unit {0}) UdpScriptFault → Type 0
 SendsByte who byte old new result = SendsAt who (of_byte byte) old new result
     ⊎ ((result ≡ Err Stops.Memory) × (new ≡ old))
 
--- so many are handed in at an end one after another, of which the k-th from 0 is k modulo 256
+-- this many are queued at an end one after another; the k-th from 0 is k modulo 256
 abbrev pub FillsUdpEnd : ℕ → ℕ → UdpNet → UdpNet → Type 0
 FillsUdpEnd who zero old new = new ≡ old
 FillsUdpEnd who (suc k) old new = (mid : UdpNet) × FillsUdpEnd who k old mid
@@ -133,7 +132,7 @@ FillsAt who count old new (Ok x) = FillsUdpEnd who count old new
 FillsAt who count old new (Err stop) = (k : ℕ) × (mid : UdpNet) × (k < count)
     × FillsUdpEnd who k old mid × SendsByte who (k % 256) mid new (Err stop)
 
--- ---- what is told of an end
+-- ---- what is printed of an end
 
 -- what its host holds under its id
 abbrev pub held_by_runner : Option (Runner HostCore) → ℕ → Option Held
@@ -143,11 +142,11 @@ held_by_runner (Some r) id = held_at r.core.endpoint id
 abbrev pub held_of_end : UdpNet → End → Option Held
 held_of_end s end' = held_by_runner (slice_get s.hosts.items end'.host) end'.id
 
--- the state of its link, while it has one
+-- the state of its link, if it has one
 abbrev pub link_state_of : UdpNet → End → Option State
 link_state_of s end' = option_map (λ h. h.link.state) (held_of_end s end')
 
--- its next number, 0 where it has no link
+-- its next number, 0 if it has no link
 abbrev pub next_of : Option Held → ℕ
 next_of None = 0
 next_of (Some h) = (numbers_of h.link).next

@@ -1,4 +1,4 @@
--- What a line of a script behind the layout does. All of it is own.
+-- What a line of a script after the layout does. Defined by this project.
 use Rattle.std.specs.Prelude.{◌≡◌, ◌⊎◌, ℕ, Bool, true, false, List, Some, None, Result, Ok, Err}
 use Rattle.spx_units.specs.Message.{message_view}
 use Rattle.ipx_net.specs.declared.event.Event.{Event}
@@ -13,16 +13,16 @@ use Rattle.ipx_sim_udp.specs.declared.layout_binding.UdpNet.{UdpNet}
 use Rattle.ipx_sim_udp.specs.declared.stop.UdpScriptFault.{UdpScriptFault}
 use Rattle.ipx_sim_udp.specs.declared.stop.UdpScriptFault.TheVariants as Stops
 
--- a line was done, and whether it prints `ok` then; or it stopped
+-- a line was done, and whether it then prints `ok`; or it stopped
 abbrev pub said : Bool → Result (Unit {0}) UdpScriptFault → Result Bool UdpScriptFault
 said says (Ok x) = Ok says
 said says (Err stop) = Err stop
 
--- a line that is not of a script over sockets: it is bad, and nothing happens
+-- a line that no script over sockets has: it is bad, and nothing happens
 abbrev pub IsRefused : UdpNet → UdpNet → Result Bool UdpScriptFault → Type 0
 IsRefused old new result = (result ≡ Err Stops.Bad) × (new ≡ old)
 
--- an event: `dial`, `send` and `close` are done, and `close` alone prints `ok`
+-- an event: `dial`, `send` and `close` are done, and only `close` prints `ok`
 abbrev pub DoesEvent : Event → UdpNet → UdpNet → Result Bool UdpScriptFault → Type 0
 DoesEvent (Events.Dial host socket to buffers) old new result = (done : Result (Unit {0}) UdpScriptFault)
     × DialsFromHost host socket to buffers old new done × (result ≡ said false done)
@@ -39,7 +39,7 @@ DoesEvent (Events.Poll member) old new result = IsRefused old new result
 DoesEvent (Events.Deliver parcel place) old new result = IsRefused old new result
 DoesEvent (Events.Inject segment next bytes) old new result = IsRefused old new result
 
--- a line. Of `pump` it is said that it prints no `ok`
+-- a line. Of `pump` it is only stated that it prints no `ok`
 abbrev pub DoesNamed : ScriptLine → UdpNet → UdpNet → Result Bool UdpScriptFault → Type 0
 DoesNamed (Lines.Act event) old new result = DoesEvent event old new result
 DoesNamed (Lines.Fill end' count) old new result = (done : Result (Unit {0}) UdpScriptFault)
@@ -49,8 +49,8 @@ DoesNamed (Lines.Tick milliseconds) old new result = IsRefused old new result
 DoesNamed (Lines.Take end') old new result = IsRefused old new result
 DoesNamed (Lines.Run rounds) old new result = IsRefused old new result
 
--- a line by its bytes: a blank one does nothing. Another one does what it names; where it names
--- nothing it is bad; and want of memory may stop it as it is read
+-- a line by its bytes: a blank one does nothing. Another one does what it names. If it names nothing it is
+-- bad, and memory may run out as it is read
 abbrev pub DoesLine : NamesView → List ℕ → UdpNet → UdpNet → Result Bool UdpScriptFault → Type 0
 DoesLine m bytes old new result = ((is_blank_line bytes ≡ true) × (result ≡ Ok false) × (new ≡ old))
     ⊎ ((is_blank_line bytes ≡ false)

@@ -1,4 +1,4 @@
-//! The hosts and routers that a script lays out, as their sockets are bound.
+//! The hosts and routers of a script's layout, as their sockets are bound.
 
 ghost use Rattle.std.specs.Prelude.{◌≡◌, ◌≢◌, ◌∷◌, [], ℕ, List, All, IfOk, IfSome, None, Some, length};
 ghost use Rattle.ipx_net.specs.NetBeginnings.{ArePortsOwed};
@@ -21,14 +21,14 @@ use spx_messages::Endpoint;
 use std::alloc::Global;
 use std::net::Net;
 
-/// Where sockets are bound: what was laid out, and the port of UDP.
+/// Where sockets are bound: the layout, and the UDP port.
 #[derive(Clone, Copy)]
 pub struct Bindings<'a> {
     pub map: &'a Names,
     pub port: u16,
 }
 
-/// The endpoint of a host, which listens where its line says.
+/// The endpoint of a host, which listens if its line says so.
 fn endpoint_of(alloc: Global, host: &Host) -> Result<Endpoint, UdpScriptFault>
     ensures network { IfOk result (λ e. e.network ≡ host.now.network) }
     ensures node { IfOk result (λ e. e.node ≡ host.now.node) }

@@ -1,4 +1,4 @@
-//! The hosts and routers of a script, each over sockets of its own.
+//! The hosts and routers of a script, each over its own sockets.
 
 ghost use Rattle.std.specs.Prelude.{◌≡◌, ◌%◌};
 ghost use Rattle.spx_units.specs.Message.{message_view};
@@ -26,7 +26,7 @@ pub struct End {
 }
 
 impl End {
-    /// An end that nothing went in or out of yet.
+    /// An end with no message in or out yet.
     fn new(host: usize, id: u16) -> End
         ensures { result ≡ new_udp_end host id }
     {
@@ -39,7 +39,7 @@ impl End {
     }
 }
 
-/// All that a script runs. Ends are numbered from 0 in the order in which they were made.
+/// All that a script runs. Ends are numbered from 0, in the order in which they were made.
 #[derive(Drop)]
 pub struct UdpNet {
     hosts: Vec<Runner<HostCore>>,
@@ -57,13 +57,13 @@ fn byte_of(number: u32) -> u8
     (number % 256) as u8
 }
 
-/// The id that the next link of a host gets: ids go up from 1, and no link is released.
+/// The id that the next link of a host gets: ids rise from 1, and no link is released.
 fn next_id(ends: &[End], host: usize) -> u16 {
     let count = ends.iter().filter(|end| end.host == host).count();
     u16::try_from(count).unwrap_or(u16::MAX).saturating_add(1)
 }
 
-/// Takes from an end until nothing is held, and answers how many messages came.
+/// Takes from an end until nothing is held, and returns how many messages there were.
 fn take_all(alloc: Global, core: &mut HostCore, id: u16) -> Result<usize, UdpScriptFault> {
     let mut count: usize = 0;
     for _ in 0..u64::MAX {
@@ -77,7 +77,7 @@ fn take_all(alloc: Global, core: &mut HostCore, id: u16) -> Result<usize, UdpScr
 }
 
 impl UdpNet {
-    /// Binds a socket for each node that was laid out, at this port of UDP.
+    /// Binds a socket for each node of the layout, at this UDP port.
     pub fn bind<R: Net>(
         rt: &R,
         alloc: Global,
@@ -96,14 +96,14 @@ impl UdpNet {
         })
     }
 
-    /// The ends, in their order.
+    /// The ends, in order.
     pub fn ends(&self) -> &[End]
         ensures { result.now ≡ self.now.ends.items }
     {
         &self.ends
     }
 
-    /// The state of the link of an end, while it has one.
+    /// The state of the link of an end, if it has one.
     pub fn state(&self, end: End) -> Option<State>
         ensures { result ≡ link_state_of self.now end }
     {
@@ -113,7 +113,7 @@ impl UdpNet {
         runner.core.as_endpoint().state(end.id).ok()
     }
 
-    /// The next number of an end; 0 where it has no link.
+    /// The next number of an end; 0 if it has no link.
     pub fn next(&self, end: End) -> u16
         ensures { result ≡ next_at self.now end }
     {
@@ -160,7 +160,7 @@ impl UdpNet {
         }
     }
 
-    /// A message is handed in at an end.
+    /// Queues a message at an end.
     pub fn send(
         &mut self,
         alloc: Global,
@@ -185,7 +185,7 @@ impl UdpNet {
         }
     }
 
-    /// A message of one byte is handed in at an end.
+    /// Queues a message of one byte at an end.
     fn send_byte(&mut self, alloc: Global, who: usize, byte: u8) -> Result<(), UdpScriptFault>
         ensures sends { SendsByte who byte self.old self.new result }
         ensures rest { KeepsOtherParts self.old self.new }
@@ -196,7 +196,7 @@ impl UdpNet {
         self.send(alloc, who, &Message { stream: 0, body })
     }
 
-    /// So many messages of one byte are handed in at an end. The k-th from 0 is k modulo 256.
+    /// Queues `count` messages of one byte at an end. The k-th from 0 is k modulo 256.
     pub fn fill(&mut self, alloc: Global, who: usize, count: u32) -> Result<(), UdpScriptFault>
         ensures fills { FillsAt who count self.old self.new result }
         ensures rest { KeepsOtherParts self.old self.new }
@@ -210,7 +210,7 @@ impl UdpNet {
         Ok(())
     }
 
-    /// An end is asked to end its connection.
+    /// Asks an end to end its connection.
     pub fn close(&mut self, alloc: Global, who: usize) -> Result<(), UdpScriptFault>
         ensures closes { ClosesAt who self.old self.new result }
         ensures rest { KeepsOtherParts self.old self.new }
@@ -227,7 +227,7 @@ impl UdpNet {
         }
     }
 
-    /// A host takes a turn. An end that it accepted in it gets its number.
+    /// A host takes a turn. An end that it accepts in that turn gets its number.
     fn turn_host(&mut self, alloc: Global, host: usize) -> Result<(), UdpScriptFault> {
         let Some(runner) = self.hosts.get_mut(host) else {
             return Ok(());
@@ -272,7 +272,7 @@ impl UdpNet {
         Ok(())
     }
 
-    /// So many times a turn of each member, and then a take of each end.
+    /// This many times, a turn of each member, and then a take of each end.
     pub fn pump(&mut self, alloc: Global, turns: u32) -> Result<(), UdpScriptFault> {
         for _ in 0..turns {
             self.turn_all(alloc)?;

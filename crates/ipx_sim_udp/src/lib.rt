@@ -1,4 +1,4 @@
-//! A script over sockets of the loopback, one for each node: `ipx udp`.
+//! A script over loopback sockets, one for each node: `ipx udp`.
 #![tactic(auto)]
 
 mod binding;

@@ -1,4 +1,4 @@
-//! The IP addresses of what a script lays out.
+//! The IP addresses of a script's layout.
 
 ghost use Rattle.std.specs.Prelude.{◌≡◌, ◌++◌, ◌∷◌, [], IfErr, IfOk, None, OnOk, Some, map};
 ghost use Rattle.ipx_carrier.specs.Mapping.{ip_at};
@@ -12,7 +12,7 @@ use ipx_sim::{Layout, Names, ScriptTarget};
 use ipx_wire::{Network, Node};
 use std::alloc::Global;
 
-/// The IP address of a node. A line with a node that has none is bad.
+/// The IP address of a node. If a node has none, its line is bad.
 pub fn address_of(node: Node) -> Result<[u8; 4], UdpScriptFault>
     ensures found { IfOk result (λ ip. ip_at node ≡ Some ip) }
     ensures fault { IfErr result (λ stop. (stop ≡ UdpScriptFault.Bad) × (ip_at node ≡ None)) }
@@ -45,21 +45,21 @@ fn are_ports_mapped(ports: &[Port]) -> bool
     ports.iter().all(|port| has_ip(port.node))
 }
 
-/// Whether each node that was laid out has an IP address, and each router's node of a host.
+/// Whether each node of the layout has an IP address, and so has the router that each host names.
 pub fn is_mapped(layout: &Layout) -> bool {
     let hosts = layout.hosts().iter().all(is_host_mapped);
     let routers = layout.routers().iter().all(|ports| are_ports_mapped(ports));
     hosts && routers
 }
 
-/// Whether a spot is another place on the network.
+/// Whether a spot is another place on this network.
 fn is_beside(spot: &ScriptTarget, place: Place, network: Network) -> bool
     ensures { result ≡ is_beside place network spot.now }
 {
     spot.network == network && spot.place != place
 }
 
-/// The IP address of a spot comes behind these, where it is another place on the network.
+/// Adds the IP address of a spot after these, if it is another place on the network.
 fn add_peer(
     peers: &mut Vec<[u8; 4]>,
     spot: &ScriptTarget,

@@ -8,10 +8,10 @@ ghost use Rattle.ipx_sim_udp.specs.RunnerTurns.{CanTurn, TakesRunnerTurn};
 use ipx_carrier::{Core, Datagrams, RunFault, SteppedClock, UdpDatagrams, turn};
 use std::alloc::Global;
 
-/// By how many milliseconds a clock goes on each turn.
+/// By how many milliseconds a clock advances each turn.
 pub const STEP: u64 = 10;
 
-/// A core with its sockets, the peers of each port, and a clock of its own.
+/// A core with its sockets, the peers of each port, and its clock.
 #[derive(Drop)]
 pub struct Runner<C: Core + Drop> {
     pub core: C,
@@ -21,7 +21,7 @@ pub struct Runner<C: Core + Drop> {
 }
 
 impl<C: Core + Drop> Runner<C> {
-    /// A runner whose clock stands at 0.
+    /// A runner whose clock begins at 0.
     pub fn new(core: C, device: UdpDatagrams, peers: Vec<Vec<[u8; 4]>>) -> Runner<C>
         ensures core { result.core ≡ core }
         ensures device { result.device ≡ device }
@@ -36,8 +36,9 @@ impl<C: Core + Drop> Runner<C> {
         }
     }
 
-    /// Takes one turn, and answers how many packets had a node without an IP address. A device
-    /// with other ports than the core, or one that failed before, is a device that fails.
+    /// Takes one turn, and returns how many packets had a node without an IP address. A device with
+    /// another number of ports than the core, or one that failed before, counts as a device that
+    /// fails.
     pub fn turn(&mut self, alloc: Global) -> Result<u128, RunFault>
         ensures turn { CanTurn (C.port_count self.old.core)
             (length self.old.device.sockets.items) (length self.old.peers.items)

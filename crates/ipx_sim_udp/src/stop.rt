@@ -10,14 +10,14 @@ use ipx_wire::OutOfMemory;
 use spx_messages::EndFault;
 use std::alloc::{AllocError, AllocFailed};
 
-/// Why a line ends before it is done. After the first two the script goes on.
+/// Why a line ends before it is done. After the first two the script continues.
 #[derive(Clone, Copy, Debug, PartialEq, Eq)]
 pub enum UdpScriptFault {
     /// An end refused a call.
     Refused(EndFault),
-    /// There is no end of the number.
+    /// No end has this number.
     NoSuchEnd,
-    /// The line is of no known form, or names what is not there.
+    /// The line is of no known form, or names what does not exist.
     Bad,
     /// Memory was refused.
     Memory,

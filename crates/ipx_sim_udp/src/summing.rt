@@ -9,7 +9,7 @@ use ipx_net::EndInfo;
 use ipx_sim::{write_counts, write_standing};
 use std::io::{Result as Written, Write};
 
-/// What is told of an end.
+/// What is printed of an end.
 fn info_of(site: &UdpNet, end: End) -> EndInfo
     ensures { result ≡ info_of site.now end }
 {

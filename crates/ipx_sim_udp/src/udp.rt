@@ -25,10 +25,10 @@ use std::alloc::Global;
 use std::io::{Read, Write};
 use std::net::Net;
 
-/// One more than the most lines that such a script has, which count from 1.
+/// One more than the most lines that a script has, which count from 1.
 const LINES_END: u32 = 1_000_002;
 
-/// Why a script goes no further, and at which line.
+/// Why a script stops, and at which line.
 #[derive(Clone, Copy)]
 struct Stopped {
     line: u32,
@@ -53,7 +53,7 @@ fn fixed_line(alloc: Global, text: &str, status: u8) -> Result<(String, u8), Out
     Ok((String::from_str(alloc, text)?, status))
 }
 
-/// Tells why a script goes no further.
+/// Reports why a script stops.
 fn tell_stopped<W: Write>(alloc: Global, stopped: Stopped, writer: &mut W) -> Result<u8, u8>
     ensures bad { IfOk result (λ status. (stopped.stop ≡ UdpScriptFault.Bad) × (status ≡ 2)
         × Appends (W.contents writer.old) (W.contents writer.new) (bad_script_line stopped.line)) }
@@ -70,7 +70,7 @@ fn tell_stopped<W: Write>(alloc: Global, stopped: Stopped, writer: &mut W) -> Re
     }
 }
 
-/// What a line came to, which prints `ok` where it is done, or does not.
+/// The result of a line: if it is done, whether it prints `ok`.
 fn said(done: Result<(), UdpScriptFault>, says: bool) -> Result<bool, UdpScriptFault>
     ensures { result ≡ said says done }
 {
@@ -80,7 +80,7 @@ fn said(done: Result<(), UdpScriptFault>, says: bool) -> Result<bool, UdpScriptF
     }
 }
 
-/// Does a line of the script. It answers whether it prints `ok`.
+/// Does a line of the script. Returns whether it prints `ok`.
 fn do_line(alloc: Global, site: &mut UdpNet, line: ScriptLine) -> Result<bool, UdpScriptFault>
     ensures { DoesNamed line site.old site.new result }
 {
@@ -104,7 +104,7 @@ fn do_line(alloc: Global, site: &mut UdpNet, line: ScriptLine) -> Result<bool, U
     }
 }
 
-/// Reads and does a line that is behind the layout. It answers whether it prints `ok`.
+/// Reads and does a line after the layout. Returns whether it prints `ok`.
 fn read_and_do(
     alloc: Global,
     site: &mut UdpNet,
@@ -125,7 +125,7 @@ fn read_and_do(
     }
 }
 
-/// What a line prints, and its status, where the script goes on.
+/// What a line prints, and its status, if the script continues.
 fn told_of_line(
     alloc: Global,
     done: Result<bool, UdpScriptFault>,
@@ -147,7 +147,7 @@ fn told_of_line(
     }
 }
 
-/// Does a line and writes what it came to. It answers the line's status.
+/// Does a line and writes its result. Returns the line's status.
 fn run_line<W: Write>(
     alloc: Global,
     site: &mut UdpNet,
@@ -168,7 +168,7 @@ fn run_line<W: Write>(
     }
 }
 
-/// Runs the lines from that number on, and answers the greatest of their statuses.
+/// Runs the lines from that number on, and returns the greatest of their statuses.
 fn run_lines<W: Write>(
     alloc: Global,
     site: &mut UdpNet,
@@ -190,7 +190,7 @@ fn run_lines<W: Write>(
     Ok(status)
 }
 
-/// Reads a line of the layout. It is false where the line is of another kind.
+/// Reads a line of the layout. Returns false if the line is of another kind.
 fn read_layout(alloc: Global, layout: &mut Layout, line: &[u8]) -> Result<bool, UdpScriptFault> {
     let read = layout.read(alloc, line)?;
     if read && !is_mapped(layout) {
@@ -199,7 +199,7 @@ fn read_layout(alloc: Global, layout: &mut Layout, line: &[u8]) -> Result<bool, 
     Ok(read)
 }
 
-/// Reads the lines of the layout, and answers the number of the first other line.
+/// Reads the lines of the layout, and returns the number of the first other line.
 fn lay_out(alloc: Global, layout: &mut Layout, input: &[u8]) -> Result<u32, Stopped> {
     for (number, line) in (1..LINES_END).zip(input.split(|byte| *byte == b'\n')) {
         match read_layout(alloc, layout, line) {
@@ -211,7 +211,7 @@ fn lay_out(alloc: Global, layout: &mut Layout, input: &[u8]) -> Result<u32, Stop
     Ok(LINES_END)
 }
 
-/// Runs the lines from that number on, and writes the last ones. It answers the status.
+/// Runs the lines from that number on, and writes the last ones. Returns the status.
 fn run_bound<W: Write>(
     alloc: Global,
     site: &mut UdpNet,
@@ -279,16 +279,15 @@ fn run_script<R: Net + Log, W: Write>(
     }
 }
 
-/// The command `udp`: reads a script of at most 1,000,000 bytes, binds a socket of the loopback for
-/// each node that it lays out, and runs line by line: `dial`, `send`, `fill`, `close` and `pump`.
-/// A line for each end follows the last one.
+/// The command `udp`: reads a script of at most 1,000,000 bytes, binds a loopback socket for each
+/// node of its layout, and runs line by line: `dial`, `send`, `fill`, `close` and `pump`. A line
+/// for each end follows the last one.
 ///
-/// `Ok` is the status that goes with the lines that were written: 0; 1 where an end refused or is
-/// not there; 2 for a bad line, behind which nothing is read, and for an input that is too long.
-/// `Err` is the status 1 of a read or write fault, after which nothing more is written; of a socket
-/// that cannot be bound or fails, which writes `fault (39) Device`; or of want of memory, which
-/// writes `fault (14) OutOfMemory`. Where packets had a node without an IP address, a warning says
-/// how many.
+/// `Ok` is the status of the lines written. It is 0; or 1 if an end refused or does not exist. It
+/// is 2 for a bad line, after which nothing is read, and for an input that is too long. `Err` is
+/// always 1. After a read or write fault nothing more is written. If a socket cannot be bound or
+/// fails, it writes `fault (39) Device`. If out of memory, it writes `fault (14) OutOfMemory`. If
+/// packets had a node without an IP address, a warning says how many.
 pub fn do_udp<R: Net + Log, I: Read, W: Write>(
     rt: &R,
     alloc: Global,

@@ -1,4 +1,4 @@
-//! A read or write fault is status 1, and after it nothing more is written.
+//! A read or write fault is status 1, and nothing more is written after it.
 
 use faulty_io::Failing;
 use ipx_carrier::UdpDatagrams;
@@ -8,8 +8,8 @@ use std::alloc::Global;
 use std::net::Net;
 use std::test::Fail;
 
-/// Two hosts of one network: a connection that is closed, an end that is no longer live, and one
-/// that there is not.
+/// Two hosts of one network: a connection that is closed, an end that is no longer live, and an end
+/// that does not exist.
 const SCRIPT: &str = "host a 11 00007f000003 00007f000001
 host b 11 00007f000004 00007f000001 listen 4000 8
 dial a 4001 11 00007f000004 4000 8
@@ -33,7 +33,8 @@ const BAD: &str = "host a 11 00017f000003 00007f000001\n";
 /// One host.
 const HOST: &str = "host a 11 00007f000003 00007f000001\n";
 
-/// Whether a reader that fails after so many calls makes `udp` answer so, having written this.
+/// Whether `udp` gives this answer and has written this text, if its reader fails after `left`
+/// calls.
 fn udp_reads<R: Net + Log>(
     rt: &R,
     alloc: Global,
@@ -47,7 +48,7 @@ fn udp_reads<R: Net + Log>(
     is && !reader.is_called_again() && written.as_slice() == text.as_bytes()
 }
 
-/// Whether a writer that fails after so many calls makes `udp` answer so.
+/// Whether `udp` gives this answer, if its writer fails after `left` calls.
 fn udp_writes<R: Net + Log>(
     rt: &R,
     alloc: Global,
@@ -62,7 +63,7 @@ fn udp_writes<R: Net + Log>(
     is && !writer.is_called_again()
 }
 
-/// Each byte of the script is read, and then that there is none.
+/// Each byte of the script is read, and then its end.
 #[test]
 fn udp_with_a_failing_reader(rt: HostRuntime) {
     for left in 0..=SCRIPT.len() {

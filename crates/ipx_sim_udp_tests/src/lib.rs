@@ -1,4 +1,4 @@
-//! Tests of `do_udp` over sockets of the loopback, with literal values. Each has a port of its own.
+//! Tests of `do_udp` over loopback sockets, with literal values. Each has its own UDP port.
 #![tactic(auto)]
 
 #[cfg(test)]

@@ -1,5 +1,5 @@
-//! A script over sockets where memory is refused: its usual lines, or up to there, and then want of
-//! memory of the layer that wanted it. Run it with each request refused.
+//! A script over sockets if memory is refused: its usual lines up to there, and then out of memory
+//! in the layer that needed it. Run it with each request refused.
 
 use ipx_sim_udp::do_udp;
 use std::alloc::Global;
@@ -14,30 +14,30 @@ send 0 00 616263
 pump 3
 ";
 
-/// The script comes to its end.
+/// The script is run to its end.
 const USUAL: &str = "end 0 a Live in 1 out 0 next 0001\nend 1 b Live in 0 out 1 next 0000\n";
 
-/// An end wants memory as it is dialled, and there is none.
+/// An end needs memory as it is dialled, and there is none.
 const NO_END: &str = "refused (27) OutOfMemory\nfault (34) NoSuchEnd\n";
 
-/// An end wants memory for a message, which it does not take.
+/// An end needs memory for a message, which it does not accept.
 const NO_MESSAGE: &str = "refused (27) OutOfMemory
 end 0 a Live in 0 out 0 next 0000
 end 1 b Live in 0 out 0 next 0000
 ";
 
-/// An end wants memory as a message is taken, which it holds on to.
+/// An end needs memory as a message is taken, which it keeps.
 const NOT_TAKEN: &str = "refused (27) OutOfMemory
 end 0 a Live in 1 out 0 next 0001
 end 1 b Live in 0 out 0 next 0000
 ";
 
-/// Everything else that wants memory ends the script: the command, or a device.
+/// Out of memory anywhere else ends the script: in the command, or in a device.
 const NO_MEMORY: &str = "fault (14) OutOfMemory\n";
 
 const NO_DEVICE: &str = "fault (39) Device\n";
 
-/// What a script can come to: its answer, and what it prints.
+/// The possible outcomes of a script: its answer, and what it prints.
 const OUTCOMES: [(Result<u8, u8>, &str); 6] = [
     (Ok(0), USUAL),
     (Ok(1), NO_END),
@@ -51,7 +51,7 @@ fn is_known(answer: Result<u8, u8>, text: &[u8]) -> bool {
     OUTCOMES.iter().any(|outcome| outcome.0 == answer && outcome.1.as_bytes() == text)
 }
 
-/// Room for what is printed, made once more where memory was refused.
+/// A buffer for what is printed, made once more if memory was refused.
 fn room_at_last(alloc: Global) -> Result<Vec<u8>, Fail> {
     match Vec::with_capacity(alloc, 512) {
         Ok(room) => Ok(room),

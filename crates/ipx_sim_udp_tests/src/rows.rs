@@ -15,7 +15,7 @@ router r 11 00007f000001 1 22 00007f000002 1
 router s 22 00007f000004 1 33 00007f000006 1
 ";
 
-/// A connection over both routers, and a message.
+/// A connection through both routers, and a message.
 const MESSAGE: &str = "pump 100
 dial a 4001 33 00007f000007 4000 8
 pump 100
@@ -23,7 +23,7 @@ send 0 00 616263
 pump 100
 ";
 
-/// Runs a script at a port of UDP, and compares its status and what it prints.
+/// Runs a script at a UDP port, and compares its status and output.
 fn prints<R: Net + Log + Abort>(
     rt: &R,
     alloc: Global,
@@ -39,8 +39,8 @@ fn prints<R: Net + Log + Abort>(
     Ok(())
 }
 
-/// A port of UDP that is free at each address of the two routers and hosts: this one, or, as it says,
-/// one behind those that other rows take.
+/// A UDP port that is free at each address of the two routers and hosts: this one, or, as it then
+/// says, one after those that other rows use.
 fn free_port<R: Net + Log + Abort>(rt: &R, alloc: Global, first: u16) -> u16 {
     let addresses = [1, 2, 3, 4, 6, 7].map(|last| [127, 0, 0, last]);
     let mut port = first;

@@ -1,4 +1,4 @@
--- how a fault of the keys that say who may speak is one of them all
+-- a fault of the keys for accepted senders is a fault of all keys
 use Rattle.std.proofs.Common.{Vec, ◌≡◌, ℕ, List, Option, inl, inr}
 use Rattle.std.specs.Global.{Global}
 use Rattle.toml.specs.Data.{Members}

@@ -26,7 +26,7 @@ not_true : (b : Bool) → not b ≡ true → b ≡ false
 not_true true h = absurd cc
 not_true false h = refl
 
--- where no place has one that passes, none passes
+-- if no index has an element that passes, none passes
 pub each_fails : {X : Type 0} (p : X → Bool) (xs : List X) → position p xs ≡ None → (x : X) → Contains xs x → p x ≡ false
 each_fails p xs none x at =
     let far = position_missing p xs (sym none) in
@@ -35,7 +35,7 @@ each_fails p xs none x at =
 
 -- ---- what is made of some of them
 
--- one of them is made so
+-- this is what `f` makes of one of the elements
 abbrev pub MadeOf : {X Y : Type 0} → (X → Option Y) → List X → Y → Type 0
 MadeOf {X} f xs y = (x : X) × Contains xs x × (f x ≡ Some y)
 

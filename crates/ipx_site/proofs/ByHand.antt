@@ -1,4 +1,4 @@
--- Entries by hand: how those that are left join those that were read, and where they are heard.
+-- Static entries: how the remaining items join the entries read so far, and the ports of the entries.
 use Rattle.std.proofs.Common.{All, ◌≡◌, ℕ, ◌+◌, ◌<◌, ◌≤◌, Bool, true, false, List, [], ◌∷◌, ◌++◌, get_or, length, take, Some, None, inl, inr, refl, arith, sym, subst}
 use Rattle.std.specs.List.{AllZip, list_any}
 use Rattle.std.specs.Prelude.{zero, suc, slice_get}
@@ -21,7 +21,7 @@ use Rattle.ipx_site.specs.StaticTables.{IsEntryTable}
 use Rattle.ipx_site.specs.StaticNeighbours.{IsSilent, named_sources, with_source}
 
 module _ (kind : StaticKind) (ports : List PortConfig) where
-  -- Of the items that are left the first is at fault. The entries so far are those before it.
+  -- The first of the remaining items is at fault. The entries so far are those before it.
   pub entry_fault : (earlier : List StaticEntry) (number : ℕ) → number ≡ entry_number kind earlier
       → (ds : Items) (d : Data) (left : Items) → ds ≡ item d left
       → (f : ConfigError) → IsEntryItemFault kind ports number d f → IsFirstEntryFault kind ports earlier ds f
@@ -34,7 +34,7 @@ module _ (kind : StaticKind) (ports : List PortConfig) where
   again_fault earlier seen same ds d left is e entry f again =
       rw is (inr (e, entry, inl (subst (λ (l : List StaticEntry). IsAgain kind l e f) same again)))
 
-  -- or one behind it is
+  -- or one after it is
   pub later_entry_fault : (earlier seen new : List StaticEntry) → seen ≡ earlier → (e : StaticEntry) → new ≡ earlier ++ e ∷ []
       → (ds : Items) (d : Data) (left : Items) → ds ≡ item d left → IsEntryItem kind ports d e
       → again_place seen e ≡ None → (f : ConfigError) → IsFirstEntryFault kind ports new left f
@@ -44,7 +44,7 @@ module _ (kind : StaticKind) (ports : List PortConfig) where
       let first = subst (λ (l : List StaticEntry). again_place l e ≡ None) same alone in
       rw is (inr (e, entry, inr (first, behind)))
 
-  -- an entry, and those behind it
+  -- an entry, and those after it
   pub one_more_entry : (earlier seen new : List StaticEntry) → seen ≡ earlier → (e : StaticEntry) → new ≡ earlier ++ e ∷ []
       → (ds : Items) (d : Data) (left : Items) → ds ≡ item d left → IsEntryItem kind ports d e
       → again_place seen e ≡ None → (rest : List StaticEntry) → AreStaticEntries kind ports new left rest
@@ -54,12 +54,12 @@ module _ (kind : StaticKind) (ports : List PortConfig) where
       let first = subst (λ (l : List StaticEntry). again_place l e ≡ None) same alone in
       rw is (e, rest, refl, entry, first, behind)
 
--- ---- where they are heard
+-- ---- the ports of the entries
 
 abbrev pub IsHeardAt : List PortConfig → StaticEntry → Type 0
 IsHeardAt ports e = IsPortNumber (length ports) e.by.port
 
--- a port that has a number is there
+-- a port with a number exists
 got : {X : Type 0} (xs : List X) (i : ℕ) (x : X) → slice_get xs i ≡ Some x → i + 1 ≤ length xs
 got [] i x is = absurd (cc)
 got (y ∷ ys) zero x is = omega arith
@@ -98,7 +98,7 @@ statics_there ports ms es (routes, services, is, of_routes, of_services) =
     subst (All (IsHeardAt ports)) (sym is)
     (All-append (IsHeardAt ports) routes services (of_kind_there Of.Route ports ms routes of_routes) (of_kind_there Of.Service ports ms services of_services))
 
--- ---- those whom they are heard from
+-- ---- the neighbours of the entries
 
 module _ (P : Source → Type 0) where
   with_has : (known : List Source) (s : Source) → All P known → P s → All P (with_source known s)

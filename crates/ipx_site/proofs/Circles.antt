@@ -18,7 +18,7 @@ neighbours_once d a b (ds, is, one, few) (es, is', other, few') =
     let same : ds ≡ es = same_Some ds es (sym is ∙ is') in
     addresses_once es a b (subst (λ (it : Items). AreEach IsIpAddress it a) same one) other
 
--- a list of addresses is one, where there are 256 at most
+-- a list of addresses has at most 256
 pub too_many : (d : Data) (values : List Value) → as_array d ≡ Some (items_view values) → 256 < length values
     → (ips : List (List ℕ)) → AreNeighbours d ips → ⊥
 too_many d values is many ips are =

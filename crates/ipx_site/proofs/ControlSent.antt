@@ -1,4 +1,4 @@
--- RIP and SAP that the guard of a port lets through is of the node that its datagram came from.
+-- RIP and SAP that the access list of a port accepts are of the node that sent the datagram.
 use Rattle.std.proofs.Common.{◌≡◌, ℕ, Bool, true, false, not, ◌==◌, ◌&&◌, ◌||◌, if◌then◌else◌, Option, List, ap, refl, subst, sym, arith}
 use Rattle.std.proofs.lemmas.Bool.Decides.{nat_tests}
 use Rattle.ipx_wire.specs.Assigned.{netbios_propagation_type, rip_socket, sap_socket}
@@ -41,7 +41,7 @@ unrouted_of false true false true straight f t = refl
 unrouted_of false true false false straight f t = absurd (cc)
 unrouted_of false false t0 tn straight f t = absurd (cc)
 
--- the guard's word, by its parts
+-- the verdict of the access list, by its parts
 abbrev Word : Bool → Bool → Bool → Bool → Bool → Bool → Bool → Bool
 Word all over control to from unrouted named = not all && not (over && (control && (to && from))) && (not unrouted || named)
 

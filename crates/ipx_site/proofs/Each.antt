@@ -14,7 +14,7 @@ item_left vs i v is there =
     let P : Value → Type 0 = λ w. items_view (drop i vs) ≡ item (view w) (items_view (drop (i + 1) vs)) in
     subst P (sym is) (items_view-drop vs i v there)
 
--- one item that means nothing, and so the whole does not
+-- if one item gives nothing, neither does the whole
 pub none_there : {A : Type 0} (Means : Data → A → Type 0) (ds : Items) (d : Data) (left : Items) → ds ≡ item d left
     → ((a : A) → Means d a → ⊥) → (all : List A) → AreEach Means ds all → ⊥
 none_there Means ds d left is wrong all are =

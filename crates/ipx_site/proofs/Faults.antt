@@ -13,7 +13,7 @@ use Rattle.ipx_site.specs.Loading.{IsStatus, fault_status}
 use Rattle.ipx_site.specs.Fields.{HoldsIf, HoldsOr, IsRightOr}
 use Rattle.ipx_site.specs.Site.{ArePorts, IsFirstFault, IsPortItem, IsPortItemFault, IsTwin, twin_place}
 
--- a fault of the whole comes of one of a part, or of want of memory
+-- a fault of the whole comes from a fault of a part, or from running out of memory
 pub or_memory : {A B : Type 0} (f : ConfigError) → (A → B) → (f ≡ OutOfMemory) ⊎ A → (f ≡ OutOfMemory) ⊎ B
 or_memory f to (inl memory) = inl memory
 or_memory f to (inr a) = inr (to a)
@@ -28,8 +28,8 @@ pub right_if : {A : Type 0} (Means : Data → A → Type 0) (key : Key) (ms : Me
 right_if Means key ms None absent = inl absent
 right_if Means key ms (Some a) holds = inr (a, holds)
 
--- Of the items that are left the first is at fault. The ports seen so far are those before it, and
--- they are counted.
+-- The first of the remaining items is at fault. The ports seen so far are those before it, and they are
+-- counted.
 pub item_fault : (earlier : List PortConfig) (i n : ℕ) → n ≡ i → (ds : Items) (d : Data) (left : Items)
     → ds ≡ item d left → (f : ConfigError) → IsPortItemFault (n + 1) d f → IsFirstFault earlier (i + 1) ds f
 item_fault earlier i n counted ds d left is f fault = rw (is, ← counted) (inl fault)
@@ -41,7 +41,7 @@ pub twin_fault : (earlier seen : List PortConfig) → seen ≡ earlier → (i n 
 twin_fault earlier seen same i n counted ds d left is p port f twin =
     rw (is, ← counted, ← same) (inr (p, port, inl twin))
 
--- or one behind it is
+-- or one after it is
 pub later_fault : (earlier seen new : List PortConfig) → seen ≡ earlier → (p : PortConfig) → new ≡ earlier ++ p ∷ []
     → (i : ℕ) (ds : Items) (d : Data) (left : Items) → ds ≡ item d left
     → IsPortItem d p → twin_place seen p ≡ None
@@ -51,7 +51,7 @@ later_fault earlier seen new same p more i ds d left is port alone f fault =
     let first = rw same at alone in
     rw is (inr (p, port, inr (first, behind)))
 
--- a port, and those behind it
+-- a port, and those after it
 pub one_more_port : (earlier seen new : List PortConfig) → seen ≡ earlier → (p : PortConfig) → new ≡ earlier ++ p ∷ []
     → (ds : Items) (d : Data) (left : Items) → ds ≡ item d left
     → IsPortItem d p → twin_place seen p ≡ None
@@ -65,7 +65,7 @@ pub count_is : (vs : List Value) → item_count (items_view vs) ≡ length vs
 count_is [] = refl
 count_is (v ∷ vs) = ap (λ n. suc n) (count_is vs)
 
--- the status of a fault of a text says what it is of
+-- the exit status of a fault of a text says what kind of fault it is
 fault_is : (IsFault : ConfigError → Type 0) (bytes : List ℕ) (f : ConfigError) (status : ℕ) → IsFault f
     → status ≡ fault_status f → IsStatus IsFault bytes status
 fault_is IsFault bytes OutOfMemory status fault is = inl is

@@ -9,7 +9,7 @@ use Rattle.toml.specs.declared.value.Value.{Value}
 use Rattle.ipx_site.specs.declared.key.Key.{Key}
 use Rattle.ipx_site.specs.Keys.{first_unknown, is_key}
 
--- what is found is the datum, and where nothing is found there is none
+-- what is found is the datum; if nothing is found there is none
 pub found_as : {V : Type 0} (show : V → Data) (o : Option V) (d : Option Data) → option_map show o ≡ d
     → MatchOption o (d ≡ None) (λ v. d ≡ Some (show v))
 found_as show None d e = sym e
@@ -21,19 +21,19 @@ first_unknown_name keys [] = None
 first_unknown_name keys (name ∷ names) =
     if is_key keys (string_bytes name) then first_unknown_name keys names else Some (string_bytes name)
 
--- names as a table has them
+-- the names of a table
 pub names_of_table : (keys : List Key) (es : List (String Global × Value))
     → first_unknown keys (members_view es) ≡ first_unknown_name keys (map (λ e. e.0) es)
 names_of_table keys [] = refl
 names_of_table keys (e ∷ es) = rw (names_of_table keys es) refl
 
--- the first name, where it is no key
+-- the first name, if it is no key
 pub first_is_unknown : (keys : List Key) (names rest : List (String Global)) (name : String Global)
     → names ≡ name ∷ rest → is_key keys (string_bytes name) ≡ false
     → first_unknown_name keys names ≡ Some (string_bytes name)
 first_is_unknown keys names rest name are unknown = rw (are, unknown) refl
 
--- the first unknown name of a table is the first of some names, where it is that of all of them
+-- the first unknown name of a table is that of the remaining names, if it is that of all names
 pub unknown_left : (keys : List Key) (es : List (String Global × Value)) (names all : List (String Global))
     → all ≡ map (λ e. e.0) es → first_unknown_name keys names ≡ first_unknown_name keys all
     → first_unknown keys (members_view es) ≡ first_unknown_name keys names

@@ -1,4 +1,4 @@
--- The figures of ports that have guards, one behind the other.
+-- The metrics of ports with access lists, one after the other.
 use Rattle.std.proofs.Common.{◌≡◌, ◌∙◌, ℕ, ◌+◌, ◌<◌, List, [], ◌++◌, Option, Result, Ok, Err, OnOk, get_or, length, option_map, take, append_assoc, ap, refl, arith}
 use Rattle.std.proofs.lemmas.List.{length-take-le}
 use Rattle.ipx_site.specs.Checked.{each_behind}
@@ -8,7 +8,7 @@ use Rattle.ipx_site.specs.declared.port_filter_drops.PortFilterDrops.{PortFilter
 use Rattle.ipx_site.specs.declared.router_ports.PortIndex.{PortIndex}
 use Rattle.ipx_site.proofs.Printed.{behind_more}
 
--- one more, with the number behind those before
+-- one more metric, whose number follows those before
 pub one_more_figure : (name : List ℕ) (count : FilterDropKind) (kept : List PortFilterDrops) (port_indices : List PortIndex) (i : ℕ) (d : PortIndex)
     (number : ℕ) (start old new : List ℕ) (o : Option ℕ) → i < length port_indices
     → old ≡ start ++ each_behind (access_list_figure name count kept) [] (take i port_indices) → number ≡ i + 1
@@ -24,7 +24,7 @@ one_more_figure name count kept port_indices i d number start old new o there wa
     grown ∙ ap (λ t. t ++ part) was ∙ append_assoc start seen part
     ∙ ap (λ t. start ++ t) (behind_more f port_indices i d seen part there refl same)
 
--- figures behind what their family is
+-- metrics after the lines of their family
 pub behind_head : {A E : Type 0} (r : Result A E) (start old new head metrics : List ℕ) → old ≡ start ++ head
     → OnOk r (new ≡ old ++ metrics) → OnOk r (new ≡ start ++ (head ++ metrics))
 behind_head (Ok a) start old new head metrics was more = more ∙ ap (λ t. t ++ metrics) was ∙ append_assoc start head metrics

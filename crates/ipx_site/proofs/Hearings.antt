@@ -1,4 +1,4 @@
--- How many general queries of an asker are heard in a course of datagrams.
+-- How many general queries of a querier are heard in a course of datagrams.
 use Rattle.std.proofs.Common.{◌≡◌, ◌≤◌, ◌<◌, inl, inr, ◌∙◌, ℕ, zero, suc, ◌+◌, ◌-◌, ◌*◌, ◌/◌, true, List, [], ◌∷◌, max, sym, ap, subst, arith}
 use Rattle.std.proofs.lemmas.Bool.Decides.{nat_tests}
 use Rattle.ipx_site.specs.declared.querier.Querier.{Querier}
@@ -12,7 +12,7 @@ use Rattle.ipx_site.proofs.Taken.{back_at_grows, back_at_own}
 has_own : (back now : ℕ) → has_token 8 back now ≡ true → back ≤ now + 7000
 has_own back now h = grind (arith, nat_tests)
 
--- an asker's turns once another one, or the same, took one
+-- a querier's tokens after another querier, or the same one, took one
 grows : (t : TokenBucketsView) (who o : Querier) (now : ℕ) → back_at t.queriers o ≤ max (back_at (with_token_taken t who now).queriers o) now
 grows t who o now =
     let x = back_after (back_at t.queriers who) now in

@@ -1,4 +1,4 @@
--- What guards keep back at ports makes up the whole.
+-- What access lists drop at ports adds up to the whole.
 use Rattle.std.proofs.Common.{◌≡◌, ◌∙◌, ◌<◌, ◌+◌, ◌^◌, ℕ, List, length, get_or, slice_set, inl, inr, ap, arith, refl, sym}
 use Rattle.std.specs.List.{sum_by}
 use Rattle.std.proofs.lemmas.List.Sums.{get_or-le-sum_by, sum_by-set}
@@ -6,7 +6,7 @@ use Rattle.ipx_carrier.specs.Counting.{raised}
 use Rattle.ipx_site.specs.declared.port_filter_drops.PortFilterDrops.{PortFilterDrops}
 use Rattle.ipx_site.specs.PortFilterDrops.{RefusedAddUp, UnknownSendersAddUp, nothing_at_port, one_refused, one_unknown_sender, unknown_senders_over}
 
--- where one term of a sum is raised, so is the sum
+-- if one term of a sum is raised by one, so is the sum
 raised_sum : {X : Type 0} (f : X → ℕ) (xs : List X) (i : ℕ) (y d : X) (before : ℕ) → i < length xs → before + 1 < 2 ^ 64 → before ≡ sum_by f xs
     → f y ≡ raised (f (get_or xs i d)) → raised before ≡ sum_by f (slice_set xs i y)
 raised_sum f xs i y d before lt few is rose =

@@ -1,4 +1,4 @@
--- The ports of one kind among those that were seen, and one more behind them.
+-- The ports of one kind among those seen so far, and one more after them.
 use Rattle.std.proofs.Common.{◌≡◌, ◌∙◌, ◌+◌, ◌<◌, ◌≤◌, ℕ, List, [], ◌∷◌, ◌++◌, append-nil, append_assoc, ap, arith, get_or, length, length-append, map, refl, subst, suc, sym, take}
 use Rattle.std.proofs.lemmas.List.{flat_map_more, map-append, take_more}
 use Rattle.std.proofs.lemmas.List.Concat.{flat_map-append}
@@ -22,20 +22,20 @@ module _ {S C : Type 0} (kind : PortConfig → List S) (f : S → C) (ports : Li
       ap (flat_map kind) (take_more ports i port there) ∙ sym (flat_map_more kind [] (take i ports) (get_or ports i port))
       ∙ ap (λ p. flat_map kind (take i ports) ++ kind p) (sym is)
 
-  -- one that is of the kind is behind those before
+  -- a port of the kind follows those before
   pub one_of_kind : (before after : List C) (x : S) → kind port ≡ x ∷ [] → before ≡ map f (flat_map kind (take i ports))
       → after ≡ before ++ f x ∷ [] → after ≡ map f (flat_map kind (take (i + 1) ports))
   one_of_kind before after x of was now =
       now ∙ ap (λ cs. cs ++ f x ∷ []) was ∙ sym (map-append f (flat_map kind (take i ports)) (x ∷ []))
       ∙ ap (λ xs. map f (flat_map kind (take i ports) ++ xs)) (sym of) ∙ ap (map f) (sym seen_more)
 
-  -- and one that is of the other is none of them
+  -- a port of another kind is not among them
   pub none_of_kind : (before : List C) → kind port ≡ [] → before ≡ map f (flat_map kind (take i ports))
       → before ≡ map f (flat_map kind (take (i + 1) ports))
   none_of_kind before of was =
       was ∙ ap (map f) (sym (append-nil (flat_map kind (take i ports))) ∙ ap (λ xs. flat_map kind (take i ports) ++ xs) (sym of) ∙ sym seen_more)
 
--- where one more port is
+-- the index of one more port
 port_indices_more : (earlier xs : List PortConfig) (x : PortConfig) → port_indices_behind earlier (xs ++ x ∷ []) ≡ port_indices_behind earlier xs ++ port_index_behind (earlier ++ xs) x ∷ []
 port_indices_more earlier [] x = ap (λ e. port_index_behind e x ∷ []) (sym (append-nil earlier))
 port_indices_more earlier (y ∷ ys) x =
@@ -47,7 +47,7 @@ one_more_port_index ports i port before after s there is was now at =
     now ∙ ap (λ ss. ss ++ s ∷ []) was ∙ ap (λ s. port_indices_of (take i ports) ++ s ∷ []) at ∙ sym (port_indices_more [] (take i ports) port)
     ∙ ap (λ p. port_indices_of (take i ports ++ p ∷ [])) is ∙ ap port_indices_of (sym (take_more ports i port there))
 
--- the places of the ports that were seen, and how many there are of each kind
+-- the indices of the ports seen so far, and how many there are of each kind
 abbrev pub AreSeen : List PortConfig → ℕ → List PortIndex → ℕ → ℕ → ℕ → Type 0
 AreSeen ports i port_indices datagrams ethernet servers = (port_indices ≡ port_indices_of (take i ports)) × (datagrams ≡ length (datagram_ports (take i ports)))
     × (ethernet ≡ length (ethernet_ports (take i ports))) × (servers ≡ length (ipxnet_ports (take i ports)))
@@ -58,7 +58,7 @@ module _ (ports : List PortConfig) (i : ℕ) (port : PortConfig) (there : i < le
   counted_more : {S : Type 0} (kind : PortConfig → List S) → length (flat_map kind (take (i + 1) ports)) ≡ length (flat_map kind (take i ports)) + length (kind port)
   counted_more kind = ap length (seen_more kind (λ x. x) ports i port there is) ∙ length-append (flat_map kind (take i ports)) (kind port)
 
-  -- one more of a kind, of which so many were seen, and none of the others
+  -- one more of a kind, and none of the others
   more_of : {S : Type 0} (kind : PortConfig → List S) (n n' : ℕ) → n ≡ length (flat_map kind (take i ports)) → length (kind port) ≡ 1 → n' ≡ n + 1 → n' ≡ length (flat_map kind (take (i + 1) ports))
   more_of kind n n' was one more = omega (arith, more, was, counted_more kind, one)
 
@@ -98,11 +98,11 @@ module _ (ports : List PortConfig) (i : ℕ) (port : PortConfig) (there : i < le
     omega (arith, more, seen.6),
   )
 
--- where all are, among the ports of their kinds
+-- a port's index is valid among the ports of its kind
 abbrev pub FitAmong : List PortConfig → PortIndex → Type 0
 FitAmong ports port_index = fits (length (datagram_ports ports)) (length (ethernet_ports ports)) (length (ipxnet_ports ports)) port_index
 
--- each port that was seen is there, among all
+-- the index of each port seen so far is valid among all ports
 fits_there : (earlier : List PortConfig) (x : PortConfig) (xs : List PortConfig) → FitAmong (earlier ++ x ∷ xs) (port_index_behind earlier x)
 fits_there earlier (Rfc1234 p) xs =
     omega (arith, ap length (flat_map-append datagrams_in earlier (Rfc1234 p ∷ xs)), length-append (datagram_ports earlier) (datagram_ports (Rfc1234 p ∷ xs)))

@@ -9,12 +9,12 @@ regrouped : (a b c : Bool) → (a && (b && c)) ≡ ((a && b) && c)
 regrouped true b c = refl
 regrouped false b c = refl
 
--- two clients are one where their keys are
+-- two clients are the same exactly if their keys are
 same_by_key : (a b : PortClient) → is_same_key (client_key a) (client_key b) ≡ is_one_client a b
 same_by_key a b = ap (λ rest. (a.port == b.port) && rest)
     (regrouped (bytes_eq a.place.ip b.place.ip) (a.place.udp_port == b.place.udp_port) (bytes_eq a.node.0 b.node.0))
 
--- so one is listed where its key is one of theirs
+-- a client is listed exactly if its key is one of theirs
 pub listed_by_key : (client : PortClient) (clients : List PortClient)
     → list_any (is_same_key (client_key client)) (map client_key clients) ≡ is_listed_client clients client
 listed_by_key client [] = refl

@@ -1,4 +1,4 @@
--- Marks of ports of several kinds, one behind the other.
+-- Marks of ports of several kinds, one kind after the other.
 use Rattle.std.proofs.Common.{◌≡◌, ◌∙◌, ◌<◌, ◌≤◌, ◌-◌, ◌++◌, ℕ, List, Bool, length, slice_set, ap, refl, sym}
 use Rattle.std.proofs.lemmas.List.{set-append_left, set-append_right}
 

@@ -1,4 +1,4 @@
--- What the ports of a site's router are to its core does not hang on their marks.
+-- How the core of a site's router sees its ports does not depend on their marks.
 use Rattle.std.proofs.Common.{◌≡◌, ◌∙◌, ◌+◌, ℕ, List, ap, map, refl}
 use Rattle.ipx_carrier.specs.Counting.{counted}
 use Rattle.ipx_carrier.specs.Turns.{peers_of}
@@ -23,7 +23,7 @@ use Rattle.ipx_site.specs.SourceFilter.{kept_in}
 use Rattle.ipx_site.specs.SiteCore.{SiteCore}
 use Rattle.ipx_site.specs.EthernetTotals.{encapsulated_otherwise_in, unframed_in}
 
--- how often each cause happened, by what the three kinds of ports say of it
+-- how often each cause occurred, by what the three kinds of ports say of it
 abbrev of_parts : RouterCounts → SiteCore → FilterDrops → ℕ → ℕ → List SwitchView → ℕ → ℕ → ℕ → EventCounts
 of_parts totals core kept refused faults switches unknown_senders ethernet_faults server_faults = record {
   unknown_senders = kept.unknown_senders.count;

@@ -1,4 +1,4 @@
--- which texts name a network, or a node of one
+-- which texts give a network, or a node of one
 use Rattle.std.proofs.Common.{Vec, ◌≡◌, ◌≤◌, Result, Ok, Err, ℕ, ◌+◌, ◌<◌, List, ◌∷◌, ◌++◌, length, take, drop, Option, Some, None, get_or, sym, ap, ◌∙◌, subst, arith}
 use Rattle.std.proofs.lemmas.List.{length-append}
 use Rattle.std.proofs.Math.Seq.{take-append_seam, drop-append-add, get_or-append_seam}
@@ -21,7 +21,7 @@ use Rattle.ipx_site.proofs.Each.{as_many}
 pub eight : (text : List ℕ) (network : Network) → spelled_network text ≡ Some network → length text ≡ 8
 eight text network spelled = grind (arith)
 
--- a network and a node behind it
+-- a network, a space, and a node
 abbrev pub WritesBoth : List ℕ → Network → Node → Type 0
 WritesBoth text network node = (front digits : List ℕ) × (text ≡ front ++ 32 ∷ digits)
     × WritesNetwork front network × (spelled_node digits ≡ Some node)
@@ -29,7 +29,7 @@ WritesBoth text network node = (front digits : List ℕ) × (text ≡ front ++ 3
 abbrev pub WritesAs : List ℕ → Network → Option Node → Type 0
 WritesAs text network node = MatchOption node (WritesNetwork text network) (WritesBoth text network)
 
--- where both stand
+-- the places of both in the text
 pub places : (text : List ℕ) (network : Network) (node : Node) → WritesBoth text network node
     → (8 < length text) × (get_or text 8 0 ≡ 32) × WritesNetwork (take 8 text) network × (spelled_node (drop 9 text) ≡ Some node)
 places text network node (front, digits, is, written, last) =
@@ -52,7 +52,7 @@ alone : (text : List ℕ) (network : Network) (node : Option Node) → length te
 alone text network None short none w = none w
 alone text network (Some node) short none w = let at = places text network node w in absurd (omega (arith, short, at.0))
 
--- eight digits that write no network name nothing
+-- eight characters that give no network give nothing
 pub no_network : (text : List ℕ) → length text ≡ 8 → ((n : Network) → WritesNetwork text n → ⊥) → (o : AllowedPeer) → WritesOrigin text o → ⊥
 no_network text short none o w = alone text o.network o.node short (none o.network) w
 
@@ -60,11 +60,11 @@ both : (text : List ℕ) (network : Network) (node : Option Node) → (length te
 both text network None long none w = long (eight text network w.0)
 both text network (Some node) long none w = none node w
 
--- what is no network alone names nothing, where no network and a node stand there
+-- a text that is no network alone gives nothing, if it is no network with a node either
 pub no_node : (text : List ℕ) → (length text ≡ 8 → ⊥) → ((network : Network) (n : Node) → WritesBoth text network n → ⊥) → (o : AllowedPeer) → WritesOrigin text o → ⊥
 no_node text long none o w = both text o.network o.node long (none o.network) w
 
--- a list of texts names what each of them names, where there are 256 at most
+-- a list has at most 256 entries
 pub too_many : (d : Data) (values : List Value) → as_array d ≡ Some (items_view values) → 256 < length values
     → (os : Vec AllowedPeer Global) → AreOrigins d os → ⊥
 too_many d values is many os are =

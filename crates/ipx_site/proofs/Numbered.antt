@@ -6,7 +6,7 @@ use Rattle.std.specs.Prelude.{string_bytes}
 use Rattle.ipx_site.specs.Checked.{port_text, port_texts}
 use Rattle.ipx_site.specs.declared.site.PortConfig.{PortConfig}
 
--- the line of one more port has the number behind theirs
+-- the number of one more port's line follows those of the others
 texts_behind : (n : ℕ) (xs : List PortConfig) (p : PortConfig) → port_texts n (xs ++ p ∷ []) ≡ port_texts n xs ++ port_text (length xs + n) p ∷ []
 texts_behind n [] p =
     let e : n ≡ 0 + n = omega arith in

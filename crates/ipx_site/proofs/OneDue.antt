@@ -1,4 +1,4 @@
--- one more cause of which a line may be told
+-- one more cause whose line may be due
 use Rattle.std.proofs.Common.{◌≡◌, ◌⊎◌, ◌↔◌, ◌+◌, ℕ, List, get_or, inl, inr, subst, arith}
 use Rattle.std.proofs.lemmas.Bool.{cases_lt}
 use Rattle.ipx_site.specs.Moments.{IsDue, IsOneDueOf, untold}

@@ -1,4 +1,4 @@
--- When there is something to do of several things.
+-- When one of several things is to be done.
 use Rattle.std.proofs.Common.{◌≡◌, ◌⊎◌, ◌↔◌, ◌<◌, ◌≤◌, ◌+◌, ◌^◌, ◌∙◌, ℕ, true, Option, Some, None, inl, inr, refl, sym, subst}
 use Rattle.std.proofs.lemmas.Bool.{le-leb, leb-true}
 use Rattle.ipx_router.specs.Telling.{IsNextTelling, is_due}
@@ -36,17 +36,17 @@ same = (λ a. a, λ a. a)
 pub beside : {A B C D : Type 0} → (A ↔ C) → (B ↔ D) → (A ⊎ B) ↔ (C ⊎ D)
 beside f g = (forth f.0 g.0, forth f.1 g.1)
 
--- a moment that there may be is reached just where there is one, and it is
+-- an optional time is reached exactly if it is there and has passed
 pub reached : (o : Option ℕ) (t : ℕ) → IsReached o t ↔ ((moment : ℕ) × (o ≡ Some moment) × (moment ≤ t))
 reached None t = (λ h. absurd h, λ (m, e, h). absurd (cc))
 reached (Some n) t = (λ h. (n, refl, h), λ (m, e, h). subst (λ o. IsReached o t) (sym e) h)
 
--- by the moment of the next telling, it is time to tell
+-- it is time to advertise exactly if the time of the next advertisement is reached
 pub telling : (last o : Option ℕ) (t : ℕ) → IsNextTelling last o → t < 2 ^ 64 → IsReached o t ↔ (is_due last t ≡ true)
 telling last None t h less = (λ k. absurd k, λ e. absurd (cc (sym e ∙ h t less)))
 telling last (Some m) t h less = (λ k. h t ∙ le-leb m t k, λ e. leb-true m t (sym (h t) ∙ e))
 
--- nothing to do of what is the same at each moment that a clock can show
+-- the time with nothing to do is the same for two conditions that agree at each time that a clock can show
 pub as_long : (P Q : ℕ → Type 0) (now time : ℕ) → ((t : ℕ) → t < 2 ^ 64 → P t ↔ Q t) → IsTimeUntilDue P now time → IsTimeUntilDue Q now time
 as_long P Q now time e l = record {
   most = l.most;

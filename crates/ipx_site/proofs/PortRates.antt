@@ -1,4 +1,5 @@
--- How many general queries of a port, and directed broadcasts that leave by one, are heard in a course of datagrams.
+-- How many general queries of a port, and directed broadcasts that leave by one, are heard in a course of
+-- datagrams.
 use Rattle.std.proofs.Common.{◌≡◌, ◌≤◌, ◌<◌, inl, inr, ◌∙◌, ℕ, zero, suc, ◌+◌, ◌-◌, ◌*◌, ◌/◌, true, List, [], ◌∷◌, Option, Some, max, ap, subst, arith}
 use Rattle.std.proofs.Math.Nat.{mul-le-mul_left, mul-sub}
 use Rattle.std.proofs.lemmas.Bool.Decides.{nat_tests}
@@ -9,14 +10,14 @@ use Rattle.ipx_site.specs.TokenBuckets.{TokenBucketsView}
 use Rattle.ipx_site.specs.RateLimiter.{HearsSparingly, RateLimiterView}
 use Rattle.ipx_site.specs.QueryRate.{AreSuch, Coming, Course, most_in}
 
--- a bucket of which none is back sooner, after a moment
+-- a later state of a bucket, in which no token is back sooner
 abbrev pub Later : TokenBucket → TokenBucket → ℕ → Type 0
 Later bucket later now = (later.limit ≡ bucket.limit) × (bucket.back ≤ max later.back (bucket_clock bucket.limit now))
 
 pub has : (burst back now : ℕ) → has_token burst back now ≡ true → max back now + 1000 ≤ now + 1000 * burst
 has burst back now h = grind (arith, nat_tests)
 
--- of a bucket, and of what takes a token of it from one moment to another
+-- a bucket, and the events that take a token of it between two times
 module _ {C : Type 0} (hears : C → ℕ → List ℕ → ℕ → C → Type 0) (of : TokenBucketsView → Option TokenBucket) (Is : Coming C → Type 0) (a b : ℕ)
     (step : (old : RateLimiterView C) (port : ℕ) (bytes : List ℕ) (now : ℕ) (new : RateLimiterView C) → HearsSparingly hears old port bytes now new
     → (bucket : TokenBucket) → of old.buckets ≡ Some bucket → (later : TokenBucket) × (of new.buckets ≡ Some later) × Later bucket later now)

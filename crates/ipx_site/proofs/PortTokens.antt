@@ -1,4 +1,5 @@
--- What becomes of the bucket of a port, for general queries and for directed broadcasts, as a core with limits hears.
+-- How the bucket of a port, for general queries or for directed broadcasts, changes as a core with limits
+-- hears.
 use Rattle.std.proofs.Common.{◌≡◌, ◌≤◌, inl, inr, ◌∙◌, ℕ, zero, suc, ◌+◌, ◌*◌, true, List, [], ◌∷◌, Option, Some, get_or, slice_set, max, sym, ap, refl, subst, arith}
 use Rattle.std.proofs.lemmas.Option.{same_Some}
 use Rattle.std.specs.Option.{option_map}
@@ -12,7 +13,7 @@ use Rattle.ipx_site.specs.RateLimiter.{HearsSparingly, RateLimiterView}
 use Rattle.ipx_site.specs.QueryRate.{AreSuch, Coming, Course, IsHeardAt, IsToLeaveBy, most_in}
 use Rattle.ipx_site.proofs.PortRates.{Later, has, seldom}
 
--- what holds of an element holds of it once one is replaced, if it holds of the new one
+-- what holds for an element still holds after an element is replaced, if it holds for the new one
 set_or : (P : PortBuckets → Type 0) (xs : List PortBuckets) (i j : ℕ) (y d : PortBuckets) → P (get_or xs j d) → (j ≡ i → P y) → P (get_or (slice_set xs i y) j d)
 set_or P [] i j y d h g = h
 set_or P (x ∷ xs) zero zero y d h g = g refl
@@ -20,7 +21,7 @@ set_or P (x ∷ xs) zero (suc j) y d h g = h
 set_or P (x ∷ xs) (suc i) zero y d h g = h
 set_or P (x ∷ xs) (suc i) (suc j) y d h g = set_or P xs i j y d h (λ e. g (ap (λ k. suc k) e))
 
--- an element that is there is replaced
+-- an existing element is replaced
 set_there : (P : PortBuckets → Type 0) (xs : List PortBuckets) (j : ℕ) (y d : PortBuckets) → (get_or xs j d ≡ d → ⊥) → P y → P (get_or (slice_set xs j y) j d)
 set_there P [] j y d there h = absurd (there refl)
 set_there P (x ∷ xs) zero y d there h = h
@@ -69,7 +70,7 @@ module _ (pick : PortBuckets → Option TokenBucket) (port : ℕ) where
           ]
         ]
 
--- where there is no port there is no token
+-- if there is no port there is no token
 no_query : (now : ℕ) → query_has no_tokens now ≡ true → ⊥
 no_query now h = let le : max 0 (0 * now) + 1000 ≤ 0 * now + 1000 * 0 = has 0 0 (0 * now) h in absurd (omega arith)
 

@@ -3,7 +3,7 @@ use Rattle.std.proofs.Common.{◌≡◌, ◌∙◌, ℕ, ◌+◌, ◌<◌, List,
 use Rattle.std.proofs.lemmas.List.{length-map, map-append, take_more}
 
 module _ {A B C : Type 0} (f : A → C) (g : B → C) (xs : List A) (i : ℕ) where
-  -- one more is behind them
+  -- one more follows them
   pub one_more_mapped : (x : A) (ys zs : List B) (y : B) → i < length xs → x ≡ get_or xs i x
       → map g ys ≡ map f (take i xs) → zs ≡ ys ++ y ∷ [] → g y ≡ f x → map g zs ≡ map f (take (i + 1) xs)
   one_more_mapped x ys zs y there is h e k =

@@ -1,4 +1,5 @@
--- What the ports of a site's router are to its core does not hang on the moment at its wires and lobbies.
+-- How the core of a site's router sees its ports does not depend on the times set at Ethernet and ipxnet
+-- ports.
 use Rattle.std.proofs.Common.{◌≡◌, ◌∙◌, ◌+◌, ℕ, ap, map}
 use Rattle.ipx_carrier.specs.Turns.{peers_of}
 use Rattle.ipx_carrier.specs.declared.datagrams.Datagrams as OfDevice

@@ -6,7 +6,7 @@ use Rattle.ipx_site.specs.ClientLog.{all_clients, port_index_clients}
 use Rattle.ipx_site.specs.declared.client_log.PortClient.{PortClient}
 use Rattle.ipx_site.specs.declared.router_ports.PortIndex.{PortIndex}
 
--- the clients of one more port have the number behind theirs
+-- the number of one more port's clients follows those of the others
 port_behind : (n : ℕ) (xs : List PortIndex) (s : PortIndex) (ls : List ServerView) → all_clients n (xs ++ s ∷ []) ls ≡ all_clients n xs ls ++ port_index_clients (length xs + n) s ls
 port_behind n [] s ls =
     let e : n ≡ 0 + n = omega arith in

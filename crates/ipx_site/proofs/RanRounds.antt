@@ -21,7 +21,7 @@ use Rattle.ipx_site.specs.declared.clock.SteadyClock.{SteadyClock}
 use Rattle.ipx_site.specs.declared.running_router.RunningRouter.{RunningRouter}
 use Rattle.ipx_site.specs.declared.site.RouterConfig.{RouterConfig}
 
--- what holds of a wait that did not fail
+-- what holds after a wait that did not fail
 when_well : {T E : Type 0} (r : Result T E) (failed : Bool) (P : Type 0) → is_err r ≡ failed → OnOk r P → failed ≡ false → P
 when_well (Ok t) failed P same p well = p
 when_well (Err e) failed P same p well = absurd (let no : true ≡ false = same ∙ well in cc)
@@ -54,7 +54,7 @@ rounds_more n first before last run one well =
     let next : suc n ≡ n + 1 = omega arith in
     subst (λ (k : ℕ). Rounds k first last) next (before, run, one, well)
 
--- what is said of a start, in one
+-- all that holds of a start, in one record
 pub started_by : {R E : Type 0} (site : RouterConfig) (started : Result (RunningRouter R) E)
     → IfOk started (λ s. s.core.core.core.core.router.ports ≡ router_ports site.ports.items) → IfOk started (λ s. IsToHear site.statics.items s.core.core.core)
     → IfOk started (λ s. (s.core.ports ≡ router_ports site.ports.items) × (s.core.drops ≡ nothing_dropped_yet))
@@ -65,7 +65,7 @@ started_by site (Ok s) ports statics checks queriers bound clock asked =
     record { ports = ports; statics = statics; checks = checks; queriers = queriers; bound = bound; clock = clock; asked = asked }
 started_by site (Err e) ports statics checks queriers bound clock asked = tt
 
--- a router that started as its file says started as a file says
+-- a router that started as its file says started as some file says
 pub starts_by_file : {R : Type 0} (loaded : Result RouterConfig ℕ) (result : Result (RunningRouter R) ℕ) → IfOk loaded (λ s. (text : List ℕ) × IsFileText text × IsSiteText text s)
     → IfErr loaded (λ s. result ≡ Err s) → IfOk loaded (λ site. IfOk result (λ s. StartsBy site s)) → IfOk result (λ s. StartsByFile s)
 starts_by_file (Ok site) (Ok s) text unread starts = (text.0, site, text.1, text.2, starts)
@@ -79,11 +79,11 @@ start_refused loaded (Ok s) fault unread refused = tt
 start_refused (Ok site) (Err e) fault unread refused = inl refused
 start_refused (Err l) (Err e) fault unread refused = let same : e ≡ l = cc in subst (λ (s : ℕ). (s ≡ 1) ⊎ (s ≡ 2)) (sym same) fault
 
--- a run that ended well, of a router that started as a file says
+-- a run that succeeded, of a router that started as a file says
 pub routes_well : {R : Type 0} (first last : RunningRouter R) (status : ℕ) → StartsByFile first → RunsTo first last (status == 0) → status ≡ 0 → RoutesWell R
 routes_well first last status starts runs well = (first, last, starts, subst (λ (n : ℕ). RunsTo first last (n == 0)) well runs)
 
--- a router that was not started did not end well
+-- a router that was not started did not succeed
 pub not_well : {P : Type 0} (status : ℕ) → (status ≡ 1) ⊎ (status ≡ 2) → status ≡ 0 → P
 not_well status (inl one) none = absurd (omega (arith, one, none))
 not_well status (inr two) none = absurd (omega (arith, two, none))

@@ -1,4 +1,4 @@
--- One round of a router that runs.
+-- One round of a running router.
 use Rattle.std.proofs.Common.{◌≡◌, ◌∙◌, ℕ, length, min, Bool, true, false, if◌then◌else◌, Option, Some, None, is_some, sym, ap, subst, inl, inr}
 use Rattle.ipx_carrier.specs.declared.fault.RunFault.{RunFault}
 use Rattle.ipx_carrier.specs.Turns.{Ways}
@@ -9,7 +9,7 @@ use Rattle.ipx_site.specs.declared.warnings.Warnings.{Warnings}
 use Rattle.ipx_site.specs.SiteCore.{SiteCore, SiteGives, SiteHears, SiteMisses, SiteWithholds}
 use Rattle.ipx_site.specs.RouterRounds.{AsksAgain, IsRound, SleepsBehind}
 
--- a core that asks again has the ports that it had
+-- a core that repeats its requests keeps its ports
 pub same_ports : (now times times_after : ℕ) (old mid : SiteCore) → AsksAgain now times times_after old mid
     → length mid.core.core.core.router.ports ≡ length old.core.core.core.router.ports
 same_ports now times times_after old mid (inl h) = ap (λ (v : SiteCore). length v.core.core.core.router.ports) h.2
@@ -27,7 +27,7 @@ is_round {A = A} stops tells clock told tick clock_after transmissions here i j 
     let kept = subst (λ it. BurstsBy SiteHears SiteMisses SiteGives SiteWithholds tells (length old.core.core.core.router.ports) transmissions 32 b it n tick clock_after mid new) g by in
     (now, tick, mid, subst (λ it. stops clock now it) (sym e) h, m, asks, kept)
 
--- how long a router waits, by how its burst ended
+-- how long a router waits, by how its batch ended
 pub rests : {K : Type 0} (todo : ℕ → Type 0) (marked : Bool) (clock clock' : K) (stops : K → ℕ → K → Type 0) (asked : Option ℕ)
     (fault : Option RunFault) (quiet : Bool) → is_some fault ≡ true → asked ≡ Some 100 → clock' ≡ clock
     → SleepsBehind todo marked clock clock' stops asked fault quiet
@@ -48,7 +48,7 @@ goes_on todo marked clock clock' stops asked (Some f) quiet e q at same = absurd
 goes_on todo marked clock clock' stops asked None true e q at same = absurd (cc)
 goes_on todo marked clock clock' stops asked None false e q at same = (at, same)
 
--- what a round and the wait behind it say does not hang on what is the same behind them
+-- what holds of a round and the wait after it does not depend on what stays the same after them
 pub round_then : {K A : Type 0} (stops tells : K → ℕ → K → Type 0) (clock clock' : K) (transmissions : Ways A) (kept kept' kept'' asked asked' asked'' : ℕ)
     (old new new' : SiteCore) (moment moment' : ℕ) (b : Batch) → kept'' ≡ kept' → asked'' ≡ asked' → new' ≡ new → moment' ≡ moment
     → IsRound clock clock' stops tells transmissions kept kept' asked asked' old new moment b → IsRound clock clock' stops tells transmissions kept kept'' asked asked'' old new' moment' b
@@ -65,7 +65,7 @@ sleeps_then a b marked clock clock' stops asked asked' fault quiet e f h =
     let one = subst (λ it. SleepsBehind (IsDue it) marked clock clock' stops asked fault quiet) (sym e) h in
     subst (λ it. SleepsBehind (IsDue b) marked clock clock' stops it fault quiet) (sym f) one
 
--- an agenda, part by part
+-- deadlines, part by part
 pub same_deadlines : (asked asked' : ℕ) (looked looked' : Option ℕ) (responses responses' : ℕ) (written written' : Option ℕ)
     (core core' : SiteCore) (warnings warnings' : Warnings) (count count' : EventCounts)
     → asked' ≡ asked → looked' ≡ looked → responses' ≡ responses → written' ≡ written → core' ≡ core → warnings' ≡ warnings → count' ≡ count

@@ -1,4 +1,4 @@
--- Each route and service by hand of a router's file is such that it may stand.
+-- Each static route and service of a router's file meets the conditions for being kept.
 use Rattle.std.proofs.Common.{◌≡◌, ◌≢◌, ℕ, zero, suc, ◌-◌, ◌<◌, ◌==◌, ◌||◌, Bool, true, false, not, List, [], ◌∷◌, ◌++◌, All, Contains, Option, Some, None, bytes_eq, get_or, option_map, slice_get, if◌then◌else◌, inl, inr, ◌⊎◌, refl, sym, ap, ◌∙◌, subst, arith, eq-eqb, ne_eqb, true≢false}
 use Rattle.std.specs.List.{filter_map, list_any}
 use Rattle.std.specs.Cmp.Lexicographic.{other_text}
@@ -44,7 +44,7 @@ use Rattle.ipx_site.specs.Values.{IsCount}
 use Rattle.ipx_site.proofs.Among.{each_fails, later, made_of, makes, none_among, of_left, of_right, one_or_later, or_parts}
 use Rattle.ipx_site.proofs.ByHand.{neighbours_have, sources_have}
 
--- ---- by whom: another node, on the network of a port that is there
+-- ---- the neighbour: another node, on the network of a port that exists
 
 abbrev IsElsewhere : List Port → Source → Type 0
 IsElsewhere ports s = (at : Port) × IsPort ports s.port at × (s.neighbour ≢ at.node)
@@ -64,7 +64,7 @@ near_elsewhere ports ms near (holds, (p, there, next, cost)) =
     let at = router_port_of_kind p in
     (at, port_there ports near.by.port p there, other_node near.by.neighbour at.node next.1)
 
--- ---- of what: a network that is heard, and under 16 hops away
+-- ---- the network: one that is heard, less than 16 hops away
 
 not_three : (a b c : Bool) → a ≡ false → b ≡ false → c ≡ false → not (a || b || c) ≡ true
 not_three a b c x y z = rw (x, y, z) refl
@@ -114,7 +114,7 @@ good Of.Service ports ms e table =
     let (near, service, is_near, offered, is) = table.says in
     subst (IsGood ports Of.Service) (sym is) (near_elsewhere ports ms near is_near, hops_low ms service.hops offered.hops, (service, refl))
 
--- ---- no entry says what another one does
+-- ---- no entry repeats another one
 
 one_source : (a b : Source) → is_one_source a b ≡ true → a ≡ b
 one_source a b h =
@@ -250,7 +250,7 @@ module _ (ports : List PortConfig) (ms : Members) (es : List StaticEntry) (h : A
     ]
   ]
 
--- ---- whoever an entry is heard from is named
+-- ---- the source of each entry is among the sources
 
 any_is : (known : List Source) (by : Source) → list_any (λ s. is_one_source s by) known ≡ true → Contains known by
 any_is [] by h = absurd (cc)
@@ -282,7 +282,7 @@ named_has known (x ∷ es) e at =
       | inr behind ↦ named_has (with_source known x.by) es e behind
     ]
 
--- ---- what it says of each
+-- ---- what a neighbour advertises of each entry
 
 is_route : (w : StaticItem) (r : RipEntry) → route_in_word w ≡ Some r → w ≡ Says.Route r
 is_route (Says.Route a) r is = ap (λ (x : RipEntry). Says.Route x) (same_Some a r is)
@@ -292,7 +292,7 @@ is_service : (w : StaticItem) (s : ServiceEntry) → service_in_word w ≡ Some 
 is_service (Says.Service a) s is = ap (λ (x : ServiceEntry). Says.Service x) (same_Some a s is)
 is_service (Says.Route r) s is = absurd (cc)
 
--- a word that is found where a source is that of the entry
+-- the item of an entry, if its source is this one
 abbrev Finds : {E : Type 0} → (StaticItem → Option E) → Source → StaticEntry → Option E
 Finds in_word s e = if is_one_source e.by s then in_word e.word else None
 
@@ -308,7 +308,7 @@ found_in in_word s e x is = found_if in_word s e x (is_one_source e.by s) refl i
 finds_when : {E : Type 0} (b : Bool) (o : Option E) (x : E) → b ≡ true → o ≡ Some x → (if b then o else None) ≡ Some x
 finds_when b o x passes is = rw (passes, is) refl
 
--- what a neighbour says is the word of an entry that is heard from it
+-- what a neighbour advertises is the item of an entry with this source
 of_entry : {E : Type 0} (in_word : StaticItem → Option E) (word_of : E → StaticItem) (said_by : StaticNeighbour → List E) (reads : (w : StaticItem) (x : E) → in_word w ≡ Some x → w ≡ word_of x)
     (es : List StaticEntry) (ns : List StaticNeighbour) → AreSilent es ns → ((s : Source) (n : StaticNeighbour) → IsSilent es s n → said_by n ≡ filter_map (Finds in_word s) es)
     → (m : StaticNeighbour) → Contains ns m → (y : E) → Contains (said_by m) y → (g : StaticEntry) × Contains es g × (g.by ≡ static_source m) × (g.word ≡ word_of y)
@@ -332,13 +332,13 @@ module _ {E K M : Type 0} (in_word : StaticItem → Option E) (word_of : E → S
     (es : List StaticEntry) (same : (x y : StaticEntry) → Contains es x → Contains es y → AreAlike x y → x ≡ y)
     (ns : List StaticNeighbour) (silent : AreSilent es ns)
     (said : (s : Source) (n : StaticNeighbour) → IsSilent es s n → said_by n ≡ filter_map (Finds in_word s) es) where
-  -- an entry stands among what the neighbour says
+  -- the item of an entry is among those that its neighbour advertises
   says_it : (s : Source) (n : StaticNeighbour) → IsSilent es s n → (e : StaticEntry) → Contains es e → e.by ≡ s → (x : E) → e.word ≡ word_of x → Contains (said_by n) x
   says_it s n is e at by x word =
       let found : Finds in_word s e ≡ Some x = finds_when (is_one_source e.by s) (in_word e.word) x (source_is e.by s by) (ap in_word word ∙ in_own x) in
       subst (λ (l : List E). Contains l x) (sym (said s n is)) (makes (Finds in_word s) es e x at found)
 
-  -- and nothing else is said of its key there
+  -- and nothing else is advertised there for its key
   says_no_other : (e : StaticEntry) → Contains es e → (x : E) → e.word ≡ word_of x → (m : StaticNeighbour) → Contains ns m → static_source m ≡ e.by
       → (y : E) → Contains (said_by m) y → key_of y ≡ key_of x → metric_of y ≡ metric_of x
   says_no_other e at x word m among by y there key =

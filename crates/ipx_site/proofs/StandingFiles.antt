@@ -1,4 +1,5 @@
--- Routes and services by hand of a router's file stand while a router with its ports runs below `WithStatics`.
+-- Static routes and services of a router's file are kept while a router with its ports runs below
+-- `WithStatics`.
 use Rattle.std.proofs.Common.{◌≡◌, ℕ, true, List, [], ◌∷◌, All, Contains, sym, ap, ◌∙◌, subst}
 use Rattle.std.proofs.lemmas.List.Elements.{All-contains}
 use Rattle.ipx_control.specs.declared.rip.packet.RipEntry.{RipEntry}
@@ -38,7 +39,7 @@ run_of s start calls old new run ns words due others = record {
   room = run.room;
 }
 
--- what is asked of what comes in, as far as another asks it
+-- a condition on what comes in holds if a stronger one does
 comes_as : (A B : ℕ → List ℕ → Type 0) → ((port : ℕ) (bytes : List ℕ) → A port bytes → B port bytes) → (c : StaticCall) → ComesAs A c → ComesAs B c
 comes_as A B less (Comes port bytes) h = less port bytes h
 comes_as A B less (Asked given) h = h

@@ -1,4 +1,5 @@
--- Routes and services by hand of a router's file stand in the core of that router, with its checks, turns and counts.
+-- Static routes and services of a router's file are kept in the core of that router, with its checks, limits
+-- and counts.
 use Rattle.std.proofs.Common.{◌≡◌, ◌≤◌, ◌+◌, ◌⊎◌, ◌∙◌, ℕ, List, [], ◌∷◌, refl, sym, ap, subst, inl, inr}
 use Rattle.ipx_metrics.specs.MeteredRouter.{CountedView, CountsHeard}
 use Rattle.ipx_static.specs.WithStatics.{HearsUnder, WithStaticsView}
@@ -11,7 +12,7 @@ use Rattle.ipx_control.specs.declared.rip.packet.RipEntry.{RipEntry}
 use Rattle.ipx_control.specs.declared.sap.packet.ServiceEntry.{ServiceEntry}
 use Rattle.ipx_site.specs.SiteCore.{SiteCore, SiteHears}
 
--- the core under checks and turns does a call without its counts, or it was kept back
+-- the core under checks and limits does a call without its counts, or the call's bytes were dropped
 abbrev DoesBelow : ℕ → StaticCall → WithStaticsView CountedView → WithStaticsView CountedView → Type 0
 DoesBelow now c old new = DoesStaticCall now c (uncounted old) (uncounted new)
     ⊎ ((port : ℕ) × (bytes : List ℕ) × (c ≡ Comes port bytes) × (new ≡ old))
@@ -24,7 +25,7 @@ comes_below apart now port bytes old new (inr (inl (inl x))) = inl (apart now (C
 comes_below apart now port bytes old new (inr (inl (inr x))) = inr (port, bytes, refl, ap (λ (v : RateLimiterView (WithStaticsView CountedView)). v.core) x.3)
 comes_below apart now port bytes old new (inr (inr x)) = inl (apart now (Comes port bytes) old.core new.core x.2)
 
--- what fails a source check is kept back
+-- what fails a source check is dropped
 heard_below : StaticsAreCountedApart → (now port : ℕ) (bytes : List ℕ) (old new : SiteCore) → SiteHears old port bytes now new → DoesBelow now (Comes port bytes) old.core.core new.core.core
 heard_below apart now port bytes old new (inl dropped) = inr (port, bytes, refl, ap (λ (v : SiteCore). v.core.core) dropped.2)
 heard_below apart now port bytes old new (inr heard) = comes_below apart now port bytes old.core new.core heard.1
@@ -34,7 +35,7 @@ one_below apart now (Comes port bytes) old new h = heard_below apart now port by
 one_below apart now (Asked given) old new h = inl (apart now (Asked given) old.core.core new.core.core h.0.0)
 one_below apart now AsksOnceMore old new h = inl (apart now AsksOnceMore old.core.core new.core.core (ap (λ (v : SiteCore). v.core.core) h))
 
--- of calls these are left where some by which bytes come in are kept back
+-- the remaining calls, without some of those whose bytes were dropped
 abbrev AreLeft : List StaticCallAt → List StaticCallAt → Type 0
 AreLeft [] left = left ≡ []
 AreLeft (c ∷ cs) left = ((rest : List StaticCallAt) × (left ≡ c ∷ rest) × AreLeft cs rest)
@@ -68,7 +69,7 @@ each_minute IsSuch (c ∷ cs) left are asked h = elim are [
   | inr x ↦ each_minute IsSuch cs left x.3 asked (subst (λ it. IsAskedEachMinute IsSuch cs (asked_by c.moment it asked)) x.2 h.2)
 ]
 
--- below it runs so by what is left of the calls
+-- the core below runs by the remaining calls
 run_below : StaticsAreCountedApart → (s : RouterConfig) (start : ℕ) (calls : List StaticCallAt) (old new : SiteCore) → RunsAsSite s start calls old new
     → (left : List StaticCallAt) × AreLeft calls left × RunsByFile s start left (uncounted old.core.core) (uncounted new.core.core)
 run_below apart s start calls old new run =

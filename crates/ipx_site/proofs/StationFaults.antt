@@ -3,7 +3,7 @@ use Rattle.std.proofs.Common.{◌≡◌, ℕ, List, Bool, true, false, true≢fa
 use Rattle.ipx_site.specs.Loading.{IsFileText, IsStatus}
 use Rattle.ipx_site.specs.ConfigFile.{IsFaultOfStation}
 
--- what a file that is a text is read as, and what that text is to be read as, are the same: so is the status
+-- a file that is a text is read as the kind of file that the text is, so the exit status is the same
 pub status_of_kind : (bytes : List ℕ) (kind has : Bool) (status : ℕ) → (IsFileText bytes → kind ≡ has)
     → IsStatus (IsFaultOfStation kind bytes) bytes status → IsStatus (IsFaultOfStation has bytes) bytes status
 status_of_kind bytes true true status same said = said

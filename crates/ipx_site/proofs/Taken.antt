@@ -1,4 +1,4 @@
--- What an asker's turns are once one asker took one.
+-- The tokens of a querier after a querier took one.
 use Rattle.std.proofs.Common.{◌≡◌, ◌≤◌, ◌∙◌, ℕ, ◌&&◌, ◌==◌, Bool, true, false, not, cond, List, [], ◌∷◌, ◌++◌, filter, max, nat_lt, refl, ap, subst, arith}
 use Rattle.std.specs.Cmp.Lexicographic.{pointwise}
 use Rattle.std.specs.Prelude.{nat_eq}
@@ -28,7 +28,7 @@ same_is x y h =
     let of : List ℕ → Querier = λ n. record { port = y.port; node = record { 0 = n } } in
     ap at ports ∙ ap of nodes
 
--- those of the asker that took it
+-- those of the querier that took it
 pub back_at_own : (who : Querier) (now : ℕ) (x : ℕ) (xs : List Asking) → back_at (filter (is_another_out who now) xs ++ record { querier = who; back = x } ∷ []) who ≡ x
 back_at_own who now x [] = rw (same_self who)
 back_at_own who now x (a ∷ rest) =
@@ -74,7 +74,7 @@ back_at_other who o now x (a ∷ rest) apart =
     ] in
     go (is_same_querier a.querier o) (is_same_querier a.querier who) (nat_lt now a.back) refl refl refl
 
--- so whoever takes a turn, of an asker no turn is back sooner
+-- whoever takes a token, no token of a querier is back sooner
 pub back_at_grows : (who o : Querier) (now x : ℕ) (xs : List Asking) → back_at xs who ≤ x → back_at xs o ≤ max (back_at (filter (is_another_out who now) xs ++ record { querier = who; back = x } ∷ []) o) now
 back_at_grows who o now x xs more =
     let after = filter (is_another_out who now) xs ++ record { querier = who; back = x } ∷ [] in

@@ -6,7 +6,7 @@ use Rattle.std.proofs.lemmas.Slice.Eq.{bytes_eq-Decides}
 use Rattle.std.proofs.lemmas.List.{take-append-drop}
 use Rattle.std.proofs.Math.Seq.{drop-append_seam, take-append_seam}
 
--- a name that ends so is what comes before it, and then this
+-- a name with this ending is what comes before it, followed by it
 pub ends_so : (name front end : List ℕ) → drop (length name - length end) name ≡ end → front ≡ take (length name - length end) name → name ≡ front ++ end
 ends_so name front end last first =
     let whole : take (length name - length end) name ++ drop (length name - length end) name ≡ name = take-append-drop (length name - length end) name in cc
@@ -17,7 +17,7 @@ before_end name other end is =
     let long : length name ≡ length other + length end = ap length is ∙ length-append other end in
     omega (arith, long)
 
--- and it does end so
+-- and it does have this ending
 pub ends_with_it : (name other end : List ℕ) → name ≡ other ++ end → drop (length name - length end) name ≡ end
 ends_with_it name other end is =
     let at : length name - length end ≡ length other = before_end name other end is in
@@ -28,7 +28,7 @@ front_of_it name other end is =
     let at : length name - length end ≡ length other = before_end name other end is in
     ap (λ (k : ℕ). take k name) at ∙ ap (λ (l : List ℕ). take (length other) l) is ∙ take-append_seam other end
 
--- what is left of a name before its end tells whether it is another name, and then this end
+-- what is left of a name before its ending decides whether it is another name with this ending
 pub tells_name : (name other end whole last front rest : List ℕ) (same : Bool) → whole ≡ name → last ≡ end
     → front ≡ take (length whole - length last) whole → pointwise nat_eq (drop (length whole - length last) whole) last ≡ true
     → same ≡ pointwise nat_eq front rest → rest ≡ other

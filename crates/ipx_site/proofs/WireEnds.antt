@@ -1,4 +1,4 @@
--- which ends of a wire a value lists
+-- which remotes of an Ethernet port a value lists
 use Rattle.std.proofs.Common.{Vec, ◌≡◌, ◌≤◌, Result, Ok, Err, ℕ, List, length, Option, Some, None, false, sym, ◌∙◌, ap, subst, arith}
 use Rattle.std.proofs.lemmas.Option.{same_Some}
 use Rattle.std.proofs.NetLemmas.Theorems.{IsSocketV4Text_unique}
@@ -35,7 +35,7 @@ listed_ends d values is some few (Ok (Some v)) reads =
     let all = as_many IsEthernetEnd values v.items reads in
     (items_view values, is, reads, omega (arith, all, some), omega (arith, all, few))
 
--- a text writes one place: where that is none for an end, it writes none
+-- a text gives one place: if no remote can be there, it gives no remote
 pub nowhere : (text : List ℕ) (a : SocketAddrV4) (place : Place) → IsSocketV4Text text a → socket_at place ≡ a
     → is_somewhere place ≡ false → (p : Place) → WritesPlace text p → ⊥
 nowhere text a place is at none p (writes, some) =

@@ -32,7 +32,7 @@ station_once text digits node is spelled n (others, are, spell, one) =
     let same : others ≡ digits = digits_once text others digits are is in
     same_Some n node (sym spell ∙ ap spelled_node same ∙ spelled)
 
--- where that can be no station's, it writes none
+-- if the address can be no station's, it gives none
 pub no_station : (text digits : List ℕ) (node : Node) → text ≡ with_colons digits → spelled_node digits ≡ Some node
     → is_station node ≡ false → (n : Node) → WritesStation text n → ⊥
 no_station text digits node is spelled none n writes =

@@ -1,5 +1,4 @@
--- The figures of what guards keep back, as text. All of it is own.
--- The entry point is `access_list_text`.
+-- The metrics text of what access lists drop. Defined by this project. The entry point is `access_list_text`.
 use Rattle.std.specs.Prelude.{ℕ, ◌+◌, Bool, List, [], ◌++◌, Option, Some, None, codes, if◌then◌else◌, is_some, length, option_map, slice_get}
 use Rattle.std.specs.Fmt.{decimal}
 use Rattle.std.specs.List.{list_any}
@@ -10,23 +9,24 @@ use Rattle.ipx_site.specs.declared.router_ports.PortIndex.{PortIndex}
 use Rattle.ipx_site.specs.declared.router_ports.PortIndex.TheVariants.{Datagrams, Ethernet, IpxnetServer}
 use Rattle.ipx_site.specs.Checked.{each_behind}
 
--- what a family of figures is: its name, what it counts, and its type
+-- the HELP and TYPE lines of a metric family with this name, help text and type
 abbrev pub family_text : List ℕ → List ℕ → List ℕ → List ℕ
 family_text name help kind =
     codes "# HELP " ++ (name ++ (codes " " ++ (help ++ (codes ".\n# TYPE " ++ (name ++ (codes " "
     ++ (kind ++ codes "\n")))))))
 
--- the figure of the port of a number
+-- the metric of the port with this number
 abbrev pub port_figure : List ℕ → ℕ → ℕ → List ℕ
 port_figure name number count =
     name ++ (codes "{port=\"" ++ (decimal number ++ (codes "\"} " ++ (decimal count ++ codes "\n"))))
 
--- if there is a count
+-- the metric, if there is a count
 abbrev pub figure_if : List ℕ → ℕ → Option ℕ → List ℕ
 figure_if name number None = []
 figure_if name number (Some count) = port_figure name number count
 
--- what the guard of a port kept back, by the place of that port in its device; elsewhere there is none
+-- what the access list of a port dropped, by the index of an RFC 1234 port in its device; other ports have
+-- none
 abbrev pub kept_at_port_index : List PortFilterDrops → PortIndex → Option PortFilterDrops
 kept_at_port_index kept (Datagrams place) = slice_get kept place
 kept_at_port_index kept (Ethernet place) = None
@@ -36,7 +36,7 @@ abbrev pub access_list_count : FilterDropKind → PortFilterDrops → ℕ
 access_list_count UnknownSenders k = k.unknown_senders
 access_list_count Refused k = k.refused
 
--- its figure, with the number of the port among all of the router
+-- the metric of a port, with its number among all ports of the router
 abbrev pub access_list_figure : List ℕ → FilterDropKind → List PortFilterDrops → List PortIndex → PortIndex → List ℕ
 access_list_figure name count kept earlier port_index =
     figure_if name (length earlier + 1) (option_map (access_list_count count) (kept_at_port_index kept port_index))
@@ -44,11 +44,12 @@ access_list_figure name count kept earlier port_index =
 abbrev pub access_list_metrics : List ℕ → FilterDropKind → List PortIndex → List PortFilterDrops → List ℕ
 access_list_metrics name count port_indices kept = each_behind (access_list_figure name count kept) [] port_indices
 
--- whether a port has a guard
+-- whether any port has an access list
 abbrev pub is_any_guarded : List PortIndex → List PortFilterDrops → Bool
 is_any_guarded port_indices kept = list_any (λ s. is_some (kept_at_port_index kept s)) port_indices
 
--- what came from nobody who is heard, and what was to go to nobody, at each port that has a guard
+-- the datagrams from unknown senders, and those that were to go to no peer, at each port that has an access
+-- list
 abbrev pub unknown_senders_text : List PortIndex → List PortFilterDrops → List ℕ
 unknown_senders_text port_indices kept =
     family_text (codes "ipx_port_unknown_senders_total")
@@ -61,7 +62,7 @@ refused_text port_indices kept =
     (codes "Datagrams that were to go to no peer, by the port that was to send them") (codes "counter")
     ++ access_list_metrics (codes "ipx_port_egress_filtered_total") Refused port_indices kept
 
--- both; nothing, where no port has one
+-- both; empty if no port has an access list
 abbrev pub access_list_text : List PortIndex → List PortFilterDrops → List ℕ
 access_list_text port_indices kept =
     if is_any_guarded port_indices kept then unknown_senders_text port_indices kept ++ refused_text port_indices kept else []

@@ -1,4 +1,5 @@
--- What the program prints of a port as a router starts, and of a file that it checks. All of it is own.
+-- What the program prints of a port when a router starts, and of a file that it checks. Defined by this
+-- project.
 use Rattle.std.specs.Prelude.{Vec, ℕ, ◌+◌, List, [], ◌∷◌, ◌++◌, Bool, false, ◌&&◌, ◌||◌, ◌==◌, Option, Some, None, codes, if◌then◌else◌, length, nat_eq, nat_le, position, slice_index, string_bytes, String}
 use Rattle.std.specs.Global.{Global}
 use Rattle.std.specs.Cmp.Lexicographic.{pointwise}
@@ -32,87 +33,87 @@ use Rattle.ipx_wire.specs.declared.address.Network.{Network}
 use Rattle.ipx_wire.specs.declared.address.Node.{Node}
 use Rattle.ipx_ethernet_ports.specs.declared.sockets.Place.{Place}
 
--- a byte of a text from elsewhere: itself where it is printable ASCII, else a dot
+-- a byte of text from a file or neighbour: itself if it is printable ASCII, otherwise a dot
 abbrev pub shown_byte : ℕ → List ℕ
 shown_byte b = if nat_le 32 b && nat_le b 126 then b ∷ [] else 46 ∷ []
 
--- such a text: what stands before its first zero byte
+-- such a text: the bytes before its first zero byte
 abbrev pub shown_text : List ℕ → List ℕ
 shown_text text = flat_map shown_byte (before_first (λ b. b == 0) text)
 
--- an IP address: four decimal numbers with dots between them
+-- an IP address in dotted-decimal form
 abbrev pub dotted_text : List ℕ → List ℕ
 dotted_text ip =
     decimal (slice_index ip 0) ++ (codes "." ++ (decimal (slice_index ip 1)
     ++ (codes "." ++ (decimal (slice_index ip 2) ++ (codes "." ++ decimal (slice_index ip 3))))))
 
--- where a port is on its network: in 8 and 12 hex digits
+-- the network and the node of a port, in 8 and 12 hex digits
 abbrev pub place_text : Network → Node → List ℕ
 place_text network node =
     codes "network " ++ (encode_lower (to_be_bytes w32 network.0)
     ++ (codes " node " ++ encode_lower node.0))
 
--- where it is reached by UDP
+-- the IP address and the UDP port where it is reached
 abbrev pub reached_text : List ℕ → ℕ → List ℕ
 reached_text ip udp_port = dotted_text ip ++ (codes ":" ++ decimal udp_port)
 
--- who is heard beside its peers
+-- whether others than its peers are accepted
 abbrev pub others_text : Accept → List ℕ
 others_text Any = codes " accept any"
 others_text Peers = []
 
--- how many of its peers are routers, where the file says
+-- how many of its peers are routers, if the file names them
 abbrev pub routers_text : Option (Vec (List ℕ) Global) → List ℕ
 routers_text None = []
 routers_text (Some routers) = codes " routers " ++ decimal (length routers.items)
 
--- which directed broadcasts leave by it, where they are not few
+-- which directed broadcasts leave by it, unless it is the default
 abbrev pub directed_text : Directed → List ℕ
 directed_text Never = codes " directed none"
 directed_text Few = []
 directed_text Always = codes " directed all"
 
--- what it costs, to how many it sends, how many of them are routers, who is heard, and which directed
--- broadcasts leave by it
+-- its cost, how many peers it has, how many of them are routers, which senders are accepted, and which
+-- directed broadcasts leave by it
 abbrev pub dealings_text : Rfc1234PortConfig → List ℕ
 dealings_text p =
     codes "cost " ++ (decimal p.cost ++ (codes " peers " ++ (decimal (length p.peers.items)
     ++ (routers_text p.routers ++ (others_text p.accept ++ directed_text p.directed)))))
 
--- a port of RFC 1234 with its number
+-- an RFC 1234 port with its number
 abbrev pub rfc1234_text : ℕ → Rfc1234PortConfig → List ℕ
 rfc1234_text number p =
     codes "port " ++ (decimal number ++ (codes " " ++ (place_text p.network (node_at p.address)
     ++ (codes " udp " ++ (reached_text p.address p.udp_port ++ (codes " " ++ dealings_text p))))))
 
--- where an end of a wire is
+-- the place of a remote, after a space
 abbrev pub ethernet_end_text : Place → List ℕ
 ethernet_end_text end = codes " " ++ reached_text end.ip end.udp_port
 
--- that a port is no hub of its ends
+-- the word for a port that does not switch frames between its remotes
 abbrev pub joined_text : Bool → List ℕ
 joined_text joined = if joined then [] else codes " apart"
 
--- what it costs, where the ends of its wire are, whether it is their hub, and which directed broadcasts leave
--- by it
+-- its cost, the places of its remotes, whether it switches frames between them, and which directed broadcasts
+-- leave by it
 abbrev pub ethernet_text : EthernetPortConfig → List ℕ
 ethernet_text p =
     codes "cost " ++ (decimal p.cost ++ (codes " ends" ++ (flat_map ethernet_end_text p.ends.items
     ++ (joined_text p.joined ++ directed_text p.directed))))
 
--- a port on a wire with its number
+-- an Ethernet port with its number
 abbrev pub frames_text : ℕ → EthernetPortConfig → List ℕ
 frames_text number p =
     codes "port " ++ (decimal number ++ (codes " " ++ (place_text p.network p.node
     ++ (codes " frames " ++ (frame_word p.encapsulation ++ (codes " udp "
     ++ (reached_text p.address p.udp_port ++ (codes " " ++ ethernet_text p))))))))
 
--- where the routers are that a port is joined to, if it is
+-- the places of the routers that a port is joined to, if any
 abbrev pub join_text : List Place → List ℕ
 join_text routers =
     if length routers == 0 then [] else codes " joined" ++ flat_map ethernet_end_text routers
 
--- what it costs, how many clients it may have, who may register, what it is joined to, and which directed
+-- its cost, how many clients it allows, how many peers may register, what it is joined to, and which directed
 -- broadcasts leave by it
 abbrev pub clients_text : IpxnetPortConfig → List ℕ
 clients_text p =
@@ -120,41 +121,41 @@ clients_text p =
     ++ (codes " peers " ++ (decimal (length p.peers.items)
     ++ (others_text p.accept ++ (join_text p.join.items ++ directed_text p.directed)))))))
 
--- a port for clients of ipxnet with its number
+-- an ipxnet port with its number
 abbrev pub ipxnet_text : ℕ → IpxnetPortConfig → List ℕ
 ipxnet_text number p =
     codes "port " ++ (decimal number ++ (codes " " ++ (place_text p.network p.node
     ++ (codes " ipxnet udp " ++ (reached_text p.address p.udp_port ++ (codes " " ++ clients_text p))))))
 
--- a port with its number, as a router says it when it starts
+-- a port with its number, as a router prints it when it starts
 abbrev pub port_text : ℕ → PortConfig → List ℕ
 port_text number (Rfc1234 p) = rfc1234_text number p
 port_text number (Frames p) = frames_text number p
 port_text number (Ipxnet p) = ipxnet_text number p
 
--- the lines of its ports, of which the first has this number
+-- the lines of ports, the first of which has this number
 abbrev pub port_texts : ℕ → List PortConfig → List (List ℕ)
 port_texts number [] = []
 port_texts number (p ∷ ps) = port_text number p ∷ port_texts (number + 1) ps
 
--- ---- remarks: what a router starts with, or can't, and is no fault of the file
+-- ---- remarks on what a router can or cannot start with, and that is no fault of the file
 
--- what is said of the port with this number
+-- a remark about the port with this number
 abbrev pub remark : ℕ → List ℕ → List ℕ
 remark number text = codes "port " ++ (decimal number ++ (codes ": " ++ (text ++ 10 ∷ [])))
 
--- the words before what is said of it
+-- the words before a remark about it
 abbrev pub port_words : ℕ → List ℕ
 port_words number = codes "port " ++ (decimal number ++ codes ": ")
 
--- no machine has this IP address: its first number is 0, of the network at hand, or 224 and more, of groups,
--- reserved, and of all
+-- no machine can have this IP address. Its first number is 0 (this network), or 224 and more (multicast,
+-- reserved and broadcast)
 abbrev pub is_of_no_machine : List ℕ → Bool
 is_of_no_machine [] = false
 is_of_no_machine (first ∷ rest) = (first == 0) || nat_le 224 first
 
--- the own address is none of the peers, none of these stands twice, and each is that of a machine. The first words
--- say whose they are
+-- the remark about a peer that is the port's own address, repeats an earlier peer, or can belong to no
+-- machine; empty for any other peer. It begins with `whose`
 abbrev pub peer_remark : List ℕ → List ℕ → List (List ℕ) → List ℕ → List ℕ
 peer_remark whose address earlier peer =
     if pointwise nat_eq peer address
@@ -165,7 +166,7 @@ peer_remark whose address earlier peer =
     then whose ++ (codes "peer " ++ (dotted_text peer ++ codes " is no address of a machine\n"))
     else []))
 
--- the ends of a wire are elsewhere than the port, and none of them stands twice
+-- the remark about a remote that is the port's own place or repeats an earlier remote; empty for any other
 abbrev pub ethernet_end_remark : List ℕ → Place → List Place → Place → List ℕ
 ethernet_end_remark whose own earlier end =
     if is_same_place own end
@@ -174,18 +175,18 @@ ethernet_end_remark whose own earlier end =
     then whose ++ (ethernet_end_text end ++ codes " stands twice\n")
     else [])
 
--- a joined router is elsewhere too
+-- the remark about a joined router at the port's own place; empty for any other
 abbrev pub joined_remark : List ℕ → Place → Place → List ℕ
 joined_remark whose own router =
     if is_same_place own router
     then whose ++ (codes "joined" ++ (ethernet_end_text router ++ codes " is its own place\n"))
     else []
 
--- two ports are bound at one place
+-- two ports are bound to the same place
 abbrev pub is_one_place : PortConfig → PortConfig → Bool
 is_one_place p other = is_same_place (place_of_kind p) (place_of_kind other)
 
--- no earlier port is bound where this one is
+-- the remark about a port that is bound to the same place as an earlier one; empty for any other
 abbrev pub sharing_text : ℕ → Option ℕ → List ℕ
 sharing_text number None = []
 sharing_text number (Some k) =
@@ -196,21 +197,21 @@ place_remark number earlier p = sharing_text number (position (is_one_place p) e
 
 -- ---- all that is printed
 
--- of each item what is printed of it, which may depend on those before it
+-- what is printed of each item, which may depend on the items before it
 abbrev pub each_behind : {A : Type 0} → (List A → A → List ℕ) → List A → List A → List ℕ
 each_behind printed earlier [] = []
 each_behind printed earlier (x ∷ xs) =
     printed earlier x ++ each_behind printed (earlier ++ x ∷ []) xs
 
--- what is to be remarked on those whom a port sends to, behind the words that say whose they are: of
--- those who may register nothing
+-- the remarks about the addresses that a port sends to, each after the words that say which port it is. There
+-- are none about clients that may register
 abbrev pub reached_remarks : List ℕ → PortConfig → List ℕ
 reached_remarks whose (Rfc1234 p) = each_behind (peer_remark whose p.address) [] p.peers.items
 reached_remarks whose (Frames p) =
     each_behind (ethernet_end_remark (whose ++ codes "end") (place_of_kind (Frames p))) [] p.ends.items
 reached_remarks whose (Ipxnet p) = flat_map (joined_remark whose (place_of_kind (Ipxnet p))) p.join.items
 
--- the line of a port behind earlier ones, and what is to be remarked
+-- the line of a port that follows earlier ones, and the remarks about it
 abbrev pub port_lines : List PortConfig → PortConfig → List ℕ
 port_lines earlier p =
     let number = length earlier + 1 in
@@ -224,7 +225,7 @@ abbrev pub status_text : Option (String Global) → List ℕ
 status_text None = codes "no status file"
 status_text (Some text) = codes "status " ++ shown_text (string_bytes text)
 
--- where what it knows is written, where the file says
+-- the path of the table file, if the file gives one
 abbrev pub tables_place_text : Option (String Global) → List ℕ
 tables_place_text None = []
 tables_place_text (Some text) = codes ", tables " ++ shown_text (string_bytes text)
@@ -235,7 +236,7 @@ file_line path s =
     path ++ (codes ": " ++ (count_text (length s.ports.items)
     ++ (codes ", " ++ (status_text s.status ++ (tables_place_text s.tables ++ 10 ∷ [])))))
 
--- ---- routes and services by hand, as the file of tables has offers
+-- ---- static routes and services, in the form of the table file
 
 abbrev pub static_route_line : Source → RipEntry → List ℕ
 static_route_line by r =
@@ -257,7 +258,7 @@ word_line by (Service s) = static_service_line by s
 abbrev pub static_line : StaticEntry → List ℕ
 static_line e = word_line e.by e.word
 
--- all that is printed of a router's file: its ports, what it is to hear by hand, and itself
+-- all that is printed of a router's file: its ports, its static entries, and the file itself
 abbrev pub site_lines : List ℕ → RouterConfig → List ℕ
 site_lines path s =
     each_behind port_lines [] s.ports.items

@@ -1,5 +1,5 @@
--- What a router tells of who comes to its ports for clients of ipxnet, and of who is gone. All of it is
--- own.
+-- What a router logs of the clients that connect to its ipxnet ports and of those that are gone. Defined by
+-- this project.
 use Rattle.std.specs.Prelude.{ℕ, ◌+◌, ◌-◌, List, [], ◌∷◌, ◌++◌, Bool, not, ◌==◌, ◌&&◌, filter, length, map, slice_get, take, Option, Some, None}
 use Rattle.std.specs.HashSet.{HashSet, contains_by}
 use Rattle.std.specs.List.{list_any}
@@ -12,11 +12,11 @@ use Rattle.ipx_site.specs.declared.client_log.PortClient.{PortClient}
 use Rattle.ipx_site.specs.declared.router_ports.PortIndex.{PortIndex}
 use Rattle.ipx_site.specs.declared.router_ports.PortIndex.TheVariants.{Datagrams, Ethernet, IpxnetServer}
 
--- so many lines are told at a look at most
+-- the most lines logged at one look
 abbrev pub max_client_lines : ℕ
 max_client_lines = 10
 
--- the same client of the same port, and one of these
+-- two are the same client of the same port, and a client is in a list
 abbrev pub is_one_client : PortClient → PortClient → Bool
 is_one_client a b =
     (a.port == b.port) && (are_one_place a.place b.place && bytes_eq a.node.0 b.node.0)
@@ -24,48 +24,48 @@ is_one_client a b =
 abbrev pub is_listed_client : List PortClient → PortClient → Bool
 is_listed_client clients client = list_any (λ one. is_one_client client one) clients
 
--- those of some clients that are none of these
+-- the clients that are not among these
 abbrev pub clients_without : List PortClient → List PortClient → List PortClient
 clients_without clients these = filter (λ c. not (is_listed_client these c)) clients
 
--- who is told to be gone at a look: who was told to be there, and is not
+-- the clients logged as gone at a look: they were logged as connected, and are not connected
 abbrev pub clients_gone : List PortClient → List PortClient → List PortClient
 clients_gone told there = take max_client_lines (clients_without told there)
 
--- who is told to have come: who is there, and was not told
+-- the clients logged as connecting: they are connected, and were not logged
 abbrev pub clients_come : List PortClient → List PortClient → List PortClient
 clients_come told there =
     take (max_client_lines - length (clients_gone told there)) (clients_without there told)
 
--- who is told to be there then, by just what was told
+-- the clients that are logged as connected after the look, given exactly these lines
 abbrev pub clients_told : List PortClient → List PortClient → List PortClient
 clients_told told there = clients_without told (clients_gone told there) ++ clients_come told there
 
--- the clients of a port with this number
+-- the clients of the port with this number
 abbrev pub port_clients : ℕ → List Client → List PortClient
 port_clients port clients =
     map (λ c. record { port = port; place = c.place; node = c.node }) clients
 
--- the clients of a lobby, if there is one
+-- the clients of an ipxnet server, if there is one
 abbrev pub server_clients : ℕ → Option ServerView → List PortClient
 server_clients port None = []
 server_clients port (Some l) = port_clients port l.clients
 
--- those of the port at a spot: none where it is no port for clients
+-- the clients of the port at an index; none if it is no ipxnet port
 abbrev pub port_index_clients : ℕ → PortIndex → List ServerView → List PortClient
 port_index_clients port (Datagrams place) servers = []
 port_index_clients port (Ethernet place) servers = []
 port_index_clients port (IpxnetServer place) servers = server_clients port (slice_get servers place)
 
--- those of ports in their order, of which the first has this number
+-- the clients of ports in their order, the first of which has this number
 abbrev pub all_clients : ℕ → List PortIndex → List ServerView → List PortClient
 all_clients port [] servers = []
 all_clients port (s ∷ port_indices) servers =
     port_index_clients port s servers ++ all_clients (port + 1) port_indices servers
 
--- ---- words of the private functions
+-- ---- definitions for private functions
 
--- what tells a client from every other
+-- what distinguishes a client from all others
 abbrev pub client_key : PortClient → ClientKey
 client_key c = record {
   port = c.port;
@@ -78,6 +78,6 @@ abbrev pub is_same_key : ClientKey → ClientKey → Bool
 is_same_key a b = (a.port == b.port)
     && (bytes_eq a.ip b.ip && ((a.udp_port == b.udp_port) && bytes_eq a.node b.node))
 
--- the key of a client is one of these
+-- the key of a client is in the set
 abbrev pub has_client_key : {S : Type 0} → HashSet ClientKey S → PortClient → Bool
 has_client_key keys c = contains_by (is_same_key (client_key c)) keys

@@ -1,5 +1,5 @@
--- What a text describes that may be the file of a router or of a host, and what is wrong with another. All
--- of it is own.
+-- What a text describes that is the file of a router or a host, and its fault if it is neither. Defined by
+-- this project.
 use Rattle.std.specs.Prelude.{ℕ, List, Bool, true, false, Option, Some, None, is_some}
 use Rattle.toml.specs.Data.{Members, get_member}
 use Rattle.toml.specs.Parse.{parse_document}
@@ -15,7 +15,7 @@ abbrev pub IsStationText : List ℕ → ConfigFile → Type 0
 IsStationText text (Router site) = IsSiteText text site
 IsStationText text (Host host) = IsHostText text host
 
--- a text has ports where it is TOML with their key
+-- a text has ports if it is TOML with their key
 abbrev pub has_port_key : Option Members → Bool
 has_port_key None = false
 has_port_key (Some ms) = is_some (get_member (key_text Key.Port) ms)

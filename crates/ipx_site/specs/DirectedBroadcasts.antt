@@ -1,4 +1,4 @@
--- Directed broadcasts: packets for all nodes of another network. All of it is own.
+-- Directed broadcasts: packets for all nodes of another network. Defined by this project.
 use Rattle.std.specs.Prelude.{◌≡◌, ℕ, ◌==◌, ◌&&◌, Bool, true, not, List, Some, None, slice_get}
 use Rattle.ipx_wire.specs.Assigned.{local_network, netbios_propagation_type}
 use Rattle.ipx_wire.specs.Ipx.{BeginsWith, PacketView}
@@ -12,8 +12,8 @@ use Rattle.ipx_carrier.specs.Counting.{raised}
 use Rattle.ipx_site.specs.declared.directed_broadcast.DirectedBroadcast.{DirectedBroadcast}
 use Rattle.ipx_site.specs.declared.directed_broadcast.DirectedDrops.{DirectedDrops}
 
--- a packet that came by this port is for all nodes of another network. One of type 20 is not, since no router
--- forwards it so
+-- a packet that came by this port is for all nodes of another network. Type 20 is excepted, because no router
+-- forwards it this way
 abbrev pub is_directed : Port → IpxHeader → Bool
 is_directed arrived h = not (h.kind == netbios_propagation_type) && is_node h.to.node broadcast
     && not (h.to.network.0 == local_network) && not (h.to.network.0 == arrived.network.0)
@@ -25,12 +25,12 @@ IsDirectedAt ports arrived bytes it = (p : PacketView) × BeginsWith bytes p
     × (is_directed arrived p.header ≡ true)
     × (direct_route ports p.header.to.network ≡ Some it.leaves_by) × (it.from ≡ p.header.from)
 
--- so they are at a port that is there
+-- bytes are a directed broadcast at a port that exists
 abbrev pub IsDirectedBroadcast : List Port → ℕ → List ℕ → DirectedBroadcast → Type 0
 IsDirectedBroadcast ports port bytes it =
     (arrived : Port) × (slice_get ports port ≡ Some arrived) × IsDirectedAt ports arrived bytes it
 
--- none was dropped yet, and one more was, and came from there
+-- none has been dropped; one more was dropped, from this sender
 abbrev pub no_directed_drops : DirectedDrops
 no_directed_drops = record { count = 0; last = None }
 

@@ -1,4 +1,4 @@
--- When a router told what it dropped, and of what it warns. All of it is own.
+-- When a router logs what it dropped, and which lines are warnings. Defined by this project.
 use Rattle.std.specs.Prelude.{◌≡◌, ℕ, Bool, true, false, not, ◌==◌, ◌&&◌, Option, Some, None}
 use Rattle.ipx_wire.specs.Assigned.{rip_socket, sap_socket}
 use Rattle.ipx_wire.specs.declared.address.Address.{Address}
@@ -12,7 +12,7 @@ use Rattle.ipx_site.specs.declared.drop_log.DropReason.{DropReason}
 use Rattle.ipx_site.specs.declared.drop_log.DropReason.TheVariants.{Bad, NotOurs, NoRoute, HopLimit, BadControl, ForwardedControl, LoopedSource}
 use Rattle.ipx_site.specs.Moments.{IsToldIfDue, untold}
 
--- nothing was told yet
+-- nothing has been logged
 abbrev pub no_drops_told : DropLog
 no_drops_told = record {
   bad = untold;
@@ -24,7 +24,7 @@ no_drops_told = record {
   looped_source = untold;
 }
 
--- what was dropped for each of seven reasons is told then, exactly where it is due
+-- the drops of each of seven reasons are logged exactly if they are due
 pub record AreDropsTold (outcomes : OutcomeCounters) (source : SourceDrops) (now : ℕ) (old new : DropLog) : Type 0 where
   pub bad : IsToldIfDue outcomes.bad now old.bad new.bad
   pub not_ours : IsToldIfDue outcomes.not_ours now old.not_ours new.not_ours
@@ -35,7 +35,8 @@ pub record AreDropsTold (outcomes : OutcomeCounters) (source : SourceDrops) (now
       IsToldIfDue source.forwarded_control.count now old.forwarded_control new.forwarded_control
   pub looped_source : IsToldIfDue source.looped_source.count now old.looped_source new.looped_source
 
--- the last datagram of a reason was sent to all nodes of a network, by neither RIP nor SAP, which routers hear
+-- the last datagram of a reason was for all nodes of a network, to a socket other than those of RIP and SAP,
+-- which routers hear
 abbrev pub is_for_all_nodes : Option Address → Bool
 is_for_all_nodes None = false
 is_for_all_nodes (Some a) =
@@ -45,7 +46,8 @@ abbrev pub is_of_all_nodes : Option LastDrop → Bool
 is_of_all_nodes None = false
 is_of_all_nodes (Some d) = is_for_all_nodes d.to
 
--- a line of what was dropped warns, but where the last was not the router's and so sent to all nodes
+-- a line about drops is a warning, unless the last datagram was not for the router because it was for all
+-- nodes
 abbrev pub warns_of : DropReason → Option LastDrop → Bool
 warns_of Bad last = true
 warns_of NotOurs last = not (is_of_all_nodes last)
@@ -55,9 +57,9 @@ warns_of BadControl last = true
 warns_of ForwardedControl last = true
 warns_of LoopedSource last = true
 
--- ---- words of the private functions
+-- ---- relations for private functions
 
--- what failed a source check is told so, and no other reason
+-- what failed a source check is logged if it is due, and no other reason
 pub record AreSourceDropsTold (source : SourceDrops) (now : ℕ) (old new : DropLog) : Type 0 where
   pub forwarded_control :
       IsToldIfDue source.forwarded_control.count now old.forwarded_control new.forwarded_control

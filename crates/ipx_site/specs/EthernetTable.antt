@@ -1,4 +1,4 @@
--- A port of a router on a wire in its file, and a port of any kind: a table `[[port]]`. All of it is own.
+-- An Ethernet port in a router's file, and a port of any kind: a table `[[port]]`. Defined by this project.
 use Rattle.std.specs.Prelude.{◌≡◌, ◌⊎◌, ℕ, true, None}
 use Rattle.toml.specs.Data.{Members}
 use Rattle.ipx_site.specs.declared.fault.ConfigError.{ConfigError}
@@ -17,7 +17,7 @@ use Rattle.ipx_site.specs.PortKinds.{kind_of_port}
 use Rattle.ipx_site.specs.Values.{IsCount, IsDirected, IsIpAddress, IsKind, IsNetwork}
 use Rattle.ipx_site.specs.EthernetValues.{AreEthernetEnds, IsEncapsulation, IsFlag, IsStation, made_station}
 
--- a table is that of a port on a wire, if its kind is that
+-- a table describes an Ethernet port, if its kind is that
 pub record IsFramesTable (ms : Members) (p : EthernetPortConfig) : Type 0 where
   pub known : first_unknown frames_keys ms ≡ None
   pub network : Holds IsNetwork Key.Network ms p.network
@@ -30,14 +30,14 @@ pub record IsFramesTable (ms : Members) (p : EthernetPortConfig) : Type 0 where
   pub joined : HoldsOr IsFlag Key.Switch ms true p.joined
   pub directed : HoldsOr IsDirected Key.Directed ms Directed.Few p.directed
 
--- the first fault of the keys that say what the wire is: its ends, and what the port is to them
+-- the first fault of the keys for the remotes, and of the keys after them
 abbrev pub IsEthernetFault : Members → ℕ → ConfigError → Type 0
 IsEthernetFault ms table f = IsFault AreEthernetEnds Key.Ends ms table f
     ⊎ (IsRight AreEthernetEnds Key.Ends ms × (IsWrong IsStation Key.Node ms table f
     ⊎ (IsRightOr IsStation Key.Node ms × (IsWrong IsFlag Key.Switch ms table f
     ⊎ (IsRightOr IsFlag Key.Switch ms × IsWrong IsDirected Key.Directed ms table f)))))
 
--- the first fault of the table: a name that is no key of this kind, and then the keys in order
+-- the first fault of the table: a name that is no key of this kind, followed by the keys in order
 abbrev pub IsFramesFault : ℕ → Members → ConfigError → Type 0
 IsFramesFault table ms f =
     IsStray Of.Frames ms table f
@@ -48,14 +48,14 @@ IsFramesFault table ms f =
     ⊎ (IsRight (IsCount 65535) Key.UdpPort ms × (IsWrong (IsCount 65535) Key.Cost ms table f
     ⊎ (IsRightOr (IsCount 65535) Key.Cost ms × IsEthernetFault ms table f)))))))))))
 
--- ---- a port of any kind: that of RFC 1234 where the table says none
+-- ---- a port of any kind: RFC 1234 if the table gives none
 
 abbrev pub IsTableOfKind : Members → PortConfig → Type 0
 IsTableOfKind ms (Rfc1234 p) = IsPortTable ms p
 IsTableOfKind ms (Frames p) = IsFramesTable ms p
 IsTableOfKind ms (Ipxnet p) = IsIpxnetTable ms p
 
--- a table is that of a port
+-- a table describes a port
 abbrev pub IsPortOfKind : Members → PortConfig → Type 0
 IsPortOfKind ms p = HoldsOr IsKind Key.Kind ms Of.Rfc1234 (kind_of_port p) × IsTableOfKind ms p
 
@@ -64,7 +64,7 @@ IsFaultOfKind Of.Rfc1234 table ms f = IsPortFault table ms f
 IsFaultOfKind Of.Frames table ms f = IsFramesFault table ms f
 IsFaultOfKind Of.Ipxnet table ms f = IsIpxnetFault table ms f
 
--- its first fault: its kind's, and then those of a port of that kind
+-- its first fault: that of its kind, followed by those of a port of that kind
 abbrev pub IsKindFault : ℕ → Members → ConfigError → Type 0
 IsKindFault table ms f = IsWrong IsKind Key.Kind ms table f
     ⊎ ((kind : Kind) × HoldsOr IsKind Key.Kind ms Of.Rfc1234 kind × IsFaultOfKind kind table ms f)

@@ -1,4 +1,4 @@
--- What the hubs of a router's ports on wires counted together. All of it is own.
+-- Totals over the switches of a router's Ethernet ports. Defined by this project.
 use Rattle.std.specs.Prelude.{ℕ, ◌+◌, List, sum_by}
 use Rattle.ipx_carrier.specs.Counting.{counted}
 use Rattle.ipx_ethernet.specs.declared.encapsulation.Encapsulation.{Encapsulation}
@@ -6,18 +6,18 @@ use Rattle.ipx_ethernet.specs.declared.encapsulation.Encapsulation.TheVariants.{
 use Rattle.ipx_ethernet.specs.declared.frame_counters.FrameCounters.{FrameCounters}
 use Rattle.ipx_hub.specs.Heard.{SwitchView}
 
--- the frames with a packet in another encapsulation than the port's
+-- the frames with a packet in an encapsulation other than the port's
 abbrev pub encapsulated_otherwise : FrameCounters → ℕ
 encapsulated_otherwise c = c.in_raw + c.in_llc + c.in_snap + c.in_ethernet_ii
 
--- those in one, whichever the port has
+-- those in this encapsulation, at a port with another one
 abbrev pub came_as : FrameCounters → Encapsulation → ℕ
 came_as c Raw = c.in_raw
 came_as c Llc = c.in_llc
 came_as c Snap = c.in_snap
 came_as c EthernetII = c.in_ethernet_ii
 
--- at all ports
+-- the same at all ports
 abbrev pub encapsulated_otherwise_in : List SwitchView → ℕ
 encapsulated_otherwise_in switches = counted (sum_by (λ h. encapsulated_otherwise h.counts) switches)
 

@@ -1,4 +1,4 @@
--- What the values of the keys of a port on a wire mean. All of it is own.
+-- The values of the keys of an Ethernet port. Defined by this project.
 use Rattle.std.specs.Prelude.{Vec, ◌≡◌, ℕ, ◌+◌, ◌*◌, ◌/◌, ◌==◌, ◌≤◌, List, [], ◌∷◌, ◌++◌, Bool, true, not, ◌&&◌, Option, Some, codes, drop, length, nat_eq, slice_index, MatchOption}
 use Rattle.std.specs.Cmp.Lexicographic.{pointwise}
 use Rattle.std.specs.Global.{Global}
@@ -30,24 +30,24 @@ IsEncapsulation d e = as_str d ≡ Some (frame_word e)
 abbrev pub IsFlag : Data → Bool → Type 0
 IsFlag d b = as_bool d ≡ Some b
 
--- a place as an address of a socket
+-- a place as a socket address
 abbrev pub socket_at : Place → SocketAddrV4
 socket_at p = record { ip = record { octets = p.ip }; port = p.udp_port }
 
--- a place where an end can be: the address 0.0.0.0 and the port 0 are none
+-- a remote can be at a place: neither the IP address nor the UDP port is 0
 abbrev pub is_somewhere : Place → Bool
 is_somewhere p = not (bytes_eq p.ip (0 ∷ 0 ∷ 0 ∷ 0 ∷ [])) && not (p.udp_port == 0)
 
--- two places are one
+-- two places are the same
 abbrev pub is_same_place : Place → Place → Bool
 is_same_place a b = pointwise nat_eq b.ip a.ip && (b.udp_port == a.udp_port)
 
--- none of some places stands twice
+-- no place is listed twice
 abbrev pub are_places_apart : List Place → Bool
 are_places_apart [] = true
 are_places_apart (p ∷ ps) = not (list_any (is_same_place p) ps) && are_places_apart ps
 
--- an IP address, a colon and a port of UDP: such a place
+-- an IP address, a colon and a UDP port, where a remote can be
 abbrev pub WritesPlace : List ℕ → Place → Type 0
 WritesPlace text p = IsSocketV4Text text (socket_at p) × (is_somewhere p ≡ true)
 
@@ -67,7 +67,7 @@ with_colons (a ∷ []) = a ∷ []
 with_colons (a ∷ b ∷ []) = a ∷ b ∷ []
 with_colons (a ∷ b ∷ c ∷ digits) = a ∷ b ∷ 58 ∷ with_colons (c ∷ digits)
 
--- an address that one station can have: no group's, and not zero
+-- an address that one station can have: no group address, and not zero
 abbrev pub is_station : Node → Bool
 is_station node = not (is_group node.0) && not (bytes_eq node.0 (0 ∷ 0 ∷ 0 ∷ 0 ∷ 0 ∷ 0 ∷ []))
 
@@ -79,16 +79,16 @@ WritesStation text node = (digits : List ℕ) × (text ≡ with_colons digits)
 abbrev pub IsStation : Data → Node → Type 0
 IsStation d node = (text : List ℕ) × (as_str d ≡ Some text) × WritesStation text node
 
--- the address of a port that has none in its file: its IP address, the two low bits of whose first byte
--- say that no maker gave it and that it is no group's, and its port of UDP
+-- the node of a port whose file gives none: its IP address followed by its UDP port. The two low bits of the
+-- first byte mark it as locally administered and no group address
 abbrev pub made_station : List ℕ → ℕ → Node
 made_station ip udp_port = record {
   0 = (slice_index ip 0 / 4 * 4 + 2) ∷ (drop 1 ip ++ to_be_bytes w16 udp_port);
 }
 
--- ---- words of the private functions
+-- ---- relations for private functions
 
--- the place that a text writes, or that it writes none
+-- the place that a text gives, or that it gives none
 abbrev pub ReadsPlace : List ℕ → Option Place → Type 0
 ReadsPlace text found = MatchOption found ((p : Place) → WritesPlace text p → ⊥) (WritesPlace text)
 
@@ -96,12 +96,12 @@ abbrev pub ReadsEthernetEnds : Items → Option (Vec Place Global) → Type 0
 ReadsEthernetEnds ds found = MatchOption found ((ends : List Place) → AreEach IsEthernetEnd ds ends → ⊥)
     (λ v. AreEach IsEthernetEnd ds v.items)
 
--- the twelve digits of a text, or that it has no such ones
+-- the twelve digits of a text, or that it has none
 abbrev pub ReadsDigits : List ℕ → Option (List ℕ) → Type 0
 ReadsDigits text found = MatchOption found
     ((digits : List ℕ) → length digits ≡ 12 → text ≡ with_colons digits → ⊥)
     (λ digits. text ≡ with_colons digits)
 
--- the address of a station that a text writes, or that it writes none
+-- the station address that a text gives, or that it gives none
 abbrev pub ReadsStation : List ℕ → Option Node → Type 0
 ReadsStation text found = MatchOption found ((n : Node) → WritesStation text n → ⊥) (WritesStation text)

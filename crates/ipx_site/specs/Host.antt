@@ -1,4 +1,4 @@
--- The file of a host. All of it is own.
+-- The file of a host. Defined by this project.
 use Rattle.std.specs.Prelude.{◌≡◌, ◌⊎◌, ℕ, List, [], None, Some}
 use Rattle.toml.specs.Data.{Members}
 use Rattle.toml.specs.Parse.{parse_document}
@@ -13,7 +13,7 @@ use Rattle.ipx_site.specs.AllowedPeers.{AreOrigins}
 use Rattle.ipx_site.specs.Values.{IsAccept, IsIpAddress, IsCount, IsNetwork, IsSocket}
 use Rattle.ipx_site.specs.Fields.{Holds, HoldsIf, HoldsOr, IsFault, IsNoToml, IsRight, IsRightOr, IsUnknown, IsWrong}
 
--- a table is that of a host
+-- a table describes a host
 pub record IsHost (ms : Members) (h : HostConfig) : Type 0 where
   pub known : first_unknown host_keys ms ≡ None
   pub network : Holds IsNetwork Key.Network ms h.network
@@ -27,7 +27,7 @@ pub record IsHost (ms : Members) (h : HostConfig) : Type 0 where
   pub from : HoldsIf AreOrigins Key.From ms h.from
   pub accept : HoldsOr IsAccept Key.Accept ms Accept.Peers h.accept
 
--- the first fault of the keys that say who is heard and who may connect, in order
+-- the first fault of the keys for accepted senders and allowed peers, in order
 abbrev pub IsCircleFault : Members → ConfigError → Type 0
 IsCircleFault ms f = IsWrong AreNeighbours Key.Peers ms 0 f
     ⊎ ((peers : List (List ℕ)) × HoldsOr AreNeighbours Key.Peers ms [] peers
@@ -35,7 +35,7 @@ IsCircleFault ms f = IsWrong AreNeighbours Key.Peers ms 0 f
     ⊎ (IsRightOr (AreAmong peers) Key.Routers ms × (IsWrong AreOrigins Key.From ms 0 f
     ⊎ (IsRightOr AreOrigins Key.From ms × IsWrong IsAccept Key.Accept ms 0 f)))))
 
--- its first fault: a name that is no key, and then the keys in order
+-- its first fault: a name that is no key, followed by the keys in order
 abbrev pub IsHostFault : Members → ConfigError → Type 0
 IsHostFault ms f =
     IsUnknown host_keys ms 0 f

@@ -1,4 +1,4 @@
--- What a router that runs does by itself, and how long it has nothing to do. All of it is own.
+-- What a running router does by itself, and how long it has nothing to do. Defined by this project.
 use Rattle.std.specs.Prelude.{◌≡◌, ◌≤◌, ◌<◌, ◌⊎◌, ◌==◌, ◌^◌, ℕ, ◌+◌, List, [], ◌∷◌, length, map, true, Option, if◌then◌else◌}
 use Rattle.ipx_router.specs.Telling.{is_due}
 use Rattle.ipx_site.specs.declared.metrics.Metrics.{Metrics}
@@ -19,7 +19,7 @@ use Rattle.ipx_site.specs.Moments.{HasPassed, IsOneDue, IsToAskAgain}
 use Rattle.ipx_site.specs.SiteCore.{SiteCore}
 use Rattle.ipx_site.specs.EthernetTotals.{encapsulated_otherwise_in, unframed_in}
 
--- how often each cause happened of which a line is told
+-- how often each cause of a log line occurred
 pub record EventCounts : Type 0 where
   pub unknown_senders : ℕ
   pub spoofed : ℕ
@@ -36,7 +36,7 @@ pub record EventCounts : Type 0 where
   pub unframed : ℕ
   pub other_encapsulation : ℕ
 
--- by its figures
+-- as its metrics say
 abbrev pub happened_in : Metrics → EventCounts
 happened_in f = record {
   unknown_senders = f.kept.unknown_senders.count;
@@ -60,7 +60,7 @@ abbrev pub lost_in : {gd : OfDevice.Ghosts (SourceFilter UdpSockets)} {ge : OfSo
 lost_in r = r.datagrams.device.device.faults + (r.ethernet.sockets.failures + r.ethernet.sockets.faults)
     + (r.servers.sockets.failures + r.servers.sockets.faults)
 
--- by what it tallies, what its core counts, and what its ports kept back, did not send and lost
+-- as its own counters, those of its core, and those of its ports say
 abbrev pub happened : {gd : OfDevice.Ghosts (SourceFilter UdpSockets)} {ge : OfSockets.Ghosts EthernetSockets} {gl : OfPlaces.Ghosts ServerSockets} → RouterCounts → SiteCore → SitePortsRun gd ge gl → EventCounts
 happened totals core ports = record {
   unknown_senders = ports.datagrams.device.kept.unknown_senders.count;
@@ -79,24 +79,24 @@ happened totals core ports = record {
   other_encapsulation = encapsulated_otherwise_in ports.ethernet.switches.items;
 }
 
--- in the order in which they are told
+-- in the order of the log lines
 abbrev pub counts_told : EventCounts → List ℕ
 counts_told n = n.unknown_senders ∷ n.spoofed ∷ n.not_a_router ∷ n.rate_limited ∷ n.refused ∷ n.table_full
     ∷ n.queue_full ∷ n.device ∷ n.memory ∷ n.file ∷ n.frame_unknown_senders ∷ n.unframed
     ∷ n.other_encapsulation ∷ n.directed ∷ []
 
--- a line of one of a router's causes is to be told
+-- a line for one of a router's causes is due
 abbrev pub IsLineDue : Warnings → EventCounts → ℕ → Type 0
 IsLineDue t n now = IsOneDue t.causes (counts_told n) now
 
--- what all that depends on which a router does by itself
+-- all that the work of a router by itself depends on
 pub record Deadlines : Type 0 where
-  -- how often it asked again
+  -- how often it repeated its requests
   pub asked : ℕ
-  -- when it looked last what it knows, and how many responses it had heard by then
+  -- when it last looked at what it knows, and how many responses it had heard by then
   pub looked : Option ℕ
   pub responses : ℕ
-  -- when it wrote its figures last
+  -- when it last wrote its metrics
   pub written : Option ℕ
   pub core : SiteCore
   pub warnings : Warnings
@@ -113,8 +113,8 @@ deadlines asked looked responses written core warnings count = record {
   count = count;
 }
 
--- it looks each ten seconds what it knows, and one second after the last look where a response was
--- heard since
+-- it looks at what it knows every ten seconds, or one second after the last look if a response was heard
+-- since
 abbrev pub look_after : ℕ → ℕ → ℕ
 look_after heard responses = if heard == responses then 10000 else 1000
 
@@ -122,8 +122,8 @@ look_after heard responses = if heard == responses then 10000 else 1000
 abbrev pub IsToSend : PriorityQueues → Type 0
 IsToSend q = 0 < length q.forwarded + length q.own
 
--- there is something to do: to send what waits, to ask again, to tell the neighbours, to hear by hand, to
--- look, to write the figures, or to tell a line
+-- there is something to do: send what waits, repeat requests, advertise to neighbours, hear static entries,
+-- look, write the metrics, or log a line
 abbrev pub IsDue : Deadlines → ℕ → Type 0
 IsDue a now = IsToSend a.core.core.core.core.queues
     ⊎ IsToAskAgain a.asked now
@@ -133,15 +133,15 @@ IsDue a now = IsToSend a.core.core.core.core.queues
     ⊎ HasPassed 10000 a.written now
     ⊎ IsLineDue a.warnings a.count now
 
--- so long from now there is nothing to do, at any moment that a clock can show; where that is less than
--- ten seconds, which is the most, there is something then
+-- for this long from now there is nothing to do, at any time that a clock can show. If it is less than ten
+-- seconds, which is the most, there is something to do then
 pub record IsTimeUntilDue (todo : ℕ → Type 0) (now time : ℕ) : Type 0 where
   pub most : time ≤ 10000
   pub nothing : (t : ℕ) → now ≤ t → t < now + time → t < 2 ^ 64 → todo t → ⊥
   pub something : time < 10000 → (now + time < 2 ^ 64) × todo (now + time)
 
--- ---- words of the private functions
+-- ---- definitions for private functions
 
--- how often each trouble of a list happened
+-- how often each problem of a list occurred
 abbrev pub counts_of : List Warning → List ℕ
 counts_of warnings = map (λ t. t.kept.count) warnings

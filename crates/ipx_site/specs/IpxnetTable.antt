@@ -1,4 +1,4 @@
--- A port for clients of ipxnet in the file of a router: a table `[[port]]`. All of it is own.
+-- An ipxnet port in the file of a router: a table `[[port]]`. Defined by this project.
 use Rattle.std.specs.Prelude.{Vec, ◌≡◌, ◌⊎◌, ℕ, List, [], None, true, false}
 use Rattle.std.specs.Global.{Global}
 use Rattle.toml.specs.Data.{Members, get_member}
@@ -17,7 +17,7 @@ use Rattle.ipx_site.specs.Keys.{first_unknown, ipxnet_keys, key_text}
 use Rattle.ipx_site.specs.Values.{AreAddressesOf, IsAccept, IsCount, IsDirected, IsIpAddress, IsNetwork}
 use Rattle.ipx_site.specs.EthernetValues.{AreEthernetEnds, IsStation, are_places_apart, made_station}
 
--- who may register: the peers that are named, which must be where not everybody may
+-- the peers that may register; the key is required unless everybody may register
 abbrev pub ArePeersFor : Accept → Members → Vec (List ℕ) Global → Type 0
 ArePeersFor accept ms peers = ((accept ≡ Who.Any) × (get_member (key_text Key.Peers) ms ≡ None) × (peers.items ≡ []))
     ⊎ Holds AreAddressesOf Key.Peers ms peers
@@ -26,19 +26,18 @@ abbrev pub IsPeersFault : Accept → Members → ℕ → ConfigError → Type 0
 IsPeersFault accept ms table f = ((accept ≡ Who.Peers) × IsMissing Key.Peers ms table f)
     ⊎ IsWrong AreAddressesOf Key.Peers ms table f
 
--- where the routers are whose lobbies are joined with this one: the places that are named, each once, or
--- none
+-- the routers whose ipxnet servers are joined with this one: the places in the file, each once, or none
 abbrev pub AreJoinedRouters : Members → Vec Place Global → Type 0
 AreJoinedRouters ms join = ((get_member (key_text Key.Join) ms ≡ None) × (join.items ≡ []))
     ⊎ (Holds AreEthernetEnds Key.Join ms join × (are_places_apart join.items ≡ true))
 
--- what names them names no places, or one of them twice
+-- the key for them gives no places, or one of them twice
 abbrev pub IsJoinFault : Members → ℕ → ConfigError → Type 0
 IsJoinFault ms table f = IsWrong AreEthernetEnds Key.Join ms table f
     ⊎ ((f ≡ Wrong table Key.Join) × ((join : Vec Place Global) × Holds AreEthernetEnds Key.Join ms join
     × (are_places_apart join.items ≡ false)))
 
--- a table is that of such a port, if its kind is that
+-- a table describes an ipxnet port, if its kind is that
 pub record IsIpxnetTable (ms : Members) (p : IpxnetPortConfig) : Type 0 where
   pub known : first_unknown ipxnet_keys ms ≡ None
   pub network : Holds IsNetwork Key.Network ms p.network
@@ -52,19 +51,20 @@ pub record IsIpxnetTable (ms : Members) (p : IpxnetPortConfig) : Type 0 where
   pub join : AreJoinedRouters ms p.join
   pub directed : HoldsOr IsDirected Key.Directed ms Directed.Few p.directed
 
--- the first fault of the last keys: to which routers it is joined, and which directed broadcasts leave by it
+-- the first fault of the last keys: the routers that it is joined to, and the directed broadcasts that leave
+-- by it
 abbrev pub IsLastFault : Members → ℕ → ConfigError → Type 0
 IsLastFault ms table f = IsJoinFault ms table f
     ⊎ ((join : Vec Place Global) × AreJoinedRouters ms join × IsWrong IsDirected Key.Directed ms table f)
 
--- the first fault of the keys that say who its clients may be, behind its node
+-- the first fault of the keys for its clients, which follow its node
 abbrev pub IsClientsFault : Members → ℕ → ConfigError → Type 0
 IsClientsFault ms table f = IsWrong (IsCount max_server_clients) Key.Clients ms table f
     ⊎ (IsRightOr (IsCount max_server_clients) Key.Clients ms × (IsWrong IsAccept Key.Accept ms table f
     ⊎ ((accept : Accept) × HoldsOr IsAccept Key.Accept ms Who.Peers accept × (IsPeersFault accept ms table f
     ⊎ ((peers : Vec (List ℕ) Global) × ArePeersFor accept ms peers × IsLastFault ms table f)))))
 
--- the first fault of the table: a name that is no key of this kind, and then the keys in order
+-- the first fault of the table: a name that is no key of this kind, followed by the keys in order
 abbrev pub IsIpxnetFault : ℕ → Members → ConfigError → Type 0
 IsIpxnetFault table ms f =
     IsStray Of.Ipxnet ms table f

@@ -1,4 +1,4 @@
--- The keys of the files that a site has, as they are written there. All of it is own.
+-- The keys of a site's files, as they are written there. Defined by this project.
 use Rattle.std.specs.Prelude.{codes, ℕ, List, [], ◌∷◌, Bool, Option, Some, None, if◌then◌else◌, nat_eq}
 use Rattle.std.specs.List.{list_any}
 use Rattle.std.specs.Cmp.Lexicographic.{pointwise}
@@ -41,7 +41,7 @@ key_text ServiceType = codes "type"
 key_text Name = codes "name"
 key_text At = codes "ipx_address"
 
--- a text is a key as it is written
+-- a text is this key, as it is written
 abbrev pub is_text_of : List ℕ → Key → Bool
 is_text_of text k = pointwise nat_eq (key_text k) text
 
@@ -55,7 +55,7 @@ first_unknown keys no_members = None
 first_unknown keys (member name d ms) =
     if is_key keys name then first_unknown keys ms else Some name
 
--- the keys of the tables, in the order in which their faults are told
+-- the keys of the tables, in the order in which their faults are reported
 abbrev pub port_keys : List Key
 port_keys = Kind ∷ Network ∷ Address ∷ UdpPort ∷ Cost ∷ Peers ∷ Routers ∷ Accept ∷ Directed ∷ []
 
@@ -67,7 +67,7 @@ abbrev pub ipxnet_keys : List Key
 ipxnet_keys =
     Kind ∷ Network ∷ Address ∷ UdpPort ∷ Cost ∷ Node ∷ Clients ∷ Accept ∷ Peers ∷ Join ∷ Directed ∷ []
 
--- those of a port of this kind, and those of ports of the other kinds that are none of these
+-- the keys of a port of this kind, and the keys of other kinds that this kind does not have
 abbrev pub keys_of_kind : PortKind → List Key
 keys_of_kind Of.Rfc1234 = port_keys
 keys_of_kind Of.Frames = frames_keys
@@ -81,7 +81,7 @@ keys_of_other_kinds Of.Ipxnet = Routers ∷ Frame ∷ Ends ∷ Switch ∷ []
 abbrev pub site_keys : List Key
 site_keys = Status ∷ Tables ∷ Port ∷ Route ∷ Service ∷ []
 
--- those of a route and of a service by hand
+-- the keys of a static route and of a static service
 abbrev pub route_keys : List Key
 route_keys = Port ∷ Next ∷ Network ∷ Hops ∷ Ticks ∷ []
 

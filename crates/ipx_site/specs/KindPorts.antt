@@ -1,5 +1,5 @@
--- The ports of a router's file by their kinds: which of them are of RFC 1234, which on wires and which for
--- clients of ipxnet, and where each is among those. All of it is own.
+-- The ports of a router's file by their kinds: RFC 1234, Ethernet and ipxnet, and their indices among those.
+-- Defined by this project.
 use Rattle.std.specs.Prelude.{◌≡◌, ℕ, List, [], ◌∷◌, ◌++◌, Option, length, map}
 use Rattle.std.specs.List.{flat_map}
 use Rattle.ipx_ethernet.specs.declared.ethernet_port.EthernetPort.{EthernetPort}
@@ -28,7 +28,7 @@ use Rattle.ipx_site.specs.declared.site.PortConfig.TheVariants.{Rfc1234, Frames,
 use Rattle.ipx_site.specs.declared.site.Rfc1234PortConfig.{Rfc1234PortConfig}
 use Rattle.ipx_site.specs.SitePorts.{AccessListPorts, heard_at_port, site_peers, udp_ports}
 
--- a port, where it is of that kind
+-- a port, if it is of that kind
 abbrev pub datagrams_in : PortConfig → List Rfc1234PortConfig
 datagrams_in (Rfc1234 p) = p ∷ []
 datagrams_in (Frames p) = []
@@ -54,7 +54,7 @@ ethernet_ports ports = flat_map ethernet_ports_in ports
 abbrev pub ipxnet_ports : List PortConfig → List IpxnetPortConfig
 ipxnet_ports ports = flat_map ipxnet_in ports
 
--- where a port is among those of its kind, the first of which is 0, behind earlier ports
+-- the index of a port among those of its kind, starting at 0, after earlier ports
 abbrev pub port_index_behind : List PortConfig → PortConfig → PortIndex
 port_index_behind earlier (Rfc1234 p) = Datagrams (length (datagram_ports earlier))
 port_index_behind earlier (Frames p) = Ethernet (length (ethernet_ports earlier))
@@ -64,40 +64,40 @@ abbrev pub port_indices_behind : List PortConfig → List PortConfig → List Po
 port_indices_behind earlier [] = []
 port_indices_behind earlier (p ∷ ps) = port_index_behind earlier p ∷ port_indices_behind (earlier ++ p ∷ []) ps
 
--- where each port is
+-- the index of each port
 abbrev pub port_indices_of : List PortConfig → List PortIndex
 port_indices_of ports = port_indices_behind [] ports
 
--- a port of a file as one on a wire, and its hub before anything came
+-- the Ethernet port of a file's port, and its switch before any frame came
 abbrev pub ethernet_port_of : EthernetPortConfig → EthernetPort
 ethernet_port_of p = record { own = p.node; network = p.network; encapsulation = p.encapsulation }
 
 abbrev pub switch_of : EthernetPortConfig → SwitchView
 switch_of p = new_switch (ethernet_port_of p) p.joined
 
--- where the ends of the wire of each are
+-- the places of the remotes of each
 abbrev pub end_places : List EthernetPortConfig → List (List Place)
 end_places ports = map (λ p. p.ends.items) ports
 
--- a port of a file as one for clients, and its lobby before anybody registered
+-- the server port of a file's ipxnet port, and its server before any client registered
 abbrev pub client_port_of : IpxnetPortConfig → ServerPort
 client_port_of p = record { network = p.network; own = p.node }
 
--- a place of a file as one of a lobby
+-- a place of a file as a place of an ipxnet server
 abbrev pub server_place : Place → ClientPlace
 server_place p = record { ip = p.ip; udp_port = p.udp_port }
 
--- it is joined to those of the routers that the file names
+-- it is joined to the servers of the routers that the file names
 abbrev pub server_of_port : IpxnetPortConfig → ServerView
 server_of_port p = joined_server (client_port_of p) p.clients (map server_place p.join.items)
 
--- from which IP addresses one may register: the named ones, and those of the routers, or each
+-- the IP addresses from which clients may register: the named ones and those of joined routers, or all
 abbrev pub registering_at : IpxnetPortConfig → Option (List (List ℕ))
 registering_at p = heard_at_port p.accept (p.peers.items ++ map (λ r. r.ip) p.join.items)
 
--- the ports of a file as those of a router: each of RFC 1234 has its peers, its guard, and a socket with the
--- port of UDP of its peers; each on a wire has its hub, and a socket with the places of its ends; and each
--- for clients of ipxnet its lobby, and a socket that hears those who may register
+-- the ports of a file as those of a router. An RFC 1234 port has its peers, its access list, and a socket
+-- with the UDP port of its peers. An Ethernet port has its switch, and a socket with the places of its
+-- remotes. An ipxnet port has its server, and a socket that accepts those that may register
 pub record ArePortsBound {gd : OfDevice.Ghosts (SourceFilter UdpSockets)} {ge : OfSockets.Ghosts EthernetSockets} {gl : OfPlaces.Ghosts ServerSockets} (ports : List PortConfig) (r : SitePortsRun gd ge gl) : Type 0 where
   pub port_indices : r.port_indices.items ≡ port_indices_of ports
   pub peers : peers_of r.datagrams.peers.items ≡ site_peers (datagram_ports ports)

@@ -1,4 +1,4 @@
--- What the bytes of a file are to be, and the status that says what is wrong. All of it is own.
+-- The valid bytes of a file, and the exit status of a fault. Defined by this project.
 use Rattle.std.specs.Prelude.{◌≡◌, ◌≤◌, ◌⊎◌, ℕ, List, IsUtf8, length}
 use Rattle.ipx_site.specs.declared.fault.ConfigError.{ConfigError}
 use Rattle.ipx_site.specs.declared.fault.ConfigError.TheVariants.{Again, Missing, NotToml, OtherKind, OutOfMemory, Twin, Unknown, Wrong}
@@ -7,7 +7,7 @@ use Rattle.ipx_site.specs.declared.fault.ConfigError.TheVariants.{Again, Missing
 abbrev pub IsFileText : List ℕ → Type 0
 IsFileText bytes = (length bytes ≤ 65536) × IsUtf8 bytes
 
--- the status of a fault: 1 for want of memory, and else 2
+-- the exit status of a fault: 1 if out of memory, otherwise 2
 abbrev pub fault_status : ConfigError → ℕ
 fault_status OutOfMemory = 1
 fault_status (NotToml line error) = 2
@@ -18,8 +18,7 @@ fault_status (Wrong table key) = 2
 fault_status (Twin table network earlier) = 2
 fault_status (Again table earlier) = 2
 
--- why bytes describe nothing, where a text may have these faults: for want of memory, since they are no
--- text, or for a fault
+-- the exit status if bytes describe nothing: out of memory, no text, or a fault
 abbrev pub IsStatus : (ConfigError → Type 0) → List ℕ → ℕ → Type 0
 IsStatus IsFault bytes status = (status ≡ 1)
     ⊎ ((status ≡ 2) × ((IsFileText bytes → ⊥) ⊎ ((f : ConfigError) × IsFault f)))

@@ -1,4 +1,4 @@
--- The nodes of its own network that a host names in its file. All of it is own.
+-- The nodes of its own network that a host's file names. Defined by this project.
 use Rattle.std.specs.Prelude.{Vec, ◌≡◌, ◌≤◌, ℕ, List, length, true, Option, Some, MatchOption}
 use Rattle.std.specs.Global.{Global}
 use Rattle.std.specs.List.{list_all}
@@ -6,18 +6,18 @@ use Rattle.toml.specs.Data.{Data, Items, as_array}
 use Rattle.ipx_site.specs.SourceFilter.{is_peer}
 use Rattle.ipx_site.specs.Values.{AreAddresses}
 
--- an array of strings that are IP addresses, 256 at most
+-- an array of strings that are IP addresses, at most 256
 abbrev pub AreNeighbours : Data → List (List ℕ) → Type 0
 AreNeighbours d ips = (ds : Items) × (as_array d ≡ Some ds) × AreAddresses ds ips
     × (length ips ≤ 256)
 
--- so, and each of them is one of these peers
+-- the same, and each of them is one of these peers
 abbrev pub AreAmong : List (List ℕ) → Data → List (List ℕ) → Type 0
 AreAmong peers d ips = AreNeighbours d ips × (list_all (is_peer peers) ips ≡ true)
 
--- ---- words of the private functions
+-- ---- relations for private functions
 
--- the IP addresses that a value means, or that it means none
+-- the IP addresses that a value gives, or that it gives none
 abbrev pub ReadsList : (Data → List (List ℕ) → Type 0) → Data → Option (Vec (List ℕ) Global) → Type 0
 ReadsList Means d found = MatchOption found ((ips : List (List ℕ)) → Means d ips → ⊥)
     (λ v. Means d v.items)

@@ -1,4 +1,4 @@
--- A port of RFC 1234 of a router in its file: a table `[[port]]`. All of it is own.
+-- An RFC 1234 port in the file of a router: a table `[[port]]`. Defined by this project.
 use Rattle.std.specs.Prelude.{Vec, ◌≡◌, ◌⊎◌, ℕ, List, None}
 use Rattle.std.specs.Global.{Global}
 use Rattle.toml.specs.Data.{Members}
@@ -13,7 +13,7 @@ use Rattle.ipx_site.specs.Keys.{first_unknown, port_keys}
 use Rattle.ipx_site.specs.Values.{AreAddressesOf, AreRouterPeers, IsAccept, IsIpAddress, IsCount, IsDirected, IsNetwork}
 use Rattle.ipx_site.specs.Fields.{Holds, HoldsIf, HoldsOr, IsFault, IsRight, IsRightOr, IsStray, IsWrong}
 
--- a table is that of such a port, if its kind is that
+-- a table describes an RFC 1234 port, if its kind is that
 pub record IsPortTable (ms : Members) (p : Rfc1234PortConfig) : Type 0 where
   pub known : first_unknown port_keys ms ≡ None
   pub network : Holds IsNetwork Key.Network ms p.network
@@ -25,15 +25,15 @@ pub record IsPortTable (ms : Members) (p : Rfc1234PortConfig) : Type 0 where
   pub accept : HoldsOr IsAccept Key.Accept ms Accept.Peers p.accept
   pub directed : HoldsOr IsDirected Key.Directed ms Directed.Few p.directed
 
--- the first fault of the keys after its peers, which say who of them is a router, who is heard, and which
--- directed broadcasts leave by it
+-- the first fault of the keys after its peers: which of them are routers, which senders are accepted, and
+-- which directed broadcasts leave by it
 abbrev pub IsAccessFault : Members → ℕ → ConfigError → Type 0
 IsAccessFault ms table f = (peers : Vec (List ℕ) Global) × Holds AreAddressesOf Key.Peers ms peers
     × (IsWrong (AreRouterPeers peers.items) Key.Routers ms table f
     ⊎ (IsRightOr (AreRouterPeers peers.items) Key.Routers ms × (IsWrong IsAccept Key.Accept ms table f
     ⊎ (IsRightOr IsAccept Key.Accept ms × IsWrong IsDirected Key.Directed ms table f))))
 
--- the first fault of the table of a port: a name that is no key, and then the keys in order
+-- the first fault of the table of a port: a name that is no key, followed by the keys in order
 abbrev pub IsPortFault : ℕ → Members → ConfigError → Type 0
 IsPortFault table ms f =
     IsStray Kind.Rfc1234 ms table f

@@ -1,5 +1,5 @@
--- The token buckets of a router's ports: for the general queries that come by one, and for the directed
--- broadcasts that leave by it. All of it is own.
+-- The token buckets of a router's ports: for the general queries that come by a port, and for the directed
+-- broadcasts that leave by it. Defined by this project.
 use Rattle.std.specs.Prelude.{ℕ, List, Bool, true, Option, Some, None, slice_index_or, slice_set}
 use Rattle.std.specs.Option.{option_map}
 use Rattle.ipx_site.specs.declared.port_buckets.PortBuckets.{PortBuckets}
@@ -7,11 +7,11 @@ use Rattle.ipx_site.specs.declared.token_bucket.RateLimit.{RateLimit}
 use Rattle.ipx_site.specs.declared.token_bucket.TokenBucket.{TokenBucket}
 use Rattle.ipx_site.specs.TokenBucket.{bucket_has, bucket_taken, full_bucket}
 
--- a limit that lets nothing happen
+-- a limit that lets nothing pass
 abbrev pub never : RateLimit
 never = record { burst = 0; per_second = 0 }
 
--- the buckets of a port; where there is no such port they have no token
+-- the buckets of a port; without any token if there is no such port
 abbrev pub no_tokens : PortBuckets
 no_tokens = record { queries = full_bucket never; directed = Some (full_bucket never) }
 
@@ -36,7 +36,7 @@ directed_has p now = is_free p.directed now
 abbrev pub directed_taken : ℕ → PortBuckets → PortBuckets
 directed_taken now p = record p { directed = option_map (λ b. bucket_taken b now) p.directed }
 
--- one was taken at a port, and none at another one
+-- a token was taken at this port, and at no other
 abbrev pub with_query_taken : List PortBuckets → ℕ → ℕ → List PortBuckets
 with_query_taken ports port now = slice_set ports port (query_taken now (at_port ports port))
 

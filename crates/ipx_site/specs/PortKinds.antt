@@ -1,4 +1,4 @@
--- What a port of any kind has in its file. All of it is own.
+-- What the file gives for a port of any kind. Defined by this project.
 use Rattle.ipx_wire.specs.declared.address.Network.{Network}
 use Rattle.ipx_ethernet_ports.specs.declared.sockets.Place.{Place}
 use Rattle.ipx_site.specs.declared.site.Directed.{Directed}

@@ -1,4 +1,4 @@
--- The limits at the ports of a router, as its file says them. All of it is own.
+-- The limits at the ports of a router, as its file sets them. Defined by this project.
 use Rattle.std.specs.Prelude.{List, Option, Some, None, map}
 use Rattle.ipx_site.specs.declared.port_buckets.PortBuckets.{PortBuckets}
 use Rattle.ipx_site.specs.declared.site.Directed.{Directed}
@@ -12,23 +12,23 @@ use Rattle.ipx_site.specs.PortBuckets.{never}
 use Rattle.ipx_site.specs.PortKinds.{directed_of_kind, kind_of_port}
 use Rattle.ipx_site.specs.TokenBucket.{full_bucket}
 
--- what most ports have
+-- the usual limit of a port
 abbrev pub usual : RateLimit
 usual = record { burst = 16; per_second = 8 }
 
--- so many general queries may come by a port: the clients of ipxnet have fewer, together
+-- the limit of general queries that come by a port: lower for all clients of an ipxnet port together
 abbrev pub query_limit : Kind → RateLimit
 query_limit Of.Rfc1234 = usual
 query_limit Of.Frames = usual
 query_limit Of.Ipxnet = record { burst = 2; per_second = 1 }
 
--- and so many directed broadcasts may leave by it: none, few, or all
+-- the limit of directed broadcasts that leave by it: none, few, or all
 abbrev pub directed_bucket : Directed → Option TokenBucket
 directed_bucket Never = Some (full_bucket never)
 directed_bucket Few = Some (full_bucket usual)
 directed_bucket Always = None
 
--- a port begins with all its tokens
+-- a port begins with full buckets
 abbrev pub buckets_of_port : PortConfig → PortBuckets
 buckets_of_port p = record {
   queries = full_bucket (query_limit (kind_of_port p));

@@ -1,5 +1,5 @@
--- What the ports of a site's router are to its core: by what packets are sent, and how much was kept from
--- it. All of it is own.
+-- The ports of a site's router as its core sees them: how packets are sent, and how many were dropped before
+-- it. Defined by this project.
 use Rattle.std.specs.Prelude.{ℕ, ◌+◌, map}
 use Rattle.ipx_carrier.specs.Turns.{Ways, peers_of}
 use Rattle.ipx_carrier.specs.declared.datagrams.Datagrams as OfDevice
@@ -13,15 +13,15 @@ use Rattle.ipx_site.specs.declared.sockets.UdpSockets.{UdpSockets}
 use Rattle.ipx_site.specs.RouterPorts.{PortCopy, by_kind}
 use Rattle.ipx_site.specs.SourceFilter.{kept_in}
 
--- those of a site, over their sockets
+-- the ports of a site, over their sockets
 abbrev pub SitePortsRun : OfDevice.Ghosts (SourceFilter UdpSockets) → OfSockets.Ghosts EthernetSockets → OfPlaces.Ghosts ServerSockets → Type 0
 SitePortsRun gd ge gl = RouterPorts (SourceFilter UdpSockets) EthernetSockets ServerSockets gd ge gl
 
 abbrev pub ways_in : {gd : OfDevice.Ghosts (SourceFilter UdpSockets)} {ge : OfSockets.Ghosts EthernetSockets} {gl : OfPlaces.Ghosts ServerSockets} → SitePortsRun gd ge gl → Ways PortCopy
 ways_in r = by_kind (peers_of r.datagrams.peers.items) (map (λ h. h.port) r.ethernet.switches.items) r.port_indices.items
 
--- what the guards did, frames that a hub did, and what came from no end; and what lobbies did, and what came
--- to these from nowhere
+-- what access lists dropped, frames that a switch dropped and those from no remote, what ipxnet servers
+-- dropped, and what came to them from unknown places
 abbrev pub kept_in_ports : {gd : OfDevice.Ghosts (SourceFilter UdpSockets)} {ge : OfSockets.Ghosts EthernetSockets} {gl : OfPlaces.Ghosts ServerSockets} → SitePortsRun gd ge gl → ℕ
 kept_in_ports r = kept_in r.datagrams.device.kept + (r.ethernet.kept + r.ethernet.sockets.unknown_senders)
     + (r.servers.kept + r.servers.sockets.nowhere)

@@ -1,5 +1,5 @@
--- How often a core with limits hears one asker, all that ask at a port, and the directed broadcasts that leave by
--- one. All of it is own.
+-- How often a core with limits hears one querier, all queriers at a port, and the directed broadcasts that
+-- leave by a port. Defined by this project.
 use Rattle.std.specs.Prelude.{◌≡◌, ◌≤◌, ◌⊎◌, ℕ, ◌+◌, ◌-◌, ◌*◌, ◌/◌, List, [], ◌∷◌, Some}
 use Rattle.ipx_site.specs.declared.directed_broadcast.DirectedBroadcast.{DirectedBroadcast}
 use Rattle.ipx_site.specs.declared.querier.Querier.{Querier}
@@ -9,7 +9,7 @@ use Rattle.ipx_site.specs.PortBuckets.{at_port}
 use Rattle.ipx_site.specs.TokenBuckets.{own_tokens}
 use Rattle.ipx_site.specs.RateLimiter.{HearsDirected, HearsInTurn, HearsSparingly, RateLimiterView}
 
--- bytes that came in on a port at a moment, and the core before it heard them and after
+-- bytes that came in on a port at a time, and the core before and after it heard them
 pub record Coming (C : Type 0) : Type 0 where
   pub before : RateLimiterView C
   pub port : ℕ
@@ -17,51 +17,52 @@ pub record Coming (C : Type 0) : Type 0 where
   pub now : ℕ
   pub after : RateLimiterView C
 
--- so many of these are such
+-- this many of these satisfy `Is`
 abbrev pub AreSuch : {C : Type 0} → (Coming C → Type 0) → List (Coming C) → ℕ → Type 0
 AreSuch Is [] n = n ≡ 0
 AreSuch Is (c ∷ rest) n =
     (Is c × (m : ℕ) × (n ≡ m + 1) × AreSuch Is rest m) ⊎ ((Is c → ⊥) × AreSuch Is rest n)
 
--- the most that a limit lets happen from one moment to another, in milliseconds
+-- the most that a limit lets pass from one time to another, in milliseconds
 abbrev pub most_in : RateLimit → ℕ → ℕ → ℕ
 most_in limit a b = limit.burst + limit.per_second * (b - a) / 1000
 
 module _ {C : Type 0} (hears : C → ℕ → List ℕ → ℕ → C → Type 0) where
-  -- they come one after another, at moments that do not go back, from this moment and this core on.
-  -- What else happens to the core between two of them leaves the tokens as they are
+  -- they come one after another, at times that do not go back, from this time and this core on. What else
+  -- happens to the core between two of them leaves the tokens unchanged
   abbrev pub Course : ℕ → RateLimiterView C → List (Coming C) → Type 0
   Course from old [] = Unit {0}
   Course from old (c ∷ rest) = (from ≤ c.now) × (c.before.buckets ≡ old.buckets)
       × HearsSparingly hears c.before c.port c.bytes c.now c.after × Course c.now c.after rest
 
-  -- from one moment to another, the core below hears this as a general query of an asker
+  -- between two times, the core below hears this as a general query of this querier
   abbrev pub IsHeardOf : Querier → ℕ → ℕ → Coming C → Type 0
   IsHeardOf who a b c = (a ≤ c.now) × (c.now ≤ b)
       × HearsInTurn hears c.before c.port c.bytes c.now c.after who
 
-  -- as one of whoever asks at a port
+  -- the same for any querier at a port
   abbrev pub IsHeardAt : ℕ → ℕ → ℕ → Coming C → Type 0
   IsHeardAt port a b c = (a ≤ c.now) × (c.now ≤ b) × (c.port ≡ port)
       × ((who : Querier) × HearsInTurn hears c.before c.port c.bytes c.now c.after who)
 
-  -- or as a directed broadcast that leaves by a port
+  -- the same for a directed broadcast that leaves by a port
   abbrev pub IsToLeaveBy : ℕ → ℕ → ℕ → Coming C → Type 0
   IsToLeaveBy port a b c = (a ≤ c.now) × (c.now ≤ b) × ((it : DirectedBroadcast) × (it.leaves_by ≡ port)
       × HearsDirected hears c.before c.port c.bytes c.now c.after it)
 
-  -- of one asker it hears at most eight, and one more for each second between the moments
+  -- of one querier it hears at most eight, and one more for each second between the times
   abbrev pub IsQueryRateBounded : Type 0
   IsQueryRateBounded = (who : Querier) (from a b n : ℕ) (old : RateLimiterView C) (course : List (Coming C))
       → Course from old course → AreSuch (IsHeardOf who a b) course n → n ≤ own_tokens + (b - a) / 1000
 
-  -- of all askers at a port as many as its limit lets ask
+  -- of all queriers at a port it hears at most as many as the port's limit lets pass
   abbrev pub IsPortQueryRateBounded : Type 0
   IsPortQueryRateBounded = (port from a b n : ℕ) (old : RateLimiterView C) (course : List (Coming C))
       → Course from old course → AreSuch (IsHeardAt port a b) course n
       → n ≤ most_in (at_port old.buckets.ports port).queries.limit a b
 
-  -- and of directed broadcasts as many as the limit of the port lets leave, if it has one
+  -- of directed broadcasts that leave by a port it hears at most as many as the port's limit lets pass, if it
+  -- has one
   abbrev pub IsDirectedRateBounded : Type 0
   IsDirectedRateBounded = (port from a b n : ℕ) (old : RateLimiterView C) (course : List (Coming C))
       (bucket : TokenBucket) → (at_port old.buckets.ports port).directed ≡ Some bucket

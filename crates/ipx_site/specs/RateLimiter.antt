@@ -1,5 +1,5 @@
--- A core over a core, that limits how often nodes ask for all that a router knows, and how many directed
--- broadcasts leave by its ports. All of it is own.
+-- A core over a core that limits how often nodes send general queries, and how many directed broadcasts leave
+-- by its ports. Defined by this project.
 use Rattle.std.specs.Prelude.{◌≡◌, ◌⊎◌, ℕ, true, false, List, Option, Some, slice_get}
 use Rattle.ipx_wire.specs.Ipx.{BeginsWith, PacketView}
 use Rattle.ipx_control.specs.declared.rip.packet.RipEntry.{RipEntry}
@@ -28,30 +28,29 @@ abbrev pub AsksAllRoutes : List ℕ → Type 0
 AsksAllRoutes body = (asked : List RipEntry) × (tail : List ℕ)
     × IsRip (rip.Request asked) body tail × (asks_all asked ≡ true)
 
--- a body asks for all services, or for all of one kind
+-- a body asks for all services, or for all of one type
 abbrev pub AsksAllServices : List ℕ → Type 0
 AsksAllServices body = (kind : ℕ) × (tail : List ℕ) × IsSap (sap.Query false kind) body tail
 
--- it asks for all, by what its packet is to the router
+-- a body asks for all, given the kind of its packet: RIP or SAP for the router
 abbrev pub AsksForAll : Concern → List ℕ → Type 0
 AsksForAll concerns.Rip body = AsksAllRoutes body
 AsksForAll concerns.Sap body = AsksAllServices body
 AsksForAll concerns.Forward body = ⊥
 AsksForAll (concerns.Dropped reason) body = ⊥
 
--- bytes are a packet that asks for all, at a port of a number, and this node asks
+-- bytes are a packet that asks for all, at the port with this number, and this node sent it
 abbrev pub AsksAt : Port → ℕ → List ℕ → Querier → Type 0
 AsksAt at port bytes who = (p : PacketView) × BeginsWith bytes p
     × AsksForAll (concern_of at p.header) p.body
     × (who ≡ record { port = port; node = p.header.from.node })
 
--- so they are at a port that is there: a general query
+-- bytes are a general query at a port that exists
 abbrev pub IsGeneralQuery : List Port → ℕ → List ℕ → Querier → Type 0
 IsGeneralQuery ports port bytes who =
     (at : Port) × (slice_get ports port ≡ Some at) × AsksAt at port bytes who
 
--- the core below, the ports at which it is asked, the tokens, the queries that were dropped, and the directed
--- broadcasts that were
+-- the core below, its ports, the tokens, the dropped queries, and the dropped directed broadcasts
 pub record RateLimiterView (C : Type 0) : Type 0 where
   pub core : C
   pub ports : List Port
@@ -59,24 +58,24 @@ pub record RateLimiterView (C : Type 0) : Type 0 where
   pub kept : DropCount
   pub directed : DirectedDrops
 
--- the core below asks its neighbours once more
+-- the core below repeats its requests to its neighbours
 abbrev pub asking_below : {C : Type 0} → (C → C) → RateLimiterView C → RateLimiterView C
 asking_below asking_again s = record s { core = asking_again s.core }
 
 module _ {C : Type 0} (hears : C → ℕ → List ℕ → ℕ → C → Type 0) where
-  -- the core below hears a general query of this asker, which has one token less then, and so has its port
+  -- the core below hears a general query of this querier, which then has one token less, as has its port
   abbrev pub HearsInTurn : RateLimiterView C → ℕ → List ℕ → ℕ → RateLimiterView C → Querier → Type 0
   HearsInTurn old port bytes now new who = IsGeneralQuery old.ports port bytes who
       × HasToken old.buckets who now × hears old.core port bytes now new.core
       × (new ≡ record old { core = new.core; buckets = with_token_taken old.buckets who now })
 
-  -- a general query of an asker that has no token is dropped and counted, and the core below is as it was
+  -- a general query of a querier without a token is dropped and counted, and the core below is unchanged
   abbrev pub CountsFiltered : RateLimiterView C → ℕ → List ℕ → ℕ → RateLimiterView C → Type 0
   CountsFiltered old port bytes now new = (who : Querier) × IsGeneralQuery old.ports port bytes who
       × (HasToken old.buckets who now → ⊥)
       × (new ≡ record old { kept = one_more old.kept (ip_at who.node) })
 
-  -- the core below hears a directed broadcast, and the port by which it leaves has one token less then
+  -- the core below hears a directed broadcast, and the port by which it leaves then has one token less
   abbrev pub HearsDirected : RateLimiterView C → ℕ → List ℕ → ℕ → RateLimiterView C → DirectedBroadcast → Type 0
   HearsDirected old port bytes now new it = IsDirectedBroadcast old.ports port bytes it
       × (directed_has (at_port old.buckets.ports it.leaves_by) now ≡ true)
@@ -86,13 +85,13 @@ module _ {C : Type 0} (hears : C → ℕ → List ℕ → ℕ → C → Type 0) 
         buckets = record old.buckets { ports = with_directed_taken old.buckets.ports it.leaves_by now };
       })
 
-  -- where that port has none, it is dropped and counted, and the core below is as it was
+  -- if that port has no token, the broadcast is dropped and counted, and the core below is unchanged
   abbrev pub DropsDirected : RateLimiterView C → ℕ → List ℕ → ℕ → RateLimiterView C → Type 0
   DropsDirected old port bytes now new = (it : DirectedBroadcast) × IsDirectedBroadcast old.ports port bytes it
       × (directed_has (at_port old.buckets.ports it.leaves_by) now ≡ false)
       × (new ≡ record old { directed = one_more_directed old.directed it.from })
 
-  -- the core below hears what is neither
+  -- the core below hears anything else
   abbrev pub HearsBelow : RateLimiterView C → ℕ → List ℕ → ℕ → RateLimiterView C → Type 0
   HearsBelow old port bytes now new =
       ((who : Querier) → IsGeneralQuery old.ports port bytes who → ⊥)
@@ -113,7 +112,7 @@ module _ {C : Type 0} (hears : C → ℕ → List ℕ → ℕ → C → Type 0) 
   HearsSparingly old port bytes now new = HearsQuery old port bytes now new
       ⊎ (HearsBroadcast old port bytes now new ⊎ HearsBelow old port bytes now new)
 
--- memory is refused to the core below as it hears, and no token was taken
+-- the core below runs out of memory as it hears, and no token was taken
 abbrev pub MissesBelow : {C : Type 0} → (C → ℕ → List ℕ → ℕ → C → Type 0)
     → RateLimiterView C → ℕ → List ℕ → ℕ → RateLimiterView C → Type 0
 MissesBelow hear_out_of_memory old port bytes now new =
@@ -125,7 +124,7 @@ abbrev pub GivesBelow : {C : Type 0} → (C → ℕ → Option Given → C → T
 GivesBelow gives old now given new =
     gives old.core now given new.core × (new ≡ record old { core = new.core })
 
--- or memory is refused to that
+-- or that runs out of memory
 abbrev pub WithholdsBelow : {C : Type 0} → (C → ℕ → C → Type 0)
     → RateLimiterView C → ℕ → RateLimiterView C → Type 0
 WithholdsBelow next_out_of_memory old now new =

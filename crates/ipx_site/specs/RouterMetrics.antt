@@ -1,4 +1,4 @@
--- What a router counts itself, and what stands in its figures. All of it is own.
+-- What a router counts itself, and what its metrics contain. Defined by this project.
 use Rattle.std.specs.Prelude.{◌≡◌, ℕ, ◌+◌, ◌/◌, Option, Some, None, length}
 use Rattle.ipx_carrier.specs.Counting.{counted, raised}
 use Rattle.ipx_carrier.specs.OutcomeCounters.{outcomes_in}
@@ -18,30 +18,30 @@ use Rattle.ipx_site.specs.PortsView.{SitePortsRun}
 use Rattle.ipx_carrier.specs.declared.report.Batch.{Batch}
 use Rattle.ipx_site.specs.declared.route_change_log.RouteChangeLog.{RouteChangeLog}
 
--- nothing was counted yet
+-- nothing has been counted
 abbrev pub no_counts : RouterCounts
 no_counts = record { unmapped = 0; device_faults = 0; memory_faults = 0; file_faults = 0 }
 
--- memory was refused once more
+-- it ran out of memory once more
 abbrev pub with_memory_fault : RouterCounts → RouterCounts
 with_memory_fault t = record t { memory_faults = raised t.memory_faults }
 
--- what ended a burst is counted by its cause
+-- the fault that ended a batch is counted by its kind
 abbrev pub with_fault : Option RunFault → RouterCounts → RouterCounts
 with_fault None t = t
 with_fault (Some Device) t = record t { device_faults = raised t.device_faults }
 with_fault (Some OutOfMemory) t = with_memory_fault t
 
--- so a burst is: the packets whose node has no IP address, and what ended it
+-- a batch is counted: the packets whose node has no IP address, and the fault that ended it
 abbrev pub with_batch : Batch → RouterCounts → RouterCounts
 with_batch b t = with_fault b.fault (record t { unmapped = counted (t.unmapped + b.unmapped) })
 
--- the figures of a router at a moment, in milliseconds since its start, besides how often it happened of
--- which a line is told: by what it counts itself, what its core counts, what its device kept back, how many
--- datagrams the system took of it, and what it knew as it looked last
+-- the metrics of a router at a time, in milliseconds since its start, without the counts that are logged.
+-- They come from its own counters, those of its core and those of its device: what it dropped, and how many
+-- datagrams the system took. The networks and services are those known at the last look
 pub record AreMetrics {gd : OfDevice.Ghosts (SourceFilter UdpSockets)} {ge : OfSockets.Ghosts EthernetSockets} {gl : OfPlaces.Ghosts ServerSockets} (totals : RouterCounts) (core : SiteCore) (ports : SitePortsRun gd ge gl) (known : RouteChangeLog) (now : ℕ) (f : Metrics) : Type 0 where
-  -- each datagram that was heard became something. A query that came too often is none of them, and
-  -- no packet that failed a source check is
+  -- each datagram that was processed has one outcome. A query that came too often is not counted, and neither
+  -- is a packet that failed a source check
   pub heard : f.heard ≡ counted (outcomes_in core.core.core.core.outcomes)
   pub outcomes : f.outcomes ≡ core.core.core.core.outcomes
   pub rate_limited : f.rate_limited ≡ core.core.kept

@@ -1,5 +1,5 @@
--- The ports of a router that runs, of all kinds: by what a packet is sent at each, and what is kept from
--- the core. All of it is own.
+-- The ports of a running router, of all kinds: how a packet is sent at each, and what is dropped before the
+-- core. Defined by this project.
 use Rattle.std.specs.Prelude.{◌≡◌, ◌<◌, ℕ, List, [], ◌∷◌, Option, Some, None, Result, IfSome, MatchResult, option_map, map, slice_get, slice_index}
 use Rattle.ipx_wire.specs.declared.address.Node.{Node}
 use Rattle.ipx_carrier.specs.declared.fault.DeviceFault.{DeviceFault}
@@ -15,7 +15,7 @@ use Rattle.ipx_ethernet_ports.specs.OnEthernet.{HearsAnswerOf, SendsPacket, Sent
 use Rattle.ipx_site.specs.declared.router_ports.PortIndex.{PortIndex}
 use Rattle.ipx_site.specs.declared.router_ports.PortIndex.TheVariants.{Datagrams, Ethernet, IpxnetServer}
 
--- what a packet is sent by: a datagram to an IP address, a frame on a wire, or the lobby of its port
+-- how a packet is sent: as a datagram to an IP address, as an Ethernet frame, or through an ipxnet server
 pub data PortCopy : Type 0 where
   ByDatagram : Datagram → PortCopy
   ByFrame : SentFrameCopy → PortCopy
@@ -25,19 +25,19 @@ pub data PortCopy : Type 0 where
 abbrev pub given_at : ℕ → Given → Given
 given_at port p = record p { port = port }
 
--- by what a packet is sent, by where its port is
+-- how a packet is sent, by its port's index
 abbrev pub way_at : Ways Datagram → Ways SentFrameCopy → Option PortIndex → Given → Option (List PortCopy)
 way_at ips frames None p = None
 way_at ips frames (Some (Datagrams k)) p = option_map (map ByDatagram) (ips (given_at k p))
 way_at ips frames (Some (Ethernet k)) p = option_map (map ByFrame) (frames (given_at k p))
 way_at ips frames (Some (IpxnetServer k)) p = option_map (map ByServer) (by_servers (given_at k p))
 
--- at ports of all kinds: a port of RFC 1234 sends to IP addresses, one on a wire by its frames, and one for
--- clients of ipxnet by its lobby
+-- at ports of all kinds: an RFC 1234 port sends to IP addresses, an Ethernet port sends frames, and an ipxnet
+-- port sends through its server
 abbrev pub by_kind : Peers → List EthernetPort → List PortIndex → Ways PortCopy
 by_kind peers ports port_indices p = way_at (by_ip peers) (by_frames ports) (slice_get port_indices p.port) p
 
--- a port's place among those of its kind, and how many of these there are
+-- a port's index among those of its kind, and how many of these there are
 abbrev pub port_index_place : PortIndex → ℕ
 port_index_place (Datagrams k) = k
 port_index_place (Ethernet k) = k
@@ -48,13 +48,13 @@ count_at datagrams ethernet servers (Datagrams k) = datagrams
 count_at datagrams ethernet servers (Ethernet k) = ethernet
 count_at datagrams ethernet servers (IpxnetServer k) = servers
 
--- it is among them
+-- the index is valid
 abbrev pub fits : ℕ → ℕ → ℕ → PortIndex → Type 0
 fits datagrams ethernet servers port_index = port_index_place port_index < count_at datagrams ethernet servers port_index
 
--- a packet is sent by where its port is: by a datagram to each IP address that stands for its node, or by
--- the first of them where the device failed; by its frame on a wire; or through a lobby. What passes at
--- ports of the other kinds is nothing
+-- a packet is sent by the kind of its port. An RFC 1234 port sends a datagram to each IP address of its node,
+-- or only to the first few of them if the device failed. An Ethernet port sends its frame, and an ipxnet port
+-- sends through its server. Nothing passes at ports of the other kinds
 abbrev pub SendsByKind : Option PortIndex → Node → List ℕ → Result PacketSent DeviceFault → Peers → List ℕ → ℕ → ℕ → Option Traffic → Option Traffic → EthernetPortsView → EthernetPortsView → ServersView → ServersView → Type 0
 SendsByKind None node packet result peers ends now moment before after old new earlier later = ⊥
 SendsByKind (Some (Datagrams k)) node packet result peers ends now moment before after old new earlier later =
@@ -69,8 +69,8 @@ SendsByKind (Some (IpxnetServer k)) node packet result peers ends now moment bef
     MatchResult result (λ sent. SendsThroughServer moment k node packet sent earlier later) (λ _. ⊥)
     × (after ≡ before) × (new ≡ old)
 
--- likewise what comes for the core, into so much room: a datagram that waited, a packet in a frame, or
--- what a lobby has for it
+-- the same for what comes for the core, into a buffer of this size: a datagram that waited, a packet in a
+-- frame, or what an ipxnet server delivers
 abbrev pub ReceivesByKind : Option PortIndex → ℕ → List ℕ → Result (Option ℕ) DeviceFault → List ℕ → ℕ → ℕ → Option Traffic → Option Traffic → EthernetPortsView → EthernetPortsView → ServersView → ServersView → Type 0
 ReceivesByKind None most room result ends now moment before after old new earlier later = ⊥
 ReceivesByKind (Some (Datagrams k)) most room result ends now moment before after old new earlier later =

@@ -1,5 +1,5 @@
--- What a router of a file does from its start until it ends: one round after another. The entry points are
--- `StartsByFile`, `RunsTo` and, of both, `RoutesWell`. All of it is own.
+-- What the router of a file does from its start until it ends: one round after another. The entry points are
+-- `StartsByFile`, `RunsTo` and, of both, `RoutesWell`. Defined by this project.
 use Rattle.std.specs.Prelude.{◌≡◌, ◌^◌, ◌-◌, ℕ, zero, suc, Bool, true, false, List, [], map}
 use Rattle.ipx_carrier.specs.ReadySet.{AreMarked, is_any_marked}
 use Rattle.ipx_carrier.specs.Turns.{peers_of}
@@ -20,10 +20,10 @@ use Rattle.ipx_site.specs.declared.clock.SteadyClock.{SteadyClock}
 use Rattle.ipx_site.specs.declared.running_router.RunningRouter.{RunningRouter}
 use Rattle.ipx_site.specs.declared.site.RouterConfig.{RouterConfig}
 
--- a router has started as its file says: it has the ports of that, each with its socket, and is to hear
--- what it says by hand. It checks sources at its ports, and has dropped nothing. The limits at its ports are
--- those of their kinds and of the file, and nobody has asked it for all that it knows. Its clock begins at 0,
--- and it has not asked its neighbours again
+-- a router has started as its file says. It has the ports of the file, each with its socket, and is to hear
+-- its static entries. It checks sources at its ports, and has dropped nothing. The limits at its ports are
+-- those of their kinds and of the file, and no general query has come. Its clock begins at 0, and it has not
+-- repeated its requests
 pub record StartsBy {R : Type 0} (site : RouterConfig) (first : RunningRouter R) : Type 0 where
   pub ports : first.core.core.core.core.router.ports ≡ router_ports site.ports.items
   pub statics : IsToHear site.statics.items first.core.core.core
@@ -34,9 +34,9 @@ pub record StartsBy {R : Type 0} (site : RouterConfig) (first : RunningRouter R)
   pub clock : first.clock.last ≡ 0
   pub asked : first.asked ≡ 0
 
--- one round, and the wait after it, for as long as there is nothing to do. If that does not fail, just the
--- ports are marked then at which it says that something came. The ways of packets, where each port is and
--- who may speak stay
+-- one round, followed by a wait as long as there is nothing to do. If the wait does not fail, exactly the
+-- ports are marked at which something came. The ways of packets, the port indices and the accepted senders
+-- are unchanged
 pub record TakesRound {R : Type 0} (old new : RunningRouter R) : Type 0 where
   pub between : SteadyClock R
   pub batch : Batch
@@ -56,13 +56,13 @@ pub record TakesRound {R : Type 0} (old new : RunningRouter R) : Type 0 where
   pub access : map access_by new.ports.datagrams.device.access_lists.items
       ≡ map access_by old.ports.datagrams.device.access_lists.items
 
--- so many rounds, each from where the last one left the router, and no wait after them fails
+-- this many rounds, each from where the last one left the router, and no wait after them fails
 abbrev pub Rounds : {R : Type 0} → ℕ → RunningRouter R → RunningRouter R → Type 0
 Rounds zero first last = last ≡ first
 Rounds {R} (suc n) first last = (before : RunningRouter R) × Rounds n first before
     × TakesRound before last × (last.ready.failed ≡ false)
 
--- a run: rounds, and one after which the wait fails; or it ends well, after 2^64 - 1 rounds
+-- a run: rounds, and one after which the wait fails; or 2^64 - 1 rounds, after which it succeeds
 abbrev pub RunsTo : {R : Type 0} → RunningRouter R → RunningRouter R → Bool → Type 0
 RunsTo {R} first last false = (count : ℕ) × (before : RunningRouter R) × Rounds count first before
     × TakesRound before last × (last.ready.failed ≡ true)
@@ -73,6 +73,6 @@ abbrev pub StartsByFile : {R : Type 0} → RunningRouter R → Type 0
 StartsByFile first = (text : List ℕ) × (site : RouterConfig) × IsFileText text × IsSiteText text site
     × StartsBy site first
 
--- a router started as a file says, and its run from there ended well
+-- a router started as a file says, and its run from there succeeded
 abbrev pub RoutesWell : Type 0 → Type 0
 RoutesWell R = (first last : RunningRouter R) × StartsByFile first × RunsTo first last true

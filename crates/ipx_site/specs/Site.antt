@@ -1,4 +1,4 @@
--- The file of a router. All of it is own.
+-- The file of a router. Defined by this project.
 use Rattle.std.specs.Prelude.{◌≡◌, ◌⊎◌, String, ℕ, ◌+◌, ◌==◌, ◌&&◌, Bool, true, not, nat_le, List, [], ◌∷◌, ◌++◌, Option, Some, None, position}
 use Rattle.std.specs.Global.{Global}
 use Rattle.toml.specs.Data.{Data, Items, no_items, item, Members, as_array, as_table}
@@ -23,11 +23,11 @@ is_few ds = not (item_count ds == 0) && nat_le (item_count ds) 16
 abbrev pub IsPortList : Data → Items → Type 0
 IsPortList d ds = (as_array d ≡ Some ds) × (is_few ds ≡ true)
 
--- the place among earlier ports of the first one on the same network
+-- the index among earlier ports of the first one on the same network
 abbrev pub twin_place : List PortConfig → PortConfig → Option ℕ
 twin_place earlier p = position (λ q. (network_of_kind q).0 == (network_of_kind p).0) earlier
 
--- a port, by what stands in the array
+-- the port that an item of the array describes
 abbrev pub IsPortItem : Data → PortConfig → Type 0
 IsPortItem d p = (ms : Members) × (as_table d ≡ Some ms) × IsPortOfKind ms p
 
@@ -53,7 +53,7 @@ IsFirstFault earlier table (item d ds) f = IsPortItemFault table d f
     ⊎ ((p : PortConfig) × IsPortItem d p × (IsTwin earlier table p f
     ⊎ ((twin_place earlier p ≡ None) × IsFirstFault (earlier ++ p ∷ []) (table + 1) ds f)))
 
--- a table is that of a router
+-- a table describes a router
 pub record IsSite (ms : Members) (s : RouterConfig) : Type 0 where
   pub known : first_unknown site_keys ms ≡ None
   pub status : HoldsIf IsFileName Key.Status ms s.status
@@ -61,8 +61,8 @@ pub record IsSite (ms : Members) (s : RouterConfig) : Type 0 where
   pub ports : (ds : Items) × Holds IsPortList Key.Port ms ds × ArePorts [] ds s.ports.items
   pub statics : AreStatics s.ports.items ms s.statics.items
 
--- its first fault: a name that is no key, the status file, the file of tables, which is another one, the ports in
--- order, and then what it is to hear by hand
+-- its first fault: a name that is no key, the metrics file, the table file, which must differ from it, the
+-- ports in order, and then the static entries
 abbrev pub IsSiteFault : Members → ConfigError → Type 0
 IsSiteFault ms f =
     IsUnknown site_keys ms 0 f

@@ -1,5 +1,5 @@
--- The core of a site's router: a router that counts, under what it hears by hand, under turns for those
--- who ask for all that it knows, under source checks. All of it is own.
+-- The core of a site's router: a router that counts, under its static entries, under the rate limiter, under
+-- source checks. Defined by this project.
 use Rattle.std.specs.Prelude.{◌≡◌, ℕ, false, List, Option}
 use Rattle.ipx_carrier.specs.Turns.{Given}
 use Rattle.ipx_metrics.specs.MeteredRouter.{CountedView, CountsAsItGives, CountsHeard, CountsMissed, CountsWithheld}
@@ -10,14 +10,14 @@ use Rattle.ipx_site.specs.RateLimiter.{GivesBelow, HearsSparingly, MissesBelow, 
 abbrev pub SiteCore : Type 0
 SiteCore = SourceCheckedView (RateLimiterView (WithStaticsView CountedView))
 
--- what comes in it hears, or misses where memory is refused
+-- it hears what comes in, or misses it if out of memory
 abbrev pub SiteHears : SiteCore → ℕ → List ℕ → ℕ → SiteCore → Type 0
 SiteHears = HearsChecked (HearsSparingly (HearsUnder CountsHeard))
 
 abbrev pub SiteMisses : SiteCore → ℕ → List ℕ → ℕ → SiteCore → Type 0
 SiteMisses = MissesChecked (MissesBelow (MissesUnder CountsMissed))
 
--- told to ask its neighbours once more, its router is to give the packets of its start again
+-- when it is to repeat its requests, its router gives the packets of its start again
 abbrev pub SiteAsksAgain : SiteCore → SiteCore → Type 0
 SiteAsksAgain old new =
     new ≡ record old {
@@ -26,7 +26,7 @@ SiteAsksAgain old new =
       };
     }
 
--- asked for a packet it gives one or none, or withholds it where memory is refused
+-- when asked for a packet it gives one or none, or withholds it if out of memory
 abbrev pub SiteGives : SiteCore → ℕ → Option Given → SiteCore → Type 0
 SiteGives = GivesBelowChecks (GivesBelow (GivesWithStatics CountsHeard CountsAsItGives))
 

@@ -1,5 +1,5 @@
--- The marks of the ports of a router that runs, of all kinds, and at which of them something came. All of it
--- is own.
+-- The marks of the ports of a running router, of all kinds, and at which of them something came. Defined by
+-- this project.
 use Rattle.std.specs.Prelude.{◌≡◌, ℕ, Bool, List, ◌++◌, map}
 use Rattle.mio.specs.Event.{event_token}
 use Rattle.mio.specs.Events.{items}
@@ -13,16 +13,16 @@ use Rattle.ipx_site.specs.declared.poller.Poller.{Poller}
 use Rattle.ipx_site.specs.declared.sockets.UdpSockets.{UdpSockets}
 use Rattle.ipx_site.specs.PortsView.{SitePortsRun}
 
--- the numbers of the descriptors at which something came at the last wait, the first of which is 0
+-- the numbers of the descriptors at which something came at the last wait, starting at 0
 abbrev pub numbers_come : Poller → List ℕ
 numbers_come r = map (λ e. (event_token e).0) (items r.events)
 
--- the marks of those of RFC 1234, then of those on wires, and then of those for clients, which is how one that
--- waits for them numbers their descriptors
+-- the marks of RFC 1234 ports, then of Ethernet ports, then of ipxnet ports. A poller numbers their
+-- descriptors in this order
 abbrev pub marks_in : {gd : OfDevice.Ghosts (SourceFilter UdpSockets)} {ge : OfSockets.Ghosts EthernetSockets} {gl : OfPlaces.Ghosts ServerSockets} → SitePortsRun gd ge gl → List Bool
 marks_in r = r.datagrams.device.device.marks ++ (r.ethernet.sockets.marks ++ r.servers.sockets.marks)
 
--- ports are as others but for their marks
+-- ports differ in their marks alone
 pub record DifferInMarks {gd : OfDevice.Ghosts (SourceFilter UdpSockets)} {ge : OfSockets.Ghosts EthernetSockets} {gl : OfPlaces.Ghosts ServerSockets} (old new : SitePortsRun gd ge gl) : Type 0 where
   pub datagrams : new.datagrams ≡ record old.datagrams { device = record old.datagrams.device { device = record old.datagrams.device.device { marks = new.datagrams.device.device.marks } } }
   pub ethernet : new.ethernet ≡ record old.ethernet { sockets = record old.ethernet.sockets { marks = new.ethernet.sockets.marks } }

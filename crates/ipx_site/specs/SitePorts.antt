@@ -1,4 +1,5 @@
--- The ports of the router that a file describes, and who may speak there. All of it is own.
+-- The ports of the router that a file describes, and which senders are accepted there. Defined by this
+-- project.
 use Rattle.std.specs.Prelude.{Vec, ◌≡◌, ℕ, List, Option, Some, None, map}
 use Rattle.std.specs.Global.{Global}
 use Rattle.std.specs.Option.{option_map}
@@ -16,8 +17,7 @@ use Rattle.ipx_site.specs.declared.site.Rfc1234PortConfig.{Rfc1234PortConfig}
 abbrev pub router_port_of : Rfc1234PortConfig → Port
 router_port_of p = record { network = p.network; node = node_at p.address; cost = p.cost }
 
--- so a port of any kind: on a wire its node is its own address there, and for clients of ipxnet what its
--- file says
+-- a port of any kind: the node of an Ethernet or ipxnet port is what its file gives
 abbrev pub router_port_of_kind : PortConfig → Port
 router_port_of_kind (Rfc1234 p) = router_port_of p
 router_port_of_kind (Frames p) = record { network = p.network; node = p.node; cost = p.cost }
@@ -26,7 +26,7 @@ router_port_of_kind (Ipxnet p) = record { network = p.network; node = p.node; co
 abbrev pub router_ports : List PortConfig → List Port
 router_ports ports = map router_port_of_kind ports
 
--- the port of UDP of each port, at which its peers are reached too
+-- the UDP port of each port, which its peers use too
 abbrev pub udp_ports : List Rfc1234PortConfig → List ℕ
 udp_ports ports = map (λ p. p.udp_port) ports
 
@@ -34,17 +34,17 @@ udp_ports ports = map (λ p. p.udp_port) ports
 abbrev pub site_peers : List Rfc1234PortConfig → List (List (List ℕ))
 site_peers ports = map (λ p. p.peers.items) ports
 
--- the IP addresses that a list names
+-- the IP addresses of a list
 abbrev pub named : Option (Vec (List ℕ) Global) → Option (List (List ℕ))
 named ips = option_map (λ v. v.items) ips
 
--- who is heard at a port: its peers, or everybody
+-- the senders that are accepted at a port: its peers, or all
 abbrev pub heard_at_port : Accept → List (List ℕ) → Option (List (List ℕ))
 heard_at_port Any peers = None
 heard_at_port Peers peers = Some peers
 
--- on which network a port is, whom it sends to, who is heard there, and who is a router: as its file says
--- it, and as its guard does
+-- the network of a port, the IP addresses that it sends to, those that it accepts, and those of routers: as
+-- its file says, and as its access list says
 abbrev pub access_of : Rfc1234PortConfig → Access
 access_of p = record {
   network = p.network;
@@ -61,6 +61,6 @@ access_by g = record {
   routers = named g.routers;
 }
 
--- the guards are those of the ports, in order
+-- the access lists are those of the ports, in order
 abbrev pub AccessListPorts : List Rfc1234PortConfig → List AccessList → Type 0
 AccessListPorts ports access_lists = map access_by access_lists ≡ map access_of ports

@@ -1,4 +1,5 @@
--- What a table of a route or a service by hand says: by whom it is heard, and of what. All of it is own.
+-- What a table of a static route or service gives: its neighbour, and the network or service. Defined by this
+-- project.
 use Rattle.std.specs.Prelude.{◌≡◌, ◌≢◌, ◌⊎◌, ℕ, zero, suc, ◌+◌, ◌==◌, ◌&&◌, Bool, true, false, not, nat_le, List, ◌++◌, drop, length, position, replicate, Option, Some, None, slice_get, if◌then◌else◌}
 use Rattle.std.specs.List.{list_all}
 use Rattle.std.specs.Option.{option_and_then}
@@ -25,9 +26,9 @@ use Rattle.ipx_site.specs.SitePorts.{router_port_of_kind}
 use Rattle.ipx_site.specs.Values.{IsCount, IsIpAddress, IsNetwork, IsSocket}
 use Rattle.ipx_site.specs.EthernetValues.{IsStation, is_station}
 
--- ---- by whom: the next node, and the port where it is
+-- ---- the neighbour: the next hop, and the port where it is
 
--- the port of a number, the first of which is 1
+-- the port with this number, starting at 1
 abbrev pub numbered_port : List PortConfig → ℕ → Option PortConfig
 numbered_port ports zero = None
 numbered_port ports (suc place) = slice_get ports place
@@ -42,7 +43,7 @@ IsPeerNodeFault peers ms table f = IsFault IsIpAddress Key.Next ms table f
     ⊎ ((f ≡ Wrong table Key.Next) × ((ip : List ℕ) × Holds IsIpAddress Key.Next ms ip
     × (is_peer peers ip ≡ false)))
 
--- at a port of RFC 1234 a peer, on a wire a station; at a port for clients of ipxnet there is none
+-- at an RFC 1234 port a peer, at an Ethernet port a station; at an ipxnet port there is none
 abbrev pub IsNamedNode : PortConfig → Members → Node → Type 0
 IsNamedNode (Rfc1234 p) ms node = IsPeerNode p.peers.items ms node
 IsNamedNode (Frames p) ms node = Holds IsStation Key.Next ms node
@@ -57,7 +58,7 @@ IsNamedNodeFault (Ipxnet p) ms table f = f ≡ Wrong table Key.Port
 abbrev pub is_own_node : PortConfig → Node → Bool
 is_own_node p node = is_node node (router_port_of_kind p).node
 
--- so, and it is not the port itself
+-- the same, and it is not the port's own node
 abbrev pub IsNextNode : PortConfig → Members → Node → Type 0
 IsNextNode p ms node = IsNamedNode p ms node × (is_own_node p node ≡ false)
 
@@ -66,7 +67,7 @@ IsNextNodeFault p ms table f = IsNamedNodeFault p ms table f
     ⊎ ((f ≡ Wrong table Key.Next) × ((node : Node) × IsNamedNode p ms node
     × (is_own_node p node ≡ true)))
 
--- the port is one of the file, the node is on its network, and this is what it costs to send there
+-- the port is one of the file, the node is on its network, and this is the cost of sending there
 abbrev pub IsNear : List PortConfig → Members → NextHop → Type 0
 IsNear ports ms near = Holds (IsCount 16) Key.Port ms near.by.port
     × ((p : PortConfig) × (numbered_port ports near.by.port ≡ Some p)
@@ -78,14 +79,14 @@ IsNearFault ports ms table f = IsFault (IsCount 16) Key.Port ms table f
     × (((numbered_port ports n ≡ None) × (f ≡ Wrong table Key.Port))
     ⊎ ((p : PortConfig) × (numbered_port ports n ≡ Some p) × IsNextNodeFault p ms table f)))
 
--- ---- of which network
+-- ---- the network
 
--- that of the default route: a router hears and tells of it as of any, and no packet for another network goes
--- by it
+-- the network of the default route: a router hears and advertises it like any other, and forwards no packet
+-- for another network by it
 abbrev pub default_route : ℕ
 default_route = 0xffff_fffe
 
--- the place of the first port that is on a network
+-- the index of the first port that is on a network
 abbrev pub own_place : List PortConfig → Network → Option ℕ
 own_place ports n = position (λ p. (network_of_kind p).0 == n.0) ports
 
@@ -101,9 +102,9 @@ IsFarNetworkFault ports ms table f = IsFault IsNetwork Key.Network ms table f
     ⊎ ((n.0 ≢ default_route) × ((k : ℕ) × (own_place ports n ≡ Some k)
     × (f ≡ Twin table n (k + 1))))))
 
--- ---- of which service
+-- ---- the service
 
--- its type, as a socket is written: neither 0 nor ffff, which asks for every type
+-- its type, written like a socket: neither 0 nor ffff, which asks for every type
 abbrev pub IsServiceType : Members → ℕ → Type 0
 IsServiceType ms kind = (s : Socket) × Holds IsSocket Key.ServiceType ms s × (s.0 ≡ kind) × (kind ≢ 0xffff)
 
@@ -111,7 +112,7 @@ abbrev pub IsServiceTypeFault : Members → ℕ → ConfigError → Type 0
 IsServiceTypeFault ms table f = IsFault IsSocket Key.ServiceType ms table f
     ⊎ ((f ≡ Wrong table Key.ServiceType) × ((s : Socket) × Holds IsSocket Key.ServiceType ms s × (s.0 ≡ 0xffff)))
 
--- a byte that prints, and is no blank
+-- a byte that is printable, and no space
 abbrev pub is_mark : ℕ → Bool
 is_mark b = nat_le 0x21 b && nat_le b 0x7e
 
@@ -120,7 +121,7 @@ abbrev pub is_name_of_service : List ℕ → Bool
 is_name_of_service text =
     list_all is_mark text && (not (length text == 0) && nat_le (length text) 47)
 
--- the 48 bytes of a name: its text, and zero bytes behind it
+-- the 48 bytes of a name: its text followed by zero bytes
 abbrev pub padded_name : List ℕ → List ℕ
 padded_name text = text ++ drop (length text) (replicate 48 0)
 
@@ -143,14 +144,14 @@ place_in_words words =
     (spelled_socket (word_at words 2))
     else None
 
--- a string of three such words, with a space between them
+-- a string of three such words, separated by spaces
 abbrev pub written_place : Data → Option Address
 written_place d = option_and_then (λ text. place_in_words (words_in text)) (as_str d)
 
 abbrev pub IsWrittenPlace : Data → Address → Type 0
 IsWrittenPlace d a = written_place d ≡ Some a
 
--- where a service can be: on a network that is named, at one station, and not at socket 0
+-- a service can have this address: its network is named, its node is one station, and its socket is not 0
 abbrev pub is_place_of_service : Address → Bool
 is_place_of_service a =
     not (a.network.0 == local_network)

@@ -1,5 +1,5 @@
--- The routes and services by hand of the file of a router. All of it is own.
--- The entry points are `AreStatics` and `IsStaticFault`.
+-- The static routes and services in the file of a router. Defined by this project. The entry points are
+-- `AreStatics` and `IsStaticFault`.
 use Rattle.std.specs.Prelude.{◌≡◌, ◌⊎◌, ℕ, ◌+◌, ◌==◌, ◌&&◌, Bool, true, false, nat_le, List, [], ◌∷◌, ◌++◌, length, position, Option, Some, None, All}
 use Rattle.std.specs.Str.{bytes_eq}
 use Rattle.toml.specs.Data.{Data, Items, no_items, item, Members, as_array, as_table, get_member}
@@ -30,22 +30,22 @@ abbrev pub first_table : StaticKind → ℕ
 first_table Of.Route = 17
 first_table Of.Service = 273
 
--- the number of the table behind earlier ones
+-- the number of the table after earlier ones
 abbrev pub entry_number : StaticKind → List StaticEntry → ℕ
 entry_number kind earlier = first_table kind + length earlier
 
--- two entries are heard by one neighbour at one port
+-- two entries come from the same neighbour at the same port
 abbrev pub is_one_source : Source → Source → Bool
 is_one_source a b = (a.port == b.port) && bytes_eq a.neighbour.0 b.neighbour.0
 
--- they speak of one network, or of one service by type and name
+-- they give the same network, or the same service by type and name
 abbrev pub is_same_word : StaticItem → StaticItem → Bool
 is_same_word (Route a) (Route b) = a.network.0 == b.network.0
 is_same_word (Service a) (Service b) = (a.kind == b.kind) && bytes_eq a.name b.name
 is_same_word (Route a) (Service b) = false
 is_same_word (Service a) (Route b) = false
 
--- the place among earlier entries of the first one that says the same
+-- the index among earlier entries of the first one that this entry repeats
 abbrev pub says_again : StaticEntry → StaticEntry → Bool
 says_again a b = is_one_source a.by b.by && is_same_word a.word b.word
 
@@ -57,7 +57,7 @@ IsAgain kind earlier e f = (k : ℕ) × (again_place earlier e ≡ Some k)
     × (f ≡ Again (entry_number kind earlier) (first_table kind + k))
 
 module _ (kind : StaticKind) (ports : List PortConfig) where
-  -- an entry, by what stands in the array
+  -- the entry that an item of the array describes
   abbrev pub IsEntryItem : Data → StaticEntry → Type 0
   IsEntryItem d e = (ms : Members) × (as_table d ≡ Some ms) × IsEntryTable kind ports ms e
 
@@ -65,7 +65,7 @@ module _ (kind : StaticKind) (ports : List PortConfig) where
   IsEntryItemFault table d f = ((f ≡ Wrong table (entry_key kind)) × (as_table d ≡ None))
       ⊎ ((ms : Members) × (as_table d ≡ Some ms) × IsEntryFault kind ports ms table f)
 
-  -- item by item, these entries, none of which says what an earlier one does
+  -- item by item, these entries, none of which repeats an earlier one
   abbrev pub AreStaticEntries : List StaticEntry → Items → List StaticEntry → Type 0
   AreStaticEntries earlier no_items es = es ≡ []
   AreStaticEntries earlier (item d ds) es = (e : StaticEntry) × (rest : List StaticEntry) × (es ≡ e ∷ rest)
@@ -83,7 +83,7 @@ abbrev pub IsEntryList : Data → Items → Type 0
 IsEntryList d ds = (as_array d ≡ Some ds) × (nat_le (item_count ds) 256 ≡ true)
 
 module _ (kind : StaticKind) (ports : List PortConfig) (ms : Members) where
-  -- the entries of a kind: none, where there is no such table
+  -- the entries of a kind; none if there is no such table
   abbrev pub AreEntriesOf : List StaticEntry → Type 0
   AreEntriesOf es = ((get_member (key_text (entry_key kind)) ms ≡ None) × (es ≡ []))
       ⊎ ((ds : Items) × Holds IsEntryList (entry_key kind) ms ds × AreStaticEntries kind ports [] ds es)
@@ -92,16 +92,16 @@ module _ (kind : StaticKind) (ports : List PortConfig) (ms : Members) where
   IsEntriesFault f = IsWrong IsEntryList (entry_key kind) ms 0 f
       ⊎ ((ds : Items) × Holds IsEntryList (entry_key kind) ms ds × IsFirstEntryFault kind ports [] ds f)
 
--- the entries by hand of a router with these ports: routes, and behind them services
+-- the static entries of a router with these ports: routes, followed by services
 abbrev pub AreStatics : List PortConfig → Members → List StaticEntry → Type 0
 AreStatics ports ms es = (routes services : List StaticEntry) × (es ≡ routes ++ services)
     × AreEntriesOf Of.Route ports ms routes × AreEntriesOf Of.Service ports ms services
 
--- each entry of a file is heard at a port of it
+-- each entry of a file is at one of its ports
 abbrev pub HearsAtPorts : RouterConfig → Type 0
 HearsAtPorts s = All (λ e. IsPortNumber (length s.ports.items) e.by.port) s.statics.items
 
--- the first fault of entries by hand
+-- the first fault of static entries
 abbrev pub IsStaticFault : List PortConfig → Members → ConfigError → Type 0
 IsStaticFault ports ms f = IsEntriesFault Of.Route ports ms f
     ⊎ ((routes : List StaticEntry) × AreEntriesOf Of.Route ports ms routes

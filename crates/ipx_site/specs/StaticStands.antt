@@ -1,7 +1,7 @@
--- What each route and service by hand of a router's file meets of what `StaticRoutesHold` and
--- `StaticServicesHold` ask for, and so that it stands. All of it is own.
--- The entry points are `FilesMayStand`, `RoutesOfFilesStand` and `ServicesOfFilesStand`, and
--- `RoutesOfSitesStand` and `ServicesOfSitesStand`.
+-- Each static route and service of a router's file meets part of what `StaticRoutesHold` and
+-- `StaticServicesHold` require, and so it is kept. Defined by this project. The entry points are
+-- `FilesMayStand`, `RoutesOfFilesStand` and `ServicesOfFilesStand`, and `RoutesOfSitesStand` and
+-- `ServicesOfSitesStand`.
 use Rattle.std.specs.Prelude.{◌≡◌, ◌<◌, ◌≤◌, ◌+◌, ℕ, true, List, [], ◌∷◌, All, Contains, Option}
 use Rattle.ipx_control.specs.declared.rip.packet.RipEntry.{RipEntry}
 use Rattle.ipx_control.specs.declared.sap.packet.ServiceEntry.{ServiceEntry}
@@ -24,7 +24,8 @@ use Rattle.ipx_site.specs.Site.{IsSiteText}
 use Rattle.ipx_site.specs.SiteCore.{SiteAsksAgain, SiteCore, SiteGives, SiteHears}
 use Rattle.ipx_site.specs.SitePorts.{router_ports}
 
--- a neighbour is to say a word, it alone, under 16 hops away, and a route of a network that is heard
+-- a neighbour is to advertise an item and nothing else for its key, less than 16 hops away; the network of a
+-- route is one that the router hears
 abbrev pub MayStand : List Port → List StaticNeighbour → StaticNeighbour → StaticItem → Type 0
 MayStand ports ns n (Route e) = Contains n.routes.items e
     × IsSaidAlone route_key route_metric (λ m. m.routes.items) ns n e
@@ -32,20 +33,20 @@ MayStand ports ns n (Route e) = Contains n.routes.items e
 MayStand ports ns n (Service e) = Contains n.services.items e
     × IsSaidAlone key_of_service service_metric (λ m. m.services.items) ns n e × (e.hops < 16)
 
--- the one that an entry is heard from is to say so
+-- the neighbour of an entry is to do so
 abbrev pub IsToStand : List Port → List StaticNeighbour → StaticEntry → Type 0
 IsToStand ports ns h = (n : StaticNeighbour) × Contains ns n × (static_source n ≡ h.by)
     × MayStand ports ns n h.word
 
--- no neighbour of a file is the router itself, and each entry is to stand
+-- no neighbour of a file is the router itself, and each entry is to be kept
 abbrev pub FilesMayStand : Type 0
 FilesMayStand = (text : List ℕ) (s : RouterConfig) → IsSiteText text s
     → (ns : List StaticNeighbour) → AreSilent s.statics.items ns
     → All (IsAnotherNode (router_ports s.ports.items)) ns
     × All (IsToStand (router_ports s.ports.items) ns) s.statics.items
 
--- a router that counts nothing by port and keeps nothing back, with the ports of a file, which is to hear by
--- hand what that says, is asked at first, and finds no table full then
+-- a router without counts by port and without limits has the ports of a file, and is to hear its static
+-- entries. It is asked at first, and finds no table full then
 pub record RunsByFile (s : RouterConfig) (start : ℕ) (calls : List StaticCallAt) (old new : WithStaticsView PriorityCoreView) : Type 0 where
   pub to_hear : IsToHear s.statics.items old
   pub ports : old.core.router.ports ≡ router_ports s.ports.items
@@ -55,8 +56,8 @@ pub record RunsByFile (s : RouterConfig) (start : ℕ) (calls : List StaticCallA
   pub goes_on : DoStaticCalls calls first new
   pub room : FindsRoom old.core first.core
 
--- the static routes of a file on which one depends: itself, and if a table was full in between, all that
--- are heard from the same neighbour
+-- the static routes of a file on which a route depends: itself, and if a table was full in between, all of
+-- the same neighbour
 abbrev pub DependsOnRoute : RouterConfig → (old new : WithStaticsView PriorityCoreView) → StaticEntry → RipEntry
     → RipEntry → Type 0
 DependsOnRoute s old new h e x = DependsOn old new e x
@@ -67,9 +68,9 @@ abbrev pub DependsOnService : RouterConfig → (old new : WithStaticsView Priori
 DependsOnService s old new h e x = DependsOn old new e x
     × (g : StaticEntry) × Contains s.statics.items g × (g.by ≡ h.by) × (g.word ≡ Service x)
 
--- then each route of the file, while it is asked each minute and whoever is heard there tells nothing itself
--- of that network, and of those on whose routes it depends, is an offer that counts, up to a minute after the
--- last question, however full tables are after the first
+-- then each route of the file is an offer that counts, up to a minute after the router was last asked. It
+-- must be asked each minute. The neighbour itself must advertise nothing of that network, nor of those on
+-- whose routes it depends. Tables may fill up after the first time
 abbrev pub RoutesOfFilesStand : Type 0
 RoutesOfFilesStand = (text : List ℕ) (s : RouterConfig) → IsSiteText text s → (start : ℕ) (calls : List StaticCallAt)
     (old new : WithStaticsView PriorityCoreView) → RunsByFile s start calls old new
@@ -80,7 +81,7 @@ RoutesOfFilesStand = (text : List ℕ) (s : RouterConfig) → IsSiteText text s 
     → (now : ℕ) → now ≤ asked_in calls start + 60000
     → Counts (route_metric e) now (routes_in new.core.router.routes (e.network, h.by))
 
--- and so is each service
+-- the same holds for each service
 abbrev pub ServicesOfFilesStand : Type 0
 ServicesOfFilesStand = (text : List ℕ) (s : RouterConfig) → IsSiteText text s → (start : ℕ) (calls : List StaticCallAt)
     (old new : WithStaticsView PriorityCoreView) → RunsByFile s start calls old new
@@ -91,8 +92,8 @@ ServicesOfFilesStand = (text : List ℕ) (s : RouterConfig) → IsSiteText text 
     → (now : ℕ) → now ≤ asked_in calls start + 60000
     → Counts (service_metric e) now (services_in new.core.router.services (key_of_service e, h.by))
 
--- bytes come in to the core of a site's router; or that is asked for a packet; or it is to ask its neighbours
--- once more; and no memory is refused
+-- bytes come in to the core of a site's router, it is asked for a packet, or it is to repeat its requests;
+-- and it does not run out of memory
 abbrev pub DoesSiteCall : ℕ → StaticCall → SiteCore → SiteCore → Type 0
 DoesSiteCall now (Comes port bytes) old new = SiteHears old port bytes now new
 DoesSiteCall now (Asked given) old new = SiteGives old now given new
@@ -103,7 +104,7 @@ DoSiteCalls [] old new = new ≡ old
 DoSiteCalls (c ∷ cs) old new = (mid : SiteCore)
     × DoesSiteCall c.moment c.call old mid × DoSiteCalls cs mid new
 
--- so the router of a file runs, also where it asks its neighbours again
+-- the router of a file runs in this way, also if it repeats its requests
 pub record RunsAsSite (s : RouterConfig) (start : ℕ) (calls : List StaticCallAt) (old new : SiteCore) : Type 0 where
   pub to_hear : IsToHear s.statics.items old.core.core
   pub ports : old.core.core.core.router.ports ≡ router_ports s.ports.items
@@ -113,7 +114,7 @@ pub record RunsAsSite (s : RouterConfig) (start : ℕ) (calls : List StaticCallA
   pub goes_on : DoSiteCalls calls first new
   pub room : FindsRoom (uncounted old.core.core).core (uncounted first.core.core).core
 
--- then each route and each service of the file stands in it as above
+-- then each route and each service of the file is kept in it as above
 abbrev pub RoutesOfSitesStand : Type 0
 RoutesOfSitesStand = (text : List ℕ) (s : RouterConfig) → IsSiteText text s → (start : ℕ) (calls : List StaticCallAt)
     (old new : SiteCore) → RunsAsSite s start calls old new

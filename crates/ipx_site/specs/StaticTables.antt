@@ -1,4 +1,5 @@
--- Routes and services by hand in a file of a router: tables `[[route]]` and `[[service]]`. All is own.
+-- Static routes and services in the file of a router: tables `[[route]]` and `[[service]]`. Defined by this
+-- project.
 use Rattle.std.specs.Prelude.{◌≡◌, ◌⊎◌, ℕ, List, None}
 use Rattle.toml.specs.Data.{Members}
 use Rattle.ipx_wire.specs.declared.address.Address.{Address}
@@ -18,8 +19,8 @@ use Rattle.ipx_site.specs.Fields.{Holds, HoldsOr, IsFault, IsUnknown, IsWrong}
 use Rattle.ipx_site.specs.StaticFields.{IsFarNetwork, IsFarNetworkFault, IsNear, IsNearFault, IsServiceName, IsServicePlace, IsServicePlaceFault, IsServiceType, IsServiceTypeFault}
 use Rattle.ipx_site.specs.Values.{IsCount}
 
--- what a route says: a network, how many routers lie on the way, and how long that takes; where it does
--- not say that, as long as it takes to the next node
+-- what a route gives: a network, its hops, and its ticks. By default the ticks are the cost of sending to the
+-- next hop
 pub record IsPath (ports : List PortConfig) (ms : Members) (cost : ℕ) (route : RipEntry) : Type 0 where
   pub network : IsFarNetwork ports ms route.network
   pub hops : HoldsOr (IsCount 14) Key.Hops ms 1 route.hops
@@ -31,7 +32,7 @@ IsPathFault ports ms table f = IsFarNetworkFault ports ms table f
     ⊎ ((hops : ℕ) × HoldsOr (IsCount 14) Key.Hops ms 1 hops
     × IsWrong (IsCount 65535) Key.Ticks ms table f)))
 
--- what a service says: its type, its name, where it is, and how many routers lie on the way
+-- what a service gives: its type, its name, its address, and its hops
 pub record IsOffered (ms : Members) (service : ServiceEntry) : Type 0 where
   pub kind : IsServiceType ms service.kind
   pub name : Holds IsServiceName Key.Name ms service.name
@@ -44,7 +45,7 @@ IsOfferedFault ms table f = IsServiceTypeFault ms table f
     ⊎ ((name : List ℕ) × Holds IsServiceName Key.Name ms name × (IsServicePlaceFault ms table f
     ⊎ ((a : Address) × IsServicePlace ms a × IsWrong (IsCount 14) Key.Hops ms table f)))))
 
--- a table is that of a route, and of a service
+-- a table describes a route, and a service
 pub record IsRouteTable (ports : List PortConfig) (ms : Members) (e : StaticEntry) : Type 0 where
   pub known : first_unknown route_keys ms ≡ None
   pub says : (near : NextHop) × (route : RipEntry) × IsNear ports ms near
@@ -55,7 +56,7 @@ pub record IsServiceTable (ports : List PortConfig) (ms : Members) (e : StaticEn
   pub says : (near : NextHop) × (service : ServiceEntry) × IsNear ports ms near
       × IsOffered ms service × (e ≡ record { by = near.by; word = Says.Service service })
 
--- their first fault: a name that is no key, by whom it is heard, and then the other keys in order
+-- their first fault: a name that is no key, the neighbour, and then the other keys in order
 abbrev pub IsRouteFault : List PortConfig → Members → ℕ → ConfigError → Type 0
 IsRouteFault ports ms table f = IsUnknown route_keys ms table f
     ⊎ ((first_unknown route_keys ms ≡ None) × (IsNearFault ports ms table f
@@ -66,7 +67,7 @@ IsServiceFault ports ms table f = IsUnknown service_keys ms table f
     ⊎ ((first_unknown service_keys ms ≡ None) × (IsNearFault ports ms table f
     ⊎ ((near : NextHop) × IsNear ports ms near × IsOfferedFault ms table f)))
 
--- so of either kind
+-- the same for either kind
 abbrev pub IsEntryTable : StaticKind → List PortConfig → Members → StaticEntry → Type 0
 IsEntryTable Of.Route ports ms e = IsRouteTable ports ms e
 IsEntryTable Of.Service ports ms e = IsServiceTable ports ms e

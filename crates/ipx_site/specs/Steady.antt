@@ -1,13 +1,12 @@
--- The clock of a site's programs, by the system's own. All of it is own.
+-- The clock of a site's programs, over the system's clock. Defined by this project.
 use Rattle.std.specs.Prelude.{◌≡◌, ◌≤◌, ℕ, true}
 use Rattle.ipx_site.specs.declared.clock.SteadyClock.{SteadyClock}
 
--- it tells a moment that is no sooner than the one it told last, the same where it is stopped, and has told
--- that then
+-- it returns a time not before the last one, or the same time if it is stopped, and that is the last one then
 abbrev pub NeverGoesBack : {R : Type 0} → SteadyClock R → ℕ → SteadyClock R → Type 0
 NeverGoesBack old moment new = (old.last ≤ moment) × (new.last ≡ moment)
     × (new.stopped ≡ old.stopped) × (old.stopped ≡ true → moment ≡ old.last)
 
--- it tells a moment that is no sooner, and is stopped there
+-- it returns a time not before the last one, and is stopped there
 abbrev pub StopsThere : {R : Type 0} → SteadyClock R → ℕ → SteadyClock R → Type 0
 StopsThere old moment new = (old.last ≤ moment) × (new.last ≡ moment) × (new.stopped ≡ true)

@@ -1,4 +1,4 @@
--- What the value of a key means: a number of a network, an address, and so on.
+-- What the value of a key gives: the number of a network, an address, and so on.
 use Rattle.std.specs.Prelude.{String, Vec, string_bytes, ◌≡◌, ◌≢◌, ⊤, ℕ, suc, ◌==◌, ◌≤◌, pos, Bool, true, not, ◌&&◌, List, [], ◌∷◌, ◌++◌, length, Option, Some, codes, MatchOption}
 use Rattle.std.specs.Global.{Global}
 use Rattle.std.specs.List.{list_all, list_any}
@@ -16,8 +16,8 @@ use Rattle.ipx_site.specs.declared.site.Directed.TheVariants.{Never, Few, Always
 use Rattle.ipx_site.specs.declared.site.Kind.{Kind}
 use Rattle.ipx_site.specs.declared.site.Kind.TheVariants.{Rfc1234, Frames, Ipxnet}
 
--- eight hex digits write a network other than 0, which is the one at hand, and FFFFFFFF, which is
--- all of them
+-- eight hex digits give a network other than 0, which is the local network, and FFFFFFFF, which is all
+-- networks
 abbrev pub WritesNetwork : List ℕ → Network → Type 0
 WritesNetwork text n = (spelled_network text ≡ Some n) × (n.0 ≢ local_network) × (n.0 ≢ all_networks)
 
@@ -29,13 +29,13 @@ IsNetwork d n = (text : List ℕ) × (as_str d ≡ Some text) × WritesNetwork t
 abbrev pub IsSocket : Data → Socket → Type 0
 IsSocket d s = (text : List ℕ) × (as_str d ≡ Some text) × (spelled_socket text ≡ Some s) × (s.0 ≢ 0)
 
--- a string that is an IP address: four decimal numbers below 256, with dots between them. 0.0.0.0,
--- which names none of the machines, is none
+-- a string that is an IP address: four decimal numbers below 256, with dots between them. 0.0.0.0 is
+-- excluded: it names no machine
 abbrev pub IsIpAddress : Data → List ℕ → Type 0
 IsIpAddress d ip = (text : List ℕ) × (as_str d ≡ Some text) × IsDotted text ip
     × (text ≢ codes "0.0.0.0")
 
--- an integer from 1 to a greatest one
+-- an integer from 1 to `most`
 abbrev pub IsCount : ℕ → Data → ℕ → Type 0
 IsCount most d n = (as_integer d ≡ Some (pos n)) × (1 ≤ n) × (n ≤ most)
 
@@ -43,19 +43,20 @@ IsCount most d n = (as_integer d ≡ Some (pos n)) × (1 ≤ n) × (n ≤ most)
 abbrev pub can_name_file : List ℕ → Bool
 can_name_file text = not (length text == 0) && not (list_any (λ b. b == 0) text)
 
--- a string that can
+-- a string that can name a file
 abbrev pub IsFileName : Data → String Global → Type 0
 IsFileName d name = (as_str d ≡ Some (string_bytes name)) × (can_name_file (string_bytes name) ≡ true)
 
--- the name of the file to which one of this name is written first, before it is renamed
+-- the name of the temporary file to which a file of this name is written first
 abbrev pub temporary_name : List ℕ → List ℕ
 temporary_name name = name ++ codes ".new"
 
--- files of these names are written apart: they are two, and neither is where the other is written first
+-- files of these names do not overwrite each other: they differ, and neither is the temporary file of the
+-- other
 abbrev pub AreApart : List ℕ → List ℕ → Type 0
 AreApart one two = (one ≢ two) × (one ≢ temporary_name two) × (two ≢ temporary_name one)
 
--- so it is, and a file of this other name is written apart, if there is one
+-- the same, and it does not overwrite a file of this other name, if there is one
 abbrev pub IsOtherFileName : Option (String Global) → Data → String Global → Type 0
 IsOtherFileName other d name = IsFileName d name
     × MatchOption other ⊤ (λ it. AreApart (string_bytes it) (string_bytes name))
@@ -91,7 +92,7 @@ abbrev pub item_count : Items → ℕ
 item_count no_items = 0
 item_count (item d ds) = suc (item_count ds)
 
--- item by item, what each of them means
+-- item by item, what each of them gives
 abbrev pub AreEach : {A : Type 0} → (Data → A → Type 0) → Items → List A → Type 0
 AreEach Means no_items all = all ≡ []
 AreEach {A} Means (item d ds) all = (first : A) × (rest : List A) × (all ≡ first ∷ rest)
@@ -105,13 +106,13 @@ AreAddresses ds ips = AreEach IsIpAddress ds ips
 abbrev pub AreAddressesOf : Data → Vec (List ℕ) Global → Type 0
 AreAddressesOf d ips = (ds : Items) × (as_array d ≡ Some ds) × AreAddresses ds ips.items
 
--- so, and each of them is one of these peers
+-- the same, and each of them is one of these peers
 abbrev pub AreRouterPeers : List (List ℕ) → Data → Vec (List ℕ) Global → Type 0
 AreRouterPeers peers d ips = AreAddressesOf d ips × (list_all (is_peer peers) ips.items ≡ true)
 
--- ---- words of the private functions
+-- ---- relations for private functions
 
--- the network that a text writes, or that it writes none
+-- the network that a text gives, or that it gives none
 abbrev pub ReadsNetwork : List ℕ → Option Network → Type 0
 ReadsNetwork text found = MatchOption found ((n : Network) → WritesNetwork text n → ⊥) (WritesNetwork text)
 

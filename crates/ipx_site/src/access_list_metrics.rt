@@ -1,4 +1,4 @@
-//! What guards keep back at the ports of a router, as a text for Prometheus.
+//! Prometheus metrics of the datagrams that access lists dropped at a router's ports.
 
 ghost use Rattle.std.specs.Prelude.{◌≡◌, ◌++◌, IfOk, OnErr, OnOk, is_some, option_map, string_bytes};
 ghost use Rattle.ipx_site.specs.AccessListMetrics.{figure_if, access_list_metrics, access_list_text, is_any_guarded, kept_at_port_index, access_list_count, refused_text, unknown_senders_text};
@@ -20,14 +20,14 @@ const REFUSED: Family = Family {
     kind: "counter",
 };
 
-/// What the guard of a port counts.
+/// What the access list of a port counts.
 #[derive(Clone, Copy, Debug, PartialEq, Eq)]
 pub enum FilterDropKind {
     UnknownSenders,
     Refused,
 }
 
-/// What the guard of a port kept back; none where no guard is asked.
+/// What the access list of a port dropped, or None if the port has no access list.
 fn kept_at(port_index: PortIndex, kept: &[PortFilterDrops]) -> Option<PortFilterDrops>
     ensures { result ≡ kept_at_port_index kept.now port_index }
 {
@@ -43,7 +43,7 @@ fn is_guarded(port_index: PortIndex, kept: &[PortFilterDrops]) -> bool
     kept_at(port_index, kept).is_some()
 }
 
-/// Whether a port has a guard.
+/// Whether any port has an access list.
 fn is_any_guarded(port_indices: &[PortIndex], kept: &[PortFilterDrops]) -> bool
     ensures { result ≡ is_any_guarded port_indices.now kept.now }
 {
@@ -61,7 +61,7 @@ fn count_of(kept: PortFilterDrops, count: FilterDropKind) -> u64
     }
 }
 
-/// One of the counts of a port that has a guard.
+/// One count of a port, or None if the port has no access list.
 fn count_at(port_index: PortIndex, kept: &[PortFilterDrops], count: FilterDropKind) -> Option<u64>
     ensures { result ≡ option_map (access_list_count count) (kept_at_port_index kept.now port_index) }
 {
@@ -71,7 +71,7 @@ fn count_at(port_index: PortIndex, kept: &[PortFilterDrops], count: FilterDropKi
     }
 }
 
-/// Writes the figure of a port with a number, if there is a count.
+/// Writes the metric of the port with this number, if there is a count.
 fn put_count(
     text: &mut String,
     family: &Family,
@@ -87,7 +87,7 @@ fn put_count(
     }
 }
 
-/// Writes the figure of each port that has a guard, with its number among all ports.
+/// Writes the metric of each port that has an access list, with its number among all ports.
 fn put_counts(
     text: &mut String,
     family: &Family,
@@ -135,7 +135,7 @@ fn put_refused(
     put_counts(text, &REFUSED, FilterDropKind::Refused, port_indices, kept)
 }
 
-/// What the guards of a router's ports kept back, as a text; nothing where no port has one.
+/// The metrics of a router's access lists, as text. It is empty if no port has an access list.
 fn access_lists_to_text(
     alloc: Global,
     port_indices: &[PortIndex],
@@ -152,9 +152,8 @@ fn access_lists_to_text(
     Ok(text)
 }
 
-/// Writes what the guards of a router's ports kept back behind its other figures; nothing where no
-/// port has one. Those of guards are in the order of the ports of their kind. Where memory is refused
-/// the text is as it was.
+/// Appends the metrics of a router's access lists; nothing if no port has one. `kept` is in the
+/// order of the RFC 1234 ports. If out of memory, the text is unchanged.
 pub fn put_access_list_metrics(
     text: &mut String,
     alloc: Global,

@@ -1,4 +1,4 @@
-//! Who may ask a host for a connection.
+//! Which peers may ask a host for a connection.
 
 ghost use Rattle.std.specs.Prelude.{◌≡◌, IfOk};
 ghost use Rattle.toml.specs.View.{items_view, view};
@@ -10,22 +10,22 @@ use ipx_wire::{Address, Network, Node, OutOfMemory};
 use std::alloc::Global;
 use toml::Value;
 
-/// How many digits write a network.
+/// The number of hex digits of a network.
 const NETWORK_DIGITS: usize = 8;
 
-/// The most entries of a list.
+/// The maximum number of entries in a list.
 pub const MAX_ENTRIES: usize = 256;
 
-/// A node of a network, or each node of it.
+/// One node of a network, or every node of it.
 #[derive(Clone, Copy, Debug, PartialEq, Eq)]
 pub struct AllowedPeer {
     pub network: Network,
-    /// None stands for each node.
+    /// None means every node.
     pub node: Option<Node>,
 }
 
 impl AllowedPeer {
-    /// Whether an address is there, as a host of a network sees it: a network of 0 is its own.
+    /// Whether an address is allowed, as seen by a host on network `own`. Network 0 means `own`.
     pub fn has(&self, own: Network, address: &Address) -> bool
         ensures { result ≡ is_of own address.now self.now }
     {
@@ -42,7 +42,7 @@ impl AllowedPeer {
     }
 }
 
-/// What a text names: a network, or a network and a node of it.
+/// Parses a network, or a network and a node of it.
 fn origin_in(text: &[u8]) -> Option<AllowedPeer>
     ensures { ReadsOrigin text.now result }
 {
@@ -64,14 +64,14 @@ fn origin_in(text: &[u8]) -> Option<AllowedPeer>
     })
 }
 
-/// What a value names.
+/// The entry that a value gives.
 fn origin_of(value: &Value) -> Option<AllowedPeer>
     ensures { Reads IsOrigin (view value.now) result }
 {
     origin_in(value.as_str()?.as_bytes())
 }
 
-/// What values name, if each of them names something.
+/// The entries that values give, or None if one of them gives no entry.
 fn origins_in(alloc: Global, values: &[Value]) -> Result<Option<Vec<AllowedPeer>>, OutOfMemory>
     ensures { IfOk result (ReadsOrigins (items_view values.now)) }
 {
@@ -85,7 +85,7 @@ fn origins_in(alloc: Global, values: &[Value]) -> Result<Option<Vec<AllowedPeer>
     Ok(Some(origins))
 }
 
-/// What a value lists, 256 at most.
+/// The entries that a value lists, at most 256.
 pub fn origins_of(alloc: Global, value: &Value) -> Result<Option<Vec<AllowedPeer>>, OutOfMemory>
     ensures { IfOk result (Reads AreOrigins (view value.now)) }
 {

@@ -4,14 +4,14 @@ use std::fmt;
 use std::io::ErrorKind;
 use thiserror::Error;
 
-/// Why a socket can't be had.
+/// Why a socket could not be bound.
 #[derive(Clone, Copy, Debug, PartialEq, Eq)]
 pub enum BindErrorKind {
-    /// Another socket has the address and the port.
+    /// Another socket uses the address and the port.
     InUse,
-    /// The address is none of this machine's.
+    /// The address is not one of this machine.
     NotHere,
-    /// The port wants a right.
+    /// The port needs a privilege.
     NotAllowed,
     Other,
 }
@@ -21,12 +21,12 @@ pub enum BindErrorKind {
 pub enum BindFault {
     #[error("out of memory")]
     OutOfMemory,
-    /// The number of the port whose socket can't be had. The first is port 1.
+    /// The number of the port whose socket could not be bound, starting at 1, and the reason.
     #[error("port {0}: {1}")]
     Port(usize, BindErrorKind),
 }
 
-/// The obstacle that the system tells.
+/// The kind of the error that the system reports.
 pub fn bind_error_kind(kind: ErrorKind) -> BindErrorKind {
     match kind {
         ErrorKind::AddrInUse => BindErrorKind::InUse,

@@ -1,4 +1,4 @@
-//! What a router says of its file, without a socket: `ipx route --check`.
+//! Checks a router's file without opening a socket: `ipx route --check`.
 
 ghost use Rattle.std.specs.Prelude.{◌≡◌, ◌<◌, ◌≤◌, ℕ, List, [], IfOk, IfSome, IsOkAnd, length, position, string_bytes};
 ghost use Rattle.std.specs.Io.KnownBytes.{Appends};
@@ -18,22 +18,22 @@ use std::alloc::{AllocError, Global};
 use std::io::Write;
 use std::rt::Files;
 
-/// What is remarked on a port.
+/// A remark about the port with this number.
 fn remark_on(alloc: Global, number: usize, text: &str) -> Result<String, AllocError>
     ensures { IfOk result (λ t. string_bytes t ≡ remark number text.now) }
 {
     format!(in alloc; "port {number}: {text}\n")
 }
 
-/// Whether no machine has an IP address: it is of the network at hand, of a group, reserved, or of
-/// all.
+/// Whether no machine can have this IP address: it is in 0.0.0.0/8, multicast, reserved or
+/// broadcast.
 fn is_of_no_machine(ip: [u8; 4]) -> bool
     ensures { result ≡ is_of_no_machine ip }
 {
     ip[0] == 0 || ip[0] >= 224
 }
 
-/// What is remarked on a peer, behind the earlier ones.
+/// The remark about a peer that follows the `earlier` peers; empty if there is none.
 fn peer_to_remark(
     alloc: Global,
     whose: &str,
@@ -56,8 +56,8 @@ fn peer_to_remark(
     Ok(String::new(alloc))
 }
 
-/// What is remarked on the peers of an address: a line, behind the words that say whose they are, for
-/// each that is that address itself, stands twice, or is that of no machine.
+/// The remarks about the peers of an address. There is one line for each peer that is the address
+/// itself, repeats an earlier peer, or can belong to no machine. Each line begins with `whose`.
 pub fn peers_to_remarks(
     alloc: Global,
     whose: &str,
@@ -75,7 +75,7 @@ pub fn peers_to_remarks(
     Ok(remarks)
 }
 
-/// What is remarked on an end of a wire, behind the earlier ones.
+/// The remark about a remote that follows the `earlier` remotes; empty if there is none.
 fn end_to_remark(
     alloc: Global,
     whose: &str,
@@ -95,8 +95,8 @@ fn end_to_remark(
     Ok(String::new(alloc))
 }
 
-/// What is remarked on the ends of a wire: a line for each that is the place of the port itself, or
-/// stands twice.
+/// The remarks about the remotes of an Ethernet port. There is one line for each remote that is the
+/// port's own place, or repeats an earlier remote.
 fn ends_to_remarks(
     alloc: Global,
     whose: &str,
@@ -114,7 +114,7 @@ fn ends_to_remarks(
     Ok(remarks)
 }
 
-/// What is remarked on a joined router, of which each stands once.
+/// The remark about a joined router; empty if there is none. A file lists each joined router once.
 fn joined_to_remark(
     alloc: Global,
     whose: &str,
@@ -130,7 +130,7 @@ fn joined_to_remark(
     Ok(String::new(alloc))
 }
 
-/// What is remarked on joined routers: a line for each that is the place of the port itself.
+/// The remarks about joined routers: one line for each that is the port's own place.
 fn join_to_remarks(
     alloc: Global,
     whose: &str,
@@ -148,7 +148,7 @@ fn join_to_remarks(
     Ok(remarks)
 }
 
-/// What is remarked on those whom a port sends to.
+/// The remarks about the addresses that a port sends to.
 fn reached_to_remarks(alloc: Global, whose: &str, port: &PortConfig) -> Result<String, AllocError>
     ensures { IfOk result (λ t. string_bytes t ≡ reached_remarks whose.now port.now) }
 {
@@ -163,7 +163,7 @@ fn reached_to_remarks(alloc: Global, whose: &str, port: &PortConfig) -> Result<S
     }
 }
 
-/// The place of the first of these ports that is bound where another one is.
+/// The index of the first of these ports that is bound to the same place.
 fn place_of_same(earlier: &[PortConfig], port: &PortConfig) -> Option<usize>
     ensures place { result ≡ position (is_one_place port.now) earlier.now }
     ensures within { IfSome result (λ k. k < length earlier.now) }
@@ -172,7 +172,7 @@ fn place_of_same(earlier: &[PortConfig], port: &PortConfig) -> Option<usize>
     earlier.iter().position(|other| other.place() == place)
 }
 
-/// What is remarked on the place of a port, behind the earlier ones.
+/// The remark about a port that is bound to the same place as an earlier one.
 fn place_to_remark(
     alloc: Global,
     number: usize,
@@ -191,7 +191,7 @@ fn place_to_remark(
     }
 }
 
-/// The line of a port behind earlier ones, and what is remarked on it.
+/// The line of a port that follows the `earlier` ports, and the remarks about it.
 fn port_to_lines(
     alloc: Global,
     earlier: &[PortConfig],
@@ -270,8 +270,8 @@ fn site_to_lines(alloc: Global, path: &str, site: &RouterConfig) -> Result<Strin
     format!(in alloc; "{ports}{statics}{file}")
 }
 
-/// Writes what is said of a file that is checked, and answers the status: 0 where all is written.
-/// Else it is 1, and a line on standard error says why.
+/// Writes the result of a check, and returns the exit status. It is 0 if everything is written.
+/// Otherwise it is 1, and a line on standard error says why.
 pub fn write_checked<R: Eprint, W: Write>(
     rt: &R,
     path: &str,
@@ -295,12 +295,13 @@ pub fn write_checked<R: Eprint, W: Write>(
     }
 }
 
-/// The command `route --check`: reads the file of a router, and writes the line that each port has
-/// as a router starts, with what is to be remarked on it, one of each route and service by hand, and
-/// one of the file. It opens no socket: no `Net` comes in.
+/// The command `route --check`: reads a router's file, and writes a line for each port, as a
+/// starting router does, with the remarks about it. A line for each static route and service
+/// follows, and one for the file. It opens no socket: it takes no `Net`.
 ///
-/// The answer is the status: 0 where that is written; 1 where memory is refused or the writer
-/// fails; 2 for a fault of the file, which is told as `route` does, and nothing is written.
+/// Returns the exit status. It is 0 if all is written, and 1 if out of memory or if the writer
+/// fails. It is 2 for a fault of the file, which is reported as by `route`; then nothing is
+/// written.
 pub fn check_site<R: Files + Eprint, W: Write>(
     rt: &R,
     alloc: Global,
@@ -308,7 +309,7 @@ pub fn check_site<R: Files + Eprint, W: Write>(
     writer: &mut W,
 ) -> u8
     ensures few { result ≤ 2 }
-    // What it writes is of the ports that some text describes.
+    // The lines are those of a configuration that some file text describes.
     ensures lines { result ≡ 0 → (text : List ℕ) × (site : ASiteFile)
         × IsFileText text × IsSiteText text site
         × Appends (W.contents writer.old) (W.contents writer.new) (site_lines path.now site) }

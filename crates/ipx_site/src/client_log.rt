@@ -1,4 +1,4 @@
-//! What a router tells of who comes to its ports for clients of ipxnet, and of who is gone.
+//! Logs the clients that connect to a router's ipxnet ports, and those that time out.
 
 ghost use Rattle.std.specs.Prelude.{◌≡◌, ◌≤◌, ◌+◌, ◌++◌, [], IfOk, None, OnErr, OnOk, Some, length};
 ghost use Rattle.ipx_site.specs.ClientLog.{all_clients, clients_come, clients_gone, clients_told, clients_without};
@@ -13,37 +13,37 @@ use log::{Log, info};
 use std::alloc::{AllocError, Global};
 use std::collections::HashSet;
 
-/// How many lines are told at once at most, and how long it is to the next look, in milliseconds.
+/// The most lines logged at once, and the time between two looks, in milliseconds.
 const MAX_LINES: usize = 10;
 
 const PERIOD: u64 = 1000;
 
-/// A client of a port, as it is told.
+/// A client of a port, as it is logged.
 #[derive(Clone, Copy, Debug, PartialEq, Eq)]
 pub struct PortClient {
-    /// The number of the port, the first of which is 1.
+    /// The number of the port, starting at 1.
     pub port: usize,
-    /// Where the client is.
+    /// The IP address and UDP port of the client.
     pub place: Place,
-    /// The node that it has.
+    /// The node of the client.
     pub node: Node,
 }
 
-/// Which clients are told at a look: those that are gone, and those that came.
+/// The clients that one look logs: those that are gone, and those that connected.
 #[derive(Drop)]
 pub struct ClientChanges {
     pub gone: Vec<PortClient>,
     pub came: Vec<PortClient>,
 }
 
-/// The clients that were told to be there, and when one looked last.
+/// The clients that were logged as connected, and the time of the last look.
 #[derive(Drop)]
 pub struct ClientLog {
     told: Vec<PortClient>,
     looked: Option<u64>,
 }
 
-/// What tells a client of a port from every other.
+/// What distinguishes a client of a port from all others.
 #[derive(Clone, Copy, PartialEq, Eq, Hash)]
 struct ClientKey {
     port: usize,
@@ -63,7 +63,7 @@ fn key_of(client: &PortClient) -> ClientKey
     }
 }
 
-/// The keys of some clients, among which one is found without a walk over all.
+/// The keys of some clients, as a set for fast lookup.
 fn keys_of(alloc: Global, clients: &[PortClient]) -> Result<HashSet<ClientKey>, AllocError>
     ensures { IfOk result (λ keys. (client : PortClient) →
         has_client_key keys client ≡ is_listed_client clients.now client) }
@@ -71,14 +71,14 @@ fn keys_of(alloc: Global, clients: &[PortClient]) -> Result<HashSet<ClientKey>, 
     clients.iter().map(|client| key_of(client)).collect(alloc)
 }
 
-/// Whether the key of a client is one of these.
+/// Whether the key of a client is in the set.
 fn is_listed(keys: &HashSet<ClientKey>, client: &PortClient) -> bool
     ensures { result ≡ has_client_key keys.now client.now }
 {
     keys.contains(&key_of(client))
 }
 
-/// Those of some clients that are none of these.
+/// The clients that are not among `these`.
 fn without(
     alloc: Global,
     clients: &[PortClient],
@@ -95,7 +95,7 @@ fn without(
         .collect(alloc)
 }
 
-/// Whom to tell, where these were told to be there, and those are: at most ten.
+/// The changes to log if `told` were logged as connected and `there` are connected: at most ten.
 fn news_of(
     alloc: Global,
     told: &[PortClient],
@@ -111,7 +111,7 @@ fn news_of(
     Ok(ClientChanges { gone, came })
 }
 
-/// Who is told to be there behind these news.
+/// The clients that are logged as connected after these changes.
 fn told_behind(
     alloc: Global,
     told: &[PortClient],
@@ -125,7 +125,7 @@ fn told_behind(
     Ok(all)
 }
 
-/// A client of a port.
+/// A client of the port with this number.
 fn port_client(port: usize, client: &Client) -> PortClient
     ensures { result ≡ record { port = port; place = client.now.place; node = client.now.node } }
 {
@@ -136,7 +136,7 @@ fn port_client(port: usize, client: &Client) -> PortClient
     }
 }
 
-/// The clients of a lobby, whose port has this number.
+/// The clients of the ipxnet server of the port with this number.
 fn clients_of(alloc: Global, port: usize, clients: &[Client]) -> Result<Vec<PortClient>, AllocError>
     ensures { IfOk result (λ v. v.items ≡ port_clients port clients.now) }
 {
@@ -146,7 +146,7 @@ fn clients_of(alloc: Global, port: usize, clients: &[Client]) -> Result<Vec<Port
         .collect(alloc)
 }
 
-/// The clients of the port at a spot, which has this number; none where it is no port for clients.
+/// The clients of the port at `port_index`, which has this number; none if it is no ipxnet port.
 fn clients_at(
     alloc: Global,
     number: usize,
@@ -164,7 +164,7 @@ fn clients_at(
     }
 }
 
-/// The clients of all ports, in their order.
+/// The clients of all ports, in the order of the ports.
 fn clients_there(
     alloc: Global,
     port_indices: &[PortIndex],
@@ -180,7 +180,7 @@ fn clients_there(
     Ok(all)
 }
 
-/// The clients that the ports of a router have.
+/// The clients of a router's ports.
 fn clients_in(alloc: Global, ports: &UdpRouterPorts) -> Result<Vec<PortClient>, AllocError>
     ensures { IfOk result (λ v.
         v.items ≡ all_clients 1 ports.now.port_indices.items ports.now.servers.servers.items) }
@@ -188,7 +188,7 @@ fn clients_in(alloc: Global, ports: &UdpRouterPorts) -> Result<Vec<PortClient>, 
     clients_there(alloc, ports.port_indices(), ports.servers().servers())
 }
 
-/// Tells who is gone.
+/// Logs the clients that are gone.
 fn tell_gone<R: Log>(rt: &R, gone: &[PortClient]) {
     for client in gone {
         let port = client.port;
@@ -198,7 +198,7 @@ fn tell_gone<R: Log>(rt: &R, gone: &[PortClient]) {
     }
 }
 
-/// Tells who came.
+/// Logs the clients that connected.
 fn tell_come<R: Log>(rt: &R, came: &[PortClient]) {
     for client in came {
         let port = client.port;
@@ -210,7 +210,7 @@ fn tell_come<R: Log>(rt: &R, came: &[PortClient]) {
 }
 
 impl ClientChanges {
-    /// Tells a line of each.
+    /// Logs a line for each client.
     pub fn tell<R: Log>(&self, rt: &R) {
         tell_gone(rt, &self.gone);
         tell_come(rt, &self.came);
@@ -218,7 +218,7 @@ impl ClientChanges {
 }
 
 impl ClientLog {
-    /// Nobody was told to be there yet.
+    /// No client has been logged yet.
     pub fn new(alloc: Global) -> ClientLog
         ensures nobody { result.told.items ≡ [] }
         ensures never { result.looked ≡ None }
@@ -229,9 +229,9 @@ impl ClientLog {
         }
     }
 
-    /// Whom to tell at a look, at which these clients are there: who was told to be there and is not, and
-    /// who is there and was not told, each once, and no more than ten. What is left waits for the next look,
-    /// as does all where memory is refused.
+    /// The changes to log when the clients `there` are connected. Each client that was logged but
+    /// is gone, or is connected but was not logged, appears once. At most ten appear. The rest wait
+    /// for the next look; if out of memory, all do.
     pub fn look(&mut self, alloc: Global, there: &[PortClient]) -> Result<ClientChanges, AllocError>
         ensures gone { IfOk result (λ n. n.gone.items ≡ clients_gone self.old.told.items there.now) }
         ensures came { IfOk result (λ n. n.came.items ≡ clients_come self.old.told.items there.now) }
@@ -247,8 +247,9 @@ impl ClientLog {
         Ok(news)
     }
 
-    /// Looks which clients the ports of a router have at a moment in milliseconds, and tells a line of
-    /// each that came or is gone, ten at most; unless it looked less than a second ago.
+    /// Looks at the clients of a router's ports at `now`, in milliseconds, and logs those that
+    /// connected or are gone. It logs at most ten lines. If the last look was less than a second
+    /// ago, it does nothing.
     pub(crate) fn tell<R: Log>(
         &mut self,
         rt: &R,

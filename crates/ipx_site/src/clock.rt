@@ -8,28 +8,28 @@ use std::rt::Clock as SystemClock;
 use std::time::Instant;
 use thiserror::Error;
 
-/// The system does not tell the time, as it is asked for the first time.
+/// The system could not tell the time when it was asked for the first time.
 #[derive(Clone, Copy, Debug, PartialEq, Eq, Error)]
 pub enum ClockFault {
     #[error("the system's clock can't be read")]
     Unread,
 }
 
-/// The milliseconds since it was made, by the system's steady clock. It never goes back.
+/// Milliseconds since the clock was created, by the system's monotonic clock. It never goes back.
 ///
-/// It asks the system each time, until it is asked to stop.
+/// It asks the system each time, until it is stopped.
 #[derive(Drop)]
 pub struct SteadyClock<'a, R: SystemClock> {
     system: &'a R,
     start: Instant,
     last: u64,
-    /// It tells the moment that it told last, and asks no more.
+    /// Whether it returns its last time, without asking the system.
     stopped: bool,
 }
 
 impl<'a, R: SystemClock> SteadyClock<'a, R> {
-    /// A clock that begins at 0 now. If the system does not tell the time there is none: one that stays
-    /// at 0 would never be due.
+    /// A clock that starts at 0 now. It fails if the system does not tell the time, because nothing
+    /// would ever become due by a clock that stays at 0.
     pub fn new(system: &'a R) -> Result<SteadyClock<'a, R>, ClockFault>
         ensures begins { IfOk result (λ c. c.last ≡ 0) }
         ensures goes { IfOk result (λ c. c.stopped ≡ false) }
@@ -45,9 +45,10 @@ impl<'a, R: SystemClock> SteadyClock<'a, R> {
         }
     }
 
-    /// The moment that the system tells now. Then it stands still there, until it is stopped again.
+    /// Reads the system's time, and stops the clock there until this is called again.
     ///
-    /// Who takes many turns at once stops it before them: each is at this moment, and none asks.
+    /// A caller that takes many turns at once stops the clock first. All the turns then have this
+    /// time, and none asks the system.
     pub fn stop(&mut self) -> u64
         ensures { StopsThere self.old result self.new }
     {
@@ -57,7 +58,7 @@ impl<'a, R: SystemClock> SteadyClock<'a, R> {
         moment
     }
 
-    /// The milliseconds since the start, where the system tells them.
+    /// The milliseconds since the start, if the system tells them.
     fn since_start(&self) -> Option<u64> {
         let passed = self.start.elapsed(self.system).ok()?;
         u64::try_from(passed.as_millis()).ok()

@@ -1,4 +1,4 @@
-//! Files that may be those of a router or of a host, and the file of tables of a router.
+//! The configuration files of a router and of a host, and the table file of a router.
 
 ghost use Rattle.std.specs.Prelude.{◌≡◌, ◌⊎◌, ℕ, List, IfErr, IfOk, OnOk, false, true};
 ghost use Rattle.ipx_table_dump.specs.TableParts.{has_all_titles};
@@ -19,17 +19,17 @@ use std::alloc::Global;
 use std::rt::Files;
 use std::str;
 
-/// The longest file of tables, in bytes. Full tables are less than half of it.
+/// The longest table file, in bytes. Full tables need less than half of it.
 const MAX_TABLES: usize = 4_194_304;
 
-/// The file of a router or of a host.
+/// The configuration of a router or a host.
 #[derive(Drop)]
 pub enum ConfigFile {
     Router(RouterConfig),
     Host(HostConfig),
 }
 
-/// Whether a text is that of a router: it has ports, and that of a host has none.
+/// Whether a text is a router's: a router's file has ports, and a host's has none.
 fn has_ports(alloc: Global, text: &str) -> Result<bool, OutOfMemory>
     ensures { IfOk result (λ has. has ≡ has_port_key (parse_document text.now)) }
 {
@@ -40,7 +40,7 @@ fn has_ports(alloc: Global, text: &str) -> Result<bool, OutOfMemory>
     }
 }
 
-/// Whether the bytes of a file are read as a router's. Want of memory is told.
+/// Whether the bytes of a file are read as a router's. It reports if out of memory.
 fn is_router<R: Eprint>(rt: &R, alloc: Global, path: &str, bytes: &[u8]) -> Result<bool, u8>
     ensures kind { IfOk result (λ router. IsFileText bytes.now
         → router ≡ has_port_key (parse_document bytes.now)) }
@@ -58,7 +58,7 @@ fn is_router<R: Eprint>(rt: &R, alloc: Global, path: &str, bytes: &[u8]) -> Resu
     }
 }
 
-/// What the bytes of a file describe.
+/// The configuration that the bytes of a file describe.
 #[tactic(auto, using(crate::proofs::StationFaults::status_of_kind))]
 fn station_in<R: Eprint>(rt: &R, alloc: Global, path: &str, bytes: &[u8]) -> Result<ConfigFile, u8>
     ensures station { IfOk result (λ s. IsFileText bytes.now × IsStationText bytes.now s) }
@@ -81,7 +81,7 @@ pub fn load_config<R: Files + Eprint>(rt: &R, alloc: Global, path: &str) -> Resu
     station_in(rt, alloc, path, &bytes)
 }
 
-/// Refuses bytes that are no whole text of tables.
+/// Refuses bytes that are not a complete text of tables.
 fn refuse_half<R: Eprint>(rt: &R, alloc: Global, path: &str, bytes: &[u8]) -> Result<(), u8>
     ensures whole { OnOk result (has_all_titles bytes.now ≡ true) }
     ensures fault { IfErr result (λ status. (status ≡ 1)
@@ -98,8 +98,8 @@ fn refuse_half<R: Eprint>(rt: &R, alloc: Global, path: &str, bytes: &[u8]) -> Re
     }
 }
 
-/// Reads the file of tables that a router wrote. What is wrong is told in one line on standard error
-/// that begins with the path; the error is the status then: 2, or 1 for want of memory.
+/// Reads a table file that a router wrote. A fault is reported in one line on standard error that
+/// begins with the path. The error is the exit status: 2, or 1 if out of memory.
 pub fn load_tables<R: Files + Eprint>(rt: &R, alloc: Global, path: &str) -> Result<Vec<u8>, u8>
     ensures whole { IfOk result (λ v. has_all_titles v.items ≡ true) }
     ensures fault { IfErr result (λ status. (status ≡ 1) ⊎ (status ≡ 2)) }

@@ -8,18 +8,18 @@ use ipx_carrier::saturating_increment;
 use ipx_router::Port;
 use ipx_wire::{Address, IpxHeader, Network, Node, decode, packet_type};
 
-/// A directed broadcast at the last router on its way: by which port it leaves, of which the first
-/// is 0, and who sent it.
+/// A directed broadcast at the last router on its way: the port by which it leaves, starting at 0,
+/// and its sender.
 #[derive(Clone, Copy, Debug, PartialEq, Eq)]
 pub struct DirectedBroadcast {
     pub leaves_by: usize,
     pub from: Address,
 }
 
-/// The directed broadcasts that were dropped, and who sent the last of them.
+/// The number of directed broadcasts that were dropped, and the sender of the last one.
 #[derive(Clone, Copy, Debug, PartialEq, Eq)]
 pub struct DirectedDrops {
-    /// It stays at the greatest u64.
+    /// Saturates at the greatest u64.
     pub count: u64,
     pub last: Option<Address>,
 }
@@ -52,14 +52,14 @@ fn is_directed(at: Port, header: &IpxHeader) -> bool
         && header.to.network != at.network
 }
 
-/// The place of the port that is on a network.
+/// The index of the port that is on a network.
 fn port_on(ports: &[Port], network: Network) -> Option<usize>
     ensures { result ≡ direct_route ports.now network }
 {
     ports.iter().position(|port| port.network == network)
 }
 
-/// The directed broadcast that bytes are which came by this port.
+/// Parses bytes that came by this port as a directed broadcast, if they are one.
 fn directed_at(ports: &[Port], at: Port, bytes: &[u8]) -> Option<DirectedBroadcast>
     ensures directed { IfSome result (IsDirectedAt ports.now at bytes.now) }
     ensures none { IfNone result
@@ -80,9 +80,9 @@ fn directed_at(ports: &[Port], at: Port, bytes: &[u8]) -> Option<DirectedBroadca
     }
 }
 
-/// The directed broadcast that bytes are which came to a router's port of a number: a packet for
-/// all nodes of the network of another one of these ports. Where that network is further away, the
-/// last router before it limits them, and to this one they are as any other packet.
+/// Parses bytes that came to a router's port as a directed broadcast, if they are one: a packet for
+/// all nodes of the network of another of these ports. If that network is further away, the last
+/// router before it limits the packets. To this router they are like any other packet.
 pub fn directed_broadcast_in(ports: &[Port], port: usize, bytes: &[u8]) -> Option<DirectedBroadcast>
     ensures directed { IfSome result (IsDirectedBroadcast ports.now port bytes.now) }
     ensures none { IfNone result

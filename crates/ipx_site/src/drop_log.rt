@@ -1,4 +1,4 @@
-//! The lines of what a router dropped: one a minute for each reason, with the last one of it.
+//! Log lines for dropped datagrams: one a minute for each reason, with the last datagram.
 
 ghost use Rattle.std.specs.Prelude.{◌≡◌};
 ghost use Rattle.ipx_site.specs.DropLog.{AreDropsTold, AreSourceDropsTold, is_for_all_nodes, is_of_all_nodes, no_drops_told, warns_of};
@@ -13,7 +13,7 @@ use ipx_wire::{Address, Node, Socket};
 use log::{Log, info, warn};
 use std::fmt;
 
-/// Why datagrams were dropped of which a line is told.
+/// Why datagrams were dropped, for the log.
 #[derive(Clone, Copy, Debug, PartialEq, Eq)]
 pub enum DropReason {
     Bad,
@@ -25,15 +25,15 @@ pub enum DropReason {
     LoopedSource,
 }
 
-/// What a line says of a reason and of the last datagram of it. Of one to which no route leads it
-/// names the network.
+/// What a log line says of a reason and its last datagram. For a missing route it names the
+/// network.
 #[derive(Clone, Copy, Debug, PartialEq, Eq)]
 pub struct DropSummary {
     pub reason: DropReason,
     pub last: Option<LastDrop>,
 }
 
-/// When a router told what it dropped, for each of seven reasons.
+/// When a router last logged its drops, for each of seven reasons.
 #[derive(Clone, Copy, Debug, PartialEq, Eq)]
 pub struct DropLog {
     bad: ThrottledLog,
@@ -64,7 +64,8 @@ fn write_reason<W: fmt::Write>(
     }
 }
 
-/// Who sent the last one, where its head says so, and the number of the port that it came by.
+/// Writes the sender of the last datagram, if its header names one, and the number of the port that
+/// it came by.
 fn write_last<W: fmt::Write>(f: &mut fmt::Formatter<W>, last: LastDrop) -> fmt::Result {
     f.write_str(", the last")?;
     if let Some(from) = last.from {
@@ -73,7 +74,7 @@ fn write_last<W: fmt::Write>(f: &mut fmt::Formatter<W>, last: LastDrop) -> fmt::
     write!(f, " by port {}", last.port.saturating_add(1))
 }
 
-/// Whether an address is that of all nodes of a network, and of neither RIP nor SAP.
+/// Whether an address is for all nodes of a network, with a socket other than those of RIP and SAP.
 fn is_for_all_nodes(to: Option<Address>) -> bool
     ensures { result ≡ is_for_all_nodes to }
 {
@@ -87,7 +88,8 @@ fn is_for_all_nodes(to: Option<Address>) -> bool
     }
 }
 
-/// Whether the last datagram was sent to all nodes of a network, by neither RIP nor SAP.
+/// Whether the last datagram was for all nodes of a network, to a socket other than those of RIP
+/// and SAP.
 fn is_of_all_nodes(last: Option<LastDrop>) -> bool
     ensures { result ≡ is_of_all_nodes last }
 {
@@ -98,8 +100,8 @@ fn is_of_all_nodes(last: Option<LastDrop>) -> bool
 }
 
 impl DropSummary {
-    /// Whether its line is a warning. What is sent to all nodes of a network comes to its routers
-    /// too. They hear RIP and SAP, and drop all else as not their own, which is no fault.
+    /// Whether the line is a warning. What is sent to all nodes of a network reaches its routers
+    /// too. They process RIP and SAP, and drop the rest as not for them, which is no problem.
     pub fn warns(&self) -> bool
         ensures { result ≡ warns_of self.now.reason self.now.last }
     {
@@ -143,7 +145,7 @@ fn words(reason: DropReason, last: Option<LastDrop>) -> DropSummary {
 }
 
 impl DropLog {
-    /// None was told yet.
+    /// Nothing has been logged yet.
     pub fn new() -> DropLog
         ensures { result ≡ no_drops_told }
     {
@@ -158,7 +160,8 @@ impl DropLog {
         }
     }
 
-    /// Tells those for which it is time: what the router dropped, and what failed a source check before.
+    /// Logs the reasons that are due: what the router dropped, and what failed a source check
+    /// before it.
     pub fn tell<R: Log>(
         &mut self,
         rt: &R,

@@ -1,4 +1,4 @@
-//! Text from elsewhere, as it is printed.
+//! Text from files and neighbours, made safe to print.
 
 ghost use Rattle.std.specs.Prelude.{◌≡◌, ◌<◌, ◌==◌, IfSome, Some, encode_utf8, length, position};
 ghost use Rattle.std.specs.List.{before_first};
@@ -6,12 +6,13 @@ ghost use Rattle.ipx_site.specs.Checked.{shown_byte, shown_text};
 
 use std::fmt;
 
-/// Text that a file or a neighbour gave, as it is printed: up to its first zero byte, and a dot for
-/// each byte that is no printable ASCII. So it stays on its line, and moves no terminal.
+/// Text from a file or a neighbour, made safe to print. It ends before the first zero byte, and a
+/// dot replaces each byte that is no printable ASCII. It cannot leave its line or control the
+/// terminal.
 #[derive(Clone, Copy)]
 pub struct Escaped<'a>(pub &'a [u8]);
 
-/// A byte as it is printed.
+/// The character printed for a byte.
 fn printed(byte: u8) -> char
     ensures { encode_utf8 result ≡ shown_byte byte }
 {
@@ -22,7 +23,7 @@ fn printed(byte: u8) -> char
     }
 }
 
-/// The place of the first zero byte.
+/// The index of the first zero byte.
 fn zero_place(bytes: &[u8]) -> Option<usize>
     ensures place { result ≡ position (λ b. b == 0) bytes.now }
     ensures within { IfSome result (λ i. i < length bytes.now) }
@@ -30,7 +31,7 @@ fn zero_place(bytes: &[u8]) -> Option<usize>
     bytes.iter().position(|byte| *byte == 0)
 }
 
-/// What stands before the first zero byte.
+/// The bytes before the first zero byte.
 fn before_zero(bytes: &[u8]) -> &[u8]
     ensures { result.now ≡ before_first (λ b. b == 0) bytes.now }
 {

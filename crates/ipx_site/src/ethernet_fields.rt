@@ -1,4 +1,4 @@
-//! The keys of the table of a port on a wire, each with its value.
+//! The keys of an Ethernet port's table, with their values.
 
 ghost use Rattle.std.specs.Prelude.{true};
 ghost use Rattle.toml.specs.View.{table_view};
@@ -17,7 +17,7 @@ use ipx_wire::Node;
 use std::alloc::Global;
 use toml::Table;
 
-/// The encapsulation of a wire.
+/// The encapsulation of an Ethernet port.
 pub fn encapsulation_in(table: &Table, number: usize) -> Result<Encapsulation, ConfigError>
     ensures { Gives IsEncapsulation Key.Frame (table_view table.now) number result }
 {
@@ -27,7 +27,7 @@ pub fn encapsulation_in(table: &Table, number: usize) -> Result<Encapsulation, C
     }
 }
 
-/// A number from 1 to a greatest one, which must be there.
+/// A required number from 1 to `most`.
 pub fn required_count_in(
     table: &Table,
     number: usize,
@@ -42,7 +42,7 @@ pub fn required_count_in(
     }
 }
 
-/// The ends of a wire.
+/// The remotes of an Ethernet port.
 pub fn ends_in(alloc: Global, table: &Table, number: usize) -> Result<Vec<Place>, ConfigError>
     ensures { Gives AreEthernetEnds Key.Ends (table_view table.now) number result }
 {
@@ -52,7 +52,7 @@ pub fn ends_in(alloc: Global, table: &Table, number: usize) -> Result<Vec<Place>
     }
 }
 
-/// The address of the port on its wire, or else the one that is made.
+/// The node of the port, or `made` if the file gives none.
 pub fn station_in(table: &Table, number: usize, made: Node) -> Result<Node, ConfigError>
     ensures { GivesOr IsStation Key.Node (table_view table.now) number made result }
 {
@@ -65,7 +65,7 @@ pub fn station_in(table: &Table, number: usize, made: Node) -> Result<Node, Conf
     }
 }
 
-/// Whether the port is the hub of its ends. It is where nothing is said.
+/// Whether the port switches frames between its remotes. The default is true.
 pub fn joined_in(table: &Table, number: usize) -> Result<bool, ConfigError>
     ensures { GivesOr IsFlag Key.Switch (table_view table.now) number true result }
 {

@@ -1,4 +1,4 @@
-//! The ports of a router on wires: their sockets and their hubs.
+//! The Ethernet ports of a router: their sockets and their switches.
 
 ghost use Rattle.std.specs.Prelude.{◌≡◌, ◌++◌, ◌∷◌, [], IfOk, OnOk, map};
 ghost use Rattle.ipx_site.specs.KindPorts.{end_places, switch_of, ethernet_port_of, ethernet_ports};
@@ -13,7 +13,7 @@ use std::alloc::{AllocError, Global};
 use std::io::ErrorKind;
 use std::net::Net;
 
-/// A port of a file as one on a wire.
+/// Converts the configuration of an Ethernet port.
 fn ethernet_port(port: &EthernetPortConfig) -> EthernetPort
     ensures { result ≡ ethernet_port_of port.now }
 {
@@ -24,7 +24,7 @@ fn ethernet_port(port: &EthernetPortConfig) -> EthernetPort
     }
 }
 
-/// The hub of each port on a wire, before anything came.
+/// A new switch for each Ethernet port.
 fn switches_of(alloc: Global, ports: &[PortConfig]) -> Result<Vec<Switch>, AllocError>
     ensures { IfOk result (λ v. v.items ≡ map switch_of (ethernet_ports ports.now)) }
 {
@@ -38,7 +38,7 @@ fn switches_of(alloc: Global, ports: &[PortConfig]) -> Result<Vec<Switch>, Alloc
     Ok(switches)
 }
 
-/// Binds the socket of a port on a wire, which has this number.
+/// Binds the socket of the Ethernet port with this number.
 fn bind_ethernet_port<R: Net>(
     rt: &R,
     alloc: Global,
@@ -63,8 +63,8 @@ fn bind_ethernet_port<R: Net>(
     }
 }
 
-/// The sockets of the ports on wires. At the first that can't be had it answers that port, and nothing
-/// stays bound.
+/// Binds the sockets of the Ethernet ports. It stops at the first that cannot be bound and returns
+/// its port; then no socket stays bound.
 fn bind_ethernet_ports<R: Net>(
     rt: &R,
     alloc: Global,
@@ -82,7 +82,7 @@ fn bind_ethernet_ports<R: Net>(
     Ok(sockets)
 }
 
-/// The ports on wires among these, with their sockets bound and their hubs.
+/// The Ethernet ports among these, with their sockets bound and their switches.
 pub fn ethernet_ports_of<R: Net>(
     rt: &R,
     alloc: Global,

@@ -1,4 +1,4 @@
-//! What the hubs of a router's ports on wires counted together.
+//! Totals over the switches of a router's Ethernet ports.
 
 ghost use Rattle.std.specs.Prelude.{◌≡◌};
 ghost use Rattle.ipx_carrier.specs.Counting.{counted};
@@ -7,7 +7,7 @@ ghost use Rattle.ipx_site.specs.EthernetTotals.{came_as, encapsulated_otherwise,
 use ipx_ethernet::{Encapsulation, FrameCounters};
 use ipx_hub::Switch;
 
-/// How many packets of the core no frame could carry. It stays at the greatest u64.
+/// The number of the router's packets that no frame could carry. Saturates at the greatest u64.
 pub fn unframed(switches: &[Switch]) -> u64
     ensures { result ≡ unframed_in switches.now }
 {
@@ -18,8 +18,7 @@ pub fn unframed(switches: &[Switch]) -> u64
     total
 }
 
-/// How many frames with an IPX packet came in another encapsulation than that of a port, whichever it
-/// has.
+/// The number of frames with an IPX packet that came in an encapsulation other than the port's.
 fn other_encapsulations(counts: FrameCounters) -> u64
     ensures { result ≡ counted (encapsulated_otherwise counts) }
 {
@@ -30,7 +29,7 @@ fn other_encapsulations(counts: FrameCounters) -> u64
         .saturating_add(counts.in_ethernet_ii)
 }
 
-/// How many there were at all ports. It stays at the greatest u64.
+/// The number of such frames at all ports. Saturates at the greatest u64.
 pub fn in_other_encapsulations(switches: &[Switch]) -> u64
     ensures { result ≡ encapsulated_otherwise_in switches.now }
 {
@@ -41,7 +40,7 @@ pub fn in_other_encapsulations(switches: &[Switch]) -> u64
     total
 }
 
-/// How many came in an encapsulation to a port that has another one.
+/// The number of frames that came in this encapsulation to a port that has another one.
 pub fn came_in(counts: FrameCounters, encapsulation: Encapsulation) -> u64
     ensures { result ≡ came_as counts encapsulation }
 {

@@ -1,4 +1,4 @@
-//! What the values of the keys of a port on a wire mean.
+//! The values of the keys of an Ethernet port.
 
 ghost use Rattle.std.specs.Prelude.{◌≡◌, IfOk};
 ghost use Rattle.toml.specs.View.{items_view, view};
@@ -38,21 +38,21 @@ pub fn word_of(encapsulation: Encapsulation) -> &'static str
     }
 }
 
-/// Whether something is so.
+/// The boolean that a value gives.
 pub fn flag_of(value: &Value) -> Option<bool>
     ensures { Reads IsFlag (view value.now) result }
 {
     value.as_bool()
 }
 
-/// Whether a place is one where an end can be.
+/// Whether a remote can be at this place: neither its IP address nor its UDP port is 0.
 fn is_somewhere(place: Place) -> bool
     ensures { result ≡ is_somewhere place }
 {
     place.ip != [0; 4] && place.udp_port != 0
 }
 
-/// The place of an address of a socket.
+/// The place that a socket address gives.
 fn place_at(socket: SocketAddrV4) -> Place
     ensures { socket_at result ≡ socket }
 {
@@ -62,7 +62,7 @@ fn place_at(socket: SocketAddrV4) -> Place
     }
 }
 
-/// The place that a text writes.
+/// Parses the place of a remote: an IP address and a UDP port.
 fn place_written(text: &str) -> Option<Place>
     ensures { ReadsPlace text.now result }
 {
@@ -79,14 +79,14 @@ fn place_written(text: &str) -> Option<Place>
     }
 }
 
-/// The place of an end that a value writes.
+/// The place of a remote that a value gives.
 fn end_of(value: &Value) -> Option<Place>
     ensures { Reads IsEthernetEnd (view value.now) result }
 {
     place_written(value.as_str()?)
 }
 
-/// The places that values write, if each of them writes one.
+/// The places that values give, or None if one of them gives no place.
 fn places_of(alloc: Global, values: &[Value]) -> Result<Option<Vec<Place>>, OutOfMemory>
     ensures { IfOk result (ReadsEthernetEnds (items_view values.now)) }
 {
@@ -100,7 +100,7 @@ fn places_of(alloc: Global, values: &[Value]) -> Result<Option<Vec<Place>>, OutO
     Ok(Some(ends))
 }
 
-/// The ends of a wire that a value lists, 1 to 256.
+/// The remotes that a value lists, 1 to 256.
 pub fn ends_of(alloc: Global, value: &Value) -> Result<Option<Vec<Place>>, OutOfMemory>
     ensures { IfOk result (Reads AreEthernetEnds (view value.now)) }
 {
@@ -114,7 +114,7 @@ pub fn ends_of(alloc: Global, value: &Value) -> Result<Option<Vec<Place>>, OutOf
     places_of(alloc, values)
 }
 
-/// The digits of six pairs with colons between them.
+/// The twelve digits of six pairs with colons between them.
 fn digits_of(text: &[u8]) -> Option<[u8; 12]>
     ensures { ReadsDigits text.now result }
 {
@@ -143,14 +143,14 @@ fn digits_of(text: &[u8]) -> Option<[u8; 12]>
     Some([*a, *b, *c, *d, *e, *f, *g, *h, *i, *j, *k, *l])
 }
 
-/// Whether one station can have this address: it is no group's, and not zero.
+/// Whether one station can have this address: it is no group address, and not zero.
 pub(crate) fn is_station(node: Node) -> bool
     ensures { result ≡ is_station node }
 {
     node.0[0] % 2 == 0 && node.0 != [0; 6]
 }
 
-/// The address of a station that a text writes.
+/// Parses the address of a station.
 fn station_written(text: &[u8]) -> Option<Node>
     ensures { ReadsStation text.now result }
 {
@@ -158,14 +158,14 @@ fn station_written(text: &[u8]) -> Option<Node>
     if is_station(node) { Some(node) } else { None }
 }
 
-/// The address of a station that a value writes.
+/// The address of a station that a value gives.
 pub fn station_of(value: &Value) -> Option<Node>
     ensures { Reads IsStation (view value.now) result }
 {
     station_written(value.as_str()?.as_bytes())
 }
 
-/// The address of a port that has none in its file, made of the place where it is bound.
+/// The node of a port whose file gives none, derived from the place where the port is bound.
 pub fn station_at(place: Place) -> Node
     ensures { result ≡ made_station place.ip place.udp_port }
 {

@@ -1,18 +1,18 @@
-//! A family of figures, in the text form of Prometheus.
+//! Metric families in the Prometheus text format.
 
 ghost use Rattle.std.specs.Prelude.{◌≡◌, ◌++◌, OnOk, string_bytes};
 ghost use Rattle.ipx_site.specs.AccessListMetrics.{family_text, port_figure};
 
 use std::alloc::AllocError;
 
-/// A family of figures: its name, what it is, and its type.
+/// A metric family: its name, its help text and its type.
 pub struct Family {
     pub name: &'static str,
     pub help: &'static str,
     pub kind: &'static str,
 }
 
-/// Writes what a family of figures is.
+/// Writes the HELP and TYPE lines of a family.
 pub fn put_family(text: &mut String, family: &Family) -> Result<(), AllocError>
     ensures { OnOk result (string_bytes text.new ≡ string_bytes text.old
         ++ family_text family.now.name.now family.now.help.now family.now.kind.now) }
@@ -23,14 +23,14 @@ pub fn put_family(text: &mut String, family: &Family) -> Result<(), AllocError>
     write!(text, "# HELP {name} {help}.\n# TYPE {name} {kind}\n")
 }
 
-/// Writes a family of one figure.
+/// Writes a family of one metric.
 pub fn put_one(text: &mut String, family: &Family, value: u64) -> Result<(), AllocError> {
     put_family(text, family)?;
     let name = family.name;
     write!(text, "{name} {value}\n")
 }
 
-/// Writes a family of several figures, each with its label.
+/// Writes a family of several metrics, each with its value of the label.
 pub fn put_each(
     text: &mut String,
     family: &Family,
@@ -45,7 +45,7 @@ pub fn put_each(
     Ok(())
 }
 
-/// Writes a figure of a port, which has this number.
+/// Writes a metric of the port with this number.
 pub fn put_of_port(
     text: &mut String,
     family: &Family,

@@ -1,32 +1,32 @@
-//! What can be wrong with a file.
+//! Faults of a configuration file.
 
 use crate::key::Key;
 use crate::site::Kind;
 use ipx_wire::{Network, OutOfMemory};
 use std::alloc::AllocFailed;
 
-/// Why a file is not that of a router or of a host. The first fault is answered: ports, routes and
-/// services in the order of the file, and in each table the keys in the order in which the documents
-/// list them.
+/// Why a file is not that of a router or of a host. The first fault is returned. Ports, routes and
+/// services are checked in the order of the file. The keys of each table are checked in the order
+/// in which the documents list them.
 ///
-/// `table` is 0 for the file itself, and else the number of a table: the first `[[port]]` is 1, the
-/// first `[[route]]` 17, and the first `[[service]]` 273.
+/// Except in `NotToml`, the first field is the number of a table, or 0 for the file itself. The
+/// first `[[port]]` is 1, the first `[[route]]` 17, and the first `[[service]]` 273.
 #[derive(Debug, Drop)]
 pub enum ConfigError {
     OutOfMemory,
-    /// The text is no TOML, from this line on. The first line is 1.
+    /// The text is not TOML: the line from which on it is not, starting at 1, and the error.
     NotToml(usize, toml::de::Error),
     /// A name that is no key of this table.
     Unknown(usize, String),
-    /// A key of another kind of port: the key, and the kind that the port has.
+    /// A key of another kind of port: the key, and the kind that this port has.
     OtherKind(usize, Key, Kind),
-    /// A key that must be there is not.
+    /// A required key is missing.
     Missing(usize, Key),
-    /// The value of a key means nothing.
+    /// The value of a key is invalid.
     Wrong(usize, Key),
-    /// The network of a port or a route is that of a port, whose number comes last.
+    /// The network of a port or route is already that of a port, whose number comes last.
     Twin(usize, Network, usize),
-    /// A route or a service says what an earlier one says, whose number comes last.
+    /// A route or a service repeats an earlier one, whose number comes last.
     Again(usize, usize),
 }
 

@@ -1,4 +1,4 @@
-//! The keys of a table, each with its value.
+//! The keys of a table, with their values.
 
 ghost use Rattle.std.specs.Prelude.{String, option_map, string_bytes, ◌≡◌, ◌⊎◌, [], Some, None, IfErr, IfOk, OnOk, MatchOption, MatchResult};
 ghost use Rattle.std.specs.Global.{Global};
@@ -23,7 +23,7 @@ use ipx_wire::{Network, OutOfMemory, Socket};
 use std::alloc::Global;
 use toml::{Table, Value};
 
-/// That a name in a table is no key of it.
+/// The fault of a name that is no key of a table.
 fn unknown(alloc: Global, number: usize, name: &str) -> Result<ConfigError, OutOfMemory>
     ensures { IfOk result (λ f. (copy : String Global) × (f ≡ ConfigError.Unknown number copy)
         × (string_bytes copy ≡ name.now)) }
@@ -31,7 +31,7 @@ fn unknown(alloc: Global, number: usize, name: &str) -> Result<ConfigError, OutO
     Ok(ConfigError::Unknown(number, String::from_str(alloc, name)?))
 }
 
-/// The first name in a table that is none of these keys.
+/// The first name in a table that is not among these keys.
 fn unknown_in<'a>(table: &'a Table, keys: &[Key]) -> Option<&'a str>
     ensures { option_map (λ name. name.now) result ≡ first_unknown keys.now (table_view table.now) }
 {
@@ -43,7 +43,7 @@ fn unknown_in<'a>(table: &'a Table, keys: &[Key]) -> Option<&'a str>
     None
 }
 
-/// Refuses a table with a name that is none of these keys.
+/// Refuses a table with a name that is not among these keys.
 pub fn refuse_unknown(
     alloc: Global,
     table: &Table,
@@ -60,7 +60,7 @@ pub fn refuse_unknown(
     }
 }
 
-/// What is wrong with a name that is no key of a port of this kind.
+/// The fault of a name that is no key of a port of this kind.
 fn stray(alloc: Global, number: usize, kind: Kind, name: &str) -> Result<ConfigError, OutOfMemory>
     ensures { IfOk result (IsStrayName kind name.now number) }
 {
@@ -87,7 +87,7 @@ pub fn refuse_stray(
     }
 }
 
-/// The value of a key, if it is there.
+/// The value of a key, if the key is present.
 pub fn held(table: &Table, key: Key) -> Option<&Value>
     ensures { MatchOption result (get_member (key_text key) (table_view table.now) ≡ None)
         (λ v. get_member (key_text key) (table_view table.now) ≡ Some (view v.now)) }
@@ -95,7 +95,7 @@ pub fn held(table: &Table, key: Key) -> Option<&Value>
     table.get(key.text())
 }
 
-/// The value of a key that must be there.
+/// The value of a required key.
 pub fn required(table: &Table, number: usize, key: Key) -> Result<&Value, ConfigError>
     ensures { MatchResult result
         (λ v. get_member (key_text key) (table_view table.now) ≡ Some (view v.now))
@@ -127,7 +127,7 @@ pub fn address_in(table: &Table, number: usize, key: Key) -> Result<[u8; 4], Con
     }
 }
 
-/// A number from 1 to a greatest one, or else the default.
+/// A number from 1 to `most`, or the default.
 pub fn count_in(
     table: &Table,
     number: usize,
@@ -156,7 +156,7 @@ pub fn peers_in(alloc: Global, table: &Table, number: usize) -> Result<Vec<[u8; 
     }
 }
 
-/// Those of the peers of a port that are routers, if they are named.
+/// The peers of a port that are routers, if the key is present.
 pub fn port_routers_in(
     alloc: Global,
     table: &Table,
@@ -174,7 +174,7 @@ pub fn port_routers_in(
     }
 }
 
-/// Who is heard.
+/// Which senders are accepted.
 pub fn accept_in(table: &Table, number: usize) -> Result<Accept, ConfigError>
     ensures { GivesOr IsAccept Key.Accept (table_view table.now) number Accept.Peers result }
 {
@@ -187,7 +187,7 @@ pub fn accept_in(table: &Table, number: usize) -> Result<Accept, ConfigError>
     }
 }
 
-/// Which directed broadcasts leave by a port.
+/// Which directed broadcasts may leave by a port.
 pub fn directed_in(table: &Table, number: usize) -> Result<Directed, ConfigError>
     ensures { GivesOr IsDirected Key.Directed (table_view table.now) number Directed.Few result }
 {
@@ -223,7 +223,7 @@ pub fn socket_in(table: &Table, number: usize) -> Result<Socket, ConfigError>
     }
 }
 
-/// The name of a file of a key, if it is there.
+/// The file name that a key gives, if the key is present.
 pub fn file_name_in(alloc: Global, table: &Table, key: Key) -> Result<Option<String>, ConfigError>
     ensures { GivesIf IsFileName key (table_view table.now) 0 result }
 {
@@ -236,8 +236,8 @@ pub fn file_name_in(alloc: Global, table: &Table, key: Key) -> Result<Option<Str
     }
 }
 
-/// The name of a file of a key, if it is there. Neither that file nor the other one may be written over
-/// the other.
+/// The file name that a key gives, if the key is present. It is refused if writing one of the two
+/// files would overwrite the other.
 pub fn other_file_name_in(
     alloc: Global,
     table: &Table,
@@ -253,7 +253,7 @@ pub fn other_file_name_in(
     }
 }
 
-/// The IP addresses that a host hears besides its router's; none where they are left out.
+/// The IP addresses that a host accepts besides its router's; none if the key is absent.
 pub fn neighbours_in(
     alloc: Global,
     table: &Table,
@@ -273,7 +273,7 @@ pub fn neighbours_in(
     }
 }
 
-/// Those of its peers that are routers; none where they are left out.
+/// The peers of a host that are routers; none if the key is absent.
 pub fn routers_in(
     alloc: Global,
     table: &Table,
@@ -294,7 +294,7 @@ pub fn routers_in(
     }
 }
 
-/// Who may ask for a connection, if somebody is named.
+/// Which peers may ask for a connection, if the key is present.
 pub fn origins_in(
     alloc: Global,
     table: &Table,

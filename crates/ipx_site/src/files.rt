@@ -1,4 +1,4 @@
-//! Files, read from where they lie.
+//! Reading configuration files.
 
 ghost use Rattle.std.specs.Prelude.{◌≡◌, ◌⊎◌, ℕ, List, All, Err, IfErr, IfOk};
 ghost use Rattle.ipx_router.specs.NewRouter.{IsOwnNetwork};
@@ -21,7 +21,7 @@ use std::{io, str};
 /// The longest file, in bytes.
 pub(crate) const MAX: usize = 65_536;
 
-/// Tells what is wrong with a file, and answers the status that goes with it.
+/// Reports what is wrong with a file, and returns the exit status for it.
 pub(crate) fn tell<R: Eprint>(rt: &R, path: &str, what: &str) -> u8
     ensures { result ≡ 2 }
 {
@@ -36,7 +36,7 @@ pub(crate) fn tell_no_memory<R: Eprint>(rt: &R, path: &str) -> u8
     1
 }
 
-/// Tells the fault of a file's text, and answers its status.
+/// Reports a fault of a file's text, and returns the exit status.
 fn tell_fault<R: Eprint>(rt: &R, path: &str, fault: &ConfigError) -> u8
     ensures { result ≡ fault_status fault.now }
 {
@@ -47,7 +47,7 @@ fn tell_fault<R: Eprint>(rt: &R, path: &str, fault: &ConfigError) -> u8
     2
 }
 
-/// Tells why a file is not read, and answers the status.
+/// Reports why a file could not be read, and returns the exit status.
 fn tell_unread<R: Eprint>(rt: &R, path: &str, kind: io::ErrorKind) -> u8
     ensures { (result ≡ 1) ⊎ (result ≡ 2) }
 {
@@ -59,7 +59,7 @@ fn tell_unread<R: Eprint>(rt: &R, path: &str, kind: io::ErrorKind) -> u8
     }
 }
 
-/// The bytes of a file, so many at most.
+/// The bytes of a file, at most `most` of them.
 pub(crate) fn read_bytes<R: Files + Eprint>(
     rt: &R,
     alloc: Global,
@@ -79,7 +79,7 @@ pub(crate) fn read_bytes<R: Files + Eprint>(
     }
 }
 
-/// The text that bytes are.
+/// The text of a file's bytes, if they are UTF-8 and not too many.
 fn text_of<'a, R: Eprint>(rt: &R, path: &str, bytes: &'a [u8]) -> Result<&'a str, u8>
     ensures text { IfOk result (λ s. (s.now ≡ bytes.now) × IsFileText bytes.now) }
     ensures fault { IfErr result (λ status. (status ≡ 2) × (IsFileText bytes.now → ⊥)) }
@@ -93,7 +93,7 @@ fn text_of<'a, R: Eprint>(rt: &R, path: &str, bytes: &'a [u8]) -> Result<&'a str
     }
 }
 
-/// What the bytes of a router's file describe.
+/// The configuration that the bytes of a router's file describe.
 pub(crate) fn site_in<R: Eprint>(
     rt: &R,
     alloc: Global,
@@ -113,7 +113,7 @@ pub(crate) fn site_in<R: Eprint>(
     }
 }
 
-/// What the bytes of a host's file describe.
+/// The configuration that the bytes of a host's file describe.
 pub(crate) fn host_in<R: Eprint>(
     rt: &R,
     alloc: Global,
@@ -131,10 +131,10 @@ pub(crate) fn host_in<R: Eprint>(
     }
 }
 
-/// Reads the file of a router. What is wrong is told in one line on standard error that begins with
-/// the path; the error is the status then: 2, or 1 for want of memory.
+/// Reads the file of a router. A fault is reported in one line on standard error that begins with
+/// the path. The error is the exit status: 2, or 1 if out of memory.
 pub fn load_site<R: Files + Eprint>(rt: &R, alloc: Global, path: &str) -> Result<RouterConfig, u8>
-    // What it answers some text describes.
+    // The result is a configuration that some file text describes.
     ensures site { IfOk result (λ s. (text : List ℕ) × IsFileText text × IsSiteText text s) }
     ensures own { IfOk result (λ s. All IsOwnNetwork (router_ports s.ports.items)) }
     ensures there { IfOk result HearsAtPorts }
@@ -144,7 +144,7 @@ pub fn load_site<R: Files + Eprint>(rt: &R, alloc: Global, path: &str) -> Result
     site_in(rt, alloc, path, &bytes)
 }
 
-/// Reads the file of a host, likewise.
+/// Reads the file of a host, as `load_site` does that of a router.
 pub fn load_host<R: Files + Eprint>(rt: &R, alloc: Global, path: &str) -> Result<HostConfig, u8>
     ensures host { IfOk result (λ h. (text : List ℕ) × IsFileText text × IsHostText text h) }
     ensures fault { IfErr result (λ status. (status ≡ 1) ⊎ (status ≡ 2)) }

@@ -1,4 +1,4 @@
-//! What a router counts of frames on its wires, as a text for Prometheus.
+//! Prometheus metrics of the frames at a router's Ethernet ports.
 
 ghost use Rattle.std.specs.Prelude.{◌≡◌};
 
@@ -11,7 +11,7 @@ use ipx_hub::Switch;
 use log::{Log, warn};
 use std::alloc::{AllocError, Global};
 
-/// The encapsulations, in the order in which they are told.
+/// The encapsulations, in the order in which they are written.
 const ALL: [Encapsulation; 4] = [
     Encapsulation::Raw,
     Encapsulation::Llc,
@@ -72,7 +72,7 @@ pub struct EthernetMetrics {
     pub sent: u64,
 }
 
-/// The hub of a port that is on a wire.
+/// The switch of an Ethernet port; None for other ports.
 fn switch_at(ports: &UdpRouterPorts, port_index: PortIndex) -> Option<&Switch> {
     match port_index {
         PortIndex::Datagrams(_) | PortIndex::IpxnetServer(_) => None,
@@ -149,7 +149,7 @@ fn put_encapsulations(
     Ok(())
 }
 
-/// Writes what became of the frames that came to each port.
+/// Writes the outcomes of the frames that came to each port.
 fn put_frames(text: &mut String, ports: &[EthernetPortMetrics]) -> Result<(), AllocError> {
     put_family(text, &FRAMES)?;
     for port in ports {
@@ -159,7 +159,7 @@ fn put_frames(text: &mut String, ports: &[EthernetPortMetrics]) -> Result<(), Al
     Ok(())
 }
 
-/// Writes how many frames went on from one end of a wire to others.
+/// Writes how many frames went on from one remote to others.
 fn put_passed(text: &mut String, ports: &[EthernetPortMetrics]) -> Result<(), AllocError> {
     put_family(text, &PASSED)?;
     for port in ports {
@@ -189,7 +189,7 @@ pub fn put_frame_metrics(text: &mut String, metrics: &EthernetMetrics) -> Result
     put_one(text, &SENT, metrics.sent)
 }
 
-/// Tells which other encapsulations came to a port.
+/// Logs which other encapsulations came to a port.
 fn tell_encapsulations_at<R: Log>(rt: &R, number: usize, switch: &Switch) {
     let own = switch.port().encapsulation;
     for encapsulation in ALL {
@@ -202,7 +202,7 @@ fn tell_encapsulations_at<R: Log>(rt: &R, number: usize, switch: &Switch) {
     }
 }
 
-/// Tells which other encapsulations came to each port.
+/// Logs which other encapsulations came to each port.
 pub fn tell_encapsulations<R: Log>(rt: &R, ports: &UdpRouterPorts) {
     for (place, port_index) in ports.port_indices().iter().enumerate() {
         if let Some(switch) = switch_at(ports, *port_index) {

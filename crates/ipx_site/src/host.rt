@@ -1,4 +1,4 @@
-//! What the file of a host says.
+//! The configuration of a host.
 
 ghost use Rattle.std.specs.Prelude.{◌≡◌, ◌⊎◌, [], IfErr, IfOk};
 ghost use Rattle.toml.specs.View.{table_view};
@@ -22,32 +22,32 @@ use ipx_wire::{Network, Socket};
 use std::alloc::Global;
 use toml::Table;
 
-/// The file of a host.
+/// The configuration of a host.
 #[derive(Drop)]
 pub struct HostConfig {
     /// The network that it is on.
     pub network: Network,
     /// Its local IP address.
     pub address: [u8; 4],
-    /// The IP address of the router where packets for other networks go.
+    /// The IP address of the router for packets to other networks.
     pub router: [u8; 4],
-    /// The port of UDP, of the router too.
+    /// The UDP port, which the router uses too.
     pub udp_port: u16,
-    /// Where it listens, or dials from.
+    /// The socket on which it listens, or from which it connects.
     pub socket: Socket,
     /// The buffers of a connection, 1 to 8,192.
     pub buffers: u16,
-    /// The IP addresses that it hears besides the router's, 256 at most.
+    /// The IP addresses that it accepts besides the router's, at most 256.
     pub peers: Vec<[u8; 4]>,
-    /// Those of its peers that are routers too, 256 at most.
+    /// Those of its peers that are routers too, at most 256.
     pub routers: Vec<[u8; 4]>,
-    /// Who may ask for a connection, 256 entries at most. None stands for everybody.
+    /// Which peers may ask for a connection, at most 256 entries. None means everybody.
     pub from: Option<Vec<AllowedPeer>>,
-    /// Whether the router and the peers alone are heard.
+    /// Whether only the router and the peers are accepted.
     pub accept: Accept,
 }
 
-/// Who is heard besides the router, and who may connect.
+/// Which senders are accepted besides the router, and which peers may connect.
 #[derive(Drop)]
 struct Circle {
     peers: Vec<[u8; 4]>,
@@ -56,7 +56,7 @@ struct Circle {
     accept: Accept,
 }
 
-/// The keys of a host, in the order in which their faults are told.
+/// The keys of a host's file, in the order in which their faults are reported.
 const KEYS: [Key; 10] = [
     Key::Network,
     Key::Address,
@@ -120,7 +120,7 @@ fn host_of(alloc: Global, table: &Table) -> Result<HostConfig, ConfigError>
     })
 }
 
-/// Reads the text of a host's file, or answers its first fault.
+/// Parses the text of a host's file, or returns its first fault.
 pub fn read_host(alloc: Global, text: &str) -> Result<HostConfig, ConfigError>
     ensures host { IfOk result (IsHostText text.now) }
     ensures fault { IfErr result (λ f.

@@ -1,4 +1,4 @@
-//! The table of a port for clients of ipxnet.
+//! The table of an ipxnet port.
 
 ghost use Rattle.std.specs.Prelude.{◌≡◌, ◌⊎◌, IfErr, IfOk};
 ghost use Rattle.toml.specs.View.{table_view};
@@ -17,12 +17,12 @@ use ipx_ethernet_ports::Place;
 use std::alloc::Global;
 use toml::Table;
 
-/// How many clients a port for those may have, as a file may say, and where it says nothing.
+/// The most clients that a file may allow at an ipxnet port, and the default.
 const MAX_CLIENTS: u16 = 150;
 
 const USUAL_CLIENTS: u16 = 64;
 
-/// Who may register at a port: its peers, which may be left out where everybody may.
+/// The peers that may register at a port. The key may be absent if everybody may register.
 fn registering_in(
     alloc: Global,
     table: &Table,
@@ -45,7 +45,7 @@ fn registering_in(
     }
 }
 
-/// Whether none of some places stands twice.
+/// Whether no place is listed twice.
 fn are_apart(places: &[Place]) -> bool
     ensures { result ≡ are_places_apart places.now }
 {
@@ -57,8 +57,8 @@ fn are_apart(places: &[Place]) -> bool
     true
 }
 
-/// Where the routers are whose lobbies are joined with that of a port, each once: none, where nothing
-/// is said.
+/// The routers whose ipxnet servers are joined with that of a port, each listed once. There are
+/// none if the key is absent.
 fn joined_routers_in(alloc: Global, table: &Table, number: usize) -> Result<Vec<Place>, ConfigError>
     ensures join { IfOk result (AreJoinedRouters (table_view table.now)) }
     ensures fault { IfErr result (λ f.
@@ -77,7 +77,7 @@ fn joined_routers_in(alloc: Global, table: &Table, number: usize) -> Result<Vec<
     }
 }
 
-/// The port for clients of ipxnet of a table with this number.
+/// The ipxnet port that the table with this number describes.
 pub fn ipxnet_port_in(
     alloc: Global,
     table: &Table,

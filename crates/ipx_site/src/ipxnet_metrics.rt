@@ -1,4 +1,4 @@
-//! What a router counts at its ports for clients of ipxnet, as a text for Prometheus.
+//! Prometheus metrics of a router's ipxnet ports.
 
 ghost use Rattle.std.specs.Prelude.{◌≡◌, length};
 
@@ -53,7 +53,7 @@ pub struct IpxnetMetrics {
     pub sent: u64,
 }
 
-/// The lobby of a port that has one.
+/// The ipxnet server of a port, if it has one.
 fn server_at(ports: &UdpRouterPorts, port_index: PortIndex) -> Option<&IpxnetServer> {
     match port_index {
         PortIndex::Datagrams(_) | PortIndex::Ethernet(_) => None,
@@ -89,7 +89,7 @@ pub fn ipxnet_metrics(alloc: Global, ports: &UdpRouterPorts) -> Result<IpxnetMet
     })
 }
 
-/// Writes what was dropped at a port with this number, by its cause.
+/// Writes what was dropped at the port with this number, by reason.
 pub fn put_drops(text: &mut String, number: usize, counts: ServerCounts) -> Result<(), AllocError> {
     let metrics = [
         ("malformed", counts.malformed),
@@ -135,7 +135,7 @@ fn put_dropped(text: &mut String, ports: &[IpxnetPortMetrics]) -> Result<(), All
     Ok(())
 }
 
-/// Writes what a router counts at its ports for ipxnet after its other metrics; nothing if it has none.
+/// Writes the metrics of a router's ipxnet ports after its other metrics; nothing if it has none.
 pub fn put_ipxnet_metrics(text: &mut String, metrics: &IpxnetMetrics) -> Result<(), AllocError> {
     if metrics.ports.is_empty() {
         return Ok(());

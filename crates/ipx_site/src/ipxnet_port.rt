@@ -1,4 +1,4 @@
-//! A port of a router for clients of ipxnet, as its file has it.
+//! The configuration of an ipxnet port of a router.
 
 ghost use Rattle.std.specs.Prelude.{◌≤◌};
 ghost use Rattle.ipxnet_server.specs.ServerClients.{max_server_clients};
@@ -7,28 +7,28 @@ use crate::site::{Accept, Directed};
 use ipx_ethernet_ports::Place;
 use ipx_wire::{Network, Node};
 
-/// A port of a router for clients of ipxnet, as its file has it.
+/// The configuration of an ipxnet port of a router.
 #[derive(Drop)]
 pub struct IpxnetPortConfig {
     /// The network that it is on, which its clients are told.
     pub network: Network,
     /// The local IP address.
     pub address: [u8; 4],
-    /// The port of UDP there, where clients register.
+    /// The UDP port where clients register.
     pub udp_port: u16,
-    /// What it costs to send there, in ticks.
+    /// The cost of sending there, in ticks.
     pub cost: u16,
     /// Its own node.
     pub node: Node,
-    /// How many clients it may have, 1 to 150.
+    /// The most clients that it allows, 1 to 150.
     pub clients: u16,
-    /// Whether its peers alone may register, or everybody.
+    /// Whether only its peers may register, or everybody.
     pub accept: Accept,
-    /// The IP addresses of those who may, where not everybody may.
+    /// The IP addresses that may register, if not everybody may.
     pub peers: Vec<[u8; 4]>,
-    /// Where the routers are whose lobbies are one network with this one.
+    /// The routers whose ipxnet servers form one network with this one.
     pub join: Vec<Place>,
     pub directed: Directed,
-    // So a lobby may have as many.
+    // An ipxnet server may allow that many clients.
     ghost few: { (1 ≤ clients) × (clients ≤ max_server_clients) },
 }

@@ -1,4 +1,4 @@
-//! The ports of a router for clients of ipxnet: their sockets and their lobbies.
+//! The ipxnet ports of a router: their sockets and their servers.
 
 ghost use Rattle.std.specs.Prelude.{◌≡◌, ◌++◌, ◌∷◌, [], IfOk, OnOk, map};
 ghost use Rattle.ipx_ipxnet_ports.specs.ServerAddresses.{ips_heard, listed_ips};
@@ -14,7 +14,7 @@ use std::alloc::{AllocError, Global};
 use std::io::ErrorKind;
 use std::net::Net;
 
-/// A port of a file as one for clients.
+/// Converts the configuration of an ipxnet port.
 fn client_port(port: &IpxnetPortConfig) -> ServerPort
     ensures { result ≡ client_port_of port.now }
 {
@@ -24,7 +24,7 @@ fn client_port(port: &IpxnetPortConfig) -> ServerPort
     }
 }
 
-/// Where the joined routers of a port are.
+/// The places of a port's joined routers.
 fn routers_of(alloc: Global, join: &[EndPlace]) -> Result<Vec<Place>, AllocError>
     ensures { IfOk result (λ v. v.items ≡ map server_place join.now) }
 {
@@ -38,7 +38,7 @@ fn routers_of(alloc: Global, join: &[EndPlace]) -> Result<Vec<Place>, AllocError
     Ok(routers)
 }
 
-/// The lobby of a port, before anybody registered.
+/// The server of a port, before any client has registered.
 fn server_of(alloc: Global, port: &IpxnetPortConfig) -> Result<IpxnetServer, AllocError>
     ensures { IfOk result (λ l. l ≡ server_of_port port.now) }
 {
@@ -46,7 +46,7 @@ fn server_of(alloc: Global, port: &IpxnetPortConfig) -> Result<IpxnetServer, All
     IpxnetServer::joined_to(alloc, client_port(port), usize::from(port.clients), routers)
 }
 
-/// The lobby of each port for clients of ipxnet.
+/// The server of each ipxnet port.
 fn servers_of_ports(alloc: Global, ports: &[PortConfig]) -> Result<Vec<IpxnetServer>, AllocError>
     ensures { IfOk result (λ v. v.items ≡ map server_of_port (ipxnet_ports ports.now)) }
 {
@@ -60,7 +60,7 @@ fn servers_of_ports(alloc: Global, ports: &[PortConfig]) -> Result<Vec<IpxnetSer
     Ok(servers)
 }
 
-/// The IP addresses that are named at a port: of those who may register, and of joined routers.
+/// The IP addresses named at a port: those that may register, and those of joined routers.
 fn named_ips(alloc: Global, port: &IpxnetPortConfig) -> Result<Vec<[u8; 4]>, AllocError>
     ensures { IfOk result (λ v. v.items ≡ port.now.peers.items ++ map (λ r. r.ip) port.now.join.items) }
 {
@@ -71,7 +71,7 @@ fn named_ips(alloc: Global, port: &IpxnetPortConfig) -> Result<Vec<[u8; 4]>, All
     Ok(ips)
 }
 
-/// From which IP addresses one may register at a port. None stands for each.
+/// The IP addresses from which clients may register at a port. None means all.
 fn registering(alloc: Global, port: &IpxnetPortConfig) -> Result<Option<Vec<[u8; 4]>>, AllocError>
     ensures { IfOk result (λ ips. listed_ips ips ≡ registering_at port.now) }
 {
@@ -81,7 +81,7 @@ fn registering(alloc: Global, port: &IpxnetPortConfig) -> Result<Option<Vec<[u8;
     }
 }
 
-/// Binds the socket of the port with this number behind those of earlier ones.
+/// Binds the socket of the port with this number, and adds it to those of earlier ports.
 fn bind_server<R: Net>(
     rt: &R,
     alloc: Global,
@@ -106,8 +106,8 @@ fn bind_server<R: Net>(
     }
 }
 
-/// The sockets of the ports for clients of ipxnet. At the first that can't be had it answers that
-/// port, and nothing stays bound.
+/// Binds the sockets of the ipxnet ports. It stops at the first that cannot be bound and returns
+/// its port; then no socket stays bound.
 fn bind_servers<R: Net>(
     rt: &R,
     alloc: Global,
@@ -125,7 +125,7 @@ fn bind_servers<R: Net>(
     Ok(sockets)
 }
 
-/// The ports for clients of ipxnet among these, with their sockets bound and their lobbies.
+/// The ipxnet ports among these, with their sockets bound and their servers.
 pub fn servers_of<R: Net>(
     rt: &R,
     alloc: Global,

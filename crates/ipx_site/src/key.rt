@@ -1,4 +1,4 @@
-//! The keys of the files.
+//! The keys of the configuration files.
 
 ghost use Rattle.std.specs.Prelude.{◌≡◌, find, option_copied};
 ghost use Rattle.ipx_site.specs.Keys.{is_key, is_text_of, key_text, keys_of_kind, keys_of_other_kinds};
@@ -41,7 +41,7 @@ pub enum Key {
 }
 
 impl Key {
-    /// The key as it stands in a file.
+    /// The key as a file writes it.
     pub fn text(&self) -> &'static str
         ensures { result.now ≡ key_text self.now }
     {
@@ -79,7 +79,7 @@ impl Key {
         }
     }
 
-    /// What its value is to be, with an example: what is right, for the line of a fault.
+    /// A description of its valid values, with an example, for the line of a fault.
     pub(crate) fn right(&self) -> &'static str {
         match self {
             Key::Status => "the name of a file, as \"/run/ipx/hq/hq.prom\"",
@@ -132,7 +132,7 @@ pub fn is_key(keys: &[Key], text: &str) -> bool
     keys.iter().any(|key| key.text() == text)
 }
 
-/// The keys of a port of RFC 1234, in the order in which their faults are told.
+/// The keys of an RFC 1234 port, in the order in which their faults are reported.
 const PORT_KEYS: [Key; 9] = [
     Key::Kind,
     Key::Network,
@@ -145,7 +145,7 @@ const PORT_KEYS: [Key; 9] = [
     Key::Directed,
 ];
 
-/// Those of a port on a wire.
+/// The keys of an Ethernet port, in the order in which their faults are reported.
 const FRAMES_KEYS: [Key; 10] = [
     Key::Kind,
     Key::Network,
@@ -159,7 +159,7 @@ const FRAMES_KEYS: [Key; 10] = [
     Key::Directed,
 ];
 
-/// And those of a port for clients of ipxnet.
+/// The keys of an ipxnet port, in the order in which their faults are reported.
 const IPXNET_KEYS: [Key; 11] = [
     Key::Kind,
     Key::Network,
@@ -174,8 +174,8 @@ const IPXNET_KEYS: [Key; 11] = [
     Key::Directed,
 ];
 
-/// The keys that ports of other kinds than RFC 1234 have besides its own, than wires, and than those
-/// for clients of ipxnet.
+/// The keys of other kinds of ports that an RFC 1234 port does not have. The lists for Ethernet and
+/// ipxnet ports follow.
 const NOT_RFC1234_KEYS: [Key; 6] = [
     Key::Frame,
     Key::Ends,
@@ -206,7 +206,7 @@ pub fn keys_of_kind(kind: Kind) -> &'static [Key]
     }
 }
 
-/// The keys of ports of the other kinds that are none of this one.
+/// The keys of other kinds of ports that this kind does not have.
 pub fn keys_of_other_kinds(kind: Kind) -> &'static [Key]
     ensures { result.now ≡ keys_of_other_kinds kind }
 {
@@ -217,7 +217,7 @@ pub fn keys_of_other_kinds(kind: Kind) -> &'static [Key]
     }
 }
 
-/// The one of these keys that a text is.
+/// The one of these keys that a text names.
 pub fn key_in<'a>(keys: &'a [Key], text: &str) -> Option<&'a Key>
     ensures { option_copied result ≡ find (is_text_of text.now) keys.now }
 {

@@ -1,4 +1,4 @@
-//! The text of a router's file of tables.
+//! The text of a router's table file.
 
 ghost use Rattle.std.specs.Prelude.{IfOk, string_bytes};
 ghost use Rattle.ipx_site.specs.KnownFile.{TellsKnown};
@@ -7,7 +7,7 @@ use ipx_router::Router;
 use ipx_table_dump::tables_to_text;
 use std::alloc::{AllocError, Global};
 
-/// What a router knows at a moment, in milliseconds.
+/// What a router knows at `now`, in milliseconds.
 pub fn known_to_text(alloc: Global, router: &Router, now: u64) -> Result<String, AllocError>
     ensures { IfOk result (λ t. TellsKnown router.now now (string_bytes t)) }
 {

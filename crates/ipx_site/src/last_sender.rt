@@ -1,15 +1,15 @@
-//! A device that says who sent what it received.
+//! A device that knows the sender of what it received.
 
 ghost use Rattle.std.specs.Prelude.{◌≡◌, ℕ, List, Option};
 
 use ipx_carrier::Datagrams;
 
-/// A device that knows from where its datagrams come.
+/// A device that knows the senders of its datagrams.
 pub trait Senders: Datagrams {
-    /// The IP address from which the datagram came that it received last.
+    /// The IP address from which the last received datagram came.
     ghost last_sender: { Self → Option (List ℕ) };
 
-    /// The IP address from which the datagram came that it received last, if it has one.
+    /// The IP address from which the last received datagram came, if it has one.
     fn sender(&self) -> Option<[u8; 4]>
         ensures { result ≡ last_sender self.now };
 }

@@ -1,11 +1,11 @@
-//! What one installs at a site: a router or a host, by a short file.
+//! A router or a host at a site, configured by a short file.
 //!
-//! [`do_route`] is the command of a router: [`start_router`], and then [`run_router`]. [`check_site`]
-//! says what it would of its file.
-//! [`read_site`] reads the file of a router, [`read_host`] that of a host, and [`load_site`] and
-//! [`load_host`] where they lie. [`SourceFilter`] is a device that hears and sends to its peers alone,
-//! over any device that knows its [`Senders`], as [`UdpSockets`] are; [`Poller`] waits for
-//! those, and [`SteadyClock`] is the system's clock.
+//! [`do_route`] is the command of a router: [`start_router`], followed by [`run_router`].
+//! [`check_site`] prints what the command would say of its file. [`read_site`] parses the file of a
+//! router, and [`read_host`] that of a host. [`load_site`] and [`load_host`] read them from disk.
+//! [`SourceFilter`] is a device that receives from and sends to its peers only. It works over any
+//! device that knows its [`Senders`], as [`UdpSockets`] are. [`Poller`] waits for those, and
+//! [`SteadyClock`] is the system's clock.
 #![tactic(auto)]
 
 mod access_list_metrics;

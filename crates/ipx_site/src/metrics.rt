@@ -1,4 +1,4 @@
-//! What a router counts, as a text for Prometheus.
+//! Prometheus metrics of a router.
 
 use crate::directed_broadcast::DirectedDrops;
 use crate::family::{Family, put_each, put_one};
@@ -10,37 +10,38 @@ use std::alloc::{AllocError, Global};
 /// What a router counted since it started.
 #[derive(Clone, Copy, Debug, PartialEq, Eq)]
 pub struct Metrics {
-    /// The datagrams that it heard, each of which became something, and those that the system took to
-    /// be sent.
+    /// The datagrams that it processed, each of which has an outcome, and those that the system
+    /// took to be sent.
     pub heard: u64,
     pub sent: u64,
-    /// What became of those that it heard.
+    /// The outcomes of those that it processed.
     pub outcomes: OutcomeCounters,
-    /// The packets that found no room in its queue, and those that nothing could carry to their node: it has no
-    /// IP address, or no frame holds the packet, which `unframed` counts too.
+    /// The packets that found no room in its queue, and those that could not be sent to their node.
+    /// Such a node has no IP address, or no frame holds the packet, which `unframed` counts too.
     pub queue_full: u64,
     pub unmapped: u64,
-    /// The datagrams that came and were not heard, and those that were to go to no peer.
+    /// The datagrams that were dropped on arrival.
     pub kept: FilterDrops,
-    /// The queries that came too often, and were not heard.
+    /// The queries that came too often, and were dropped.
     pub rate_limited: DropCount,
-    /// The directed broadcasts that were too many, and were not forwarded.
+    /// The directed broadcasts over a limit, which were not forwarded.
     pub directed: DirectedDrops,
     /// The packets that failed a source check of the router.
     pub source_drops: SourceDrops,
+    /// The datagrams that were to go to no peer, and were not sent.
     pub refused: u64,
-    /// The datagrams that came from no end of a wire, the packets that no frame could carry, and the
-    /// frames with a packet in another encapsulation than that of their port.
+    /// The datagrams that came from no remote of an Ethernet port, and the packets that no frame
+    /// could carry. Last, the frames with a packet in an encapsulation other than their port's.
     pub frame_unknown_senders: u64,
     pub unframed: u64,
     pub other_encapsulation: u64,
-    /// How often the system refused a datagram, memory, and the file of these figures.
+    /// How often the system refused a datagram, memory, or the metrics file.
     pub device_faults: u64,
     pub memory_faults: u64,
     pub file_faults: u64,
     /// The packets that wait to be sent.
     pub queue: u64,
-    /// The networks and services of others that it knows.
+    /// How many networks and services of others it knows.
     pub routes: u64,
     pub services: u64,
     /// The seconds since it started.
@@ -167,7 +168,7 @@ fn put_faults(text: &mut String, metrics: &Metrics) -> Result<(), AllocError> {
 }
 
 impl Metrics {
-    /// The text of these figures, in the text form of Prometheus.
+    /// These metrics in the Prometheus text format.
     pub fn text(&self, alloc: Global) -> Result<String, AllocError> {
         let mut text = String::new(alloc);
         put_one(&mut text, &HEARD, self.heard)?;

@@ -18,13 +18,13 @@ pub struct MetricsPage<'a> {
     pub totals: Metrics,
     /// The router, whose ports and neighbours are named.
     pub router: &'a Router,
-    /// The moment, in milliseconds from the start.
+    /// The time, in milliseconds since the start.
     pub now: u64,
     /// The counters of each port, in order.
     pub counters: &'a [PortCounts],
-    /// Where each port is among those of its kind.
+    /// The index of each port among those of its kind.
     pub port_indices: &'a [PortIndex],
-    /// What access lists filtered, at each port by RFC 1234, in order.
+    /// What access lists filtered at each RFC 1234 port, in order.
     pub filtered: &'a [PortFilterDrops],
     pub ethernet: &'a EthernetMetrics,
     pub ipxnet: &'a IpxnetMetrics,

@@ -1,14 +1,14 @@
-//! Moments at which something is to be done, and how long it is to them.
+//! Times at which something is due, and how long it is until then.
 
 ghost use Rattle.std.specs.Prelude.{◌↔◌, ◌<◌, ◌^◌, ◌⊎◌, ℕ, IsTrue};
 ghost use Rattle.ipx_site.specs.IdleTime.{IsTimeUntilDue};
 ghost use Rattle.ipx_site.specs.Moments.{HasPassed, IsReached};
 
-/// How long a router waits at most, in milliseconds.
+/// The longest that a router waits, in milliseconds.
 pub const LONGEST: u64 = 10_000;
 
-/// The moment at which a period is over since something was done: at once where it never was. None
-/// where no clock can show that moment.
+/// The time at which `period` has passed since something was done, or 0 if it never was. None if no
+/// clock can show that time.
 pub fn end_of(last: Option<u64>, period: u64) -> Option<u64>
     ensures { (t : ℕ) → t < 2 ^ 64 → IsReached result t ↔ HasPassed period last t }
 {
@@ -18,7 +18,7 @@ pub fn end_of(last: Option<u64>, period: u64) -> Option<u64>
     }
 }
 
-/// Whether a period is over since something was done, or it never was.
+/// Whether `period` has passed since something was done, or it never was.
 pub fn is_over(last: Option<u64>, period: u64, now: u64) -> bool
     ensures { IsTrue result ↔ HasPassed period last now }
 {
@@ -28,7 +28,7 @@ pub fn is_over(last: Option<u64>, period: u64, now: u64) -> bool
     }
 }
 
-/// The sooner of two moments, where there are any.
+/// The earlier of two times, if there is any.
 pub fn sooner(a: Option<u64>, b: Option<u64>) -> Option<u64>
     ensures { (t : ℕ) → IsReached result t ↔ (IsReached a t ⊎ IsReached b t) }
 {
@@ -39,7 +39,7 @@ pub fn sooner(a: Option<u64>, b: Option<u64>) -> Option<u64>
     }
 }
 
-/// How long it is from now to a moment, where there is one; the longest wait at most.
+/// How long it is from `now` to a moment, at most [`LONGEST`]. Without a moment it is [`LONGEST`].
 pub fn time_to(moment: Option<u64>, now: u64) -> u64
     ensures { IsTimeUntilDue (IsReached moment) now result }
 {

@@ -1,4 +1,4 @@
-//! How much each neighbour of a router told, as a text for Prometheus.
+//! Prometheus metrics of what each neighbour of a router advertises.
 
 use crate::family::{Family, put_family};
 use ipx_router::Router;
@@ -24,12 +24,12 @@ const HEARD: Family = Family {
     kind: "gauge",
 };
 
-/// What is told of a neighbour.
+/// What is written of a neighbour.
 #[derive(Clone, Copy, Debug, PartialEq, Eq)]
 enum Told {
     Networks,
     Services,
-    /// How long ago the last was heard, at this moment in milliseconds.
+    /// How long ago it was heard last, at this time in milliseconds.
     Heard(u64),
 }
 
@@ -41,7 +41,7 @@ fn figure_of(teller: &Advertiser, told: Told) -> u64 {
     }
 }
 
-/// Writes a figure of each of these neighbours.
+/// Writes a metric of each of these neighbours.
 fn put_told(
     text: &mut String,
     family: &Family,
@@ -59,7 +59,8 @@ fn put_told(
     Ok(())
 }
 
-/// Writes how much each neighbour told that counts at a moment, of the first 256 by port and node.
+/// Writes how much each neighbour advertises that counts at `now`, for the first 256 neighbours by
+/// port and node.
 pub fn put_neighbour_metrics(
     text: &mut String,
     alloc: Global,

@@ -1,4 +1,4 @@
-//! The nodes of its own network that a host names.
+//! The nodes of its own network that a host's file names.
 
 ghost use Rattle.std.specs.Prelude.{IfOk};
 ghost use Rattle.toml.specs.View.{view};
@@ -10,7 +10,7 @@ use ipx_wire::OutOfMemory;
 use std::alloc::Global;
 use toml::Value;
 
-/// The IP addresses that a value lists, 256 at most.
+/// The IP addresses that a value lists, at most 256.
 pub fn neighbours_of(alloc: Global, value: &Value) -> Result<Option<Vec<[u8; 4]>>, OutOfMemory>
     ensures { IfOk result (ReadsList AreNeighbours (view value.now)) }
 {
@@ -23,7 +23,7 @@ pub fn neighbours_of(alloc: Global, value: &Value) -> Result<Option<Vec<[u8; 4]>
     addresses_of(alloc, values)
 }
 
-/// The same, if each of them is one of these peers.
+/// The IP addresses that a value lists, if each of them is one of these peers.
 pub fn among(
     alloc: Global,
     value: &Value,

@@ -1,4 +1,4 @@
-//! Waiting until something is to be read, or for some time.
+//! Waiting until a descriptor is readable, or for some time.
 
 ghost use Rattle.std.specs.Prelude.{◌≡◌, ◌+◌, IfOk, None, OnOk, Some, is_err, length};
 ghost use Rattle.ipx_carrier.specs.Counting.{counted, raised};
@@ -15,7 +15,7 @@ use std::os::fd::RawFd;
 use std::time::Duration;
 use thiserror::Error;
 
-/// Why one can't wait.
+/// Why waiting failed.
 #[derive(Clone, Copy, Debug, PartialEq, Eq, Error)]
 pub enum WaitFault {
     #[error("out of memory")]
@@ -24,19 +24,19 @@ pub enum WaitFault {
     System,
 }
 
-/// How many events one wait tells at most; more come with the next one.
+/// The most events that one wait returns; more come with the next one.
 const EVENTS: usize = 32;
 
-/// Waits for sockets. It tells that something came once: before the next wait everything is read,
-/// until nothing is there.
+/// Waits for sockets. It reports once that something came. Read everything before the next wait,
+/// until nothing is left.
 pub struct Poller {
     poll: Poll,
     events: Events,
-    /// For how many descriptors it was asked to wait.
+    /// The number of descriptors that it was asked to wait for.
     watched: usize,
-    /// How many milliseconds it was asked to wait at most when it waited last.
+    /// The longest time, in milliseconds, that the last wait was asked to take.
     asked: Option<u64>,
-    /// Whether the system could not wait then.
+    /// Whether the system failed to wait then.
     failed: bool,
 }
 
@@ -53,7 +53,7 @@ impl Drop for Poller {
 }
 
 impl Poller {
-    /// Waits for each of the sockets.
+    /// Waits for each of these sockets.
     pub fn new<R: Net>(rt: &R, alloc: Global, sockets: &UdpSockets) -> Result<Poller, WaitFault>
         ensures watched { IfOk result (λ r. r.watched ≡ length sockets.now.sockets.items) }
         ensures asked { IfOk result (λ r. r.asked ≡ None) }
@@ -90,7 +90,7 @@ impl Poller {
         Ok(())
     }
 
-    /// Waits for the sockets of wires too.
+    /// Waits for the sockets of Ethernet ports too.
     pub fn watch_ethernet(&mut self, sockets: &EthernetSockets) -> Result<(), WaitFault>
         ensures watched { OnOk result (self.new.watched
             ≡ counted (self.old.watched + length sockets.now.ethernet.items)) }
@@ -106,7 +106,7 @@ impl Poller {
         Ok(())
     }
 
-    /// Waits for the sockets of lobbies too.
+    /// Waits for the sockets of ipxnet servers too.
     pub fn watch_servers(&mut self, sockets: &ServerSockets) -> Result<(), WaitFault>
         ensures watched { OnOk result (self.new.watched
             ≡ counted (self.old.watched + length sockets.now.sockets.items)) }
@@ -122,8 +122,8 @@ impl Poller {
         Ok(())
     }
 
-    /// Waits for this descriptor too, until it is readable. False where the system can't: a file of
-    /// a disk always is.
+    /// Waits for this descriptor too, until it is readable. It returns false if the system cannot
+    /// wait for it: a file on disk is always readable.
     pub fn watch_reading(&mut self, descriptor: RawFd) -> bool
         ensures watched { self.new.watched ≡ raised self.old.watched }
         ensures asked { self.new.asked ≡ self.old.asked }
@@ -136,21 +136,21 @@ impl Poller {
             .is_ok()
     }
 
-    /// Where something came at the last wait: of each a token, which is the place of its descriptor
-    /// among all for which it was asked to wait. The first is 0.
+    /// The events of the last wait. The token of each is the index of its descriptor among all that
+    /// it was asked to wait for, starting at 0.
     pub fn events(&self) -> &Events
         ensures { result.now ≡ self.now.events }
     {
         &self.events
     }
 
-    /// Waits until something is readable, a signal comes, or so many milliseconds are over. It
-    /// answers whether something is.
+    /// Waits until something is readable, a signal comes, or `most` milliseconds have passed. It
+    /// returns whether something is readable.
     pub fn wait(&mut self, most: u64) -> Result<bool, WaitFault>
         ensures watched { self.new.watched ≡ self.old.watched }
-        // So long the system is asked to wait, whatever comes of it.
+        // The system is asked to wait this long, whatever the result.
         ensures asked { self.new.asked ≡ Some most }
-        // Whether it answered with a fault is kept.
+        // It records whether the system failed.
         ensures failed { self.new.failed ≡ is_err result }
     {
         self.asked = Some(most);

@@ -20,7 +20,7 @@ use ipx_ethernet_ports::Place;
 use std::alloc::Global;
 use toml::Table;
 
-/// The port of RFC 1234 of a table with this number.
+/// The RFC 1234 port that the table with this number describes.
 fn rfc1234_port(
     alloc: Global,
     table: &Table,
@@ -51,7 +51,7 @@ fn rfc1234_port(
     })
 }
 
-/// The port on a wire of a table with this number.
+/// The Ethernet port that the table with this number describes.
 fn frames_port(
     alloc: Global,
     table: &Table,
@@ -88,7 +88,7 @@ fn frames_port(
     })
 }
 
-/// The port of a table with this number.
+/// The port that the table with this number describes.
 pub fn port_of(alloc: Global, table: &Table, number: usize) -> Result<PortConfig, ConfigError>
     ensures port { IfOk result (IsPortOfKind (table_view table.now)) }
     ensures fault { IfErr result (λ f.

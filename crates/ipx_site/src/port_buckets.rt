@@ -8,9 +8,9 @@ use crate::token_bucket::TokenBucket;
 /// What is limited at a port.
 #[derive(Clone, Copy, Debug, PartialEq, Eq)]
 pub struct PortBuckets {
-    /// The general queries of all nodes that come by it.
+    /// The general queries that come by it, of all nodes together.
     pub queries: TokenBucket,
-    /// The directed broadcasts that leave by it. None: they are not limited.
+    /// The directed broadcasts that leave by it. None means that they are not limited.
     pub directed: Option<TokenBucket>,
 }
 
@@ -51,7 +51,7 @@ pub fn has_query(ports: &[PortBuckets], port: usize, now: u64) -> bool
     }
 }
 
-/// Takes it.
+/// Takes that token.
 pub fn take_query(ports: &mut [PortBuckets], port: usize, now: u64)
     requires { query_has (at_port ports.old port) now ≡ true }
     ensures { ports.new ≡ with_query_taken ports.old port now }
@@ -71,7 +71,7 @@ pub fn has_directed(ports: &[PortBuckets], port: usize, now: u64) -> bool
     }
 }
 
-/// Takes it.
+/// Takes that token.
 pub fn take_directed(ports: &mut [PortBuckets], port: usize, now: u64)
     requires { directed_has (at_port ports.old port) now ≡ true }
     ensures { ports.new ≡ with_directed_taken ports.old port now }

@@ -1,21 +1,21 @@
-//! What guards keep back, by port.
+//! What access lists drop, by port.
 
 ghost use Rattle.std.specs.Prelude.{◌≡◌};
 ghost use Rattle.ipx_site.specs.PortFilterDrops.{RefusedAddUp, UnknownSendersAddUp, kept_changed_at, nothing_at_port, one_refused, one_unknown_sender};
 
 use ipx_carrier::saturating_increment;
 
-/// How much the guard of a port kept back. Each count stays at the greatest u64.
+/// What the access list of a port dropped. Each count saturates at the greatest u64.
 #[derive(Clone, Copy, Debug, PartialEq, Eq)]
 pub struct PortFilterDrops {
-    /// The datagrams that came from nobody who is heard.
+    /// The datagrams that came from unknown senders.
     pub unknown_senders: u64,
-    /// Those that were to go where the port does not send.
+    /// The datagrams to addresses that the port does not send to.
     pub refused: u64,
 }
 
 impl PortFilterDrops {
-    /// Nothing was kept back yet.
+    /// Nothing has been dropped yet.
     pub fn nothing() -> PortFilterDrops
         ensures { result ≡ nothing_at_port }
     {
@@ -38,7 +38,7 @@ impl PortFilterDrops {
     }
 }
 
-/// Counts a stranger at a port, if that is one of these.
+/// Counts an unknown sender at a port, if it is one of these ports.
 pub fn count_unknown_sender(ports: &mut [PortFilterDrops], port: usize)
     ensures { ports.new ≡ kept_changed_at ports.old port one_unknown_sender }
 {
@@ -47,7 +47,7 @@ pub fn count_unknown_sender(ports: &mut [PortFilterDrops], port: usize)
     }
 }
 
-/// Counts what was to go from a port where it does not send, likewise.
+/// Counts a datagram to an address that the port does not send to, if it is one of these ports.
 pub fn count_refused(ports: &mut [PortFilterDrops], port: usize)
     ensures { ports.new ≡ kept_changed_at ports.old port one_refused }
 {
@@ -56,8 +56,8 @@ pub fn count_refused(ports: &mut [PortFilterDrops], port: usize)
     }
 }
 
-/// A law: of strangers, and of what was not sent, the ports make up what their device counted. It
-/// does nothing.
+/// A law: the counts of the ports add up to those of their device, for unknown senders and for
+/// datagrams not sent. It does nothing.
 pub fn what_was_kept_adds_up()
     ensures unknown_senders { UnknownSendersAddUp }
     ensures refused { RefusedAddUp }

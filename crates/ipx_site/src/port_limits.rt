@@ -1,4 +1,4 @@
-//! The limits at the ports of a router, as its file says them.
+//! The limits at the ports of a router, as its file sets them.
 
 ghost use Rattle.std.specs.Prelude.{◌≡◌, IfOk};
 ghost use Rattle.ipx_site.specs.PortLimits.{buckets_of_port, directed_bucket, limits_of, query_limit};
@@ -8,13 +8,13 @@ use crate::site::{Directed, Kind, PortConfig};
 use crate::token_bucket::{RateLimit, TokenBucket};
 use std::alloc::{AllocError, Global};
 
-/// What most ports have, for general queries and for directed broadcasts.
+/// The usual limit of a port, for general queries and for directed broadcasts.
 const USUAL: RateLimit = RateLimit {
     burst: 16,
     per_second: 8,
 };
 
-/// What all clients of a port for ipxnet have together for general queries.
+/// The limit that all clients of an ipxnet port share for general queries.
 const CLIENTS: RateLimit = RateLimit {
     burst: 2,
     per_second: 1,
@@ -26,7 +26,7 @@ const NEVER: RateLimit = RateLimit {
     per_second: 0,
 };
 
-/// How many general queries may come by a port of this kind.
+/// The limit of the general queries that come by a port of this kind.
 fn query_limit(kind: Kind) -> RateLimit
     ensures { result ≡ query_limit kind }
 {
@@ -36,7 +36,7 @@ fn query_limit(kind: Kind) -> RateLimit
     }
 }
 
-/// How many directed broadcasts may leave by a port; None if as many as come.
+/// The limit of the directed broadcasts that leave by a port; None if there is no limit.
 fn directed_bucket(directed: Directed) -> Option<TokenBucket>
     ensures { result ≡ directed_bucket directed }
 {
@@ -56,7 +56,7 @@ fn buckets_of_port(port: &PortConfig) -> PortBuckets
     }
 }
 
-/// The buckets of the ports of a file, each with all its tokens.
+/// The buckets of the ports of a file, each full.
 pub fn limits_of(alloc: Global, ports: &[PortConfig]) -> Result<Vec<PortBuckets>, AllocError>
     ensures { IfOk result (λ v. v.items ≡ limits_of ports.now) }
 {

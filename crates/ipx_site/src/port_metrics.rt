@@ -1,4 +1,4 @@
-//! What a router counts at each of its ports, as a text for Prometheus.
+//! Prometheus metrics of each port of a router.
 
 use crate::family::{Family, put_family};
 use ipx_carrier::OutcomeCounters;
@@ -36,7 +36,7 @@ const DROPPED: Family = Family {
     kind: "counter",
 };
 
-/// What is counted of all that passes at a port.
+/// What is counted of the traffic at a port.
 #[derive(Clone, Copy, Debug, PartialEq, Eq)]
 enum Passed {
     Heard,
@@ -54,7 +54,7 @@ fn count_of(counts: &PortCounts, passed: Passed) -> u64 {
     }
 }
 
-/// Writes a figure of each port, with its number and its network.
+/// Writes a metric of each port, with its number and its network.
 fn put_passed(
     text: &mut String,
     family: &Family,
@@ -78,7 +78,7 @@ fn put_passed(
     Ok(())
 }
 
-/// Writes what became of datagrams that came by a port and were dropped, by reason.
+/// Writes how many datagrams that came by a port were dropped, by reason.
 fn put_drops(
     text: &mut String,
     number: usize,
@@ -102,7 +102,7 @@ fn put_drops(
     Ok(())
 }
 
-/// Writes what was dropped, by the port that it came by.
+/// Writes how many datagrams were dropped, by the port that they came by.
 fn put_dropped(text: &mut String, counters: &[PortCounts]) -> Result<(), AllocError> {
     put_family(text, &DROPPED)?;
     for (place, counts) in counters.iter().enumerate() {

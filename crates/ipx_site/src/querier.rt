@@ -1,4 +1,4 @@
-//! Which datagrams ask a router for all that it knows, and who asks.
+//! Which datagrams ask a router for all that it knows, and who sent them.
 
 ghost use Rattle.std.specs.Prelude.{◌≡◌, ◌↔◌, IsTrue, IfNone, IfSome};
 ghost use Rattle.ipx_router.specs.Classify.{concern_of, concern_on_network, is_from_neighbour};
@@ -9,14 +9,14 @@ use ipx_control::{RipBody, RipEntries, SapBody, read_rip, read_sap};
 use ipx_router::Port;
 use ipx_wire::{IpxHeader, Network, Node, Socket, decode, packet_type};
 
-/// Who asks: a node, at a port of this number, of which the first is 0.
+/// A node that asks, and the port where it is, starting at 0.
 #[derive(Clone, Copy, Debug, PartialEq, Eq)]
 pub struct Querier {
     pub port: usize,
     pub node: Node,
 }
 
-/// Whether one of the networks asked for is every network.
+/// Whether one of the requested networks is FFFFFFFF, which means all.
 fn names_all(asked: RipEntries<'_>) -> bool
     ensures { result ≡ asks_all asked.entry }
 {
@@ -28,7 +28,7 @@ fn names_all(asked: RipEntries<'_>) -> bool
     false
 }
 
-/// Whether a body asks for all routes.
+/// Whether a RIP body asks for all routes.
 fn asks_all_routes(body: &[u8]) -> bool
     ensures { IsTrue result ↔ AsksAllRoutes body.now }
 {
@@ -39,7 +39,7 @@ fn asks_all_routes(body: &[u8]) -> bool
     }
 }
 
-/// Whether a body asks for all services, or for all of a kind.
+/// Whether a SAP body asks for all services, or for all of a type.
 fn asks_all_services(body: &[u8]) -> bool
     ensures { IsTrue result ↔ AsksAllServices body.now }
 {
@@ -50,7 +50,7 @@ fn asks_all_services(body: &[u8]) -> bool
     }
 }
 
-/// Whether a packet is for the router with this port, and from a neighbour there.
+/// Whether a packet is for the router at this port, and from a neighbour there.
 fn comes_from_neighbour(at: Port, header: &IpxHeader) -> bool
     ensures { result ≡ is_from_neighbour at header.now }
 {
@@ -59,7 +59,7 @@ fn comes_from_neighbour(at: Port, header: &IpxHeader) -> bool
     for_us && from_here && header.from.node != at.node
 }
 
-/// Whether a packet for the network at hand asks its router for all.
+/// Whether a packet for the local network asks its router for all.
 fn asks_on_network(at: Port, header: &IpxHeader, body: &[u8]) -> bool
     ensures { IsTrue result ↔ AsksForAll (concern_on_network at header.now) body.now }
 {
@@ -88,7 +88,7 @@ fn asks_for_all(at: Port, header: &IpxHeader, body: &[u8]) -> bool
     false
 }
 
-/// Who asks for all at a port of this number.
+/// The node that asks for all at the port with this number.
 fn querier_at(at: Port, port: usize, bytes: &[u8]) -> Option<Querier>
     ensures asked { IfSome result (AsksAt at port bytes.now) }
     ensures none { IfNone result ((who : Querier) → AsksAt at port bytes.now who → ⊥) }
@@ -105,9 +105,9 @@ fn querier_at(at: Port, port: usize, bytes: &[u8]) -> Option<Querier>
     })
 }
 
-/// Who asks a router with these ports for all that it knows, where bytes that came to its port of a
-/// number do: by a RIP request with an entry for network FFFFFFFF, or by a SAP query that is not
-/// for the nearest.
+/// The node that asks a router with these ports for all that it knows, if bytes that came to the
+/// port with this number do. They are then a RIP request with an entry for network FFFFFFFF, or a
+/// SAP query that is not for the nearest service.
 pub fn general_query_from(ports: &[Port], port: usize, bytes: &[u8]) -> Option<Querier>
     ensures asked { IfSome result (IsGeneralQuery ports.now port bytes.now) }
     ensures none { IfNone result

@@ -1,23 +1,23 @@
-//! How often a core with limits hears general queries and directed broadcasts: laws. They do nothing.
+//! Laws on how many general queries and directed broadcasts pass a rate limiter. They do nothing.
 
 ghost use Rattle.ipx_site.specs.QueryRate.{IsDirectedRateBounded, IsPortQueryRateBounded, IsQueryRateBounded};
 
 use ipx_carrier::Core;
 
-/// Of any datagrams that come to a `RateLimiter` over a core, at moments that don't go back, the core
-/// below hears at most eight general queries of one asker from one moment to another, and one more
-/// for each second between the two.
+/// Datagrams come to a `RateLimiter` over a core, at times that do not go back. Between any two
+/// times, the core below gets at most eight general queries of one querier, and one more for each
+/// second between the two.
 pub fn query_rate_is_bounded<C: Core>()
     ensures { IsQueryRateBounded C.hears }
 {}
 
-/// Of all askers at a port together it hears at most as many as the limit of the port allows at
-/// once, and as many more for each second as that allows.
+/// The same holds for all queriers at a port together, with the limit of the port: its burst, and
+/// its rate for each second between the two times.
 pub fn port_query_rate_is_bounded<C: Core>()
     ensures { IsPortQueryRateBounded C.hears }
 {}
 
-/// So it does of the directed broadcasts that leave by a port, if they are limited there.
+/// The same holds for the directed broadcasts that leave by a port, if they are limited there.
 pub fn directed_rate_is_bounded<C: Core>()
     ensures { IsDirectedRateBounded C.hears }
 {}

@@ -17,15 +17,14 @@ use ipx_wire::{Node, OutOfMemory};
 use std::alloc::{AllocError, Global};
 use std::marker::Model;
 
-/// A core over another one, which drops general queries of those who ask too often, and directed
-/// broadcasts that are too many, and counts them. A general query is a RIP request for all
-/// networks, or a SAP query for all services or all of a type. All else the core below hears as it
-/// comes.
+/// A core over another one. It drops and counts general queries of nodes that ask too often, and
+/// directed broadcasts over a limit. A general query is a RIP request for all networks, or a SAP
+/// query for all services or all of a type. All else goes to the core below as it comes.
 ///
-/// An asker is a node at a port. It has 8 tokens, of which one comes back each second; all at a
-/// port have those of the port. At most 1,024 askers whose tokens are not all back are known; where
-/// there are so many, a new one has none. A directed broadcast takes a token of the port by which
-/// it leaves.
+/// A querier is a node at a port. It has 8 tokens, of which one comes back each second. All
+/// queriers at a port also share the tokens of the port. At most 1,024 queriers with missing tokens
+/// are remembered. If there are that many, a new querier has no token. A directed broadcast takes a
+/// token of the port by which it leaves.
 pub struct RateLimiter<C: Core + Drop> {
     core: C,
     ports: Vec<Port>,
@@ -61,8 +60,8 @@ impl<C: Core + Drop> Model for RateLimiter<C> {
 }
 
 impl<C: Core + Drop> RateLimiter<C> {
-    /// A core over this one, which hears for a router with these ports and their limits. Nobody has
-    /// asked yet.
+    /// A rate limiter over this core, for a router with these ports and their limits. No query has
+    /// come yet.
     pub fn new(
         alloc: Global,
         core: C,
@@ -84,28 +83,28 @@ impl<C: Core + Drop> RateLimiter<C> {
         })
     }
 
-    /// The core below, to be asked between two runs.
+    /// The core below, for inspection between two runs.
     pub fn core(&self) -> &C
         ensures { result.now ≡ self.now.core }
     {
         &self.core
     }
 
-    /// The queries that were dropped, and the IP address of the node that sent the last of them.
+    /// The number of dropped queries, and the IP address of the node that sent the last one.
     pub fn kept(&self) -> DropCount
         ensures { result ≡ self.now.kept }
     {
         self.kept
     }
 
-    /// The directed broadcasts that were dropped, and who sent the last of them.
+    /// The number of dropped directed broadcasts, and the sender of the last one.
     pub fn directed(&self) -> DirectedDrops
         ensures { result ≡ self.now.directed }
     {
         self.directed
     }
 
-    /// Hears a general query that came by a port, or drops it.
+    /// Passes on a general query that came by a port, or drops it.
     fn hear_query(
         &mut self,
         alloc: Global,
@@ -131,7 +130,7 @@ impl<C: Core + Drop> RateLimiter<C> {
         Ok(())
     }
 
-    /// Hears a directed broadcast that came by a port, or drops it.
+    /// Passes on a directed broadcast that came by a port, or drops it.
     fn hear_directed(
         &mut self,
         alloc: Global,

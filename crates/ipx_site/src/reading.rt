@@ -1,4 +1,4 @@
-//! The file of a router is read.
+//! Parsing the file of a router.
 
 ghost use Rattle.std.specs.Prelude.{◌≡◌, ◌⊎◌, [], All, Option, Some, None, IfErr, IfOk, OnOk, MatchResult, ◌<◌, ◌^◌, length, option_map};
 ghost use Rattle.toml.specs.Data.{Data, Items};
@@ -19,7 +19,7 @@ use crate::toml_text::table_of;
 use std::alloc::Global;
 use toml::{Table, Value};
 
-/// The keys of the file, in the order in which their faults are told.
+/// The keys of the file, in the order in which their faults are reported.
 const KEYS: [Key; 5] = [
     Key::Status,
     Key::Tables,
@@ -40,7 +40,7 @@ fn item_of(alloc: Global, value: &Value, number: usize) -> Result<PortConfig, Co
     }
 }
 
-/// The place of the first of these ports that is on the network of another.
+/// The index of the first of these ports that is on the same network.
 fn place_of_twin(earlier: &[PortConfig], port: &PortConfig) -> Option<usize>
     ensures { result ≡ twin_place earlier.now port.now }
 {
@@ -128,14 +128,14 @@ fn site_of(alloc: Global, table: &Table) -> Result<RouterConfig, ConfigError>
     })
 }
 
-/// Reads the text of a router's file, or answers its first fault: ports are read in the order of
-/// the file, and of each table first its `kind` is told, then a name that is no key of that kind, and
-/// then its keys in the order of the documents. Behind them come routes, and then services.
+/// Parses the text of a router's file, or returns its first fault. Ports are checked in the order
+/// of the file, followed by routes and services. Each port's `kind` is checked first. Next are
+/// names that are no keys of that kind, and then its keys in the order of the documents.
 pub fn read_site(alloc: Global, text: &str) -> Result<RouterConfig, ConfigError>
     ensures site { IfOk result (IsSiteText text.now) }
-    // What `Router::new` is owed of its ports.
+    // What `Router::new` requires of its ports.
     ensures own { IfOk result (λ s. All IsOwnNetwork (router_ports s.ports.items)) }
-    // What `WithStatics::new` is owed.
+    // What `WithStatics::new` requires.
     ensures there { IfOk result HearsAtPorts }
     ensures fault { IfErr result (λ f.
         (f ≡ ConfigError.OutOfMemory) ⊎ IsSiteTextFault text.now f) }

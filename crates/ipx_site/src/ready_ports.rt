@@ -1,4 +1,4 @@
-//! The marks of a router's ports, of all kinds: where something may wait.
+//! Marks at a router's ports of all kinds: where datagrams may wait.
 
 ghost use Rattle.std.specs.Prelude.{◌≡◌, slice_set, true};
 ghost use Rattle.ipx_carrier.specs.ReadySet.{AreMarked, is_any_marked};
@@ -7,7 +7,7 @@ ghost use Rattle.ipx_site.specs.SiteMarks.{DifferInMarks, marks_in, numbers_come
 use crate::poller::Poller;
 use crate::router_ports::UdpRouterPorts;
 
-/// Whether something may wait at a port.
+/// Whether datagrams may wait at any port.
 pub fn is_any_marked(ports: &UdpRouterPorts) -> bool
     ensures { result ≡ is_any_marked (marks_in ports.now) }
 {
@@ -16,8 +16,8 @@ pub fn is_any_marked(ports: &UdpRouterPorts) -> bool
         || ports.servers.sockets().marks().is_any_marked()
 }
 
-/// Something came to the port whose descriptor has this place among those of all: of the ports of
-/// RFC 1234, then of those on wires, and then of those for clients.
+/// Marks the port whose descriptor has this index among those of all ports. RFC 1234 ports come
+/// first, then Ethernet ports, then ipxnet ports.
 fn mark_port(ports: &mut UdpRouterPorts, number: usize)
     ensures marks { marks_in ports.new ≡ slice_set (marks_in ports.old) number true }
     ensures rest { DifferInMarks ports.old ports.new }
@@ -34,7 +34,7 @@ fn mark_port(ports: &mut UdpRouterPorts, number: usize)
     }
 }
 
-/// Marks the ports at which something came at the last wait.
+/// Marks the ports where something came at the last wait.
 #[tactic(auto, using(crate::proofs::MarksApart::same_marks, crate::proofs::MarksApart::marks_on))]
 pub fn mark_ready(ports: &mut UdpRouterPorts, ready: &Poller)
     ensures marks { AreMarked (numbers_come ready.now) (marks_in ports.old) (marks_in ports.new) }

@@ -1,4 +1,4 @@
-//! What a router knows of the networks and services of others, and what it knew before.
+//! Logs the networks and services of others that a router learns and loses.
 
 ghost use Rattle.std.specs.Prelude.{◌≡◌, length};
 
@@ -9,25 +9,25 @@ use ipx_wire::{Network, OutOfMemory};
 use log::{Log, info};
 use std::alloc::Global;
 
-/// The most lines of networks, and of services, that are written at once; the others are counted.
+/// The most lines of networks, and of services, that are logged at once; the rest are counted.
 const MAX_LINES: usize = 64;
 
-/// The networks and services that were known when one looked last.
+/// The networks and services that were known at the last look.
 #[derive(Drop)]
 pub struct RouteChangeLog {
     networks: Vec<Network>,
     services: Vec<ServiceKey>,
 }
 
-/// A key of a table, a network or a service, of which it is told that it is known or lost.
+/// A key of a table, a network or a service, as the log reports it learned or lost.
 trait Told: Ord + Copy {
-    /// What a neighbour offers by it.
+    /// What a neighbour advertises for it.
     type Offered: Metric + Copy;
 
-    /// What several of them are called.
+    /// The plural noun for such keys.
     const MANY: &'static str;
 
-    /// Tells that it is known, by this source.
+    /// Logs that it is known, from this source.
     fn tell_known<R: Log>(&self, rt: &R, source: Source, offered: Self::Offered);
 
     fn tell_lost<R: Log>(&self, rt: &R);
@@ -76,7 +76,7 @@ impl Told for ServiceKey {
     }
 }
 
-/// Says that there were more lines than are written at once.
+/// Logs how many more there were than are logged at once.
 fn tell_rest<R: Log>(rt: &R, many: &str, what: &str, count: usize) {
     if count > MAX_LINES {
         let rest = count - MAX_LINES;
@@ -84,7 +84,7 @@ fn tell_rest<R: Log>(rt: &R, many: &str, what: &str, count: usize) {
     }
 }
 
-/// Tells those that were not known before.
+/// Logs the keys that were not known before.
 fn tell_new<R: Log, K: Told>(rt: &R, known: &[K], held: &[(K, Source, K::Offered)]) {
     let mut count: usize = 0;
     for item in held {
@@ -98,7 +98,7 @@ fn tell_new<R: Log, K: Told>(rt: &R, known: &[K], held: &[(K, Source, K::Offered
     tell_rest(rt, K::MANY, "known", count);
 }
 
-/// Tells those that are known no more.
+/// Logs the keys that are no longer known.
 fn tell_gone<R: Log, K: Told>(rt: &R, known: &[K], held: &[(K, Source, K::Offered)]) {
     let mut count: usize = 0;
     for key in known {
@@ -112,7 +112,7 @@ fn tell_gone<R: Log, K: Told>(rt: &R, known: &[K], held: &[(K, Source, K::Offere
     tell_rest(rt, K::MANY, "lost", count);
 }
 
-/// The keys that a table offers now. Those that are new and those that are gone are told.
+/// The keys that a table has now. It logs those that are new and those that are gone.
 fn look_at<R: Log, K: Told>(
     rt: &R,
     alloc: Global,
@@ -138,22 +138,22 @@ impl RouteChangeLog {
         }
     }
 
-    /// How many networks of others were known when one looked last.
+    /// How many networks of others were known at the last look.
     pub fn networks(&self) -> usize
         ensures { result ≡ length self.now.networks.items }
     {
         self.networks.len()
     }
 
-    /// How many services were known then.
+    /// How many services were known at the last look.
     pub fn services(&self) -> usize
         ensures { result ≡ length self.now.services.items }
     {
         self.services.len()
     }
 
-    /// Looks what a router knows now, and tells a line for each network and service that is new or
-    /// lost since one looked last.
+    /// Looks at what a router knows now, and logs a line for each network and service that is new
+    /// or lost since the last look.
     pub fn look<R: Log>(
         &mut self,
         rt: &R,

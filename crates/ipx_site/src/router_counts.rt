@@ -1,4 +1,4 @@
-//! What a router that runs counts.
+//! The counters of a running router.
 
 ghost use Rattle.std.specs.Prelude.{◌≡◌};
 ghost use Rattle.ipx_carrier.specs.Counting.{counted, raised};
@@ -18,7 +18,7 @@ use ipx_metrics::MeteredRouter;
 use ipx_source_checks::SourceChecked;
 use ipx_static::WithStatics;
 
-/// What a router that runs counts itself. Each count stays at the greatest u64.
+/// The counters that a running router keeps itself. Each saturates at the greatest u64.
 #[derive(Clone, Copy, Debug, PartialEq, Eq)]
 pub struct RouterCounts {
     pub unmapped: u64,
@@ -27,7 +27,7 @@ pub struct RouterCounts {
     pub file_faults: u64,
 }
 
-/// How many datagrams were heard: each became something.
+/// How many datagrams were processed: each has one outcome.
 fn heard_in(outcomes: &OutcomeCounters) -> u64
     ensures { result ≡ counted (outcomes_in outcomes.now) }
 {
@@ -61,7 +61,7 @@ impl RouterCounts {
         }
     }
 
-    /// Counts what a burst did not send, and what ended it.
+    /// Counts what a batch did not send, and the fault that ended it.
     pub fn add(&mut self, batch: Batch)
         ensures { self.new ≡ with_batch batch self.old }
     {
@@ -85,7 +85,7 @@ impl RouterCounts {
         saturating_increment(&mut self.file_faults);
     }
 
-    /// All figures of a router, at a moment in milliseconds since its start.
+    /// All metrics of a router, at `now`, in milliseconds since its start.
     pub fn metrics(
         &self,
         core: &SourceChecked<RateLimiter<WithStatics<MeteredRouter>>>,

@@ -1,4 +1,4 @@
-//! The ports of a router that runs, of all kinds.
+//! The ports of a running router, of all kinds.
 
 ghost use Rattle.std.specs.Prelude.{◌≡◌, ◌<◌, ◌≤◌, ◌+◌, ◌^◌, All, IfErr, IfOk, IfSome, None, OnErr, length, map, min, slice_get};
 ghost use Rattle.ipx_carrier.specs.RunFaultNumbers.{device_failures};
@@ -17,25 +17,25 @@ use ipx_ethernet_ports::{EndSockets, EthernetPorts, EthernetSockets};
 use ipx_ipxnet_ports::{PlaceSockets, ServerSockets, Servers};
 use ipx_wire::Node;
 
-/// Where a port is among those of its kind, the first of which is 0.
+/// The index of a port among those of its kind, starting at 0.
 #[derive(Clone, Copy, Debug, PartialEq, Eq)]
 pub enum PortIndex {
-    /// It is one of RFC 1234.
+    /// An RFC 1234 port.
     Datagrams(usize),
-    /// It is on a wire.
+    /// An Ethernet port.
     Ethernet(usize),
-    /// It is for clients of ipxnet.
+    /// An ipxnet port.
     IpxnetServer(usize),
 }
 
-/// The ports of a router: those of RFC 1234 over a device, those on wires and those for clients of
-/// ipxnet over their sockets, and which of them each is.
+/// The ports of a router. Those of RFC 1234 work over a device, Ethernet and ipxnet ports over
+/// their sockets. It knows which of them each port of the router is.
 pub struct RouterPorts<D: Datagrams + Drop, E: EndSockets + Drop, L: PlaceSockets + Drop> {
     pub(crate) datagrams: OnPeers<D>,
     pub(crate) ethernet: EthernetPorts<E>,
     pub(crate) servers: Servers<L>,
     port_indices: Vec<PortIndex>,
-    // So each is there.
+    // Each port index is valid.
     ghost fit: { All (fits (D.port_count datagrams.device)
         (min (length ethernet.switches.items) (length (E.ends_of ethernet.sockets)))
         (min (length servers.servers.items) (L.port_count servers.sockets))) port_indices.items },
@@ -53,11 +53,11 @@ impl<D: Datagrams + Drop, E: EndSockets + Drop, L: PlaceSockets + Drop> Drop
     }
 }
 
-/// The ports of a site.
+/// The ports of a site's router.
 pub type UdpRouterPorts = RouterPorts<SourceFilter<UdpSockets>, EthernetSockets, ServerSockets>;
 
 impl<D: Datagrams + Drop, E: EndSockets + Drop, L: PlaceSockets + Drop> RouterPorts<D, E, L> {
-    /// Ports of these, which are where the spots say. The caller owes that they are there.
+    /// The ports of a router, in the order of the port indices. Each index must be valid.
     pub fn new(
         datagrams: OnPeers<D>,
         ethernet: EthernetPorts<E>,
@@ -80,36 +80,36 @@ impl<D: Datagrams + Drop, E: EndSockets + Drop, L: PlaceSockets + Drop> RouterPo
         }
     }
 
-    /// The device of the ports of RFC 1234, to be asked between two runs.
+    /// The device of the RFC 1234 ports, for inspection between two runs.
     pub fn device(&self) -> &D
         ensures { result.now ≡ self.now.datagrams.device }
     {
         &self.datagrams.device
     }
 
-    /// The wires, likewise.
+    /// The Ethernet ports, for inspection between two runs.
     pub fn ethernet(&self) -> &EthernetPorts<E>
         ensures { result.now ≡ self.now.ethernet }
     {
         &self.ethernet
     }
 
-    /// The ports for clients of ipxnet, likewise.
+    /// The ipxnet ports, for inspection between two runs.
     pub fn servers(&self) -> &Servers<L>
         ensures { result.now ≡ self.now.servers }
     {
         &self.servers
     }
 
-    /// Where each port is, in their order.
+    /// The index of each port among those of its kind, in the order of the ports.
     pub fn port_indices(&self) -> &[PortIndex]
         ensures { result.now ≡ self.now.port_indices.items }
     {
         &self.port_indices
     }
 
-    /// Sets the moment, in ms, at which what comes and goes on wires and by lobbies does so from now
-    /// on.
+    /// Sets the time, in milliseconds, for all that Ethernet and ipxnet ports send and receive from
+    /// now on.
     pub fn set_moment(&mut self, moment: u64)
         ensures ethernet { self.new.ethernet ≡ record self.old.ethernet { moment = moment } }
         ensures servers { self.new.servers ≡ record self.old.servers { moment = moment } }
@@ -130,7 +130,7 @@ impl<D: Datagrams + Drop, E: EndSockets + Drop, L: PlaceSockets + Drop> PortDriv
 
     ghost Copy = { PortCopy };
 
-    // The peers, where each port is, and the moments at the wires and at the lobbies.
+    // The peers, the port indices, and the times set at the Ethernet and ipxnet ports.
     ghost Kept = { Peers × List PortIndex × ℕ × ℕ };
 
     ghost kept = { λ r. (
@@ -142,19 +142,19 @@ impl<D: Datagrams + Drop, E: EndSockets + Drop, L: PlaceSockets + Drop> PortDriv
 
     ghost port_count = { λ r. length r.port_indices.items };
 
-    // Wires and lobbies never fail.
+    // Ethernet and ipxnet ports never fail.
     ghost failed = { λ r. D.failed r.datagrams.device };
 
     ghost transmissions = { λ r. by_kind (peers_of r.datagrams.peers.items)
         (map (λ h. h.port) r.ethernet.switches.items) r.port_indices.items };
 
-    // What passes is told by the device and by the sockets of wires and lobbies.
+    // The device and the sockets of Ethernet and ipxnet ports record the traffic.
     ghost traffic = { λ r. None };
 
     ghost waiting = { λ r. None };
 
-    // Of the ports of RFC 1234, in their order: whoever is at an end of a wire may speak, and whoever
-    // registered.
+    // Of the RFC 1234 ports, in their order. Any remote of an Ethernet port may send, and any
+    // registered client.
     ghost access = { λ r. D.access r.datagrams.device };
 
     ghost filtered = { λ r. D.filtered r.datagrams.device
@@ -172,7 +172,8 @@ impl<D: Datagrams + Drop, E: EndSockets + Drop, L: PlaceSockets + Drop> PortDriv
     fn send(&mut self, port: usize, node: Node, packet: &[u8]) -> Result<PacketSent, DeviceFault>
         requires there { port < length self.old.port_indices.items }
         requires countable { D.failed self.old.datagrams.device + 1 < 2 ^ 64 }
-        // It goes by its kind, at its place there, and the ports of the other kinds are as they were.
+        // It is sent by the port's kind, at its index there. The ports of other kinds are
+        // unchanged.
         ensures sent { SendsByKind (slice_get self.old.port_indices.items port) node packet.now result
             (peers_of self.old.datagrams.peers.items) (E.ends_of self.old.ethernet.sockets)
             self.old.ethernet.moment self.old.servers.moment
@@ -200,7 +201,7 @@ impl<D: Datagrams + Drop, E: EndSockets + Drop, L: PlaceSockets + Drop> PortDriv
         ensures access { D.access self.new.datagrams.device ≡ D.access self.old.datagrams.device }
         ensures transmissions { map (λ h. h.port) self.new.ethernet.switches.items
             ≡ map (λ h. h.port) self.old.ethernet.switches.items }
-        // The port of each lobby stays, and how many clients it may have.
+        // The port of each ipxnet server is unchanged, and so is its maximum number of clients.
         ensures servers { server_ports self.new.servers.servers.items
             ≡ server_ports self.old.servers.servers.items }
         ensures port_indices { self.new.port_indices ≡ self.old.port_indices }
@@ -223,7 +224,8 @@ impl<D: Datagrams + Drop, E: EndSockets + Drop, L: PlaceSockets + Drop> PortDriv
     fn receive(&mut self, port: usize, room: &mut [u8]) -> Result<Option<usize>, DeviceFault>
         requires there { port < length self.old.port_indices.items }
         requires countable { D.failed self.old.datagrams.device + 1 < 2 ^ 64 }
-        // It comes by its kind, at its place there, and the ports of the other kinds are as they were.
+        // It is received by the port's kind, at its index there. The ports of other kinds are
+        // unchanged.
         ensures received { ReceivesByKind (slice_get self.old.port_indices.items port)
             (length room.old) room.new result
             (E.ends_of self.old.ethernet.sockets) self.old.ethernet.moment self.old.servers.moment
@@ -244,7 +246,7 @@ impl<D: Datagrams + Drop, E: EndSockets + Drop, L: PlaceSockets + Drop> PortDriv
         ensures access { D.access self.new.datagrams.device ≡ D.access self.old.datagrams.device }
         ensures transmissions { map (λ h. h.port) self.new.ethernet.switches.items
             ≡ map (λ h. h.port) self.old.ethernet.switches.items }
-        // The port of each lobby stays, and how many clients it may have.
+        // The port of each ipxnet server is unchanged, and so is its maximum number of clients.
         ensures servers { server_ports self.new.servers.servers.items
             ≡ server_ports self.old.servers.servers.items }
         ensures port_indices { self.new.port_indices ≡ self.old.port_indices }

@@ -1,4 +1,4 @@
-//! The rounds of a router, one after another.
+//! Runs a router, round after round.
 
 ghost use Rattle.std.specs.Prelude.{◌≤◌, ◌==◌, is_ok};
 ghost use Rattle.ipx_site.specs.RoutingRuns.{RunsTo};
@@ -11,9 +11,10 @@ use std::alloc::Global;
 use std::rt::{Clock as SystemClock, Files};
 
 impl<'a, R: SystemClock> RunningRouter<'a, R> {
-    /// Takes one round after another, until a wait fails.
+    /// Runs one round after another, until a wait fails.
     pub(crate) fn run<S: Log + Files>(&mut self, rt: &S, alloc: Global) -> Result<(), WaitFault>
-        // It ends just with the round after which the wait failed, or well after 2^64 - 1 rounds.
+        // It ends with the round after which the wait failed, or successfully after 2^64 - 1
+        // rounds.
         ensures { RunsTo self.old self.new (is_ok result) }
     {
         for _round in 0..u64::MAX {
@@ -23,8 +24,9 @@ impl<'a, R: SystemClock> RunningRouter<'a, R> {
     }
 }
 
-/// Runs a router that was started, until a wait fails, and answers its status: 1 then, and 0 after
-/// 2^64 - 1 rounds. One line on standard error, which begins with the path of its file, says why.
+/// Runs a started router until a wait fails, and returns the exit status: 1 then, and 0 after 2^64
+/// - 1 rounds. One line on standard error, which begins with the path of the router's file, says
+/// why.
 pub fn run_router<R: Log + Files + SystemClock + Eprint>(
     rt: &R,
     alloc: Global,
@@ -32,7 +34,7 @@ pub fn run_router<R: Log + Files + SystemClock + Eprint>(
     router: &mut RunningRouter<'_, R>,
 ) -> u8
     ensures few { result ≤ 1 }
-    // It went through rounds, each from where the last one left it: also if a wait failed.
+    // It ran rounds, each from where the last one left it. This also holds if a wait failed.
     ensures runs { RunsTo router.old router.new (result == 0) }
 {
     match router.run(rt, alloc) {

@@ -43,7 +43,7 @@ use std::os::fd::RawFd;
 use std::rt::{Clock as SystemClock, Files};
 use thiserror::Error;
 
-/// Why a router doesn't start, or goes no further.
+/// Why a router does not start, or stops.
 #[derive(Clone, Copy, Debug, PartialEq, Eq, Error)]
 pub(crate) enum RouteFault {
     #[error("out of memory")]
@@ -73,8 +73,7 @@ fn router_of(alloc: Global, ports: &[PortConfig]) -> Result<Router, RouteFault>
     Ok(router)
 }
 
-/// A router as a core, which counts by port, and is to hear by hand what these neighbours are to have
-/// said.
+/// A router as a core. It counts by port, and is to hear the static entries of these neighbours.
 fn hearing_statics(
     alloc: Global,
     router: Router,
@@ -91,7 +90,8 @@ fn hearing_statics(
     Ok(core)
 }
 
-/// The core of a router, which limits general queries and directed broadcasts, and hears by hand.
+/// The core of a router. It limits general queries and directed broadcasts, and hears static
+/// entries.
 fn core_of(
     alloc: Global,
     ports: &[PortConfig],
@@ -114,7 +114,7 @@ fn core_of(
     Ok(core)
 }
 
-/// The core of the router of a file, under source checks.
+/// The core of the router that a file describes, with source checks.
 fn core_of_file(
     alloc: Global,
     site: &RouterConfig,
@@ -143,7 +143,7 @@ fn port_peers(alloc: Global, port: &Rfc1234PortConfig) -> Result<Vec<[u8; 4]>, A
     Vec::from_slice(alloc, &port.peers)
 }
 
-/// The peers of each port of RFC 1234.
+/// The peers of each RFC 1234 port.
 fn peers_by_port(alloc: Global, ports: &[PortConfig]) -> Result<Vec<Vec<[u8; 4]>>, AllocError>
     ensures { IfOk result (λ v. peers_of v.items ≡ site_peers (datagram_ports ports.now)) }
 {
@@ -157,7 +157,7 @@ fn peers_by_port(alloc: Global, ports: &[PortConfig]) -> Result<Vec<Vec<[u8; 4]>
     Ok(lists)
 }
 
-/// Who is heard at a port.
+/// Which senders are accepted at a port. None means all.
 fn port_hears(alloc: Global, port: &Rfc1234PortConfig) -> Result<Option<Vec<[u8; 4]>>, AllocError>
     ensures { IfOk result (λ ips. named ips ≡ heard_at_port port.now.accept port.now.peers.items) }
 {
@@ -167,7 +167,7 @@ fn port_hears(alloc: Global, port: &Rfc1234PortConfig) -> Result<Option<Vec<[u8;
     }
 }
 
-/// Who of the peers of a port is a router, where they are named.
+/// Which peers of a port are routers, if the file names them.
 fn port_routers(alloc: Global, port: &Rfc1234PortConfig) -> Result<Option<Vec<[u8; 4]>>, AllocError>
     ensures { IfOk result (λ ips. named ips ≡ named port.now.routers) }
 {
@@ -177,7 +177,7 @@ fn port_routers(alloc: Global, port: &Rfc1234PortConfig) -> Result<Option<Vec<[u
     }
 }
 
-/// The guard of a port.
+/// The access list of a port.
 fn access_list_of(alloc: Global, port: &Rfc1234PortConfig) -> Result<AccessList, AllocError>
     ensures { IfOk result (λ g. access_by g ≡ access_of port.now) }
 {
@@ -192,7 +192,7 @@ fn access_list_of(alloc: Global, port: &Rfc1234PortConfig) -> Result<AccessList,
     })
 }
 
-/// The guard of each port of RFC 1234.
+/// The access list of each RFC 1234 port.
 fn access_lists_of(alloc: Global, ports: &[PortConfig]) -> Result<Vec<AccessList>, AllocError>
     ensures { IfOk result (λ v. AccessListPorts (datagram_ports ports.now) v.items) }
 {
@@ -206,7 +206,7 @@ fn access_lists_of(alloc: Global, ports: &[PortConfig]) -> Result<Vec<AccessList
     Ok(access_lists)
 }
 
-/// Where each port is among those of its kind.
+/// The index of each port among those of its kind.
 fn port_indices_of(alloc: Global, ports: &[PortConfig]) -> Result<Vec<PortIndex>, AllocError>
     ensures { IfOk result (λ v. v.items ≡ port_indices_of ports.now) }
 {
@@ -233,7 +233,7 @@ fn port_indices_of(alloc: Global, ports: &[PortConfig]) -> Result<Vec<PortIndex>
     Ok(port_indices)
 }
 
-/// Tells the line of a port, as the router starts, and the room of its socket.
+/// Logs the line of a port at the start, with the size of its socket's receive buffer.
 fn tell_port<R: Log>(rt: &R, number: usize, line: &str, room: u32) {
     info!(rt; target: "ipx", "{line} room {room}");
     if room < RCVBUF_SIZE {
@@ -243,8 +243,8 @@ fn tell_port<R: Log>(rt: &R, number: usize, line: &str, room: u32) {
     }
 }
 
-/// How many bytes the socket with a descriptor holds, as the system says, which is asked for more first;
-/// 0 where it does not say.
+/// The size of a socket's receive buffer in bytes, after the system is asked for more. It is 0 if
+/// the system does not say.
 fn room_of(descriptor: Option<RawFd>) -> u32 {
     match descriptor {
         Some(descriptor) => set_rcvbuf(descriptor),
@@ -252,8 +252,8 @@ fn room_of(descriptor: Option<RawFd>) -> u32 {
     }
 }
 
-/// How many bytes the socket of a port holds, as the system said; 0 where it did not say. That of a wire
-/// or of a lobby is asked to hold more now.
+/// The size of the receive buffer of a port's socket in bytes, or 0 if the system did not say. For
+/// Ethernet and ipxnet ports it asks the system for more now.
 fn room_at(ports: &UdpRouterPorts, port_index: PortIndex) -> u32 {
     match port_index {
         PortIndex::Datagrams(place) => ports.device().device().room(place).unwrap_or(0),
@@ -270,7 +270,7 @@ fn tell_ports<R: Log>(rt: &R, lines: &[String], ports: &UdpRouterPorts) {
     }
 }
 
-/// The ports of RFC 1234 among these, with their sockets bound and their guards.
+/// The RFC 1234 ports among these, with their sockets bound and their access lists.
 fn datagrams_of<R: Net>(
     rt: &R,
     alloc: Global,
@@ -279,7 +279,7 @@ fn datagrams_of<R: Net>(
     ensures access_lists { IfOk result (λ d. AccessListPorts (datagram_ports ports.now) d.device.access_lists.items) }
     ensures peers { IfOk result (λ d.
         peers_of d.peers.items ≡ site_peers (datagram_ports ports.now)) }
-    // Each has a socket, with the port of UDP of its peers.
+    // Each has a socket, with the UDP port of its peers.
     ensures sockets { IfOk result (λ d. map (λ p. p.udp_port) d.device.device.sockets.items
         ≡ udp_ports (datagram_ports ports.now)) }
 {
@@ -304,7 +304,7 @@ fn bound_ports<R: Net>(
     Ok(RouterPorts::new(datagrams, ethernet, servers, port_indices))
 }
 
-/// What waits for the sockets of ports.
+/// A poller for the sockets of these ports.
 fn ready_for<R: Net>(rt: &R, alloc: Global, ports: &UdpRouterPorts) -> Result<Poller, RouteFault>
     ensures { IfOk result (λ r. r.watched
         ≡ counted (length ports.now.datagrams.device.device.sockets.items
@@ -317,7 +317,7 @@ fn ready_for<R: Net>(rt: &R, alloc: Global, ports: &UdpRouterPorts) -> Result<Po
     Ok(ready)
 }
 
-/// A router of a file, with its sockets bound.
+/// Starts the router that a file describes, with its sockets bound.
 pub(crate) fn start<'a, R: Net + Log + SystemClock>(
     rt: &'a R,
     alloc: Global,
@@ -328,25 +328,26 @@ pub(crate) fn start<'a, R: Net + Log + SystemClock>(
     // The router has the ports of the file.
     ensures ports { IfOk result (λ s.
         s.core.core.core.core.router.ports ≡ router_ports site.ports.items) }
-    // It is to hear what the file says by hand, and has not yet.
+    // It is to hear the static entries of the file, and has not heard them yet.
     ensures statics { IfOk result (λ s. IsToHear site.statics.items s.core.core.core) }
     // It checks sources at these ports, and has dropped nothing yet.
     ensures checks { IfOk result (λ s. (s.core.ports ≡ router_ports site.ports.items)
         × (s.core.drops ≡ nothing_dropped_yet)) }
-    // At each of them so many may ask, and so many directed broadcasts leave by it, as its kind and
-    // its table say; and nobody has asked yet.
+    // The limits of general queries and directed broadcasts at each port follow from its kind and
+    // its table. No query has come yet.
     ensures queriers { IfOk result (λ s. (s.core.core.ports ≡ router_ports site.ports.items)
         × (s.core.core.buckets.queriers ≡ [])
         × (s.core.core.buckets.ports ≡ limits_of site.ports.items)) }
-    // Each of them has its socket: one of RFC 1234 its peers and its guard, one on a wire its hub, and
-    // one for clients of ipxnet its lobby.
+    // Each port has its socket. An RFC 1234 port has its peers and its access list, an Ethernet
+    // port its switch, and an ipxnet port its server.
     ensures bound { IfOk result (λ s. ArePortsBound site.ports.items s.ports) }
     ensures clock { IfOk result (λ s. s.clock.last ≡ 0) }
     ensures asked { IfOk result (λ s. s.asked ≡ 0) }
 {
     let clock = SteadyClock::new(rt)?;
     let core = core_of_file(alloc, &site)?;
-    // All lines are made before the first is told: where memory is refused, nothing else is.
+    // All lines are made before the first is logged, so that nothing is logged if out of memory
+    // here.
     let lines = ports_to_texts(alloc, &site.ports)?;
     let ports = bound_ports(rt, alloc, &site.ports)?;
     let ready = ready_for(rt, alloc, &ports)?;
@@ -362,7 +363,7 @@ pub(crate) fn start<'a, R: Net + Log + SystemClock>(
     Ok(RunningRouter::new(alloc, parts))
 }
 
-/// Tells why a router doesn't start or goes no further, and answers the status that goes with it.
+/// Reports why a router does not start or stops, and returns the exit status for it.
 pub(crate) fn tell_route_fault<R: Eprint>(rt: &R, path: &str, fault: RouteFault) -> u8
     ensures { result ≡ 1 }
 {
@@ -370,20 +371,21 @@ pub(crate) fn tell_route_fault<R: Eprint>(rt: &R, path: &str, fault: RouteFault)
     1
 }
 
-/// The command `route`: reads the file of a router, binds a socket for each port, tells each port,
-/// and routes until it is ended from outside.
+/// The command `route`: reads the file of a router, binds a socket for each port, logs a line for
+/// each port, and routes until the process is stopped.
 ///
-/// The result is its status if it ends by itself. 2: the file can't be read or has a fault; nothing
-/// was bound. 1: out of memory at the start, a socket can't be had, or the system can't wait or tell the
-/// time. One line on standard error says which. What the router did until a wait failed is what [`run_router`] says.
+/// Returns the exit status if it ends by itself. 2: the file cannot be read or has a fault; nothing
+/// was bound. 1: out of memory at the start, a socket cannot be bound, or the system cannot wait or
+/// tell the time. One line on standard error says which. [`run_router`] says what the router did
+/// until a wait failed.
 pub fn do_route<R: Net + Log + Files + SystemClock + Eprint>(
     rt: &R,
     alloc: Global,
     path: &str,
 ) -> u8
     ensures few { result ≤ 2 }
-    // It ends well only if it started, as some text of a file says, and went through 2^64 - 1
-    // rounds, each from where the last one left it.
+    // The status is 0 only if it started as some file text says, and ran 2^64 - 1 rounds, each from
+    // where the last one left it.
     ensures well { result ≡ 0 → RoutesWell R }
 {
     match start_router(rt, alloc, path) {

@@ -1,4 +1,4 @@
-//! A router with its sockets, and what is to be done besides its turns.
+//! A router with its sockets, and its work besides the turns of its run.
 
 ghost use Rattle.std.specs.Prelude.{◌≡◌, ◌↔◌, ℕ, Bool, List, IfOk, OnOk, Some, is_err, is_ok, length, map, string_bytes};
 ghost use Rattle.ipx_carrier.specs.ReadySet.{AreMarked, is_any_marked};
@@ -39,19 +39,19 @@ use log::Log;
 use std::alloc::{AllocError, Global};
 use std::rt::{Clock as SystemClock, Files};
 
-/// How often the figures are written, and one looks for what grew old, in milliseconds.
+/// How often the metrics are written, and expired entries are looked for, in milliseconds.
 const PERIOD: u64 = LONGEST;
 
-/// How soon one looks again where something was heard, in milliseconds.
+/// How soon it looks again after it heard a response, in milliseconds.
 const CHANGE_POLL: u64 = 1000;
 
-/// How long a router rests after a fault, and where a port goes on failing, in milliseconds.
+/// How long a router pauses after a fault, or while a port keeps failing, in milliseconds.
 const BACKOFF: u64 = 100;
 
-/// How many turns are taken before one looks what else there is to do, and at which ports something came.
+/// How many turns are taken before the other work, and before the ready ports are looked for again.
 const BATCH_TURNS: u32 = 32;
 
-/// A router that runs.
+/// A running router.
 pub struct RunningRouter<'a, R: SystemClock> {
     core: SourceChecked<RateLimiter<WithStatics<MeteredRouter>>>,
     ports: UdpRouterPorts,
@@ -64,14 +64,14 @@ pub struct RunningRouter<'a, R: SystemClock> {
     clients: ClientLog,
     warnings: Warnings,
     drops: DropLog,
-    /// How often it asked again.
+    /// How often it repeated its requests.
     asked: usize,
-    /// When one looked last what it knows, and how many responses it had heard by then.
+    /// When it last looked at what it knows, and how many responses it had heard by then.
     looked: Option<u64>,
     responses: u64,
-    /// When the figures were written last.
+    /// When the metrics were last written.
     written: Option<u64>,
-    // So a turn can always be begun.
+    // So a turn can always begin.
     ghost port_indices: { length ports.port_indices.items ≡ length core.core.core.core.router.ports },
 }
 
@@ -97,7 +97,7 @@ impl<'a, R: SystemClock> Drop for RunningRouter<'a, R> {
     }
 }
 
-/// The parts of a router that runs.
+/// The parts of a running router.
 #[derive(Drop)]
 pub struct Parts<'a, R: SystemClock> {
     pub core: SourceChecked<RateLimiter<WithStatics<MeteredRouter>>>,
@@ -109,7 +109,7 @@ pub struct Parts<'a, R: SystemClock> {
 }
 
 impl<'a, R: SystemClock> RunningRouter<'a, R> {
-    /// A router that begins to run. The caller owes a spot for each port.
+    /// A router that begins to run. There must be a port index for each of its ports.
     pub(crate) fn new(alloc: Global, parts: Parts<'a, R>) -> RunningRouter<'a, R>
         requires { length parts.ports.port_indices.items ≡ length parts.core.core.core.core.router.ports }
         ensures core { result.core ≡ parts.entry.core }
@@ -143,7 +143,7 @@ impl<'a, R: SystemClock> RunningRouter<'a, R> {
             .metrics(&self.core, &self.ports, &self.known, now)
     }
 
-    /// What its metrics file says.
+    /// The text of its metrics file.
     fn metrics_text(&self, alloc: Global, now: u64) -> Result<String, AllocError> {
         let core = self.core.core().core().core();
         let ethernet = ethernet_metrics(alloc, &self.ports)?;
@@ -161,7 +161,7 @@ impl<'a, R: SystemClock> RunningRouter<'a, R> {
         page.text(alloc)
     }
 
-    /// How long to wait for the next look: shortly, where a response was heard since.
+    /// How long to wait for the next look: shorter if a response was heard since the last one.
     fn look_period(&self) -> u64
         ensures { result ≡ look_after self.now.core.core.core.core.outcomes.heard self.now.responses }
     {
@@ -172,7 +172,7 @@ impl<'a, R: SystemClock> RunningRouter<'a, R> {
         }
     }
 
-    /// Asks the neighbours again, if it is time.
+    /// Repeats its requests to the neighbours, if it is time.
     fn ask(&mut self, now: u64)
         ensures core { AsksAgain now self.old.asked self.new.asked self.old.core self.new.core }
         ensures ports { self.new.ports ≡ self.old.ports }
@@ -189,7 +189,7 @@ impl<'a, R: SystemClock> RunningRouter<'a, R> {
         }
     }
 
-    /// Tells which clients came and are gone, and what is newly known and what is lost, where it is time.
+    /// Logs clients that connected or are gone, and what is newly known or lost, if it is time.
     fn look<L: Log>(&mut self, rt: &L, alloc: Global, now: u64)
         ensures core { self.new.core ≡ self.old.core }
         ensures ports { self.new.ports ≡ self.old.ports }
@@ -216,14 +216,14 @@ impl<'a, R: SystemClock> RunningRouter<'a, R> {
         }
     }
 
-    /// What it knows at a moment, as its file of tables says it.
+    /// The text of its table file at `now`: what it knows.
     fn tables_text(&self, alloc: Global, now: u64) -> Result<String, AllocError>
         ensures { IfOk result (λ t. TellsKnown self.now.core.core.core.core.router now (string_bytes t)) }
     {
         known_to_text(alloc, self.core.core().core().core().router(), now)
     }
 
-    /// Writes what it knows, if there is a file for that.
+    /// Writes its table file, if it has one.
     fn write_tables<F: Files>(&mut self, rt: &F, alloc: Global, now: u64)
         ensures core { self.new.core ≡ self.old.core }
         ensures ports { self.new.ports ≡ self.old.ports }
@@ -245,7 +245,7 @@ impl<'a, R: SystemClock> RunningRouter<'a, R> {
         }
     }
 
-    /// Writes the figures and what it knows, if it is time and there are files for them.
+    /// Writes the metrics file and the table file, if it is time and it has them.
     fn write_metrics<F: Files>(&mut self, rt: &F, alloc: Global, now: u64)
         ensures core { self.new.core ≡ self.old.core }
         ensures ports { self.new.ports ≡ self.old.ports }
@@ -272,17 +272,17 @@ impl<'a, R: SystemClock> RunningRouter<'a, R> {
         }
     }
 
-    /// Does what is to be done besides the turns.
+    /// Does the work besides the turns.
     fn keep<S: Log + Files>(&mut self, rt: &S, alloc: Global, now: u64)
         ensures core { AsksAgain now self.old.asked self.new.asked self.old.core self.new.core }
         ensures ports { self.new.ports ≡ self.old.ports }
         ensures clock { self.new.clock ≡ self.old.clock }
         ensures ready { self.new.ready ≡ self.old.ready }
-        // Each trouble that is due is told, and no other.
+        // Each warning that is due is logged, and no other.
         ensures told { AreToldIfDue (counts_told (happened self.new.totals self.new.core
             self.new.ports)) now
             self.old.warnings.causes self.new.warnings.causes }
-        // So is what it dropped.
+        // So are its drops.
         ensures drops { AreDropsTold self.new.core.core.core.core.outcomes self.new.core.drops now
             self.old.drops self.new.drops }
     {
@@ -300,7 +300,8 @@ impl<'a, R: SystemClock> RunningRouter<'a, R> {
             .tell(rt, &core.outcomes(), core.last(), source_drops, now);
     }
 
-    /// The moment at which it sends what waits: any, where something does.
+    /// The time at which it sends what waits in its queues: 0 if anything waits, and None
+    /// otherwise.
     fn sending_moment(&self) -> Option<u64>
         ensures { (t : ℕ) → IsReached result t ↔ IsToSend self.now.core.core.core.core.queues }
     {
@@ -311,8 +312,8 @@ impl<'a, R: SystemClock> RunningRouter<'a, R> {
         }
     }
 
-    /// How long there is nothing to do, unless something comes, in milliseconds. Lines of clients and
-    /// of what was dropped are told where it does something else, within ten seconds.
+    /// How long there is nothing to do unless something comes, in milliseconds. Lines about clients
+    /// and drops are logged when it does something else, within ten seconds.
     fn time_until_due(&self, now: u64) -> u64
         ensures { IsTimeUntilDue (IsDue (deadlines self.now.asked self.now.looked self.now.responses
             self.now.written self.now.core self.now.warnings
@@ -330,7 +331,8 @@ impl<'a, R: SystemClock> RunningRouter<'a, R> {
         time_to(sooner(self.sending_moment(), due), now)
     }
 
-    /// Does what is to be done now, and takes turns as long as there is something to hear or to send.
+    /// Does the work that is due, and takes turns as long as there is something to receive or to
+    /// send.
     fn round<S: Log + Files>(&mut self, rt: &S, alloc: Global) -> Batch
         ensures core { IsRound self.old.clock self.new.clock
             StopsThere NeverGoesBack (ways_in self.old.ports)
@@ -338,9 +340,9 @@ impl<'a, R: SystemClock> RunningRouter<'a, R> {
             self.old.asked self.new.asked self.old.core self.new.core
             self.new.ports.ethernet.moment result }
         ensures ready { self.new.ready ≡ self.old.ready }
-        // What comes and goes by lobbies does so at the same moment as on wires.
+        // Ipxnet servers send and receive at the same time as Ethernet ports.
         ensures moments { self.new.ports.servers.moment ≡ self.new.ports.ethernet.moment }
-        // By what packets are sent, and who may speak, stays.
+        // The ways packets are sent and the senders that are accepted are unchanged.
         ensures transmissions { ways_in self.new.ports ≡ ways_in self.old.ports }
         ensures peers { peers_of self.new.ports.datagrams.peers.items
             ≡ peers_of self.old.ports.datagrams.peers.items }
@@ -362,9 +364,9 @@ impl<'a, R: SystemClock> RunningRouter<'a, R> {
         batch
     }
 
-    /// How long it waits behind a burst, in milliseconds: for a while after a fault, not at all where
-    /// there may be more to do, and else as long as there is nothing to do. Where a port is marked then,
-    /// it goes on failing, and is asked again after a while.
+    /// How long it waits after a batch, in milliseconds. After a fault it pauses. It does not wait
+    /// if there may be more to do. Otherwise it waits as long as there is nothing to do. If a port
+    /// is still marked then, it keeps failing, and is tried again after a pause.
     fn rest(&mut self, batch: Batch) -> u64
         ensures rests { SleepsBehind (IsDue (deadlines self.old.asked self.old.looked self.old.responses
             self.old.written self.old.core self.old.warnings
@@ -395,11 +397,11 @@ impl<'a, R: SystemClock> RunningRouter<'a, R> {
         }
     }
 
-    /// Does what is to be done now, takes turns as long as there is something to hear or to send,
-    /// waits, and marks the ports at which something came.
+    /// Does the work that is due, takes turns as long as there is something to receive or to send,
+    /// waits, and marks the ports where something came.
     pub(crate) fn step<S: Log + Files>(&mut self, rt: &S, alloc: Global) -> Result<(), WaitFault>
-        // A round, which stops the clock before its turns, and behind it a wait, as long as there is nothing
-        // to do. Then the ports are marked at which something came.
+        // A round, which stops the clock before its turns, followed by a wait as long as there is
+        // nothing to do. Then the ports are marked at which something came.
         ensures core { (between : SteadyClock R) × (batch : Batch) × (marks : List Bool)
             × IsRound self.old.clock between StopsThere NeverGoesBack (ways_in self.old.ports)
             (kept_in_ports self.old.ports) (kept_in_ports self.new.ports)
@@ -412,7 +414,7 @@ impl<'a, R: SystemClock> RunningRouter<'a, R> {
             between self.new.clock StopsThere
             self.new.ready.asked batch.fault batch.quiet
             × OnOk result (AreMarked (numbers_come self.new.ready) marks (marks_in self.new.ports)) }
-        // It ends just where the wait did.
+        // It fails exactly if the wait did.
         ensures fault { is_err result ≡ self.new.ready.failed }
         ensures moments { self.new.ports.servers.moment ≡ self.new.ports.ethernet.moment }
         ensures transmissions { ways_in self.new.ports ≡ ways_in self.old.ports }

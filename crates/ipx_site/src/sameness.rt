@@ -1,4 +1,5 @@
-//! Whether two IP addresses, or two nodes, are the same: in line, where `==` is a call with a loop.
+//! Whether two IP addresses, or two nodes, are the same. These are inlined; `==` is a call with a
+//! loop.
 
 ghost use Rattle.std.specs.Prelude.{◌≡◌, nat_eq};
 ghost use Rattle.std.specs.Cmp.Lexicographic.{pointwise};

@@ -1,4 +1,4 @@
-//! What the file of a router says.
+//! The configuration of a router.
 
 ghost use Rattle.std.specs.Prelude.{◌≡◌};
 ghost use Rattle.ipx_site.specs.PortKinds.{directed_of_kind, kind_of_port, network_of_kind, place_of_kind};
@@ -12,27 +12,27 @@ use ipx_ethernet_ports::Place;
 use ipx_router::Port;
 use ipx_wire::{Network, Node};
 
-/// What a port of a router is.
+/// The kind of a router's port.
 #[derive(Clone, Copy, Debug, PartialEq, Eq)]
 pub enum Kind {
-    /// IPX in datagrams of UDP.
+    /// IPX in UDP datagrams, by RFC 1234.
     Rfc1234,
-    /// A wire: an Ethernet frame in each datagram.
+    /// An Ethernet port: an Ethernet frame in each datagram.
     Frames,
     /// A port for clients of DOSBox's ipxnet.
     Ipxnet,
 }
 
-/// Who is heard at a port.
+/// Which senders are accepted at a port.
 #[derive(Clone, Copy, Debug, PartialEq, Eq)]
 pub enum Accept {
-    /// The peers of the port alone.
+    /// Only the peers of the port.
     Peers,
     /// Everybody.
     Any,
 }
 
-/// How many directed broadcasts from other networks leave by a port.
+/// How many directed broadcasts from other networks may leave by a port.
 #[derive(Clone, Copy, Debug, PartialEq, Eq)]
 pub enum Directed {
     Never,
@@ -41,49 +41,49 @@ pub enum Directed {
     Always,
 }
 
-/// A port of RFC 1234 of a router, as its file has it.
+/// The configuration of an RFC 1234 port.
 #[derive(Drop)]
 pub struct Rfc1234PortConfig {
     /// The network that it is on.
     pub network: Network,
     /// The local IP address.
     pub address: [u8; 4],
-    /// The port of UDP there.
+    /// The UDP port there.
     pub udp_port: u16,
-    /// What it costs to send there, in ticks.
+    /// The cost of sending there, in ticks.
     pub cost: u16,
     /// The IP addresses of the other nodes of the network.
     pub peers: Vec<[u8; 4]>,
-    /// Those of them that may pass on what others sent, and tell. None stands for each that is
-    /// heard.
+    /// The peers that are routers: they may forward packets of others and advertise. None means all
+    /// senders that are accepted.
     pub routers: Option<Vec<[u8; 4]>>,
     pub accept: Accept,
     pub directed: Directed,
 }
 
-/// A port of a router on a wire, as its file has it.
+/// The configuration of an Ethernet port.
 #[derive(Drop)]
 pub struct EthernetPortConfig {
     /// The network that it is on.
     pub network: Network,
-    /// How a packet stands in a frame there.
+    /// The encapsulation of packets in its frames.
     pub encapsulation: Encapsulation,
     /// The local IP address.
     pub address: [u8; 4],
-    /// The port of UDP there, where frames come in.
+    /// The UDP port there, where frames arrive.
     pub udp_port: u16,
-    /// What it costs to send there, in ticks.
+    /// The cost of sending there, in ticks.
     pub cost: u16,
-    /// Where the ends of its wire are, 1 to 256.
+    /// The places of its remotes, 1 to 256.
     pub ends: Vec<Place>,
-    /// Its own address on the wire.
+    /// Its own node.
     pub node: Node,
-    /// Whether it is the hub of its ends.
+    /// Whether it switches frames between its remotes.
     pub joined: bool,
     pub directed: Directed,
 }
 
-/// A port of a router, by its kind.
+/// The configuration of a port, by its kind.
 #[derive(Drop)]
 pub enum PortConfig {
     Rfc1234(Rfc1234PortConfig),
@@ -91,7 +91,7 @@ pub enum PortConfig {
     Ipxnet(IpxnetPortConfig),
 }
 
-/// The router's port of a port of RFC 1234.
+/// The router's port for an RFC 1234 port.
 fn router_port(port: &Rfc1234PortConfig) -> Port
     ensures { result ≡ router_port_of port.now }
 {
@@ -102,7 +102,7 @@ fn router_port(port: &Rfc1234PortConfig) -> Port
     }
 }
 
-/// A port of a router with a node of its own.
+/// A router's port with this node.
 fn port_at(network: Network, node: Node, cost: u16) -> Port
     ensures { result ≡ record { network = network; node = node; cost = cost } }
 {
@@ -137,7 +137,7 @@ impl PortConfig {
         Place { ip, udp_port }
     }
 
-    /// The router's port of it.
+    /// The router's port for it.
     pub fn router_port(&self) -> Port
         ensures { result ≡ router_port_of_kind self.now }
     {
@@ -158,7 +158,7 @@ impl PortConfig {
         }
     }
 
-    /// Which directed broadcasts leave by it.
+    /// Which directed broadcasts may leave by it.
     pub fn directed(&self) -> Directed
         ensures { result ≡ directed_of_kind self.now }
     {
@@ -170,15 +170,15 @@ impl PortConfig {
     }
 }
 
-/// The file of a router.
+/// The configuration of a router.
 #[derive(Drop)]
 pub struct RouterConfig {
-    /// Where its figures are written, if anywhere.
+    /// The path of the metrics file, if any.
     pub status: Option<String>,
-    /// Where what it knows is written, if anywhere.
+    /// The path of the table file, if any.
     pub tables: Option<String>,
     /// Its ports, 1 to 16. The first is port 1.
     pub ports: Vec<PortConfig>,
-    /// What it is to hear by hand: at most 256 routes, and behind them at most 256 services.
+    /// The static entries: at most 256 routes, followed by at most 256 services.
     pub statics: Vec<StaticEntry>,
 }

@@ -1,4 +1,4 @@
-//! Sockets of UDP, one for each port of RFC 1234 of a site.
+//! UDP sockets, one for each RFC 1234 port of a site.
 
 ghost use Rattle.std.specs.Prelude.{◌≡◌, ◌⊎◌, ◌<◌, ◌≤◌, ◌↔◌, ◌∷◌, [], IfOk, IfSome, IsSome, None, Ok, OnErr, Some, false, is_some, length, map, replicate, slice_get, slice_set, true};
 ghost use Rattle.ipx_carrier.specs.Counting.{raised};
@@ -20,7 +20,7 @@ use std::io::ErrorKind;
 use std::net::{Net, SocketAddr, UdpSocket};
 use std::os::fd::{AsRawFd, RawFd};
 
-/// The socket of a port, the port of UDP of its peers, and how many bytes it holds.
+/// The socket of a port, the UDP port of its peers, and the size of its receive buffer in bytes.
 #[derive(Drop)]
 struct PortSocket {
     socket: UdpSocket,
@@ -28,14 +28,15 @@ struct PortSocket {
     room: u32,
 }
 
-/// A device that has a socket of UDP for each port of a site.
+/// A device that has a UDP socket for each port of a site.
 ///
-/// It tells who sent what it received last: which datagrams come and which arrive is the network's.
-/// A datagram that the system doesn't take is lost as one is on the way, and counted, so that a
-/// peer that can't be reached keeps nothing from the others; it never fails.
+/// It tells who sent the last datagram that it received. Which datagrams arrive depends on the
+/// network. A datagram that the system refuses is lost like one on the way, and counted. An
+/// unreachable peer therefore does not affect the others, and the device never fails.
 ///
-/// It has a mark for each port, at which something may wait, and asks the system at those alone. All
-/// are set at the start. Whoever waits for the sockets marks those at which something came, or all.
+/// It has a mark for each port where a datagram may wait, and reads from those ports alone. All
+/// marks are set at the start. Whoever waits for the sockets marks the ports where something came,
+/// or all.
 #[derive(Drop)]
 pub struct UdpSockets {
     sockets: Vec<PortSocket>,
@@ -45,10 +46,10 @@ pub struct UdpSockets {
     sender: Option<[u8; 4]>,
 }
 
-/// How often a port is asked again for a datagram where the system fails.
+/// How often a port is read again if the system fails.
 const TRIES: u32 = 8;
 
-/// The IP address of a place, where it is one of IPv4.
+/// The IP address of a socket address, if it is IPv4.
 fn ip_of(place: SocketAddr) -> Option<[u8; 4]>
     ensures { result ≡ ipv4_of_place place }
 {
@@ -58,8 +59,8 @@ fn ip_of(place: SocketAddr) -> Option<[u8; 4]>
     }
 }
 
-/// The socket of a port. 0.0.0.0, which is every address of a machine, is none that its peers could
-/// name.
+/// The socket of a port. 0.0.0.0 stands for every address of a machine, so peers could not name it,
+/// and it is refused.
 fn port_socket<R: Net>(rt: &R, ip: [u8; 4], udp_port: u16) -> io::Result<PortSocket>
     ensures { IfOk result (λ s. s.udp_port ≡ udp_port) }
 {
@@ -75,7 +76,7 @@ fn port_socket<R: Net>(rt: &R, ip: [u8; 4], udp_port: u16) -> io::Result<PortSoc
     })
 }
 
-/// The socket of the port with this number, or why it can't be had.
+/// The socket of the port with this number, or why it could not be bound.
 fn bound_port<R: Net>(
     rt: &R,
     number: usize,
@@ -90,7 +91,7 @@ fn bound_port<R: Net>(
     }
 }
 
-/// A device with these sockets, each of which is marked.
+/// A device with these sockets, all marked.
 fn device_of(alloc: Global, sockets: Vec<PortSocket>) -> Result<UdpSockets, AllocError>
     ensures ports { IfOk result (λ d. d.sockets.items ≡ sockets.items) }
     ensures marks { IfOk result (λ d. d.marks ≡ replicate (length sockets.items) true) }
@@ -106,7 +107,7 @@ fn device_of(alloc: Global, sockets: Vec<PortSocket>) -> Result<UdpSockets, Allo
     })
 }
 
-/// The same, or that memory was refused.
+/// The same, or the error that memory ran out.
 fn bound_device(alloc: Global, sockets: Vec<PortSocket>) -> Result<UdpSockets, BindFault>
     ensures ports { IfOk result (λ d. d.sockets.items ≡ sockets.items) }
     ensures marks { IfOk result (λ d. d.marks ≡ replicate (length sockets.items) true) }
@@ -118,8 +119,8 @@ fn bound_device(alloc: Global, sockets: Vec<PortSocket>) -> Result<UdpSockets, B
 }
 
 impl UdpSockets {
-    /// A device with those of these ports that are of RFC 1234, in their order. At the first socket
-    /// that can't be had it answers that port, and nothing stays bound.
+    /// A device with the RFC 1234 ports among these, in their order. It stops at the first socket
+    /// that cannot be bound and returns its port; then no socket stays bound.
     pub fn bind<R: Net>(
         rt: &R,
         alloc: Global,
@@ -158,21 +159,21 @@ impl UdpSockets {
         }
     }
 
-    /// How many datagrams the system took to be sent. It stays at the greatest u64.
+    /// How many datagrams the system took to be sent. Saturates at the greatest u64.
     pub fn sent(&self) -> u64
         ensures { result ≡ self.now.sent }
     {
         self.sent
     }
 
-    /// How often the system refused to send or to receive a datagram. It stays at the greatest u64.
+    /// How often the system refused to send or receive a datagram. Saturates at the greatest u64.
     pub fn faults(&self) -> u64
         ensures { result ≡ self.now.faults }
     {
         self.faults
     }
 
-    /// The descriptor of the socket of a port, to wait for it. The first port is 0.
+    /// The descriptor of a port's socket, to wait for it. Ports count from 0.
     pub fn descriptor(&self, port: usize) -> Option<RawFd>
         ensures { IsSome result ↔ port < length self.now.sockets.items }
     {
@@ -180,8 +181,8 @@ impl UdpSockets {
         Some(port.socket.as_raw_fd())
     }
 
-    /// How many bytes the socket of a port holds of what waits to be read, as the system said when it
-    /// was bound; 0 where it did not say. The first port is 0.
+    /// The size of the receive buffer of a port's socket in bytes, as the system said when it was
+    /// bound; 0 if it did not say. Ports count from 0.
     pub fn room(&self, port: usize) -> Option<u32>
         ensures there { IsSome result ↔ port < length self.now.sockets.items }
         ensures room { IfSome (slice_get self.now.sockets.items port) (λ s. result ≡ Some s.room) }
@@ -197,15 +198,15 @@ impl UdpSockets {
         &self.marks
     }
 
-    /// Something came to a port, as the system said: what waits there is received. Where it has no
-    /// port of that number nothing happens.
+    /// Marks a port where something came, so that what waits there is received. If there is no such
+    /// port, nothing happens.
     pub fn mark(&mut self, port: usize)
         ensures { self.new ≡ record self.old { marks = slice_set self.old.marks port true } }
     {
         self.marks.mark(port);
     }
 
-    /// Something may have come to any port.
+    /// Marks all ports: something may have come to any of them.
     pub fn mark_all(&mut self)
         ensures { self.new ≡ record self.old {
           marks = replicate (length self.old.marks) true;
@@ -232,12 +233,12 @@ impl Datagrams for UdpSockets {
 
     ghost traffic = { λ d. None };
 
-    // What waits is the system's.
+    // The system holds what waits.
     ghost waiting = { λ d. None };
 
     ghost fails = { λ d failed e. Unit {0} };
 
-    // Whoever reaches them is heard.
+    // All senders are accepted.
     ghost access = { λ d. [] };
 
     ghost filtered = { λ d. 0 };
@@ -270,15 +271,15 @@ impl Datagrams for UdpSockets {
 
     fn receive(&mut self, port: usize, room: &mut [u8]) -> Result<Option<usize>, DeviceFault>
         requires there { port < length self.old.sockets.items }
-        // A port without a mark is not asked, and nothing changes.
+        // A port without a mark is not read, and nothing changes.
         ensures unmarked { is_port_marked self.old.marks port ≡ false
             → (result ≡ Ok None) × (self.new ≡ self.old) × (room.new ≡ room.old) }
-        // One with a mark is asked until something comes or nothing waits, eight times at most: the
-        // mark goes just where nothing waits.
+        // A marked port is read until something comes or nothing waits, at most eight times. The
+        // mark is cleared only if nothing waits.
         ensures marked { is_port_marked self.old.marks port ≡ true → IfOk result (λ count.
             AsksMarked port (is_some count) self.old.marks self.new.marks
             self.old.faults self.new.faults) }
-        // Nothing but that, who sent the last, and how often the system refused.
+        // Only the marks, the last sender and the count of refusals change.
         ensures sockets { self.new.sockets ≡ self.old.sockets }
         ensures sent { self.new.sent ≡ self.old.sent }
         ensures sender { result ≡ Ok None → self.new.sender ≡ self.old.sender }

@@ -1,4 +1,5 @@
-//! Whether a packet names the node that sent it, passed a router, or tells of routes and services.
+//! Whether a packet names the node that sent it, passed a router, or advertises routes and
+//! services.
 
 ghost use Rattle.std.specs.Prelude.{◌≡◌};
 ghost use Rattle.ipx_wire.specs.Ipx.{packet_view};
@@ -14,9 +15,9 @@ const RESPONSE: u16 = 2;
 
 const NEAREST_RESPONSE: u16 = 4;
 
-/// Whether a packet comes straight from its source, at a port of that network. A router that passes
-/// one on writes the source network that was left out, adds to the hops, and passes none on to the
-/// network that it came from.
+/// Whether a packet comes straight from its source, at a port of that network. A router that
+/// forwards a packet fills in a source network that was left out, and adds a hop. It does not
+/// forward a packet to the network that it came from.
 pub fn is_unrouted(network: Network, header: &IpxHeader) -> bool
     ensures { result ≡ is_unrouted network header.now }
 {
@@ -26,7 +27,7 @@ pub fn is_unrouted(network: Network, header: &IpxHeader) -> bool
         || (from == network && (to == Network::LOCAL || to == network || header.hops == 0))
 }
 
-/// Whether a node is that of an IP address, where there is one.
+/// Whether a node is that of the IP address, if there is one.
 fn is_node_of(node: Node, ip: Option<[u8; 4]>) -> bool
     ensures { result ≡ is_node_of node ip }
 {
@@ -36,15 +37,15 @@ fn is_node_of(node: Node, ip: Option<[u8; 4]>) -> bool
     }
 }
 
-/// Whether a network is that of a port, or left out.
+/// Whether `named` is the network of a port, or left out.
 fn is_local_to(network: Network, named: Network) -> bool
     ensures { result ≡ is_local_to network named }
 {
     named == Network::LOCAL || named == network
 }
 
-/// Whether a packet is RIP or SAP from the network of a port to that network, and a router forwarded
-/// it. No router forwards those, unless somebody forged the source.
+/// Whether a packet is RIP or SAP from the network of a port to that network, and a router
+/// forwarded it. A router does so only if the source is forged.
 fn is_forwarded_within(network: Network, header: &IpxHeader) -> bool
     ensures { result ≡ is_forwarded_within network header.now }
 {
@@ -55,8 +56,9 @@ fn is_forwarded_within(network: Network, header: &IpxHeader) -> bool
     header.hops > 0 && is_control && is_within
 }
 
-/// Whether a packet that came from there speaks for its sender, or is one of those that a router
-/// passed on. Nobody is every node, and RIP and SAP of the network at hand are never passed on.
+/// Whether a packet from this IP address names its sender as its source, or may be one that a
+/// router forwarded. The broadcast node is never a source, and RIP and SAP of the local network are
+/// never forwarded.
 pub fn source_matches_sender(network: Network, from: Option<[u8; 4]>, header: &IpxHeader) -> bool
     ensures { result ≡ source_matches_sender network from header.now }
 {
@@ -67,7 +69,7 @@ pub fn source_matches_sender(network: Network, from: Option<[u8; 4]>, header: &I
         && (!is_unrouted(network, header) || is_node_of(node, from))
 }
 
-/// Whether a packet is a response, by which routes or services are told.
+/// Whether a packet is a response that advertises routes or services.
 pub fn is_response(packet: &Packet<'_>) -> bool
     ensures { result ≡ is_response (packet_view packet.now) }
 {

@@ -1,4 +1,4 @@
-//! A device that hears its peers alone, and sends to them alone.
+//! A device that receives from its peers only, and sends to them only.
 
 ghost use Rattle.std.specs.Prelude.{◌≡◌, ◌<◌, ◌≤◌, ◌+◌, ◌^◌, [], ◌∷◌, ℕ, true, false, Ok, Option, Some, OnErr, OnOk, IfOk, IfSome, is_err, length, map, replicate, slice_get, if◌then◌else◌};
 ghost use Rattle.ipx_wire.specs.Ipx.{packet_view};
@@ -18,52 +18,53 @@ use crate::source_check::{is_response, is_unrouted, source_matches_sender};
 use ipx_carrier::{CountsFiltered, Datagrams, DeviceFault, saturating_increment};
 use ipx_wire::{Network, Packet, decode};
 
-/// The ports at which it is counted what is kept back: as many as a router has at most.
+/// The ports whose drops are counted by port: as many as a router has at most.
 const COUNTED: usize = 16;
 
-/// Whom a port sends to, who is heard there, and what each may say: lists of IP addresses, of which
-/// None stands for everybody.
+/// The IP addresses that a port sends to, those it accepts, and those of routers. In each list,
+/// None means everybody.
 #[derive(Drop)]
 pub struct AccessList {
     /// The network of the port.
     pub network: Network,
-    /// Whom it sends to.
+    /// The IP addresses that it sends to.
     pub sends: Option<Vec<[u8; 4]>>,
-    /// Who is heard.
+    /// The IP addresses that it accepts.
     pub hears: Option<Vec<[u8; 4]>>,
-    /// Who of them is a router, and so may pass on what others sent, and tell routes and services.
+    /// Those of routers, which may forward packets of others, and advertise routes and services.
     pub routers: Option<Vec<[u8; 4]>>,
 }
 
-/// What a guard says of a datagram that came.
+/// The verdict of an access list on a datagram that came.
 #[derive(Clone, Copy, Debug, PartialEq, Eq)]
 pub enum Verdict {
     Heard,
-    /// It came from nobody who is heard.
+    /// Its sender is not accepted.
     UnknownSender,
-    /// It speaks for another node than the one that sent it.
+    /// Its source is another node than the one that sent it.
     SpoofedSource,
-    /// It was passed on, or tells of routes or services, and none of the routers sent it.
+    /// It was forwarded, or advertises routes or services, and its sender is not one of the
+    /// routers.
     NotARouter,
 }
 
-/// The datagrams that were kept back for one cause: how many, and who sent the last of them.
+/// The datagrams dropped for one reason: how many, and who sent the last of them.
 #[derive(Clone, Copy, Debug, PartialEq, Eq)]
 pub struct DropCount {
-    /// It stays at the greatest u64.
+    /// Saturates at the greatest u64.
     pub count: u64,
-    /// None where there was none yet, or where it came from no address of four bytes.
+    /// None if nothing was dropped yet, or if the last came from no IPv4 address.
     pub last: Option<[u8; 4]>,
 }
 
-/// The datagrams that were kept back, by their causes.
+/// The datagrams that were dropped on arrival, by reason.
 #[derive(Clone, Copy, Debug, PartialEq, Eq)]
 pub struct FilterDrops {
-    /// Those that came from nobody who is heard.
+    /// Those from senders that are not accepted.
     pub unknown_senders: DropCount,
-    /// Those that spoke for another node than the one that sent them.
+    /// Those whose source is another node than the one that sent them.
     pub spoofed: DropCount,
-    /// Those that were passed on, or told, by one that is no router.
+    /// Those that were forwarded, or advertise, but were not sent by a router.
     pub not_a_router: DropCount,
 }
 
@@ -87,7 +88,7 @@ impl DropCount {
 }
 
 impl FilterDrops {
-    /// How many there were for all causes.
+    /// How many were dropped for all reasons.
     pub fn total(&self) -> u128
         ensures total { result ≡ kept_in self.now }
         ensures few { result < 2 ^ 66 }
@@ -99,14 +100,14 @@ impl FilterDrops {
     }
 }
 
-/// Whether an IP address is one of these.
+/// Whether an IP address is one of the peers.
 fn is_peer(peers: &[[u8; 4]], ip: [u8; 4]) -> bool
     ensures { result ≡ is_peer peers.now ip }
 {
     peers.iter().any(|peer| is_same_ip(*peer, ip))
 }
 
-/// Whether an IP address is among those that are named, where some are.
+/// Whether an IP address is in the list. Without a list, every address is.
 fn is_listed(ips: &Option<Vec<[u8; 4]>>, ip: Option<[u8; 4]>) -> bool
     ensures { result ≡ is_listed ips.now ip }
 {
@@ -117,7 +118,7 @@ fn is_listed(ips: &Option<Vec<[u8; 4]>>, ip: Option<[u8; 4]>) -> bool
     }
 }
 
-/// Whether it is a sender's to send a packet: a router passes on and tells, others do neither.
+/// Whether a sender may send this packet: only a router forwards and advertises.
 fn may_originate(access_list: &AccessList, from: Option<[u8; 4]>, packet: &Packet<'_>) -> bool
     ensures { result ≡ may_originate access_list.now.network access_list.now.routers from (packet_view packet.now) }
 {
@@ -125,7 +126,7 @@ fn may_originate(access_list: &AccessList, from: Option<[u8; 4]>, packet: &Packe
         || (is_unrouted(access_list.network, &packet.header) && !is_response(packet))
 }
 
-/// What a guard says of these bytes, which came from there.
+/// The verdict of an access list on these bytes from this IP address.
 fn verdict_on(access_list: &AccessList, from: Option<[u8; 4]>, bytes: &[u8]) -> Verdict
     ensures { IsVerdictOn (Some access_list.now) from bytes.now result }
 {
@@ -145,9 +146,9 @@ fn verdict_on(access_list: &AccessList, from: Option<[u8; 4]>, bytes: &[u8]) -> 
     }
 }
 
-/// A device over another one, which asks the guard of a port of all that comes and goes there. It
-/// counts what it keeps back, at the first 16 ports by port too. A port without a guard hears and
-/// sends nothing.
+/// A device over another one. It asks the access list of a port about all that is received and sent
+/// there, and counts what it drops. For the first 16 ports it also counts by port. A port without
+/// an access list receives and sends nothing.
 pub struct SourceFilter<D: Senders + Drop> {
     pub(crate) device: D,
     access_lists: Vec<AccessList>,
@@ -169,7 +170,7 @@ impl<D: Senders + Drop> Drop for SourceFilter<D> {
 }
 
 impl<D: Senders + Drop> SourceFilter<D> {
-    /// A device over this one, with the guards of its ports in their order.
+    /// A device over this one, with the access lists of its ports in their order.
     pub fn new(device: D, access_lists: Vec<AccessList>) -> SourceFilter<D>
         ensures device { result.device ≡ device }
         ensures access_lists { result.access_lists.items ≡ access_lists.items }
@@ -189,35 +190,35 @@ impl<D: Senders + Drop> SourceFilter<D> {
         }
     }
 
-    /// The device below, to be asked between two runs.
+    /// The device below, for inspection between two runs.
     pub fn device(&self) -> &D
         ensures { result.now ≡ self.now.device }
     {
         &self.device
     }
 
-    /// The datagrams that came and were not heard.
+    /// The datagrams that were dropped on arrival.
     pub fn kept(&self) -> FilterDrops
         ensures { result ≡ self.now.kept }
     {
         self.kept
     }
 
-    /// The datagrams that were not sent, since their port does not send there.
+    /// The datagrams that were not sent, because their port does not send there.
     pub fn refused(&self) -> u64
         ensures { result ≡ self.now.refused }
     {
         self.refused
     }
 
-    /// Strangers and what was not sent, by port: of the first 16 ports.
+    /// The datagrams from unknown senders, and those not sent, for each of the first 16 ports.
     pub fn port_counters(&self) -> &[PortFilterDrops]
         ensures { result.now ≡ self.now.port_counters }
     {
         &self.port_counters
     }
 
-    /// What is said of these bytes, which came to a port last.
+    /// The verdict on these bytes, which came to a port last.
     fn word(&self, port: usize, bytes: &[u8]) -> Verdict
         ensures { IsVerdictOn (slice_get self.now.access_lists.items port)
             (D.last_sender self.now.device) bytes.now result }
@@ -228,7 +229,7 @@ impl<D: Senders + Drop> SourceFilter<D> {
         }
     }
 
-    /// Whether a datagram may go there by a port.
+    /// Whether a datagram may be sent there by a port.
     fn may_go(&self, port: usize, to: [u8; 4]) -> bool
         ensures { result ≡ may_go (slice_get self.now.access_lists.items port) to }
     {
@@ -240,7 +241,7 @@ impl<D: Senders + Drop> SourceFilter<D> {
 }
 
 impl SourceFilter<UdpSockets> {
-    /// Something may have come to any port, as `UdpSockets::mark_all` says.
+    /// Marks all ports, as `UdpSockets::mark_all` does.
     pub fn mark_all(&mut self)
         ensures { self.new ≡ record self.old {
           device = record self.old.device {
@@ -259,16 +260,17 @@ impl<D: Senders + Drop> Datagrams for SourceFilter<D> {
 
     ghost failed = { λ p. D.failed p.device };
 
-    // What it lets down is told by the device below.
+    // The device below records what passes it.
     ghost traffic = { λ p. None };
 
-    // What is kept back leaves its port below and isn't handed up, so it can't tell what will be.
+    // A dropped datagram leaves its port below and is not delivered, so this cannot tell what will
+    // be.
     ghost waiting = { λ p. None };
 
-    // What may not go is no call of the device below.
+    // A datagram that is not sent is no call of the device below.
     ghost fails = { λ p failed q. Unit {0} };
 
-    // Its guards say who may speak, and those who may not are strangers.
+    // Its access lists say which senders are accepted; others are unknown senders.
     ghost access = { λ p. map access_by p.access_lists.items };
 
     ghost filtered = { λ p. kept_in p.kept };
@@ -284,7 +286,7 @@ impl<D: Senders + Drop> Datagrams for SourceFilter<D> {
     fn send(&mut self, port: usize, to: [u8; 4], bytes: &[u8]) -> Result<(), DeviceFault>
         requires there { port < D.port_count self.old.device }
         requires countable { D.failed self.old.device + 1 < 2 ^ 64 }
-        // What may go there is sent by the device below, as it says.
+        // A datagram that may be sent there is sent by the device below, as that says.
         ensures sent { may_go (slice_get self.old.access_lists.items port) to ≡ true → OnOk result
             (Passes (D.traffic self.old.device) (D.traffic self.new.device)
             [] (record { port = port; to = to; bytes = bytes.now } ∷ [])) }
@@ -292,11 +294,11 @@ impl<D: Senders + Drop> Datagrams for SourceFilter<D> {
             (D.traffic self.new.device ≡ D.traffic self.old.device) }
         ensures counted { may_go (slice_get self.old.access_lists.items port) to ≡ true
             → self.new.refused ≡ self.old.refused }
-        // What may not is counted, and the device below is as it was.
+        // One that may not is counted, and the device below is unchanged.
         ensures refused { may_go (slice_get self.old.access_lists.items port) to ≡ false →
             (result ≡ Ok tt) × (self.new.device ≡ self.old.device)
             × (self.new.refused ≡ raised self.old.refused) }
-        // At its port too.
+        // It is counted at its port too.
         ensures port_counters { self.new.port_counters ≡ (if may_go (slice_get self.old.access_lists.items port) to
             then self.old.port_counters else kept_changed_at self.old.port_counters port one_refused) }
         ensures kept { self.new.kept ≡ self.old.kept }
@@ -319,7 +321,8 @@ impl<D: Senders + Drop> Datagrams for SourceFilter<D> {
     fn receive(&mut self, port: usize, room: &mut [u8]) -> Result<Option<usize>, DeviceFault>
         requires there { port < D.port_count self.old.device }
         requires countable { D.failed self.old.device + 1 < 2 ^ 64 }
-        // Something or nothing came to the device below, and is handed up where it is heard.
+        // The device below received something or nothing. It is delivered if the access list
+        // accepts it.
         ensures received { IfOk result (λ up. (came : Option ℕ)
             × Passes (D.traffic self.old.device) (D.traffic self.new.device)
             (record { port = port; bytes = received_in room.new came } ∷ []) []
@@ -332,7 +335,7 @@ impl<D: Senders + Drop> Datagrams for SourceFilter<D> {
             × (D.waiting self.new.device ≡ D.waiting self.old.device)
             × (self.new.kept ≡ self.old.kept)) }
         ensures fails { D.fails self.old.device (is_err result) self.new.device }
-        // A stranger is counted at its port too.
+        // A datagram from an unknown sender is counted at its port too.
         ensures port_counters { CountsUnknownSenderAt port self.old.kept.unknown_senders.count
             self.new.kept.unknown_senders.count self.old.port_counters self.new.port_counters }
         ensures filtered { kept_in self.old.kept ≤ kept_in self.new.kept }

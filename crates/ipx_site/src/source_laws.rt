@@ -1,9 +1,10 @@
-//! Whose the RIP and SAP is that a router hears by a port of RFC 1234: a law. It does nothing.
+//! A law on the source of the RIP and SAP that pass the access list of an RFC 1234 port. It does
+//! nothing.
 
 ghost use Rattle.ipx_site.specs.ControlSenders.{ControlIsOfItsSender};
 
-/// RIP and SAP for the router that the guard of a port lets through names the node of the IP address
-/// that its datagram came from, and no router forwarded it.
+/// If the access list of a port accepts RIP or SAP for the router, no router forwarded it. Its
+/// source node is that of the IP address that sent the datagram.
 pub fn control_is_of_its_sender()
     ensures { ControlIsOfItsSender }
 {}

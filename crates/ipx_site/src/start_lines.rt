@@ -1,4 +1,4 @@
-//! What a router says of a port as it starts.
+//! What a router logs of a port when it starts.
 
 ghost use Rattle.std.specs.Prelude.{◌≡◌, IfOk, map, string_bytes};
 ghost use Rattle.std.specs.List.{flat_map};
@@ -12,7 +12,7 @@ use ipx_ethernet_ports::Place;
 use ipx_wire::{Network, Node};
 use std::alloc::{AllocError, Global};
 
-/// An IP address with dots between its four numbers.
+/// An IP address in dotted-decimal form.
 pub fn dotted(alloc: Global, ip: [u8; 4]) -> Result<String, AllocError>
     ensures { IfOk result (λ t. string_bytes t ≡ dotted_text ip) }
 {
@@ -28,7 +28,7 @@ fn place_to_text(alloc: Global, network: Network, node: Node) -> Result<String, 
     format!(in alloc; "network {network} node {node}")
 }
 
-/// Where an IP address is reached by UDP: it, a colon and the port.
+/// An IP address, a colon and a UDP port.
 pub fn reached_to_text(alloc: Global, ip: [u8; 4], udp_port: u16) -> Result<String, AllocError>
     ensures { IfOk result (λ t. string_bytes t ≡ reached_text ip udp_port) }
 {
@@ -36,7 +36,7 @@ pub fn reached_to_text(alloc: Global, ip: [u8; 4], udp_port: u16) -> Result<Stri
     format!(in alloc; "{ip}:{udp_port}")
 }
 
-/// Who is heard at a port beside its peers.
+/// The words that say whether a port accepts others besides its peers.
 pub fn others(accept: Accept) -> &'static str
     ensures { result.now ≡ others_text accept }
 {
@@ -46,7 +46,7 @@ pub fn others(accept: Accept) -> &'static str
     }
 }
 
-/// Which directed broadcasts leave by a port, where they are not few.
+/// The words that say which directed broadcasts leave by a port; empty if few do.
 fn directed(directed: Directed) -> &'static str
     ensures { result.now ≡ directed_text directed }
 {
@@ -57,7 +57,7 @@ fn directed(directed: Directed) -> &'static str
     }
 }
 
-/// Those of its peers that are routers, where the file says.
+/// The words that count the routers among its peers; empty if the file names none.
 fn routers_to_text(alloc: Global, port: &Rfc1234PortConfig) -> Result<String, AllocError>
     ensures { IfOk result (λ t. string_bytes t ≡ routers_text port.now.routers) }
 {
@@ -81,7 +81,7 @@ fn dealings_to_text(alloc: Global, port: &Rfc1234PortConfig) -> Result<String, A
     format!(in alloc; "cost {cost} peers {peers}{routers}{others}{directed}")
 }
 
-/// A port of RFC 1234 with its number: `port 1 network .. node .. udp .. cost .. peers ..`.
+/// An RFC 1234 port with its number: `port 1 network .. node .. udp .. cost .. peers ..`.
 fn rfc1234_to_text(
     alloc: Global,
     number: usize,
@@ -95,7 +95,7 @@ fn rfc1234_to_text(
     format!(in alloc; "port {number} {place} udp {reached} {dealings}")
 }
 
-/// The place of an end of a wire, behind a space.
+/// The place of a remote, after a space.
 pub fn end_to_text(alloc: Global, end: Place) -> Result<String, AllocError>
     ensures { IfOk result (λ t. string_bytes t ≡ ethernet_end_text end) }
 {
@@ -103,7 +103,7 @@ pub fn end_to_text(alloc: Global, end: Place) -> Result<String, AllocError>
     format!(in alloc; " {reached}")
 }
 
-/// The places of the ends of a wire.
+/// The places of the remotes of an Ethernet port.
 fn ends_to_text(alloc: Global, ends: &[Place]) -> Result<String, AllocError>
     ensures { IfOk result (λ t. string_bytes t ≡ flat_map ethernet_end_text ends.now) }
 {
@@ -115,7 +115,7 @@ fn ends_to_text(alloc: Global, ends: &[Place]) -> Result<String, AllocError>
     Ok(text)
 }
 
-/// Whether a port is no hub of its ends.
+/// The word that says that a port does not switch frames between its remotes.
 fn apart(joined: bool) -> &'static str
     ensures { result.now ≡ joined_text joined }
 {
@@ -132,7 +132,7 @@ fn ethernet_to_text(alloc: Global, port: &EthernetPortConfig) -> Result<String, 
     format!(in alloc; "cost {cost} ends{ends}{apart}{directed}")
 }
 
-/// A port on a wire with its number: `port 2 network .. node .. frames .. udp .. cost .. ends ..`.
+/// An Ethernet port with its number: `port 2 network .. node .. frames .. udp .. cost .. ends ..`.
 fn frames_to_text(
     alloc: Global,
     number: usize,
@@ -170,7 +170,7 @@ fn clients_to_text(alloc: Global, port: &IpxnetPortConfig) -> Result<String, All
     format!(in alloc; "cost {cost} clients {clients} peers {named}{others}{joined}{directed}")
 }
 
-/// A port for clients with its number: `port 3 network .. node .. ipxnet udp .. cost .. clients ..`.
+/// An ipxnet port with its number: `port 3 network .. node .. ipxnet udp .. cost .. clients ..`.
 fn ipxnet_to_text(
     alloc: Global,
     number: usize,
@@ -184,7 +184,7 @@ fn ipxnet_to_text(
     format!(in alloc; "port {number} {place} ipxnet udp {reached} {clients}")
 }
 
-/// A port with its number, as its kind has it.
+/// A port with its number, by its kind.
 pub fn port_to_text(alloc: Global, number: usize, port: &PortConfig) -> Result<String, AllocError>
     ensures { IfOk result (λ t. string_bytes t ≡ port_text number port.now) }
 {
@@ -195,7 +195,7 @@ pub fn port_to_text(alloc: Global, number: usize, port: &PortConfig) -> Result<S
     }
 }
 
-/// What a router says of its ports as it starts, in their order, which their numbers follow from 1.
+/// What a router logs of its ports when it starts, in their order. Numbers start at 1.
 pub fn ports_to_texts(alloc: Global, ports: &[PortConfig]) -> Result<Vec<String>, AllocError>
     ensures { IfOk result (λ texts. map string_bytes texts.items ≡ port_texts 1 ports.now) }
 {

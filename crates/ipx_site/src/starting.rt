@@ -1,4 +1,4 @@
-//! A router of a file, from the file until it can run.
+//! Starting a router from its file.
 
 ghost use Rattle.std.specs.Prelude.{◌≡◌, ◌⊎◌, All, Err, IfErr, IfOk, OnOk};
 ghost use Rattle.ipx_router.specs.NewRouter.{IsOwnNetwork};
@@ -15,7 +15,8 @@ use std::alloc::Global;
 use std::net::Net;
 use std::rt::{Clock as SystemClock, Files};
 
-/// Starts a router of a file that was loaded. If the file was not loaded, its status is passed on.
+/// Starts the router of a file that was loaded. If loading failed, it returns the exit status of
+/// that.
 fn start_loaded<'a, R: Net + Log + SystemClock + Eprint>(
     rt: &'a R,
     alloc: Global,
@@ -37,11 +38,12 @@ fn start_loaded<'a, R: Net + Log + SystemClock + Eprint>(
     }
 }
 
-/// Reads the file of a router, binds a socket for each port, and tells each port. Then call
-/// [`run_router`](crate::run_router).
+/// Reads the file of a router, binds a socket for each port, and logs a line for each port. Then
+/// call [`run_router`](crate::run_router).
 ///
-/// The error is the status. 2: the file can't be read or has a fault; nothing was bound. 1: out of
-/// memory, a socket can't be had, or the system tells no time. One line on standard error says which.
+/// The error is the exit status. 2: the file cannot be read or has a fault; nothing was bound. 1:
+/// out of memory, a socket cannot be bound, or the system does not tell the time. One line on
+/// standard error says which.
 pub fn start_router<'a, R: Net + Log + Files + SystemClock + Eprint>(
     rt: &'a R,
     alloc: Global,

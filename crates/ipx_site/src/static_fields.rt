@@ -1,4 +1,4 @@
-//! The keys of the tables of routes and services by hand, each with its value.
+//! The keys of the tables of static routes and services, with their values.
 
 ghost use Rattle.std.specs.Prelude.{◌≡◌, ◌⊎◌, ◌<◌, IfErr, IfOk, IfSome, length, option_copied};
 ghost use Rattle.toml.specs.View.{table_view};
@@ -23,10 +23,10 @@ use toml::Table;
 /// The network of the default route.
 const DEFAULT_ROUTE: Network = Network(0xffff_fffe);
 
-/// The type of a service by which every type is asked for.
+/// The service type that asks for every type.
 const ANY_TYPE: u16 = 0xffff;
 
-/// A node on the network of a port, and what it costs to send there, in ticks.
+/// A node on the network of a port, and the cost of sending there, in ticks.
 #[derive(Clone, Copy, Debug, PartialEq, Eq)]
 pub struct NextHop {
     pub by: Source,
@@ -43,7 +43,7 @@ fn port_number_in(table: &Table, number: usize) -> Result<u8, ConfigError>
     }
 }
 
-/// The port of a number.
+/// The port with this number, starting at 1.
 fn numbered_port(ports: &[PortConfig], number: u8) -> Option<&PortConfig>
     ensures { option_copied result ≡ numbered_port ports.now number }
 {
@@ -74,7 +74,7 @@ fn station_node_in(table: &Table, number: usize) -> Result<Node, ConfigError>
     }
 }
 
-/// The node that is named at a port, by its kind.
+/// The node that a table names at a port, by the port's kind.
 fn named_node_in(table: &Table, number: usize, port: &PortConfig) -> Result<Node, ConfigError>
     ensures node { IfOk result (IsNamedNode port.now (table_view table.now)) }
     ensures fault { IfErr result (λ f. (f ≡ ConfigError.OutOfMemory)
@@ -87,14 +87,14 @@ fn named_node_in(table: &Table, number: usize, port: &PortConfig) -> Result<Node
     }
 }
 
-/// Whether a node is that of a port.
+/// Whether a node is the port's own.
 fn is_own_node(port: &PortConfig, node: Node) -> bool
     ensures { result ≡ is_own_node port.now node }
 {
     node == port.router_port().node
 }
 
-/// The node that is named at a port, and is not the port itself.
+/// The node that a table names at a port, if it is not the port's own.
 fn next_node_in(table: &Table, number: usize, port: &PortConfig) -> Result<Node, ConfigError>
     ensures node { IfOk result (IsNextNode port.now (table_view table.now)) }
     ensures fault { IfErr result (λ f. (f ≡ ConfigError.OutOfMemory)
@@ -107,7 +107,7 @@ fn next_node_in(table: &Table, number: usize, port: &PortConfig) -> Result<Node,
     Ok(node)
 }
 
-/// By whom an entry is heard.
+/// The neighbour of a static entry, and the cost of sending to it.
 pub fn next_hop_in(
     table: &Table,
     number: usize,
@@ -132,7 +132,7 @@ pub fn next_hop_in(
     })
 }
 
-/// The place of the first of these ports that is on a network.
+/// The index of the first of these ports that is on a network.
 fn own_place(ports: &[PortConfig], network: Network) -> Option<usize>
     ensures place { result ≡ own_place ports.now network }
     ensures within { IfSome result (λ k. k < length ports.now) }
@@ -185,7 +185,7 @@ pub fn service_name_in(table: &Table, number: usize) -> Result<[u8; 48], ConfigE
     }
 }
 
-/// The address that `at` writes.
+/// The address that `ipx_address` gives.
 fn written_place_in(alloc: Global, table: &Table, number: usize) -> Result<Address, ConfigError>
     ensures { Gives IsWrittenPlace Key.At (table_view table.now) number result }
 {
@@ -195,7 +195,7 @@ fn written_place_in(alloc: Global, table: &Table, number: usize) -> Result<Addre
     }
 }
 
-/// Where a service is.
+/// The address of a service.
 pub fn service_place_in(alloc: Global, table: &Table, number: usize) -> Result<Address, ConfigError>
     ensures place { IfOk result (IsServicePlace (table_view table.now)) }
     ensures fault { IfErr result (λ f. (f ≡ ConfigError.OutOfMemory)

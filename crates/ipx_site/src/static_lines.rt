@@ -1,4 +1,4 @@
-//! What is said of routes and services by hand where a file is checked.
+//! The lines about static routes and services when a file is checked.
 
 ghost use Rattle.std.specs.Prelude.{◌≡◌, IfOk, string_bytes};
 ghost use Rattle.std.specs.List.{flat_map};
@@ -22,7 +22,7 @@ fn address_to_words(alloc: Global, at: Address) -> Result<String, AllocError>
     format!(in alloc; "{network} {node} {socket}")
 }
 
-/// The port where something is heard, and the neighbour, behind a space.
+/// The port where something is heard, and the neighbour, after a space.
 fn source_to_words(alloc: Global, by: Source) -> Result<String, AllocError>
     ensures { IfOk result (λ t. string_bytes t ≡ by_text by) }
 {
@@ -41,7 +41,7 @@ fn route_to_line(alloc: Global, by: Source, route: &RipEntry) -> Result<String, 
     format!(in alloc; "route {network}{by} hops {hops} ticks {ticks}\n")
 }
 
-/// The name of a service: what stands before its first zero byte.
+/// The name of a service: the bytes before its first zero byte.
 fn name_to_word(alloc: Global, name: &[u8]) -> Result<String, AllocError>
     ensures { IfOk result (λ t. string_bytes t ≡ shown_text name.now) }
 {
@@ -78,7 +78,7 @@ fn entry_to_line(alloc: Global, entry: &StaticEntry) -> Result<String, AllocErro
     }
 }
 
-/// The lines of entries by hand, in order.
+/// The lines of static entries, in order.
 pub fn entries_to_lines(alloc: Global, entries: &[StaticEntry]) -> Result<String, AllocError>
     ensures { IfOk result (λ t. string_bytes t ≡ flat_map static_line entries.now) }
 {

@@ -1,4 +1,4 @@
-//! The routes and services by hand of a router's file.
+//! The static routes and services of a router's file.
 
 ghost use Rattle.std.specs.Prelude.{◌≡◌, ◌⊎◌, ◌<◌, ◌^◌, [], All, None, IfErr, IfOk, IfSome, OnOk, length, nat_le, option_map};
 ghost use Rattle.toml.specs.View.{items_view, table_view, view};
@@ -34,7 +34,7 @@ fn entry_of(
     }
 }
 
-/// The place of the first of these entries that says the same.
+/// The index of the first of these entries that this one repeats.
 fn again_place(earlier: &[StaticEntry], entry: &StaticEntry) -> Option<usize>
     ensures place { result ≡ again_place earlier.now entry.now }
     ensures within { IfSome result (λ k. k < length earlier.now) }
@@ -42,7 +42,7 @@ fn again_place(earlier: &[StaticEntry], entry: &StaticEntry) -> Option<usize>
     earlier.iter().position(|other| other.says_again(entry))
 }
 
-/// Refuses an entry that says what an earlier one does.
+/// Refuses an entry that repeats an earlier one.
 fn refuse_again(
     kind: StaticKind,
     earlier: &[StaticEntry],
@@ -100,7 +100,7 @@ fn entry_values(value: &Value) -> Option<&[Value]>
     Some(values)
 }
 
-/// The entries of a kind: none, where the file has no such table.
+/// The entries of a kind; none if the file has no such table.
 fn entries_in(
     alloc: Global,
     kind: StaticKind,
@@ -122,14 +122,14 @@ fn entries_in(
     Ok(entries)
 }
 
-/// The entries by hand of a router with these ports: its routes, and behind them its services.
+/// The static entries of a router with these ports: its routes, followed by its services.
 pub fn statics_in(
     alloc: Global,
     table: &Table,
     ports: &[PortConfig],
 ) -> Result<Vec<StaticEntry>, ConfigError>
     ensures entries { IfOk result (λ v. AreStatics ports.now (table_view table.now) v.items) }
-    // Each is heard at a port that is there.
+    // The port of each entry exists.
     ensures there { IfOk result (λ v.
         All (λ e. IsPortNumber (length ports.now) e.by.port) v.items) }
     ensures fault { IfErr result (λ f. (f ≡ ConfigError.OutOfMemory)

@@ -1,4 +1,4 @@
-//! The silent neighbours that entries by hand are heard from.
+//! The silent neighbours from which static entries are heard.
 
 ghost use Rattle.std.specs.Prelude.{◌≡◌, ℕ, [], All, IfOk, OnOk};
 ghost use Rattle.std.specs.List.{AllZip, filter_map, list_any};
@@ -19,7 +19,7 @@ fn is_known(known: &[Source], by: Source) -> bool
     known.iter().any(|other| is_one_source(*other, by))
 }
 
-/// Names one more, unless it was.
+/// Adds a source, unless it is already there.
 fn add_source(sources: &mut Vec<Source>, by: Source) -> Result<(), AllocError>
     ensures { OnOk result (sources.new.items ≡ with_source sources.old.items by) }
 {
@@ -30,7 +30,7 @@ fn add_source(sources: &mut Vec<Source>, by: Source) -> Result<(), AllocError>
     Ok(())
 }
 
-/// From whom entries are heard, each once.
+/// The sources of entries, each once.
 fn sources_of(alloc: Global, entries: &[StaticEntry]) -> Result<Vec<Source>, AllocError>
     ensures { IfOk result (λ v. v.items ≡ named_sources [] entries.now) }
 {
@@ -41,7 +41,7 @@ fn sources_of(alloc: Global, entries: &[StaticEntry]) -> Result<Vec<Source>, All
     Ok(sources)
 }
 
-/// The routes that a neighbour is to tell.
+/// The routes that a neighbour is to advertise.
 fn routes_by(
     alloc: Global,
     entries: &[StaticEntry],
@@ -55,7 +55,7 @@ fn routes_by(
         .collect(alloc)
 }
 
-/// The services that it is to tell.
+/// The services that a neighbour is to advertise.
 fn services_by(
     alloc: Global,
     entries: &[StaticEntry],
@@ -69,7 +69,7 @@ fn services_by(
         .collect(alloc)
 }
 
-/// A neighbour, and what it is to have said.
+/// A neighbour, and what it is to have advertised.
 fn silent_by(
     alloc: Global,
     entries: &[StaticEntry],
@@ -87,7 +87,7 @@ fn silent_by(
     })
 }
 
-/// The neighbours of sources.
+/// The neighbour of each source.
 fn silent_by_each(
     alloc: Global,
     entries: &[StaticEntry],
@@ -103,11 +103,11 @@ fn silent_by_each(
     Ok(silent)
 }
 
-/// The silent neighbours that entries by hand are heard from, each once, with all that it is to
-/// have said.
+/// The silent neighbours from which static entries are heard, each once, with all that it is to
+/// have advertised.
 pub fn silent_of(alloc: Global, entries: &[StaticEntry]) -> Result<Vec<StaticNeighbour>, AllocError>
     ensures silent { IfOk result (λ v. AreSilent entries.now v.items) }
-    // They are at ports that are there, where the entries are.
+    // If the ports of the entries exist, so do those of the neighbours.
     ensures there { (count : ℕ) → All (λ e. IsPortNumber count e.by.port) entries.now
         → IfOk result (λ v. All (λ n. IsPortNumber count n.port) v.items) }
 {

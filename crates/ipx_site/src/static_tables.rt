@@ -1,4 +1,4 @@
-//! The tables of routes and services by hand.
+//! The tables of static routes and services.
 
 ghost use Rattle.std.specs.Prelude.{◌≡◌, ◌⊎◌, IfErr, IfOk};
 ghost use Rattle.toml.specs.View.{table_view};
@@ -16,10 +16,10 @@ use ipx_control::{RipEntry, ServiceEntry};
 use std::alloc::Global;
 use toml::Table;
 
-/// The keys of a route, in the order in which their faults are told.
+/// The keys of a route, in the order in which their faults are reported.
 const ROUTE_KEYS: [Key; 5] = [Key::Port, Key::Next, Key::Network, Key::Hops, Key::Ticks];
 
-/// Those of a service.
+/// The keys of a service, in the order in which their faults are reported.
 const SERVICE_KEYS: [Key; 6] = [
     Key::Port,
     Key::Next,
@@ -29,10 +29,10 @@ const SERVICE_KEYS: [Key; 6] = [
     Key::Hops,
 ];
 
-/// The most routers on the way to what is told by hand: the router itself is one more.
+/// The most hops of a static entry: the router itself adds one more.
 const MAX_HOPS: u16 = 14;
 
-/// What a route says, which takes as long as it costs to send to the next node, if it says nothing.
+/// The route that a table gives. By default its ticks are the cost of sending to the next hop.
 fn path_in(
     table: &Table,
     number: usize,
@@ -53,7 +53,7 @@ fn path_in(
     })
 }
 
-/// What a service says.
+/// The service that a table gives.
 fn offered_in(alloc: Global, table: &Table, number: usize) -> Result<ServiceEntry, ConfigError>
     ensures offered { IfOk result (IsOffered (table_view table.now)) }
     ensures fault { IfErr result (λ f. (f ≡ ConfigError.OutOfMemory)
@@ -71,7 +71,7 @@ fn offered_in(alloc: Global, table: &Table, number: usize) -> Result<ServiceEntr
     })
 }
 
-/// The route of a table with this number.
+/// The route of the table with this number.
 fn route_in(
     alloc: Global,
     table: &Table,
@@ -91,7 +91,7 @@ fn route_in(
     })
 }
 
-/// The service of a table with this number.
+/// The service of the table with this number.
 fn service_in(
     alloc: Global,
     table: &Table,
@@ -111,7 +111,7 @@ fn service_in(
     })
 }
 
-/// The entry of a table of a kind, with this number.
+/// The entry of the table of this kind with this number.
 pub fn entry_in(
     alloc: Global,
     kind: StaticKind,

@@ -1,4 +1,4 @@
-//! What the values of the keys of a route or a service by hand mean.
+//! The values of the keys of a static route or service.
 
 ghost use Rattle.std.specs.Prelude.{◌≡◌, ◌≤◌, IfOk, length};
 ghost use Rattle.std.specs.List.{list_all};
@@ -19,7 +19,7 @@ const MAX_PORTS: u8 = 16;
 /// The longest name of a service.
 const MAX_NAME: usize = 47;
 
-/// The number of a port that a value is, from 1 on.
+/// The port number that a value gives, starting at 1.
 pub fn port_number_of(value: &Value) -> Option<u8>
     ensures { Reads (IsCount 16) (view value.now) result }
 {
@@ -30,7 +30,7 @@ pub fn port_number_of(value: &Value) -> Option<u8>
     Some(number)
 }
 
-/// Whether a byte prints, and is no blank.
+/// Whether a byte is printable, and no space.
 fn is_mark(byte: u8) -> bool
     ensures { result ≡ is_mark byte }
 {
@@ -60,7 +60,7 @@ fn padded(text: &[u8]) -> [u8; 48]
     name
 }
 
-/// The name of a service that a value writes.
+/// The name of a service that a value gives.
 pub fn service_name_of(value: &Value) -> Option<[u8; 48]>
     ensures { Reads IsServiceName (view value.now) result }
 {
@@ -72,8 +72,8 @@ pub fn service_name_of(value: &Value) -> Option<[u8; 48]>
     }
 }
 
-/// Whether a service can be at an address: on a network that is named, at one station, and not at
-/// socket 0.
+/// Whether a service can have this address: its network is named, its node is one station, and its
+/// socket is not 0.
 pub fn is_place_of_service(at: Address) -> bool
     ensures { result ≡ is_place_of_service at }
 {
@@ -83,14 +83,14 @@ pub fn is_place_of_service(at: Address) -> bool
         && at.socket.0 != 0
 }
 
-/// The words of a text, with a space between them.
+/// The words of a text, separated by single spaces.
 fn words_of<'a>(alloc: Global, text: &'a [u8]) -> Result<Vec<&'a [u8]>, AllocError>
     ensures { IfOk result (λ v. parts_view v.items ≡ words_in text.now) }
 {
     text.split(|byte| *byte == b' ').collect(alloc)
 }
 
-/// The address that three words are.
+/// The address that three words give.
 fn place_in_words(words: &[&[u8]]) -> Option<Address>
     ensures { result ≡ place_in_words (parts_view words.now) }
 {
@@ -104,7 +104,7 @@ fn place_in_words(words: &[&[u8]]) -> Option<Address>
     })
 }
 
-/// The address that a text writes.
+/// The address that a text gives.
 fn place_in_text(alloc: Global, text: &[u8]) -> Result<Option<Address>, OutOfMemory>
     ensures { IfOk result (λ found. found ≡ place_in_words (words_in text.now)) }
 {
@@ -112,7 +112,7 @@ fn place_in_text(alloc: Global, text: &[u8]) -> Result<Option<Address>, OutOfMem
     Ok(place_in_words(&words))
 }
 
-/// The address that a value writes: a network, a node and a socket.
+/// The address that a value gives: a network, a node and a socket.
 pub fn written_place(alloc: Global, value: &Value) -> Result<Option<Address>, OutOfMemory>
     ensures { IfOk result (λ found. found ≡ written_place (view value.now)) }
 {

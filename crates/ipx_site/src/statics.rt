@@ -1,4 +1,4 @@
-//! Routes and services by hand, as the file of a router has them.
+//! Static routes and services, as a router's file gives them.
 
 ghost use Rattle.std.specs.Prelude.{◌≡◌, ◌≤◌};
 ghost use Rattle.ipx_site.specs.StaticLists.{entry_key, first_table, is_one_source, is_same_word, says_again};
@@ -8,26 +8,26 @@ use crate::key::Key;
 use ipx_control::{RipEntry, ServiceEntry};
 use ipx_tables::Source;
 
-/// The tables that say something by hand.
+/// The kinds of static tables.
 #[derive(Clone, Copy, Debug, PartialEq, Eq)]
 pub enum StaticKind {
     Route,
     Service,
 }
 
-/// What a neighbour that says nothing itself is to say.
+/// What a silent neighbour is to advertise.
 #[derive(Clone, Copy, Debug, PartialEq, Eq)]
 pub enum StaticItem {
-    /// A network behind it.
+    /// A network reached through it.
     Route(RipEntry),
-    /// A service of it, or behind it.
+    /// A service on it, or reached through it.
     Service(ServiceEntry),
 }
 
-/// A route or a service by hand.
+/// A static route or service.
 #[derive(Clone, Copy, Debug, PartialEq, Eq)]
 pub struct StaticEntry {
-    /// The number of the port where it is heard, from 1 on, and the next node.
+    /// The number of the port where it is heard, starting at 1, and the next hop.
     pub by: Source,
     pub word: StaticItem,
 }
@@ -56,14 +56,14 @@ impl StaticKind {
     }
 }
 
-/// Whether two are one neighbour at one port.
+/// Whether two sources are the same neighbour at the same port.
 pub(crate) fn is_one_source(a: Source, b: Source) -> bool
     ensures { result ≡ is_one_source a b }
 {
     a.port == b.port && a.neighbour == b.neighbour
 }
 
-/// Whether two words speak of one network, or of one service by type and name.
+/// Whether two items give the same network, or the same service by type and name.
 fn is_same_word(a: StaticItem, b: StaticItem) -> bool
     ensures { result ≡ is_same_word a b }
 {
@@ -94,14 +94,14 @@ fn service_in_word(word: StaticItem) -> Option<ServiceEntry>
 }
 
 impl StaticEntry {
-    /// Whether another one says of the same neighbour what this one does.
+    /// Whether another entry repeats this one: the same neighbour, and the same network or service.
     pub(crate) fn says_again(&self, other: &StaticEntry) -> bool
         ensures { result ≡ says_again self.now other.now }
     {
         is_one_source(self.by, other.by) && is_same_word(self.word, other.word)
     }
 
-    /// The route that this neighbour is to tell, if it is one.
+    /// The route that this neighbour is to advertise, if the entry is one.
     pub(crate) fn route_by(&self, by: Source) -> Option<RipEntry>
         ensures { result ≡ route_by by self.now }
     {
@@ -112,7 +112,7 @@ impl StaticEntry {
         }
     }
 
-    /// The service that it is to tell.
+    /// The service that this neighbour is to advertise, if the entry is one.
     pub(crate) fn service_by(&self, by: Source) -> Option<ServiceEntry>
         ensures { result ≡ service_by by self.now }
     {

@@ -1,14 +1,14 @@
-//! The file of a router's figures.
+//! Writing a router's files.
 
 use std::alloc::Global;
 use std::fs;
 use std::rt::Files;
 
-/// What follows the name of a file in that of the file to which it is written first.
+/// The suffix of the temporary file to which a file is written first.
 pub(crate) const TEMPORARY: &str = ".new";
 
-/// Writes a text beside a file, and renames it to that, so that whoever reads the file never reads
-/// half of it. It answers whether that was done.
+/// Writes a text to a temporary file and renames it, so that no reader ever sees half of the file.
+/// It returns whether that succeeded.
 pub fn write_whole<R: Files>(rt: &R, alloc: Global, path: &str, text: &str) -> bool {
     let Ok(beside) = format!(in alloc; "{path}{TEMPORARY}") else {
         return false;

@@ -1,4 +1,4 @@
-//! The lines of faults.
+//! The lines that report faults.
 
 use crate::escaped::Escaped;
 use crate::fault::ConfigError;
@@ -9,7 +9,7 @@ use std::fmt;
 /// The greatest number of the table of a port.
 const LAST_PORT: usize = 16;
 
-/// That of a route. Behind it come services.
+/// The greatest number of the table of a route. The tables of services follow.
 const LAST_ROUTE: usize = 272;
 
 /// The keys of a table, by its number.
@@ -30,7 +30,7 @@ fn keys_of(table: usize) -> &'static str {
         for kind = \"ipxnet\" node, clients, accept, peers and join"
 }
 
-/// The kind of a port as it stands in a file.
+/// The kind of a port as a file writes it.
 fn word_of_kind(kind: Kind) -> &'static str {
     match kind {
         Kind::Rfc1234 => "rfc1234",
@@ -51,7 +51,7 @@ fn keys_of_port(kind: Kind) -> &'static str {
     }
 }
 
-/// The key that a name of an earlier version is called now.
+/// The current key for a name that an earlier version used.
 fn new_name(name: &str) -> Option<Key> {
     match name {
         "status" => Some(Key::Status),
@@ -66,7 +66,8 @@ fn new_name(name: &str) -> Option<Key> {
     }
 }
 
-/// What the value of a key of a route or a service is to be: those name a port, and no own network.
+/// The valid values of a key of a route or a service. These name a port, and no network of the
+/// router itself.
 fn valid_statics(key: Key) -> &'static str {
     match key {
         Key::Port => "the number of a port here of kind \"rfc1234\" or \"ethernet\", as 1",
@@ -75,7 +76,7 @@ fn valid_statics(key: Key) -> &'static str {
     }
 }
 
-/// What the value of a key of a table is to be: a host names 256 others at most.
+/// The valid values of a key of a table. A host names at most 256 others.
 fn right_in(table: usize, key: Key) -> &'static str {
     if table > LAST_PORT {
         return valid_statics(key);
@@ -89,7 +90,7 @@ fn right_in(table: usize, key: Key) -> &'static str {
     }
 }
 
-/// The name of a table: what it begins, and which of them it is.
+/// The name of a table: its kind and its number among those.
 fn write_table<W: fmt::Write>(f: &mut fmt::Formatter<W>, table: usize) -> fmt::Result {
     if table <= LAST_PORT {
         return write!(f, "port {table}");
@@ -102,7 +103,7 @@ fn write_table<W: fmt::Write>(f: &mut fmt::Formatter<W>, table: usize) -> fmt::R
     write!(f, "service {service}")
 }
 
-/// Where a fault lies: nothing for the file itself, and else the table.
+/// The place of a fault: nothing for the file itself, and otherwise the table.
 fn write_place<W: fmt::Write>(f: &mut fmt::Formatter<W>, table: usize) -> fmt::Result {
     if table == 0 {
         return Ok(());
@@ -111,7 +112,7 @@ fn write_place<W: fmt::Write>(f: &mut fmt::Formatter<W>, table: usize) -> fmt::R
     f.write_str(": ")
 }
 
-/// What routes, or services, have alike that say the same.
+/// The keys that are the same in two routes, or services, that repeat each other.
 fn alike(table: usize) -> &'static str {
     if table <= LAST_ROUTE {
         "port, next_hop and network"
@@ -126,7 +127,7 @@ impl fmt::Display for Key {
     }
 }
 
-/// One line without its end. The caller names the file before it.
+/// One line without its line end. The caller writes the name of the file before it.
 impl fmt::Display for ConfigError {
     fn fmt<W: fmt::Write>(&self, f: &mut fmt::Formatter<W>) -> fmt::Result {
         match self {

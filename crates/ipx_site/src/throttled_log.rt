@@ -1,13 +1,12 @@
-//! How often a line says what happens again and again.
+//! Limits how often a line reports what happens again and again.
 
 ghost use Rattle.std.specs.Prelude.{◌≡◌, ◌↔◌, ◌+◌, ◌^◌, ◌<◌, ◌≤◌, ℕ, IsTrue, MatchOption, Some, IfSome, None};
 ghost use Rattle.ipx_site.specs.Moments.{IsDue, IsReached};
 
-/// How long a cause is not told again, in milliseconds.
+/// How long a cause is not logged again, in milliseconds.
 const PAUSE: u64 = 60_000;
 
-/// A cause that a person is told of: how often it had happened when it was told last, and when that
-/// was.
+/// A cause that is logged: how often it had happened when it was logged last, and when that was.
 #[derive(Clone, Copy, Debug, PartialEq, Eq)]
 pub struct ThrottledLog {
     told: u64,
@@ -15,15 +14,15 @@ pub struct ThrottledLog {
 }
 
 impl ThrottledLog {
-    /// A cause that was not told yet.
+    /// A cause that has not been logged yet.
     pub fn new() -> ThrottledLog
         ensures untold { (result.told ≡ 0) × (result.at ≡ None) }
     {
         ThrottledLog { told: 0, at: None }
     }
 
-    /// Whether it is time to tell a cause that happened so often: it happened since it was told,
-    /// and that was a minute ago or never.
+    /// Whether a cause that happened `count` times is due. It is if it has happened since it was
+    /// last logged, and that was a minute ago or never.
     pub(crate) fn is_due(&self, count: u64, now: u64) -> bool
         ensures { IsTrue result ↔ IsDue self.now count now }
     {
@@ -36,8 +35,8 @@ impl ThrottledLog {
         }
     }
 
-    /// Tells a cause that happened so often, if it is time: the result is how often it happened
-    /// since it was told last.
+    /// Logs a cause that happened `count` times, if it is due. The result is how often it happened
+    /// since it was last logged.
     pub fn tell(&mut self, count: u64, now: u64) -> Option<u64>
         ensures told { IfSome result (λ more. IsDue self.old count now
             × (more + self.old.told ≡ count) × (self.new.told ≡ count) × (self.new.at ≡ Some now)) }
@@ -53,8 +52,8 @@ impl ThrottledLog {
         Some(more)
     }
 
-    /// The moment from which on it is time, where it happened so often; none where no clock can
-    /// show that moment.
+    /// The time from which on it is due, if it happened `count` times. None if no clock can show
+    /// that time.
     pub fn next(&self, count: u64) -> Option<u64>
         ensures next { MatchOption result ((t : ℕ) → t < 2 ^ 64 → IsDue self.now count t → ⊥)
             (λ m. (t : ℕ) → IsDue self.now count t ↔ (m ≤ t)) }

@@ -3,25 +3,25 @@
 ghost use Rattle.std.specs.Prelude.{◌≡◌, ◌≤◌, ◌<◌, ◌+◌, ◌*◌, ◌^◌, true};
 ghost use Rattle.ipx_site.specs.TokenBucket.{back_after, bucket_clock, bucket_has, bucket_taken, full_bucket, has_token};
 
-/// How often something may happen: so often at once, and so often more in each second.
+/// A rate limit: how many at once, and how many more each second.
 #[derive(Clone, Copy, Debug, PartialEq, Eq)]
 pub struct RateLimit {
     pub burst: u16,
     pub per_second: u16,
 }
 
-/// The tokens of a limit. What happens takes one.
+/// The tokens of a limit. Each event takes one.
 #[derive(Clone, Copy, Debug, PartialEq, Eq)]
 pub struct TokenBucket {
     pub limit: RateLimit,
-    /// When it is full again, by a clock that runs as many times as fast as tokens come a second.
+    /// When it is full again, by a clock that runs `per_second` times as fast as real time.
     pub back: u128,
 }
 
-/// After how long one token of those that are away comes back, in milliseconds.
+/// How long it takes for one missing token to come back, in milliseconds of the bucket's clock.
 const TOKEN: u128 = 1000;
 
-/// Whether there is a token, in a bucket of so many that is full again at a moment.
+/// Whether a bucket of `burst` tokens that is full again at `back` has a token.
 pub fn is_token_there(burst: u128, back: u128, now: u128) -> bool
     requires { (burst < 2 ^ 16) × (now < 2 ^ 80) }
     ensures { result ≡ has_token burst back now }
@@ -29,7 +29,7 @@ pub fn is_token_there(burst: u128, back: u128, now: u128) -> bool
     back.max(now).saturating_add(TOKEN) <= now + TOKEN * burst
 }
 
-/// When a bucket of so many is full again, once a token was taken, which is to be there.
+/// When a bucket is full again after a token was taken from it. It must have had one.
 pub fn back_behind(burst: u128, back: u128, now: u128) -> u128
     requires there { back_after back now ≤ now + 1000 * burst }
     requires fits { (burst < 2 ^ 16) × (now < 2 ^ 80) }
@@ -46,7 +46,7 @@ impl RateLimit {
         u128::from(self.burst)
     }
 
-    /// The clock of a bucket with this limit.
+    /// The time of the clock of a bucket with this limit.
     fn clock(&self, now: u64) -> u128
         ensures clock { result ≡ bucket_clock self.now now }
         ensures fits { result < 2 ^ 80 }
@@ -63,14 +63,14 @@ impl TokenBucket {
         TokenBucket { limit, back: 0 }
     }
 
-    /// Whether it has a token at a moment in milliseconds.
+    /// Whether it has a token at `now`, in milliseconds.
     pub fn has_token(&self, now: u64) -> bool
         ensures { result ≡ bucket_has self.now now }
     {
         is_token_there(self.limit.burst(), self.back, self.limit.clock(now))
     }
 
-    /// Takes a token, which it is to have at that moment.
+    /// Takes a token. The bucket must have one at that time.
     pub fn take_token(&mut self, now: u64)
         requires { bucket_has self.old now ≡ true }
         ensures { self.new ≡ bucket_taken self.old now }

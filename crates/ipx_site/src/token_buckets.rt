@@ -1,4 +1,4 @@
-//! The tokens of those who ask a router for all that it knows, and of its ports.
+//! The tokens of the nodes that send general queries to a router, and those of its ports.
 
 ghost use Rattle.std.specs.Prelude.{◌≡◌, ◌↔◌, [], true, IsTrue, IfOk, count_by};
 ghost use Rattle.ipx_site.specs.PortBuckets.{at_port, directed_has, query_has, with_directed_taken, with_query_taken};
@@ -10,21 +10,21 @@ use crate::token_bucket::{back_behind, is_token_there};
 use std::alloc::{AllocError, Global};
 use std::marker::Model;
 
-/// An asker that is known, and the moment at which all its tokens are back.
+/// A known querier, and the time at which all its tokens are back.
 #[derive(Clone, Copy)]
 pub struct Asking {
     pub querier: Querier,
     pub back: u128,
 }
 
-/// How many askers are known at most.
+/// The most queriers that are remembered.
 const MAX_ASKERS: usize = 1024;
 
-/// How many tokens each of them has, of which one comes back each second.
+/// How many tokens each of them has. One comes back each second.
 const OWN_TOKENS: u128 = 8;
 
-/// Those who ask, with their tokens, and the ports, with theirs. It has room for all askers that it
-/// may know, and takes no more memory.
+/// The queriers with their tokens, and the ports with theirs. It has room for all queriers that it
+/// may remember, and allocates no more memory.
 #[derive(Drop)]
 pub struct TokenBuckets {
     known: Vec<Asking>,
@@ -42,7 +42,7 @@ impl Model for TokenBuckets {
     ghost invariant = { λ a. max_askers ≤ vec_capacity a.known };
 }
 
-/// Whether this is another asker, and tokens of it are away.
+/// Whether this is another querier with missing tokens.
 fn is_another(querier: Querier, now: u64, known: &Asking) -> bool
     ensures { result ≡ is_another_out querier now known.now }
 {
@@ -50,7 +50,7 @@ fn is_another(querier: Querier, now: u64, known: &Asking) -> bool
 }
 
 impl TokenBuckets {
-    /// Nobody has asked yet at these ports.
+    /// Nobody has sent a query at these ports yet.
     pub fn new(alloc: Global, ports: Vec<PortBuckets>) -> Result<TokenBuckets, AllocError>
         ensures { IfOk result (λ a. (a.queriers ≡ []) × (a.ports ≡ ports.items)) }
     {
@@ -60,7 +60,7 @@ impl TokenBuckets {
         })
     }
 
-    /// When all tokens of an asker are back.
+    /// The time at which all tokens of a querier are back.
     fn back_of(&self, querier: Querier) -> u128
         ensures { result ≡ back_at self.now.queriers querier }
     {
@@ -72,7 +72,7 @@ impl TokenBuckets {
         0
     }
 
-    /// How many others have tokens that are away.
+    /// How many other queriers have missing tokens.
     fn others(&self, querier: Querier, now: u64) -> usize
         ensures { result ≡ count_by (is_another_out querier now) self.now.queriers }
     {
@@ -82,8 +82,8 @@ impl TokenBuckets {
             .count()
     }
 
-    /// Whether an asker has a token at a moment in milliseconds, and its port too, and it can be
-    /// known.
+    /// Whether a querier and its port have a token at `now`, in milliseconds, and the querier can
+    /// be remembered.
     pub fn has_token(&self, querier: Querier, now: u64) -> bool
         ensures { IsTrue result ↔ HasToken self.now querier now }
     {
@@ -92,7 +92,8 @@ impl TokenBuckets {
             && self.others(querier, now) < MAX_ASKERS
     }
 
-    /// Keeps when all tokens of an asker are back, once it took one, and forgets whose are.
+    /// Remembers when all tokens of a querier are back after it takes one, and forgets queriers
+    /// with all theirs.
     fn remember(&mut self, querier: Querier, now: u64)
         requires { HasToken self.old querier now }
         ensures { self.new ≡ record self.old { queriers = asked_by querier now self.old.queriers } }
@@ -110,7 +111,7 @@ impl TokenBuckets {
         take_query(&mut self.ports, port, now);
     }
 
-    /// An asker takes a token, and one of its port, which they are to have at that moment.
+    /// Takes a token of a querier, and one of its port. Both must have one at that time.
     pub fn take_token(&mut self, querier: Querier, now: u64)
         requires { HasToken self.old querier now }
         ensures { self.new ≡ with_token_taken self.old querier now }
@@ -119,14 +120,15 @@ impl TokenBuckets {
         self.take_query_token(querier.port, now);
     }
 
-    /// Whether a directed broadcast may leave by a port at a moment in milliseconds.
+    /// Whether a directed broadcast may leave by a port at `now`, in milliseconds.
     pub fn has_directed_token(&self, port: usize, now: u64) -> bool
         ensures { result ≡ directed_has (at_port self.now.ports port) now }
     {
         has_directed(&self.ports, port, now)
     }
 
-    /// It takes a token of that port, which is to have one at that moment, or needs none.
+    /// Takes a token of that port for a directed broadcast. The port must have one at that time, or
+    /// need none.
     pub fn take_directed_token(&mut self, port: usize, now: u64)
         requires { directed_has (at_port self.old.ports port) now ≡ true }
         ensures { self.new ≡ record self.old { ports = with_directed_taken self.old.ports port now } }

@@ -1,4 +1,4 @@
-//! The table that a text is.
+//! Parsing a text as a TOML table.
 
 ghost use Rattle.std.specs.Prelude.{◌≡◌, ◌⊎◌, ◌≤◌, Some, IfErr, IfOk, length};
 ghost use Rattle.toml.specs.Parse.{parse_document};
@@ -9,7 +9,7 @@ use crate::fault::ConfigError;
 use std::alloc::Global;
 use toml::Table;
 
-/// The number of the line of a place in a text. The first line is 1.
+/// The number of the line at an index into a text, starting at 1.
 fn line_at(text: &str, place: usize) -> usize
     requires { place ≤ length text.now }
     ensures { result ≡ line_number text.now place }
@@ -18,7 +18,7 @@ fn line_at(text: &str, place: usize) -> usize
     before.iter().filter(|byte| **byte == b'\n').count() + 1
 }
 
-/// The table of a text in TOML.
+/// The table of a TOML text.
 pub fn table_of(alloc: Global, text: &str) -> Result<Table, ConfigError>
     ensures table { IfOk result (λ t. parse_document text.now ≡ Some (table_view t)) }
     ensures fault { IfErr result (λ f. (f ≡ ConfigError.OutOfMemory) ⊎ IsNoToml text.now f) }

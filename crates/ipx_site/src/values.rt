@@ -1,4 +1,4 @@
-//! What the value of a key means.
+//! The values of keys.
 
 ghost use Rattle.std.specs.Prelude.{◌≡◌, ◌↔◌, IfOk, IsTrue};
 ghost use Rattle.std.specs.List.{list_all};
@@ -14,7 +14,7 @@ use std::alloc::Global;
 use std::net::Ipv4Addr;
 use toml::Value;
 
-/// The network that a text writes, neither 0 nor ffffffff.
+/// Parses a network that is neither 0 nor ffffffff.
 pub fn network_written(text: &[u8]) -> Option<Network>
     ensures { ReadsNetwork text.now result }
 {
@@ -32,7 +32,7 @@ pub fn parse_network(value: &Value) -> Option<Network>
     network_written(value.as_str()?.as_bytes())
 }
 
-/// The IP address that a value writes. 0.0.0.0 is none.
+/// The IP address that a value gives. 0.0.0.0 is none.
 pub fn parse_address(value: &Value) -> Option<[u8; 4]>
     ensures { Reads IsIpAddress (view value.now) result }
 {
@@ -46,7 +46,7 @@ pub fn parse_address(value: &Value) -> Option<[u8; 4]>
     }
 }
 
-/// A number from 1 to a greatest one.
+/// A number from 1 to `most`.
 pub fn count_of(value: &Value, most: u16) -> Option<u16>
     ensures { Reads (IsCount most) (view value.now) result }
 {
@@ -57,7 +57,7 @@ pub fn count_of(value: &Value, most: u16) -> Option<u16>
     Some(count)
 }
 
-/// Who is heard.
+/// Which senders are accepted.
 pub fn accept_of(value: &Value) -> Option<Accept>
     ensures { Reads IsAccept (view value.now) result }
 {
@@ -68,7 +68,7 @@ pub fn accept_of(value: &Value) -> Option<Accept>
     }
 }
 
-/// Which directed broadcasts leave by a port.
+/// Which directed broadcasts may leave by a port.
 pub fn directed_of(value: &Value) -> Option<Directed>
     ensures { Reads IsDirected (view value.now) result }
 {
@@ -110,7 +110,7 @@ fn can_name_file(text: &str) -> bool
     !text.is_empty() && !text.as_bytes().contains(&0)
 }
 
-/// A copy of the name of a file that a value is.
+/// A copy of the file name that a value gives.
 pub fn file_name_of(alloc: Global, value: &Value) -> Result<Option<String>, OutOfMemory>
     ensures { IfOk result (Reads IsFileName (view value.now)) }
 {
@@ -120,7 +120,7 @@ pub fn file_name_of(alloc: Global, value: &Value) -> Result<Option<String>, OutO
     }
 }
 
-/// Whether a file of this name is where another one is written first.
+/// Whether a file of this name is the temporary file of another.
 fn is_temporary_of(name: &str, other: &str) -> bool
     ensures { IsTrue result ↔ name.now ≡ temporary_name other.now }
 {
@@ -130,14 +130,14 @@ fn is_temporary_of(name: &str, other: &str) -> bool
     }
 }
 
-/// Whether files of two names can be written without one being written over the other.
+/// Whether the files of two names can both be written without overwriting each other.
 pub fn are_apart(one: &str, two: &str) -> bool
     ensures { IsTrue result ↔ AreApart one.now two.now }
 {
     one != two && !is_temporary_of(one, two) && !is_temporary_of(two, one)
 }
 
-/// The IP addresses that values write, if each of them writes one.
+/// The IP addresses that values give, or None if one of them gives none.
 pub fn addresses_of(alloc: Global, values: &[Value]) -> Result<Option<Vec<[u8; 4]>>, OutOfMemory>
     ensures { IfOk result (ReadsAddresses (items_view values.now)) }
 {

@@ -1,4 +1,4 @@
-//! The troubles that a person is told of, each at most once a minute.
+//! The warnings that a router logs, each at most once a minute.
 
 ghost use Rattle.std.specs.Prelude.{◌≡◌, ◌↔◌, ◌<◌, ◌^◌, ℕ, IsTrue, None, get_or, replicate};
 ghost use Rattle.ipx_site.specs.IdleTime.{IsLineDue, counts_of, counts_told, happened_in};
@@ -12,8 +12,8 @@ use crate::throttled_log::ThrottledLog;
 use ipx_wire::Address;
 use log::{Log, warn};
 
-/// What goes wrong again and again: how often it did, who did it last, by IP or by IPX, where that is
-/// known, and what its line says.
+/// A recurring problem: how often it occurred, who caused it last, by IP or IPX address if known,
+/// and the text of its line.
 #[derive(Clone, Copy, Debug, PartialEq, Eq)]
 pub struct Warning {
     pub kept: DropCount,
@@ -22,7 +22,7 @@ pub struct Warning {
 }
 
 impl Warning {
-    /// One that came from those whom a line names.
+    /// A problem whose last sender is named by IP address.
     pub fn from(kept: DropCount, what: &'static str) -> Warning
         ensures { result.kept ≡ kept }
     {
@@ -33,7 +33,7 @@ impl Warning {
         }
     }
 
-    /// One that came from those whose IPX addresses a line names.
+    /// A problem whose last sender is named by IPX address.
     fn from_address(drops: DirectedDrops, what: &'static str) -> Warning
         ensures { result.kept.count ≡ drops.count }
     {
@@ -48,7 +48,7 @@ impl Warning {
         }
     }
 
-    /// One that nobody is named for.
+    /// A problem that names no sender.
     pub fn of_nobody(count: u64, what: &'static str) -> Warning
         ensures count { result.kept.count ≡ count }
         ensures nobody { result.kept.last ≡ None }
@@ -62,13 +62,13 @@ impl Warning {
     }
 }
 
-/// How many causes a router has.
+/// The number of warnings of a router.
 const CAUSES: usize = 14;
 
-/// The place of that of other encapsulations.
+/// The index of the warning about other encapsulations.
 const ENCAPSULATIONS: usize = 12;
 
-/// When a router told its troubles, in the order of their lines.
+/// When a router last logged its warnings, in the order of their lines.
 #[derive(Clone, Copy, Debug, PartialEq, Eq)]
 pub struct Warnings {
     causes: [ThrottledLog; CAUSES],
@@ -82,8 +82,8 @@ fn tell<R: Log>(rt: &R, cause: &mut ThrottledLog, count: u64, now: u64, what: &s
     }
 }
 
-/// Logs how many of these there were since it was told last, if it is time, with who sent the last
-/// of them, where that is known.
+/// Logs how often it occurred since it was last logged, if it is due, with the IP address of the
+/// last sender, if known.
 fn tell_kept<R: Log>(rt: &R, cause: &mut ThrottledLog, kept: DropCount, now: u64, what: &str)
     ensures { IsToldIfDue kept.count now cause.old cause.new }
 {
@@ -99,7 +99,7 @@ fn tell_kept<R: Log>(rt: &R, cause: &mut ThrottledLog, kept: DropCount, now: u64
     }
 }
 
-/// Logs this likewise, with the IPX address of the last sender, where that is known.
+/// The same, with the IPX address of the last sender, if known.
 fn tell_warning<R: Log>(rt: &R, cause: &mut ThrottledLog, warning: Warning, now: u64)
     ensures { IsToldIfDue warning.kept.count now cause.old cause.new }
 {
@@ -116,7 +116,7 @@ fn tell_warning<R: Log>(rt: &R, cause: &mut ThrottledLog, warning: Warning, now:
     }
 }
 
-/// Tells those troubles for which it is time, each by the cause at its place.
+/// Logs the warnings that are due, each by the cause at its index.
 pub fn tell_each<R: Log>(rt: &R, causes: &mut [ThrottledLog], warnings: &[Warning], now: u64)
     ensures { AreToldIfDue (counts_of warnings.now) now causes.old causes.new }
 {
@@ -127,7 +127,7 @@ pub fn tell_each<R: Log>(rt: &R, causes: &mut [ThrottledLog], warnings: &[Warnin
     }
 }
 
-/// How often the trouble at a place happened: 0 where there is none.
+/// How often the problem at an index occurred: 0 if there is none.
 fn count_at(warnings: &[Warning], place: usize) -> u64
     ensures { result ≡ get_or (counts_of warnings.now) place 0 }
 {
@@ -137,7 +137,7 @@ fn count_at(warnings: &[Warning], place: usize) -> u64
     }
 }
 
-/// The moment from which on it is time to tell one of these; none where no clock can show it.
+/// The earliest time at which one of these is due; None if no clock can show it.
 fn next_of(causes: &[ThrottledLog], warnings: &[Warning]) -> Option<u64>
     ensures { (t : ℕ) → t < 2 ^ 64
         → IsReached result t ↔ IsOneDue causes.now (counts_of warnings.now) t }
@@ -149,7 +149,7 @@ fn next_of(causes: &[ThrottledLog], warnings: &[Warning]) -> Option<u64>
     first
 }
 
-/// The troubles of a router.
+/// The warnings of a router.
 fn warnings_in(f: &Metrics) -> [Warning; CAUSES]
     ensures { counts_of result ≡ counts_told (happened_in f.now) }
 {
@@ -178,7 +178,7 @@ fn warnings_in(f: &Metrics) -> [Warning; CAUSES]
 }
 
 impl Warnings {
-    /// None was told yet.
+    /// Nothing has been logged yet.
     pub fn new() -> Warnings
         ensures { result.causes ≡ replicate 14 untold }
     {
@@ -187,7 +187,7 @@ impl Warnings {
         }
     }
 
-    /// Tells those for which it is time.
+    /// Logs those that are due.
     pub fn tell<R: Log>(&mut self, rt: &R, metrics: &Metrics, now: u64)
         ensures { AreToldIfDue (counts_told (happened_in metrics.now)) now self.old.causes
             self.new.causes }
@@ -195,7 +195,7 @@ impl Warnings {
         tell_each(rt, &mut self.causes, &warnings_in(metrics), now);
     }
 
-    /// Whether it is time to tell of frames of another encapsulation.
+    /// Whether the warning about frames of another encapsulation is due.
     pub fn are_encapsulations_due(&self, metrics: &Metrics, now: u64) -> bool
         ensures { IsTrue result ↔ IsDue (get_or self.now.causes 12 untold)
             metrics.now.other_encapsulation now }
@@ -203,7 +203,7 @@ impl Warnings {
         self.causes[ENCAPSULATIONS].is_due(metrics.other_encapsulation, now)
     }
 
-    /// The moment from which on it is time to tell one; none where no clock can show that moment.
+    /// The earliest time at which one is due; None if no clock can show it.
     pub fn next(&self, metrics: &Metrics) -> Option<u64>
         ensures { (t : ℕ) → t < 2 ^ 64
             → IsReached result t ↔ IsLineDue self.now (happened_in metrics.now) t }

@@ -1,10 +1,11 @@
-//! What the guards of ports by RFC 1234 kept back, as a text, where a router has ports of other
-//! kinds before and between them.
+//! The metrics text of access lists at RFC 1234 ports, in a router with ports of other kinds before
+//! and between them.
 
 use ipx_site::{PortFilterDrops, PortIndex, put_access_list_metrics};
 use std::alloc::{AllocError, Global};
 
-/// A wire, a port by RFC 1234, one for clients, another one by RFC 1234, and another wire.
+/// An Ethernet port, an RFC 1234 port, an ipxnet port, another RFC 1234 port, and another Ethernet
+/// port.
 const PORT_INDICES: [PortIndex; 5] = [
     PortIndex::Ethernet(0),
     PortIndex::Datagrams(0),
@@ -57,10 +58,10 @@ fn no_metrics_without_access_lists(rt: HostRuntime) -> Result<(), AllocError> {
     Ok(())
 }
 
-/// What stands before the figures of guards.
+/// The text before the metrics of access lists.
 const BEFORE: &str = "ipx_uptime_seconds 7\n";
 
-/// That text, made once more where memory was refused.
+/// That text, made again if out of memory.
 fn text_before(alloc: Global) -> Result<String, AllocError> {
     match String::from_str(alloc, BEFORE) {
         Ok(text) => Ok(text),
@@ -68,7 +69,7 @@ fn text_before(alloc: Global) -> Result<String, AllocError> {
     }
 }
 
-/// The figures stand whole behind the text, or that is as it was and memory is wanted.
+/// The metrics follow the text completely; if out of memory, the text is unchanged.
 #[test]
 fn refused_metrics_of_access_lists(rt: HostRuntime) -> Result<(), AllocError> {
     let alloc = rt.alloc();

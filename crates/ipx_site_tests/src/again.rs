@@ -1,4 +1,4 @@
-//! Routers below `RateLimiter` that ask their neighbours once more.
+//! Routers below `RateLimiter` that repeat their requests to their neighbours.
 
 use ipx_carrier::Core;
 use ipx_metrics::MeteredRouter;
@@ -21,7 +21,7 @@ fn ports(alloc: Global) -> Result<Vec<Port>, AllocError> {
     Ok(ports)
 }
 
-/// What is limited at these ports.
+/// The limits at these ports.
 fn limits(alloc: Global) -> Result<Vec<PortBuckets>, AllocError> {
     let bucket = TokenBucket::full(RateLimit {
         burst: 16,
@@ -42,7 +42,7 @@ fn counted(alloc: Global) -> Result<MeteredRouter, Fail> {
     Ok(MeteredRouter::new(alloc, router(alloc)?)?)
 }
 
-/// How many packets a core gives at the moment 0.
+/// How many packets a core gives at time 0.
 fn given<C: Core>(alloc: Global, core: &mut C) -> Result<u32, OutOfMemory> {
     let mut room = [0; 1536];
     let mut count = 0;
@@ -55,8 +55,8 @@ fn given<C: Core>(alloc: Global, core: &mut C) -> Result<u32, OutOfMemory> {
     Ok(count)
 }
 
-/// Whether a router of two ports gives its six first packets, then none, and the four of them that
-/// ask once more as it is asked to.
+/// Whether a router with two ports gives its first six packets, and then none. After a restart of
+/// its discovery it gives four of them again.
 fn asks_again<C: RestartDiscovery + Drop>(alloc: Global, core: C) -> Result<bool, Fail> {
     let mut rate_limiter = RateLimiter::new(alloc, core, ports(alloc)?, limits(alloc)?)?;
     let first = given(alloc, &mut rate_limiter)?;

@@ -1,4 +1,5 @@
-//! Who comes to ports for clients and who is gone: what is told at a look, and what waits.
+//! Clients that connect to ipxnet ports and those that are gone: what is logged at a look, and what
+//! waits.
 
 use ipx_site::{ClientLog, PortClient};
 use ipx_wire::Node;
@@ -6,7 +7,7 @@ use ipxnet_server::Place;
 use std::alloc::{AllocError, Global};
 use std::test::Fail;
 
-/// The client at a port of UDP of 198.51.100.7.
+/// The client at this UDP port of 198.51.100.7.
 fn client(port: usize, udp_port: u16) -> PortClient {
     let place = Place {
         ip: [198, 51, 100, 7],
@@ -19,7 +20,7 @@ fn client(port: usize, udp_port: u16) -> PortClient {
     }
 }
 
-/// The clients of a port at these ports of UDP.
+/// The clients of a port at these UDP ports.
 fn clients(alloc: Global, port: usize, udp_ports: &[u16]) -> Result<Vec<PortClient>, AllocError> {
     let mut all = Vec::new(alloc);
     for udp_port in udp_ports {
@@ -28,7 +29,7 @@ fn clients(alloc: Global, port: usize, udp_ports: &[u16]) -> Result<Vec<PortClie
     Ok(all)
 }
 
-/// How many clients are told to be gone, and to have come, at looks at which these are there.
+/// How many clients are logged as gone, and as connected, at looks at which these are there.
 fn counts(
     alloc: Global,
     told: &mut ClientLog,
@@ -47,7 +48,7 @@ fn comes_and_goes(rt: HostRuntime) -> Result<(), Fail> {
     let news = told.look(alloc, &both)?;
     assert!(rt; news.gone.is_empty() && news.came.as_slice() == both.as_slice());
     assert_eq!(rt; counts(alloc, &mut told, &both)?, (0, 0));
-    // The one that was heard last stands last: nobody came or is gone.
+    // The client that was heard last is last in the list: nobody came or is gone.
     let other_order = clients(alloc, 2, &[48200, 48199])?;
     assert_eq!(rt; counts(alloc, &mut told, &other_order)?, (0, 0));
     let news = told.look(alloc, &both[1..])?;
@@ -66,7 +67,8 @@ fn comes_and_goes(rt: HostRuntime) -> Result<(), Fail> {
     Ok(())
 }
 
-/// Ten at a look, who is gone first; the others later, and who left before that not at all.
+/// At most ten at a look, those that are gone first, the others later. A client that left before it
+/// was logged is never logged.
 #[test]
 fn ten_at_a_look(rt: HostRuntime) -> Result<(), Fail> {
     let alloc = rt.alloc();
@@ -79,7 +81,8 @@ fn ten_at_a_look(rt: HostRuntime) -> Result<(), Fail> {
     assert!(rt; first.gone.is_empty() && first.came.as_slice() == &many[..10]);
     let second = told.look(alloc, &many)?;
     assert!(rt; second.gone.is_empty() && second.came.as_slice() == &many[10..20]);
-    // Those behind the twentieth go before anything was told of them, with the first three.
+    // The clients after the twentieth leave before anything was logged of them, with the first
+    // three.
     let left = told.look(alloc, &many[3..20])?;
     assert!(rt; left.gone.as_slice() == &many[..3] && left.came.is_empty());
     // Seventeen are gone and five came: ten, ten and two lines.
@@ -90,7 +93,7 @@ fn ten_at_a_look(rt: HostRuntime) -> Result<(), Fail> {
     Ok(())
 }
 
-/// Where memory is refused nobody is told, and all of it is told later.
+/// If out of memory nothing is logged, and all of it is logged later.
 #[test]
 fn refused_client_lines(rt: HostRuntime) -> Result<(), Fail> {
     let alloc = rt.alloc();

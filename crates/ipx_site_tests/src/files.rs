@@ -1,4 +1,4 @@
-//! Files without a fault: what is read of them.
+//! Files without a fault: what is parsed from them.
 
 use crate::fixture::{host, site};
 use ipx_site::{Accept, AllowedPeer, Directed, PortConfig, Rfc1234PortConfig, RouterConfig};
@@ -41,7 +41,7 @@ socket = \"4002\"
 allow = [\"00000022 00000A02001e\", \"00000033\"]
 ";
 
-/// A host that says whom it hears.
+/// A host that says which senders it accepts.
 const CIRCLE: &str = "\
 network = \"00000011\"
 address = \"10.1.0.20\"
@@ -52,7 +52,7 @@ routers = [\"10.1.0.2\"]
 accept = \"any\"
 ";
 
-/// The port of RFC 1234 with this index.
+/// The RFC 1234 port with this index.
 fn plain(site: &RouterConfig, index: usize) -> Option<&Rfc1234PortConfig> {
     match site.ports.get(index)? {
         PortConfig::Rfc1234(port) => Some(port),
@@ -166,7 +166,7 @@ fn reads_who_may_connect(rt: HostRuntime) {
     assert!(rt; from[1].network == Network(0x33) && from[1].node.is_none());
 }
 
-/// Of a network its nodes are, and of a node it alone; network 0 is the host's own.
+/// A network allows all its nodes, and a node itself alone. Network 0 is the host's own.
 #[test]
 fn tells_who_is_named(rt: HostRuntime) {
     let (own, socket) = (Network(0x11), Socket(0x4003));

@@ -1,4 +1,4 @@
-//! What several tests make.
+//! Helpers for several tests.
 
 use ipx_site::{ConfigError, HostConfig, RouterConfig, read_host, read_site};
 use std::alloc::{AllocError, Global};

@@ -1,5 +1,6 @@
-//! Random internetworks in memory, drawn from a seed: several routers on one network, and hosts that
-//! name any of theirs. Each guard names the routers. Nobody forges there, and nothing is kept back.
+//! Random internetworks in memory, drawn from a seed: several routers on one network, and hosts
+//! that use any of their network's routers. Each access list names the routers. Nobody forges
+//! packets there, and nothing is dropped by access lists.
 
 use ipx_carrier::{Datagrams, DeviceFault, PriorityRouterCore, SteppedClock, batch, node_of};
 use ipx_router::{Port, Router};
@@ -9,16 +10,16 @@ use std::alloc::Global;
 use std::collections::VecDeque;
 use std::test::Fail;
 
-/// The seed from which all is drawn: not 0.
+/// The seed of all random numbers, not 0.
 const SEED: u64 = 1;
 
 /// How many internetworks are drawn.
 const INTERNETWORKS: usize = 100;
 
-/// How often all of one send and hear.
+/// How often each of them sends and receives.
 const ROUNDS: u64 = 12;
 
-/// Numbers drawn by shifts (Marsaglia's xorshift).
+/// Random numbers from shifts (Marsaglia's xorshift).
 #[derive(Drop)]
 struct Dice {
     state: u64,
@@ -41,7 +42,7 @@ struct Letter {
     bytes: Vec<u8>,
 }
 
-/// A device to which all came before it was asked, and which keeps what it sends.
+/// A device whose datagrams all arrived before it was read, and which stores what it sends.
 #[derive(Drop)]
 struct Post {
     alloc: Global,
@@ -118,8 +119,7 @@ impl Senders for Post {
     }
 }
 
-/// One that stands on networks, at a port for each: a router, or a host, whose router is the one of
-/// that number.
+/// A router or a host with a port on each of its networks. A host uses the router with this number.
 #[derive(Drop)]
 struct Stand {
     core: Option<PriorityRouterCore>,
@@ -128,7 +128,7 @@ struct Stand {
     came: VecDeque<Letter>,
 }
 
-/// An internetwork, and what was counted of it.
+/// An internetwork, and its counts.
 #[derive(Drop)]
 struct Internetwork {
     alloc: Global,
@@ -152,7 +152,7 @@ fn ip_of(network: usize, stand: usize) -> [u8; 4] {
 }
 
 impl Internetwork {
-    /// Networks, and routers that each stand on two or three of them.
+    /// Networks, and routers on two or three of them each.
     fn drawn(alloc: Global, dice: &mut Dice) -> Result<Internetwork, Fail> {
         let networks = 3 + dice.below(4);
         let mut net = Internetwork {
@@ -274,7 +274,7 @@ impl Internetwork {
         Ok(())
     }
 
-    /// A device with what came to one of them, whose peers are all others on its networks.
+    /// A device with what arrived for one of them, whose peers are all others on its networks.
     fn device_of(&mut self, me: usize) -> Result<(SourceFilter<Post>, Vec<Vec<[u8; 4]>>), Fail> {
         let mut access_lists = Vec::new(self.alloc);
         let mut lists = Vec::new(self.alloc);
@@ -307,7 +307,7 @@ impl Internetwork {
         self.not_a_router += kept.not_a_router.count;
     }
 
-    /// A router hears what came, and sends what it has to.
+    /// A router receives what came, and sends what it has to.
     fn run_router(&mut self, me: usize, now: u64) -> Result<(), Fail> {
         let (mut device, peers) = self.device_of(me)?;
         let alloc = self.alloc;
@@ -324,7 +324,7 @@ impl Internetwork {
         Ok(())
     }
 
-    /// A host hears what came.
+    /// A host receives what came.
     fn run_host(&mut self, me: usize) -> Result<(), Fail> {
         let (mut device, _peers) = self.device_of(me)?;
         let mut room = [0; 1500];
@@ -335,7 +335,7 @@ impl Internetwork {
         Ok(())
     }
 
-    /// A host sends a packet to any other, or to a network that is not there, and now and then asks
+    /// A host sends a packet to any other, or to a network that does not exist, and sometimes asks
     /// for all routes. It may leave out the number of its network.
     fn speak(&mut self, dice: &mut Dice, me: usize) -> Result<(), Fail> {
         let network = self.stands[me].networks[0];
@@ -397,7 +397,7 @@ impl Internetwork {
         )
     }
 
-    /// Each host sends a packet, and all hear and send what there is.
+    /// Each host sends a packet, and all receive and send what there is.
     fn round(&mut self, dice: &mut Dice, now: u64) -> Result<(), Fail> {
         for me in 0..self.stands.len() {
             if self.stands[me].core.is_some() {

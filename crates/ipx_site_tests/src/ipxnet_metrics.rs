@@ -1,4 +1,5 @@
-//! The figures of a port for clients by cause: what is sent through a router, and which one it raises.
+//! The metrics of an ipxnet port by reason: what is sent through a router, and which metric it
+//! raises.
 
 use ipx_carrier::{PriorityRouterCore, SteppedClock, run_batch};
 use ipx_ipxnet_ports::{MemoryPlaces, Servers};
@@ -20,7 +21,7 @@ const REGISTRATION: [u8; 30] = [
     2,
 ];
 
-/// The places of the two players who have registered, of who has not, and of a joined router.
+/// The places of the two players that registered, of one that did not, and of a joined router.
 const FIRST: Place = Place {
     ip: [198, 51, 100, 7],
     udp_port: 48199,
@@ -55,7 +56,7 @@ const UNKNOWN_SENDER_NODE: Node = Node([203, 0, 113, 9, 0xbc, 0x47]);
 
 const NOBODY: Node = Node([0, 0, 0, 0, 0, 1]);
 
-/// All causes, in the order of the figures.
+/// All reasons, in the order of the metrics.
 const REASONS: [&str; 15] = [
     "malformed",
     "node_taken",
@@ -74,23 +75,24 @@ const REASONS: [&str; 15] = [
     "for_elsewhere",
 ];
 
-/// What is sent behind the registrations of the players.
+/// What is sent after the registrations of the players.
 #[derive(Clone, Copy)]
 enum Sent {
     /// Three bytes that are no packet.
     Three,
     /// A registration.
     Registration,
-    /// The same behind those of eight more players, who have other places.
+    /// The same after those of eight more players at other places.
     AfterTen,
-    /// A packet to a node of a network, to a socket, from a node of a network; its body begins with 0002.
+    /// A packet to a socket of a node, from another node, each with its network. Its body begins
+    /// with 0002.
     Packet((u32, Node, u16), (u32, Node)),
     /// The same in 1,425 bytes, to all nodes.
     Long(Node),
 }
 
-/// A cause: how many clients there may be, whether the lobby is joined to a router, from where it is sent,
-/// and what.
+/// A reason: how many clients are allowed, whether the server is joined to a router, who sends, and
+/// what.
 #[derive(Clone, Copy)]
 struct Row {
     reason: &'static str,
@@ -100,7 +102,7 @@ struct Row {
     sent: Sent,
 }
 
-/// A row in which what the first player sends is a packet.
+/// A row in which the first player sends a packet.
 fn of_first(reason: &'static str, to: (u32, Node, u16), from: (u32, Node)) -> Row {
     Row {
         reason,
@@ -111,7 +113,7 @@ fn of_first(reason: &'static str, to: (u32, Node, u16), from: (u32, Node)) -> Ro
     }
 }
 
-/// A row with something else, in a lobby with room.
+/// A row with something else, at a server with room for clients.
 fn of_place(reason: &'static str, joined: bool, from: Place, sent: Sent) -> Row {
     Row {
         reason,
@@ -167,7 +169,7 @@ fn rows() -> [Row; 15] {
     ]
 }
 
-/// A packet of so many bytes.
+/// A packet of this size.
 fn packet(size: u16, to: (u32, Node, u16), from: (u32, Node)) -> [u8; 1425] {
     let mut bytes = [0; 1425];
     bytes[..2].copy_from_slice(&[0xff, 0xff]);
@@ -214,7 +216,7 @@ fn core(alloc: Global) -> Result<PriorityRouterCore, Fail> {
     Ok(PriorityRouterCore::new(alloc, Router::new(alloc, ports)?))
 }
 
-/// The lobby of a row.
+/// The server of a row.
 fn server(alloc: Global, most: usize, joined: bool) -> Result<IpxnetServer, Fail> {
     let mut routers = Vec::new(alloc);
     if joined {
@@ -223,7 +225,7 @@ fn server(alloc: Global, most: usize, joined: bool) -> Result<IpxnetServer, Fail
     Ok(IpxnetServer::joined_to(alloc, PORT, most, routers)?)
 }
 
-/// The figures of a port with number 2 behind a row.
+/// The metrics of a port with number 2 after a row.
 fn metrics(alloc: Global, row: Row) -> Result<String, Fail> {
     let mut sockets = MemoryPlaces::new(alloc, 1);
     for place in [FIRST, SECOND] {
@@ -246,7 +248,7 @@ fn metrics(alloc: Global, row: Row) -> Result<String, Fail> {
     Ok(text)
 }
 
-/// Each cause raises its own figure by one, and no other.
+/// Each reason raises its own metric by one, and no other.
 #[test]
 fn metrics_by_cause(rt: HostRuntime) -> Result<(), Fail> {
     let alloc = rt.alloc();
@@ -265,7 +267,7 @@ fn metrics_by_cause(rt: HostRuntime) -> Result<(), Fail> {
     Ok(())
 }
 
-/// The text is whole, or memory is wanted.
+/// The text is complete, or the test ran out of memory.
 #[test]
 fn refused_drops(rt: HostRuntime) {
     let mut text = String::new(rt.alloc());

@@ -1,5 +1,5 @@
-//! Tests of the files of a site, with literal lines, of who may speak, of waiting and of what is
-//! told. They call what `ipx_site` makes public, and no crate stands on this one.
+//! Tests of the files of a site, with literal lines, of accepted senders, of waiting and of log
+//! lines. They call what `ipx_site` makes public, and no crate depends on this one.
 #![tactic(auto)]
 
 #[cfg(test)]

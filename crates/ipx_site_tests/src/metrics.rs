@@ -1,11 +1,11 @@
-//! The text of figures, in the text form of Prometheus.
+//! The metrics in the Prometheus text format.
 
 use ipx_carrier::OutcomeCounters;
 use ipx_site::{DirectedDrops, DropCount, FilterDrops, Metrics};
 use ipx_source_checks::{SourceDropCount, SourceDrops};
 use std::alloc::AllocError;
 
-/// Figures of a router, each another number.
+/// Metrics of a router, each with a different number.
 pub const METRICS: Metrics = Metrics {
     heard: 1,
     sent: 2,
@@ -68,7 +68,7 @@ pub const METRICS: Metrics = Metrics {
     seconds: 22,
 };
 
-/// Lines that stand in it.
+/// Lines of the text.
 const LINES: [&str; 29] = [
     "ipx_receive_packets_total 1\n",
     "ipx_transmit_packets_total 2\n",

@@ -1,5 +1,5 @@
-//! The whole text of a metrics page, for a router with a port of each kind. Each metric has a number of
-//! its own, so that a name or a label with another's number shows.
+//! The whole text of a metrics page, for a router with a port of each kind. Each metric has its own
+//! number, so that a name or label with another metric's number is noticed.
 
 use crate::metrics::METRICS;
 use ipx_carrier::{Core, OutcomeCounters};
@@ -40,7 +40,7 @@ fn network(number: u8) -> [u8; 40] {
     bytes
 }
 
-/// A SAP response that offers a file server with a name of one letter, on network 11.
+/// A SAP response that offers a file server on network 11, whose name is one letter.
 fn service(name: u8) -> [u8; 96] {
     let mut bytes = [0; 96];
     header(&mut bytes, 4, 0x0452);
@@ -61,7 +61,7 @@ fn port(network: u32, last: u8) -> Port {
     }
 }
 
-/// A router on networks 11, 22 and 33, which heard 31 networks and 30 services of one neighbour, the
+/// A router on networks 11, 22 and 33. It heard 31 networks and 30 services of one neighbour, the
 /// last at 3000 ms.
 fn router(alloc: Global) -> Result<MeteredRouter, Fail> {
     let ports = vec![in alloc; port(0x11, 1), port(0x22, 2), port(0x33, 3)]?;
@@ -75,7 +75,7 @@ fn router(alloc: Global) -> Result<MeteredRouter, Fail> {
     Ok(core)
 }
 
-/// The counters of a port, from a number on.
+/// The counters of a port, numbered from `first`.
 fn counts_from(first: u64) -> PortCounts {
     PortCounts {
         outcomes: OutcomeCounters {
@@ -337,7 +337,7 @@ const FILTERED: [PortFilterDrops; 1] = [PortFilterDrops {
     refused: 402,
 }];
 
-/// What a router tells at 43,500 ms.
+/// The metrics of a router at 43,500 ms.
 fn page_of<'a>(
     core: &'a MeteredRouter,
     counters: &'a [PortCounts],
@@ -371,14 +371,14 @@ fn whole_page_of_metrics(rt: HostRuntime) -> Result<(), Fail> {
     Ok(())
 }
 
-/// A router that heard nothing, and what its ports count; or none where memory is refused.
+/// A router that heard nothing, and the counters of its ports; None if out of memory.
 fn parts_if_memory(alloc: Global) -> Option<(MeteredRouter, EthernetMetrics, IpxnetMetrics)> {
     let ports = vec![in alloc; port(0x11, 1), port(0x22, 2), port(0x33, 3)].ok()?;
     let core = MeteredRouter::new(alloc, Router::new(alloc, ports).ok()?).ok()?;
     Some((core, ethernet(alloc).ok()?, ipxnet(alloc).ok()?))
 }
 
-/// The text is whole, or memory is wanted.
+/// The text is complete, or the test ran out of memory.
 #[test]
 fn refused_page_of_metrics(rt: HostRuntime) -> Result<(), Fail> {
     let alloc = rt.alloc();

@@ -1,4 +1,4 @@
-//! When a young router asks again, and when a cause is told.
+//! When a starting router repeats its requests, and when a cause is logged.
 
 use ipx_site::{ThrottledLog, discovery_retry};
 

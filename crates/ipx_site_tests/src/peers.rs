@@ -1,4 +1,4 @@
-//! Who is heard, in whose name, and whom is sent to.
+//! Which senders are accepted, with which source, and to which addresses a port sends.
 
 use ipx_carrier::{Datagrams, DeviceFault};
 use ipx_site::{AccessList, PortFilterDrops, Senders, SourceFilter};
@@ -6,7 +6,7 @@ use ipx_wire::{Address, IpxHeader, Network, Node, Packet, Socket, encode_into};
 use std::alloc::{AllocError, Global};
 use std::process::Abort;
 
-/// A device with one port, to which the same bytes always come from one IP address.
+/// A device with one port, which always receives the same bytes from one IP address.
 #[derive(Drop)]
 struct Fountain {
     from: Option<[u8; 4]>,
@@ -58,7 +58,8 @@ impl Senders for Fountain {
     }
 }
 
-/// That device, which sends to 10.0.0.1, and hears it alone, or everybody.
+/// That device with an access list. It sends to 10.0.0.1, and accepts this address alone, or
+/// everybody.
 fn guarded(
     alloc: Global,
     from: [u8; 4],
@@ -79,18 +80,18 @@ fn guarded(
     Ok(SourceFilter::new(fountain, vec![in alloc; access_list]?))
 }
 
-/// The networks that packets of these tests name: that of the port, and another one.
+/// The networks that packets of these tests name: the port's, and another one.
 const HERE: Network = Network(0x11);
 
 const AWAY: Network = Network(0x22);
 
-/// The nodes of the peer, and of another one.
+/// The nodes of the peer, and of another host.
 const PEER: Node = Node([0, 0, 10, 0, 0, 1]);
 
 const OTHER: Node = Node([0, 0, 10, 0, 0, 2]);
 
-/// Whether a packet with this source, for this network, that passed so many routers is heard from
-/// the peer, or from no address. What is not is counted as forged, and as nothing else.
+/// Whether a packet from the peer, or from no address, is accepted. It has this source and
+/// destination network, and these hops. Otherwise it is counted as spoofed, and as nothing else.
 fn is_heard(
     rt: &impl Abort,
     alloc: Global,
@@ -102,7 +103,7 @@ fn is_heard(
     is_heard_at(rt, alloc, ip, source, (to, Socket(0x4002)), hops)
 }
 
-/// The same of a packet for a socket of that network.
+/// The same for a packet to a socket of that network.
 fn is_heard_at(
     rt: &impl Abort,
     alloc: Global,
@@ -148,9 +149,9 @@ fn is_heard_at(
     Ok(heard)
 }
 
-/// RIP and SAP that stay on the network of the port are heard only if no router forwarded them, also
-/// in the name of the router that did; of what comes from elsewhere the hops do not matter, and of
-/// other sockets neither.
+/// RIP and SAP within the port's network are accepted only if no router forwarded them, even if
+/// they name that router as their source. Hops do not matter for packets from other networks or to
+/// other sockets.
 #[test]
 fn hears_no_control_that_was_forwarded(rt: HostRuntime) -> Result<(), AllocError> {
     let ip = Some([10, 0, 0, 1]);
@@ -270,11 +271,12 @@ fn sends_to_peers_alone(rt: HostRuntime) -> Result<(), AllocError> {
     Ok(())
 }
 
-/// A packet of another node, and one that is the peer's own, each with this body for this socket.
+/// A packet of another node, and one of the peer itself, each with this body to this socket.
 const SOURCES: [(Network, Node); 2] = [(AWAY, OTHER), (HERE, PEER)];
 
-/// Whether the peer's packet with this source and body, for this socket, is heard where it is one of
-/// the routers, or where none is. What is not is counted as no router's, and as nothing else.
+/// Whether the peer's packet with this source, body and socket is accepted if the peer is one of
+/// the routers, or if none is named. Otherwise it is counted as not from a router, and as nothing
+/// else.
 fn is_let(
     rt: &impl Abort,
     alloc: Global,

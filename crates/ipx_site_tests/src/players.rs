@@ -1,11 +1,11 @@
-//! Files with ports for clients of ipxnet: what is read of them, and each fault with its line.
+//! Files with ipxnet ports: what is parsed from them, and each fault with its line.
 
 use crate::fixture::{site, site_line};
 use ipx_site::{Accept, Directed, IpxnetPortConfig, Kind, PortConfig, RouterConfig};
 use ipx_wire::{Network, Node};
 use std::alloc::AllocError;
 
-/// A router with a port of RFC 1234 and two for clients.
+/// A router with an RFC 1234 port and two ipxnet ports.
 const SITE: &str = "\
 [[port]]
 network = \"00000011\"
@@ -31,7 +31,7 @@ accept = \"any\"
 directed = \"none\"
 ";
 
-/// The port for clients with this index.
+/// The ipxnet port with this index.
 fn players(site: &RouterConfig, index: usize) -> Option<&IpxnetPortConfig> {
     match site.ports.get(index)? {
         PortConfig::Ipxnet(port) => Some(port),
@@ -91,7 +91,7 @@ fn reads_nodes_for_clients(rt: HostRuntime) {
     }
 }
 
-/// A port for clients up to who may register, and what follows with what is printed of it.
+/// An ipxnet port up to its accepted clients, and what follows, with what is printed of it.
 const START: &str = "\
 [[port]]
 kind = \"ipxnet\"
@@ -187,7 +187,7 @@ fn lines_of_ports_for_clients(rt: HostRuntime) -> Result<(), AllocError> {
     Ok(())
 }
 
-/// Keys that ports for clients have and others have not, and one that must be there.
+/// Keys that only ipxnet ports have, and a required key.
 const KINDS: [(&str, &str); 4] = [
     (
         "clients = 4",

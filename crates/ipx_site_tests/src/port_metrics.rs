@@ -1,4 +1,4 @@
-//! What a router counts at each of two ports, as a text, and what its lines say of what it dropped.
+//! The metrics of each of two ports as a text, and the log lines of what the router dropped.
 
 use ipx_carrier::{Core, OutcomeCounters};
 use ipx_metrics::{LastDrop, MeteredRouter};
@@ -37,8 +37,8 @@ fn two_ports(alloc: Global) -> Result<MeteredRouter, Fail> {
     Ok(MeteredRouter::new(alloc, router)?)
 }
 
-/// It hears one datagram of each fate by its first port, and some of them by its second, and then gives
-/// what it has to send.
+/// It receives one datagram of each outcome by its first port, and some of them by its second. Then
+/// it gives what it has to send.
 fn hear_all(alloc: Global, core: &mut MeteredRouter) -> Result<(), Fail> {
     core.hear(alloc, 0, &[1, 2, 3], 0)?;
     core.hear(alloc, 0, &datagram(0, 4, 0x11, 0x4002, 0x11), 0)?;
@@ -55,7 +55,7 @@ fn hear_all(alloc: Global, core: &mut MeteredRouter) -> Result<(), Fail> {
     Ok(())
 }
 
-/// A count of each port, added up.
+/// A count, summed over the ports.
 fn sum(core: &MeteredRouter, of: fn(&OutcomeCounters) -> u64) -> u64 {
     core.port_counters()
         .iter()
@@ -162,8 +162,8 @@ fn warns(reason: DropReason, last: Option<LastDrop>) -> bool {
     DropSummary { reason, last }.warns()
 }
 
-/// What is for all nodes of a network comes to its router too, and is no fault. All else is one: so is
-/// a neighbour's word by RIP or SAP that has another number for the network.
+/// What is for all nodes of a network reaches its router too, and is no fault. Anything else is a
+/// fault. So is a neighbour's RIP or SAP packet with another number for the network.
 #[test]
 fn warns_of_faults(rt: HostRuntime) -> Result<(), Fail> {
     let alloc = rt.alloc();
@@ -191,7 +191,7 @@ fn warns_of_faults(rt: HostRuntime) -> Result<(), Fail> {
     Ok(())
 }
 
-/// A RIP response on network 11 of a neighbour, which tells of a network.
+/// A RIP response of a neighbour on network 11, which advertises a network.
 fn response(neighbour: u16, network: u16) -> [u8; 40] {
     let mut bytes = [0; 40];
     bytes[..32].copy_from_slice(&datagram(0, 1, 0x11, 0x0453, 0x11));
@@ -246,14 +246,14 @@ fn of_300_neighbours_the_first_256_have_metrics(rt: HostRuntime) -> Result<(), F
     Ok(())
 }
 
-/// The same, or none where memory is refused.
+/// The same, or None if out of memory.
 fn two_ports_if_memory(alloc: Global) -> Option<MeteredRouter> {
     let ports = vec![in alloc; port(0x11, 1), port(0x22, 2)].ok()?;
     let router = Router::new(alloc, ports).ok()?;
     MeteredRouter::new(alloc, router).ok()
 }
 
-/// The same, made once more where memory was refused.
+/// The same, made again if out of memory.
 fn two_ports_at_last(alloc: Global) -> Result<MeteredRouter, Fail> {
     match two_ports_if_memory(alloc) {
         Some(core) => Ok(core),
@@ -261,7 +261,7 @@ fn two_ports_at_last(alloc: Global) -> Result<MeteredRouter, Fail> {
     }
 }
 
-/// A router counts at each of its ports from its start on, or memory is wanted.
+/// A router counts at each of its ports from its start on, or the test ran out of memory.
 #[test]
 fn refused_counted_router(rt: HostRuntime) -> Result<(), Fail> {
     let core = two_ports_at_last(rt.alloc())?;
@@ -270,7 +270,7 @@ fn refused_counted_router(rt: HostRuntime) -> Result<(), Fail> {
     Ok(())
 }
 
-/// The text is whole, or memory is wanted.
+/// The text is complete, or the test ran out of memory.
 #[test]
 fn refused_metrics_of_ports(rt: HostRuntime) -> Result<(), Fail> {
     let alloc = rt.alloc();
@@ -285,7 +285,7 @@ fn refused_metrics_of_ports(rt: HostRuntime) -> Result<(), Fail> {
     Ok(())
 }
 
-/// Likewise of neighbours.
+/// The same for neighbours.
 #[test]
 fn refused_metrics_of_neighbours(rt: HostRuntime) -> Result<(), Fail> {
     let alloc = rt.alloc();

@@ -1,4 +1,4 @@
-//! Who asks for all that a router knows, and how often each is heard, and directed broadcasts.
+//! General queries, how often those of each querier pass, and directed broadcasts.
 
 use ipx_carrier::Core;
 use ipx_router::Port;
@@ -8,7 +8,7 @@ use ipx_wire::{
 };
 use std::alloc::{AllocError, Global};
 
-/// A core that counts what it hears, and to which memory is refused so often before.
+/// A core that counts what it hears, and that first runs out of memory `refused` times.
 #[derive(Drop)]
 struct Ears {
     heard: u32,
@@ -57,8 +57,8 @@ impl Core for Ears {
     }
 }
 
-/// Bodies of control packets: all routes, as the second network that is asked for; a named network;
-/// all services; all file servers; and the nearest one.
+/// Bodies of control packets: all routes, as the second requested network; one network; all
+/// services; all file servers; and the nearest file server.
 const ALL_ROUTES: [u8; 18] = [
     0, 1, 0, 0, 0, 0x22, 0xff, 0xff, 0xff, 0xff, 0xff, 0xff, 0xff, 0xff, 0xff, 0xff, 0xff, 0xff,
 ];
@@ -79,7 +79,7 @@ const AWAY: Network = Network(0x22);
 
 const PLAYERS: Network = Network(0x33);
 
-/// A network of none of the ports.
+/// A network that none of the ports is on.
 const FAR: Network = Network(0x44);
 
 const USUAL: RateLimit = RateLimit {
@@ -97,7 +97,7 @@ const NOTHING: RateLimit = RateLimit {
     per_second: 0,
 };
 
-/// The port of a number on this network.
+/// The port with this number on this network.
 fn port(number: u8, network: Network) -> Port {
     Port {
         network,
@@ -116,8 +116,9 @@ fn limits(queries: RateLimit, directed: Option<RateLimit>) -> PortBuckets {
     }
 }
 
-/// Ears under a router's ports of networks 11, 22 and 33, the last for clients of ipxnet, and how
-/// often memory is refused to them. No directed broadcast leaves by the third, as its limit says it.
+/// A rate limiter over such a core, for a router with ports on networks 11, 22 and 33, the last for
+/// ipxnet clients. It first runs out of memory `refused` times. The third port's limit lets no
+/// directed broadcast leave.
 fn ears_by(
     alloc: Global,
     refused: u32,
@@ -137,8 +138,8 @@ fn ears(alloc: Global, refused: u32) -> Result<RateLimiter<Ears>, AllocError> {
     ears_by(alloc, refused, Some(NOTHING))
 }
 
-/// They hear this body, sent by node 10.0.0.LAST from network 11 to a socket of a node of a network,
-/// at a port. The result is whether memory was had.
+/// It hears this body at a port, sent by node 10.0.0.LAST of a network to an address. The result is
+/// whether there was enough memory.
 fn hear_at(
     ears: &mut RateLimiter<Ears>,
     alloc: Global,
@@ -162,7 +163,7 @@ fn hear_at(
     ears.hear(alloc, from.0, &bytes[..count], now).is_ok()
 }
 
-/// Every node of a network, at a socket.
+/// All nodes of a network, at a socket.
 fn every_node(network: Network, socket: Socket) -> Address {
     Address {
         network,
@@ -171,7 +172,7 @@ fn every_node(network: Network, socket: Socket) -> Address {
     }
 }
 
-/// They hear this body at the first port, sent to a socket of every node of a network.
+/// It hears this body at the first port, sent to a socket of all nodes of a network.
 fn hear(
     ears: &mut RateLimiter<Ears>,
     alloc: Global,
@@ -190,7 +191,7 @@ fn hear(
     )
 }
 
-/// They hear so many queries for all services from one node at one moment.
+/// It hears this many queries for all services from one node at one time.
 fn ask(ears: &mut RateLimiter<Ears>, alloc: Global, last: u8, count: u32, now: u64) {
     for _query in 0..count {
         let _had = hear(ears, alloc, last, (HERE, Socket::SAP), &ALL_SERVICES, now);
@@ -263,7 +264,7 @@ fn each_port_has_its_tokens(rt: HostRuntime) -> Result<(), AllocError> {
     Ok(())
 }
 
-/// So many packets at one moment from node 10.0.0.9 of network 44, which come by the first port.
+/// This many packets at one time from node 10.0.0.9 of network 44, which come by the first port.
 fn from_afar(ears: &mut RateLimiter<Ears>, alloc: Global, to: Address, count: u32, now: u64) {
     for _packet in 0..count {
         let _had = hear_at(ears, alloc, (0, FAR, 9), to, &[0; 8], now);

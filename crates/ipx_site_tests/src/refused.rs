@@ -1,9 +1,9 @@
-//! The files of a site where memory is refused: a file is read as it stands, or memory is wanted.
-//! Run these with each request refused.
+//! Parsing the files of a site when out of memory: a file is parsed as it is, or memory runs out.
+//! Run these with each allocation refused.
 
 use ipx_site::{ConfigError, PortConfig, read_host, read_site, silent_of};
 
-/// A router with two ports, one on a wire and one for clients of ipxnet, and what it hears by hand.
+/// A router with an RFC 1234 port, an Ethernet port, an ipxnet port, and static entries.
 const SITE: &str = "\
 metrics_file = \"/run/ipx/hq.prom\"
 tables_file = \"/run/ipx/hq.tables\"
@@ -62,10 +62,10 @@ allow = [\"00000022 00000a02001e\", \"00000033\"]
 /// A key that a host does not have.
 const COST_OF_A_HOST: &str = "network = \"00000011\"\ncost = 1\n";
 
-/// Neither is TOML: a text that ends too soon.
+/// A text that ends too soon, which is not TOML.
 const CUT: &str = "network = ";
 
-/// To how many places a port sends.
+/// The number of places that a port sends to.
 fn reached(port: &PortConfig) -> usize {
     match port {
         PortConfig::Rfc1234(port) => port.peers.len(),
@@ -102,7 +102,7 @@ fn refused_host(rt: HostRuntime) {
     }
 }
 
-/// A fault is told, or memory is wanted: a file with a fault is never read.
+/// A fault is reported, or memory runs out: a file with a fault is never accepted.
 #[test]
 fn refused_faults_of_files(rt: HostRuntime) {
     match read_host(rt.alloc(), COST_OF_A_HOST) {

@@ -1,5 +1,5 @@
-//! Sockets, waiting, bursts and figures where memory is refused: each does what it does, or memory
-//! is wanted. Run these with each request refused.
+//! Sockets, waiting, batches and metrics when out of memory: each works as usual, or reports it.
+//! Run these with each allocation refused.
 
 use crate::metrics::METRICS;
 use ipx_carrier::{Batch, Core, Datagrams, RunFault, batch};
@@ -9,7 +9,7 @@ use std::alloc::Global;
 
 const UDP_PORT: u16 = 21393;
 
-/// A core that wants memory as it is asked for a packet, and has none to send.
+/// A core that allocates when it is asked for a packet, and has none to send.
 #[derive(Drop)]
 struct Greedy;
 
@@ -55,7 +55,7 @@ fn socket(rt: &HostRuntime, last: u8) -> Result<UdpSockets, BindFault> {
     UdpSockets::bind_one(rt, rt.alloc(), [127, 0, 93, last], UDP_PORT)
 }
 
-/// A socket, bound once more where memory was refused.
+/// A socket, bound again if out of memory.
 fn socket_at_last(rt: &HostRuntime, last: u8) -> Result<UdpSockets, BindFault> {
     match socket(rt, last) {
         Ok(sockets) => Ok(sockets),
@@ -63,7 +63,7 @@ fn socket_at_last(rt: &HostRuntime, last: u8) -> Result<UdpSockets, BindFault> {
     }
 }
 
-/// These sockets with a guard that hears everybody, which takes no memory.
+/// These sockets with an access list that accepts everybody, which allocates nothing.
 fn guarded(alloc: Global, sockets: UdpSockets) -> SourceFilter<UdpSockets> {
     let mut access_lists = Vec::new(alloc);
     let access_list = AccessList {
@@ -76,7 +76,7 @@ fn guarded(alloc: Global, sockets: UdpSockets) -> SourceFilter<UdpSockets> {
     SourceFilter::new(sockets, access_lists)
 }
 
-/// A burst over this device, with the peers of one port.
+/// A batch over this device, with the peers of one port.
 fn batch_of(
     alloc: Global,
     device: &mut SourceFilter<UdpSockets>,

@@ -1,4 +1,4 @@
-//! Sockets of UDP on the loopback.
+//! UDP sockets on the loopback interface.
 
 use crate::fixture::site;
 use ipx_carrier::{Datagrams, DeviceFault};
@@ -50,7 +50,7 @@ udp_port = 21391
 peers = [\"127.0.91.4\"]
 ";
 
-/// Asks port 1 until a datagram came, some thousand times.
+/// Reads from port 1 until a datagram came, at most 100,000 times.
 fn wait_for(device: &mut UdpSockets, room: &mut [u8]) -> Result<Option<usize>, DeviceFault> {
     for _turn in 0..100000u32 {
         if device.ports() == 0 || device.failures() > 1000 {
@@ -64,7 +64,7 @@ fn wait_for(device: &mut UdpSockets, room: &mut [u8]) -> Result<Option<usize>, D
     Ok(None)
 }
 
-/// Asks port 1 once.
+/// Reads from port 1 once.
 fn receive(device: &mut UdpSockets, room: &mut [u8]) -> Result<Option<usize>, DeviceFault> {
     if device.ports() == 0 || device.failures() > 1000 {
         return Err(DeviceFault);
@@ -98,7 +98,7 @@ fn tells_who_sent(rt: HostRuntime) -> Result<(), Fail> {
     Ok(())
 }
 
-/// A port is asked only where it is marked, and one that has nothing loses its mark.
+/// A port is read only if it is marked, and one that has nothing loses its mark.
 #[test]
 fn a_port_without_a_mark_is_not_asked(rt: HostRuntime) -> Result<(), Fail> {
     let mut here = bound(&rt, FIRST)?;

@@ -1,4 +1,4 @@
-//! Routes and services by hand: what is read of them, whose words they are, and each fault.
+//! Static routes and services: what is parsed from them, their neighbours, and each fault.
 
 use crate::fixture::{site, site_line};
 use ipx_control::{RipEntry, ServiceEntry};
@@ -7,7 +7,8 @@ use ipx_tables::Source;
 use ipx_wire::{Address, Network, Node, Socket};
 use std::alloc::{AllocError, Global};
 
-/// A port with two peers, the second of which is itself, one on a wire and one for clients.
+/// A port with two peers, the second of which is the port itself, an Ethernet port, and an ipxnet
+/// port.
 const PORTS: &str = "\
 [[port]]
 network = \"00000001\"
@@ -30,7 +31,7 @@ udp_port = 2130
 accept = \"any\"
 ";
 
-/// What is said by two nodes, one of them twice.
+/// Entries of two nodes, one of which has two.
 const ENTRIES: &str = "\
 [[service]]
 type = \"0640\"
@@ -119,8 +120,8 @@ fn read(alloc: Global, entries: &str) -> Result<Option<Vec<StaticEntry>>, AllocE
     }
 }
 
-/// Routes stand before services. Where a route does not say them it is one hop away, and its ticks
-/// are what its port costs.
+/// Routes come before services. By default a route is one hop away, and its ticks are the cost of
+/// its port.
 #[test]
 fn reads_entries(rt: HostRuntime) -> Result<(), AllocError> {
     let Some(read) = read(rt.alloc(), ENTRIES)? else {
@@ -149,7 +150,7 @@ fn reads_none(rt: HostRuntime) -> Result<(), AllocError> {
     Ok(())
 }
 
-/// Each neighbour is one, with all that it is to have said, in the order of the file.
+/// Each neighbour appears once, with all that it is to have advertised, in the order of the file.
 #[test]
 fn makes_a_neighbour_of_each(rt: HostRuntime) -> Result<(), AllocError> {
     let Some(read) = read(rt.alloc(), ENTRIES)? else {
@@ -167,7 +168,7 @@ fn makes_a_neighbour_of_each(rt: HostRuntime) -> Result<(), AllocError> {
     Ok(())
 }
 
-/// A list of so many routes, each to another network.
+/// A list of this many routes, each to another network.
 fn routes(alloc: Global, count: u32) -> Result<String, AllocError> {
     let mut text = String::new(alloc);
     for place in 0..count {
@@ -245,7 +246,7 @@ const ROUTES: [(&str, &str); 11] = [
     ),
 ];
 
-/// By whom a route to AA is heard, and what is printed of it.
+/// The neighbour of a route to AA, and what is printed of it.
 const NEXT: [(&str, &str); 8] = [
     ("port = 2\nnext_hop = \"02:00:00:00:00:33\"", "none"),
     (
@@ -347,7 +348,7 @@ fn lines_of_services(rt: HostRuntime) -> Result<(), AllocError> {
     Ok(())
 }
 
-/// A service of one name and type stands once for a neighbour, wherever it is.
+/// A service of one name and type appears once for each neighbour, whatever its address.
 #[test]
 fn line_of_a_service_again(rt: HostRuntime) -> Result<(), AllocError> {
     let service = "type = \"0640\"\nname = \"A\"\nipx_address = \"000000";

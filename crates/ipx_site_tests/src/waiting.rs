@@ -1,4 +1,4 @@
-//! Waiting for sockets of the loopback, and bursts of turns over them.
+//! Waiting for sockets of the loopback interface, and batches of turns over them.
 
 use ipx_carrier::{Clock, Core, Datagrams, DeviceFault, batch};
 use ipx_site::{AccessList, BindFault, ClockFault, Poller, SourceFilter, SteadyClock, UdpSockets};
@@ -11,7 +11,7 @@ use std::time::Duration;
 
 const UDP_PORT: u16 = 21392;
 
-/// A core that hears all and says nothing.
+/// A core that hears all and sends nothing.
 #[derive(Drop)]
 struct Mute;
 
@@ -63,7 +63,7 @@ fn send(device: &mut UdpSockets, last: u8) -> Result<(), DeviceFault> {
     device.send(0, [127, 0, 92, last], b"abc")
 }
 
-/// These sockets behind the peer 127.0.92.4.
+/// These sockets with an access list of the peer 127.0.92.4.
 fn guarded(alloc: Global, sockets: UdpSockets) -> Result<SourceFilter<UdpSockets>, AllocError> {
     let access_list = AccessList {
         network: Network(1),
@@ -119,7 +119,7 @@ fn a_clock_stands_until_it_is_stopped_again(rt: HostRuntime) -> Result<(), Fail>
     Ok(())
 }
 
-/// A system that tells no time.
+/// A system that does not tell the time.
 #[derive(Drop)]
 struct Timeless;
 

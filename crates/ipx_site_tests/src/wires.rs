@@ -1,4 +1,4 @@
-//! Files with ports on wires: what is read of them, and each fault with its line.
+//! Files with Ethernet ports: what is parsed from them, and each fault with its line.
 
 use crate::fixture::{site, site_line};
 use ipx_ethernet::Encapsulation;
@@ -7,7 +7,7 @@ use ipx_site::{EthernetPortConfig, Kind, PortConfig, RouterConfig};
 use ipx_wire::{Network, Node};
 use std::alloc::AllocError;
 
-/// A router with a port of RFC 1234 and two on wires.
+/// A router with an RFC 1234 port and two Ethernet ports.
 const SITE: &str = "\
 [[port]]
 network = \"00000011\"
@@ -34,7 +34,7 @@ node = \"02:00:00:00:0A:fe\"
 switch = false
 ";
 
-/// The port on a wire with this index.
+/// The Ethernet port with this index.
 fn wire(site: &RouterConfig, index: usize) -> Option<&EthernetPortConfig> {
     match site.ports.get(index)? {
         PortConfig::Frames(port) => Some(port),
@@ -107,7 +107,7 @@ fn reads_addresses_on_ethernet(rt: HostRuntime) {
     assert!(rt; place.ip == [192, 0, 2, 10] && place.udp_port == 258);
 }
 
-/// A wire up to its ends, and what follows with what is printed of it.
+/// An Ethernet port up to its remotes, and what follows, with what is printed of it.
 const START: &str = "\
 [[port]]
 kind = \"ethernet\"
@@ -194,7 +194,7 @@ fn lines_of_ethernet(rt: HostRuntime) -> Result<(), AllocError> {
     Ok(())
 }
 
-/// Ports, whose kind is told before all else, with what is printed of them.
+/// Ports, whose kind is checked before all else, with what is printed of them.
 const KINDS: [(&str, &str); 7] = [
     (
         "peer = 1\nkind = \"frames\"",
@@ -235,7 +235,7 @@ fn lines_of_kinds(rt: HostRuntime) -> Result<(), AllocError> {
     Ok(())
 }
 
-/// A list of so many ends.
+/// A list of this many remotes.
 fn ends(rt: &HostRuntime, count: usize) -> Result<String, AllocError> {
     let mut text = format!(in rt.alloc(); "{START}remotes = [")?;
     for _ in 0..count {
@@ -257,7 +257,7 @@ fn lines_of_many_ends(rt: HostRuntime) -> Result<(), AllocError> {
     Ok(())
 }
 
-/// A network of a port of RFC 1234 is none for a wire.
+/// An Ethernet port cannot have the network of an RFC 1234 port.
 #[test]
 fn lines_of_twins_of_two_kinds(rt: HostRuntime) -> Result<(), AllocError> {
     let first = "[[port]]\nnetwork = \"00000022\"\naddress = \"10.1.0.1\"\npeers = []\n";

@@ -1,4 +1,4 @@
--- What a router forwarded fails a source check wherever it is RIP or SAP for the router.
+-- What a router forwarded fails a source check if it is RIP or SAP for the router that receives it.
 use Rattle.std.proofs.Common.{◌≡◌, ◌∙◌, ◌+◌, ℕ, List, [], true, not, ◌==◌, ◌&&◌, Some, ap, refl, arith, slice_get, inl, inr}
 use Rattle.std.proofs.lemmas.Bool.Decides.{nat_tests}
 use Rattle.ipx_wire.specs.Ipx.{IsIpx, PacketView}

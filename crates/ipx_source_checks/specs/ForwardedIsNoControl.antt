@@ -1,4 +1,4 @@
--- Routers with source checks hear nothing that a router forwarded as RIP or SAP. All of it is our own.
+-- Routers with source checks hear nothing that a router forwarded as RIP or SAP. Defined by this project.
 use Rattle.std.specs.Prelude.{◌≡◌, ℕ, true, List, Some, slice_get}
 use Rattle.ipx_wire.specs.declared.address.Node.{Node}
 use Rattle.ipx_wire.specs.Ipx.{BeginsWith, PacketView}
@@ -10,18 +10,17 @@ use Rattle.ipx_router.specs.RouterView.{RouterView}
 use Rattle.ipx_source_checks.specs.SourceChecks.{is_control}
 use Rattle.ipx_source_checks.specs.SourceChecked.{SourceCheckedView, HearsChecked}
 
--- a router forwards these bytes of a datagram that came to it
+-- a router forwards these bytes for a datagram that came to it
 abbrev pub IsForwardedBy : RouterView → List ℕ → Type 0
 IsForwardedBy r sent = (port : ℕ) × (bytes : List ℕ) × (by : ℕ) × (next : Node)
     × ForwardsOneHopOn r port bytes (Forward by next sent)
 
--- bytes that came to a port are RIP or SAP for the router that has it
+-- bytes that came to this port are RIP or SAP for its router
 abbrev pub IsControlAt : Port → List ℕ → Type 0
 IsControlAt at bytes = (p : PacketView) × BeginsWith bytes p × (is_control (concern_of at p.header) ≡ true)
 
 module _ {C : Type 0} (hears : C → ℕ → List ℕ → ℕ → C → Type 0) where
-  -- whatever any router forwards, and to whichever port it comes: if it is RIP or SAP there, the
-  -- core below does not change
+  -- if what any router forwards is RIP or SAP at the port where it arrives, the core below does not change
   abbrev pub NoForwardedPacketIsHeardAsControl : Type 0
   NoForwardedPacketIsHeardAsControl =
       (r : RouterView) (sent : List ℕ) → IsForwardedBy r sent

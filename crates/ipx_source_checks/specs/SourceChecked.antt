@@ -1,4 +1,4 @@
--- A core over a core, that drops packets which fail a source check. All of it is our own.
+-- A core over a core that drops packets which fail a source check. Defined by this project.
 use Rattle.std.specs.Prelude.{◌≡◌, ◌⊎◌, ℕ, List, Option}
 use Rattle.ipx_router.specs.declared.port.Port.{Port}
 use Rattle.ipx_carrier.specs.Turns.{Given}
@@ -12,7 +12,7 @@ pub record SourceCheckedView (C : Type 0) : Type 0 where
   pub ports : List Port
   pub drops : SourceDrops
 
--- the core below asks its neighbours once more
+-- the core below repeats its requests to its neighbours
 abbrev pub asking_below_checks : {C : Type 0} → (C → C) → SourceCheckedView C → SourceCheckedView C
 asking_below_checks asking_again s = record s { core = asking_again s.core }
 
@@ -32,7 +32,7 @@ module _ {C : Type 0} (hears : C → ℕ → List ℕ → ℕ → C → Type 0) 
   HearsChecked old port bytes now new =
       DropsFailed old port bytes new ⊎ HearsUnfailed old port bytes now new
 
--- memory is refused to the core below as it hears bytes that fail no check
+-- the core below runs out of memory as it hears bytes that fail no check
 abbrev pub MissesChecked : {C : Type 0} → (C → ℕ → List ℕ → ℕ → C → Type 0)
     → SourceCheckedView C → ℕ → List ℕ → ℕ → SourceCheckedView C → Type 0
 MissesChecked hear_out_of_memory old port bytes now new =
@@ -45,7 +45,7 @@ abbrev pub GivesBelowChecks : {C : Type 0} → (C → ℕ → Option Given → C
 GivesBelowChecks gives old now given new =
     gives old.core now given new.core × (new ≡ record old { core = new.core })
 
--- or memory is refused to that
+-- or that runs out of memory
 abbrev pub WithholdsBelowChecks : {C : Type 0} → (C → ℕ → C → Type 0)
     → SourceCheckedView C → ℕ → SourceCheckedView C → Type 0
 WithholdsBelowChecks next_out_of_memory old now new =

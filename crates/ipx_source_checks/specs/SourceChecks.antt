@@ -1,4 +1,4 @@
--- Which packets fail a source check of a router, and how they are counted. All of it is our own.
+-- Which packets fail a source check of a router, and how they are counted. Defined by this project.
 use Rattle.std.specs.Prelude.{◌≡◌, ◌==◌, ◌&&◌, ℕ, Bool, true, false, not, List, Option, Some, None, slice_get}
 use Rattle.ipx_wire.specs.Assigned.{local_network}
 use Rattle.ipx_wire.specs.Ipx.{BeginsWith, PacketView}
@@ -22,13 +22,13 @@ is_control concerns.Sap = true
 is_control concerns.Forward = false
 is_control (concerns.Dropped reason) = false
 
--- RIP or SAP for the router with this port, which another router forwarded: each that forwards a packet
--- adds to its hops, and a neighbour sends its own with none
+-- RIP or SAP for the router with this port, which another router forwarded. Each router that forwards a
+-- packet adds a hop, and a neighbour sends its own packets with none
 abbrev pub is_forwarded_control : Port → IpxHeader → Bool
 is_forwarded_control at h = not (h.hops == 0) && is_control (concern_of at h)
 
--- a packet for another network than that of the port, which claims to come from that same network:
--- a node of it needs no router to send there
+-- a packet for a network other than the port's, which claims to come from that same network: a node of it
+-- needs no router to send there
 abbrev pub is_looped_source : Port → IpxHeader → Bool
 is_looped_source at h = not (h.to.network.0 == local_network) && not (h.to.network.0 == at.network.0)
     && (h.from.network.0 == h.to.network.0)
@@ -38,23 +38,23 @@ abbrev pub FailsCheck : Port → IpxHeader → SourceFault → Type 0
 FailsCheck at h ForwardedControl = is_forwarded_control at h ≡ true
 FailsCheck at h LoopedSource = is_looped_source at h ≡ true
 
--- bytes that came to this port, of this number, are a packet that fails a check
+-- bytes that came to this port, which has this number, are a packet that fails a check
 abbrev pub FailsCheckAt : Port → ℕ → List ℕ → FailedCheck → Type 0
 FailsCheckAt at port bytes f = (p : PacketView) × BeginsWith bytes p × FailsCheck at p.header f.fault
     × (f.packet ≡ record { port = port; to = Some p.header.to; from = Some p.header.from })
 
--- so do bytes that came to the port of a number, which is there
+-- the same for bytes that came to the port with this number, which exists
 abbrev pub FailsAt : List Port → ℕ → List ℕ → FailedCheck → Type 0
 FailsAt ports port bytes f = (at : Port) × (slice_get ports port ≡ Some at) × FailsCheckAt at port bytes f
 
--- nothing was dropped, by one check and by any
+-- nothing was dropped, by one check and by all
 abbrev pub no_drops : SourceDropCount
 no_drops = record { count = 0; last = None }
 
 abbrev pub nothing_dropped_yet : SourceDrops
 nothing_dropped_yet = record { forwarded_control = no_drops; looped_source = no_drops }
 
--- one more was, and it is the last
+-- one more was dropped, and it is the last
 abbrev pub with_one_more_drop : LastDrop → SourceDropCount → SourceDropCount
 with_one_more_drop packet d = record { count = raised d.count; last = Some packet }
 

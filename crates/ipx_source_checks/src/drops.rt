@@ -10,7 +10,7 @@ use ipx_metrics::LastDrop;
 /// The packets that failed one check.
 #[derive(Clone, Copy, Debug, PartialEq, Eq)]
 pub struct SourceDropCount {
-    /// It stays at the greatest u64.
+    /// Saturates at the greatest u64.
     pub count: u64,
     pub last: Option<LastDrop>,
 }

@@ -33,7 +33,7 @@ fn comes_from_neighbour(at: Port, header: &IpxHeader) -> bool
     for_us && from_here && header.from.node != at.node
 }
 
-/// Whether a packet for the network at hand is RIP or SAP for the router.
+/// Whether a packet for the local network is RIP or SAP for the router.
 fn is_control_on_network(at: Port, header: &IpxHeader) -> bool
     ensures { result ≡ is_control (concern_on_network at header.now) }
 {
@@ -69,7 +69,7 @@ fn is_looped_source(at: Port, header: &IpxHeader) -> bool
     to != Network::LOCAL && to != at.network && header.from.network == to
 }
 
-/// Which check a packet fails that came to a port.
+/// The check that a packet which came to this port fails, if any.
 fn source_fault(at: Port, header: &IpxHeader) -> Option<SourceFault>
     ensures fault { IfSome result (FailsCheck at header.now) }
     ensures none { IfNone result ((fault : SourceFault) → FailsCheck at header.now fault → ⊥) }
@@ -83,7 +83,7 @@ fn source_fault(at: Port, header: &IpxHeader) -> Option<SourceFault>
     None
 }
 
-/// The check that bytes fail which came to this port, of this number.
+/// The check that bytes fail, if any. They came to this port, which has this number.
 fn failed_check_at(at: Port, port: usize, bytes: &[u8]) -> Option<FailedCheck>
     ensures failed { IfSome result (FailsCheckAt at port bytes.now) }
     ensures none { IfNone result ((f : FailedCheck) → FailsCheckAt at port bytes.now f → ⊥) }
@@ -101,7 +101,8 @@ fn failed_check_at(at: Port, port: usize, bytes: &[u8]) -> Option<FailedCheck>
     Some(FailedCheck { fault, packet })
 }
 
-/// The check that bytes fail which came to a router with these ports, at the port of a number.
+/// The check that bytes fail, if any. They came to the port with this number of a router with these
+/// ports.
 pub fn failed_check(ports: &[Port], port: usize, bytes: &[u8]) -> Option<FailedCheck>
     ensures failed { IfSome result (FailsAt ports.now port bytes.now) }
     ensures none { IfNone result ((f : FailedCheck) → FailsAt ports.now port bytes.now f → ⊥) }

@@ -1,8 +1,9 @@
 //! Source checks of a router: which packets it drops before it hears them.
 //!
-//! [`SourceChecked`] is a core of `ipx_carrier` over another one, as of a router. It drops RIP and SAP
-//! that another router forwarded, and packets for another network that claim to come from that same
-//! network. No router or host sends either, but a host that forges its source can have one forwarded.
+//! [`SourceChecked`] is a core of `ipx_carrier` over another one, such as a router's. It drops RIP
+//! and SAP that another router forwarded, and packets for another network that claim to come from
+//! that same network. No router or host sends either, but a host that forges its source can have
+//! one forwarded.
 #![tactic(auto)]
 
 mod drops;

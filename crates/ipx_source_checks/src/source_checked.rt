@@ -12,7 +12,7 @@ use ipx_wire::{Node, OutOfMemory};
 use std::alloc::Global;
 use std::marker::Model;
 
-/// A core over another one, that drops and counts packets which fail a source check: RIP and SAP for
+/// A core over another one. It drops and counts packets that fail a source check: RIP and SAP for
 /// the router that another router forwarded, and packets for another network that claim to come
 /// from that same network. The core below hears everything else, as it comes.
 pub struct SourceChecked<C: Core + Drop> {
@@ -44,7 +44,7 @@ impl<C: Core + Drop> Model for SourceChecked<C> {
 }
 
 impl<C: Core + Drop> SourceChecked<C> {
-    /// A core over that of a router with these ports, in their order. Nothing was dropped yet.
+    /// A core over that of a router with these ports, in their order. Nothing has been dropped yet.
     pub fn new(core: C, ports: Vec<Port>) -> SourceChecked<C>
         ensures core { result.core ≡ core }
         ensures ports { result.ports ≡ ports.items }
@@ -57,7 +57,7 @@ impl<C: Core + Drop> SourceChecked<C> {
         }
     }
 
-    /// The core below, to be asked between two runs.
+    /// The core below, for inspection between two runs.
     pub fn core(&self) -> &C
         ensures { result.now ≡ self.now.core }
     {

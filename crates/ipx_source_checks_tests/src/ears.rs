@@ -1,4 +1,4 @@
-//! A core that counts what it hears, and to which memory is refused so often before.
+//! A core that counts what it hears, and that first runs out of memory `refused` times.
 
 use ipx_carrier::Core;
 use ipx_wire::{Node, OutOfMemory};

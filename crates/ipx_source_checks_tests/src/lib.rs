@@ -1,5 +1,5 @@
-//! Tests of source checks, with literal packets. They call what `ipx_source_checks` makes public, and
-//! no crate stands on this one.
+//! Tests of source checks, with literal packets. They call what `ipx_source_checks` makes public,
+//! and no crate depends on this one.
 #![tactic(auto)]
 
 #[cfg(test)]

@@ -1,4 +1,4 @@
-//! Packets that come to the port of network 22, as node 00007f000003, and what becomes of each.
+//! Packets that come to the port of network 22, as node 00007f000003, and the outcome of each.
 
 use crate::ears::Ears;
 use ipx_carrier::Core;
@@ -16,7 +16,7 @@ enum Fate {
     LoopedSource,
 }
 
-/// What a packet is, its bytes, and what becomes of it.
+/// The description of a packet, its bytes, and its outcome.
 type Row = (&'static str, &'static str, Fate);
 
 const ROWS: [Row; 17] = [
@@ -107,7 +107,8 @@ const ROWS: [Row; 17] = [
     ),
 ];
 
-/// Ears of a router with one port, on network 22, and how often memory is refused to them.
+/// Such a core under a router with one port, on network 22, which first runs out of memory
+/// `refused` times.
 pub fn ears(alloc: Global, refused: u32) -> Result<SourceChecked<Ears>, OutOfMemory> {
     let port = Port {
         network: Network(0x22),
@@ -127,7 +128,7 @@ pub fn bytes_of(alloc: Global, text: &str) -> Result<Vec<u8>, Fail> {
     Ok(hex::decode(alloc, digits.as_bytes())?)
 }
 
-/// Who sent the packet of a row: its source network and node.
+/// The source address of a row's packet.
 fn sender(bytes: &[u8]) -> Address {
     let mut node = [0; 6];
     node.copy_from_slice(&bytes[22..28]);

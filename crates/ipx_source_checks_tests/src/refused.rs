@@ -1,16 +1,16 @@
-//! Want of memory below the checks.
+//! Out of memory below the checks.
 
 use crate::packets::ears;
 use ipx_carrier::Core;
 use std::alloc::Global;
 use std::test::Fail;
 
-/// A query for all services in the router's own segment, forwarded once.
+/// A query for all services on the router's own network, forwarded once.
 const FORGED: &[u8] = b"ffff0022010400000022ffffffffffff04520000002200007f00000204520001ffff";
-/// The same query, of a neighbour.
+/// The same query, sent by a neighbour.
 const ASKED: &[u8] = b"ffff0022000400000022ffffffffffff04520000002200007f00000204520001ffff";
 
-/// The bytes that digits say, though one request for memory is refused.
+/// The bytes that hex digits give, even if one allocation is refused.
 fn bytes_at_last(alloc: Global, digits: &[u8]) -> Result<Vec<u8>, Fail> {
     match hex::decode(alloc, digits) {
         Ok(bytes) => Ok(bytes),
@@ -18,7 +18,7 @@ fn bytes_at_last(alloc: Global, digits: &[u8]) -> Result<Vec<u8>, Fail> {
     }
 }
 
-/// Whichever request is refused, nothing is counted twice; and what fails a check needs no memory.
+/// Whichever allocation is refused, nothing is counted twice. What fails a check needs no memory.
 #[test]
 fn refused_memory_below_the_checks(rt: HostRuntime) -> Result<(), Fail> {
     let alloc = rt.alloc();

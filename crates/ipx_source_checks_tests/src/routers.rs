@@ -1,4 +1,5 @@
-//! Two routers on network 22, and a host on network 11 that forges routes in the first one's name.
+//! Two routers on network 22, and a host on network 11 that forges routes in the name of the first
+//! router.
 
 ghost use Rattle.std.specs.Prelude.{◌≡◌};
 

@@ -1,4 +1,4 @@
--- A router that counts does by hand what it does without its counts.
+-- A router that counts does with static neighbours what it does without its counts.
 use Rattle.std.proofs.Common.{◌≡◌, ℕ, Bool, true, false, List, [], ◌∷◌, Some, ap, MatchBool}
 use Rattle.ipx_router.specs.RouterPackets.{SendingView}
 use Rattle.ipx_router.specs.Telling.{is_due}

@@ -1,4 +1,4 @@
--- A list that is cut into packets, which are added one after another.
+-- A list that is split into packets, which are added one after another.
 use Rattle.std.proofs.Common.{◌≡◌, ℕ, true, false, ◌<◌, List, [], ◌∷◌, ◌++◌, length, take, drop, refl, sym, ap, ◌∙◌, arith, inl, inr, min, append-nil}
 use Rattle.std.proofs.lemmas.Bool.{cases_lt}
 use Rattle.std.proofs.lemmas.List.{take_all, drop_all}
@@ -32,7 +32,7 @@ cut_all most IsPacketOf P by entries [] cut = All-nil P
 cut_all most IsPacketOf P by entries (s ∷ sent) cut =
     All-cons P s sent (by (take most entries) s cut.1) (cut_all most IsPacketOf P by (drop most entries) sent cut.2)
 
--- what is taken of a list of at most so many is taken of the list
+-- what is taken of a list of at most n is taken of the list
 pub take_fewer : {E : Type 0} (most n : ℕ) (xs : List E) → n ≡ min (length xs) most → (take n xs ≡ take most xs) × (drop n xs ≡ drop most xs)
 take_fewer most n xs e = elim (cases_lt most (length xs)) [
   | inl less ↦ let same : n ≡ most = omega arith in rw same (refl, refl)

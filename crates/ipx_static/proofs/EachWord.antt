@@ -1,5 +1,5 @@
--- What each word in turn leaves of a fact about one entry: words of which it holds by what they say keep it, and the
--- word that says the entry makes it.
+-- What each advertisement in turn leaves of a fact about one entry. Those that agree with the fact keep it,
+-- and the one that holds the entry makes it true.
 use Rattle.std.proofs.Common.{◌≡◌, ◌+◌, ◌-◌, ℕ, zero, suc, false, List, [], ◌∷◌, ◌++◌, Contains, take, drop, refl, sym, ap, ◌∙◌, subst, inl, inr, ◌⊎◌, arith}
 use Rattle.std.specs.List.{All}
 use Rattle.std.proofs.lemmas.List.Elements.{All-head, All-tail}
@@ -19,7 +19,8 @@ use Rattle.ipx_static.specs.StaticAdvertisements.{AreWords, AreWordsOf, heard_on
 use Rattle.ipx_static.specs.StaticOffers.{IsAnotherNode, static_source}
 use Rattle.ipx_static.proofs.OneKey.{back_list, front_list, later, split_list}
 
--- a router receives packets at a moment, one after another, and answers each so. The port is as a core has it
+-- a router receives packets at a given time, one after another, and answers each so. The port is as a core
+-- has it
 abbrev pub ReceivesEach : (OutcomeView → Type 0) → ℕ → List SendingView → RouterView → RouterView → Type 0
 ReceivesEach IsSo now [] old new = new ≡ old
 ReceivesEach IsSo now (w ∷ ws) old new = (a : OutcomeView) × (mid : RouterView)
@@ -36,7 +37,7 @@ ports_stay : (IsSo : OutcomeView → Type 0) (now : ℕ) (ws : List SendingView)
 ports_stay IsSo now [] old new is = ap (λ (r : RouterView). r.ports) is
 ports_stay IsSo now (w ∷ ws) old new h = ports_stay IsSo now ws h.1 new h.4 ∙ h.2.rest.ports
 
--- how the entries of a list are taken of another: all of them, or none
+-- how the entries of a list are taken from another: all of them, or none
 pub record Parts {E F : Type 0} (f : List F → List E) : Type 0 where
   pub none : (x : E) → Contains (f []) x → ⊥
   pub split : (n : ℕ) (xs : List F) (x : E) → Contains (f xs) x → Contains (f (take n xs)) x ⊎ Contains (f (drop n xs)) x
@@ -49,7 +50,7 @@ all_of = record { none = λ x m. omega (arith, m.1); split = split_list; front =
 pub none_of : {E F : Type 0} → Parts {E = E} {F = F} (λ xs. [])
 none_of = record { none = λ x m. omega (arith, m.1); split = λ n xs x m. inl m; front = λ n xs x m. m; back = λ n xs x m. m }
 
--- an entry that neighbour n says, what holds before its word, and what holds from then on
+-- an entry that neighbour n advertises, what holds before its advertisement, and what holds from then on
 module _ {E : Type 0} (e : E) (n : StaticNeighbour) (ports : List Port) (now : ℕ) (IsSo : OutcomeView → Type 0) (Before Has : RouterView → Type 0) (Agrees : Source → List E → Type 0)
     (Learns : Source → List E → RouterView → RouterView → Type 0)
     (keep_before : (s : Source) (xs : List E) (old new : RouterView) → Learns s xs old new → Agrees s xs → Before old → Before new)
@@ -60,12 +61,12 @@ module _ {E : Type 0} (e : E) (n : StaticNeighbour) (ports : List Port) (now : �
   Effect {F} f IsPacketOf source = (old new : RouterView) (part : List F) (w : SendingView) (a : OutcomeView) → old.ports ≡ ports → IsPacketOf part w
       → IsSo a → Receives old (w.port - 1 + 1) w.bytes now a new → Learns source (f part) old new
 
-  -- what a packet of a part of these entries does that says the entry
+  -- what a packet of a part of these entries does, if it holds the entry
   abbrev Makes : {F : Type 0} → (List F → List E) → (List F → SendingView → Type 0) → Source → List F → Type 0
   Makes {F} f IsPacketOf source whole = (old new : RouterView) (part : List F) (w : SendingView) (a : OutcomeView) → old.ports ≡ ports → IsPacketOf part w
       → IsSo a → Receives old (w.port - 1 + 1) w.bytes now a new → ((x : F) → Contains part x → Contains whole x) → Agrees source (f part) → Contains (f part) e → Before old → Has new
 
-  -- a fact that words keep
+  -- a fact that advertisements keep
   abbrev Keeps : (RouterView → Type 0) → Type 0
   Keeps P = (s : Source) (xs : List E) (old new : RouterView) → Learns s xs old new → Agrees s xs → P old → P new
 
@@ -105,7 +106,7 @@ module _ {E : Type 0} (e : E) (n : StaticNeighbour) (ports : List Port) (now : �
       (sap_effect : (m : StaticNeighbour) → IsAnotherNode ports m → Effect g (IsSap m) (static_source m))
       (rip_makes : IsAnotherNode ports n → Makes f (IsRip n) (static_source n) n.routes.items)
       (sap_makes : IsAnotherNode ports n → Makes g (IsSap n) (static_source n) n.services.items) where
-    -- all that a neighbour says agrees with the entry
+    -- all that a neighbour advertises agrees with the entry
     abbrev pub AllAgrees : StaticNeighbour → Type 0
     AllAgrees m = Agrees (static_source m) (f m.routes.items) × Agrees (static_source m) (g m.services.items)
 

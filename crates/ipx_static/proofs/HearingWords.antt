@@ -1,4 +1,4 @@
--- A core that hears words, one after another.
+-- A core that receives advertisements, one after another.
 use Rattle.std.proofs.Common.{◌≡◌, ℕ, zero, suc, ◌+◌, ◌-◌, ◌<◌, List, [], ◌∷◌, length, drop, refl, sym, ap, subst, arith}
 use Rattle.std.proofs.lemmas.List.Elements.{All-head, All-tail}
 use Rattle.std.specs.Prelude.{get_or}
@@ -7,21 +7,21 @@ use Rattle.ipx_router.specs.Ports.{AreOnPorts, IsPortNumber}
 use Rattle.ipx_router.specs.RouterPackets.{SendingView, sending_of, sendings}
 use Rattle.ipx_static.specs.WithStatics.{HearsWords, MissesAWord}
 
--- the port of a word is there
+-- the port of an advertisement exists
 pub word_there : (count : ℕ) (ws : List Reply) (i : ℕ) (d : Reply) → i < length ws → AreOnPorts count (sendings ws) → IsPortNumber count (get_or ws i d).port
 word_there count [] i d within there = absurd (omega (arith, within))
 word_there count (w ∷ ws) zero d within there = All-head (λ (s : SendingView). IsPortNumber count s.port) (sending_of w) (sendings ws) there
 word_there count (w ∷ ws) (suc i) d within there = word_there count ws i d (omega (arith, within)) (All-tail (λ (s : SendingView). IsPortNumber count s.port) (sending_of w) (sendings ws) there)
 
 module _ {C : Type 0} (hears hear_out_of_memory : C → ℕ → List ℕ → ℕ → C → Type 0) (now : ℕ) (ws : List Reply) (i : ℕ) (w : Reply) (at : drop i ws ≡ w ∷ drop (i + 1) ws) (first core mid : C) where
-  -- one word more is heard
+  -- one advertisement more is received
   pub heard_more : hears core (w.port - 1) w.bytes.items now mid
       → ((new : C) → HearsWords hears now (sendings (drop i ws)) core new → HearsWords hears now (sendings ws) first new)
       → (new : C) → HearsWords hears now (sendings (drop (i + 1) ws)) mid new → HearsWords hears now (sendings ws) first new
   heard_more heard left new rest =
       left new (subst (λ (xs : List Reply). HearsWords hears now (sendings xs) core new) (sym at) (mid, heard, rest))
 
-  -- and a later one is missed
+  -- and memory runs out for a later one
   pub missed_later : hears core (w.port - 1) w.bytes.items now mid
       → ((new : C) → MissesAWord hears hear_out_of_memory now (sendings (drop i ws)) core new → MissesAWord hears hear_out_of_memory now (sendings ws) first new)
       → (new : C) → MissesAWord hears hear_out_of_memory now (sendings (drop (i + 1) ws)) mid new → MissesAWord hears hear_out_of_memory now (sendings ws) first new
@@ -30,7 +30,7 @@ module _ {C : Type 0} (hears hear_out_of_memory : C → ℕ → List ℕ → ℕ
       (sending_of w ∷ rest.0, rest.1, rest.2, rest.3, ap (λ (t : List SendingView). sending_of w ∷ t) rest.4, (mid, heard, rest.5), rest.6) in
       left new (subst (λ (xs : List Reply). MissesAWord hears hear_out_of_memory now (sendings xs) core new) (sym at) here)
 
-  -- or this one is
+  -- or for this one
   pub missed_here : hear_out_of_memory core (w.port - 1) w.bytes.items now mid
       → ((new : C) → MissesAWord hears hear_out_of_memory now (sendings (drop i ws)) core new → MissesAWord hears hear_out_of_memory now (sendings ws) first new)
       → MissesAWord hears hear_out_of_memory now (sendings ws) first mid

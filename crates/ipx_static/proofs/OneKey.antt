@@ -1,4 +1,4 @@
--- What a table has of a key once lists of entries were heard.
+-- What a table has for a key once lists of entries were learned.
 use Rattle.std.proofs.Common.{◌≡◌, ℕ, zero, suc, ◌-◌, Bool, true, false, cond, List, [], ◌∷◌, take, drop, Contains, Option, Some, None, slice_get, if◌then◌else◌, refl, sym, ap, ◌∙◌, subst, inl, inr, ◌⊎◌, arith}
 use Rattle.std.specs.List.{fold}
 use Rattle.std.specs.Cmp.{IsTotalOrder}
@@ -23,7 +23,7 @@ both_tie Equal Equal h = (refl, refl)
 both_tie Equal Greater h = cc
 both_tie Greater b h = cc
 
--- ---- where an entry stands in a list
+-- ---- where an entry is in a list
 
 pub there_in : {E : Type 0} (xs : List E) (k : ℕ) (x : E) → slice_get xs k ≡ Some x → Contains xs x
 there_in xs k x at =
@@ -58,7 +58,7 @@ back_list (suc n) (y ∷ ys) x m = later y x ys (back_list n ys x m)
 nothing_there : {A : Type 0} (a : A) → None ≡ Some a → ⊥
 nothing_there a same = cc
 
--- ---- what was heard at a moment is young then
+-- ---- what was learned at a given time is young then
 
 still_now : {M : Type 0} (now : ℕ) (m : M) (o : Option (M × ℕ)) → o ≡ Some (m, now) → still now o ≡ Some (m, now)
 still_now now m o is =
@@ -68,7 +68,7 @@ still_now now m o is =
 module _ {K M E : Type 0} (cmp : K → K → Ordering) (total : IsTotalOrder cmp) (exact : (a b : K) → cmp a b ≡ Equal → a ≡ b)
     (apart : (a b : Source) → source_cmp a b ≡ Equal → a ≡ b)
     (dead : M → Bool) (key_of : E → K) (metric_of : E → M) (hears : E → Bool) (now : ℕ) where
-  -- an entry of a source is heard, if it is to be
+  -- an entry of a source is learned, if it is to be
   abbrev pub heard_entry : Source → Content K M → E → Content K M
   heard_entry source c e = if hears e then after_hear cmp dead c (key_of e, source) (metric_of e) now else c
 
@@ -91,14 +91,14 @@ module _ {K M E : Type 0} (cmp : K → K → Ordering) (total : IsTotalOrder cmp
       ap is_eq (tied_itself whole p)
 
   module _ (e : E) (alive : dead (metric_of e) ≡ false) (own : Source) where
-    -- the offer of the entry, heard at this moment
+    -- the offer of the entry, learned at this time
     abbrev pub Has : Content K M → Type 0
     Has c = c (key_of e, own) ≡ Some (metric_of e, now)
 
     abbrev HasWord : Option (M × ℕ) → Type 0
     HasWord o = o ≡ Some (metric_of e, now)
 
-    -- where these entries are of its source, they say nothing else of its key
+    -- if these entries are from its source, they say nothing else of its key
     abbrev pub Agrees : Source → List E → Type 0
     Agrees source xs = source ≡ own → SaysNoOther key_of metric_of xs e
 
@@ -137,7 +137,7 @@ module _ {K M E : Type 0} (cmp : K → K → Ordering) (total : IsTotalOrder cmp
     makes (x ∷ xs) c agree (suc k, within, at) hears_it =
         makes xs (heard_entry own c x) (λ y n. agree y (later x y xs n)) (k, omega (arith, within), at) hears_it
 
-    -- entries are heard of what is not old
+    -- entries are learned into what is not old
     abbrev pub Hears : Source → List E → Content K M → Content K M → Type 0
     Hears source xs old new = (x : K × Source) → new x ≡ fold (heard_entry source) (after_age old now) xs x
 
@@ -149,7 +149,7 @@ module _ {K M E : Type 0} (cmp : K → K → Ordering) (total : IsTotalOrder cmp
         let heard : Hears own xs old new = subst (λ (s : Source). Hears s xs old new) same h in
         heard (key_of e, own) ∙ makes xs (after_age old now) (agree same) among hears_it
 
-    -- what was heard of it counts, and goes on so
+    -- what was learned of it counts, and stays so
     abbrev pub StaysYoung : Content K M → Type 0
     StaysYoung c = Counts (metric_of e) now (c (key_of e, own))
 
@@ -174,7 +174,7 @@ module _ {K M E : Type 0} (cmp : K → K → Ordering) (total : IsTotalOrder cmp
     pub aged_young : (c : Content K M) → StaysYoung c → StaysYoung (after_age c now)
     aged_young c s = (s.0, ap (still now) s.1 ∙ ap (λ b. cond b (Some (metric_of e, s.0)) None) s.2, s.2)
 
-    -- entries that say nothing of its key, where they are of its source, leave what stands there
+    -- entries that say nothing of its key, if they are from its source, leave what is there
     abbrev pub SaysNothing : Source → List E → Type 0
     SaysNothing source xs = source ≡ own → (x : E) → Contains xs x → key_of x ≡ key_of e → ⊥
 
@@ -192,12 +192,12 @@ module _ {K M E : Type 0} (cmp : K → K → Ordering) (total : IsTotalOrder cmp
         ∙ step_is source c x (key_of e, own)
         ∙ left_by x source (λ same. quiet same x (here x xs)) (hears x) (is_same cmp (key_of x, source) (key_of e, own)) (dead (metric_of x)) (c (key_of e, own)) refl
 
-  -- of a list each entry that is to be heard and is alive counts
+  -- each entry of a list that is to be learned and is alive counts
   abbrev pub AllStand : List E → Source → Content K M → Type 0
   AllStand entries own c = (x : E) → Contains entries x → hears x ≡ true → dead (metric_of x) ≡ false
       → Counts (metric_of x) now (c (key_of x, own))
 
-  -- these entries, where they are of that source, say nothing else of the list's keys
+  -- these entries, if they are from that source, say nothing else of the list's keys
   abbrev pub AgreeWith : List E → Source → Source → List E → Type 0
   AgreeWith entries own source xs = (x : E) → Contains entries x → source ≡ own → SaysNoOther key_of metric_of xs x
 
@@ -207,7 +207,7 @@ module _ {K M E : Type 0} (cmp : K → K → Ordering) (total : IsTotalOrder cmp
       subst (Counts (metric_of x) now) (sym (h (key_of x, own)))
       (stays_young x alive own source xs (after_age old now) (λ same. agree x among same) (aged_young x alive own old (all x among hears_it alive)))
 
-  -- then an entry of the list that is to be heard and is alive does not find that nothing stands of it
+  -- then for an entry of the list that is to be learned and is alive, the table has an offer
   pub never_unknown : (entries : List E) (own : Source) (c : Content K M) → AllStand entries own c → (x : E) → Contains entries x → hears x ≡ true → dead (metric_of x) ≡ false → c (key_of x, own) ≡ None → ⊥
   never_unknown entries own c all x among hears_it alive none =
       let s = all x among hears_it alive in

@@ -1,4 +1,4 @@
--- What a router hears that does not speak of an offer leaves that offer, if it is young.
+-- A packet that does not mention an offer leaves that offer, if it is young.
 use Rattle.std.proofs.Common.{◌≡◌, ℕ, Bool, List, length, take, Option, Some, None, MatchOption}
 use Rattle.ipx_wire.specs.Ipx.{PacketView, IsIpx, ipx_fault}
 use Rattle.ipx_control.specs.declared.rip.packet.RipEntry.{RipEntry}
@@ -24,7 +24,7 @@ module _ (old new : RouterView) (port : ℕ) (bytes : List ℕ) (now : ℕ) (arr
   abbrev at : PortNow
   at = record { number = port; port = arrived; now = now }
 
-  -- what is shown of each case of what bytes are
+  -- what is shown for each case of what bytes are
   abbrev Each : Type 0
   Each = (d : PacketView) (tail : List ℕ) → IsIpx d bytes tail → (a : OutcomeView) (k : Concern) → AnswersByConcern (known_at old now) at d a (tables new) k → P
 

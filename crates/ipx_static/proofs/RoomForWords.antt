@@ -1,4 +1,4 @@
--- Where a core counts no table that was full, its router had room for each packet.
+-- If a core counts no full table, its router had room for each packet.
 use Rattle.std.proofs.Common.{◌≡◌, ◌≢◌, ◌<◌, ◌≤◌, ◌+◌, ◌-◌, ◌^◌, ℕ, Bool, true, false, List, [], ◌∷◌, Some, refl, sym, ap, ◌∙◌, subst, inl, inr, ◌⊎◌, arith}
 use Rattle.std.specs.Prelude.{MatchBool}
 use Rattle.ipx_router.specs.declared.reason.Reason.TheVariants.{Bad, Propagated, NotOurs, NoRoute, HopLimit, BadControl, TableFull}
@@ -13,7 +13,7 @@ use Rattle.ipx_carrier.specs.PriorityRouterCore.{PriorityCoreView, PriorityHears
 use Rattle.ipx_static.specs.WithStatics.{WithStaticsView, HearsIfDue, HearsWords}
 use Rattle.ipx_static.proofs.EachWord.{ReceivesEach}
 
--- the queues are nothing to the router and its counts
+-- the queues do not matter to the router and its counts
 answer_router : (a : OutcomeView) (c : PriorityCoreView) → (put_by_priority a c).router ≡ c.router
 answer_router (Forward port next bytes) c = refl
 answer_router (Replies sent) c = refl
@@ -70,7 +70,7 @@ all_on now (w ∷ ws) old new h less =
     let rest = all_on now ws h.0 new h.2 first.1 in
     (omega (arith, first.0, rest.0), rest.1)
 
--- a response that finds a table full answers so
+-- a response for which a table is full is answered so
 abbrev pub HasRoom : OutcomeView → Type 0
 HasRoom a = a ≢ Dropped TableFull
 
@@ -89,7 +89,7 @@ room_for_each now (w ∷ ws) old new h less same =
       | inr up ↦ absurd (omega (arith, same, rest, outcomes, up, raised_one (full old) less))
     ]
 
--- whatever is answered
+-- for any answer
 abbrev pub AsItMay : OutcomeView → Type 0
 AsItMay a = Unit {0}
 

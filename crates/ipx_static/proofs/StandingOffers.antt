@@ -1,4 +1,4 @@
--- Routes and services by hand stand over a run.
+-- Static routes and services stay over a run.
 use Rattle.std.proofs.Common.{◌≡◌, ◌≢◌, ◌≤◌, ◌<◌, ◌+◌, ℕ, true, List, Contains, take, Option, Some, refl, sym, ap, ◌∙◌, subst, inl, inr, arith}
 use Rattle.std.specs.List.{All}
 use Rattle.ipx_control.specs.declared.rip.packet.RipEntry.{RipEntry}
@@ -29,14 +29,14 @@ use Rattle.ipx_static.proofs.QuietPackets.{routes_by, services_by}
 use Rattle.ipx_static.proofs.StandingRuns.{AnyRoom, any_of_each, room_of_each, same_or_not, whole_run}
 use Rattle.ipx_static.proofs.WordOffers.{Apart, each_service, near_enough, network_total, service_key_total}
 
--- where the count stays over the whole run, it stays from the first question on
+-- if the count stays over the whole run, it stays after the first time that the core is asked
 room_later : {old first new : PriorityCoreView} → FindsRoom old first → new.outcomes.table_full ≡ old.outcomes.table_full → FindsRoom first new
 room_later r same = record { room = same ∙ sym r.room; countable = omega (arith, r.room, r.countable) }
 
 module _ (law : StaticRoutesAreOffers) (again : StaticRoutesAreRefreshed) (apart : Apart) (ns : List StaticNeighbour) (start : ℕ) (calls : List StaticCallAt) (old new : WithStaticsView PriorityCoreView)
     (run : RunsWithStatics ns start calls old new) (n : StaticNeighbour) (there : Contains ns n) (e : RipEntry)
     (alone : (x : RipEntry) → Contains n.routes.items x → DependsOn old new e x → IsSaidAlone route_key route_metric (λ m. m.routes.items) ns n x) where
-  -- one of routes on which that one depends
+  -- one of the routes on which that one depends
   record Needed_routes : Type 0 where
     pub entry : RipEntry
     pub among : Contains n.routes.items entry
@@ -61,13 +61,13 @@ module _ (law : StaticRoutesAreOffers) (again : StaticRoutesAreRefreshed) (apart
     heard = heard;
   }
 
-  -- if there is room, each of them is an offer as words are heard
+  -- if there is room, each of them is an offer after the advertisements are received
   says_routes : (v w : WithStaticsView PriorityCoreView) (now : ℕ) → v.core.router.ports ≡ old.core.router.ports → v.advertisements ≡ old.advertisements → is_due v.said now ≡ true → HearsIfDue PriorityHears v now w
       → FindsRoom v.core w.core → (i : Needed_routes) → value_of_routes i w.core.router ≡ Some (metric_of_routes i, now)
   says_routes v w now same_ports same_words due heard room i =
       law ns now v w (hears_routes v w now same_ports same_words due heard) room n there i.entry i.among (alone i.entry i.among i.needed) (subst (λ (ps : List Port). is_heard ps i.entry ≡ true) (sym same_ports) i.heard) i.near
 
-  -- and if all of them stand, whatever room there is
+  -- and if all of them count, for any room
   says_again_routes : (new.core.outcomes.table_full ≢ old.core.outcomes.table_full) → (v w : WithStaticsView PriorityCoreView) (now : ℕ) → v.core.router.ports ≡ old.core.router.ports → v.advertisements ≡ old.advertisements → is_due v.said now ≡ true → HearsIfDue PriorityHears v now w
       → ((i : Needed_routes) → Counts (metric_of_routes i) now (value_of_routes i v.core.router)) → (i : Needed_routes) → value_of_routes i w.core.router ≡ Some (metric_of_routes i, now)
   says_again_routes filled v w now same_ports same_words due heard stand i =
@@ -110,7 +110,7 @@ routes_stand law again apart ns start calls old new run n there e among alone he
 module _ (law : StaticServicesAreOffers) (again : StaticServicesAreRefreshed) (apart : Apart) (ns : List StaticNeighbour) (start : ℕ) (calls : List StaticCallAt) (old new : WithStaticsView PriorityCoreView)
     (run : RunsWithStatics ns start calls old new) (n : StaticNeighbour) (there : Contains ns n) (e : ServiceEntry)
     (alone : (x : ServiceEntry) → Contains n.services.items x → DependsOn old new e x → IsSaidAlone key_of_service service_metric (λ m. m.services.items) ns n x) where
-  -- one of services on which that one depends
+  -- one of the services on which that one depends
   record Needed_services : Type 0 where
     pub entry : ServiceEntry
     pub among : Contains n.services.items entry
@@ -134,13 +134,13 @@ module _ (law : StaticServicesAreOffers) (again : StaticServicesAreRefreshed) (a
     heard = heard;
   }
 
-  -- if there is room, each of them is an offer as words are heard
+  -- if there is room, each of them is an offer after the advertisements are received
   says_services : (v w : WithStaticsView PriorityCoreView) (now : ℕ) → v.core.router.ports ≡ old.core.router.ports → v.advertisements ≡ old.advertisements → is_due v.said now ≡ true → HearsIfDue PriorityHears v now w
       → FindsRoom v.core w.core → (i : Needed_services) → value_of_services i w.core.router ≡ Some (metric_of_services i, now)
   says_services v w now same_ports same_words due heard room i =
       law ns now v w (hears_services v w now same_ports same_words due heard) room n there i.entry i.among (alone i.entry i.among i.needed) i.near
 
-  -- and if all of them stand, whatever room there is
+  -- and if all of them count, for any room
   says_again_services : (new.core.outcomes.table_full ≢ old.core.outcomes.table_full) → (v w : WithStaticsView PriorityCoreView) (now : ℕ) → v.core.router.ports ≡ old.core.router.ports → v.advertisements ≡ old.advertisements → is_due v.said now ≡ true → HearsIfDue PriorityHears v now w
       → ((i : Needed_services) → Counts (metric_of_services i) now (value_of_services i v.core.router)) → (i : Needed_services) → value_of_services i w.core.router ≡ Some (metric_of_services i, now)
   says_again_services filled v w now same_ports same_words due heard stand i =

@@ -1,4 +1,4 @@
--- Offers by hand stand over a run.
+-- Static offers stay over a run.
 use Rattle.std.proofs.Common.{◌≡◌, ◌≢◌, ◌==◌, ◌<◌, ◌≤◌, ◌+◌, ◌-◌, ◌^◌, ℕ, Bool, true, false, cond, List, [], ◌∷◌, Option, Some, None, refl, sym, ap, ◌∙◌, subst, inl, inr, ◌⊎◌, arith, eqb-true}
 use Rattle.std.specs.Prelude.{nat_le}
 use Rattle.std.proofs.lemmas.Bool.{eqb-false, leb-false, lt-ltb}
@@ -61,9 +61,9 @@ calls_full (c ∷ cs) old new h less =
     let first = call_full c.moment c.call old h.0 h.1 less in
     omega (arith, first.0, calls_full cs h.0 new h.2 first.1)
 
--- ---- room over calls, or none asked for
+-- ---- room over calls, or none needed
 
--- of a run that has it, each call has it
+-- if a run has it, each call has it
 pub record IsOfEach (Room : PriorityCoreView → PriorityCoreView → Type 0) : Type 0 where
   pub words : (v mid : WithStaticsView PriorityCoreView) (now : ℕ) (given : Option Given) (h : GivesWithStatics PriorityHears PriorityGives v now given mid) → Room v.core mid.core → Room v.core h.0.core
   pub first : (now : ℕ) (c : StaticCall) (cs : List StaticCallAt) (v mid new : WithStaticsView PriorityCoreView) → DoesStaticCall now c v mid → DoStaticCalls cs mid new → Room v.core new.core → Room v.core mid.core
@@ -106,7 +106,7 @@ same_or_not before after = elim (bool_cases (full after == full before)) [
   | inr other ↦ inr (λ e. eqb-false (full after) (full before) other e)
 ]
 
--- ---- offers, each with a name of its own
+-- ---- offers, each with its name
 
 module _ {M I : Type 0} (metric : I → M) (ports : List Port) (advertisements : List SendingView) (value : I → RouterView → Option (M × ℕ)) (IsSuch : ℕ → List ℕ → Type 0)
     (receives : (i : I) (old new : RouterView) (port : ℕ) (bytes : List ℕ) (now : ℕ) (a : OutcomeView) → IsSuch port bytes → Receives old (port + 1) bytes now a new → value i new ≡ still now (value i old))
@@ -114,11 +114,11 @@ module _ {M I : Type 0} (metric : I → M) (ports : List Port) (advertisements :
     (Room : PriorityCoreView → PriorityCoreView → Type 0) (each_room : IsOfEach Room)
     (says : (old new : WithStaticsView PriorityCoreView) (now : ℕ) → old.core.router.ports ≡ ports → old.advertisements ≡ advertisements → is_due old.said now ≡ true → HearsIfDue PriorityHears old now new
     → Room old.core new.core → ((i : I) → Counts (metric i) now (value i old.core.router)) → (i : I) → value i new.core.router ≡ Some (metric i, now)) where
-  -- one was heard since words were said last
+  -- one was learned since the advertisements last came
   abbrev Stands : ℕ → I → RouterView → Type 0
   Stands last i r = (heard : ℕ) × (last ≤ heard) × (value i r ≡ Some (metric i, heard))
 
-  -- and so is each, which is under a minute before the last question
+  -- and so was each, which is under a minute before the core was last asked
   pub record Stays (v : WithStaticsView PriorityCoreView) (asked : ℕ) : Type 0 where
     pub last : ℕ
     pub is_last : v.said ≡ Some last
@@ -138,7 +138,7 @@ module _ {M I : Type 0} (metric : I → M) (ports : List Port) (advertisements :
       let st = s.stands i in
       (st.0, st.2, young_within now asked s.last st.0 s.lately st.1 within)
 
-  -- asked behind words, or where none were due
+  -- asked after advertisements, or if none were due
   asked_behind : (v mid : WithStaticsView PriorityCoreView) (now : ℕ) (given : Option Given) → Stays v now → PriorityGives v.core now given mid.core → mid ≡ record v { core = mid.core } → Stays mid now
   asked_behind v mid now given s h is =
       let router = gives_router v.core mid.core now given h in
@@ -154,7 +154,7 @@ module _ {M I : Type 0} (metric : I → M) (ports : List Port) (advertisements :
         same_words = ap (λ (v : WithStaticsView PriorityCoreView). v.advertisements) is ∙ s.same_words;
       }
 
-  -- asked where words are due
+  -- asked as advertisements are due
   asked_due : (v mid : WithStaticsView PriorityCoreView) (now : ℕ) (given : Option Given) → v.core.router.ports ≡ ports → v.advertisements ≡ advertisements → is_due v.said now ≡ true
       → (h : GivesWithStatics PriorityHears PriorityGives v now given mid) → ((i : I) → value i h.0.core.router ≡ Some (metric i, now)) → Stays mid now
   asked_due v mid now given same_ports same_words due h spoken =
@@ -173,7 +173,7 @@ module _ {M I : Type 0} (metric : I → M) (ports : List Port) (advertisements :
   under_a_minute : (now last : ℕ) → nat_le 60000 (now - last) ≡ false → now - last < 60000
   under_a_minute now last h = omega (arith, leb-false 60000 (now - last) h)
 
-  -- asked where none are due
+  -- asked as none are due
   asked_early : (v mid : WithStaticsView PriorityCoreView) (asked now : ℕ) (given : Option Given) → Stays v asked → is_due v.said now ≡ false
       → GivesWithStatics PriorityHears PriorityGives v now given mid → Stays mid now
   asked_early v mid asked now given s not_due h =
@@ -205,7 +205,7 @@ module _ {M I : Type 0} (metric : I → M) (ports : List Port) (advertisements :
         same_words = ap (λ (v : WithStaticsView PriorityCoreView). v.advertisements) h.1 ∙ s.same_words;
       }
 
-  -- to ask its neighbours once more
+  -- told to ask its neighbours once more
   asks_on : (v mid : WithStaticsView PriorityCoreView) (asked : ℕ) → Stays v asked → mid ≡ record v { core = record v.core { started = false } } → Stays mid asked
   asks_on v mid asked s is = record {
     last = s.last;
@@ -235,7 +235,7 @@ module _ {M I : Type 0} (metric : I → M) (ports : List Port) (advertisements :
       (one_call c.moment c.call v mid asked s each.0 each.1 h.1 (each_room.first c.moment c.call cs v mid new h.1 h.2 room)) each.2 h.2
       (each_room.later c.moment c.call cs v mid new h.1 h.2 room)
 
-  -- from a question at which words are due
+  -- from the time that the core is asked as advertisements are due
   pub whole_run : (start : ℕ) (given : Option Given) (cs : List StaticCallAt) (old first new : WithStaticsView PriorityCoreView) → old.core.router.ports ≡ ports → old.advertisements ≡ advertisements → is_due old.said start ≡ true
       → (begins : GivesWithStatics PriorityHears PriorityGives old start given first) → ((i : I) → value i begins.0.core.router ≡ Some (metric i, start)) → DoStaticCalls cs first new → Room first.core new.core → IsAskedEachMinute IsSuch cs start
       → (now : ℕ) → now ≤ asked_in cs start + 60000 → (i : I) → Counts (metric i) now (value i new.core.router)

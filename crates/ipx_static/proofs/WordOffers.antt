@@ -1,4 +1,4 @@
--- What a router does with a word by hand.
+-- What a router does with a static advertisement.
 use Rattle.std.proofs.Common.{◌≡◌, ◌≢◌, ◌<◌, ◌≤◌, ◌+◌, ◌-◌, ℕ, Bool, true, false, List, [], ◌∷◌, Contains, length, take, Option, Some, None, MatchOption, refl, sym, ap, ◌∙◌, subst, inl, inr, ◌⊎◌, arith, eqb-true}
 use Rattle.std.specs.Prelude.{◌&&◌, nat_eq, nat_le}
 use Rattle.std.specs.Cmp.{IsTotalOrder}
@@ -71,7 +71,7 @@ not_node a b apart = elim (bool_cases (is_node a b)) [
   | inr other ↦ other
 ]
 
--- what an option has where it has nothing
+-- what an option has if it has nothing
 of_none : {F : Type 0} (P : Type 0) (Q : F → Type 0) (o : Option F) → o ≡ None → MatchOption o P Q → P
 of_none P Q None e h = h
 of_none P Q (Some f) e h = cc
@@ -92,7 +92,7 @@ OneIpx = (p q : PacketView) (bytes s t : List ℕ) → IsIpx p bytes s → IsIpx
 abbrev pub NoIpxFault : Type 0
 NoIpxFault = (p : PacketView) (bytes tail : List ℕ) → IsIpx p bytes tail → ipx_fault bytes ≡ None
 
--- what a table has of a list of entries that is heard: all, or those before one that found it full
+-- what a table has of a list of entries that is learned: all, or those before one that did not fit
 abbrev pub TakesRoutes : Source → ℕ → List Port → Routes → List RipEntry → OutcomeView → Table Network RouteMetric → Type 0
 TakesRoutes source now ports routes part a new = HoldsRoutes new (after_routes ports source now routes part)
     ⊎ ((a ≡ Dropped TableFull) × (k : ℕ) × HoldsRoutes new (after_routes ports source now routes (take k part)) × AtEntry part k (IsFullForRoute ports source new))
@@ -168,7 +168,7 @@ module _ (one_ipx : OneIpx) (no_ipx_fault : NoIpxFault) (number : ℕ) (node : N
       let same : read.0 ≡ sap.Response false part = (one_sap read.0 (sap.Response false part) own.body read.1 [] read.2 own.says).0 in
       services_part services part a new.services (subst (λ m. AnswersSapMessage services at d.header m a new.services) same read.3)
 
-  -- a word of routes leaves services, but for those that are old, and a word of services leaves routes
+  -- an advertisement of routes leaves services, apart from old ones, and one of services leaves routes
   rip_leaves : (old : RouterView) (part : List RipEntry) (s : SendingView) (a : OutcomeView) (new : RouterView) → IsRipPacket (heard_on number node rip_socket) (rip.Response part) s
       → IsPort old.ports number near → Receives old number s.bytes now a new
       → (x : ServiceKey × Source) → services_in new.services x ≡ after_age (services_in old.services) now x
@@ -206,11 +206,11 @@ OneSap = (m n : SapView) (bytes s t : List ℕ) → IsSap m bytes s → IsSap n 
 abbrev NoSapFault : Type 0
 NoSapFault = (m : SapView) (bytes tail : List ℕ) → IsSap m bytes tail → sap_fault bytes ≡ None
 
--- each service is heard
+-- each service is learned
 abbrev pub each_service : ServiceEntry → Bool
 each_service e = true
 
--- the port of a neighbour's word is that of the neighbour
+-- the port of a neighbour's advertisement is that of the neighbour
 moved : (old new : RouterView) (w : SendingView) (now : ℕ) (a : OutcomeView) (number : ℕ) → w.port ≡ number → 1 ≤ number → Receives old (w.port - 1 + 1) w.bytes now a new → Receives old number w.bytes now a new
 moved old new w now a number same there h = subst (λ (k : ℕ). Receives old k w.bytes now a new) (omega (arith, same, there)) h
 
@@ -219,7 +219,7 @@ module _ (one : OneIpx) (no_fault : NoIpxFault) (apart : Apart) (ports : List Po
   near_port : (m : StaticNeighbour) (other : IsAnotherNode ports m) (old : RouterView) → old.ports ≡ ports → IsPort old.ports m.port other.0
   near_port m other old same = subst (λ (ps : List Port). IsPort ps m.port other.0) (sym same) other.1
 
-  -- a word of routes does this to them, and leaves services, but for those that are old
+  -- an advertisement of routes does this to them, and leaves services, apart from old ones
   module _ (old new : RouterView) (part : List RipEntry) (w : SendingView) (a : OutcomeView) (m : StaticNeighbour) (other : IsAnotherNode ports m) (same : old.ports ≡ ports) (is : IsRipPacket (heard_on m.port m.node rip_socket) (rip.Response part) w)
       (h : Receives old (w.port - 1 + 1) w.bytes now a new) where
     rip_here : Receives old m.port w.bytes now a new
@@ -235,7 +235,7 @@ module _ (one : OneIpx) (no_fault : NoIpxFault) (apart : Apart) (ports : List Po
     services_left : (x : ServiceKey × Source) → services_in new.services x ≡ after_age (services_in old.services) now x
     services_left = rip_leaves one no_fault m.port m.node other.0 other.2 now old part w a new is (near_port m other old same) rip_here
 
-  -- and a word of services the other way round
+  -- and an advertisement of services the other way round
   module _ (old new : RouterView) (part : List ServiceEntry) (w : SendingView) (a : OutcomeView) (m : StaticNeighbour) (other : IsAnotherNode ports m) (same : old.ports ≡ ports) (is : IsSapPacket (heard_on m.port m.node sap_socket) (sap.Response false part) w)
       (h : Receives old (w.port - 1 + 1) w.bytes now a new) where
     sap_here : Receives old m.port w.bytes now a new
@@ -259,7 +259,7 @@ module _ (one : OneIpx) (no_fault : NoIpxFault) (apart : Apart) (ports : List Po
     abbrev Takes_route : Source → List RipEntry → RouterView → RouterView → Type 0
     Takes_route s xs before after = Hears network_cmp network_total network_exact apart route_dead route_key route_metric (is_heard ports) now e alive_route (static_source n) s xs (routes_in before.routes) (routes_in after.routes)
 
-    -- if no table was full, all entries of each response are heard
+    -- if no table was full, all entries of each response are learned
     pub route_offers : IsSaidAlone route_key route_metric (λ m. m.routes.items) ns n e → ReceivesEach HasRoom now advertisements old new → Has_route new
     route_offers alone heard =
         let Fits : Source → List RipEntry → Type 0 = Agrees network_cmp network_total network_exact apart route_dead route_key route_metric (is_heard ports) now e alive_route (static_source n) in
@@ -280,7 +280,7 @@ module _ (one : OneIpx) (no_fault : NoIpxFault) (apart : Apart) (ports : List Po
         (λ other before after part w a same is room h within fits m b. absurd (omega (arith, m.1)))
         ns others advertisements old new same_ports are heard (λ m mem. (λ is. alone m mem is, λ is x none. absurd (omega (arith, none.1)))) there (inl among) tt
 
-    -- where all that the neighbour says stands, each response of it is heard whole
+    -- if all that the neighbour advertises counts, each response of it is learned whole
     pub route_refreshed : ((x : RipEntry) → Contains n.routes.items x → IsSaidAlone route_key route_metric (λ m. m.routes.items) ns n x)
         → ((x : RipEntry) → Contains n.routes.items x → is_heard ports x ≡ true → x.hops < 16 → Counts (route_metric x) now (routes_in old.routes (x.network, static_source n)))
         → ReceivesEach AsItMay now advertisements old new → Has_route new
@@ -317,7 +317,7 @@ module _ (one : OneIpx) (no_fault : NoIpxFault) (apart : Apart) (ports : List Po
     abbrev Takes_service : Source → List ServiceEntry → RouterView → RouterView → Type 0
     Takes_service s xs before after = Hears service_key_cmp service_key_total service_key_exact apart service_dead key_of_service service_metric each_service now e alive_service (static_source n) s xs (services_in before.services) (services_in after.services)
 
-    -- if no table was full, all entries of each response are heard
+    -- if no table was full, all entries of each response are learned
     pub service_offers : IsSaidAlone key_of_service service_metric (λ m. m.services.items) ns n e → ReceivesEach HasRoom now advertisements old new → Has_service new
     service_offers alone heard =
         let Fits : Source → List ServiceEntry → Type 0 = Agrees service_key_cmp service_key_total service_key_exact apart service_dead key_of_service service_metric each_service now e alive_service (static_source n) in
@@ -338,7 +338,7 @@ module _ (one : OneIpx) (no_fault : NoIpxFault) (apart : Apart) (ports : List Po
         ])
         ns others advertisements old new same_ports are heard (λ m mem. (λ is x none. absurd (omega (arith, none.1)), λ is. alone m mem is)) there (inr among) tt
 
-    -- where all that the neighbour says stands, each response of it is heard whole
+    -- if all that the neighbour advertises counts, each response of it is learned whole
     pub service_refreshed : ((x : ServiceEntry) → Contains n.services.items x → IsSaidAlone key_of_service service_metric (λ m. m.services.items) ns n x)
         → ((x : ServiceEntry) → Contains n.services.items x → x.hops < 16 → Counts (service_metric x) now (services_in old.services (key_of_service x, static_source n)))
         → ReceivesEach AsItMay now advertisements old new → Has_service new

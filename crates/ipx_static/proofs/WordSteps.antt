@@ -1,4 +1,4 @@
--- The words of neighbours, one neighbour after another.
+-- The advertisements of neighbours, one neighbour after another.
 use Rattle.ipx_wire.specs.Assigned.{rip_socket, sap_socket}
 use Rattle.std.proofs.Common.{◌≡◌, ℕ, ◌+◌, false, List, [], ◌∷◌, ◌++◌, drop, refl, sym, ap, ◌∙◌, subst, append_assoc}
 use Rattle.std.specs.List.{All}
@@ -37,7 +37,7 @@ words_more ns i n at old new left adds later rest =
     subst (AreWordsOf ns) (sym (in_a_row adds.0 (sendings old) later (sendings new) adds.1))
     (left (adds.0 ++ later) (subst (λ (ms : List StaticNeighbour). AreWordsOf ms (adds.0 ++ later)) (sym at) here))
 
--- each is heard on a port that is there
+-- each is received on a port that exists
 one_there : (count : ℕ) (n : StaticNeighbour) → IsPortNumber count n.port → (advertisements : List SendingView) → AreWords n advertisements → AreOnPorts count advertisements
 one_there count n there advertisements w =
     let P : SendingView → Type 0 = λ s. IsPortNumber count s.port in

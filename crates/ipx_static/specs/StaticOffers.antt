@@ -1,6 +1,6 @@
--- What a router knows once it heard words by hand.
--- The entry points are `StaticRoutesAreOffers` and `StaticServicesAreOffers`, and `StaticRoutesAreRefreshed`
--- and `StaticServicesAreRefreshed` of words that come again.
+-- What a router knows after it received static advertisements. The entry points are `StaticRoutesAreOffers`
+-- and `StaticServicesAreOffers`, and `StaticRoutesAreRefreshed` and `StaticServicesAreRefreshed` for
+-- advertisements that come again.
 use Rattle.std.specs.Prelude.{◌≡◌, ◌≢◌, ◌<◌, ◌+◌, ◌^◌, ℕ, true, List, All, Contains, Option, Some}
 use Rattle.ipx_control.specs.declared.rip.packet.RipEntry.{RipEntry}
 use Rattle.ipx_control.specs.declared.sap.packet.ServiceEntry.{ServiceEntry}
@@ -17,40 +17,40 @@ use Rattle.ipx_static.specs.declared.neighbour.StaticNeighbour.{StaticNeighbour}
 use Rattle.ipx_static.specs.WithStatics.{WithStaticsView, HearsIfDue}
 use Rattle.ipx_static.specs.StaticAdvertisements.{AreWordsOf}
 
--- from whom a neighbour's words are heard
+-- the source of a neighbour's advertisements
 abbrev pub static_source : StaticNeighbour → Source
 static_source n = record { port = n.port; neighbour = n.node }
 
--- its port is there, and it is not the router itself
+-- its port exists, and it is not the router itself
 abbrev pub IsAnotherNode : List Port → StaticNeighbour → Type 0
 IsAnotherNode ports n = (at : Port) × IsPort ports n.port at × (n.node ≢ at.node)
 
--- a router hears the words of these neighbours, since it is time
+-- a router receives the advertisements of these neighbours, because they are due
 pub record HearsWithStatics (ns : List StaticNeighbour) (now : ℕ) (old new : WithStaticsView PriorityCoreView) : Type 0 where
   pub advertisements : AreWordsOf ns old.advertisements
   pub others : All (IsAnotherNode old.core.router.ports) ns
   pub due : is_due old.said now ≡ true
   pub heard : HearsIfDue PriorityHears old now new
 
--- a router finds no table full: the count of that stays, and is not at its end
+-- a router finds no table full: its count of that stays, and is not at the greatest
 pub record FindsRoom (old new : PriorityCoreView) : Type 0 where
   pub room : new.outcomes.table_full ≡ old.outcomes.table_full
   pub countable : old.outcomes.table_full + 1 < 2 ^ 64
 
--- what a list says of the key of an entry is what that entry says
+-- all entries of a list with the key of an entry have its metric
 abbrev pub SaysNoOther : {E K M : Type 0} → (E → K) → (E → M) → List E → E → Type 0
 SaysNoOther {E} key_of metric_of entries e =
     (x : E) → Contains entries x → key_of x ≡ key_of e → metric_of x ≡ metric_of e
 
--- whoever is heard as this neighbour says nothing else of the key of an entry
+-- no static neighbour with the same source advertises another metric for the key of an entry
 abbrev pub IsSaidAlone : {E K M : Type 0} → (E → K) → (E → M) → (StaticNeighbour → List E)
     → List StaticNeighbour → StaticNeighbour → E → Type 0
 IsSaidAlone key_of metric_of said_by ns n e = (m : StaticNeighbour) → Contains ns m
     → static_source m ≡ static_source n → SaysNoOther key_of metric_of (said_by m) e
 
--- then, if no table is full, each route of a neighbour that the router may hear, under 16 hops away, is
--- an offer of that neighbour, heard at this moment, where nothing else is said there of that network by
--- hand
+-- then, if no table is full, each static route that the router may learn is an offer of its neighbour,
+-- learned at this time. This holds for routes of under 16 hops, if no other static entry of that source says
+-- something else of the network
 abbrev pub StaticRoutesAreOffers : Type 0
 StaticRoutesAreOffers = (ns : List StaticNeighbour) (now : ℕ) (old new : WithStaticsView PriorityCoreView)
     → HearsWithStatics ns now old new → FindsRoom old.core new.core
@@ -59,7 +59,7 @@ StaticRoutesAreOffers = (ns : List StaticNeighbour) (now : ℕ) (old new : WithS
     → is_heard old.core.router.ports e ≡ true → e.hops < 16
     → routes_in new.core.router.routes (e.network, static_source n) ≡ Some (route_metric e, now)
 
--- and so is each of its services
+-- the same for each of its services
 abbrev pub StaticServicesAreOffers : Type 0
 StaticServicesAreOffers = (ns : List StaticNeighbour) (now : ℕ) (old new : WithStaticsView PriorityCoreView)
     → HearsWithStatics ns now old new → FindsRoom old.core new.core
@@ -68,12 +68,13 @@ StaticServicesAreOffers = (ns : List StaticNeighbour) (now : ℕ) (old new : Wit
     → e.hops < 16
     → services_in new.core.router.services (key_of_service e, static_source n) ≡ Some (service_metric e, now)
 
--- an offer with this metric counts at a moment
+-- an offer with this metric counts at a given time
 abbrev pub Counts : {M : Type 0} → M → ℕ → Option (M × ℕ) → Type 0
 Counts metric now offer = (heard : ℕ) × (offer ≡ Some (metric, heard)) × (is_young now heard ≡ true)
 
--- an entry that is there needs no room: if all routes of a neighbour are offers of it that count, and
--- nothing else is said there of their networks by hand, each is heard anew, however full tables are
+-- an entry that is there needs no room. If all static routes of a neighbour are offers that count, each is
+-- learned anew, however full tables are. This holds if no other static entry of that source says something
+-- else of their networks
 abbrev pub StaticRoutesAreRefreshed : Type 0
 StaticRoutesAreRefreshed = (ns : List StaticNeighbour) (now : ℕ) (old new : WithStaticsView PriorityCoreView)
     → HearsWithStatics ns now old new → (n : StaticNeighbour) → Contains ns n
@@ -84,7 +85,7 @@ StaticRoutesAreRefreshed = (ns : List StaticNeighbour) (now : ℕ) (old new : Wi
     → (e : RipEntry) → Contains n.routes.items e → is_heard old.core.router.ports e ≡ true → e.hops < 16
     → routes_in new.core.router.routes (e.network, static_source n) ≡ Some (route_metric e, now)
 
--- and so are services
+-- the same for services
 abbrev pub StaticServicesAreRefreshed : Type 0
 StaticServicesAreRefreshed = (ns : List StaticNeighbour) (now : ℕ) (old new : WithStaticsView PriorityCoreView)
     → HearsWithStatics ns now old new → (n : StaticNeighbour) → Contains ns n

@@ -1,6 +1,5 @@
--- A router that hears by hand, over a run of calls.
--- The entry points are `StaticRoutesHold` and `StaticServicesHold`, and `StaticsAreCountedApart` of a router
--- that counts.
+-- A router with static neighbours, over a run of calls. The entry points are `StaticRoutesHold` and
+-- `StaticServicesHold`, and `StaticsAreCountedApart` for a router that counts.
 use Rattle.std.specs.Prelude.{◌≡◌, ◌≢◌, ◌⊎◌, ◌<◌, ◌≤◌, ◌+◌, ℕ, Bool, false, true, List, [], ◌∷◌, All, Contains, Option}
 use Rattle.ipx_wire.specs.declared.address.Network.{Network}
 use Rattle.ipx_wire.specs.Ipx.{IsIpx, PacketView}
@@ -23,7 +22,7 @@ use Rattle.ipx_static.specs.WithStatics.{WithStaticsView, GivesWithStatics, Hear
 use Rattle.ipx_static.specs.StaticOffers.{Counts, FindsRoom, IsAnotherNode, IsSaidAlone, static_source}
 use Rattle.ipx_static.specs.StaticAdvertisements.{AreWordsOf}
 
--- bytes come in on a port; or it is asked for a packet, and gives one or none; or it is to ask its
+-- bytes are received on a port; or the core is asked for a packet, and gives one or none; or it is to ask its
 -- neighbours once more
 pub data StaticCall : Type 0 where
   Comes : (port : ℕ) → (bytes : List ℕ) → StaticCall
@@ -34,7 +33,7 @@ pub record StaticCallAt : Type 0 where
   pub moment : ℕ
   pub call : StaticCall
 
--- what a call does, and what calls do, one after another
+-- what one call does, and what consecutive calls do
 abbrev pub DoesStaticCall : ℕ → StaticCall → WithStaticsView PriorityCoreView → WithStaticsView PriorityCoreView → Type 0
 DoesStaticCall now (Comes port bytes) old new = HearsUnder PriorityHears old port bytes now new
 DoesStaticCall now (Asked given) old new = GivesWithStatics PriorityHears PriorityGives old now given new
@@ -45,7 +44,7 @@ DoStaticCalls [] old new = new ≡ old
 DoStaticCalls (c ∷ cs) old new = (mid : WithStaticsView PriorityCoreView)
     × DoesStaticCall c.moment c.call old mid × DoStaticCalls cs mid new
 
--- when it was asked last, by these calls
+-- when the core was last asked for a packet, after these calls
 abbrev pub asked_by : ℕ → StaticCall → ℕ → ℕ
 asked_by now (Comes port bytes) asked = asked
 asked_by now (Asked given) asked = now
@@ -55,7 +54,8 @@ abbrev pub asked_in : List StaticCallAt → ℕ → ℕ
 asked_in [] asked = asked
 asked_in (c ∷ cs) asked = asked_in cs (asked_by c.moment c.call asked)
 
--- each call comes within a minute of the last question, and what comes in is such
+-- each call is at most a minute after the core was last asked for a packet, and what is received satisfies
+-- this condition
 abbrev pub ComesAs : (ℕ → List ℕ → Type 0) → StaticCall → Type 0
 ComesAs IsSuch (Comes port bytes) = IsSuch port bytes
 ComesAs IsSuch (Asked given) = Unit {0}
@@ -66,8 +66,8 @@ IsAskedEachMinute IsSuch [] asked = Unit {0}
 IsAskedEachMinute IsSuch (c ∷ cs) asked = (c.moment ≤ asked + 60000) × ComesAs IsSuch c.call
     × IsAskedEachMinute IsSuch cs (asked_by c.moment c.call asked)
 
--- bytes are a RIP response of the neighbour itself that names a network, or a SAP response of it that
--- names a service
+-- bytes are a RIP response of the neighbour itself that names a network, or a SAP response of it that names a
+-- service
 abbrev pub TellsItself : StaticNeighbour → Network → ℕ → List ℕ → Type 0
 TellsItself n network port bytes = (port + 1 ≡ n.port) × (p : PacketView) × (tail : List ℕ)
     × IsIpx p bytes tail × (p.header.from.node ≡ n.node) × (entries : List RipEntry)
@@ -81,7 +81,7 @@ OffersItself n key port bytes = (port + 1 ≡ n.port) × (p : PacketView) × (ta
     × IsSap (sap.Response nearest entries) p.body rest
     × (x : ServiceEntry) × Contains entries x × (key_of_service x ≡ key)
 
--- a run that begins with a question at which words are due, and finds no table full then
+-- a run that begins by asking for a packet as advertisements are due, and finds no table full then
 pub record RunsWithStatics (ns : List StaticNeighbour) (start : ℕ) (calls : List StaticCallAt)
     (old new : WithStaticsView PriorityCoreView) : Type 0 where
   pub advertisements : AreWordsOf ns old.advertisements
@@ -94,13 +94,14 @@ pub record RunsWithStatics (ns : List StaticNeighbour) (start : ℕ) (calls : Li
   pub room : FindsRoom old.core first.core
 
 -- the entries of a neighbour on which an entry depends: itself, and all of them if a table was full in
--- between, since a response is read up to the first entry that finds no room
+-- between. A response is read up to the first entry that does not fit
 abbrev pub DependsOn : {E : Type 0} → (old new : WithStaticsView PriorityCoreView) → E → E → Type 0
 DependsOn old new e x = (x ≡ e) ⊎ (new.core.outcomes.table_full ≢ old.core.outcomes.table_full)
 
--- if it is asked each minute, and of each network whose route a route depends on the neighbour tells
--- nothing itself, and nothing else is said there by hand, that route is an offer of the neighbour that
--- counts, up to a minute after the last question, however full tables are after the first
+-- a static route stays an offer that counts, up to a minute after the core was last asked for a packet. This
+-- holds if the core is asked each minute, however full tables are after the first time. For each route on
+-- which this one depends, the neighbour itself must advertise nothing of its network. No other static entry
+-- of that source may say something else of it
 abbrev pub StaticRoutesHold : Type 0
 StaticRoutesHold = (ns : List StaticNeighbour) (start : ℕ) (calls : List StaticCallAt)
     (old new : WithStaticsView PriorityCoreView) → RunsWithStatics ns start calls old new
@@ -113,7 +114,7 @@ StaticRoutesHold = (ns : List StaticNeighbour) (start : ℕ) (calls : List Stati
     → (now : ℕ) → now ≤ asked_in calls start + 60000
     → Counts (route_metric e) now (routes_in new.core.router.routes (e.network, static_source n))
 
--- and so is each of its services
+-- the same for each of its services
 abbrev pub StaticServicesHold : Type 0
 StaticServicesHold = (ns : List StaticNeighbour) (start : ℕ) (calls : List StaticCallAt)
     (old new : WithStaticsView PriorityCoreView) → RunsWithStatics ns start calls old new
@@ -131,13 +132,13 @@ StaticServicesHold = (ns : List StaticNeighbour) (start : ℕ) (calls : List Sta
 abbrev pub uncounted : WithStaticsView CountedView → WithStaticsView PriorityCoreView
 uncounted s = record { core = without_counts s.core; advertisements = s.advertisements; said = s.said }
 
--- what a call does to it
+-- what a call does to a router that counts
 abbrev pub DoesCountedCall : ℕ → StaticCall → WithStaticsView CountedView → WithStaticsView CountedView → Type 0
 DoesCountedCall now (Comes port bytes) old new = HearsUnder CountsHeard old port bytes now new
 DoesCountedCall now (Asked given) old new = GivesWithStatics CountsHeard CountsAsItGives old now given new
 DoesCountedCall now AsksOnceMore old new = new ≡ record old { core = record old.core { started = false } }
 
--- that is what the call does to it without its counts: so all of the above is true of it too
+-- the call does the same to it without its counts: so all of the above holds for it too
 abbrev pub StaticsAreCountedApart : Type 0
 StaticsAreCountedApart = (now : ℕ) (call : StaticCall) (old new : WithStaticsView CountedView)
     → DoesCountedCall now call old new → DoesStaticCall now call (uncounted old) (uncounted new)

@@ -1,4 +1,4 @@
-//! The packets that say what silent neighbours are to have said.
+//! The packets that static neighbours would advertise.
 
 ghost use Rattle.std.specs.Prelude.{◌≡◌, ◌≤◌, ℕ, List, [], false, length, All, OnOk, IfOk};
 ghost use Rattle.ipx_wire.specs.Assigned.{rip_socket, sap_socket};
@@ -21,7 +21,7 @@ use ipx_wire::{
 };
 use std::alloc::Global;
 
-/// Who speaks: a node, which is heard on the port of a number.
+/// The sender of an advertisement: its node, and the number of the port where it is received.
 #[derive(Clone, Copy)]
 struct Speaker {
     port: u8,
@@ -152,7 +152,7 @@ fn add_service_words(
     Ok(())
 }
 
-/// Adds the words of a neighbour.
+/// Adds the advertisements of a neighbour.
 fn add_words(
     alloc: Global,
     advertisements: &mut Vec<Reply>,
@@ -168,7 +168,7 @@ fn add_words(
     add_service_words(alloc, advertisements, from, &neighbour.services)
 }
 
-/// The words of all neighbours, one after another.
+/// The advertisements of all neighbours, one after another.
 pub fn words_of(alloc: Global, neighbours: &[StaticNeighbour]) -> Result<Vec<Reply>, OutOfMemory>
     ensures advertisements { IfOk result (λ v. AreWordsOf neighbours.now (sendings v.items)) }
     ensures there { (count : ℕ) → All (λ n. IsPortNumber count n.port) neighbours.now

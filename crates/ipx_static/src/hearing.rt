@@ -1,4 +1,4 @@
-//! How a core hears the words.
+//! How a core receives the advertisements.
 
 ghost use Rattle.std.specs.Prelude.{◌≡◌, OnOk, OnErr};
 ghost use Rattle.ipx_router.specs.Ports.{AreOnPorts};
@@ -11,10 +11,10 @@ use ipx_router::Reply;
 use ipx_wire::OutOfMemory;
 use std::alloc::Global;
 
-/// After how many milliseconds the words are said again.
+/// After this many milliseconds the advertisements come again.
 const PERIOD: u64 = 60_000;
 
-/// Whether it is time: at first, and when a minute has passed since the last time.
+/// Whether they are due: at first, and once a minute has passed since the last time.
 pub fn is_time(said: Option<u64>, now: u64) -> bool
     ensures { result ≡ is_due said now }
 {
@@ -24,7 +24,7 @@ pub fn is_time(said: Option<u64>, now: u64) -> bool
     }
 }
 
-/// The moment from which on it is time.
+/// The time from which on they are due.
 pub fn next_time(said: Option<u64>) -> Option<u64>
     ensures { IsNextTelling said result }
 {
@@ -34,7 +34,8 @@ pub fn next_time(said: Option<u64>) -> Option<u64>
     }
 }
 
-/// The core hears the words, in order. At the first that it misses it stops.
+/// The core receives the advertisements, in order. It stops at the first for which it runs out of
+/// memory.
 pub fn hear_words<C: Core>(
     alloc: Global,
     core: &mut C,

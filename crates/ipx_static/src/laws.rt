@@ -1,4 +1,4 @@
-//! What a router knows once it heard words by hand.
+//! What a router knows after it received static advertisements.
 
 ghost use Rattle.ipx_static.specs.StaticOffers.{
   StaticRoutesAreOffers,
@@ -14,7 +14,8 @@ use ipx_control::{
 use ipx_tables::sources_are_apart;
 use ipx_wire::{bytes_are_one_packet, ipx_fault_is_of_no_packet};
 
-/// A router that hears all words, and has room, has each route as an offer of that moment.
+/// A router that receives all advertisements, and has room, has each static route as an offer of
+/// that time.
 pub fn static_routes_are_offers()
     ensures { StaticRoutesAreOffers }
 {
@@ -25,7 +26,7 @@ pub fn static_routes_are_offers()
     sources_are_apart();
 }
 
-/// And so each service.
+/// It has each static service too.
 pub fn static_services_are_offers()
     ensures { StaticServicesAreOffers }
 {
@@ -36,7 +37,8 @@ pub fn static_services_are_offers()
     sources_are_apart();
 }
 
-/// A router that hears words again refreshes each route that stands, however full its tables are.
+/// A router that receives the advertisements again refreshes each static route that counts, however
+/// full its tables are.
 pub fn static_routes_are_refreshed()
     ensures { StaticRoutesAreRefreshed }
 {
@@ -47,7 +49,7 @@ pub fn static_routes_are_refreshed()
     sources_are_apart();
 }
 
-/// And so each service.
+/// It refreshes each static service too.
 pub fn static_services_are_refreshed()
     ensures { StaticServicesAreRefreshed }
 {
@@ -58,9 +60,9 @@ pub fn static_services_are_refreshed()
     sources_are_apart();
 }
 
-/// If no table is full at the first question, then while a router is asked each minute and the
-/// neighbour tells nothing of it itself, each route by hand is an offer that counts, also when tables
-/// fill up later.
+/// If no table is full as a packet is first asked for, each static route stays an offer that
+/// counts. It stays even if tables fill up later. This holds while the router is asked each minute,
+/// and the neighbour itself advertises nothing of it.
 pub fn static_routes_hold()
     ensures { StaticRoutesHold }
 {
@@ -69,7 +71,7 @@ pub fn static_routes_hold()
     sources_are_apart();
 }
 
-/// And so is each service.
+/// Each static service stays one too.
 pub fn static_services_hold()
     ensures { StaticServicesHold }
 {
@@ -78,7 +80,8 @@ pub fn static_services_hold()
     sources_are_apart();
 }
 
-/// A router that counts hears by hand, and gives, as one that counts nothing by port.
+/// A router that counts receives static advertisements, and gives packets, as one that does not
+/// count by port.
 pub fn statics_are_counted_apart()
     ensures { StaticsAreCountedApart }
 {}

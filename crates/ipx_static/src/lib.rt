@@ -1,8 +1,9 @@
-//! Routes and services by hand: what neighbours that say nothing themselves are to have said.
+//! Static routes and services: what neighbours without RIP or SAP would advertise.
 //!
-//! [`WithStatics`] is a core of `ipx_carrier` over another one, as of a router, which hears the words of
-//! each [`StaticNeighbour`] as it starts and once a minute, as if they came in on its port. So what
-//! they tell is preferred, told on and forgotten as what any neighbour tells.
+//! [`WithStatics`] is a core of `ipx_carrier` over another one, such as a router. That core
+//! receives the advertisements of each [`StaticNeighbour`] as it starts and once a minute, as if
+//! they came in on the neighbour's port. So static entries are preferred, advertised and forgotten
+//! like those of any neighbour.
 #![tactic(auto)]
 
 mod advertisements;

@@ -1,16 +1,17 @@
-//! A neighbour that says nothing itself.
+//! A neighbour that advertises nothing itself.
 
 use ipx_control::{RipEntry, ServiceEntry};
 use ipx_wire::Node;
 
-/// A neighbour on the network of a port that says nothing itself, and what it is to have said.
+/// A neighbour on the network of a port that advertises nothing itself, and what it would
+/// advertise.
 #[derive(Debug, Drop)]
 pub struct StaticNeighbour {
-    /// The number of the port, from 1 on.
+    /// The number of the port, from 1.
     pub port: u8,
     pub node: Node,
-    /// The networks behind it.
+    /// The networks beyond it.
     pub routes: Vec<RipEntry>,
-    /// The services that it offers, or that lie behind it.
+    /// The services that it offers, or that are beyond it.
     pub services: Vec<ServiceEntry>,
 }

@@ -1,4 +1,4 @@
-//! Who can ask its neighbours once more.
+//! Cores that can ask their neighbours once more.
 
 ghost use Rattle.std.specs.Prelude.{◌≡◌, false};
 ghost use Rattle.ipx_metrics.specs.MeteredRouter.{CountedView};
@@ -8,10 +8,10 @@ use ipx_metrics::MeteredRouter;
 
 /// A router, alone or below other cores, that can ask its neighbours once more.
 pub trait RestartDiscovery: Core {
-    /// What it is then.
+    /// What the core is then.
     ghost asking_again: { Self → Self };
 
-    /// The router asks its neighbours once more, as `PriorityRouterCore::restart_discovery` says.
+    /// The router asks its neighbours once more, as for `PriorityRouterCore::restart_discovery`.
     fn restart_discovery(&mut self)
         ensures again { self.new ≡ asking_again self.old }
         ensures ports { Self.port_count self.new ≡ Self.port_count self.old };

@@ -1,4 +1,4 @@
-//! A core that hears what silent neighbours are to have said.
+//! A core that receives the advertisements of static neighbours.
 
 ghost use Rattle.std.specs.Prelude.{◌≡◌, None, All, IfOk, OnOk, OnErr};
 ghost use Rattle.ipx_router.specs.Ports.{IsPortNumber};
@@ -16,9 +16,9 @@ use ipx_wire::{Node, OutOfMemory};
 use std::alloc::Global;
 use std::marker::Model;
 
-/// A core over another one, which hears what silent neighbours are to have said as it is asked for
-/// a packet first, and then when a minute has passed since the last time. After want of memory it
-/// hears them again a minute later. All else is the core's below.
+/// A core over another one, which receives the advertisements of static neighbours. It receives
+/// them as it is asked for a packet first, and again once a minute has passed since the last time.
+/// If out of memory, it receives them again a minute later. The core below does all else.
 #[derive(Drop)]
 pub struct WithStatics<C: Core + Drop> {
     core: C,
@@ -39,8 +39,8 @@ impl<C: Core + Drop> Model for WithStatics<C> {
 }
 
 impl<C: Core + Drop> WithStatics<C> {
-    /// A core over this one, which has heard nothing by hand yet. The caller owes ports that are
-    /// there, of numbers from 1 on.
+    /// A core over this one, which has received no static advertisement yet. The ports of the
+    /// neighbours must exist, and are numbered from 1.
     pub fn new(
         alloc: Global,
         core: C,
@@ -59,24 +59,24 @@ impl<C: Core + Drop> WithStatics<C> {
         })
     }
 
-    /// The core below, to be asked between two runs.
+    /// The core below, to inspect between two runs.
     pub fn core(&self) -> &C
         ensures { result.now ≡ self.now.core }
     {
         &self.core
     }
 
-    /// The moment, in milliseconds, from which on the core below hears the words as it is asked for
-    /// a packet. None where no clock can show that moment.
+    /// The time, in milliseconds, from which on the core below receives the advertisements as it is
+    /// asked for a packet. None if no clock can show that time.
     ///
-    /// Whoever waits for datagrams wakes by then, and asks.
+    /// If you wait for datagrams, wake by then, and ask for a packet.
     pub fn next_refresh(&self) -> Option<u64>
         ensures { IsNextTelling self.now.said result }
     {
         next_time(self.said)
     }
 
-    /// Lets the core below hear the words, if it is time.
+    /// Lets the core below receive the advertisements, if they are due.
     fn refresh(&mut self, alloc: Global, now: u64) -> Result<(), OutOfMemory>
         ensures heard { OnOk result (HearsIfDue C.hears self.old now self.new) }
         ensures refused { OnErr result (MissesIfDue C.hears C.hear_out_of_memory self.old now self.new) }

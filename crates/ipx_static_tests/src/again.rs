@@ -10,7 +10,7 @@ use ipx_wire::OutOfMemory;
 use std::alloc::Global;
 use std::test::Fail;
 
-/// How many packets a core gives at the moment 0.
+/// How many packets a core gives at time 0.
 fn given<C: Core>(alloc: Global, core: &mut C) -> Result<u32, OutOfMemory> {
     let mut room = [0; 1536];
     let mut count = 0;
@@ -23,7 +23,7 @@ fn given<C: Core>(alloc: Global, core: &mut C) -> Result<u32, OutOfMemory> {
     Ok(count)
 }
 
-/// How many packets a core gives as it starts, then, and once it was asked to ask again.
+/// How many packets a core gives as it starts, and how many after it was told to ask again.
 fn given_at_first_and_again<C: RestartDiscovery>(
     alloc: Global,
     core: &mut C,
@@ -39,8 +39,9 @@ fn router(alloc: Global) -> Result<Router, Fail> {
     Ok(Router::new(alloc, vec![in alloc; port(0x11, 1), port(0x22, 2)]?)?)
 }
 
-/// A router asks for routes and services on each of two ports, and tells a network on each; then it
-/// asks for the four once more, counted, and below words by hand, of which there are none.
+/// A router asks for routes and services on each of two ports, and advertises a network on each.
+/// Told to ask again, it sends the four requests once more. So does a router that counts, and one
+/// below `WithStatics` without neighbours.
 #[test]
 fn restarts_discovery_below_statics(rt: HostRuntime) -> Result<(), Fail> {
     let alloc = rt.alloc();

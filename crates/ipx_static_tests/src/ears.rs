@@ -1,11 +1,11 @@
-//! A core of two ports that keeps what it hears.
+//! A core of two ports that records what it receives.
 
 use ipx_carrier::Core;
 use ipx_wire::{Node, OutOfMemory};
 use std::alloc::Global;
 use std::test::Fail;
 
-/// A datagram that was heard.
+/// A datagram that was received.
 #[derive(Drop)]
 pub struct Heard {
     pub port: usize,
@@ -13,8 +13,8 @@ pub struct Heard {
     pub bytes: Vec<u8>,
 }
 
-/// A core that keeps what it hears, and is asked for packets in vain. It misses the datagram of this
-/// place, if any.
+/// A core that records what it receives, and gives no packets. It runs out of memory for the
+/// datagram of this position, if there is one.
 #[derive(Drop)]
 pub struct Ears {
     pub heard: Vec<Heard>,
@@ -23,7 +23,7 @@ pub struct Ears {
 }
 
 impl Ears {
-    /// A core that has heard nothing.
+    /// A core that has received nothing.
     pub fn new(alloc: Global, hear_out_of_memory: Option<usize>) -> Ears {
         Ears {
             heard: Vec::new(alloc),
@@ -32,8 +32,8 @@ impl Ears {
         }
     }
 
-    /// What it heard, as text: a line for each datagram, of the port, the moment, and the bytes in
-    /// hex.
+    /// What it received, as text: a line for each datagram, with the port, the time, and the bytes
+    /// in hex.
     pub fn text(&self, alloc: Global) -> Result<String, Fail> {
         let mut text = String::new(alloc);
         for heard in self.heard.iter() {
@@ -44,7 +44,7 @@ impl Ears {
         Ok(text)
     }
 
-    /// How long each datagram is that it heard, and when it came.
+    /// The length and the time of each datagram that it received.
     pub fn sizes(&self, alloc: Global) -> Result<String, Fail> {
         let mut text = String::new(alloc);
         for heard in self.heard.iter() {

@@ -1,4 +1,5 @@
-//! A second router, behind the one that hears by hand: what it is told, and when it forgets that.
+//! A second router, next to the one with static neighbours: what it learns, and when it forgets
+//! that.
 
 use crate::routers::{has_service, port, router, way};
 use ipx_carrier::Core;
@@ -10,7 +11,7 @@ use ipx_wire::{Node, OutOfMemory};
 use std::alloc::Global;
 use std::test::Fail;
 
-/// A router on networks 22 and 33 that hears nothing by hand.
+/// A router on networks 22 and 33 without static neighbours.
 fn far_router(alloc: Global) -> Result<WithStatics<MeteredRouter>, OutOfMemory> {
     let Ok(router) = Router::new(alloc, vec![in alloc; port(0x22, 3), port(0x33, 4)]?) else {
         return Err(OutOfMemory);
@@ -18,7 +19,7 @@ fn far_router(alloc: Global) -> Result<WithStatics<MeteredRouter>, OutOfMemory> 
     WithStatics::new(alloc, MeteredRouter::new(alloc, router)?, &[])
 }
 
-/// What one gives at a moment on a port, the other hears on one of its own.
+/// What one gives at a given time on a port, the other receives on one of its own.
 fn pass(
     alloc: Global,
     from: (&mut WithStatics<MeteredRouter>, usize),
@@ -37,7 +38,7 @@ fn pass(
     Ok(())
 }
 
-/// Both give what they have on network 22, and answer.
+/// Both give what they have for network 22, and answer.
 fn turn(
     alloc: Global,
     near: &mut WithStatics<MeteredRouter>,
@@ -49,7 +50,7 @@ fn turn(
     pass(alloc, (near, 1), (far, 0), now)
 }
 
-/// Over the near router, one hop more.
+/// Through the near router, one hop more.
 fn over_near() -> Option<(Source, u16)> {
     Some((
         Source {
@@ -60,8 +61,9 @@ fn over_near() -> Option<(Source, u16)> {
     ))
 }
 
-/// It knows what is said by hand at once, and for ten minutes. Three minutes after the near router
-/// told it last, which is started again without it, it has forgotten that; so has the near one.
+/// The far router knows the static entries at once, and for ten minutes. Three minutes after the
+/// near router, started again without them, last advertised them, it has forgotten them; so has the
+/// near one.
 #[test]
 fn told_on_and_forgotten(rt: HostRuntime) -> Result<(), Fail> {
     let alloc = rt.alloc();

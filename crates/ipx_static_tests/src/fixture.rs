@@ -1,4 +1,4 @@
-//! Silent neighbours of ports 1 and 2, and cores that hear their words.
+//! Static neighbours of ports 1 and 2, and cores that receive their advertisements.
 
 use crate::ears::Ears;
 use ipx_carrier::Core;
@@ -10,7 +10,7 @@ use std::alloc::Global;
 /// The node of 198.51.100.7.
 pub const NEXT: Node = Node([0, 0, 0xc6, 0x33, 0x64, 7]);
 
-/// A way to a network over one router, of six ticks.
+/// A route to a network through one router, of six ticks.
 pub fn route(network: u32) -> RipEntry {
     RipEntry {
         network: Network(network),
@@ -35,7 +35,7 @@ pub fn backup() -> ServiceEntry {
     }
 }
 
-/// A neighbour of a port, with so many routes, to the network AA and the next ones, and so many
+/// A neighbour of a port, with this many routes, to the network AA and the next ones, and this many
 /// times the service.
 pub fn silent(
     alloc: Global,
@@ -58,7 +58,7 @@ pub fn silent(
     Ok(neighbour)
 }
 
-/// Ears that hear by hand: of a neighbour of port 1 with so many routes and services.
+/// A recording core with one static neighbour, at port 1, with this many routes and services.
 pub fn ears(
     alloc: Global,
     routes: u32,
@@ -69,7 +69,7 @@ pub fn ears(
     WithStatics::new(alloc, Ears::new(alloc, hear_out_of_memory), &[neighbour])
 }
 
-/// Asks a core for a packet at a moment.
+/// Asks a core for a packet at a given time.
 pub fn ask<C: Core>(
     alloc: Global,
     core: &mut C,

@@ -1,5 +1,5 @@
-//! Tests of routes and services by hand, with literal values. They call what `ipx_static` makes
-//! public, and no crate stands on this one.
+//! Tests of static routes and services, with literal values. They call what `ipx_static` makes
+//! public, and no crate depends on this one.
 #![tactic(auto)]
 
 #[cfg(test)]

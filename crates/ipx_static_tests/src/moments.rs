@@ -1,10 +1,10 @@
-//! When words are heard by hand.
+//! When static advertisements are received.
 
 use crate::fixture::{ask, ears};
 use ipx_carrier::Core;
 use std::test::Fail;
 
-/// At first, and at each question a minute later or more.
+/// At first, and each time that the core is asked a minute later or more.
 #[test]
 fn once_a_minute(rt: HostRuntime) -> Result<(), Fail> {
     let alloc = rt.alloc();
@@ -22,7 +22,7 @@ fn once_a_minute(rt: HostRuntime) -> Result<(), Fail> {
     Ok(())
 }
 
-/// When to ask next, for whoever waits: at once at first, and then a minute after the last time.
+/// When to ask next, if one waits: at once at first, and then a minute after the last time.
 #[test]
 fn when_to_ask_next(rt: HostRuntime) -> Result<(), Fail> {
     let alloc = rt.alloc();
@@ -39,7 +39,7 @@ fn when_to_ask_next(rt: HostRuntime) -> Result<(), Fail> {
     Ok(())
 }
 
-/// Where a clock goes back, the minute is counted from the last time.
+/// If the clock goes back, the minute is counted from the last time.
 #[test]
 fn a_clock_that_goes_back(rt: HostRuntime) -> Result<(), Fail> {
     let alloc = rt.alloc();
@@ -51,7 +51,7 @@ fn a_clock_that_goes_back(rt: HostRuntime) -> Result<(), Fail> {
     Ok(())
 }
 
-/// What comes in is heard as it comes, and no word with it.
+/// Other datagrams are received as they come, and no advertisement with them.
 #[test]
 fn what_comes_in_is_heard(rt: HostRuntime) -> Result<(), Fail> {
     let alloc = rt.alloc();
@@ -62,7 +62,8 @@ fn what_comes_in_is_heard(rt: HostRuntime) -> Result<(), Fail> {
     Ok(())
 }
 
-/// Where the second of three words is missed, the first was heard, and all are a minute later.
+/// If memory runs out for the second of three advertisements, the first was received, and all are a
+/// minute later.
 #[test]
 fn a_word_that_is_missed(rt: HostRuntime) -> Result<(), Fail> {
     let alloc = rt.alloc();

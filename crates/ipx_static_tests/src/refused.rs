@@ -1,4 +1,4 @@
-//! Want of memory. Run it with each request refused.
+//! Out of memory. Run it with each request refused.
 
 use crate::fixture::ask;
 use crate::routers::{has_service, router, statics, way};

@@ -1,5 +1,5 @@
-//! A router with ports on networks 11 and 22 that hears by hand of network AA behind port 1, and of
-//! a service there.
+//! A router with ports on networks 11 and 22. It has a static route to network AA through port 1,
+//! and a static service there.
 
 ghost use Rattle.std.specs.Prelude.{◌≡◌};
 
@@ -25,7 +25,7 @@ pub fn port(network: u32, last: u8) -> Port
     }
 }
 
-/// The router, whose neighbour speaks by hand, or has nothing to say.
+/// The router, with its static neighbour, or one without entries.
 pub fn router(alloc: Global, speaks: u32) -> Result<WithStatics<MeteredRouter>, OutOfMemory> {
     let Ok(router) = Router::new(alloc, vec![in alloc; port(0x11, 1), port(0x22, 2)]?) else {
         return Err(OutOfMemory);
@@ -34,7 +34,8 @@ pub fn router(alloc: Global, speaks: u32) -> Result<WithStatics<MeteredRouter>, 
     WithStatics::new(alloc, MeteredRouter::new(alloc, router)?, &[neighbour])
 }
 
-/// The packets that the router gives at a moment, in hex behind the device's port, a line each.
+/// The packets that the router gives at a given time, one a line: the device's port, then the bytes
+/// in hex.
 fn given(alloc: Global, core: &mut WithStatics<MeteredRouter>, now: u64) -> Result<String, Fail> {
     let mut room = [0; 1536];
     let mut text = String::new(alloc);
@@ -48,7 +49,7 @@ fn given(alloc: Global, core: &mut WithStatics<MeteredRouter>, now: u64) -> Resu
     Ok(text)
 }
 
-/// How many hops AA is away, and over whom.
+/// How many hops AA is away, and through which source.
 pub fn way(core: &WithStatics<MeteredRouter>, now: u64) -> Option<(Source, u16)> {
     let best = core.core().router().routes().best(&BEHIND, now)?;
     Some((best.0, best.1.hops))
@@ -73,8 +74,8 @@ pub fn statics() -> Option<(Source, u16)> {
     ))
 }
 
-/// It is told on with the first packets, one hop on and by the cost of that port, on the other port
-/// alone; so is the service.
+/// The route is advertised with the first packets, one hop more and with the cost of that port,
+/// only on the other port; so is the service.
 #[test]
 fn told_on_at_once(rt: HostRuntime) -> Result<(), Fail> {
     let alloc = rt.alloc();
@@ -89,8 +90,8 @@ fn told_on_at_once(rt: HostRuntime) -> Result<(), Fail> {
     Ok(())
 }
 
-/// For ten minutes it stands, where the router is asked each ten seconds; and it goes three minutes
-/// after it was said last.
+/// If the router is asked each ten seconds, the route stays for ten minutes. It expires three
+/// minutes after the last advertisement.
 #[test]
 fn stands_and_goes(rt: HostRuntime) -> Result<(), Fail> {
     let alloc = rt.alloc();
@@ -105,7 +106,7 @@ fn stands_and_goes(rt: HostRuntime) -> Result<(), Fail> {
     Ok(())
 }
 
-/// It stands while the router asks its neighbours again, on both ports for routes and for services.
+/// It stays while the router asks its neighbours again, on both ports for routes and for services.
 #[test]
 fn stands_as_it_asks_again(rt: HostRuntime) -> Result<(), Fail> {
     let alloc = rt.alloc();
@@ -120,7 +121,7 @@ fn stands_as_it_asks_again(rt: HostRuntime) -> Result<(), Fail> {
     Ok(())
 }
 
-/// Each of its words counts as heard.
+/// Each of its advertisements is counted as received.
 #[test]
 fn counts_as_heard(rt: HostRuntime) -> Result<(), Fail> {
     let alloc = rt.alloc();
@@ -131,7 +132,7 @@ fn counts_as_heard(rt: HostRuntime) -> Result<(), Fail> {
     Ok(())
 }
 
-/// A RIP response to all nodes of network 11: AA in so many hops, and one tick, from a node.
+/// A RIP response to all nodes of network 11: AA in this many hops, and one tick, from a node.
 fn tell(
     alloc: Global,
     core: &mut WithStatics<MeteredRouter>,
@@ -146,7 +147,8 @@ fn tell(
     Ok(())
 }
 
-/// A neighbour that has a better way is preferred; without its word the way by hand is taken.
+/// A neighbour with a better route is preferred. Once it no longer advertises that, the static
+/// route is used.
 #[test]
 fn a_better_way_is_preferred(rt: HostRuntime) -> Result<(), Fail> {
     let alloc = rt.alloc();
@@ -159,7 +161,8 @@ fn a_better_way_is_preferred(rt: HostRuntime) -> Result<(), Fail> {
     Ok(())
 }
 
-/// Where the neighbour speaks itself, its last word counts, and the word by hand a minute later.
+/// If the neighbour advertises itself, its last advertisement counts, and the static one a minute
+/// later.
 #[test]
 fn its_own_word_counts(rt: HostRuntime) -> Result<(), Fail> {
     let alloc = rt.alloc();
@@ -173,7 +176,7 @@ fn its_own_word_counts(rt: HostRuntime) -> Result<(), Fail> {
     Ok(())
 }
 
-/// A packet to AA goes to the neighbour's node by its port.
+/// A packet to AA is sent to the neighbour's node by its port.
 #[test]
 fn packets_go_there(rt: HostRuntime) -> Result<(), Fail> {
     let alloc = rt.alloc();
@@ -186,7 +189,7 @@ fn packets_go_there(rt: HostRuntime) -> Result<(), Fail> {
     Ok(())
 }
 
-/// Who has nothing to say changes nothing; asked again, the router asks on both ports.
+/// A neighbour without entries changes nothing. Told to ask again, the router asks on both ports.
 #[test]
 fn no_statics(rt: HostRuntime) -> Result<(), Fail> {
     let alloc = rt.alloc();

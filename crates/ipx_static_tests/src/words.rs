@@ -1,11 +1,11 @@
-//! The bytes that are heard by hand.
+//! The bytes of static advertisements.
 
 use crate::ears::Ears;
 use crate::fixture::{ask, ears, silent};
 use ipx_static::WithStatics;
 use std::test::Fail;
 
-/// A RIP response and a SAP response from node 0000c6336407 of the network at hand to all nodes.
+/// A RIP response and a SAP response from node 0000c6336407 of the local network to all nodes.
 const ROUTE: &str =
     "ffff0028000100000000ffffffffffff0453000000000000c633640704530002000000aa00010006";
 
@@ -26,7 +26,7 @@ fn a_route_and_a_service(rt: HostRuntime) -> Result<(), Fail> {
     Ok(())
 }
 
-/// 50 routes are one packet, and 7 services; one more is a packet of its own.
+/// 50 routes are one packet, and 7 services are one; one more makes another packet.
 #[test]
 fn cut_at_50_and_7(rt: HostRuntime) -> Result<(), Fail> {
     let alloc = rt.alloc();
@@ -42,7 +42,8 @@ fn cut_at_50_and_7(rt: HostRuntime) -> Result<(), Fail> {
     Ok(())
 }
 
-/// Who has nothing to say is not heard, and each is heard on its own port, in order.
+/// A neighbour without entries sends nothing, and each neighbour's packets are received on its own
+/// port, in order.
 #[test]
 fn each_on_its_port(rt: HostRuntime) -> Result<(), Fail> {
     let alloc = rt.alloc();

@@ -50,7 +50,7 @@ module _ {K : Type 0} (M : Type 0) {cmp : K → K → Ordering} (o : IsTotalOrde
   BestsRise [] = Unit {0}
   BestsRise (b ∷ bs) = AreBestsAbove (place b) bs × BestsRise bs
 
-  -- an offer of the place of a best one stands in a list, and each such offer is that one
+  -- an offer with the key and source of a best one is in a list, and each such offer is that one
   abbrev StandsIn : Item K M → List (Offer K M) → Type 0
   StandsIn b [] = ⊥
   StandsIn b (x ∷ os) = (pair_cmp cmp (place b) (pair_of x) ≡ Equal) ⊎ StandsIn b os
@@ -93,7 +93,7 @@ module _ {K : Type 0} (M : Type 0) {cmp : K → K → Ordering} (o : IsTotalOrde
   bests_tied p q [] tie all = tt
   bests_tied p q (b ∷ bs) tie all = (sym (pairs.congr p q (place b) tie) ∙ all.0, bests_tied p q bs tie all.1)
 
-  -- what stands in a list and is above its head stands in its tail
+  -- what is in a list and is above its head is in its tail
   in_tail : (x : Offer K M) (os : List (Offer K M)) (bs : List (Item K M)) → AreBestsAbove (pair_of x) bs → AllByRecursion (λ b. StandsIn b (x ∷ os) × IsEach (x ∷ os) b) bs → AllByRecursion (λ b. StandsIn b os × IsEach os b) bs
   in_tail x os [] above all = tt
   in_tail x os (b ∷ bs) above all =

@@ -8,7 +8,7 @@ use Rattle.std.proofs.lemmas.List.Splits.{slice_split_at, slice_split_none}
 use Rattle.ipx_table_dump.specs.TableRead.{lines_in, words_in}
 use Rattle.ipx_table_dump.proofs.Clean.{IsFree, IsOther, free_append}
 
--- pieces in a row, and what is behind them
+-- pieces in a row, followed by a rest
 abbrev pub cat : List (List ℕ) → List ℕ → List ℕ
 cat [] tail = tail
 cat (w ∷ ws) tail = w ++ cat ws tail
@@ -34,7 +34,7 @@ one_word w rest free = slice_split_at (λ b. b == 32) w 32 rest (All-from_recurs
 pub last_word : (w : List ℕ) → IsFree 32 w → words_in (w ++ []) ≡ w ∷ []
 last_word w free = ap words_in (append-nil w) ∙ slice_split_none (λ b. b == 32) w (All-from_recursion (IsOther 32) w free)
 
--- what is read of a line and of what is behind it
+-- what is read of a line and of the rest after it
 pub read_line : {Y : Type 0} (h : List (List ℕ) → Option Y) (ws : List (List ℕ)) (words : List (List ℕ)) (line rest : List ℕ) → AllByRecursion (IsFree 10) ws → line ≡ cat ws (10 ∷ []) → words_in (cat ws []) ≡ words
     → filter_map (λ l. h (words_in l)) (lines_in (line ++ rest)) ≡ cons_option (h words) (filter_map (λ l. h (words_in l)) (lines_in rest))
 read_line h ws words line rest free is parts =

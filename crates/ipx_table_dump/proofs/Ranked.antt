@@ -1,4 +1,4 @@
--- Whether an offer is among the best, where they rise by key.
+-- Whether an offer is among the best, which rise by key.
 use Rattle.std.proofs.Common.{◌≡◌, ℕ, zero, suc, ◌<◌, ◌≤◌, inl, inr, Bool, true, false, List, [], ◌∷◌, length, get_or, refl, sym, ap, ◌∙◌, arith}
 use Rattle.std.specs.Prelude.{◌||◌}
 use Rattle.std.specs.Cmp.{IsTotalOrder}
@@ -57,7 +57,7 @@ module _ {K : Type 0} (M : Type 0) {cmp : K → K → Ordering} (o : IsTotalOrde
       let rest : is_among_best cmp bs offer ≡ false = none_listed bs offer (λ j d lt. others (suc j) d (omega (arith, lt))) in
       λ i. head i || rest i
 
-  -- behind one of a key all are of others
+  -- after the best offer of a key, all are of other keys
   others_behind : (b : Best K M) (bs : List (Best K M)) (key : K) → IsRising cmp listed_key (b ∷ bs) → cmp b.0 key ≡ Equal → AreOthers bs key
   others_behind b bs key rising tie j d lt =
       let x = get_or bs j d in

@@ -23,7 +23,7 @@ module _ {Y : Type 0} (h : List ℕ → Option Y) (parts : List (Bor (List ℕ))
       ∙ filter_map-append h (take i (parts_view parts)) (get_or (parts_view parts) i d.now ∷ [])
       ∙ ap (λ line. read_so_far i ++ cons_option (h line) []) one_line
 
-  -- a line that tells something, and one that does not
+  -- a line that gives something, and one that does not
   read_some : (old : List Y) (y : Y) → old ≡ read_so_far i → h (get_or parts i d).now ≡ Some y → old ++ y ∷ [] ≡ read_so_far (i + 1)
   read_some old y was is = ap (λ l. l ++ y ∷ []) was ∙ sym (read_more ∙ ap (λ o. read_so_far i ++ cons_option o []) is)
 
@@ -31,7 +31,7 @@ module _ {Y : Type 0} (h : List ℕ → Option Y) (parts : List (Bor (List ℕ))
   read_none old was is = was ∙ sym (read_more ∙ ap (λ o. read_so_far i ++ cons_option o []) is ∙ append-nil (read_so_far i))
 
   module _ {N : Type 0} (f : N → Y) (items : List N) (found : Option N) (was : map f items ≡ read_so_far i) (told : option_map f found ≡ h (get_or parts i d).now) where
-    -- what was found is pushed, and where nothing was nothing is
+    -- what was found is pushed; if nothing was found, nothing is
     pub pushed_more : (new : List N) (n : N) → found ≡ Some n → new ≡ items ++ n ∷ [] → map f new ≡ read_so_far (i + 1)
     pushed_more new n here is = ap (map f) is ∙ map-append f items (n ∷ []) ∙ read_some (map f items) (f n) was (sym told ∙ ap (option_map f) here)
 

@@ -7,13 +7,13 @@ use Rattle.hex.specs.Hex.{encode_lower, encode_with, lower_digits}
 use Rattle.ipx_router.specs.declared.port.Port.{Port}
 use Rattle.ipx_table_dump.specs.TableText.{own_line, own_lines}
 
--- three parts behind nothing are one text
+-- three parts after an empty text are one text
 pub joined : (none one two three a b c : List ℕ) → none ≡ [] → one ≡ none ++ a → two ≡ one ++ b → three ≡ two ++ c
     → three ≡ a ++ (b ++ c)
 joined none one two three a b c empty first second third =
     third ∙ ap (λ t. t ++ c) (second ∙ ap (λ t. t ++ b) (first ∙ ap (λ t. t ++ a) empty)) ∙ append_assoc a b c
 
--- five parts behind a text are one, where the last found room too
+-- five parts after a text are one, if there was memory for the last
 pub parts_joined : {T E : Type 0} (r : Result T E) (none one two three four five a b c d e : List ℕ) → one ≡ none ++ a → two ≡ one ++ b → three ≡ two ++ c → four ≡ three ++ d → OnOk r (five ≡ four ++ e)
     → OnOk r (five ≡ none ++ (a ++ (b ++ (c ++ (d ++ e)))))
 parts_joined (Err x) none one two three four five a b c d e first second third fourth fifth = tt
@@ -25,7 +25,7 @@ byte_spelled : (b : ℕ) → encode_lower (b ∷ []) ≡ slice_index lower_digit
 unfolding encode_with
 byte_spelled b = refl
 
--- two digits behind a text are a byte, where the second found room too
+-- two digits after a text are a byte, if there was memory for the second
 pub byte_more : {T E : Type 0} (r : Result T E) (old one two : List ℕ) (b high low : ℕ) → high ≡ slice_index lower_digits (b / 16) → low ≡ slice_index lower_digits (b % 16)
     → one ≡ old ++ high ∷ [] → OnOk r (two ≡ one ++ low ∷ []) → OnOk r (two ≡ old ++ encode_lower (b ∷ []))
 byte_more (Err e) old one two b high low h l first second = tt
@@ -51,7 +51,7 @@ hex_more bs i d before old lt was =
     ∙ append_assoc before (encode_lower (take i bs)) (encode_lower (get_or bs i d ∷ []))
     ∙ ap (λ t. before ++ t) (sym (hex_append (take i bs) (get_or bs i d ∷ [])) ∙ ap (λ t. encode_lower t) (sym (take_more bs i d lt)))
 
--- one more text behind those of the elements before
+-- one more text after those of the elements before
 pub texts_more : {X : Type 0} (f : X → List ℕ) (xs : List X) (i : ℕ) (d : X) (before old part : List ℕ) → i < length xs → old ≡ before ++ flat_map f (take i xs) → part ≡ f (get_or xs i d)
     → old ++ part ≡ before ++ flat_map f (take (i + 1) xs)
 texts_more f xs i d before old part lt was is =

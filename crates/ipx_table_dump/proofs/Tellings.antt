@@ -1,4 +1,4 @@
--- What a neighbour told, as it says one thing more.
+-- The counts of a neighbour after one more advertisement.
 use Rattle.std.proofs.Common.{◌≡◌, ℕ, ◌+◌, ◌<◌, ◌≤◌, ◌^◌, Bool, true, false, List, ◌++◌, [], ◌∷◌, Some, None, length, max, take, get_or, refl, sym, ap, cond, ◌∙◌, arith, if◌then◌else◌}
 use Rattle.std.specs.Prelude.{◌&&◌, count_by, filter, not}
 use Rattle.std.specs.List.{list_any}
@@ -79,7 +79,7 @@ none_told said s none =
     let h = none_filtered (is_advertisement_of s) said none in
     λ i. made (n i) (m i) (h i)
 
--- what was told before, of who told nothing too
+-- the counts before, also of a neighbour without advertisements
 pub told_before : (said : List Advertisement) (s : Source) → unwrap_or (advertiser_of said s) nothing_told ≡ told_by said s
 told_before said s = elim (list_any (is_advertisement_of s) said) as (λ b. list_any (is_advertisement_of s) said ≡ b → unwrap_or (if b then Some (told_by said s) else None) nothing_told ≡ told_by said s) [
   | true ↦ λ e. refl
@@ -89,7 +89,7 @@ told_before said s = elim (list_any (is_advertisement_of s) said) as (λ b. list
 any_more : (said : List Advertisement) (a : Advertisement) (s : Source) → list_any (is_advertisement_of s) (said ++ a ∷ []) ≡ (if is_advertisement_of s a then true else list_any (is_advertisement_of s) said)
 any_more said a s = grind (arith, list_any-append (is_advertisement_of s) said (a ∷ []))
 
--- one thing more changes what its neighbour told, and no other
+-- one more advertisement changes the counts of its neighbour, and of no other
 advertiser_more : (said : List Advertisement) (a : Advertisement) (s : Source) → advertiser_of (said ++ a ∷ []) s ≡ (if is_advertisement_of s a then Some (with_advertisement (told_by said s) a) else advertiser_of said s)
 advertiser_more said a s = elim (is_advertisement_of s a) as (λ b. is_advertisement_of s a ≡ b → advertiser_of (said ++ a ∷ []) s ≡ (if b then Some (with_advertisement (told_by said s) a) else advertiser_of said s)) [
   | true ↦ λ e.
@@ -105,7 +105,7 @@ is_equal Less h = cc
 is_equal Equal h = refl
 is_equal Greater h = cc
 
--- so the map is changed at the neighbour alone
+-- so the map changes at that neighbour alone
 pub advertiser_put : TellsApart source_cmp → (said : List Advertisement) (i : ℕ) (a : Advertisement) (s : Source) → i < length said → (d : Advertisement) → a ≡ get_or said i d → (new : Advertiser) → new ≡ with_advertisement (told_by (take i said) a.source) a
     → cond (is_advertisement_of s a) (Some new) (advertiser_of (take i said) s) ≡ advertiser_of (take (i + 1) said) s
 advertiser_put apart said i a s lt d is new told =
@@ -119,7 +119,7 @@ advertiser_put apart said i a s lt d is new told =
 counted-le : {X : Type 0} (p q : X → Bool) (xs : List X) → count_by (λ x. p x && q x) xs ≤ length xs
 counted-le p q xs = count_by-le-length (λ x. p x && q x) xs
 
--- of the first of a list no more is told than they are
+-- the counts of the first advertisements are at most their number
 few_of : (said : List Advertisement) (i : ℕ) (s : Source) → i ≤ length said → ((told_by (take i said) s).networks ≤ i) × ((told_by (take i said) s).services ≤ i)
 few_of said i s le =
     let short = length-take i said in

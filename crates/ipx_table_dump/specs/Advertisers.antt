@@ -1,4 +1,4 @@
--- Whose offers count, and how many of each neighbour. All of it is own.
+-- The neighbours whose offers count, and how many each has. Defined by this project.
 use Rattle.std.specs.Prelude.{◌≡◌, ℕ, ◌+◌, ◌&&◌, Bool, List, [], ◌∷◌, Option, Some, None, count_by, filter, if◌then◌else◌, map, max, not}
 use Rattle.std.specs.BTreeMap.{is_at}
 use Rattle.std.specs.List.{list_any}
@@ -11,21 +11,21 @@ use Rattle.ipx_tables.specs.Content.{source_cmp}
 use Rattle.ipx_table_dump.specs.declared.advertisements.Advertisement.{Advertisement}
 use Rattle.ipx_table_dump.specs.declared.advertisers.Advertiser.{Advertiser}
 
--- what offers say of who told them: of a network, or of a service
+-- the advertisements that offers come from: of a network, or of a service
 abbrev pub advertisements : {K M : Type 0} → Bool → List (Offer K M) → List Advertisement
 advertisements of_network offers =
     map (λ o. record { source = o.source; heard = o.heard; of_network = of_network }) offers
 
--- a neighbour said it
+-- a neighbour sent it
 abbrev pub is_advertisement_of : Source → Advertisement → Bool
 is_advertisement_of s saying = is_eq (source_cmp saying.source s)
 
--- the latest moment, 0 where there is none
+-- the latest time, or 0 if there is none
 abbrev pub latest : List Advertisement → ℕ
 latest [] = 0
 latest (saying ∷ said) = max saying.heard (latest said)
 
--- what a neighbour said: how many networks and services, and when the last of them
+-- the counts of a neighbour: how many networks and services, and when the last of them was heard
 abbrev pub told_by : List Advertisement → Source → Advertiser
 told_by said s = record {
   networks = count_by (λ a. is_advertisement_of s a && a.of_network) said;
@@ -33,11 +33,11 @@ told_by said s = record {
   heard = latest (filter (is_advertisement_of s) said);
 }
 
--- nothing told
+-- no advertisements
 abbrev pub nothing_told : Advertiser
 nothing_told = record { networks = 0; services = 0; heard = 0 }
 
--- what a neighbour told, and one thing more
+-- the counts of a neighbour after one more advertisement
 abbrev pub with_advertisement : Advertiser → Advertisement → Advertiser
 with_advertisement t a = record {
   networks = if a.of_network then t.networks + 1 else t.networks;
@@ -45,11 +45,11 @@ with_advertisement t a = record {
   heard = max t.heard a.heard;
 }
 
--- what a neighbour said, and nothing of who said nothing
+-- the counts of a neighbour, or None if it has no advertisement
 abbrev pub advertiser_of : List Advertisement → Source → Option Advertiser
 advertiser_of said s = if list_any (is_advertisement_of s) said then Some (told_by said s) else None
 
--- each neighbour that said something stands once, by port and node, with what it said
+-- each neighbour with an advertisement appears once, by port and node, with its counts
 pub record AreAdvertisers (said : List Advertisement) (listed : List (Source × Advertiser)) : Type 0 where
   pub in_order : IsStrictlySortedBy source_cmp (keys_of listed)
   pub each : (s : Source) → lookup (is_at (source_cmp s)) listed ≡ advertiser_of said s

@@ -1,4 +1,4 @@
--- The first neighbours, by port and node. All of it is own.
+-- The first neighbours, by port and node. Defined by this project.
 use Rattle.std.specs.Prelude.{◌≡◌, ℕ, true, false, List, ◌++◌, take}
 use Rattle.ipx_wire.specs.declared.address.Network.{Network}
 use Rattle.ipx_tables.specs.declared.offer.Offer.{Offer}
@@ -14,8 +14,8 @@ use Rattle.ipx_table_dump.specs.declared.advertisers.Advertiser.{Advertiser}
 use Rattle.ipx_table_dump.specs.Standing.{AreStanding}
 use Rattle.ipx_table_dump.specs.Advertisers.{AreAdvertisers, advertisements}
 
--- of those who told what counts at a moment they are the first 256, by port and node, each with how much
--- of that it told
+-- they are the first 256 neighbours with offers that count at this time, by port and node, each with its
+-- counts
 pub record AreFirstAdvertisers (routes : Table Network RouteMetric)
     (services : Table ServiceKey ServiceMetric) (now : ℕ) (listed : List (Source × Advertiser)) : Type 0 where
   pub networks_then : List (Offer Network RouteMetric)

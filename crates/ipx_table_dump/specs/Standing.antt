@@ -1,4 +1,4 @@
--- What of a table counts at a moment, and what of that is best. All of it is own.
+-- The offers of a table that count at a time, and the best of them. Defined by this project.
 use Rattle.std.specs.Prelude.{◌≡◌, ℕ, Bool, List, filter}
 use Rattle.std.specs.List.{list_any}
 use Rattle.std.specs.declared.cmp.Ordering.{Ordering}
@@ -7,7 +7,7 @@ use Rattle.ipx_tables.specs.declared.offer.Offer.{Offer}
 use Rattle.ipx_tables.specs.Content.{Content, is_same, is_young, pair_of}
 use Rattle.ipx_tables.specs.Inventory.{IsInventory}
 
--- each offer that counts at a moment stands once, by key and then by source
+-- each offer that counts at this time appears once, by key and then by source
 pub record AreStanding {K M : Type 0} (cmp : K → K → Ordering) (c : Content K M) (now : ℕ)
     (offers : List (Offer K M)) : Type 0 where
   pub all : List (Offer K M)

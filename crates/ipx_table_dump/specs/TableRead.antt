@@ -1,5 +1,5 @@
--- What is read again of a text of tables: the best networks and services, by their words. All of it is
--- own. A line of another form is passed over.
+-- What is read back from a table file: the best networks and services, in words. Defined by this project.
+-- Lines of another form are skipped.
 use Rattle.std.specs.Prelude.{ℕ, Bool, ◌==◌, ◌&&◌, List, [], Option, Some, None, codes, if◌then◌else◌, length, map, slice_index_or}
 use Rattle.std.specs.Borrow.{Bor}
 use Rattle.std.specs.Fmt.{decimal}
@@ -16,18 +16,18 @@ use Rattle.ipx_table_dump.specs.declared.reading.NetworkWords.{NetworkWords}
 use Rattle.ipx_table_dump.specs.declared.reading.ServiceWords.{ServiceWords}
 use Rattle.ipx_table_dump.specs.TableText.{network_word}
 
--- parts of a text, without where they lie in memory
+-- parts of a text, without the memory where they are stored
 abbrev pub parts_view : List (Bor (List ℕ)) → List (List ℕ)
 parts_view parts = map (λ p. p.now) parts
 
--- the word at a place of a line, and whether it is this one
+-- the word at an index of a line, and whether it is this one
 abbrev pub word_at : List (List ℕ) → ℕ → List ℕ
 word_at words i = slice_index_or words i []
 
 abbrev pub has_word : List (List ℕ) → ℕ → List ℕ → Bool
 has_word words i word = bytes_eq (word_at words i) word
 
--- a network in words, by whom it is known and how far it is
+-- a network in words, with its neighbour and its distance
 pub record NetworkSpelled : Type 0 where
   pub network : List ℕ
   pub port : List ℕ
@@ -44,7 +44,7 @@ network_spelled w = record {
   ticks = w.ticks.now;
 }
 
--- what a best offer is in words
+-- the best offer of a network, in words
 abbrev pub network_in_words : Network × Source × RouteMetric → NetworkSpelled
 network_in_words best = record {
   network = network_word best.0;
@@ -54,7 +54,7 @@ network_in_words best = record {
   ticks = decimal best.2.ticks;
 }
 
--- a service in words, and where it is
+-- a service in words, with its address
 pub record ServiceSpelled : Type 0 where
   pub kind : List ℕ
   pub name : List ℕ
@@ -89,7 +89,7 @@ service_in_words best = record {
   hops = decimal best.2.hops;
 }
 
--- the best offer of a network that the words of a line tell
+-- the best offer of a network that the words of a line give
 abbrev pub best_network_in : List (List ℕ) → Option NetworkSpelled
 best_network_in words =
     if (length words == 11) && (has_word words 1 (codes "port") && (has_word words 3 (codes "next")
@@ -104,7 +104,7 @@ best_network_in words =
     })
     else None
 
--- and of a service
+-- the same for a service
 abbrev pub best_service_in : List (List ℕ) → Option ServiceSpelled
 best_service_in words =
     if (length words == 14) && (has_word words 2 (codes "at") && (has_word words 6 (codes "port")
@@ -122,14 +122,14 @@ best_service_in words =
     })
     else None
 
--- lines are parted by a byte 0a, and words by a blank
+-- lines are separated by a byte 0a, and words by a space
 abbrev pub lines_in : List ℕ → List (List ℕ)
 lines_in text = slice_split (λ b. b == 10) text
 
 abbrev pub words_in : List ℕ → List (List ℕ)
 words_in line = slice_split (λ b. b == 32) line
 
--- all that is read of networks, and of services
+-- all networks that are read, and all services
 abbrev pub networks_read : List ℕ → List NetworkSpelled
 networks_read text = filter_map (λ line. best_network_in (words_in line)) (lines_in text)
 

@@ -1,4 +1,4 @@
--- What a router knows at a moment, as a text. All of it is own. The entry point is `IsTables`.
+-- What a router knows at a time, as text. Defined by this project. The entry point is `IsTables`.
 use Rattle.std.specs.Prelude.{◌≡◌, ℕ, ◌+◌, ◌-◌, ◌/◌, Bool, true, false, List, [], ◌∷◌, ◌++◌, codes, if◌then◌else◌, length}
 use Rattle.std.specs.Fmt.{decimal}
 use Rattle.std.specs.Int.{w32, to_be_bytes}
@@ -21,18 +21,18 @@ use Rattle.ipx_table_dump.specs.declared.advertisers.Advertiser.{Advertiser}
 use Rattle.ipx_table_dump.specs.Standing.{AreStanding, is_among_best}
 use Rattle.ipx_table_dump.specs.Advertisers.{AreAdvertisers, advertisements}
 
--- the seconds from a moment to a later one, both in milliseconds
+-- the whole seconds between two times in milliseconds
 abbrev pub seconds_since : ℕ → ℕ → ℕ
 seconds_since now moment = (now - moment) / 1000
 
 abbrev pub network_word : Network → List ℕ
 network_word network = encode_lower (to_be_bytes w32 network.0)
 
--- the port at which it was heard, and the neighbour
+-- the port where an offer was heard, and the neighbour
 abbrev pub by_text : Source → List ℕ
 by_text s = codes " port " ++ (decimal s.port ++ (codes " next " ++ encode_lower s.neighbour.0))
 
--- how long ago it was heard, and whether another one of its key is better
+-- how long ago an offer was heard, and whether another offer of its key is better
 abbrev pub heard_text : Bool → ℕ → List ℕ
 heard_text best seconds =
     codes " heard " ++ (decimal seconds ++ (if best then codes "\n" else codes " spare\n"))
@@ -43,12 +43,12 @@ own_line number p =
     network_word p.network ++ (codes " own port " ++ (decimal number
     ++ (codes " cost " ++ (decimal p.cost ++ codes "\n"))))
 
--- those of ports that are numbered from this number on
+-- the networks of ports, numbered from this number on
 abbrev pub own_lines : ℕ → List Port → List ℕ
 own_lines number [] = []
 own_lines number (p ∷ ports) = own_line number p ++ own_lines (number + 1) ports
 
--- a network that a neighbour told of, and a service
+-- a network that a neighbour advertised, and a service
 abbrev pub route_offer_line : Bool → ℕ → Offer Network RouteMetric → List ℕ
 route_offer_line best now o =
     network_word o.key ++ (by_text o.source ++ (codes " hops " ++ (decimal o.metric.hops
@@ -61,7 +61,7 @@ service_offer_line best now o =
     ++ (address_text o.metric.at ++ (by_text o.source ++ (codes " hops "
     ++ (decimal o.metric.hops ++ heard_text best (seconds_since now o.heard))))))))
 
--- a neighbour, how much of what it told counts, and how long ago the last of that was heard
+-- a neighbour, how many of its offers count, and how long ago the last of those was heard
 abbrev pub advertiser_line : ℕ → Source × Advertiser → List ℕ
 advertiser_line now t =
     codes "port " ++ (decimal t.0.port ++ (codes " " ++ (encode_lower t.0.neighbour.0
@@ -69,11 +69,11 @@ advertiser_line now t =
     ++ (decimal t.1.services ++ (codes " heard "
     ++ (decimal (seconds_since now t.1.heard) ++ codes "\n")))))))))
 
--- above each part stands how many lines it has
+-- the line above each section has its number of lines
 abbrev pub head_line : List ℕ → ℕ → List ℕ
 head_line title count = title ++ (codes " " ++ (decimal count ++ codes "\n"))
 
--- the networks of ports, and those that neighbours told of, of which these are best
+-- the networks of ports, and those that neighbours advertised, of which these are best
 abbrev pub network_lines : List Port → ℕ → List (Network × Source × RouteMetric)
     → List (Offer Network RouteMetric) → List ℕ
 network_lines ports now bests offers =
@@ -90,7 +90,7 @@ abbrev pub advertiser_lines : ℕ → List (Source × Advertiser) → List ℕ
 advertiser_lines now advertisers =
     head_line (codes "neighbours") (length advertisers) ++ flat_map (advertiser_line now) advertisers
 
--- what counts at a moment, by key and source; the best of it, by key; and who told it
+-- the offers that count at a time, by key and source; the best of them, by key; and their neighbours
 pub record KnownThen : Type 0 where
   pub networks : List (Offer Network RouteMetric)
   pub best_networks : List (Network × Source × RouteMetric)
@@ -103,7 +103,7 @@ tables_text ports now k =
     network_lines ports now k.best_networks k.networks
     ++ (service_lines now k.best_services k.services ++ advertiser_lines now k.advertisers)
 
--- what tables know at a moment
+-- what tables know at this time
 pub record IsKnownThen (routes : Table Network RouteMetric) (services : Table ServiceKey ServiceMetric)
     (now : ℕ) (k : KnownThen) : Type 0 where
   pub heard_networks : AreStanding network_cmp (routes_in routes) now k.networks
@@ -113,7 +113,7 @@ pub record IsKnownThen (routes : Table Network RouteMetric) (services : Table Se
       k.best_services
   pub advertisers : AreAdvertisers (advertisements true k.networks ++ advertisements false k.services) k.advertisers
 
--- a text says what a router of these ports and tables knows at a moment, in milliseconds
+-- a text says what a router with these ports and tables knows at this time, in milliseconds
 pub record IsTables (ports : List Port) (routes : Table Network RouteMetric)
     (services : Table ServiceKey ServiceMetric) (now : ℕ) (text : List ℕ) : Type 0 where
   pub known : KnownThen

@@ -1,4 +1,4 @@
-//! What offers say of who told them.
+//! The advertisements that table entries come from.
 
 ghost use Rattle.std.specs.Prelude.{◌≡◌, ◌++◌, OnOk};
 ghost use Rattle.ipx_table_dump.specs.Advertisers.{advertisements};
@@ -6,7 +6,7 @@ ghost use Rattle.ipx_table_dump.specs.Advertisers.{advertisements};
 use ipx_tables::{Offer, Source};
 use std::alloc::AllocError;
 
-/// That a neighbour told of a network or of a service, and when.
+/// An advertisement of a network or service by a neighbour, and when it was heard.
 #[derive(Clone, Copy, Debug)]
 pub struct Advertisement {
     pub source: Source,
@@ -14,7 +14,7 @@ pub struct Advertisement {
     pub of_network: bool,
 }
 
-/// Puts behind others what offers say.
+/// Appends the advertisements that offers come from.
 pub fn add_advertisements<K: Copy, M: Copy>(
     said: &mut Vec<Advertisement>,
     of_network: bool,

@@ -43,7 +43,7 @@ fn put_neighbours(
     Ok(())
 }
 
-/// Puts the part of neighbours behind a text.
+/// Appends the section of neighbours to a text.
 pub fn put_advertisers(
     text: &mut String,
     now: u64,

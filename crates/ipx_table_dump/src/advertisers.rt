@@ -1,4 +1,4 @@
-//! Neighbours, and how much each of them told.
+//! Neighbours, and how much each of them advertises.
 
 ghost use Rattle.std.specs.Prelude.{◌≡◌, ◌+◌, ◌^◌, ◌<◌, IfOk};
 ghost use Rattle.std.specs.BTreeMap.{get};
@@ -11,7 +11,8 @@ use ipx_tables::{Source, sources_are_apart};
 use std::alloc::{AllocError, Global};
 use std::collections::BTreeMap;
 
-/// What a neighbour told: how many networks and services, and at which moment the last of them.
+/// What a neighbour advertises: how many networks and services, and when the last of them was
+/// heard.
 #[derive(Clone, Copy, Debug, PartialEq, Eq)]
 pub struct Advertiser {
     pub networks: usize,
@@ -25,7 +26,7 @@ const NOTHING: Advertiser = Advertiser {
     heard: 0,
 };
 
-/// What a neighbour told, and one thing more.
+/// The counts of a neighbour after one more advertisement.
 fn with_advertisement(before: Advertiser, saying: &Advertisement) -> Advertiser
     requires networks { before.networks + 1 < 2 ^ 64 }
     requires services { before.services + 1 < 2 ^ 64 }
@@ -46,14 +47,14 @@ fn with_advertisement(before: Advertiser, saying: &Advertisement) -> Advertiser
     }
 }
 
-/// What a neighbour told so far.
+/// The counts of a neighbour so far.
 fn told_before(advertisers: &BTreeMap<Source, Advertiser>, source: Source) -> Advertiser
     ensures { result ≡ unwrap_or (get source_cmp advertisers.now source) nothing_told }
 {
     advertisers.get(&source).copied().unwrap_or(NOTHING)
 }
 
-/// Each neighbour that said something, by port and node, and what it said.
+/// Each neighbour with an advertisement, by port and node, and its counts.
 pub fn advertisers_of(
     alloc: Global,
     said: &[Advertisement],

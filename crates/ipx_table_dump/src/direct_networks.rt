@@ -1,4 +1,4 @@
-//! The networks of a router's own ports, read again of a text of tables.
+//! The networks of a router's own ports, read back from the text of a table file.
 
 ghost use Rattle.std.specs.Prelude.{◌≡◌, IfOk, map, option_map};
 ghost use Rattle.std.specs.List.{filter_map};
@@ -8,7 +8,7 @@ ghost use Rattle.ipx_table_dump.specs.TableParts.{port_network_in, own_networks_
 use crate::reading::{is_word, lines_of, words_of};
 use std::alloc::{AllocError, Global};
 
-/// The network of a port, in the words of its line: digits in hex, or decimal ones.
+/// The network of a port, in the words of its line: hex digits, or decimal digits.
 #[derive(Clone, Copy, Debug)]
 pub struct OwnWords<'a> {
     pub network: &'a [u8],
@@ -16,7 +16,7 @@ pub struct OwnWords<'a> {
     pub cost: &'a [u8],
 }
 
-/// The network of a port that the words of a line tell.
+/// The network of a port that the words of a line give.
 fn port_network_in<'a>(words: &[&'a [u8]]) -> Option<OwnWords<'a>>
     ensures { option_map own_spelled result ≡ port_network_in (parts_view words.now) }
 {
@@ -33,7 +33,7 @@ fn port_network_in<'a>(words: &[&'a [u8]]) -> Option<OwnWords<'a>>
     })
 }
 
-/// The networks of ports that lines tell.
+/// The networks of ports that lines give.
 fn own_networks_in_lines<'a>(
     alloc: Global,
     lines: &[&'a [u8]],
@@ -52,8 +52,8 @@ fn own_networks_in_lines<'a>(
     Ok(networks)
 }
 
-/// The networks of ports that a text tells, in the order of the text. A line of another form is
-/// passed over.
+/// The networks of ports that a text gives, in the order of the text. Lines of another form are
+/// skipped.
 pub fn own_networks_of_text<'a>(
     alloc: Global,
     text: &'a [u8],

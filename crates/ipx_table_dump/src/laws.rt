@@ -1,4 +1,4 @@
-//! Laws of a text of tables, which say what is read of it again. They do nothing.
+//! Laws on what is read back from the text of a table file. They do nothing.
 
 ghost use Rattle.std.specs.Prelude.{◌≡◌, ℕ, List, map, true};
 ghost use Rattle.ipx_wire.specs.declared.address.Network.{Network};
@@ -18,8 +18,8 @@ ghost use Rattle.ipx_table_dump.specs.TableText.{IsTables};
 
 use ipx_tables::{route_listing_is_one, service_listing_is_one, sources_are_apart};
 
-/// Of a text that says what a router knows the best of each network and service is read, and
-/// nothing else, in the order of the tables.
+/// From the text of what a router knows, the best offer of each network and service is read back,
+/// in the order of the tables. Nothing else is read.
 pub fn bests_are_read_back()
     ensures networks { (ports : List Port) (routes : Table Network RouteMetric)
         (services : Table ServiceKey ServiceMetric) (now : ℕ) (text : List ℕ)
@@ -39,7 +39,8 @@ pub fn bests_are_read_back()
     service_listing_is_one();
 }
 
-/// Of such a text the network of each port is read too, in order, and it has the titles of its parts.
+/// The network of each port is read back from such a text too, in order, and the text has the
+/// titles of its sections.
 pub fn own_networks_are_read_back()
     ensures networks { (ports : List Port) (routes : Table Network RouteMetric)
         (services : Table ServiceKey ServiceMetric) (now : ℕ) (text : List ℕ)

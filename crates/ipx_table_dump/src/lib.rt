@@ -1,7 +1,8 @@
-//! What a router knows, as a text.
+//! What a router knows, as text.
 //!
-//! [`tables_to_text`] writes the networks and services that a router heard of, whom it heard them
-//! from and how long ago; [`first_advertisers`] are the first neighbours, and how much each told.
+//! [`tables_to_text`] writes the networks and services that a router has learned, with the
+//! neighbour of each and its age. [`first_advertisers`] are the first neighbours, and how much each
+//! advertises.
 #![tactic(auto)]
 
 mod advertisements;

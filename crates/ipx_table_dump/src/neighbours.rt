@@ -10,7 +10,7 @@ use ipx_tables::{RouteTable, ServiceTable, Source};
 use std::alloc::{AllocError, Global};
 use std::collections::BTreeMap;
 
-/// How many neighbours are told at most.
+/// The most neighbours that are listed.
 const MAX: usize = 256;
 
 fn first_of(
@@ -28,8 +28,8 @@ fn first_of(
     Ok(first)
 }
 
-/// The first 256 neighbours by port and node of which something counts at a moment, in milliseconds,
-/// and how much of it.
+/// The first 256 neighbours, by port and node, with offers that count at `now`, in milliseconds,
+/// and how many each has.
 pub fn first_advertisers(
     alloc: Global,
     routes: &RouteTable,

@@ -1,4 +1,4 @@
-//! What is read again of a text of tables.
+//! Reading back the text of a table file.
 
 ghost use Rattle.std.specs.Prelude.{◌≡◌, IfOk, map, option_map};
 ghost use Rattle.std.specs.List.{filter_map};
@@ -7,27 +7,27 @@ ghost use Rattle.ipx_table_dump.specs.TableRead.{lines_in, best_network_in, netw
 
 use std::alloc::{AllocError, Global};
 
-/// The best offer of a network, in the words of its line: digits in hex, or decimal ones.
+/// The best offer of a network, in the words of its line: hex digits, or decimal digits.
 #[derive(Clone, Copy, Debug)]
 pub struct NetworkWords<'a> {
     pub network: &'a [u8],
-    /// The port at which it was heard, and the neighbour.
+    /// The port where it was heard, and the neighbour.
     pub port: &'a [u8],
     pub next: &'a [u8],
     pub hops: &'a [u8],
     pub ticks: &'a [u8],
 }
 
-/// The best offer of a service, likewise. Its name is as `ipx show` prints it.
+/// The best offer of a service, in the same form. Its name is as `ipx show` prints it.
 #[derive(Clone, Copy, Debug)]
 pub struct ServiceWords<'a> {
     pub kind: &'a [u8],
     pub name: &'a [u8],
-    /// Where it is.
+    /// Its address.
     pub network: &'a [u8],
     pub node: &'a [u8],
     pub socket: &'a [u8],
-    /// The port at which it was heard, and the neighbour.
+    /// The port where it was heard, and the neighbour.
     pub port: &'a [u8],
     pub next: &'a [u8],
     pub hops: &'a [u8],
@@ -54,7 +54,7 @@ pub(crate) fn words_of<'a>(alloc: Global, line: &'a [u8]) -> Result<Vec<&'a [u8]
     line.split(|byte| *byte == b' ').collect(alloc)
 }
 
-/// The best offer of a network that the words of a line tell.
+/// The best offer of a network that the words of a line give.
 fn best_network_in<'a>(words: &[&'a [u8]]) -> Option<NetworkWords<'a>>
     ensures { option_map network_spelled result ≡ best_network_in (parts_view words.now) }
 {
@@ -89,7 +89,7 @@ fn best_network_in<'a>(words: &[&'a [u8]]) -> Option<NetworkWords<'a>>
     })
 }
 
-/// The networks that lines tell.
+/// The networks that lines give.
 fn networks_in_lines<'a>(
     alloc: Global,
     lines: &[&'a [u8]],
@@ -108,8 +108,8 @@ fn networks_in_lines<'a>(
     Ok(networks)
 }
 
-/// The networks that a text tells, each by the best offer of it, in the order of the text. A line
-/// of another form is passed over.
+/// The networks that a text gives, each with its best offer, in the order of the text. Lines of
+/// another form are skipped.
 pub fn networks_of_text<'a>(
     alloc: Global,
     text: &'a [u8],
@@ -120,7 +120,7 @@ pub fn networks_of_text<'a>(
     networks_in_lines(alloc, &lines)
 }
 
-/// The best offer of a service that the words of a line tell.
+/// The best offer of a service that the words of a line give.
 fn best_service_in<'a>(words: &[&'a [u8]]) -> Option<ServiceWords<'a>>
     ensures { option_map service_spelled result ≡ best_service_in (parts_view words.now) }
 {
@@ -161,7 +161,7 @@ fn best_service_in<'a>(words: &[&'a [u8]]) -> Option<ServiceWords<'a>>
     })
 }
 
-/// The services that lines tell.
+/// The services that lines give.
 fn services_in_lines<'a>(
     alloc: Global,
     lines: &[&'a [u8]],
@@ -180,7 +180,8 @@ fn services_in_lines<'a>(
     Ok(services)
 }
 
-/// The services that a text tells, likewise.
+/// The services that a text gives, each with its best offer, in the order of the text. Lines of
+/// another form are skipped.
 pub fn services_of_text<'a>(
     alloc: Global,
     text: &'a [u8],

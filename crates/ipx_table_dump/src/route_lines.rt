@@ -15,7 +15,7 @@ use ipx_tables::{Offer, RouteMetric, Source};
 use ipx_wire::Network;
 use std::alloc::AllocError;
 
-/// A network that a neighbour told of.
+/// A network that a neighbour advertised.
 pub type RouteOffer = Offer<Network, RouteMetric>;
 
 fn put_own(text: &mut String, number: usize, port: &Port) -> Result<(), AllocError>
@@ -52,7 +52,7 @@ fn put_route(text: &mut String, best: bool, now: u64, offer: &RouteOffer) -> Res
     put_heard(text, best, seconds_since(now, offer.heard))
 }
 
-/// The lines of networks that neighbours told of.
+/// The lines of networks that neighbours advertised.
 fn put_routes(
     text: &mut String,
     bests: &[(Network, Source, RouteMetric)],
@@ -69,7 +69,7 @@ fn put_routes(
     Ok(())
 }
 
-/// Puts the part of networks behind a text: those of ports, and those that neighbours told of.
+/// Appends the section of networks to a text: those of ports, and those that neighbours advertised.
 pub fn put_networks(
     text: &mut String,
     ports: &[Port],

@@ -1,4 +1,4 @@
-//! The titles of a text of tables, by which one sees whether all of it is there.
+//! The section titles of a table file, which show whether its text is complete.
 
 ghost use Rattle.std.specs.Prelude.{◌≡◌, IfOk, map, option_map};
 ghost use Rattle.std.specs.List.{filter_map};
@@ -9,7 +9,7 @@ ghost use Rattle.ipx_table_dump.specs.TableParts.{are_all_titles, has_all_titles
 use crate::reading::{is_word, lines_of, words_of};
 use std::alloc::{AllocError, Global};
 
-/// The title in the words of a line above a part.
+/// The title in the words of the line above a section.
 fn title_in<'a>(words: &[&'a [u8]]) -> Option<&'a [u8]>
     ensures { option_map (λ t. t.now) result ≡ title_in (parts_view words.now) }
 {
@@ -35,7 +35,7 @@ fn titles_in_lines<'a>(alloc: Global, lines: &[&'a [u8]]) -> Result<Vec<&'a [u8]
     Ok(titles)
 }
 
-/// Whether these are the titles of the three parts, in order.
+/// Whether these are the titles of the three sections, in order.
 fn are_all_titles(titles: &[&[u8]]) -> bool
     ensures { result ≡ are_all_titles (parts_view titles.now) }
 {
@@ -45,8 +45,8 @@ fn are_all_titles(titles: &[&[u8]]) -> bool
     is_word(first, b"networks") && is_word(second, b"services") && is_word(third, b"neighbours")
 }
 
-/// Whether a text has the titles of its three parts, in order. Then all that it tells of networks
-/// and services is there, since that stands before the last of them.
+/// Whether a text has the titles of its three sections, in order. Then all networks and services
+/// are there, because they come before the last title.
 pub fn has_all_titles(alloc: Global, text: &[u8]) -> Result<bool, AllocError>
     ensures { IfOk result (λ b. b ≡ has_all_titles text.now) }
 {

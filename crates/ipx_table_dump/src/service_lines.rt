@@ -17,10 +17,10 @@ use ipx_tables::{Offer, ServiceKey, ServiceMetric, Source};
 use ipx_wire::Address;
 use std::alloc::AllocError;
 
-/// A service that a neighbour told of.
+/// A service that a neighbour advertised.
 pub type ServiceOffer = Offer<ServiceKey, ServiceMetric>;
 
-/// What a service is called, and where it is.
+/// The type, the name and the address of a service.
 fn put_place(text: &mut String, key: &ServiceKey, at: Address) -> Result<(), AllocError>
     ensures { OnOk result (string_bytes text.new ≡ string_bytes text.old
         ++ (word_text key.now.kind ++ (codes " " ++ (name_text key.now.name
@@ -49,7 +49,7 @@ fn put_service(
     put_heard(text, best, seconds_since(now, offer.heard))
 }
 
-/// The lines of services that neighbours told of.
+/// The lines of services that neighbours advertised.
 fn put_offers(
     text: &mut String,
     bests: &[(ServiceKey, Source, ServiceMetric)],
@@ -66,7 +66,7 @@ fn put_offers(
     Ok(())
 }
 
-/// Puts the part of services behind a text.
+/// Appends the section of services to a text.
 pub fn put_services(
     text: &mut String,
     now: u64,

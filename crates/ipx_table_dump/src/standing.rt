@@ -1,4 +1,4 @@
-//! What of a table counts at a moment, and what of that is best.
+//! The offers of a table that count at a time, and the best of them.
 
 ghost use Rattle.std.specs.Prelude.{◌≡◌, IfOk};
 ghost use Rattle.ipx_tables.specs.Content.{content, is_young};
@@ -12,7 +12,7 @@ use std::alloc::{AllocError, Global};
 /// How long an offer counts after it was heard, in milliseconds.
 const LIFE: u64 = 180_000;
 
-/// Whether an offer that was heard at a moment counts.
+/// Whether an offer that was heard at `heard` counts at `now`.
 fn counts(now: u64, heard: u64) -> bool
     ensures { result ≡ is_young now heard }
 {

@@ -1,4 +1,4 @@
-//! Words of a line, each put behind a text.
+//! Words of a line, each appended to a text.
 
 ghost use Rattle.std.specs.Prelude.{◌≡◌, ◌++◌, ◌==◌, ◌<◌, ◌∷◌, [], IfSome, OnOk, IsAscii, length, position, slice_index, string_bytes};
 ghost use Rattle.std.specs.List.{before_first, flat_map};
@@ -10,17 +10,17 @@ use ipx_tables::Source;
 use ipx_wire::{Address, Network};
 use std::alloc::AllocError;
 
-/// The digits of numbers in hex.
+/// Hex digits.
 const DIGITS: &[u8; 16] = b"0123456789abcdef";
 
-/// The seconds from a moment to a later one, both in milliseconds.
+/// The whole seconds between two times in milliseconds.
 pub fn seconds_since(now: u64, moment: u64) -> u64
     ensures { result ≡ seconds_since now moment }
 {
     now.saturating_sub(moment) / 1000
 }
 
-/// The line above a part.
+/// The line above a section.
 pub fn put_head(text: &mut String, title: &str, count: usize) -> Result<(), AllocError>
     ensures { OnOk result
         (string_bytes text.new ≡ string_bytes text.old ++ head_line title.now count) }
@@ -28,7 +28,7 @@ pub fn put_head(text: &mut String, title: &str, count: usize) -> Result<(), Allo
     write!(text, "{title} {count}\n")
 }
 
-/// One of sixteen digits.
+/// One of sixteen digits, as a character.
 fn digit_in(digits: &[u8; 16], number: u8) -> char
     requires table { IsAscii digits.now }
     requires within { number < 16 }
@@ -38,7 +38,7 @@ fn digit_in(digits: &[u8; 16], number: u8) -> char
     char::from(digits[usize::from(number)])
 }
 
-/// A byte, as two digits in hex.
+/// A byte, as two hex digits.
 fn put_byte(text: &mut String, byte: u8) -> Result<(), AllocError>
     ensures { OnOk result
         (string_bytes text.new ≡ string_bytes text.old ++ encode_lower (byte ∷ [])) }
@@ -47,7 +47,7 @@ fn put_byte(text: &mut String, byte: u8) -> Result<(), AllocError>
     text.push(digit_in(DIGITS, byte % 16))
 }
 
-/// Bytes, each as two digits in hex.
+/// Bytes, each as two hex digits.
 pub fn put_hex(text: &mut String, bytes: &[u8]) -> Result<(), AllocError>
     ensures { OnOk result
         (string_bytes text.new ≡ string_bytes text.old ++ encode_lower bytes.now) }
@@ -85,7 +85,7 @@ pub fn put_address(text: &mut String, at: Address) -> Result<(), AllocError>
     put_short(text, at.socket.0)
 }
 
-/// The port at which something was heard, and the neighbour.
+/// The port where something was heard, and the neighbour.
 pub fn put_source(text: &mut String, source: Source) -> Result<(), AllocError>
     ensures { OnOk result
         (string_bytes text.new ≡ string_bytes text.old ++ by_text source) }
@@ -95,7 +95,7 @@ pub fn put_source(text: &mut String, source: Source) -> Result<(), AllocError>
     put_hex(text, &source.neighbour.0)
 }
 
-/// How long ago something was heard, and whether another one of its key is better.
+/// How long ago an offer was heard, and whether another offer of its key is better.
 pub fn put_heard(text: &mut String, best: bool, seconds: u64) -> Result<(), AllocError>
     ensures { OnOk result
         (string_bytes text.new ≡ string_bytes text.old ++ heard_text best seconds) }
@@ -127,7 +127,7 @@ fn put_name_bytes(text: &mut String, bytes: &[u8]) -> Result<(), AllocError>
     Ok(())
 }
 
-/// The place of the first zero byte.
+/// The index of the first zero byte.
 fn zero_place(bytes: &[u8]) -> Option<usize>
     ensures place { result ≡ position (λ b. b == 0) bytes.now }
     ensures within { IfSome result (λ i. i < length bytes.now) }
@@ -135,7 +135,7 @@ fn zero_place(bytes: &[u8]) -> Option<usize>
     bytes.iter().position(|byte| *byte == 0)
 }
 
-/// What stands before the first zero byte.
+/// The bytes before the first zero byte.
 fn before_zero(bytes: &[u8]) -> &[u8]
     ensures { result.now ≡ before_first (λ b. b == 0) bytes.now }
 {

@@ -1,4 +1,4 @@
-//! What a router knows, as a text.
+//! What a router knows, as text.
 
 ghost use Rattle.std.specs.Prelude.{◌++◌, IfOk, string_bytes, true, false};
 ghost use Rattle.ipx_tables.specs.Content.{content};
@@ -17,7 +17,7 @@ use ipx_tables::{Metric, Offers, RouteTable, ServiceTable, Source};
 use std::alloc::{AllocError, Global};
 use std::collections::BTreeMap;
 
-/// The best of each key of a table.
+/// The best offer of each key of a table.
 fn bests<K: Ord + Copy, M: Metric + Copy>(
     alloc: Global,
     table: &Offers<K, M>,
@@ -32,7 +32,7 @@ fn bests<K: Ord + Copy, M: Metric + Copy>(
     }
 }
 
-/// Who told networks and services.
+/// The neighbours that advertise networks and services.
 pub fn advertisers_in(
     alloc: Global,
     networks: &[RouteOffer],
@@ -47,7 +47,7 @@ pub fn advertisers_in(
     advertisers_of(alloc, &said)
 }
 
-/// What a router of these ports and tables knows at a moment, in milliseconds, as a text.
+/// What a router with these ports and tables knows at `now`, in milliseconds, as text.
 pub fn tables_to_text(
     alloc: Global,
     ports: &[Port],

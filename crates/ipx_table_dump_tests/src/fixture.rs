@@ -1,4 +1,4 @@
-//! Ports, neighbours, and tables that heard of them.
+//! Ports, neighbours, and tables with their advertisements.
 
 use ipx_router::Port;
 use ipx_tables::{
@@ -27,7 +27,7 @@ pub fn route(ticks: u16, hops: u16) -> RouteMetric {
     RouteMetric { ticks, hops }
 }
 
-/// A service of that name, of type 4.
+/// A service with this name, of type 4.
 pub fn service(name: &[u8]) -> ServiceKey {
     let mut all = [0; 48];
     all[..name.len()].copy_from_slice(name);
@@ -45,7 +45,7 @@ pub fn files(hops: u16) -> ServiceMetric {
     }
 }
 
-/// A network by two neighbours, and a service by one of them.
+/// A network advertised by two neighbours, and a service by one of them.
 pub fn hear_both(
     alloc: Global,
     routes: &mut RouteTable,

@@ -1,4 +1,5 @@
-//! After each of 200 random hearings the text is that which a second program computes, tests/heard.
+//! After each of 200 random advertisements the text is the one that a second program computes,
+//! `tests/heard`.
 
 use crate::fixture::{PORT, files, route, service};
 use crate::hearings::{HEARINGS, Hearing};
@@ -17,7 +18,7 @@ const SECOND: Port = Port {
     cost: 65_535,
 };
 
-/// The service at a place of the second program's list.
+/// The service at an index of the second program's list.
 fn service_at(place: usize) -> ServiceKey {
     match place {
         0 => service(b"HQ-FILES"),
@@ -34,7 +35,7 @@ fn service_at(place: usize) -> ServiceKey {
     }
 }
 
-/// Hears it, and answers the moment.
+/// Hears an advertisement, and returns its time.
 fn hear(
     alloc: Global,
     routes: &mut RouteTable,

@@ -1,6 +1,6 @@
-//! Hearings, and the digest of the text behind each, which `tests/heard` computed: the moment, whether it
-//! is of a network, the network or the place of the service, port and node of the neighbour, hops,
-//! ticks or the network where the service is, and the digest.
+//! Advertisements, and the digest of the text after each, which `tests/heard` computed. The fields
+//! are the time; whether it is of a network; the network, or the index of the service; the port and
+//! node of the neighbour; the hops; the ticks, or the network of the service; and the digest.
 
 pub type Hearing = (u64, bool, usize, u8, u8, u16, u16, u64);
 

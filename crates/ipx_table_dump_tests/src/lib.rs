@@ -1,5 +1,5 @@
-//! Tests of what a router knows as a text, with literal values. They call what `ipx_table_dump` makes
-//! public, and no crate stands on this one.
+//! Tests of what a router knows as text, with literal values. They call what `ipx_table_dump` makes
+//! public, and no crate depends on this one.
 #![tactic(auto)]
 
 #[cfg(test)]

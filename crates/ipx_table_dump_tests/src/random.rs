@@ -1,4 +1,4 @@
-//! After each of 200 random hearings the text is that of a plain list of what was heard last.
+//! After each of 200 random advertisements the text is that of a plain list of the last ones.
 
 use crate::fixture::{PORT, route};
 use ipx_table_dump::tables_to_text;
@@ -7,7 +7,7 @@ use ipx_wire::{Network, Node};
 use std::alloc::{AllocError, Global};
 use std::test::Fail;
 
-/// What a neighbour said last of a network.
+/// The last advertisement of a network by a neighbour.
 #[derive(Clone, Copy)]
 struct Word {
     network: u32,
@@ -44,13 +44,14 @@ impl Word {
     }
 }
 
-/// A number below another one.
+/// A random number below `most`.
 fn draw(seed: &mut u32, most: u32) -> u32 {
     *seed = seed.wrapping_mul(1_664_525).wrapping_add(1_013_904_223);
     (*seed >> 16) % most
 }
 
-/// What counts of a network, whether another one of it is better, and its line behind the others.
+/// Appends the line of an offer. It is marked as best unless another offer of its network that
+/// counts is better.
 fn put_line(
     alloc: Global,
     lines: &mut String,
@@ -121,7 +122,7 @@ fn wanted_text(alloc: Global, said: &[Word], now: u64) -> Result<String, AllocEr
     )
 }
 
-/// A word at a moment: one of six networks, by one of twelve neighbours.
+/// A random advertisement at a time: one of six networks, by one of twelve neighbours.
 fn draw_word(seed: &mut u32, heard: u64) -> Word {
     Word {
         network: draw(seed, 6),

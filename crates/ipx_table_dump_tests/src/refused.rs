@@ -1,4 +1,4 @@
-//! Want of memory: the text is the same, or there is none.
+//! Out of memory: the text is the same, or there is none.
 
 use crate::fixture::{PORT, hear_both};
 use ipx_table_dump::{first_advertisers, networks_of_text, services_of_text, tables_to_text};

@@ -28,7 +28,7 @@ fn a_network_by_two_neighbours(rt: HostRuntime) -> Result<(), Fail> {
     Ok(())
 }
 
-/// Three minutes after its last word an offer counts no more, and the other one is best.
+/// Three minutes after its last advertisement an offer no longer counts, and the other one is best.
 #[test]
 fn what_is_old_is_left_out(rt: HostRuntime) -> Result<(), Fail> {
     let alloc = rt.alloc();
@@ -49,7 +49,7 @@ fn what_is_old_is_left_out(rt: HostRuntime) -> Result<(), Fail> {
     Ok(())
 }
 
-/// Nothing was heard since a later moment, by a clock that went back.
+/// A time in the future, after a clock went back, counts as now.
 #[test]
 fn a_later_moment_is_now(rt: HostRuntime) -> Result<(), Fail> {
     let alloc = rt.alloc();
@@ -72,7 +72,8 @@ fn a_later_moment_is_now(rt: HostRuntime) -> Result<(), Fail> {
     Ok(())
 }
 
-/// Names are printed as `ipx show` prints them, and of one name that two tell of one is best.
+/// Names are printed as `ipx show` prints them. If two neighbours advertise one name, one offer is
+/// best.
 #[test]
 fn names_of_services(rt: HostRuntime) -> Result<(), Fail> {
     let alloc = rt.alloc();
@@ -95,7 +96,7 @@ fn names_of_services(rt: HostRuntime) -> Result<(), Fail> {
     Ok(())
 }
 
-/// Best offers alone are read, and lines of another form are passed over.
+/// Only best offers are read, and lines of another form are skipped.
 #[test]
 fn a_text_is_read_again(rt: HostRuntime) -> Result<(), Fail> {
     let alloc = rt.alloc();
@@ -127,7 +128,8 @@ fn a_text_is_read_again(rt: HostRuntime) -> Result<(), Fail> {
     Ok(())
 }
 
-/// The networks of ports are read too, and a text that is cut before its last title is told apart.
+/// The networks of ports are read too, and a text that is cut off before its last title is
+/// recognized.
 #[test]
 fn own_networks_are_read_again(rt: HostRuntime) -> Result<(), Fail> {
     let alloc = rt.alloc();

@@ -17,7 +17,7 @@ use Rattle.ipx_tables.specs.Best.{metric_cmp, rank_cmp, is_better, IsBest, NoneC
 use Rattle.ipx_tables.specs.OfferScan.{is_candidate, source_and_metric, offer_beats, better_of, best_from}
 use Rattle.ipx_tables.proofs.Lists.{source_total, same_equiv, found_same}
 
--- of some item of the list it holds
+-- the fact holds of some item of the list
 abbrev pub SomeIn : {X : Type 0} → (X → Type 0) → List X → Type 0
 SomeIn P [] = ⊥
 SomeIn P (x ∷ xs) = P x ⊎ SomeIn P xs
@@ -52,7 +52,7 @@ module _ {X : Type 0} (test : X → Bool) (beats : X → X → Bool) where
   abbrev pub IsFrom : X → List X → Type 0
   IsFrom r xs = SomeIn (λ x. (test x ≡ true) × (r ≡ x)) xs
 
-  -- what it began with is no better
+  -- the item that it started with is no better
   abbrev pub AsGood : Option X → X → Type 0
   AsGood None r = Unit {0}
   AsGood (Some b) r = beats b r ≡ false
@@ -137,7 +137,7 @@ module _ {K M : Type 0} {cmp : K → K → Ordering} (o : IsTotalOrder cmp) {bef
   joined Equal b h k = ap is_eq k
   joined Greater b h k = cc
 
-  -- sources that tie are as good
+  -- sources that compare as equal are equally good
   pub as_good : (s u : Source) (m : M) (r : Source × M) → source_cmp s u ≡ Equal → is_better before (s, m) r ≡ is_better before (u, m) r
   as_good s u m r h = ap is_lt ((rank_total strict).congr (s, m) (u, m) r (ap (λ v. ordering_then v (source_cmp s u)) (tied_itself (metric_total strict) m) ∙ h))
 
@@ -155,7 +155,7 @@ module _ {K M : Type 0} {cmp : K → K → Ordering} (o : IsTotalOrder cmp) {bef
     | false ↦ λ e g. beats_found os r b.1 s m t g y
   ] refl h
 
-  -- it stands, and counts
+  -- it is in the table, and valid
   abbrev pub Stands : List (Offer K M) → Offer K M → Type 0
   Stands os r = (t : ℕ) × ((content cmp os (key, r.source) ≡ Some (r.metric, t)) × (is_young now t ≡ true))
 

@@ -1,4 +1,4 @@
--- Lists of offers that say the same, none of them twice, are as long.
+-- Lists of offers that say the same, without duplicates, have the same length.
 use Rattle.std.proofs.Common.{◌≡◌, ℕ, Bool, List, [], ◌∷◌, length, Some, None, refl, sym, ap, ◌∙◌, arith}
 use Rattle.std.specs.List.{remove}
 use Rattle.std.specs.Cmp.{IsEquivalence}
@@ -20,7 +20,7 @@ module _ {K M : Type 0} {same : K × Source → K × Source → Bool} (e : IsEqu
       let f = found_member e ps (pair_of o) (o.metric, o.heard) h in
       (f.there.0, record { in_range = f.there.1; here = λ d. ap (λ v. same (pair_of v) (pair_of o)) (get_or_default ps f.there.0 d f.offer f.there.1 ∙ f.there.2) ∙ f.same_pair })
 
-  -- what the others say is what is said without the offer
+  -- what the other offers say is what is said without this one
   others_say : (o : Offer K M) (os ps : List (Offer K M)) (i : ℕ) → found same said_of os (pair_of o) ≡ None → IsApart same ps → IsAt same ps (pair_of o) i → ((p : K × Source) → found same said_of (o ∷ os) p ≡ found same said_of ps p) → (q : K × Source) → found same said_of os q ≡ found same said_of (remove ps i) q
   others_say o os ps i gone apart here h q = grind (arith, found_remove e said_of ps (pair_of o) i apart here q, found_same e said_of os (pair_of o) q, gone, h q)
 

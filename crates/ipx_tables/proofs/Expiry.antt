@@ -1,4 +1,4 @@
--- Until when offers count, and what ageing before that moment leaves.
+-- Until when offers are valid, and what ageing before that time leaves.
 use Rattle.std.proofs.Common.{◌≡◌, ℕ, suc, ◌+◌, ◌-◌, ◌^◌, ◌<◌, ◌≤◌, min, true, false, cond, List, [], ◌∷◌, set, take, drop, length, get_or, None, refl, sym, ap, ◌∙◌, inl, inr, arith}
 use Rattle.std.specs.List.{insert, remove, filter, count_by}
 use Rattle.std.specs.Option.{is_some}
@@ -32,7 +32,7 @@ module _ {K M : Type 0} (os : List (Offer K M)) (moment : ℕ) (none : NoneOldBe
   pub none_old_removed : (i : ℕ) → NoneOldBefore moment (remove os i)
   none_old_removed i = All-append (CountsUntil moment) (take i os) (drop (suc i) os) (All-take (CountsUntil moment) i os none) (All-drop (CountsUntil moment) (suc i) os none)
 
-  -- a new offer may be the first that is old
+  -- a new offer may be the first one to expire
   module _ (sooner ends : ℕ) (key : K) (source : Source) (metric : M) (now : ℕ) (least : sooner ≡ min moment ends) (is : ends ≡ min (now + 180000) (2 ^ 64 - 1)) where
     new_counts : sooner ≤ now + 180000
     new_counts = omega (arith, least_right sooner moment ends least, least_left ends (now + 180000) (2 ^ 64 - 1) is)
@@ -55,7 +55,7 @@ filter_none_old (o ∷ os) moment now none lt =
     let rest = filter_none_old os moment now (All-tail (λ o. moment ≤ o.heard + 180000) o os none) lt in
     ap (λ b. cond b (o ∷ filter (λ o. is_young now o.heard) os) (filter (λ o. is_young now o.heard) os)) (young_before moment now o.heard (none 0 o (omega arith)) lt) ∙ ap (λ l. o ∷ l) rest
 
--- ageing that comes too early to find an old offer takes none out
+-- ageing before the first offer expires removes none
 module _ {K M : Type 0} {cmp : K → K → Ordering} (o : IsTotalOrder cmp) (os : List (Offer K M)) (apart : IsApart (is_same cmp) os) (moment now : ℕ) (none : NoneOldBefore moment os) (lt : now < moment) where
   pub aged_none : (p : K × Source) → content cmp os p ≡ still now (content cmp os p)
   aged_none p = ap (λ l. content cmp l p) (sym (filter_none_old os moment now none lt)) ∙ found_filter (same_equiv o) os now apart p
@@ -69,12 +69,12 @@ module _ {K M : Type 0} {cmp : K → K → Ordering} (o : IsTotalOrder cmp) (os 
   pub many_none : length os ≡ count_by (λ o. is_young now o.heard) os
   many_none = ap length (sym (filter_none_old os moment now none lt)) ∙ length-filter (λ o. is_young now o.heard) os
 
--- offers are no longer all young than the oldest of them
+-- not all offers are young for longer than the oldest of them
 pub no_later_than_oldest : {K M : Type 0} (os : List (Offer K M)) (i moment : ℕ) → IsOldest os i moment → (ends until : ℕ) → ends ≡ min (moment + 180000) (2 ^ 64 - 1) → until < 2 ^ 64 → NoneOldBefore until os → until ≤ ends
 no_later_than_oldest [] i moment oldest ends until is fits none = absurd (omega (arith, oldest.in_range))
 no_later_than_oldest (x ∷ xs) i moment oldest ends until is fits none = omega (arith, is, fits, none i x oldest.in_range, oldest.heard x)
 
--- the earliest of offers stands where its key and source do
+-- the earliest offer is at the index of its key and source
 module _ {K M : Type 0} (cmp : K → K → Ordering) (o : IsTotalOrder (pair_cmp cmp)) (os : List (Offer K M)) (rising : IsRising (pair_cmp cmp) pair_of os) (x : Offer K M) (earliest : IsEarliest (λ (y : Offer K M). y.heard) os x) where
   key_there : (d : Offer K M) → pair_of (get_or os earliest.at d) ≡ pair_of x
   key_there d = ap pair_of (earliest.is d)
@@ -109,12 +109,12 @@ module _ {K M : Type 0} (cmp : K → K → Ordering) (o : IsTotalOrder (pair_cmp
         | inr not_below ↦ let never : Greater ≡ Equal = sym (gap.above earliest.at x (omega (arith, not_below)) earliest.in_range) ∙ tie in cc
       ]
 
--- where the oldest counts all do
+-- if the oldest offer is valid, all are
 pub all_count : {K M : Type 0} (os : List (Offer K M)) (i moment now : ℕ) → IsOldest os i moment → is_young now moment ≡ true → os ≡ filter (λ o. is_young now o.heard) os
 all_count {K} {M} os i moment now oldest young =
     sym (filter_all (λ (o : Offer K M). is_young now o.heard) os (λ j d lt. young_later now moment (get_or os j d).heard (oldest.first j d lt) young))
 
--- an old offer that is taken out is none of those that count
+-- the removal of an expired offer does not change the valid ones
 pub old_removed : {K M : Type 0} (os : List (Offer K M)) (i moment now : ℕ) → IsOldest os i moment → is_young now moment ≡ false → filter (λ o. is_young now o.heard) (remove os i) ≡ filter (λ o. is_young now o.heard) os
 old_removed {K} {M} os i moment now oldest old =
     filter_without (λ (o : Offer K M). is_young now o.heard) os i oldest.in_range (λ d. ap (is_young now) (oldest.heard d) ∙ old)

@@ -1,4 +1,4 @@
--- Offers in order are all that they say.
+-- Offers in order are all that a table says.
 use Rattle.std.proofs.Common.{◌≡◌, ℕ, List, Some, ◌∙◌, subst, sym}
 use Rattle.std.specs.List.{All}
 use Rattle.std.specs.Cmp.{IsTotalOrder}

@@ -1,4 +1,4 @@
--- What a table says is the last word that was heard.
+-- A table says the last word on each key and source.
 use Rattle.std.proofs.Common.{◌≡◌, ℕ, Bool, true, false, cond, List, [], ◌∷◌, ◌++◌, Option, Some, None, ◌⊎◌, inl, inr, refl, sym, ap, ◌∙◌}
 use Rattle.std.specs.Prelude.{◌↔◌}
 use Rattle.std.specs.List.{AllByRecursion}
@@ -9,7 +9,7 @@ use Rattle.ipx_tables.specs.TableCalls.{Call, Hear, Age, after_call, after_calls
 use Rattle.ipx_tables.proofs.Best.{some_pair}
 
 module _ {K M : Type 0} (cmp : K → K → Ordering) (dead : M → Bool) (p : K × Source) (metric : M) (moment : ℕ) where
-  -- a call that spares it keeps it
+  -- a call that spares an offer keeps it
   kept_once : (c : Content K M) (call : Call K M) → c p ≡ Some (metric, moment) → Spares cmp p moment call → after_call cmp dead c call p ≡ Some (metric, moment)
   kept_once c (Hear q m t) h s = ap (λ b. cond b (cond (dead m) None (Some (m, t))) (c p)) s ∙ h
   kept_once c (Age t) h s = ap (still t) h ∙ ap (λ b. cond b (Some (metric, moment)) None) s
@@ -18,12 +18,12 @@ module _ {K M : Type 0} (cmp : K → K → Ordering) (dead : M → Bool) (p : K 
   kept [] c h s = h
   kept (call ∷ calls) c h s = kept calls (after_call cmp dead c call) (kept_once c call h s.0) s.1
 
-  -- a word that is the last stands
+  -- the last word is in the table
   stands : (earlier : List (Call K M)) (q : K × Source) (later : List (Call K M)) (c : Content K M) → is_same cmp q p ≡ true → dead metric ≡ false → AllByRecursion (Spares cmp p moment) later → after_calls cmp dead c (earlier ++ Hear q metric moment ∷ later) p ≡ Some (metric, moment)
   stands [] q later c s d k = kept later _ (ap (λ b. cond b (cond (dead metric) None (Some (metric, moment))) (c p)) s ∙ ap (λ b. cond b None (Some (metric, moment))) d) k
   stands (call ∷ earlier) q later c s d k = stands earlier q later (after_call cmp dead c call) s d k
 
-  -- what stands after one call was said by it, or stood and was spared
+  -- an offer that is there after one call was made by it, or was there before and was spared
   abbrev Said : Content K M → Call K M → Type 0
   Said c call = (((c p ≡ Some (metric, moment)) × Spares cmp p moment call) ⊎ ((q : K × Source) × ((call ≡ Hear q metric moment) × ((is_same cmp q p ≡ true) × (dead metric ≡ false)))))
 
@@ -45,7 +45,7 @@ module _ {K M : Type 0} (cmp : K → K → Ordering) (dead : M → Bool) (p : K 
     ] refl g
   ] h
 
-  -- what stands in the end stood at first and was spared, or is the last word
+  -- an offer that is there at the end was there at first and was spared, or is the last word
   said : (calls : List (Call K M)) (c : Content K M) → after_calls cmp dead c calls p ≡ Some (metric, moment) → ((c p ≡ Some (metric, moment)) × AllByRecursion (Spares cmp p moment) calls) ⊎ IsLastWord cmp dead calls p metric moment
   said [] c h = inl (h, tt)
   said (call ∷ calls) c h = elim (said calls (after_call cmp dead c call) h) [

@@ -1,4 +1,4 @@
--- What an edit of a list of offers does to what the list says.
+-- How an edit of a list of offers changes what the list says.
 use Rattle.std.proofs.Common.{◌≡◌, ℕ, zero, suc, ◌≤◌, Bool, true, false, cond, List, [], ◌∷◌, length, set, Option, Some, None, refl, sym, ap, ◌∙◌, arith}
 use mathlib.Core.Bool.{true≢false}
 use Rattle.std.specs.Option.{is_some}
@@ -15,7 +15,7 @@ module _ {K M : Type 0} {same : K × Source → K × Source → Bool} (e : IsEqu
   at_tail : (o : Offer K M) (os : List (Offer K M)) (p : K × Source) (i : ℕ) → IsAt same (o ∷ os) p (suc i) → IsAt same os p i
   at_tail o os p i h = record { in_range = omega (arith, h.in_range); here = λ d. h.here d }
 
-  -- what is not found has no place
+  -- a pair that is not found is not the pair of an offer
   not_same : (os : List (Offer K M)) (p q : K × Source) (i : ℕ) → IsAt same os p i → found same said_of os q ≡ None → same p q ≡ false
   not_same [] p q i h n = absurd (omega (arith, h.in_range))
   not_same (o ∷ os) p q zero h n = grind (arith, h.here o, e.congr (pair_of o) p q)
@@ -27,23 +27,23 @@ module _ {K M : Type 0} {same : K × Source → K × Source → Bool} (e : IsEqu
   said_same (o ∷ os) p q h = grind (arith, said_same os p q h, e.congr p q (pair_of o) h, e.symm p (pair_of o), e.symm q (pair_of o))
 
   module _ {B : Type 0} (told : Offer K M → B) where
-    -- where nothing is said nothing is told
+    -- if nothing is said of a pair, no value is found for it
     pub none_told : (os : List (Offer K M)) (p : K × Source) → found same said_of os p ≡ None → found same told os p ≡ None
     none_told [] p h = refl
     none_told (o ∷ os) p h = grind (arith, none_told os p)
 
-    -- writing over the offer of p
+    -- the offer of p is replaced
     pub found_set : (os : List (Offer K M)) (p : K × Source) (x : Offer K M) (i : ℕ) → IsApart same os → IsAt same os p i → same (pair_of x) p ≡ true → (q : K × Source) → found same told (set os i x) q ≡ cond (same p q) (Some (told x)) (found same told os q)
     found_set [] p x i a h s q = absurd (omega (arith, h.in_range))
     found_set (o ∷ os) p x zero a h s q = grind (arith, h.here o, e.congr (pair_of o) p q, e.congr (pair_of x) p q)
     found_set (o ∷ os) p x (suc i) a h s q = grind (arith, found_set os p x i a.1 (at_tail o os p i h) s q, not_same os p (pair_of o) i (at_tail o os p i h) a.0, e.symm p (pair_of o), e.congr (pair_of o) q p, e.symm q p)
 
-    -- the same pair is found alike
+    -- the same pair finds the same value
     pub found_same : (os : List (Offer K M)) (p q : K × Source) → same p q ≡ true → found same told os p ≡ found same told os q
     found_same [] p q h = refl
     found_same (o ∷ os) p q h = grind (arith, found_same os p q h, e.congr p q (pair_of o) h, e.symm p (pair_of o), e.symm q (pair_of o))
 
-    -- taking the offer of p out
+    -- the offer of p is removed
     pub found_remove : (os : List (Offer K M)) (p : K × Source) (i : ℕ) → IsApart same os → IsAt same os p i → (q : K × Source) → found same told (remove os i) q ≡ cond (same p q) None (found same told os q)
     found_remove [] p i a h q = absurd (omega (arith, h.in_range))
     found_remove (o ∷ os) p zero a h q =
@@ -53,7 +53,7 @@ module _ {K M : Type 0} {same : K × Source → K × Source → Bool} (e : IsEqu
         let rest : found same told (o ∷ remove os i) q ≡ cond (same p q) None (found same told (o ∷ os) q) = grind (arith, found_remove os p i a.1 (at_tail o os p i h) q, not_same os p (pair_of o) i (at_tail o os p i h) a.0, e.symm p (pair_of o), e.congr (pair_of o) q p, e.symm q p) in
         rest
 
-    -- a new offer anywhere
+    -- a new offer is inserted at any index
     pub found_insert : (os : List (Offer K M)) (x : Offer K M) (i : ℕ) → found same said_of os (pair_of x) ≡ None → (q : K × Source) → found same told (insert os i x) q ≡ cond (same (pair_of x) q) (Some (told x)) (found same told os q)
     found_insert os x zero n q = refl
     found_insert [] x (suc i) n q = refl
@@ -61,17 +61,17 @@ module _ {K M : Type 0} {same : K × Source → K × Source → Bool} (e : IsEqu
         let rest : found same told (o ∷ insert os i x) q ≡ cond (same (pair_of x) q) (Some (told x)) (found same told (o ∷ os) q) = grind (arith, found_insert os x i, e.symm (pair_of o) (pair_of x), e.congr (pair_of o) q (pair_of x), e.symm q (pair_of x)) in
         rest
 
-    -- keeping what is young
+    -- only young offers are kept
     pub told_filter : (os : List (Offer K M)) (now : ℕ) → IsApart same os → (q : K × Source) → found same told (filter (λ o. is_young now o.heard) os) q ≡ cond (is_some (still now (found same said_of os q))) (found same told os q) None
     told_filter [] now a q = refl
     told_filter (o ∷ os) now a q = grind (arith, told_filter os now a.1 q, found_same os (pair_of o) q, none_told os (pair_of o) a.0, said_same os (pair_of o) q, a.0)
 
-  -- keeping what is young
+  -- only young offers are kept
   pub found_filter : (os : List (Offer K M)) (now : ℕ) → IsApart same os → (q : K × Source) → found same said_of (filter (λ o. is_young now o.heard) os) q ≡ still now (found same said_of os q)
   found_filter [] now a q = refl
   found_filter (o ∷ os) now a q = grind (arith, found_filter os now a.1 q, found_same said_of os (pair_of o) q, a.0)
 
-  -- what is not found stays so
+  -- what is not found is not found after a removal
   pub apart_remove : (os : List (Offer K M)) (p : K × Source) (i : ℕ) → IsApart same os → IsAt same os p i → IsApart same (remove os i)
   apart_remove [] p i a h = absurd (omega (arith, h.in_range))
   apart_remove (o ∷ os) p zero a h = a.1
@@ -94,9 +94,9 @@ module _ {K : Type 0} {cmp : K → K → Ordering} (o : IsTotalOrder cmp) where
   pub same_equiv : IsEquivalence (is_same cmp)
   same_equiv = eq_by_cmp_equiv pair_total
 
--- what hearing an offer does, as the list changes
+-- what learning an offer does, as the list changes
 module _ {K M : Type 0} {cmp : K → K → Ordering} (o : IsTotalOrder cmp) (dead : M → Bool) (os : List (Offer K M)) (apart : IsApart (is_same cmp) os) (key : K) (source : Source) (metric : M) (now : ℕ) where
-  -- what is told of the pair is replaced
+  -- the value of the pair is replaced
   abbrev pub told_after : {B : Type 0} → (Offer K M → B) → K × Source → Option B
   told_after told q = cond (is_same cmp (key, source) q) (cond (dead metric) None (Some (told (record { key = key; source = source; metric = metric; heard = now })))) (found (is_same cmp) told os q)
 

@@ -1,4 +1,4 @@
--- Marks by their moments: which are old, which are late, and what puts them right.
+-- Marks in the order of their times: which are expired, which are late, and how they are corrected.
 use Rattle.std.proofs.Common.{◌≡◌, ℕ, zero, suc, ◌+◌, ◌-◌, ◌<◌, ◌≤◌, ◌==◌, Bool, true, false, cond, not, eqb, List, [], ◌∷◌, ◌++◌, length, get_or, take, drop, map, Option, Some, None, OnSome, IsSome, Result, Ok, Err, OnOk, OnErr, slice_get, refl, sym, ap, ◌∙◌, subst, inl, inr, arith}
 use mathlib.Core.Bool.{true≢false}
 use Rattle.std.specs.List.{All, AllWithin, filter, list_any, remove}
@@ -30,7 +30,7 @@ contra false b f h = refl
 pub young_later : (now a b : ℕ) → a ≤ b → is_young now a ≡ true → is_young now b ≡ true
 young_later now a b le young = lt-ltb (now - b) 180000 (omega (arith, le, ltb-true (now - a) 180000 young))
 
--- the marks of old moments come first
+-- the marks of expired times come first
 pub old_are_first : (marks : List Mark) (now : ℕ) → AreByMoment marks → IsPartitionedBy (λ m. not (is_young now m.moment)) marks
 old_are_first marks now up i j d le lt old =
     contra (is_young now (get_or marks i d).moment) (is_young now (get_or marks j d).moment) (young_later now (get_or marks i d).moment (get_or marks j d).moment (up i j d le lt)) old
@@ -42,7 +42,7 @@ module _ {X : Type 0} (p : X → Bool) where
       ap (λ b. cond b (x ∷ filter p xs) (filter p xs)) (all 0 x (omega arith))
       ∙ ap (λ l. x ∷ l) (filter_all xs (λ j d lt. all (suc j) d (omega (arith, lt))))
 
-  -- a filter takes out the item at one place alone
+  -- if only the item at one index fails, a filter removes just that item
   pub filter_remove : (xs : List X) (i : ℕ) → i < length xs → ((d : X) → p (get_or xs i d) ≡ false) → ((j : ℕ) (d : X) → j < length xs → (j ≡ i → ⊥) → p (get_or xs j d) ≡ true) → filter p xs ≡ remove xs i
   filter_remove [] i lt is once = absurd (omega (arith, lt))
   filter_remove (x ∷ xs) zero lt is once =
@@ -52,7 +52,7 @@ module _ {X : Type 0} (p : X → Bool) where
       ap (λ b. cond b (x ∷ filter p xs) (filter p xs)) (once 0 x (omega arith) (λ e. omega (arith, e)))
       ∙ ap (λ l. x ∷ l) (filter_remove xs i (omega (arith, lt)) is (λ j d low ne. once (suc j) d (omega (arith, low)) (λ same. ne (omega (arith, same)))))
 
-  -- what fails goes without a trace
+  -- if an item fails, a filter gives the same without it
   pub filter_without : (xs : List X) (i : ℕ) → i < length xs → ((d : X) → p (get_or xs i d) ≡ false) → filter p (remove xs i) ≡ filter p xs
   filter_without [] i lt is = absurd (omega (arith, lt))
   filter_without (x ∷ xs) zero lt is = ap (λ b. cond b (x ∷ filter p xs) (filter p xs)) (sym (is x))
@@ -66,7 +66,7 @@ module _ {X : Type 0} (p : X → Bool) where
       ap (λ b. cond b (x ∷ filter p xs) (filter p xs)) (front 0 x (omega arith) (omega arith))
       ∙ split_filter xs k (omega (arith, le)) (λ j d low lt. front (suc j) d (omega arith) (omega (arith, lt))) (λ j d low lt. back (suc j) d (omega (arith, low)) (omega (arith, lt)))
 
-  -- a front that goes behind the others and is cut off there leaves what a filter does
+  -- if a front that fails is moved to the end and cut off there, that is what a filter leaves
   pub cut_is_filter : (xs : List X) (k many : ℕ) → k ≤ length xs → many ≡ length xs - k → AllWithin (λ x. p x ≡ false) xs 0 k → AllWithin (λ x. p x ≡ true) xs k (length xs) → take many (drop k xs ++ take k xs) ≡ filter p xs
   cut_is_filter xs k many le is front back =
       let long : many ≡ length (drop k xs) = omega (arith, is, length-drop k xs) in
@@ -84,12 +84,12 @@ module _ {X : Type 0} (p : X → Bool) where
   passed_head x rest true h all = All-cons (λ y. p y ≡ true) x rest h all
   passed_head x rest false h all = all
 
-  -- what a filter keeps passes
+  -- each item that a filter keeps passes
   pub all_passed : (xs : List X) → All (λ x. p x ≡ true) (filter p xs)
   all_passed [] j d lt = absurd (omega (arith, lt))
   all_passed (x ∷ xs) j d lt = passed_head x (filter p xs) (p x) refl (all_passed xs) j d lt
 
--- what came of a call that can't be refused
+-- what holds after a call that cannot be refused
 pub came : {A E : Type 0} {P Q : Type 0} (r : Result A E) → OnOk r P → OnErr r Q → (Q → ⊥) → P
 came (Ok a) done refused never = done
 came (Err e) done refused never = absurd (never refused)
@@ -102,7 +102,7 @@ module _ (marks : List Mark) (n : ℕ) where
   kept_apart : (m : Mark) → (m.place ≡ n → ⊥) → not (m.place == n) ≡ true
   kept_apart m ne = not_from_false (eqb m.place n) (ne_eqb m.place n ne)
 
-  -- the mark of a place is taken out
+  -- the mark of a slot is removed
   pub mark_removed : (i : ℕ) → HaveOwnPlaces marks → i < length marks → ((d : Mark) → (get_or marks i d).place ≡ n) → filter (λ m. not (m.place == n)) marks ≡ remove marks i
   mark_removed i own lt is =
       filter_remove (λ (m : Mark). not (m.place == n)) marks i lt (λ d. ap not (eq-eqb (get_or marks i d).place n (is d))) (λ j d low ne. kept_apart (get_or marks j d) (λ same. elim (cases_lt j i) [
@@ -134,7 +134,7 @@ places_all P marks all j d lt = subst P (get_or-map (λ m. m.place) marks j d d.
 pub all_places : (P : ℕ → Type 0) (marks : List Mark) → All (λ m. P m.place) marks → All P (places_of marks)
 all_places P marks all = All-map P (λ m. m.place) marks all
 
--- marks whose places change places are as many
+-- marks whose slots are only reordered keep their number
 pub many_moved : (old new : List Mark) → IsPermutation (places_of old) (places_of new) → length new ≡ length old
 many_moved old new moved = omega (arith, length_permutation (places_of old) (places_of new) moved, length-map old (λ m. m.place), length-map new (λ m. m.place))
 
@@ -153,7 +153,7 @@ module _ {X : Type 0} (moment : X → ℕ) where
     right_one : (m : Mark) → m.place < length slots → IsRightMark moment slots (right_mark moment slots m)
     right_one m lt d = subst (λ o. moment (get_or slots (right_for moment m o).place d) ≡ (right_for moment m o).moment) (sym (slice_get-get_or slots m.place d lt)) refl
 
-    -- marks that are put right are right
+    -- corrected marks are right
     pub all_right : (marks : List Mark) → All (λ m. m.place < length slots) marks → All (IsRightMark moment slots) (map (right_mark moment slots) marks)
     all_right marks real = All-map (IsRightMark moment slots) (right_mark moment slots) marks (λ j d lt. right_one (get_or marks j d) (real j d lt))
 
@@ -164,13 +164,13 @@ module _ {X : Type 0} (moment : X → ℕ) where
     right_unless_late m lt late d =
         eqb-true (moment (get_or slots m.place d)) m.moment (not_false (eqb (moment (get_or slots m.place d)) m.moment) (subst (λ o. is_late_for moment m o ≡ false) (slice_get-get_or slots m.place d lt) late))
 
-    -- where none of the first is late they are right
+    -- if none of the first marks is late, they are right
     pub front_right : (marks : List Mark) (k : ℕ) → k ≤ length marks → All (λ m. m.place < length slots) marks → list_any (is_late_mark moment slots) (take k marks) ≡ false → AllWithin (IsRightMark moment slots) marks 0 k
     front_right marks k le real none j d low lt =
         let late : is_late_mark moment slots (get_or marks j d) ≡ false = subst (λ m. is_late_mark moment slots m ≡ false) (get_or-take k marks j d lt) (none_of (is_late_mark moment slots) (take k marks) none j d (omega (arith, le, lt, length-take k marks))) in
         right_unless_late (get_or marks j d) (real j d (omega (arith, lt, le))) late
 
-    -- where those before a place are right, and those from there on are young, the old ones are right
+    -- if the marks before an index are right, and those from there on are young, the expired ones are right
     pub old_right : (marks : List Mark) (k now : ℕ) → AllWithin (IsRightMark moment slots) marks 0 k → AllWithin (λ m. is_young now m.moment ≡ true) marks k (length marks) → All (λ m. is_young now m.moment ≡ false → IsRightMark moment slots m) marks
     old_right marks k now right young j d lt old = elim (cases_lt j k) [
       | inl low ↦ right j d (omega arith) low
@@ -187,7 +187,7 @@ module _ {X : Type 0} (moment : X → ℕ) where
       alike_young now m.moment (moment (get_or (x ∷ xs) m.place x)) (no_later x) (λ old. right old x) (is_young now m.moment) refl
       ∙ sym (ap (is_some_young moment now) (slice_get-get_or (x ∷ xs) m.place x lt))
 
-  -- the places of young marks are those of what is young
+  -- the slots of young marks are those of young items
   pub places_young : (now : ℕ) (slots : List X) (marks : List Mark) → All (λ m. m.place < length slots) marks → All (IsNoLater moment slots) marks → All (λ m. is_young now m.moment ≡ false → IsRightMark moment slots m) marks → places_of (filter (λ m. is_young now m.moment) marks) ≡ filter (is_young_in moment now slots) (places_of marks)
   places_young now slots marks real no_later right =
       filter_map_alike (λ m. m.place) (λ m. is_young now m.moment) (is_young_in moment now slots) marks (λ j e lt. young_alike now slots (get_or marks j e) (real j e lt) (no_later j e lt) (right j e lt))

@@ -1,4 +1,4 @@
--- Marks beside slots: one of each number in use, by moment, none too late, and what edits make of it.
+-- Marks of slots: one for each slot in use, by time, none later than its item, and how edits change them.
 use Rattle.std.proofs.Common.{◌≡◌, ℕ, zero, suc, ◌+◌, ◌<◌, ◌≤◌, ◌==◌, Bool, true, false, not, eqb, List, [], ◌∷◌, ◌++◌, length, get_or, set, map, Option, Some, None, IfNone, refl, sym, ap, ◌∙◌, subst, arith}
 use mathlib.Core.Bool.{true≢false}
 use Rattle.std.specs.List.{All, IsDistinct, filter, insert, remove}
@@ -16,7 +16,7 @@ use Rattle.ipx_tables.proofs.Marked.{all_passed, all_places, by_moment_filter, f
 use Rattle.ipx_tables.proofs.Permuted.{permuted_filter}
 use Rattle.ipx_tables.proofs.Trays.{AreReal, filter_map_alike, lying_is, many_lying}
 
--- the marks of other places than one
+-- the marks of other slots than this
 abbrev pub others : ℕ → List Mark → List Mark
 others n marks = filter (λ m. not (m.place == n)) marks
 
@@ -34,7 +34,7 @@ module _ {X : Type 0} (moment : X → ℕ) where
     fits = omega (arith, ap length none);
   }
 
-  -- a mark that comes in
+  -- a mark that is inserted
   pub put_marked : (slots : List X) (used : List ℕ) (rest new : List Mark) (m : Mark) (room : ℕ) → IsPermutation used (m.place ∷ places_of rest) → IsPermutation (m ∷ rest) new → AreByMoment new → IsNoLater moment slots m → All (IsNoLater moment slots) rest → length slots ≤ room → AreMarked moment slots used new room
   put_marked slots used rest new m room each put up one all fits = record {
     each = IsPermutation-trans used (places_of (m ∷ rest)) (places_of new) each (IsPermutation-map (λ (m : Mark). m.place) (m ∷ rest) new put);
@@ -43,7 +43,7 @@ module _ {X : Type 0} (moment : X → ℕ) where
     fits = fits;
   }
 
-  -- an item that comes into a slot does not matter to marks of other places
+  -- an item that is put into a slot does not affect the marks of other slots
   pub apart_no_later : (slots : List X) (marks : List Mark) (number : ℕ) (x : X) → All (λ m. m.place ≡ number → ⊥) marks → All (IsNoLater moment slots) marks → All (IsNoLater moment (set slots number x)) marks
   apart_no_later slots marks number x apart all j d lt e =
       omega (arith, all j d lt e, ap moment (get_or-set_other slots number (get_or marks j d).place x e (apart j d lt)))
@@ -78,7 +78,7 @@ module _ {X : Type 0} (moment : X → ℕ) where
         let alike : get_or (places_of marks) i d.place ≡ get_or (places_of marks) j d.place = at i (omega (arith, lt, within)) ∙ same ∙ sym (at j within) in
         true≢false (sym (eq-eqb (get_or (places_of marks) i d.place) (get_or (places_of marks) j d.place) alike) ∙ differ)
 
-    -- marks that go with their numbers
+    -- marks that are removed with their slot numbers
     pub fewer_marked : (left : List ℕ) (rest : List Mark) (more : ℕ) → IsPermutation left (places_of rest) → AreByMoment rest → All (IsNoLater moment slots) rest → room ≤ more → AreMarked moment slots left rest more
     fewer_marked left rest more each up all fits = record {
       each = each;
@@ -107,30 +107,30 @@ module _ {X : Type 0} (moment : X → ℕ) where
       pub unmarked : (more : ℕ) → room ≤ more → AreMarked moment slots (remove used i) (others number marks) more
       unmarked more fits = fewer_marked (remove used i) (others number marks) more rest_each others_by_moment (All-filter (λ m. not (m.place == number)) (IsNoLater moment slots) marks are.no_later) fits
 
-      -- another item comes over that of a number, with a mark of its own
+      -- another item replaces that of a slot, with a mark of its own
       pub set_marked : (new : List Mark) (m : Mark) (x : X) (more : ℕ) → number < length slots → m.place ≡ number → m.moment ≡ moment x → IsPermutation (m ∷ others number marks) new → AreByMoment new → room ≤ more → AreMarked moment (set slots number x) used new more
       set_marked new m x more there same at put up fits =
           put_marked (set slots number x) used (others number marks) new m more (subst (λ n. IsPermutation used (n ∷ places_of (others number marks))) (sym same) each_but_one) put up (own_no_later slots m number x there same at)
           (apart_no_later slots (others number marks) number x (others_apart number marks) (All-filter (λ m. not (m.place == number)) (IsNoLater moment slots) marks are.no_later)) (omega (arith, are.fits, fits, length-set slots number x))
 
-    -- an item comes into a slot whose number was not in use
+    -- an item is put into a slot whose number was not in use
     pub insert_marked : (i number : ℕ) (new : List Mark) (m : Mark) (x : X) (more : ℕ) → number < length slots → ((j e : ℕ) → j < length used → get_or used j e ≡ number → ⊥) → m.place ≡ number → m.moment ≡ moment x → IsPermutation (m ∷ marks) new → AreByMoment new → room ≤ more → AreMarked moment (set slots number x) (insert used i number) new more
     insert_marked i number new m x more there unused same at put up fits =
         let more_each : IsPermutation (insert used i number) (number ∷ places_of marks) = IsPermutation-trans (insert used i number) (number ∷ used) (number ∷ places_of marks) (IsPermutation-sym (number ∷ used) (insert used i number) (IsPermutation-insert used i number)) (IsPermutation-cons number used (places_of marks) are.each) in
         put_marked (set slots number x) (insert used i number) marks new m more (subst (λ n. IsPermutation (insert used i number) (n ∷ places_of marks)) (sym same) more_each) put up (own_no_later slots m number x there same at)
         (apart_no_later slots marks number x (marks_all (λ n. n ≡ number → ⊥) (λ j e lt. unused j e lt)) are.no_later) (omega (arith, are.fits, fits, length-set slots number x))
 
-    -- those of old items go with their numbers
+    -- the marks of expired items are removed with their slot numbers
     pub young_marked : (now : ℕ) (new : List Mark) (more : ℕ) → IsPermutation (filter (is_young_in moment now slots) (places_of marks)) (places_of new) → AreByMoment new → All (IsNoLater moment slots) new → room ≤ more → AreMarked moment slots (filter (is_young_in moment now slots) used) new more
     young_marked now new more each up all fits =
         let p : ℕ → Bool = is_young_in moment now slots in
         fewer_marked (filter p used) new more (IsPermutation-trans (filter p used) (filter p (places_of marks)) (places_of new) (permuted_filter p used (places_of marks) are.each) each) up all fits
 
-    -- marks that change places, or are put right
+    -- marks that are reordered, or corrected
     pub settled_marked : (new : List Mark) (more : ℕ) → IsPermutation (places_of marks) (places_of new) → AreByMoment new → All (IsNoLater moment slots) new → room ≤ more → AreMarked moment slots used new more
     settled_marked new more each up all fits = fewer_marked used new more (IsPermutation-trans used (places_of marks) (places_of new) are.each each) up all fits
 
-    -- where there is no mark there is no item
+    -- if there is no mark, there is no item
     pub none_lying : length marks ≡ 0 → lying_in slots used ≡ []
     none_lying none = nil_lying slots used (nil_from_length used (omega (arith, many_marks, none)))
       where
@@ -139,13 +139,13 @@ module _ {X : Type 0} (moment : X → ℕ) where
         nil_lying (x ∷ xs) numbers none_used = ap (map (λ n. get_or (x ∷ xs) n x)) none_used
 
     module _ (first : Mark) (some : 0 < length marks) (is : first ≡ get_or marks 0 first) where
-      -- its place is in use
+      -- its slot is in use
       first_used : (i : ℕ) × ((i < length used) × ((e : ℕ) → get_or used i e ≡ first.place))
       first_used =
           let P : ℕ → Type 0 = λ n. n ≡ first.place → (i : ℕ) × ((i < length used) × ((e : ℕ) → get_or used i e ≡ first.place)) in
           marks_all P (λ j d lt same. (j, (lt, λ e. get_or_default used j e d lt ∙ same))) 0 first some (sym (ap (λ (m : Mark). m.place) is))
 
-      -- its place is that of a slot
+      -- its slot exists
       pub first_real : AreReal slots used → first.place < length slots
       first_real real = omega (arith, ap (λ (m : Mark). m.place) is, marks_real real 0 first some)
 
@@ -155,7 +155,7 @@ module _ {X : Type 0} (moment : X → ℕ) where
           let head : (d : Mark) → (get_or marks 0 d).moment ≡ first.moment = λ d. ap (λ (m : Mark). m.moment) (get_or_default marks 0 d first some ∙ sym is) in
           All-permutation P (places_of marks) used (IsPermutation-sym used (places_of marks) are.each) (all_places P marks (λ j d lt e. omega (arith, are.no_later j d lt e, are.by_moment 0 j d (omega arith) lt, head d)))
 
-      -- what lies in the place of the first mark is the earliest, where that mark is right
+      -- if the first mark is right, the item in its slot is the earliest
       pub first_earliest : AreReal slots used → IsRightMark moment slots (get_or marks 0 first) → (x : X) → x ≡ get_or slots first.place x → IsEarliest moment (lying_in slots used) x
       first_earliest real right x is_x =
           let at : ℕ = first_used.0 in
@@ -172,12 +172,12 @@ module _ {X : Type 0} (moment : X → ℕ) where
             first = λ j d lt. let low : j < length used = omega (arith, lt, long) in omega (arith, ap moment is_x, own x, ap moment (read j d low), all_later j 0 low d);
           }
 
--- what holds holds where there is none
+-- a fact that holds anyway holds if there is none
 pub at_none : {A P : Type 0} (o : Option A) → P → IfNone o P
 at_none None p = p
 at_none (Some a) p = tt
 
--- where nothing stands at the front there is nothing
+-- if there is nothing at the front, the list is empty
 pub none_first : (n : ℕ) → (0 < n → false ≡ true) → n ≡ 0
 none_first zero none = refl
 none_first (suc n) none = absurd (true≢false (sym (none (omega arith))))

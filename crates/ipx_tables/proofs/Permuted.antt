@@ -1,11 +1,11 @@
--- What a filter keeps of items that change places.
+-- What a filter keeps of reordered items.
 use Rattle.std.proofs.Common.{◌≡◌, ℕ, zero, suc, ◌<◌, Bool, true, false, cond, List, [], ◌∷◌, ◌++◌, length, get_or, set, swap, refl, sym, ap, ◌∙◌, subst, append_assoc, arith}
 use Rattle.std.specs.List.{filter}
 use Rattle.std.specs.List.Sorted.{IsPermutation}
 use Rattle.std.proofs.lemmas.List.Sorted.{IsPermutation-append_comm, IsPermutation-append_left, IsPermutation-append_right, IsPermutation-keeps, IsPermutation-refl, IsPermutation-trans}
 
--- a relation holds along each permutation if it is reflexive and transitive, and goes under a head
--- and over an exchange of two heads
+-- a relation holds along each permutation if it is reflexive and transitive, holds under a common head, and
+-- holds for an exchange of two heads
 module _ {X : Type 0} (R : List X → List X → Type 0) (same : (xs : List X) → R xs xs)
     (skip : (x : X) (xs ys : List X) → R xs ys → R (x ∷ xs) (x ∷ ys))
     (turn : (x y : X) (xs : List X) → R (x ∷ y ∷ xs) (y ∷ x ∷ xs))

@@ -38,7 +38,7 @@ module _ {X K : Type 0} {cmp : K → K → Ordering} (o : IsTotalOrder cmp) (key
         ]
       ]
 
-  -- an item that is taken out leaves the order
+  -- the removal of an item keeps the order
   pub remove_rising : IsRising cmp key_of xs → (at : ℕ) → at < length xs → IsRising cmp key_of (remove xs at)
   remove_rising rising at within i j d lt in_range =
       let new = remove xs at in
@@ -55,7 +55,7 @@ module _ {X K : Type 0} {cmp : K → K → Ordering} (o : IsTotalOrder cmp) (key
         ]
       ]
 
-  -- an item that ties with the one that it replaces keeps the order
+  -- an item that replaces one of an equal key keeps the order
   pub set_rising : IsRising cmp key_of xs → (x : X) (at : ℕ) → IsAtKey cmp key_of xs (key_of x) at → IsRising cmp key_of (set xs at x)
   set_rising rising x at here i j d lt in_range =
       let new = set xs at x in

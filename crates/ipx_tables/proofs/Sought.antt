@@ -1,4 +1,4 @@
--- A search by halves in items that rise by a key.
+-- A binary search in items that rise by a key.
 use Rattle.std.proofs.Common.{◌≡◌, ℕ, ◌<◌, ◌≤◌, List, length, get_or, sym, ap, ◌∙◌, inl, inr, arith}
 use Rattle.std.specs.Cmp.{IsTotalOrder}
 use Rattle.std.specs.Ordering.{ordering_reverse}
@@ -12,7 +12,7 @@ module _ {X K : Type 0} {cmp : K → K → Ordering} (o : IsTotalOrder cmp) (key
   at_mid : (d : X) → key_of (get_or xs mid d) ≡ key_of x
   at_mid d = ap key_of (get_or_default xs mid d x within ∙ sym read)
 
-  -- up to what is below the key all is below it
+  -- all before an item below the key is below it
   pub low_half : cmp (key_of x) key ≡ Less → (j : ℕ) (d : X) → j ≤ mid → cmp (key_of (get_or xs j d)) key ≡ Less
   low_half less j d le =
       let here : cmp (key_of (get_or xs mid d)) key ≡ Less = ap (λ k. cmp k key) (at_mid d) ∙ less in
@@ -21,7 +21,7 @@ module _ {X K : Type 0} {cmp : K → K → Ordering} (o : IsTotalOrder cmp) (key
         | inr not_lt ↦ let same : j ≡ mid = omega (arith, le, not_lt) in rw same here
       ]
 
-  -- from what is above the key all is above it
+  -- all after an item above the key is above it
   pub high_half : cmp (key_of x) key ≡ Greater → (j : ℕ) (d : X) → mid ≤ j → j < length xs → cmp (key_of (get_or xs j d)) key ≡ Greater
   high_half greater j d le lt =
       let here : cmp (key_of (get_or xs mid d)) key ≡ Greater = ap (λ k. cmp k key) (at_mid d) ∙ greater in

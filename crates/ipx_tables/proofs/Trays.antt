@@ -1,4 +1,4 @@
--- What lies in slots, and what edits of the numbers of the slots make of it.
+-- The items in slots, and how edits of the list of slot numbers change them.
 use Rattle.std.proofs.Common.{◌≡◌, ℕ, zero, suc, ◌+◌, ◌<◌, ◌≤◌, Bool, true, false, cond, not, eqb, List, [], ◌∷◌, ◌++◌, length, get_or, set, take, drop, map, refl, sym, ap, ◌∙◌, subst, inl, inr, append_assoc, arith}
 use Rattle.std.specs.List.{All, IsDistinct, filter, insert, list_any, remove}
 use Rattle.std.specs.List.Sorted.{IsPermutation}
@@ -24,7 +24,7 @@ map_alike : {A B : Type 0} (f g : A → B) (xs : List A) → ((j : ℕ) (e : A) 
 map_alike f g [] h = refl
 map_alike f g (x ∷ xs) h = ap (λ y. y ∷ map f xs) (h 0 x (omega arith)) ∙ ap (λ l. g x ∷ l) (map_alike f g xs (λ j e lt. h (suc j) e (omega (arith, lt))))
 
--- a filter before a map keeps what one behind it keeps, where their tests agree on the items
+-- if two tests agree on the items, a filter before a map gives the same as a filter after it
 pub filter_map_alike : {A B : Type 0} (f : A → B) (p : A → Bool) (q : B → Bool) (xs : List A) → ((j : ℕ) (e : A) → j < length xs → p (get_or xs j e) ≡ q (f (get_or xs j e))) → map f (filter p xs) ≡ filter q (map f xs)
 filter_map_alike f p q [] h = refl
 filter_map_alike f p q (x ∷ xs) h =
@@ -46,7 +46,7 @@ module _ {X : Type 0} where
   abbrev pub AreReal : List X → List ℕ → Type 0
   AreReal slots numbers = All (λ n. n < length slots) numbers
 
-  -- with any item in place of what is not there
+  -- with any item in place of a missing one
   pub lying_is : (slots : List X) (numbers : List ℕ) (d : X) → AreReal slots numbers → lying_in slots numbers ≡ map (λ n. get_or slots n d) numbers
   lying_is [] [] d real = refl
   lying_is [] (n ∷ ns) d real = absurd (omega (arith, real 0 n (omega arith)))
@@ -57,7 +57,7 @@ module _ {X : Type 0} where
   many_lying [] (n ∷ ns) real = absurd (omega (arith, real 0 n (omega arith)))
   many_lying (x ∷ xs) numbers real = length-map numbers (λ n. get_or (x ∷ xs) n x)
 
-  -- what is read in the slot of a number is the item
+  -- the item that is read in the slot of a number is the item of the list
   pub read_lying : (slots : List X) (numbers : List ℕ) → AreReal slots numbers → (i number : ℕ) (x : X) → i < length numbers → number ≡ get_or numbers i number → x ≡ get_or slots number x → x ≡ get_or (lying_in slots numbers) i x
   read_lying slots numbers real i number x lt is read =
       read
@@ -65,23 +65,23 @@ module _ {X : Type 0} where
       ∙ sym (get_or-map (λ n. get_or slots n x) numbers i number x lt)
       ∙ ap (λ l. get_or l i x) (sym (lying_is slots numbers x real))
 
-  -- a number that was read is that of a slot
+  -- a number that was read is a slot's
   pub number_real : (slots : List X) (numbers : List ℕ) → AreReal slots numbers → (i number : ℕ) → i < length numbers → number ≡ get_or numbers i number → number < length slots
   number_real slots numbers real i number lt is = omega (arith, is, real i number lt)
 
-  -- a number goes
+  -- a number is removed
   pub removed_lying : (slots : List X) (numbers : List ℕ) (i : ℕ) → lying_in slots (remove numbers i) ≡ remove (lying_in slots numbers) i
   removed_lying [] numbers zero = refl
   removed_lying [] numbers (suc i) = refl
   removed_lying (x ∷ xs) numbers i = map_remove (λ n. get_or (x ∷ xs) n x) numbers i
 
-  -- those of old items go
+  -- the numbers of expired items are removed
   pub young_lying : (moment : X → ℕ) (now : ℕ) (slots : List X) (numbers : List ℕ) → AreReal slots numbers → lying_in slots (filter (is_young_in moment now slots) numbers) ≡ filter (λ x. is_young now (moment x)) (lying_in slots numbers)
   young_lying moment now [] numbers real = refl
   young_lying moment now (x ∷ xs) numbers real = filter_map_alike (λ n. get_or (x ∷ xs) n x) (is_young_in moment now (x ∷ xs)) (λ y. is_young now (moment y)) numbers (λ j e lt.
       ap (is_some_young moment now) (slice_get-get_or (x ∷ xs) (get_or numbers j e) x (real j e lt)))
 
-  -- a slot more does not matter
+  -- one more slot changes nothing
   pub lying_longer : (slots : List X) (numbers : List ℕ) (x : X) → AreReal slots numbers → lying_in (slots ++ x ∷ []) numbers ≡ lying_in slots numbers
   lying_longer slots numbers x real =
       lying_is (slots ++ x ∷ []) numbers x (λ j e lt. omega (arith, real j e lt, length_push slots x))
@@ -92,7 +92,7 @@ module _ {X : Type 0} where
     real_set : AreReal (set slots number x) numbers
     real_set j e lt = omega (arith, real j e lt, length-set slots number x)
 
-    -- an item comes into a slot whose number was not in use
+    -- an item is put into a slot whose number was not in use
     pub inserted_lying : (i : ℕ) → ((j : ℕ) (e : ℕ) → j < length numbers → get_or numbers j e ≡ number → ⊥) → lying_in (set slots number x) (insert numbers i number) ≡ insert (lying_in slots numbers) i x
     inserted_lying i unused =
         let now : ℕ → X = λ n. get_or (set slots number x) n x in
@@ -103,7 +103,7 @@ module _ {X : Type 0} where
         ∙ ap (λ l. insert l i x) (map_alike now was numbers (λ j e lt. get_or-set_other slots number (get_or numbers j e) x x (unused j e lt)))
         ∙ ap (λ l. insert l i x) (sym (lying_is slots numbers x real))
 
-    -- an item comes over that of a number which is in use once
+    -- an item replaces that of a slot whose number is in use once
     pub set_lying : (i : ℕ) → i < length numbers → ((e : ℕ) → get_or numbers i e ≡ number) → ((j : ℕ) (e : ℕ) → j < length numbers → (j ≡ i → ⊥) → get_or numbers j e ≡ number → ⊥) → lying_in (set slots number x) numbers ≡ set (lying_in slots numbers) i x
     set_lying i within is once =
         let now : ℕ → X = λ n. get_or (set slots number x) n x in
@@ -193,11 +193,11 @@ module _ {X : Type 0} (slots : List X) (used free : List ℕ) (used_room free_ro
     pub last_unused : (j : ℕ) (e : ℕ) → j < length used → get_or used j e ≡ number → ⊥
     last_unused = free_unused (length left) number last_within last_free
 
-  -- where fewer are in use than there are slots one is free
+  -- if fewer slots are in use than there are, one is free
   pub some_free : length used < length slots → 0 < length free
   some_free few = omega (arith, few, are.all)
 
-  -- numbers that change places are those of the same slots
+  -- reordered numbers are those of the same slots
   pub moved_slots : (new_used new_free : List ℕ) (new_slots : List X) (a b : ℕ) → IsPermutation (used ++ free) (new_used ++ new_free) → length new_slots ≡ length slots → used_room ≤ a → free_room ≤ b → AreSlots new_slots new_used new_free a b
   moved_slots new_used new_free new_slots a b moved long more_used more_free =
       let many = length_permutation (used ++ free) (new_used ++ new_free) moved in
@@ -209,7 +209,7 @@ module _ {X : Type 0} (slots : List X) (used free : List ℕ) (used_room free_ro
         free_fits = omega (arith, are.free_fits, long, more_free);
       }
 
-  -- where no number is free, that of a new slot is
+  -- if no number is free, the number of a new slot is
   pub slot_made : free ≡ [] → (x : X) (number a b : ℕ) → number ≡ length slots → length slots + 1 ≤ a → length slots + 1 ≤ b → AreSlots (slots ++ x ∷ []) used (free ++ number ∷ []) a b
   slot_made none x number a b is more_used more_free =
       let real : AreReal slots used = used_real in
@@ -225,7 +225,7 @@ module _ {X : Type 0} (slots : List X) (used free : List ℕ) (used_room free_ro
         free_fits = omega (arith, more_free, long);
       })
 
--- a number that goes to the free ones
+-- a number that becomes free
 pub number_freed : (used free : List ℕ) (i number : ℕ) → i < length used → number ≡ get_or used i number → IsPermutation (used ++ free) (remove used i ++ (free ++ number ∷ []))
 number_freed used free i number within is =
     let rest = remove used i in
@@ -233,7 +233,7 @@ number_freed used free i number within is =
     let back : IsPermutation (number ∷ (rest ++ free)) ((rest ++ free) ++ number ∷ []) = IsPermutation-sym ((rest ++ free) ++ number ∷ []) (number ∷ (rest ++ free)) (IsPermutation-to_front (rest ++ free) number) in
     rw (← append_assoc rest free (number ∷ [])) (IsPermutation-trans (used ++ free) (number ∷ (rest ++ free)) ((rest ++ free) ++ number ∷ []) moved back)
 
--- a free number that comes into use
+-- a free number that is used
 pub number_used : (used free left : List ℕ) (i number : ℕ) → free ≡ left ++ number ∷ [] → IsPermutation (used ++ free) (insert used i number ++ left)
 number_used used free left i number is =
     let front : IsPermutation ((used ++ left) ++ number ∷ []) (number ∷ (used ++ left)) = IsPermutation-to_front (used ++ left) number in
@@ -249,7 +249,7 @@ numbers_parted p q other used free =
     let turned : IsPermutation (kept ++ (out ++ free)) (kept ++ (free ++ out)) = IsPermutation-append_right kept (out ++ free) (free ++ out) (IsPermutation-append_comm out free) in
     IsPermutation-trans (used ++ free) (kept ++ (out ++ free)) (kept ++ (free ++ out)) (rw (← append_assoc kept out free) parted) turned
 
--- where there is no slot no number is in use, and none is free
+-- if there is no slot, no number is in use and none is free
 pub no_slots : {X : Type 0} (slots : List X) (used free : List ℕ) (a b : ℕ) → slots ≡ [] → used ≡ [] → free ≡ [] → AreSlots slots used free a b
 no_slots slots used free a b none no_used no_free =
     let long = length-append used free in

@@ -1,4 +1,4 @@
--- A key has one best, and what a table says one listing.
+-- A key has one best offer, and a table one listing.
 use Rattle.std.proofs.Common.{◌≡◌, ℕ, zero, suc, ◌<◌, Bool, List, [], ◌∷◌, length, get_or, ◌⊎◌, inl, inr, refl, sym, ap, ◌∙◌, subst, arith}
 use Rattle.std.specs.Cmp.{IsTotalOrder}
 use Rattle.std.specs.Cmp.Lexicographic.{slice_cmp}
@@ -32,11 +32,11 @@ module _ {M : Type 0} {before : M → M → Bool} (strict : IsStrictTotal before
       (is_b.least a.0 a.1 is_a.moment is_a.stands is_a.counts)
       (is_a.least b.0 b.1 is_b.moment is_b.stands is_b.counts)
 
--- the item stands in the list
+-- the item is in the list
 abbrev IsIn : {X : Type 0} → X → List X → Type 0
 IsIn {X} x ys = (j : ℕ) × ((j < length ys) × ((e : X) → get_or ys j e ≡ x))
 
--- each item of the first list stands in the second
+-- each item of the first list is in the second
 abbrev AllIn : {X : Type 0} → List X → List X → Type 0
 AllIn {X} xs ys = (i : ℕ) (d : X) → i < length xs → IsIn (get_or xs i d) ys
 
@@ -44,7 +44,7 @@ module _ {X K : Type 0} {cmp : K → K → Ordering} (o : IsTotalOrder cmp) (key
   tail_rising : (x : X) (xs : List X) → IsRising cmp key_of (x ∷ xs) → IsRising cmp key_of xs
   tail_rising x xs rising i j d lt within = rising (suc i) (suc j) d (omega arith) (omega (arith, within))
 
-  -- what stands behind the head is not the head
+  -- an item after the head is not the head
   tail_place : (x y : X) (xs ys : List X) (i : ℕ) (d : X) → i < length xs → IsRising cmp key_of (x ∷ xs) → x ≡ y → (j : ℕ) → j < length (y ∷ ys) → ((e : X) → get_or (y ∷ ys) j e ≡ get_or xs i d) → IsIn (get_or xs i d) ys
   tail_place x y xs ys i d lt rising same zero within is =
       let less : cmp (key_of x) (key_of (get_or xs i d)) ≡ Less = rising 0 (suc i) d (omega arith) (omega (arith, lt)) in
@@ -74,7 +74,7 @@ module _ {X K : Type 0} {cmp : K → K → Ordering} (o : IsTotalOrder cmp) (key
     ]
   ]
 
-  -- lists that rise and have the same items are one list
+  -- rising lists with the same items are equal
   pub rising_same : (xs ys : List X) → IsRising cmp key_of xs → IsRising cmp key_of ys → AllIn xs ys → AllIn ys xs → xs ≡ ys
   rising_same [] [] up_x up_y h k = refl
   rising_same [] (y ∷ ys) up_x up_y h k = absurd (omega (arith, (k 0 y (omega arith)).1.0))
@@ -85,7 +85,7 @@ module _ {X K : Type 0} {cmp : K → K → Ordering} (o : IsTotalOrder cmp) (key
       cc
 
 module _ {K M : Type 0} {before : M → M → Bool} (strict : IsStrictTotal before) {cmp : K → K → Ordering} (o : IsTotalOrder cmp) (exact : TellsApart cmp) (c : Content K M) (now : ℕ) where
-  -- two items of one key are one
+  -- two items of one key are equal
   one_item : (x y : K × Source × M) → cmp y.0 x.0 ≡ Equal → IsBest before c x.0 now (x.1, x.2) → IsBest before c y.0 now (y.1, y.2) → y ≡ x
   one_item x y ties is_x is_y =
       let key : y.0 ≡ x.0 = exact y.0 x.0 ties in

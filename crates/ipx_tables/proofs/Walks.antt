@@ -1,4 +1,4 @@
--- The walk over the best of each key: its steps, and that it is the listing.
+-- The walk over the best offer of each key: its steps, and that it gives the listing.
 use Rattle.std.proofs.Common.{◌≡◌, ℕ, zero, suc, ◌+◌, ◌<◌, ◌≤◌, Bool, true, false, cond, not, List, [], ◌∷◌, Option, Some, None, ◌⊎◌, inl, inr, length, get_or, drop, refl, sym, ap, ◌∙◌, subst, arith, length-drop}
 use mathlib.Core.Bool.{true≢false}
 use Rattle.std.specs.Option.{IfSome, MatchOption}
@@ -31,7 +31,7 @@ is_equal Less h = cc
 is_equal Equal h = refl
 is_equal Greater h = cc
 
--- neither less the other way round nor equal is less
+-- if the reverse is not less, and they are not equal, it is less
 is_above : (r : Ordering) → is_lt (ordering_reverse r) ≡ false → is_eq r ≡ false → r ≡ Less
 is_above Less h k = refl
 is_above Equal h k = cc
@@ -50,7 +50,7 @@ first_of_two Less b h = refl
 first_of_two Equal b h = refl
 first_of_two Greater b h = cc
 
--- what holds of each, one fact from another and two together
+-- facts of each item: one from another, and two together
 module _ {X : Type 0} {P Q : X → Type 0} where
   all_map : (xs : List X) → ((x : X) → P x → Q x) → AllByRecursion P xs → AllByRecursion Q xs
   all_map [] f all = tt
@@ -61,17 +61,17 @@ module _ {X : Type 0} {P Q : X → Type 0} where
   all_zip (x ∷ xs) f p q = (f x p.0 q.0, all_zip xs f p.1 q.1)
 
 module _ {K M : Type 0} (cmp : K → K → Ordering) (before : M → M → Bool) where
-  -- an offer that is held goes first
+  -- the held offer goes first
   abbrev pub put_held : Option (Offer K M) → List (K × Source × M) → List (K × Source × M)
   put_held None bs = bs
   put_held (Some h) bs = put_first cmp before (item_of h) bs
 
--- an offer that is not past is of the key of the one that is held
+-- an offer that is not past has the key of the held one
 pub same_key : {K M : Type 0} (cmp : K → K → Ordering) (held : Option (Offer K M)) (key : K) (past : Bool) → past ≡ false → MatchOption held (past ≡ false) (λ h. is_eq (cmp h.key key) ≡ not past) → MatchOption held (Unit {0}) (λ h. is_eq (cmp h.key key) ≡ true)
 same_key cmp None key past p is = tt
 same_key cmp (Some h) key past p is = is ∙ ap not p
 
--- no offer from here on has a key below that of the one that is held
+-- no offer from here on has a key below that of the held one
 abbrev pub IsLow : {K M : Type 0} → (K → K → Ordering) → List (Offer K M) → ℕ → Option (Offer K M) → Type 0
 IsLow cmp os at None = Unit {0}
 IsLow {K} {M} cmp os at (Some h) = (j : ℕ) (d : Offer K M) → at ≤ j → j < length os → is_lt (cmp (get_or os j d).key h.key) ≡ false
@@ -89,14 +89,14 @@ module _ {K M : Type 0} {cmp : K → K → Ordering} (o : IsTotalOrder cmp) {bef
   put_apart : (a b : K × Source × M) (bs : List (K × Source × M)) → is_eq (cmp a.0 b.0) ≡ false → put_first cmp before a (b ∷ bs) ≡ a ∷ b ∷ bs
   put_apart a b bs other = ap (λ t. cond t (cond (item_beats cmp before b a) (b ∷ bs) (a ∷ bs)) (a ∷ b ∷ bs)) other
 
-  -- what beats an item beats what that one beats
+  -- what beats an item also beats what that item beats
   beats_through : (r x h : K × Source × M) → item_beats cmp before r x ≡ true → item_beats cmp before x h ≡ true → item_beats cmp before r h ≡ true
   beats_through r x h k l = elim (item_beats cmp before r h) as (λ b. item_beats cmp before r h ≡ b → b ≡ true) [
     | true ↦ λ e. refl
     | false ↦ λ e. let lost = w.chain r h x e (w.one_way x h l) in sym lost ∙ k
   ] refl
 
-  -- of two of one key that come after one another the better one goes first
+  -- of two adjacent items of one key the better one goes first
   put_both : (h x : K × Source × M) (rest : List (K × Source × M)) → is_eq (cmp h.0 x.0) ≡ true → put_first cmp before h (put_first cmp before x rest) ≡ put_first cmp before (cond (item_beats cmp before x h) x h) rest
   put_both h x [] tie = elim (item_beats cmp before x h) as (λ b. item_beats cmp before x h ≡ b → put_first cmp before h (x ∷ []) ≡ cond b x h ∷ []) [
     | true ↦ λ e. put_beaten h x [] tie e
@@ -128,7 +128,7 @@ module _ {K M : Type 0} {cmp : K → K → Ordering} (o : IsTotalOrder cmp) {bef
     | Greater ↦ λ e. absurd (true≢false (sym (ap is_lt (o.antisymm c b ∙ ap ordering_reverse e)) ∙ not_less))
   ] refl
 
-  -- what holds of each offer that counts, as an item, holds of each best
+  -- what holds of each valid offer, as an item, holds of each best
   module _ (now : ℕ) where
     abbrev bests : List (Offer K M) → List (K × Source × M)
     bests os = bests_of cmp before now os
@@ -149,7 +149,7 @@ module _ {K M : Type 0} {cmp : K → K → Ordering} (o : IsTotalOrder cmp) {bef
           | false ↦ λ old. rest
         ] refl
 
-    -- an item of another key than all others goes first
+    -- an item whose key no other has goes first
     put_above : (a : K × Source × M) (bs : List (K × Source × M)) → AllByRecursion (λ z. is_eq (cmp a.0 z.0) ≡ false) bs → put_first cmp before a bs ≡ a ∷ bs
     put_above a [] all = refl
     put_above a (b ∷ bs) all = put_apart a b bs all.0
@@ -188,7 +188,7 @@ module _ {K M : Type 0} {cmp : K → K → Ordering} (o : IsTotalOrder cmp) {bef
       low_better None low = low_itself
       low_better (Some h) low = elim (offer_beats before x h) as (λ b. IsLow cmp os (at + 1) (Some (cond b x h))) [ true ↦ low_itself | false ↦ low_next (Some h) low ]
 
-      -- at an offer of another key the one that is held is the best of its own
+      -- at an offer of another key, the held one is the best of its own key
       pub walk_past : (h : Offer K M) → IsLow cmp os at (Some h) → is_eq (cmp h.key x.key) ≡ false → put_held cmp before (Some h) (bests (drop at os)) ≡ item_of h ∷ bests (drop at os)
       walk_past h low other =
           let here : get_or os at x ≡ x = sym read in
@@ -206,16 +206,16 @@ module _ {K M : Type 0} {cmp : K → K → Ordering} (o : IsTotalOrder cmp) {bef
                 ap (λ n. is_eq (cmp h.key (get_or os n d).key)) same ∙ ap (λ (v : Offer K M). is_eq (cmp h.key v.key)) (get_or_default os at d x within ∙ here) ∙ other
           ]))
 
-      -- where a walk stops the item of the one that is held comes first
+      -- when a walk stops, the item of the held offer comes first
       pub walk_stops : (held : Option (Offer K M)) (past : Bool) (all : List (K × Source × M)) → past ≡ true → MatchOption held (past ≡ false) (λ h. is_eq (cmp h.key x.key) ≡ not past) → IsLow cmp os at held → put_held cmp before held (bests (drop at os)) ≡ all → IfSome held (λ h. all ≡ item_of h ∷ bests (drop at os))
       walk_stops None past all p is low left = tt
       walk_stops (Some h) past all p is low left = sym left ∙ walk_past h low (is ∙ ap not p)
 
-    -- at the end what is held is the last
+    -- at the end the held offer is the last
     pub walk_end : (os : List (Offer K M)) (at : ℕ) → length os ≤ at → bests (drop at os) ≡ []
     walk_end os at past = ap bests (drop_all at os past)
 
-    -- the one offer of its key that counts is the best of it
+    -- the only offer of its key, if valid, is its best
     pub lone_walk : (os : List (Offer K M)) → IsRising (pair_cmp cmp) pair_of os → (at : ℕ) (x : Offer K M) → x ≡ get_or os at x → IsLone cmp now os at → bests (drop at os) ≡ item_of x ∷ bests (drop (at + 1) os)
     lone_walk os rising at x read lone =
         let within = lone.in_range in
@@ -297,7 +297,7 @@ module _ {K M : Type 0} {cmp : K → K → Ordering} (o : IsTotalOrder cmp) {bef
       | false ↦ λ other. inl (tied_itself o a.0)
     ] refl
 
-    -- the key of each offer that counts has an item
+    -- the key of each valid offer has an item
     abbrev IsCovered : List (K × Source × M) → Offer K M → Type 0
     IsCovered zs x = is_young now x.heard ≡ true → HasKey x.key zs
 
@@ -308,7 +308,7 @@ module _ {K M : Type 0} {cmp : K → K → Ordering} (o : IsTotalOrder cmp) {bef
       | false ↦ λ old. ((λ y. absurd (true≢false (sym y ∙ old))), covers xs)
     ] refl
 
-    -- no offer of an item's key that counts is better than the item
+    -- no valid offer of an item's key is better than the item
     abbrev NoBetter : K × Source × M → Offer K M → Type 0
     NoBetter z x = is_young now x.heard ≡ true → is_eq (cmp x.key z.0) ≡ true → item_beats cmp before (item_of x) z ≡ false
 
@@ -365,7 +365,7 @@ module _ {K M : Type 0} {cmp : K → K → Ordering} (o : IsTotalOrder cmp) {bef
       | inr later ↦ let rest = has_place key zs later in (suc rest.0, record { in_range = omega (arith, rest.1.in_range); ties = λ d. rest.1.ties d })
     ]
 
-    -- the walk goes over the listing
+    -- the walk gives the listing
     module _ (os : List (Offer K M)) (rising : IsRising (pair_cmp cmp) pair_of os) where
       apart : IsApart (is_same cmp) os
       apart = apart_rising o os rising
@@ -373,11 +373,11 @@ module _ {K M : Type 0} {cmp : K → K → Ordering} (o : IsTotalOrder cmp) {bef
       abbrev Stands : K × Source × M → Type 0
       Stands item = (t : ℕ) × ((content cmp os (item.0, item.1) ≡ Some (item.2, t)) × (is_young now t ≡ true))
 
-      -- each item is an offer that counts
+      -- each item is a valid offer
       pub walked : (P : K × Source × M → Type 0) → ((j : ℕ) (d : Offer K M) → j < length os → is_young now (get_or os j d).heard ≡ true → P (item_of (get_or os j d))) → All P (bests os)
       walked P all j d lt = All-from_recursion P (bests os) (all_bests P os all) j d lt
 
-      -- its key is the one that was heard last
+      -- its key is the one that was learned last
       pub walked_as_heard : All (λ item. heard_key cmp os (item.0, item.1) ≡ Some item.0) (bests os)
       walked_as_heard = walked (λ item. heard_key cmp os (item.0, item.1) ≡ Some item.0) (λ j d lt young. member_found (same_equiv o) (λ (x : Offer K M). x.key) os j d apart lt)
 
@@ -407,7 +407,7 @@ module _ {K M : Type 0} {cmp : K → K → Ordering} (o : IsTotalOrder cmp) {bef
             (at.0, record { in_range = at.1.in_range; ties = λ d. sym (alike_right o f.offer.key key (listed_key (get_or (bests os) at.0 d)) tie.0) ∙ at.1.ties d });
       }
 
-      -- where nothing counts there is none
+      -- if no offer is valid, there is no item
       pub none_walked : ((key : K) → NoneCounts (content cmp os) key now) → bests os ≡ []
       none_walked none = elim (bests os) as (λ l. bests os ≡ l → l ≡ []) [
         | [] ↦ λ e. refl

@@ -1,4 +1,4 @@
--- Bytes that are compared by the numbers that they spell, eight at a time.
+-- Bytes compared as big-endian numbers, eight at a time.
 use Rattle.std.proofs.Common.{◌≡◌, ℕ, suc, ◌+◌, ◌*◌, ◌^◌, ◌<◌, ◌≤◌, List, [], ◌∷◌, ◌++◌, length, get_or, take, drop, refl, sym, ap, ◌∙◌, subst, inl, inr, arith}
 use Rattle.std.proofs.Math.Nat.{mul_comm, pow-suc}
 use Rattle.std.specs.Cmp.Lexicographic.{slice_cmp}
@@ -37,7 +37,7 @@ moved a r s = elim (cases_lt r s) [
   ]
 ]
 
--- the first digit decides, and where it ties the rest
+-- the first digit decides, or if it is equal, the rest
 first_digit : (x y p r s : ℕ) → r < p → s < p → nat_cmp (x * p + r) (y * p + s) ≡ ordering_then (nat_cmp x y) (nat_cmp r s)
 first_digit x y p r s r_low s_low = elim (cases_lt x y) [
   | inl less ↦
@@ -53,7 +53,7 @@ first_digit x y p r s r_low s_low = elim (cases_lt x y) [
   ]
 ]
 
--- bytes stand to each other as the numbers that they spell
+-- bytes compare like their big-endian numbers
 pub by_number : (xs ys : List ℕ) → length xs ≡ length ys → AreBytes xs → AreBytes ys → nat_cmp (spelled xs) (spelled ys) ≡ slice_cmp nat_cmp xs ys
 by_number [] [] long of_x of_y = refl
 by_number [] (y ∷ ys) long of_x of_y = absurd (omega (arith, long))
@@ -74,7 +74,7 @@ then_then Less b c = refl
 then_then Equal b c = refl
 then_then Greater b c = refl
 
--- the fronts decide, and where they tie the rest
+-- the fronts decide, or if they are equal, the rest
 fronts_first : (xs ys us vs : List ℕ) → length xs ≡ length ys → slice_cmp nat_cmp (xs ++ us) (ys ++ vs) ≡ ordering_then (slice_cmp nat_cmp xs ys) (slice_cmp nat_cmp us vs)
 fronts_first [] [] us vs long = refl
 fronts_first [] (y ∷ ys) us vs long = absurd (omega (arith, long))
@@ -90,7 +90,7 @@ bytes_taken xs n i bytes j = elim (cases_lt j n) [
 ]
 
 module _ (xs ys : List ℕ) (same : length xs ≡ length ys) (of_x : AreBytes xs) (of_y : AreBytes ys) (i x y : ℕ) (within : i + 8 ≤ length xs) (is_x : x ≡ spelled (take 8 (drop i xs))) (is_y : y ≡ spelled (take 8 (drop i ys))) where
-  -- eight bytes decide, and where they tie the rest
+  -- eight bytes decide, or if they are equal, the rest
   pub word_first : slice_cmp nat_cmp (drop i xs) (drop i ys) ≡ ordering_then (nat_cmp x y) (slice_cmp nat_cmp (drop (i + 8) xs) (drop (i + 8) ys))
   word_first =
       let a : List ℕ = take 8 (drop i xs) in

@@ -1,5 +1,5 @@
--- The best offer of a key: by metric; where metrics are equal the lower port decides, and then the
--- lower neighbour, which is our own choice.
+-- The best offer of a key: by metric. If metrics are equal, the lower port decides, and then the lower
+-- neighbour, as this project defines.
 use Rattle.std.specs.Prelude.{◌≡◌, ℕ, Bool, true, false, cond, Some}
 use Rattle.std.specs.declared.cmp.Ordering.{Ordering}
 use Rattle.std.specs.declared.cmp.Ordering.TheVariants.{Less, Equal, Greater}
@@ -20,7 +20,7 @@ module _ {M : Type 0} (before : M → M → Bool) where
   abbrev pub is_better : Source × M → Source × M → Bool
   is_better a b = is_lt (rank_cmp a b)
 
-  -- of the offers of a key that count at a moment, this is the least
+  -- of the valid offers of a key at a time, this is the best
   pub record IsBest {K : Type 0} (c : Content K M) (key : K) (now : ℕ)
       (best : Source × M) : Type 0 where
     pub moment : ℕ
@@ -29,7 +29,7 @@ module _ {M : Type 0} (before : M → M → Bool) where
     pub least : (s : Source) (m : M) (t : ℕ) → c (key, s) ≡ Some (m, t) → is_young now t ≡ true
         → is_better (s, m) best ≡ false
 
--- no offer of the key counts at the moment
+-- no offer of the key is valid at this time
 abbrev pub NoneCounts : {K M : Type 0} → Content K M → K → ℕ → Type 0
 NoneCounts {K} {M} c key now = (s : Source) (m : M) (t : ℕ) → c (key, s) ≡ Some (m, t)
     → is_young now t ≡ false

@@ -1,7 +1,6 @@
--- What a table of offers says, and what hearing and ageing make of it.
--- A router keeps what each neighbour told last, and forgets it after some time without a word
--- (Novell IPX Router Specification, RIP and SAP);
--- that this time is three minutes is our own choice.
+-- What a table of offers says, and how learning and ageing change it. A router keeps what each neighbour
+-- advertised last, and removes it if it is not advertised again for some time (Novell IPX Router
+-- Specification, RIP and SAP). That this time is three minutes is defined by this project.
 use Rattle.std.specs.Prelude.{◌≡◌, ℕ, ◌-◌, ◌≤◌, Bool, cond, nat_lt, List, [], ◌∷◌, Option, Some, None, length}
 use Rattle.std.specs.declared.cmp.Ordering.{Ordering}
 use Rattle.std.specs.Ordering.{ordering_then, is_eq, nat_cmp, then_cmp, on}
@@ -9,12 +8,12 @@ use Rattle.std.specs.Cmp.Lexicographic.{slice_cmp}
 use Rattle.ipx_tables.specs.declared.source.Source.{Source}
 use Rattle.ipx_tables.specs.declared.offer.Offer.{Offer}
 
--- a table: how many offers it may hold, and those that it holds, in no order that matters
+-- a table: how many offers it may hold, and those that it holds, in any order
 pub record Table (K M : Type 0) : Type 0 where
   pub most : ℕ
   pub offers : List (Offer K M)
 
--- a finite map from key and source to metric and moment
+-- a finite map from key and source to metric and time
 abbrev pub Content : Type 0 → Type 0 → Type 0
 Content K M = K × Source → Option (M × ℕ)
 
@@ -22,24 +21,24 @@ Content K M = K × Source → Option (M × ℕ)
 abbrev pub source_cmp : Source → Source → Ordering
 source_cmp = then_cmp (on (λ s. s.port) nat_cmp) (on (λ s. s.neighbour.0) (slice_cmp nat_cmp))
 
--- the time from a moment to a later one, and 0 to an earlier one, is under three minutes
+-- the age is under three minutes; the age at a time before it was learned is 0
 abbrev pub is_young : ℕ → ℕ → Bool
 is_young now moment = nat_lt (now - moment) 180000
 
--- what an offer leaves of itself at a moment
+-- what is left of an offer at a time: nothing if it is old
 abbrev pub still : {M : Type 0} → ℕ → Option (M × ℕ) → Option (M × ℕ)
 still now None = None
 still now (Some v) = cond (is_young now v.1) (Some v) None
 
--- the key and the source of an offer
+-- the key and source of an offer
 abbrev pub pair_of : {K M : Type 0} → Offer K M → K × Source
 pair_of o = (o.key, o.source)
 
--- what an offer says: a metric, and when it was heard
+-- what an offer says: a metric, and when it was learned
 abbrev pub said_of : {K M : Type 0} → Offer K M → M × ℕ
 said_of o = (o.metric, o.heard)
 
--- what is told of the offer of a key and a source, where a test tells which are the same
+-- a value of the first offer of a key and source, with a test for which of these are the same
 abbrev pub found : {K M B : Type 0} → (K × Source → K × Source → Bool) → (Offer K M → B)
     → List (Offer K M) → K × Source → Option B
 found same told [] p = None
@@ -63,26 +62,26 @@ module _ {K : Type 0} (cmp : K → K → Ordering) where
   abbrev pub content : {M : Type 0} → List (Offer K M) → Content K M
   content os = found is_same said_of os
 
-  -- the key of an offer as it was heard last: keys may differ and still be the same in their order
+  -- the key of an offer as it was learned last: keys may differ and still compare as equal
   abbrev pub heard_key : {M : Type 0} → List (Offer K M) → K × Source → Option K
   heard_key os = found is_same (λ o. o.key) os
 
-  -- what is left after an offer was heard
+  -- the content after an offer was learned
   abbrev pub after_hear : {M : Type 0} → (M → Bool) → Content K M → K × Source → M → ℕ → Content K M
   after_hear dead c p metric now q =
       cond (is_same p q) (cond (dead metric) None (Some (metric, now))) (c q)
 
-  -- the keys that are left after an offer was heard
+  -- the keys after an offer was learned
   abbrev pub keys_after_hear : {M : Type 0} → (M → Bool) → (K × Source → Option K) → K × Source → M
       → K × Source → Option K
   keys_after_hear dead keys p metric q =
       cond (is_same p q) (cond (dead metric) None (Some p.0)) (keys q)
 
-  -- no key and source stands twice, and there are no more offers than there may be
+  -- no key and source is listed twice, and there are at most `most` offers
   pub record IsTable {M : Type 0} (t : Table K M) : Type 0 where
     pub apart : IsApart is_same t.offers
     pub within : length t.offers ≤ t.most
 
--- what is left after the old ones went
+-- the content after old offers were removed
 abbrev pub after_age : {K M : Type 0} → Content K M → ℕ → Content K M
 after_age c now q = still now (c q)

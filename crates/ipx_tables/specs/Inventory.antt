@@ -7,7 +7,7 @@ use Rattle.ipx_tables.specs.declared.offer.Offer.{Offer}
 use Rattle.ipx_tables.specs.Content.{Content, pair_cmp, pair_of, said_of}
 use Rattle.ipx_tables.specs.Sorted.{IsRising, IsAtKey}
 
--- each offer stands once, old ones too, by key and then by source, with what it says
+-- each offer is listed once, also old ones, by key and then by source
 pub record IsInventory {K M : Type 0} (cmp : K → K → Ordering) (c : Content K M)
     (offers : List (Offer K M)) : Type 0 where
   pub in_order : IsRising (pair_cmp cmp) pair_of offers

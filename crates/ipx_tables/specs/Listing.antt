@@ -1,4 +1,4 @@
--- The best of each key, by key.
+-- The best offer of each key, by key.
 use Rattle.std.specs.Prelude.{ℕ, Bool, List}
 use Rattle.std.specs.List.{All}
 use Rattle.std.specs.declared.cmp.Ordering.{Ordering}
@@ -11,7 +11,7 @@ use Rattle.ipx_tables.specs.Sorted.{IsRising, IsAtKey}
 abbrev pub listed_key : {K M : Type 0} → K × Source × M → K
 listed_key item = item.0
 
--- each key that has a best stands once, in the order of the keys, with its best
+-- each key that has a best offer is listed once, in the order of the keys, with that offer
 pub record IsListing {K M : Type 0} (cmp : K → K → Ordering) (before : M → M → Bool)
     (c : Content K M) (now : ℕ) (listed : List (K × Source × M)) : Type 0 where
   pub in_order : IsRising cmp listed_key listed

@@ -1,4 +1,4 @@
--- Strict total orders, and comparisons that tell all values apart.
+-- Strict total orders, and comparisons in which no two different values are equal.
 use Rattle.std.specs.Prelude.{◌≡◌, Bool, true, false, refl}
 use Rattle.std.proofs.Common.{sym, ap, ◌∙◌}
 use Rattle.std.specs.Cmp.{IsTotalOrder}
@@ -6,13 +6,13 @@ use Rattle.std.specs.declared.cmp.Ordering.{Ordering}
 use Rattle.std.specs.declared.cmp.Ordering.TheVariants.{Less, Equal, Greater}
 use Rattle.std.specs.Ordering.{is_lt, ordering_reverse}
 
--- of two different values exactly one stands before the other
+-- of two different values exactly one is before the other
 pub record IsStrictTotal {M : Type 0} (before : M → M → Bool) : Type 0 where
   pub irreflexive : (x : M) → before x x ≡ false
   pub transitive : (x y z : M) → before x y ≡ true → before y z ≡ true → before x z ≡ true
   pub total : (x y : M) → before x y ≡ false → before y x ≡ false → x ≡ y
 
--- no two different values tie
+-- no two different values compare as equal
 abbrev pub TellsApart : {K : Type 0} → (K → K → Ordering) → Type 0
 TellsApart {K} cmp = (a b : K) → cmp a b ≡ Equal → a ≡ b
 
@@ -32,7 +32,7 @@ module _ {M : Type 0} {R : M → M → Ordering} (o : IsTotalOrder R) (exact : T
   neither Equal h k = refl
   neither Greater h k = cc
 
-  -- less by a total order that tells all values apart is a strict total order
+  -- `less` of a total order in which no two different values are equal is a strict total order
   pub strict_from_cmp : IsStrictTotal (λ x y. is_lt (R x y))
   strict_from_cmp = record {
     irreflexive = λ x. not_itself (R x x) (o.antisymm x x);

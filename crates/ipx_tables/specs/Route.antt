@@ -1,5 +1,5 @@
--- How far a network is, as the Novell IPX Router Specification has it for RIP: ticks first, then
--- hops; 16 hops are unreachable.
+-- The metric of a route as the Novell IPX Router Specification defines it for RIP: ticks first, then hops; 16
+-- hops are unreachable.
 use Rattle.std.specs.Prelude.{ℕ, ◌+◌, Bool, nat_le, min}
 use Rattle.std.proofs.Common.{ap}
 use Rattle.std.specs.declared.cmp.Ordering.{Ordering}
@@ -31,7 +31,7 @@ route_before a b = is_lt (route_cmp a b)
 abbrev pub route_dead : RouteMetric → Bool
 route_dead m = nat_le 16 m.hops
 
--- one router further, at most 16
+-- one hop more, at most 16
 abbrev pub route_one_more : RouteMetric → RouteMetric
 route_one_more m = record { ticks = m.ticks; hops = min (m.hops + 1) 16 }
 

@@ -1,5 +1,5 @@
--- How far a service is, by hops: 16 mean down (Novell IPX Router Specification, SAP). Where hops
--- are equal its address decides, which is our own choice.
+-- The metric of a service: its hops, of which 16 mean down (Novell IPX Router Specification, SAP). If hops
+-- are equal, the address decides, as this project defines.
 use Rattle.std.specs.Prelude.{ℕ, ◌+◌, Bool, List, nat_le, min}
 use Rattle.std.proofs.Common.{ap}
 use Rattle.std.specs.declared.cmp.Ordering.{Ordering}
@@ -41,7 +41,7 @@ service_before a b = is_lt (service_cmp a b)
 abbrev pub service_dead : ServiceMetric → Bool
 service_dead m = nat_le 16 m.hops
 
--- one router further, at most 16
+-- one hop more, at most 16
 abbrev pub service_one_more : ServiceMetric → ServiceMetric
 service_one_more m = record { hops = min (m.hops + 1) 16; at = m.at }
 

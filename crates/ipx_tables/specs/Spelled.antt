@@ -1,7 +1,7 @@
--- Words of private functions: bytes as the numbers that they spell.
+-- Definitions for private functions: bytes as big-endian numbers.
 use Rattle.std.specs.Prelude.{ℕ, ◌+◌, ◌*◌, ◌^◌, List, [], ◌∷◌, length}
 
--- the number that bytes spell, the greatest first
+-- bytes as a big-endian number
 abbrev pub spelled : List ℕ → ℕ
 spelled [] = 0
 spelled (b ∷ bytes) = b * 256 ^ length bytes + spelled bytes

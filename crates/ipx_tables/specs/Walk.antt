@@ -1,4 +1,4 @@
--- Words of private functions: the walk over the best of each key.
+-- Definitions for private functions: the walk over the best offer of each key.
 use Rattle.std.specs.Prelude.{◌≡◌, ℕ, ◌+◌, ◌<◌, Bool, true, false, cond, List, [], ◌∷◌, length, slice_index_or}
 use Rattle.std.specs.declared.cmp.Ordering.{Ordering}
 use Rattle.std.specs.Ordering.{is_eq}
@@ -16,19 +16,19 @@ module _ {K M : Type 0} (cmp : K → K → Ordering) (before : M → M → Bool)
   abbrev pub item_beats : K × Source × M → K × Source × M → Bool
   item_beats a b = is_better before (a.1, a.2) (b.1, b.2)
 
-  -- an item goes before those of higher keys; of its own key only the better one stays
+  -- an item goes before those of higher keys; of two items with one key only the better one stays
   abbrev pub put_first : K × Source × M → List (K × Source × M) → List (K × Source × M)
   put_first a [] = a ∷ []
   put_first a (b ∷ bs) = cond (is_eq (cmp a.0 b.0)) (cond (item_beats b a) (b ∷ bs) (a ∷ bs))
       (a ∷ b ∷ bs)
 
-  -- the best of each key that has one, where the keys do not fall
+  -- the best valid offer of each key that has one, if the keys do not fall
   abbrev pub bests_of : ℕ → List (Offer K M) → List (K × Source × M)
   bests_of now [] = []
   bests_of now (o ∷ os) = cond (is_young now o.heard) (put_first (item_of o) (bests_of now os))
       (bests_of now os)
 
--- the offer at a place counts, and the next one is of another key
+-- the offer at an index is valid, and the next one has another key
 pub record IsLone {K M : Type 0} (cmp : K → K → Ordering) (now : ℕ) (os : List (Offer K M))
     (at : ℕ) : Type 0 where
   pub in_range : at < length os

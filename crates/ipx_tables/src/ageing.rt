@@ -1,4 +1,4 @@
-//! What is old goes.
+//! Removal of expired offers.
 
 ghost use Rattle.std.specs.Prelude.{◌≡◌, ℕ, ◌+◌, ◌^◌, ◌<◌, ◌≤◌, length, IfNone, IfSome, OnSome};
 ghost use Rattle.std.specs.List.{filter};
@@ -8,12 +8,12 @@ ghost use Rattle.ipx_tables.specs.Expiry.{NoneOldBefore};
 use crate::moments::{counts, expiry};
 use crate::offer_store::OfferStore;
 
-/// How many offers are taken out one by one, before all others that are old go together.
+/// How many offers are removed one by one, before all other expired ones are removed together.
 const FEW: u32 = 16;
 
-/// Takes out each offer that counts no more, a few one by one and all others together. The result is
-/// the moment until which all that stay do.
-#[inline(never)] // so that whoever ages a table has only the comparison in line
+/// Removes each expired offer: a few one by one, and all others together. The result is the time
+/// until which all others stay valid.
+#[inline(never)] // keeps only the comparison inline in callers
 pub fn expire<K: Ord + Copy, M: Copy>(offer_store: &mut OfferStore<K, M>, now: u64) -> u64
     ensures young { offer_store.new ≡ filter (λ o. is_young now o.heard) offer_store.old }
     ensures until { NoneOldBefore result offer_store.new }
@@ -28,8 +28,8 @@ pub fn expire<K: Ord + Copy, M: Copy>(offer_store: &mut OfferStore<K, M>, now: u
     keep_all_young(offer_store, now)
 }
 
-/// Takes out one offer that counts no more. Where there is none, the result is the moment until
-/// which all count.
+/// Removes one expired offer. If there is none, the result is the time until which all offers stay
+/// valid.
 fn take_old<K: Ord + Copy, M: Copy>(offer_store: &mut OfferStore<K, M>, now: u64) -> Option<u64>
     ensures same { filter (λ o. is_young now o.heard) offer_store.new
         ≡ filter (λ o. is_young now o.heard) offer_store.old }
@@ -49,7 +49,7 @@ fn take_old<K: Ord + Copy, M: Copy>(offer_store: &mut OfferStore<K, M>, now: u64
     None
 }
 
-/// Takes out all that counts no more together, and says until when all others count.
+/// Removes all expired offers together. The result is the time until which the others stay valid.
 fn keep_all_young<K: Ord + Copy, M: Copy>(offer_store: &mut OfferStore<K, M>, now: u64) -> u64
     ensures young { offer_store.new ≡ filter (λ o. is_young now o.heard) offer_store.old }
     ensures until { NoneOldBefore result offer_store.new }

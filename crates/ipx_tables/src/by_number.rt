@@ -1,4 +1,4 @@
-//! Names and nodes in the order of their bytes, compared as numbers.
+//! Comparison of names and nodes by their bytes, done on numbers.
 
 ghost use Rattle.std.specs.Prelude.{◌≡◌, ◌+◌, ◌≤◌, take, drop};
 ghost use Rattle.std.specs.Ordering.{nat_cmp};
@@ -7,7 +7,7 @@ ghost use Rattle.ipx_tables.specs.Spelled.{spelled};
 
 use std::cmp::Ordering;
 
-/// How two names stand to each other: by the first byte at which they differ.
+/// Compares two names by the first byte at which they differ.
 pub fn name_order(a: &[u8; 48], b: &[u8; 48]) -> Ordering
     ensures { result ≡ slice_cmp nat_cmp a.now b.now }
 {
@@ -21,7 +21,7 @@ pub fn name_order(a: &[u8; 48], b: &[u8; 48]) -> Ordering
     Ordering::Equal
 }
 
-/// The number that eight bytes spell, the greatest first.
+/// Eight bytes as a big-endian number.
 #[inline]
 fn word_at(bytes: &[u8; 48], at: usize) -> u64
     requires { at + 8 ≤ 48 }
@@ -39,14 +39,14 @@ fn word_at(bytes: &[u8; 48], at: usize) -> u64
     ])
 }
 
-/// How two nodes stand to each other: by the first byte at which they differ.
+/// Compares two nodes by the first byte at which they differ.
 pub fn node_order(a: &[u8; 6], b: &[u8; 6]) -> Ordering
     ensures { result ≡ slice_cmp nat_cmp a.now b.now }
 {
     number_of(a).cmp(&number_of(b))
 }
 
-/// The number that six bytes spell, the greatest first.
+/// Six bytes as a big-endian number.
 #[inline]
 fn number_of(bytes: &[u8; 6]) -> u64
     ensures { result ≡ spelled bytes.now }

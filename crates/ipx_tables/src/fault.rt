@@ -10,16 +10,16 @@ use thiserror::Error;
 /// Why a table refused a call.
 #[derive(Clone, Copy, Debug, PartialEq, Eq, Error)]
 pub enum TableFault {
-    /// The table holds as many offers as it may, and none of this key and source.
+    /// The table has as many offers as it may, and none of this key and source.
     #[error("the table is full")]
     Full,
-    /// Memory ran out, which only a new key and source can find, or a listing.
+    /// Out of memory. Only a new key and source, or a list, can give it.
     #[error("out of memory")]
     OutOfMemory,
 }
 
 impl TableFault {
-    /// The fault's number, 13 or 14: what programs print and compare.
+    /// The fault's number, 13 or 14. Programs print and compare it.
     pub fn number(&self) -> u8
         ensures { result ≡ table_fault_number self.now }
     {

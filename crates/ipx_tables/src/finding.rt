@@ -1,4 +1,4 @@
-//! The best offer of a key, and how many offers are read to find it.
+//! The best offer of a key, and the number of offers that are read to find it.
 
 ghost use Rattle.std.specs.Prelude.{◌≡◌, ◌≤◌, ◌<◌, ◌+◌, ◌^◌, ℕ, true, false, None, length, slice_index_or, count_by, option_copied};
 ghost use Rattle.std.specs.Ordering.{is_eq, is_lt};
@@ -12,7 +12,7 @@ use crate::offer_store::OfferStore;
 use crate::source::Source;
 use std::cmp::Ordering;
 
-/// The better one first: by metric, then by the lower port and the lower neighbour.
+/// Compares two offers, the better one first: by metric, then by lower port and lower neighbour.
 pub fn rank<M: Metric + Copy>(a: (Source, M), b: (Source, M)) -> Ordering
     ensures { result ≡ rank_cmp M.before a b }
 {
@@ -25,14 +25,14 @@ pub fn rank<M: Metric + Copy>(a: (Source, M), b: (Source, M)) -> Ordering
     }
 }
 
-/// Whether the first is the better one.
+/// Whether the first is better.
 pub fn better<K: Copy, M: Metric + Copy>(a: &Offer<K, M>, b: &Offer<K, M>) -> bool
     ensures { result ≡ offer_beats M.before a.now b.now }
 {
     rank((a.source, a.metric), (b.source, b.metric)).is_lt()
 }
 
-/// The better of an offer and the one that is held, if there is one. Both stay where they lie.
+/// The better of an offer and the held one, if there is one. Nothing is copied.
 pub fn better_one<'a, K: Copy, M: Metric + Copy>(
     held: Option<&'a Offer<K, M>>,
     offer: &'a Offer<K, M>,
@@ -50,7 +50,7 @@ pub fn better_one<'a, K: Copy, M: Metric + Copy>(
     }
 }
 
-/// The first place whose key is not below this one. Each offer that is read halves what is left.
+/// The first index whose key is not below this one. Each offer that is read halves the range.
 fn first_of<K: Ord + Copy, M: Copy>(
     offer_store: &OfferStore<K, M>,
     key: K,
@@ -78,7 +78,7 @@ fn first_of<K: Ord + Copy, M: Copy>(
     low
 }
 
-/// The best of the offers of a key that count, and how many offers were read.
+/// The best valid offer of a key, and the number of offers that were read.
 pub fn best_in<K: Ord + Copy, M: Metric + Copy>(
     offer_store: &OfferStore<K, M>,
     key: K,

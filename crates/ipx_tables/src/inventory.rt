@@ -1,4 +1,4 @@
-//! Each offer, one after another.
+//! An iterator over all offers.
 
 ghost use Rattle.std.specs.Prelude.{◌≡◌};
 
@@ -6,7 +6,7 @@ use crate::offer::Offer;
 use crate::offer_store::OfferStore;
 use std::marker::Model;
 
-/// Each offer of a table, old ones too, by key, and those of a key by source. It takes no memory.
+/// All offers of a table, also old ones, by key and then by source. It allocates nothing.
 #[derive(Drop)]
 pub struct Inventory<'a, K: Ord + Copy, M: Copy> {
     offer_store: &'a OfferStore<K, M>,
@@ -22,7 +22,7 @@ impl<'a, K: Ord + Copy, M: Copy> Model for Inventory<'a, K, M> {
     ghost view = { λ i. drop i.at i.offer_store.now };
 }
 
-/// Each offer of the shelf.
+/// All offers of a store.
 pub fn offers_on<K: Ord + Copy, M: Copy>(offer_store: &OfferStore<K, M>) -> Inventory<'_, K, M>
     ensures { result ≡ offer_store.now }
 {

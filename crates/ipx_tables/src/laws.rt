@@ -1,4 +1,4 @@
-//! Laws of tables, which follow from what a table says.
+//! Laws of tables, which follow from their contracts.
 
 ghost use Rattle.std.specs.Prelude.{◌≡◌, ◌↔◌, ℕ, List, Some, None, length};
 ghost use Rattle.ipx_tables.specs.Order.{IsStrictTotal, TellsApart};
@@ -15,39 +15,39 @@ use crate::service::{ServiceKey, ServiceMetric};
 use crate::source::Source;
 use ipx_wire::Network;
 
-/// After any accepted calls of one table an offer stands just where it is the last word of its key
-/// and source: heard last, not dead, and found old by no later `age`.
+/// After any accepted calls of a table, it holds an offer exactly if that is the last word of its
+/// key and source. The offer was learned last, is not unreachable, and no later `age` found it old.
 pub fn last_word_stands<K: Ord + Copy, M: Metric + Copy>()
     ensures { (calls : List (Call K M)) (p : K × Source) (metric : M) (moment : ℕ)
         → (after_calls K.cmp M.dead (λ q. None) calls p ≡ Some (metric, moment))
         ↔ IsLastWord K.cmp M.dead calls p metric moment }
 {}
 
-/// No two sources tie.
+/// No two sources compare as equal.
 pub fn sources_are_apart()
     ensures { TellsApart source_cmp }
 {}
 
-/// Of two different offers of a key exactly one is better.
+/// Of two different offers of a key, exactly one is better.
 pub fn one_is_better<M: Metric + Copy>()
     ensures apart { TellsApart (rank_cmp M.before) }
     ensures strict { IsStrictTotal (is_better M.before) }
 {}
 
-/// A key has one best at most.
+/// A key has at most one best offer.
 pub fn one_best<K: Ord + Copy, M: Metric + Copy>()
     ensures { (c : Content K M) (key : K) (now : ℕ) (a b : Source × M)
         → IsBest M.before c key now a → IsBest M.before c key now b → a ≡ b }
 {}
 
-/// Where no two keys tie, what a table says has one listing.
+/// If no two keys compare as equal, a table has one listing.
 pub fn one_listing<K: Ord + Copy, M: Metric + Copy>()
     ensures { TellsApart K.cmp
         → (c : Content K M) (now : ℕ) (a b : List (K × Source × M))
         → IsListing K.cmp M.before c now a → IsListing K.cmp M.before c now b → a ≡ b }
 {}
 
-/// What a table says of routes has one listing.
+/// A table of routes has one listing.
 pub fn route_listing_is_one()
     ensures { (c : Content Network RouteMetric) (now : ℕ)
         (a b : List (Network × Source × RouteMetric))
@@ -58,7 +58,7 @@ pub fn route_listing_is_one()
     one_listing::<Network, RouteMetric>();
 }
 
-/// What a table says of services has one listing.
+/// A table of services has one listing.
 pub fn service_listing_is_one()
     ensures { (c : Content ServiceKey ServiceMetric) (now : ℕ)
         (a b : List (ServiceKey × Source × ServiceMetric))
@@ -69,7 +69,7 @@ pub fn service_listing_is_one()
     one_listing::<ServiceKey, ServiceMetric>();
 }
 
-/// How many offers a table holds follows from what it says.
+/// The number of offers of a table follows from what it says.
 pub fn content_counts<K: Ord + Copy, M: Metric + Copy>()
     ensures { (a b : Table K M) → IsTable K.cmp a → IsTable K.cmp b
         → ((p : K × Source) → content K.cmp a.offers p ≡ content K.cmp b.offers p)

@@ -1,10 +1,10 @@
-//! What a router heard from its neighbours: offers of a way to a key, how old they are, and which
-//! is the best.
+//! Tables of what a router learned from its neighbours: offers of a way to a key, their age, and
+//! the best of them.
 //!
-//! An *offer* here is a route or a service that a neighbour advertised; `offer` of `spx_link`
-//! queues units, and is another thing. [`route_table`] and [`service_table`] make a table,
-//! [`Offers::hear`] says what a neighbour says, [`Offers::best`] and [`Offers::list`] answer for a
-//! moment.
+//! An *offer* here is a route or a service that a neighbour advertised. (`offer` of `spx_link` is
+//! something else: it queues units.) [`route_table`] and [`service_table`] make a table.
+//! [`Offers::hear`] learns an offer. [`Offers::best`] and [`Offers::list`] give the best offers at
+//! a time.
 #![tactic(auto)]
 
 mod ageing;

@@ -1,4 +1,4 @@
-//! Marks of the slots in use, in the order of their moments.
+//! Marks of the slots in use, in the order of their times.
 
 ghost use Rattle.std.specs.Prelude.{◌≡◌, ℕ, ◌-◌, ◌≤◌, ◌<◌, ◌==◌, ◌∷◌, nat_le, true, false, not, length, map, take, IfNone, IfSome, slice_index_or};
 ghost use Rattle.std.specs.List.{All, AllWithin, filter, list_any};
@@ -11,14 +11,14 @@ ghost use Rattle.ipx_tables.specs.SlotOrder.{is_young_in};
 use crate::moments::{Timed, counts};
 use std::collections::VecDeque;
 
-/// The moment of what lies in a slot, or an earlier one, and the number of the slot.
+/// The number of a slot, and the time of the item in it, or an earlier time.
 #[derive(Clone, Copy, Debug)]
 pub struct Mark {
     pub moment: u64,
     pub place: u32,
 }
 
-/// Puts a mark behind those that are not later. There is room for it.
+/// Inserts a mark after those that are not later. There is space for it.
 pub fn put_mark(marks: &mut VecDeque<Mark>, mark: Mark)
     requires by_moment { AreByMoment marks.old.items }
     requires room { deque_len marks.old < deque_capacity marks.old }
@@ -34,7 +34,7 @@ pub fn put_mark(marks: &mut VecDeque<Mark>, mark: Mark)
     let _put = marks.insert(at, mark);
 }
 
-/// Whether no mark is later than a moment, as the last one shows.
+/// Whether no mark is later than this time. The last mark decides it.
 fn none_later(marks: &VecDeque<Mark>, moment: u64) -> bool
     ensures last { (d : Mark) → 0 < length marks.now.items → result
         ≡ nat_le (slice_index_or marks.now.items (length marks.now.items - 1) d).moment moment }
@@ -46,7 +46,7 @@ fn none_later(marks: &VecDeque<Mark>, moment: u64) -> bool
     }
 }
 
-/// Where the mark of a place stands.
+/// The index of the mark of a slot.
 fn place_of_mark(marks: &VecDeque<Mark>, place: u32) -> Option<usize>
     ensures there { IfSome result (λ i. i < length marks.now.items) }
     ensures is { IfSome result
@@ -57,7 +57,7 @@ fn place_of_mark(marks: &VecDeque<Mark>, place: u32) -> Option<usize>
     marks.iter().position(|mark| mark.place == place)
 }
 
-/// Takes the mark of a place out.
+/// Removes the mark of a slot.
 pub fn remove_expiry(marks: &mut VecDeque<Mark>, place: u32)
     requires { HaveOwnPlaces marks.old.items }
     ensures items { marks.new.items ≡ filter (λ m. not (m.place == place)) marks.old.items }
@@ -68,7 +68,7 @@ pub fn remove_expiry(marks: &mut VecDeque<Mark>, place: u32)
     }
 }
 
-/// How many marks are of moments that count no more. They are the first.
+/// The number of marks whose times are expired. They are the first ones.
 fn old_marks(marks: &VecDeque<Mark>, now: u64) -> usize
     requires { AreByMoment marks.now.items }
     ensures bound { result ≤ length marks.now.items }
@@ -79,7 +79,7 @@ fn old_marks(marks: &VecDeque<Mark>, now: u64) -> usize
     marks.partition_point(|mark| !counts(now, mark.moment))
 }
 
-/// Cuts off the marks whose moments count no more.
+/// Removes the marks whose times are expired.
 fn cut_off_old(marks: &mut VecDeque<Mark>, now: u64)
     requires { AreByMoment marks.old.items }
     ensures items { marks.new.items ≡ filter (λ m. is_young now m.moment) marks.old.items }
@@ -91,7 +91,7 @@ fn cut_off_old(marks: &mut VecDeque<Mark>, now: u64)
     marks.truncate(young);
 }
 
-/// Whether a mark is late.
+/// Whether a mark is late: its time is not that of the item in its slot.
 fn is_late<T: Timed + Copy>(slots: &[T], mark: Mark) -> bool
     ensures { result ≡ is_late_mark T.moment slots.now mark }
 {
@@ -101,7 +101,7 @@ fn is_late<T: Timed + Copy>(slots: &[T], mark: Mark) -> bool
     }
 }
 
-/// Whether some of the first marks is late.
+/// Whether one of the first `count` marks is late.
 fn any_late<T: Timed + Copy>(slots: &[T], marks: &VecDeque<Mark>, count: usize) -> bool
     requires { count ≤ length marks.now.items }
     ensures { result ≡ list_any (is_late_mark T.moment slots.now) (take count marks.now.items) }
@@ -109,7 +109,7 @@ fn any_late<T: Timed + Copy>(slots: &[T], marks: &VecDeque<Mark>, count: usize) 
     marks.range(..count).any(|mark| is_late(slots, *mark))
 }
 
-/// A mark with the moment of what lies in its slot.
+/// The mark, corrected to the time of the item in its slot.
 fn right<T: Timed + Copy>(slots: &[T], mark: Mark) -> Mark
     ensures { result ≡ right_mark T.moment slots.now mark }
 {
@@ -122,7 +122,7 @@ fn right<T: Timed + Copy>(slots: &[T], mark: Mark) -> Mark
     }
 }
 
-/// Gives each mark the moment of what lies in its slot.
+/// Corrects each mark to the time of the item in its slot.
 fn put_right<T: Timed + Copy>(marks: &mut [Mark], slots: &[T])
     ensures { marks.new ≡ map (right_mark T.moment slots.now) marks.old }
 {
@@ -131,7 +131,7 @@ fn put_right<T: Timed + Copy>(marks: &mut [Mark], slots: &[T])
     }
 }
 
-/// Puts all marks right together, and sorts them.
+/// Corrects all marks, and sorts them.
 fn settle_row<T: Timed + Copy>(marks: &mut [Mark], slots: &[T])
     requires { All (λ m. m.place < length slots.now) marks.old }
     ensures by_moment { AreByMoment marks.new }
@@ -142,7 +142,7 @@ fn settle_row<T: Timed + Copy>(marks: &mut [Mark], slots: &[T])
     marks.sort_unstable_by_key(|mark| mark.moment);
 }
 
-/// Puts all marks right together: each then has the moment of what lies in its slot.
+/// Corrects all marks, and sorts them.
 fn settle_all<T: Timed + Copy>(marks: &mut VecDeque<Mark>, slots: &[T])
     requires { All (λ m. m.place < length slots.now) marks.old.items }
     ensures by_moment { AreByMoment marks.new.items }
@@ -153,7 +153,7 @@ fn settle_all<T: Timed + Copy>(marks: &mut VecDeque<Mark>, slots: &[T])
     settle_row(marks.make_contiguous(), slots);
 }
 
-/// Puts all marks right, where the first one is late.
+/// If the first mark is late, corrects all marks.
 pub fn settle_first<T: Timed + Copy>(marks: &mut VecDeque<Mark>, slots: &[T])
     requires real { All (λ m. m.place < length slots.now) marks.old.items }
     requires by_moment { AreByMoment marks.old.items }
@@ -171,7 +171,7 @@ pub fn settle_first<T: Timed + Copy>(marks: &mut VecDeque<Mark>, slots: &[T])
     }
 }
 
-/// Puts all marks right, where one that is old is late.
+/// If one of the expired marks is late, corrects all marks.
 fn settle_old<T: Timed + Copy>(marks: &mut VecDeque<Mark>, slots: &[T], now: u64)
     requires real { All (λ m. m.place < length slots.now) marks.old.items }
     requires by_moment { AreByMoment marks.old.items }
@@ -189,7 +189,7 @@ fn settle_old<T: Timed + Copy>(marks: &mut VecDeque<Mark>, slots: &[T], now: u64
     }
 }
 
-/// Takes out the marks of what counts no more: those at the front, once none of them is late.
+/// Removes the marks of expired items. They are at the front, after late marks were corrected.
 pub fn remove_expired<T: Timed + Copy>(marks: &mut VecDeque<Mark>, slots: &[T], now: u64)
     requires real { All (λ m. m.place < length slots.now) marks.old.items }
     requires by_moment { AreByMoment marks.old.items }

@@ -3,22 +3,22 @@
 ghost use Rattle.std.specs.Prelude.{◌≡◌, Bool};
 ghost use Rattle.ipx_tables.specs.Order.{IsStrictTotal};
 
-/// How good an offer is: of any two that differ one is the better.
+/// How good an offer is. Of any two different metrics, one is better.
 pub trait Metric {
-    /// The first is the better one.
+    /// The first is better.
     ghost before: { Self → Self → Bool };
 
-    /// It stands for no way at all.
+    /// It means unreachable.
     ghost dead: { Self → Bool };
 
     /// The same with one hop more.
     ghost one_more: { Self → Self };
 
-    /// Whether this is the better one of the two.
+    /// Whether this one is better.
     fn before(&self, other: &Self) -> bool
         ensures { result ≡ before self.now other.now };
 
-    /// Whether it stands for no way at all: 16 hops or more.
+    /// Whether it means unreachable: 16 hops or more.
     fn dead(&self) -> bool
         ensures { result ≡ dead self.now };
 
@@ -26,6 +26,7 @@ pub trait Metric {
     fn one_more(&self) -> Self
         ensures { result ≡ one_more self.now };
 
-    /// Of two different metrics exactly one is the better, and better than better is better.
+    /// A strict total order: of two different metrics exactly one is better, and the order is
+    /// transitive.
     ghost strict: { IsStrictTotal before };
 }

@@ -1,29 +1,29 @@
-//! How long offers count.
+//! How long offers are valid.
 
 ghost use Rattle.std.specs.Prelude.{◌≡◌, ℕ, ◌+◌, ◌-◌, ◌^◌, min};
 ghost use Rattle.ipx_tables.specs.Content.{is_young};
 
-/// How long an offer counts after it was heard, in milliseconds.
+/// How long an offer is valid after it was learned, in milliseconds.
 const LIFE: u64 = 180_000;
 
-/// What was heard at a moment.
+/// Something with a time.
 pub trait Timed {
-    /// When that was.
+    /// Its time.
     ghost moment: { Self → ℕ };
 
-    /// When that was.
+    /// Its time.
     fn moment(&self) -> u64
         ensures { result ≡ moment self.now };
 }
 
-/// Whether an offer of this moment counts.
+/// Whether an offer that was learned at this time is valid.
 pub fn counts(now: u64, moment: u64) -> bool
     ensures { result ≡ is_young now moment }
 {
     now.saturating_sub(moment) < LIFE
 }
 
-/// The moment from which an offer of this moment counts no more.
+/// The time from which an offer that was learned at this time is expired.
 pub fn expiry(moment: u64) -> u64
     ensures { result ≡ min (moment + 180000) (2 ^ 64 - 1) }
 {

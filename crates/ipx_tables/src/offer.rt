@@ -3,7 +3,7 @@
 use crate::moments::Timed;
 use crate::source::Source;
 
-/// A way to a key, from whom and when it was heard last, and how good it is.
+/// A way to a key: from which source, how good it is, and when it was last learned.
 #[derive(Clone, Copy, Debug)]
 pub struct Offer<K, M> {
     pub key: K,

@@ -15,12 +15,12 @@ use std::alloc::{AllocError, Global};
 use std::cmp::Ordering;
 use std::marker::Model;
 
-/// Offers by key and source, no two of one key and source.
+/// Offers by key and source, with at most one for each key and source.
 #[derive(Drop)]
 pub struct OfferStore<K: Ord + Copy, M: Copy> {
     offers: SlotOrder<Offer<K, M>>,
-    /// The place behind the offer that was heard last, or where one was taken out: there the next one
-    /// is sought first.
+    /// The index after the offer that was learned last, or the index of a removed one. The next
+    /// search tries it first.
     next: usize,
 }
 
@@ -38,7 +38,7 @@ impl<K: Ord + Copy, M: Copy> Model for OfferStore<K, M> {
 }
 
 impl<K: Ord + Copy, M: Copy> OfferStore<K, M> {
-    /// No offers, and no memory yet.
+    /// No offers. It allocates nothing yet.
     pub fn new(alloc: Global) -> Self
         ensures { result ≡ [] }
     {
@@ -48,7 +48,7 @@ impl<K: Ord + Copy, M: Copy> OfferStore<K, M> {
         }
     }
 
-    /// How many offers there are.
+    /// The number of offers.
     pub fn len(&self) -> usize
         ensures len { result ≡ length self.now }
         ensures few { result < 2 ^ 63 }
@@ -57,7 +57,7 @@ impl<K: Ord + Copy, M: Copy> OfferStore<K, M> {
         self.offers.len()
     }
 
-    /// Reads an offer, and counts that it was read.
+    /// Reads an offer, and adds one to the number of offers that were read.
     #[inline]
     pub fn read(&self, at: usize, steps: &mut usize) -> &Offer<K, M>
         requires within { at < length self.now }
@@ -69,7 +69,7 @@ impl<K: Ord + Copy, M: Copy> OfferStore<K, M> {
         self.offers.get(at)
     }
 
-    /// An offer, for a walk: what is read so is not counted.
+    /// Reads an offer during a walk, without a count.
     #[inline]
     pub fn get(&self, at: usize) -> &Offer<K, M>
         requires { at < length self.now }
@@ -78,7 +78,7 @@ impl<K: Ord + Copy, M: Copy> OfferStore<K, M> {
         self.offers.get(at)
     }
 
-    /// Whether the offers at two places tie by key.
+    /// Whether the offers at two indices have equal keys.
     #[inline]
     pub fn tie(&self, a: usize, b: usize) -> bool
         requires first { a < length self.now }
@@ -90,7 +90,7 @@ impl<K: Ord + Copy, M: Copy> OfferStore<K, M> {
         key.cmp(&self.offers.get(b).key).is_eq()
     }
 
-    /// Where the offer of a key and a source is, or where it would go.
+    /// The index of the offer of a key and source, or the index where it would be inserted.
     pub fn place_of(&self, key: K, source: Source) -> Result<usize, usize>
         ensures found { IfOk result (IsAtKey (pair_cmp K.cmp) pair_of self.now (key, source)) }
         ensures absent { IfErr result (IsGapFor (pair_cmp K.cmp) pair_of self.now (key, source)) }
@@ -98,7 +98,7 @@ impl<K: Ord + Copy, M: Copy> OfferStore<K, M> {
         place_in(&self.offers, self.next, key, source)
     }
 
-    /// An offer that was heard first, and when that was.
+    /// The index of an offer that was learned first, and the time at which it was learned.
     pub fn oldest(&mut self) -> Option<(usize, u64)>
         ensures oldest { IfSome result (λ o. IsOldest self.old o.0 o.1) }
         ensures none { IfNone result (self.old ≡ []) }
@@ -111,7 +111,7 @@ impl<K: Ord + Copy, M: Copy> OfferStore<K, M> {
         Some((at, oldest.heard))
     }
 
-    /// Takes an offer out.
+    /// Removes an offer.
     pub fn take_out(&mut self, at: usize)
         requires { at < length self.old }
         ensures items { self.new ≡ remove self.old at }
@@ -121,14 +121,14 @@ impl<K: Ord + Copy, M: Copy> OfferStore<K, M> {
         self.next = at;
     }
 
-    /// Takes out each offer that counts no more at a moment.
+    /// Removes each offer that is expired at this time.
     pub fn expire(&mut self, now: u64)
         ensures { self.new ≡ filter (λ o. is_young now o.heard) self.old }
     {
         self.offers.expire(now);
     }
 
-    /// Puts an offer over the one of its key and source.
+    /// Replaces the offer of a key and source.
     pub fn replace(&mut self, at: usize, offer: Offer<K, M>)
         requires { IsAtKey (pair_cmp K.cmp) pair_of self.old (pair_of offer) at }
         ensures items { self.new ≡ slice_set self.old at offer }
@@ -138,7 +138,7 @@ impl<K: Ord + Copy, M: Copy> OfferStore<K, M> {
         self.next = at.saturating_add(1);
     }
 
-    /// Adds the offer of a new key and source. Room is taken before anything is changed.
+    /// Adds the offer of a new key and source. Memory is allocated before anything is changed.
     pub fn add(&mut self, at: usize, offer: Offer<K, M>) -> Result<(), AllocError>
         requires { IsGapFor (pair_cmp K.cmp) pair_of self.old (pair_of offer) at }
         ensures added { OnOk result (self.new ≡ insert self.old at offer) }
@@ -152,7 +152,7 @@ impl<K: Ord + Copy, M: Copy> OfferStore<K, M> {
     }
 }
 
-/// How an offer stands to a key and a source: by key, and where that ties by source.
+/// Compares an offer with a key and source: by key, and then by source.
 fn pair_order<K: Ord + Copy, M: Copy>(offer: &Offer<K, M>, key: &K, source: Source) -> Ordering
     ensures { result ≡ pair_cmp K.cmp (pair_of offer.now) (key.now, source) }
 {
@@ -162,8 +162,8 @@ fn pair_order<K: Ord + Copy, M: Copy>(offer: &Offer<K, M>, key: &K, source: Sour
     }
 }
 
-/// Where the offer of a key and a source is, or where it would go. One place is tried first, and then
-/// those on the side of it that is left.
+/// The index of the offer of a key and source, or the index where it would be inserted. One index
+/// is tried first, and then the side of it that remains is searched.
 fn place_in<K: Ord + Copy, M: Copy>(
     offers: &SlotOrder<Offer<K, M>>,
     first: usize,
@@ -186,8 +186,8 @@ fn place_in<K: Ord + Copy, M: Copy>(
     }
 }
 
-/// The same, where all before the places from `low` to `high` is below, all behind them above, and
-/// none of them is more likely than another.
+/// The same by binary search from `low` to `high`. All offers before that range are lower, and all
+/// after it are higher.
 fn search<K: Ord + Copy, M: Copy>(
     offers: &SlotOrder<Offer<K, M>>,
     mut low: usize,

@@ -21,13 +21,15 @@ use crate::walk::{Bests, bests_on};
 use std::alloc::Global;
 use std::marker::Model;
 
-/// What each neighbour said last of each key, for as long as it counts.
+/// A table of offers. It keeps the last offer of each neighbour for each key until the offer
+/// expires.
 ///
-/// Moments are milliseconds. They may go back: the time to an earlier moment is 0.
+/// Times are milliseconds. They may go back: an offer with a later time than `now` has age 0.
 #[derive(Drop)]
 pub struct Offers<K: Ord + Copy, M: Metric + Copy> {
     most: usize,
-    /// No offer is old before this moment. It may be too early, which costs a search for the oldest.
+    /// No offer expires before this time. It may be too early, which costs only a search for the
+    /// oldest offer.
     none_old_before: u64,
     offer_store: OfferStore<K, M>,
 }
@@ -45,7 +47,7 @@ impl<K: Ord + Copy, M: Metric + Copy> Model for Offers<K, M> {
 }
 
 impl<K: Ord + Copy, M: Metric + Copy> Offers<K, M> {
-    /// An empty table that may hold `most` offers. It takes no memory yet.
+    /// An empty table for at most `most` offers. It allocates nothing yet.
     pub fn new(alloc: Global, most: usize) -> Self
         ensures most { result.most ≡ most }
         ensures empty { result.offers ≡ [] }
@@ -57,11 +59,11 @@ impl<K: Ord + Copy, M: Metric + Copy> Offers<K, M> {
         }
     }
 
-    /// Replaces the offer of this key and source. A dead metric takes it out.
+    /// Learns an offer: it replaces the last one of this key and source. A dead metric removes it.
     ///
-    /// Only a new key and source can be refused: `Full` where the table holds as many offers as it
-    /// may, `OutOfMemory` where it could not grow. A refusal leaves the table as it was. Where keys
-    /// differ and yet tie in their order, the table keeps the one heard last.
+    /// Only a new key and source can be refused: `Full` if the table already has `most` offers,
+    /// `OutOfMemory` if it could not grow. A refusal leaves the table as it was. If keys differ but
+    /// compare as equal, the table keeps the one learned last.
     pub fn hear(
         &mut self,
         _alloc: Global,
@@ -90,7 +92,7 @@ impl<K: Ord + Copy, M: Metric + Copy> Offers<K, M> {
         ensures no_memory_if_there { IsSome (content K.cmp self.old.offers (key, source))
             → IsOk result }
 
-        // How many offers there are then.
+        // The number of offers after the call.
         ensures many { OnOk result
             (length self.new.offers
             + (if is_some (content K.cmp self.old.offers (key, source)) then 1 else 0)
@@ -123,9 +125,9 @@ impl<K: Ord + Copy, M: Metric + Copy> Offers<K, M> {
         }
     }
 
-    /// Takes out for good each offer that was heard three minutes ago or earlier.
+    /// Removes each offer that was learned three minutes ago or earlier.
     ///
-    /// Mostly none is that old, and one comparison shows it.
+    /// Usually no offer is that old, and one comparison shows it.
     #[inline]
     pub fn age(&mut self, now: u64)
         ensures aged { (p : K × Source) → content K.cmp self.new.offers p
@@ -145,7 +147,7 @@ impl<K: Ord + Copy, M: Metric + Copy> Offers<K, M> {
         self.none_old_before = expire(&mut self.offer_store, now);
     }
 
-    /// The best of the offers of this key that count: those heard less than three minutes ago.
+    /// The best valid offer of this key. An offer is valid for less than three minutes.
     pub fn best(&self, key: &K, now: u64) -> Option<(Source, M)>
         ensures least { IfSome result
             (IsBest M.before (content K.cmp self.now.offers) key.now now) }
@@ -155,15 +157,16 @@ impl<K: Ord + Copy, M: Metric + Copy> Offers<K, M> {
         self.best_steps(key, now).0
     }
 
-    /// The best, and how many offers were read to find it: those of the key, at most one more, and
-    /// at most one for each binary digit of how many offers there are.
+    /// The best offer, and the number of offers that were read to find it. That is each offer of
+    /// the key, at most one more, and at most one for each binary digit of the number of offers in
+    /// the table.
     pub fn best_steps(&self, key: &K, now: u64) -> (Option<(Source, M)>, usize)
         ensures least { IfSome result.0
             (IsBest M.before (content K.cmp self.now.offers) key.now now) }
         ensures none { IfNone result.0 (NoneCounts (content K.cmp self.now.offers) key.now now) }
         ensures steps { (digits : ℕ) → length self.now.offers < 2 ^ digits
             → result.1 ≤ count_by (λ o. is_eq (K.cmp o.key key.now)) self.now.offers + 1 + digits }
-        // No offer of the key is passed over.
+        // Each offer of the key is read.
         ensures all_read { count_by (λ o. is_eq (K.cmp o.key key.now)) self.now.offers ≤ result.1 }
         ensures valid { IsTable K.cmp self.now }
     {
@@ -174,7 +177,8 @@ impl<K: Ord + Copy, M: Metric + Copy> Offers<K, M> {
         }
     }
 
-    /// Walks over each key that has a best, with its best, by key. It takes no memory.
+    /// Iterates over the keys that have a valid offer, in order, each with its best one. It
+    /// allocates nothing.
     pub fn bests(&self, now: u64) -> Bests<'_, K, M>
         ensures listed { IsListing K.cmp M.before (content K.cmp self.now.offers) now result }
         ensures keys { All
@@ -187,8 +191,7 @@ impl<K: Ord + Copy, M: Metric + Copy> Offers<K, M> {
         bests_on(&self.offer_store, now)
     }
 
-    /// Walks over each offer, old ones too, by key, and those of a key by source: what was heard, of
-    /// whom and when. It takes no memory.
+    /// Iterates over all offers, also old ones, by key and then by source. It allocates nothing.
     pub fn offers(&self) -> Inventory<'_, K, M>
         ensures inventory { IsInventory K.cmp (content K.cmp self.now.offers) result }
         ensures keys { All (λ o. heard_key K.cmp self.now.offers (pair_of o) ≡ Some o.key) result }
@@ -198,7 +201,8 @@ impl<K: Ord + Copy, M: Metric + Copy> Offers<K, M> {
         offers_on(&self.offer_store)
     }
 
-    /// Each key that has a best, with its best, by key. Its only fault is `OutOfMemory`.
+    /// The keys that have a valid offer, in order, each with its best one. It only fails with
+    /// `OutOfMemory`.
     pub fn list(&self, alloc: Global, now: u64) -> Result<Vec<(K, Source, M)>, TableFault>
         ensures listed { IfOk result
             (λ v. IsListing K.cmp M.before (content K.cmp self.now.offers) now v.items) }
@@ -219,7 +223,7 @@ impl<K: Ord + Copy, M: Metric + Copy> Offers<K, M> {
     }
 }
 
-/// An empty list, with room for so many items where as much memory is given at once.
+/// An empty list, with space for so many items if that much memory is available at once.
 fn with_room<T>(alloc: Global, count: usize) -> Vec<T>
     ensures { result.items ≡ [] }
 {

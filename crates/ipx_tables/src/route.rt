@@ -8,7 +8,7 @@ use crate::offers::Offers;
 use ipx_wire::Network;
 use std::alloc::Global;
 
-/// How far a network is: by ticks of 1/18 second, and then by the routers on the way.
+/// The distance to a network: ticks of 1/18 second first, then the number of routers on the way.
 #[derive(Clone, Copy, Debug, PartialEq, Eq, PartialOrd, Ord)]
 pub struct RouteMetric {
     pub ticks: u16,
@@ -42,13 +42,13 @@ impl Metric for RouteMetric {
     }
 }
 
-/// The routes that were heard, by network.
+/// The learned routes, by network.
 pub type RouteTable = Offers<Network, RouteMetric>;
 
-/// How many offers of routes a router holds.
+/// The most offers of routes that a router holds.
 pub const MAX_ROUTES: usize = 1024;
 
-/// No routes yet, and room for `MAX_ROUTES` offers.
+/// An empty table for `MAX_ROUTES` offers.
 pub fn route_table(alloc: Global) -> RouteTable
     ensures most { result.most ≡ 1024 }
     ensures empty { result.offers ≡ [] }

@@ -1,4 +1,4 @@
-//! Services and where they are.
+//! Services and their addresses.
 
 ghost use Rattle.std.specs.Prelude.{◌≡◌, ◌+◌, [], min};
 ghost use Rattle.std.proofs.Common.{rules};
@@ -15,7 +15,7 @@ use ipx_wire::Address;
 use std::alloc::Global;
 use std::cmp::Ordering;
 
-/// What a service is called: its type, and all 48 bytes of its name.
+/// The name of a service: its type, and all 48 bytes of its name.
 #[derive(Clone, Copy, Debug, PartialEq, Eq)]
 pub struct ServiceKey {
     pub kind: u16,
@@ -51,7 +51,7 @@ impl PartialOrd for ServiceKey {
     }
 }
 
-/// How far a service is, and then where.
+/// The distance to a service, and its address.
 #[derive(Clone, Copy, Debug, PartialEq, Eq, PartialOrd, Ord)]
 pub struct ServiceMetric {
     pub hops: u16,
@@ -85,13 +85,13 @@ impl Metric for ServiceMetric {
     }
 }
 
-/// The services that were heard, by type and name.
+/// The learned services, by type and name.
 pub type ServiceTable = Offers<ServiceKey, ServiceMetric>;
 
-/// How many offers of services a router holds.
+/// The most offers of services that a router holds.
 pub const MAX_SERVICES: usize = 4096;
 
-/// No services yet, and room for `MAX_SERVICES` offers.
+/// An empty table for `MAX_SERVICES` offers.
 pub fn service_table(alloc: Global) -> ServiceTable
     ensures most { result.most ≡ 4096 }
     ensures empty { result.offers ≡ [] }

@@ -1,4 +1,4 @@
-//! Items in an order that lie still: the numbers of their slots move.
+//! An ordered list whose items stay in their slots: only the slot numbers move.
 
 ghost use Rattle.std.specs.Prelude.{◌≡◌, ℕ, ◌+◌, ◌≤◌, ◌<◌, ◌^◌, ◌++◌, [], not, length, IfNone, IfSome, OnOk, insert, remove, slice_index_or, slice_set};
 ghost use Rattle.std.specs.List.{filter};
@@ -13,16 +13,16 @@ use std::alloc::{AllocError, Global};
 use std::collections::VecDeque;
 use std::marker::Model;
 
-/// Items in an order. Each lies in a slot, and stays there while others come and go.
+/// Items in order. Each stays in its slot while others are inserted and removed.
 #[derive(Drop)]
 pub struct SlotOrder<T: Timed + Copy> {
     slots: Vec<T>,
     /// The numbers of the slots in use, in the order of the items.
     used: Vec<u32>,
-    /// The numbers of the other slots. There is room for all, so that none is lost.
+    /// The numbers of the free slots. There is space for all numbers, so none can be lost.
     free: Vec<u32>,
-    /// A mark of each slot in use, by the moment. An item of a later moment leaves its mark where it
-    /// is: ageing puts it right.
+    /// A mark for each slot in use, by time. If an item gets a later time, its mark stays where it
+    /// is, and is corrected when offers expire.
     marks: VecDeque<Mark>,
 }
 
@@ -46,7 +46,7 @@ impl<T: Timed + Copy> Model for SlotOrder<T> {
 }
 
 impl<T: Timed + Copy> SlotOrder<T> {
-    /// No items, and no memory yet.
+    /// An empty list. It allocates nothing yet.
     pub fn new(alloc: Global) -> Self
         ensures { result.items ≡ [] }
     {
@@ -58,7 +58,7 @@ impl<T: Timed + Copy> SlotOrder<T> {
         }
     }
 
-    /// How many items there are.
+    /// The number of items.
     #[inline]
     pub fn len(&self) -> usize
         ensures len { result ≡ length self.now.items }
@@ -67,7 +67,7 @@ impl<T: Timed + Copy> SlotOrder<T> {
         self.used.len()
     }
 
-    /// An item.
+    /// The item at an index.
     #[inline]
     pub fn get(&self, at: usize) -> &T
         requires { at < length self.now.items }
@@ -76,7 +76,7 @@ impl<T: Timed + Copy> SlotOrder<T> {
         &self.slots[self.used[at] as usize]
     }
 
-    /// Puts an item over another. Its mark stays, unless it would be later than the item.
+    /// Replaces the item at an index. Its mark stays, unless it would be later than the item.
     pub fn set(&mut self, at: usize, item: T)
         requires { at < length self.old.items }
         ensures items { self.new.items ≡ slice_set self.old.items at item }
@@ -98,7 +98,7 @@ impl<T: Timed + Copy> SlotOrder<T> {
         }
     }
 
-    /// Makes a slot, where none is free. What lies in it until it is used does not matter.
+    /// Makes a free slot if there is none. The content of a free slot does not matter.
     pub fn make_room(&mut self, item: T) -> Result<(), AllocError>
         ensures items { self.new.items ≡ self.old.items }
         ensures room { OnOk result (length self.new.items < self.new.room) }
@@ -117,7 +117,7 @@ impl<T: Timed + Copy> SlotOrder<T> {
         Ok(())
     }
 
-    /// Puts an item in, for which there is room.
+    /// Inserts an item. There is a free slot for it.
     pub fn insert(&mut self, at: usize, item: T)
         requires within { at ≤ length self.old.items }
         requires room { length self.old.items < self.old.room }
@@ -137,7 +137,7 @@ impl<T: Timed + Copy> SlotOrder<T> {
         }
     }
 
-    /// Takes an item out, and frees its slot.
+    /// Removes an item, and frees its slot.
     pub fn take_out(&mut self, at: usize) -> T
         requires { at < length self.old.items }
         ensures item { result ≡ slice_index_or self.old.items at result }
@@ -151,7 +151,7 @@ impl<T: Timed + Copy> SlotOrder<T> {
         self.slots[number as usize]
     }
 
-    /// An item of the earliest moment.
+    /// An item with the earliest time.
     pub fn oldest(&mut self) -> Option<T>
         ensures oldest { IfSome result (IsEarliest T.moment self.old.items) }
         ensures none { IfNone result (self.old.items ≡ []) }
@@ -162,7 +162,7 @@ impl<T: Timed + Copy> SlotOrder<T> {
         Some(self.slots[mark.place as usize])
     }
 
-    /// Takes out each item that counts no more at a moment.
+    /// Removes each item that is expired at this time.
     pub fn expire(&mut self, now: u64)
         ensures items { self.new.items ≡ filter (λ x. is_young now (T.moment x)) self.old.items }
         ensures room { self.new.room ≡ self.old.room }
@@ -173,7 +173,7 @@ impl<T: Timed + Copy> SlotOrder<T> {
     }
 }
 
-/// Whether what lies in a slot counts.
+/// Whether the item in a slot is valid.
 fn counts_in<T: Timed + Copy>(slots: &[T], number: u32, now: u64) -> bool
     ensures { result ≡ is_young_in T.moment now slots.now number }
 {
@@ -183,7 +183,7 @@ fn counts_in<T: Timed + Copy>(slots: &[T], number: u32, now: u64) -> bool
     }
 }
 
-/// Frees the slots of what counts no more.
+/// Frees the slots of expired items.
 fn free_old<T: Timed + Copy>(slots: &[T], used: &[u32], free: &mut Vec<u32>, now: u64)
     requires { length used.now + vec_len free.old ≤ vec_capacity free.old }
     ensures items { free.new.items
@@ -197,7 +197,7 @@ fn free_old<T: Timed + Copy>(slots: &[T], used: &[u32], free: &mut Vec<u32>, now
     }
 }
 
-/// Leaves the slots of what counts in use.
+/// Keeps the slots of valid items in use.
 fn use_young<T: Timed + Copy>(slots: &[T], used: &mut Vec<u32>, now: u64)
     ensures items { used.new.items ≡ filter (is_young_in T.moment now slots.now) used.old.items }
     ensures capacity { vec_capacity used.new ≡ vec_capacity used.old }

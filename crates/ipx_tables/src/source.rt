@@ -1,4 +1,4 @@
-//! Whom an offer came from.
+//! The source of an offer.
 
 ghost use Rattle.std.proofs.Common.{rules};
 ghost use Rattle.std.specs.Cmp.{partial_order_from_own_ties};
@@ -10,7 +10,7 @@ use crate::by_number::node_order;
 use ipx_wire::Node;
 use std::cmp::Ordering;
 
-/// The router that made an offer, and the port at which it was heard. Ports are numbered from 1.
+/// The router that made an offer, and the port on which it arrived. Ports are numbered from 1.
 #[derive(Clone, Copy, Debug, PartialEq, Eq)]
 pub struct Source {
     pub port: u8,

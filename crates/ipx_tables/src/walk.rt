@@ -1,4 +1,4 @@
-//! The best of each key, one after another.
+//! An iterator over the best offer of each key.
 
 ghost use Rattle.std.specs.Prelude.{◌≡◌, ◌+◌, ◌^◌, ◌<◌, ◌∷◌, [], true, false, not, OnSome, drop, IfSome, IfNone, MatchOption, option_copied};
 ghost use Rattle.std.specs.Ordering.{is_eq};
@@ -12,7 +12,7 @@ use crate::offer_store::OfferStore;
 use crate::source::Source;
 use std::marker::Model;
 
-/// Each key that has a best, with its best, by key. It takes no memory.
+/// The keys that have a valid offer, in order, each with its best one. It allocates nothing.
 #[derive(Drop)]
 pub struct Bests<'a, K: Ord + Copy, M: Metric + Copy> {
     offer_store: &'a OfferStore<K, M>,
@@ -30,7 +30,7 @@ impl<'a, K: Ord + Copy, M: Metric + Copy> Model for Bests<'a, K, M> {
     ghost view = { λ b. bests_of K.cmp M.before b.now (drop b.at b.offer_store.now) };
 }
 
-/// The best of each key of the shelf.
+/// The best offer of each key of a store.
 pub fn bests_on<K: Ord + Copy, M: Metric + Copy>(
     offer_store: &OfferStore<K, M>,
     now: u64,
@@ -65,7 +65,7 @@ impl<'a, K: Ord + Copy, M: Metric + Copy> Iterator for Bests<'a, K, M> {
     }
 }
 
-/// Whether the offer at a place counts, and the next one is of another key.
+/// Whether the offer at an index is valid, and the next one has another key.
 #[inline]
 fn is_lone<K: Ord + Copy, M: Copy>(offer_store: &OfferStore<K, M>, at: usize, now: u64) -> bool
     ensures { result ≡ true → IsLone K.cmp now offer_store.now at }
@@ -77,8 +77,8 @@ fn is_lone<K: Ord + Copy, M: Copy>(offer_store: &OfferStore<K, M>, at: usize, no
     at + 1 == end || !offer_store.tie(at, at + 1)
 }
 
-/// The offer at a place, if it counts and the next one is of another key: mostly a key has one
-/// offer, and then nothing else is looked at.
+/// The offer at an index, if it is valid and the next one has another key. Usually a key has one
+/// offer, and then no other is read.
 #[inline]
 fn lone_at<K: Ord + Copy, M: Metric + Copy>(
     offer_store: &OfferStore<K, M>,
@@ -96,7 +96,7 @@ fn lone_at<K: Ord + Copy, M: Metric + Copy>(
     None
 }
 
-/// Whether an offer is held, and this key is another than its.
+/// Whether an offer is held, and it has another key than this.
 fn is_past<K: Ord + Copy, M: Copy>(held: Option<&Offer<K, M>>, key: K) -> bool
     ensures { MatchOption (option_copied held.entry) (result ≡ false) (λ h. is_eq (K.cmp h.key key) ≡ not result) }
 {
@@ -106,9 +106,9 @@ fn is_past<K: Ord + Copy, M: Copy>(held: Option<&Offer<K, M>>, key: K) -> bool
     }
 }
 
-/// The best offer of the first key that has one, from a place on, and a place behind the offers of
-/// that key.
-#[inline(never)] // so that a walk over lone offers has only these in line
+/// The best offer of the first key that has a valid one, from an index on. The second result is an
+/// index after the offers of that key.
+#[inline(never)] // keeps the loop over single offers small
 fn next_best<K: Ord + Copy, M: Metric + Copy>(
     offer_store: &OfferStore<K, M>,
     from: usize,

@@ -1,4 +1,4 @@
--- The words of a list, behind its first, and how many there may be.
+-- The words of a list after its first, and how many there may be.
 use Rattle.std.proofs.Common.{◌≡◌, ◌≢◌, ◌≤◌, ◌<◌, ℕ, true, false, inl, inr, List, [], ◌∷◌, length, map, drop, get_or, length-drop, Option, arith, ap, sym, subst, ◌∙◌}
 use Rattle.std.proofs.lemmas.List.{length-map}
 use Rattle.ipx_tool.specs.declared.words.Task.{Task}

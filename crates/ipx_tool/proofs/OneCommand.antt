@@ -27,7 +27,7 @@ name (ServicesOf file kind json) = codes "services"
 name (Ping file target) = codes "ping"
 name (PingTimes file target count) = codes "ping"
 
--- the first three letters tell the names apart
+-- the first three letters distinguish the names
 abbrev mark : List ℕ → ℕ
 mark word = (get_or word 0 0 * 256 + get_or word 1 0) * 256 + get_or word 2 0
 

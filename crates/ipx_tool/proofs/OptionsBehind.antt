@@ -1,11 +1,11 @@
--- Options that stand before the word of a file or behind it.
+-- Options before or after the word of a file.
 use Rattle.std.proofs.Common.{◌≡◌, ℕ, true, false, inl, inr, List, [], ◌∷◌, get_or, Option, Some, None, codes, ap, sym, subst}
 use Rattle.ipx_tool.specs.declared.words.Task.{Task}
 use Rattle.ipx_tool.specs.declared.words.Task.TheVariants.{ShowFrames, Udp, CheckSite, Listen, CheckHost, Networks, Services, ServicesOf}
 use Rattle.ipx_tool.specs.Words.{AsksFor, Finds, WritesNumber}
 use Rattle.ipx_tool.proofs.WordsApart.{check_or_frame, check_or_json, frame_or_json, not_check, not_check_node, not_json, not_json_node, not_once, not_once_node, not_plain, once_or_check, once_or_frame, once_or_json, port_or_check, port_or_json, port_or_once, second, third}
 
--- before the word or behind it `--once` asks for the same
+-- before or after the word `--once` asks for the same
 pub behind : (command file : List ℕ) (task : Task) → AsksFor (command ∷ codes "--once" ∷ file ∷ []) task
     → AsksFor (command ∷ file ∷ codes "--once" ∷ []) task
 behind command file (Udp port) (inl asks) = absurd (cc)

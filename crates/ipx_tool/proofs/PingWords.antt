@@ -20,7 +20,7 @@ plain_front : (front back : List (List ℕ)) → ArePlain (front ++ back) → Ar
 plain_front [] back plain = tt
 plain_front (w ∷ front) back plain = (plain.0, plain_front front back plain.1)
 
--- a word stands at one place alone, where none before it is that word
+-- the place of a word is unique if no word before it is the same
 same_place : (o t u : List ℕ) (xs ys vs ws : List (List ℕ)) → Without o xs → Without o vs → xs ++ o ∷ t ∷ ys ≡ vs ++ o ∷ u ∷ ws
     → (xs ≡ vs) × (t ≡ u) × (ys ≡ ws)
 same_place o t u [] ys [] ws none free e = (refl, second e, ap (drop 2) e)
@@ -90,7 +90,7 @@ long_timed words _ many asks = absurd asks
 timed : (words : List (List ℕ)) (task : Task) → 6 ≤ length words → AsksFor words task → IsTimed words task
 timed words task many asks = long_timed words task many (long words task (omega (arith, many)) asks)
 
--- of five words that ask for anything, those behind the command are no options
+-- if five words ask for anything, those after the command are no options
 plain_long : (command file : List ℕ) (to : Target) (task : Task) → IsLong (command ∷ file ∷ target_words to) task → IsPlain file × ArePlain (target_words to)
 plain_long command file to (Send other another) (e, p, q, r, s) =
     (subst IsPlain (sym (second e)) p, (subst IsPlain (sym (third e)) q, (subst IsPlain (sym (fourth e)) r, (subst IsPlain (sym (fifth e)) s, tt))))
@@ -101,7 +101,7 @@ plain_long command file to _ asks = absurd asks
 pub plain_dialing : (command file : List ℕ) (to : Target) (task : Task) → AsksFor (command ∷ file ∷ target_words to) task → IsPlain file × ArePlain (target_words to)
 plain_dialing command file to task asks = plain_long command file to task (long (command ∷ file ∷ target_words to) task (omega arith) asks)
 
--- a number somewhere among the words of a file and a target, where `-c` stands nowhere before
+-- a number somewhere among the words of a file and a target, with no `-c` before it
 module _ (command a b c d e f text : List ℕ) (front back others : List (List ℕ)) where
   abbrev pub six : List (List ℕ)
   six = a ∷ b ∷ c ∷ d ∷ e ∷ f ∷ []

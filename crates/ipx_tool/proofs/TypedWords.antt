@@ -51,7 +51,7 @@ pub found_typed : (command file kind : List ℕ) (found : Option Task) → NoOpt
 found_typed command file kind None options none = λ task asks. none task (typed command file kind task options asks)
 found_typed command file kind (Some task) options is = of_type command file kind task is
 
--- three words behind a command ask for the services of a type alone
+-- three words after a command ask only for the services of a type
 abbrev IsTyped : List (List ℕ) → Task → Type 0
 IsTyped words (ServicesOf file kind true) = AreTypeWords words (codes "services") file.now kind.now true
     × IsPlain file.now × IsPlain kind.now

@@ -42,7 +42,7 @@ check_or_json e = omega (arith, ap (λ (word : List ℕ). get_or word 2 0) e)
 pub frame_or_json : codes "--frame" ≡ codes "--json" → ⊥
 frame_or_json e = omega (arith, ap (λ (word : List ℕ). get_or word 2 0) e)
 
--- the first of some words, and those behind it
+-- the first of some words, and those after it
 pub first : {words same : List (List ℕ)} → words ≡ same → get_or words 0 [] ≡ get_or same 0 []
 first e = ap (λ (ws : List (List ℕ)). get_or ws 0 []) e
 

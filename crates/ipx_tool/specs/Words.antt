@@ -12,7 +12,7 @@ use Rattle.ipx_tool.specs.declared.words.Task.TheVariants.{Hop, Show, ShowFrames
 abbrev pub IsPlain : List ℕ → Type 0
 IsPlain word = starts_with nat_eq word (codes "-") ≡ false
 
--- a text writes a number from 1 to 65,535: decimal digits, maybe behind a `+`
+-- a text gives a number from 1 to 65,535: decimal digits, optionally after a `+`
 abbrev pub WritesNumber : List ℕ → ℕ → Type 0
 WritesNumber text number = IsNumeral 10 (without_leading_plus text)
     × (digits_value 10 (without_leading_plus text) ≡ number) × (1 ≤ number) × (number ≤ 65535)
@@ -25,25 +25,23 @@ ArePlain (word ∷ words) = IsPlain word × ArePlain words
 abbrev pub target_words : Target → List (List ℕ)
 target_words to = to.network.now ∷ to.node.now ∷ to.socket.now ∷ []
 
--- among other words stand an option and the word that belongs to it, one behind the other
+-- among other words are an option and its value, next to each other
 abbrev pub StandsAmong : List ℕ → List ℕ → List (List ℕ) → List (List ℕ) → Type 0
 StandsAmong option value others words = (front : List (List ℕ)) × (back : List (List ℕ))
     × (others ≡ front ++ back) × (words ≡ front ++ option ∷ value ∷ back)
 
--- a command, a file and a type, with `--json` before, between or behind these two, or not at all
+-- a command, a file and a type, with `--json` before, between or after these two, or without it
 abbrev pub AreTypeWords : List (List ℕ) → List ℕ → List ℕ → List ℕ → Bool → Type 0
 AreTypeWords words command file kind false = words ≡ command ∷ file ∷ kind ∷ []
 AreTypeWords words command file kind true = (words ≡ command ∷ codes "--json" ∷ file ∷ kind ∷ [])
     ⊎ ((words ≡ command ∷ file ∷ codes "--json" ∷ kind ∷ [])
     ⊎ (words ≡ command ∷ file ∷ kind ∷ codes "--json" ∷ []))
 
--- the words behind the program's own name ask for this command. `udp` stands alone, and the port is
--- the usual one then, or before `--port` and a text that writes the port, in two words or joined by `=`; so `show`
--- stands before `--frame` and a text that spells a node. `listen`
--- has `--once` before or behind its file, or not at all; `route` and `listen` with `--check` there
--- only check the file; `networks` and `services` have `--json` anywhere behind them, or not at all, and
--- `ping` so has `-c` and a text that writes how many requests. A packet, a file, a type and the three
--- words of a target are no options
+-- the words after the program's own name ask for this command. `udp` alone means the default port. Otherwise
+-- `--port` and the port follow it, in two words or joined by `=`. In the same way `--frame` and a node follow
+-- `show`. `listen` may have `--once` before or after its file. With `--check` there, `route` and `listen`
+-- only check the file. `networks` and `services` may have `--json` anywhere after them, and `ping` may have
+-- `-c` and the number of requests. A packet, a file, a type and the three words of a target are no options
 abbrev pub AsksFor : List (List ℕ) → Task → Type 0
 AsksFor words Hop = words ≡ codes "hop" ∷ []
 AsksFor words (Show packet) = (words ≡ codes "show" ∷ packet.now ∷ []) × IsPlain packet.now
@@ -81,13 +79,13 @@ AsksFor words (PingTimes file target count) = (a : List ℕ) × (b : List ℕ) �
     × StandsAmong (codes "-c") text (file.now ∷ target_words target) (a ∷ b ∷ c ∷ d ∷ e ∷ f ∷ [])
     × ArePlain (file.now ∷ target_words target)
 
--- what is found is so, and where nothing is found nothing is so
+-- what is found satisfies it; if nothing is found, nothing satisfies it
 abbrev pub Finds : {A : Type 0} → (A → Type 0) → Option A → Type 0
 Finds {A} IsSo found = MatchOption found ((a : A) → IsSo a → ⊥) IsSo
 
 -- ---- two commands that words may ask for
 
--- the same command, of the same words, wherever these lie in memory
+-- the same command with the same words, wherever these are stored in memory
 abbrev pub IsSame : Task → Task → Type 0
 IsSame Hop Hop = Unit {0}
 IsSame (Show packet) (Show other) = packet.now ≡ other.now
@@ -112,7 +110,7 @@ IsSame (PingTimes file target count) (PingTimes other another again) = (file.now
     × (target_words target ≡ target_words another) × (count ≡ again)
 IsSame task other = ⊥
 
--- words ask for one command at most
+-- words ask for at most one command
 abbrev pub AskForOne : Type 0
 AskForOne = (words : List (List ℕ)) (task other : Task) → AsksFor words task → AsksFor words other → IsSame task other
 
@@ -124,7 +122,7 @@ IsOfType command file kind json (ServicesOf other another too) = (command ≡ co
     × (other.now ≡ file) × (another.now ≡ kind) × (too ≡ json) × IsPlain file × IsPlain kind
 IsOfType command file kind json task = ⊥
 
--- ---- a host that pings by so many requests as a text says
+-- ---- a host that pings, with the number of requests that a text gives
 
 -- a command, a file with a target, and that text ask for it
 abbrev pub IsPingTimes : List ℕ → List (List ℕ) → List ℕ → Task → Type 0

@@ -1,22 +1,22 @@
-//! The commands of the program, each once: its name, its words and options, and what is said of it.
+//! The commands of the program, each with its name, its words, its options and its help texts.
 
 use crate::texts;
 
-/// A word that a command wants, under the name that its help gives it.
+/// A positional word of a command, with the name that its help uses.
 pub struct WordShape {
     pub name: &'static str,
     pub help: &'static str,
-    /// The option that stands in place of it.
+    /// The option that replaces it.
     pub unless: Option<&'static str>,
-    /// Whether it is wanted where that does not stand.
+    /// Whether it is required without that option.
     pub wanted: bool,
 }
 
-/// What stands behind an option.
+/// The value that follows an option.
 #[derive(Clone, Copy, PartialEq, Eq)]
 pub enum OptionValue {
     Nothing,
-    /// A port of UDP, which the help calls `P`.
+    /// A UDP port, which the help calls `P`.
     Port,
     /// The address of a station.
     Node,
@@ -24,15 +24,15 @@ pub enum OptionValue {
     Count,
 }
 
-/// An option of a command, by its word without the dashes before it: one, where it is one letter,
-/// and else two. Of the options of a command one at most is given.
+/// An option of a command, by its word without dashes: one dash for a single letter, and two
+/// otherwise. At most one of a command's options may be given.
 pub struct OptionShape {
     pub name: &'static str,
     pub value: OptionValue,
     pub help: &'static str,
 }
 
-/// A command. The words of it that are wanted stand before one that may be left out.
+/// A command. Its required words come before an optional one.
 pub struct CommandShape {
     pub name: &'static str,
     pub about: &'static str,
@@ -65,12 +65,12 @@ pub const SERVICES: &str = "services";
 pub const PING: &str = "ping";
 
 pub const PORT_OPTION: &str = "--port";
-/// What stands before a port in one word with it.
+/// The option and `=`, for a port in the same word.
 pub const PORT_IS: &str = "--port=";
 
 pub const FRAME_OPTION: &str = "--frame";
 
-/// What stands before a station in one word with it.
+/// The option and `=`, for a station in the same word.
 pub const FRAME_IS: &str = "--frame=";
 
 pub const ONCE_OPTION: &str = "--once";
@@ -264,7 +264,7 @@ const PING_SHAPE: &CommandShape = &CommandShape {
     }],
 };
 
-/// All commands, in the order in which the help tells them.
+/// All commands, in the order of the help.
 pub fn shapes() -> [&'static CommandShape; 11] {
     [
         HOP_SHAPE,

@@ -1,4 +1,4 @@
-//! What `clap` is told of the commands.
+//! Describes the commands to `clap`.
 
 use crate::commands::{CommandShape, OptionShape, OptionValue, WordShape, shapes};
 use crate::texts::{ABOUT, STATUSES};
@@ -35,7 +35,7 @@ fn option_arg<'a>(alloc: Global, option: &OptionShape) -> Arg<'a> {
     }
 }
 
-/// An option that none of these stands beside.
+/// An option that cannot be given together with any of the others.
 fn option_alone<'a>(
     alloc: Global,
     option: &OptionShape,
@@ -48,7 +48,7 @@ fn option_alone<'a>(
     Ok(arg)
 }
 
-/// A command with one word more.
+/// A command with one more word.
 fn with_word<'a>(
     alloc: Global,
     command: Command<'a>,
@@ -69,7 +69,7 @@ fn with_words<'a>(
     Ok(command)
 }
 
-/// A command with one option more, beside which none of the others stands.
+/// A command with one more option, which cannot be given together with the others.
 fn with_option<'a>(
     alloc: Global,
     command: Command<'a>,
@@ -100,7 +100,7 @@ fn command_of<'a>(alloc: Global, shape: &CommandShape) -> Result<Command<'a>, Al
     with_options(alloc, command, shape.options)
 }
 
-/// The program, before its commands.
+/// The program, without its commands.
 fn program<'a>(alloc: Global) -> Result<Command<'a>, AllocError> {
     let program = Command::new(alloc, "ipx").bin_name("ipx")?;
     Ok(
@@ -112,7 +112,7 @@ fn program<'a>(alloc: Global) -> Result<Command<'a>, AllocError> {
     )
 }
 
-/// The program with one command more.
+/// The program with one more command.
 fn with_command<'a>(
     alloc: Global,
     program: Command<'a>,
@@ -133,7 +133,7 @@ fn with_commands<'a>(
     Ok(program)
 }
 
-/// The program's commands, with what is said of them.
+/// The program's commands, with their help texts.
 pub fn whole_command<'a>(alloc: Global) -> Result<Command<'a>, AllocError> {
     with_commands(alloc, program(alloc)?, &shapes())
 }

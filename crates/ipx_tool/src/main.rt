@@ -20,10 +20,10 @@ use std::process::ExitCode;
 use std::{env, io};
 use words::{Task, fault_of, task_of};
 
-/// How many requests a ping has where no number is given.
+/// The number of requests of a ping if none is given.
 const USUAL_COUNT: u16 = 4;
 
-/// The words of the command line, or the status with which the program ends without them.
+/// The words of the command line, or the exit status if they cannot be read.
 fn given_words(rt: &HostRuntime) -> Result<Vec<String>, u8> {
     match env::args(rt) {
         Ok(given) => given
@@ -59,7 +59,7 @@ fn udp(rt: &HostRuntime, port: u16) -> Result<u8, u8> {
     do_udp(rt, rt.alloc(), &mut rt.stdin(), &mut io::writer(rt), port)
 }
 
-/// A host that sends shows how far it is where a person looks.
+/// A host that sends shows its progress if standard error is a terminal.
 fn send(rt: &HostRuntime, file: &str, target: Target<'_>) -> u8 {
     let shows = rt.stderr().is_terminal();
     do_send(rt, rt.alloc(), file, target, &mut rt.stdin(), shows)
@@ -100,7 +100,7 @@ fn do_task(rt: &HostRuntime, task: Task<'_>) -> Result<u8, u8> {
     }
 }
 
-/// Tells why the words ask for nothing, and answers the status that goes with it.
+/// Reports why the words ask for no command, and returns the exit status for it.
 fn tell_usage(rt: &HostRuntime, words: &[String]) -> u8 {
     let error = fault_of(rt.alloc(), words);
     if error.kind() == ErrorKind::OutOfMemory {

@@ -1,4 +1,4 @@
-//! What the program says of itself, at length.
+//! The long help texts of the program.
 
 pub const ABOUT: &str =
     "Routers and hosts of a Novell internetwork over UDP: IPX, SPX, RIP and SAP";

@@ -1,4 +1,4 @@
-//! What the words of the command line ask for.
+//! Parsing the words of the command line.
 
 ghost use Rattle.std.specs.Prelude.{◌≡◌, ◌↔◌, ◌∷◌, [], IsFalse, codes, drop, map, nat_eq, string_bytes};
 ghost use Rattle.std.specs.List.{starts_with};
@@ -30,11 +30,11 @@ pub enum Task<'a> {
     Route(&'a str),
     /// The file of a site, which is only checked.
     CheckSite(&'a str),
-    /// The file of the host, and whether it ends behind the first connection that is heard.
+    /// The file of the host, and whether it ends after the first connection that is heard.
     Listen(&'a str, bool),
     /// The file of a host, which is only checked.
     CheckHost(&'a str),
-    /// The file of the host, and whom it dials.
+    /// The file of the host, and the target that it connects to.
     Send(&'a str, Target<'a>),
     /// The file of the host that asks, and whether it prints JSON.
     Networks(&'a str, bool),
@@ -42,20 +42,25 @@ pub enum Task<'a> {
     Services(&'a str, bool),
     /// The file of the host that asks, the type of the services, and whether it prints JSON.
     ServicesOf(&'a str, &'a str, bool),
-    /// The file of the host that pings, and whom.
+    /// The file of the host that pings, and its target.
     Ping(&'a str, Target<'a>),
-    /// The file of the host that pings, whom, and by how many requests.
+    /// The file of the host that pings, its target, and the number of requests.
     PingTimes(&'a str, Target<'a>, u16),
 }
 
-/// The command that the words ask for, the program's own name first: just `hop`, `check`, `sim` or
-/// `udp`; `show`, `route` or `listen` and one word that is no option; `listen` and such a word with
-/// `--once` before or behind it; `route` or `listen` and such a word with `--check` there; `send`
-/// or `ping` and four words that are no options, and `ping` with `-c` and a number behind it
-/// anywhere among these; `networks` or `services` and such a word, or `services` and two, with
-/// `--json` anywhere behind the command or not at all; `udp` and a port, as `--port P` or
-/// `--port=P`; or `show` and a station, as `--frame NODE` or `--frame=NODE`. No other words ask for
-/// one.
+/// The command that the words ask for. The first word is the program's own name. These words ask
+/// for a command, and no others do:
+///
+/// - `hop`, `check`, `sim` or `udp` alone;
+/// - `show`, `route` or `listen`, and one word that is no option;
+/// - `listen` and such a word, with `--once` before or after it;
+/// - `route` or `listen` and such a word, with `--check` before or after it;
+/// - `send` or `ping`, and four words that are no options; `ping` may have `-c` and a number after
+///   it anywhere among these;
+/// - `networks` or `services` and such a word, or `services` and two, with `--json` anywhere after
+///   the command, or without it;
+/// - `udp` and a port, as `--port P` or `--port=P`;
+/// - `show` and a station, as `--frame NODE` or `--frame=NODE`.
 pub fn task_of(words: &[String]) -> Option<Task<'_>>
     ensures { Finds (AsksFor (drop 1 (map string_bytes words.now))) result }
 {
@@ -111,7 +116,7 @@ fn is_option(word: &str) -> bool
     word.as_bytes().starts_with(b"-")
 }
 
-/// A command with a word that is no option: the packet of `show`, or a file.
+/// A command with one word that is no option: the packet of `show`, or a file.
 fn word_task<'a>(command: &str, word: &'a str) -> Option<Task<'a>>
     ensures { Finds (λ t. IsPlain word.now × AsksFor (command.now ∷ word.now ∷ []) t) result }
 {
@@ -128,7 +133,7 @@ fn word_task<'a>(command: &str, word: &'a str) -> Option<Task<'a>>
     }
 }
 
-/// A host that asks, and prints JSON.
+/// A host that asks, with `--json`.
 fn json_task<'a>(command: &str, path: &'a str) -> Option<Task<'a>>
     ensures { Finds (AsksFor (command.now ∷ codes "--json" ∷ path.now ∷ [])) result }
 {
@@ -142,7 +147,7 @@ fn json_task<'a>(command: &str, path: &'a str) -> Option<Task<'a>>
     }
 }
 
-/// A host that asks for the services of a type.
+/// A host that asks for the services of one type.
 fn type_task<'a>(command: &str, file: &'a str, kind: &'a str, json: bool) -> Option<Task<'a>>
     ensures { Finds (IsOfType command.now file.now kind.now json) result }
 {
@@ -152,7 +157,7 @@ fn type_task<'a>(command: &str, file: &'a str, kind: &'a str, json: bool) -> Opt
     Some(Task::ServicesOf(file, kind, json))
 }
 
-/// A command with three words more: a file, a type and `--json`.
+/// A command with three more words: a file, a type and `--json`.
 fn two_words_task<'a>(
     command: &str,
     first: &'a str,
@@ -229,7 +234,7 @@ fn dialing_task<'a>(command: &str, file: &'a str, target: Target<'a>) -> Option<
     }
 }
 
-/// A host that pings by as many requests as a text says.
+/// A host that pings, with the number of requests that a text gives.
 fn times_task<'a>(command: &str, file: &'a str, target: Target<'a>, text: &str) -> Option<Task<'a>>
     ensures { Finds (IsPingTimes command.now (file.now ∷ target_words target.entry) text.now) result }
 {
@@ -278,7 +283,7 @@ fn number_of(text: &str) -> Option<u16>
     if number == 0 { None } else { Some(number) }
 }
 
-/// A script over UDP, at the port that a text writes.
+/// A script over UDP, at the port that a text gives.
 fn udp_task<'a>(command: &str, text: &str) -> Option<Task<'a>>
     ensures { Finds (AsksFor (command.now ∷ codes "--port" ∷ text.now ∷ [])) result }
 {
@@ -288,7 +293,7 @@ fn udp_task<'a>(command: &str, text: &str) -> Option<Task<'a>>
     Some(Task::Udp(number_of(text)?))
 }
 
-/// Frames that are shown, as the station hears them that a text spells.
+/// Frames to show, as the station with this address hears them.
 fn frames_task<'a>(command: &str, text: &str) -> Option<Task<'a>>
     ensures { Finds (AsksFor (command.now ∷ codes "--frame" ∷ text.now ∷ [])) result }
 {
@@ -298,8 +303,8 @@ fn frames_task<'a>(command: &str, text: &str) -> Option<Task<'a>>
     Some(Task::ShowFrames(Node::from_hex(text.as_bytes())?))
 }
 
-/// A command with one word more: one that is no option, or the port of `udp` or the station of `show`
-/// in one word with its option.
+/// A command with one more word: one that is no option, or an option with the port of `udp` or the
+/// station of `show`.
 fn one_word_task<'a>(command: &str, word: &'a str) -> Option<Task<'a>>
     ensures { Finds (AsksFor (command.now ∷ word.now ∷ [])) result }
 {
@@ -312,7 +317,7 @@ fn one_word_task<'a>(command: &str, word: &'a str) -> Option<Task<'a>>
     word_task(command, word)
 }
 
-/// A command with two words more: the port of `udp`, the station of `show`, a file and `--once`,
+/// A command with two more words: the port of `udp`, the station of `show`, a file and `--once`,
 /// `--check` or `--json`, or a file and a type.
 fn option_task<'a>(command: &str, first: &'a str, second: &'a str) -> Option<Task<'a>>
     ensures { Finds (AsksFor (command.now ∷ first.now ∷ second.now ∷ [])) result }
@@ -349,8 +354,8 @@ pub fn words_ask_for_one()
     ensures { AskForOne }
 {}
 
-/// Why words ask for no command: a mistake in them, or a call for help or the version, with the
-/// text for the person who wrote them.
+/// Why the words ask for no command: a mistake, or a request for help or the version, with the text
+/// to print.
 pub fn fault_of(alloc: Global, words: &[String]) -> Error {
     match usage_of(alloc, words) {
         Ok(error) | Err(error) => error,

@@ -1,4 +1,4 @@
--- A datagram is one packet of a connection at most, and its sequence number stands at its place.
+-- A datagram is at most one SPX packet, and its sequence number is at its offset.
 use Rattle.std.proofs.Common.{◌≡◌, ℕ, List, ◌++◌, drop, arith, sym, ap, ◌∙◌, subst}
 use Rattle.std.proofs.lemmas.List.{drop-drop}
 use Rattle.byteorder.specs.Endian.{big_number}

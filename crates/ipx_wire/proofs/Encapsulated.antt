@@ -1,4 +1,4 @@
--- A header that was written in front of a body in its place makes a packet of both.
+-- A header that was written in front of a body in place makes a packet of both.
 use Rattle.std.proofs.Common.{◌≡◌, ◌≤◌, ℕ, ◌+◌, List, ◌++◌, [], length, take, drop, arith, sym, ap, ◌∙◌, refl, append_assoc, append-nil, subst, take-append-drop}
 use Rattle.std.proofs.lemmas.List.{length-append, length-drop, length-take, take_at, drop_at}
 use Rattle.ipx_wire.specs.declared.ipx.packet.IpxHeader.{IpxHeader}
@@ -8,7 +8,7 @@ use Rattle.ipx_wire.specs.Spx.{HasFreeBitsClear, IsSpx, IsSpxInRange, spx_bytes,
 use Rattle.ipx_wire.proofs.RoundTrip.{ipx_read, length-header}
 use Rattle.ipx_wire.proofs.SpxTrip.{spx_clear, spx_read}
 
--- n bytes of a list from place k on, behind k others
+-- n bytes of a list from index k on, after k others
 front : (k n : ℕ) (head old new : List ℕ) → length head ≡ k → k + n ≤ length old → new ≡ head ++ drop k old → take (k + n) new ≡ head ++ take n (drop k old)
 front k n head old new size room is =
     let body = take n (drop k old) in
@@ -28,7 +28,7 @@ packet_in_place h n old new range limit room is =
     front 30 n (header_bytes h n) old new (length-header h n range) room is ∙ ap (λ (k : ℕ). header_bytes h k ++ body) (sym long) in
     subst (λ (t : List ℕ). IsIpx p t []) (append-nil (ipx_bytes p) ∙ sym bytes) (ipx_read p [] in_range)
 
--- the bytes of the packet that data in its place and a header before it make
+-- the bytes of the packet that a header in front of data in place makes
 pub spx_in_place : (h : SpxHeader) (n : ℕ) (old new : List ℕ) → 12 + n ≤ length old → new ≡ spx_header_bytes h ++ drop 12 old
     → take (12 + n) new ≡ spx_bytes h (take n (drop 12 old))
 spx_in_place h n old new room is = front 12 n (spx_header_bytes h) old new refl room is
@@ -44,6 +44,6 @@ pub spx_clear_in_place : (h : SpxHeader) (n : ℕ) (old new : List ℕ) → 12 +
 spx_clear_in_place h n old new room is =
     subst HasFreeBitsClear (sym (spx_in_place h n old new room is)) (spx_clear h (take n (drop 12 old)))
 
--- what stood behind a header's place stays
+-- what follows the header stays
 pub behind_header : (h : IpxHeader) (n : ℕ) (old new : List ℕ) → IsHeaderInRange h → new ≡ header_bytes h n ++ drop 30 old → drop 30 new ≡ drop 30 old
 behind_header h n old new range is = rw is (drop_at (header_bytes h n) (drop 30 old) 30 (length-header h n range))

@@ -1,4 +1,4 @@
--- Bytes have no fault just where they are a packet: for IPX, and for SPX.
+-- Bytes have no fault exactly if they are a packet: for IPX, and for SPX.
 use Rattle.std.proofs.Common.{◌≡◌, ◌≤◌, ℕ, ◌-◌, List, Bool, true, false, Some, None, length, take, drop, arith, sym, ◌∙◌, refl, take-append-drop, eq-eqb}
 use Rattle.std.specs.Prelude.{nat_lt, ◌==◌, if◌then◌else◌, slice_index}
 use Rattle.std.proofs.lemmas.Bool.{eqb-true, le-ltb, ltb-false}
@@ -15,7 +15,7 @@ use Rattle.ipx_wire.specs.Spx.{IsSpx, IsSpxHeader, has_bit, spx_fault}
 
 -- ---- IPX
 
--- the tests of a datagram, each as it falls where there is no fault
+-- the results of the tests of a datagram without a fault
 record PassesTests (a b c d e : Bool) : Type 0 where
   short : a ≡ false
   checksum : b ≡ true

@@ -1,8 +1,7 @@
--- Assigned numbers and sizes of the field (Novell IPX, Novell SPX): those that mean the same on
--- every network.
+-- Assigned numbers and sizes (Novell IPX, Novell SPX), which are the same on every network.
 use Rattle.std.specs.Prelude.{ℕ, List, replicate}
 
--- well-known sockets: where a file server is asked, where services are told, where routes are told
+-- well-known sockets: of file servers (NCP), of SAP and of RIP
 abbrev pub ncp_socket : ℕ
 ncp_socket = 0x451
 
@@ -31,18 +30,18 @@ ncp_type = 17
 abbrev pub netbios_propagation_type : ℕ
 netbios_propagation_type = 20
 
--- the network at hand, and what stands for every network
+-- the local network, and the number for all networks
 abbrev pub local_network : ℕ
 local_network = 0
 
 abbrev pub all_networks : ℕ
 all_networks = 0xffff_ffff
 
--- the node that stands for every node of a network
+-- the node number for every node of a network
 abbrev pub broadcast_node : List ℕ
 broadcast_node = replicate 6 0xff
 
--- the bytes of an IPX header, of the longest packet and of the longest body
+-- the size of an IPX header, of the largest packet and of the largest body, in bytes
 abbrev pub ipx_header_size : ℕ
 ipx_header_size = 30
 
@@ -52,8 +51,8 @@ ipx_max_packet_size = 1500
 abbrev pub ipx_max_body_size : ℕ
 ipx_max_body_size = 1470
 
--- the bytes of an SPX header, of the longest data, of both, and of the longest SPX packet with its
--- IPX header
+-- the size of an SPX header, of the most data, of both, and of the largest SPX packet with its IPX header, in
+-- bytes
 abbrev pub spx_header_size : ℕ
 spx_header_size = 12
 

@@ -1,4 +1,4 @@
--- Packets of a connection in datagrams: an SPX packet as the body of an IPX packet (Novell SPX).
+-- SPX packets in datagrams: an SPX packet as the body of an IPX packet (Novell SPX).
 use Rattle.std.specs.Prelude.{◌≡◌, ℕ, ◌+◌, List}
 use Rattle.ipx_wire.specs.Assigned.{ipx_header_size, spx_type}
 use Rattle.ipx_wire.specs.Ipx.{IsIpx, PacketView, number}
@@ -12,7 +12,6 @@ pub record IsConnectionPacket (p : PacketView) (h : SpxHeader) (body bytes : Lis
   pub kind : p.header.kind ≡ spx_type
   pub spx : IsSpx h body p.body
 
--- the sequence number that a datagram spells where it is a packet of a connection: it stands at
--- place 6 of the SPX header
+-- the sequence number of a datagram that is an SPX packet: it is at offset 6 of the SPX header
 abbrev pub sequence_in : List ℕ → ℕ
 sequence_in bytes = number 2 (ipx_header_size + 6) bytes

@@ -1,4 +1,4 @@
-//! An IPX packet: its header, and the body behind it.
+//! An IPX packet: its header, followed by its body.
 
 mod changing;
 mod fault;

@@ -1,7 +1,7 @@
-//! Packet types (Novell IPX): what the `kind` of a header says. Routers tell RIP and SAP by their
-//! sockets and not by these.
+//! Packet types (Novell IPX): the values of `kind` in a header. Routers recognize RIP and SAP by
+//! their sockets, not by these.
 
-/// No type is said.
+/// Unknown type.
 pub const UNKNOWN: u8 = 0;
 
 /// Routing Information Protocol.
@@ -16,5 +16,5 @@ pub const SPX: u8 = 5;
 /// NetWare Core Protocol.
 pub const NCP: u8 = 17;
 
-/// NetBIOS propagation, a broadcast that routers of other makes pass on to every network.
+/// NetBIOS propagation: a broadcast to every network, which routers of other vendors forward.
 pub const NETBIOS_PROPAGATION: u8 = 20;

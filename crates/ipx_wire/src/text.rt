@@ -1,4 +1,4 @@
-//! Addresses and packets as people write them, in hex: network:node:socket.
+//! Hexadecimal text of addresses and packets: network:node:socket.
 
 ghost use Rattle.std.specs.Prelude.{◌≡◌};
 ghost use Rattle.ipx_wire.specs.AddressText.{spelled_network, spelled_node, spelled_socket};
@@ -10,8 +10,7 @@ use hex::FromHex;
 use std::fmt;
 
 impl Network {
-    /// The network that a text of eight hex digits spells, in either case. `None` is any other
-    /// text.
+    /// Reads a network from eight hex digits, in either case. `None` is any other text.
     pub fn from_hex(text: &[u8]) -> Option<Network>
         ensures { result ≡ spelled_network text.now }
     {
@@ -21,7 +20,7 @@ impl Network {
 }
 
 impl Node {
-    /// The node that a text of twelve hex digits spells, in either case. `None` is any other text.
+    /// Reads a node from twelve hex digits, in either case. `None` is any other text.
     pub fn from_hex(text: &[u8]) -> Option<Node>
         ensures { result ≡ spelled_node text.now }
     {
@@ -31,7 +30,7 @@ impl Node {
 }
 
 impl Socket {
-    /// The socket that a text of four hex digits spells, in either case. `None` is any other text.
+    /// Reads a socket from four hex digits, in either case. `None` is any other text.
     pub fn from_hex(text: &[u8]) -> Option<Socket>
         ensures { result ≡ spelled_socket text.now }
     {

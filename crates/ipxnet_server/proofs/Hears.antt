@@ -29,7 +29,7 @@ either : (P : Disposition → Type 0) (b : Bool) (x y : Disposition) → P x →
 either P true x y px py = px
 either P false x y px py = py
 
--- the same, where the first is known of the test
+-- the same, if what the test says of each is known
 either_by : (P : Disposition → Type 0) (b : Bool) (x y : Disposition) → (b ≡ true → P x) → (b ≡ false → P y) → P (if b then x else y)
 either_by P true x y px py = px refl
 either_by P false x y px py = py refl
@@ -60,7 +60,7 @@ size_is h size e =
     (left_true ((size == ipx_header_size) && bytes_eq h.to.node.0 (replicate 6 0)) (bytes_eq h.from.node.0 (replicate 6 0))
     (left_true ((size == ipx_header_size) && bytes_eq h.to.node.0 (replicate 6 0) && bytes_eq h.from.node.0 (replicate 6 0)) (h.to.socket.0 == server_socket) e)))
 
--- who passes one test is found by another that it passes
+-- a client that passes one test is found by another that it passes too
 finds_by : (p q : Client → Bool) (x c : Client) (b d : Bool) (o r : Option Client) → q x ≡ d → q c ≡ true → (o ≡ Some c → is_some r ≡ true) → cond b (Some x) o ≡ Some c → is_some (cond d (Some x) r) ≡ true
 finds_by p q x c b true o r is here rest found = refl
 finds_by p q x c true false o r is here rest found = cc (ap q (some_is x c found))
@@ -74,7 +74,7 @@ found_finds p q (x ∷ xs) c found here =
 known_there : (place : Place) (xs : List Client) (c : Client) → client_at place xs ≡ Some c → is_some (client_at place xs) ≡ true
 known_there place xs c e = ap is_some e
 
--- the client of a node is the one at its place
+-- the client of a node is the one at its address
 pub taker_known : (node : Node) (place : Place) (xs : List Client) (c : Client) → client_of_node node xs ≡ Some c → c.place ≡ place → is_some (client_at place xs) ≡ true
 taker_known node place xs c found is =
     found_finds (has_client_node node) (is_client_at place) xs c found (ap (λ (p : Place). are_one_place p place) is ∙ same_place place)
@@ -141,7 +141,7 @@ module _ (l : ServerView) (from : Place) (size : ℕ) (thirty : ipx_header_size 
       no_newcomer : client_at from l.clients ≡ None → client_of_node (node_given l from) l.clients ≡ None
       no_newcomer none = cc
 
-      -- to nobody, or to others than the sender, and not to one
+      -- to nobody, or to others than the sender, and not to a single client
       sent : (heard : Disposition) → is_taker (takers_of heard) from ≡ false → ((header : IpxHeader) → heard ≡ Registered header → ⊥) → ((place : Place) → takers_of heard ≡ One place → ⊥) → is_of_client heard ≡ not (is_dropped heard) → Sound heard
       sent heard back other none of = record {
         back = back;
@@ -272,14 +272,14 @@ module _ (l : ServerView) (from : Place) (size : ℕ) (thirty : ipx_header_size 
   sound_hearing p now =
       either_by Sound (is_joined_place from l.routers) _ _ (λ is. enters is p.header) (λ apart. from_client apart p now)
 
--- what tells of a far client came from a joined router
+-- what shows a remote client came from a joined router
 pub told_joined : (b : Bool) (heard : Disposition) (told : Option Node) (takers : Recipients) → (b ≡ false → is_of_client heard ≡ not (is_dropped heard)) → heard ≡ FromJoined told takers → b ≡ true
 told_joined true heard told takers member e = refl
 told_joined false heard told takers member e =
     let other : is_of_client (FromJoined told takers) ≡ not (is_dropped (FromJoined told takers)) = subst (λ (h : Disposition). is_of_client h ≡ not (is_dropped h)) e (member refl) in
     cc
 
--- ---- what goes to the core is of the port's network, and tells nothing
+-- ---- what goes to the core is from the port's network, and advertises nothing
 
 abbrev ReachesCore : ServerPort → PacketView → Disposition → Type 0
 ReachesCore port p heard = goes_to_core heard ≡ true → may_reach_core port p ≡ true

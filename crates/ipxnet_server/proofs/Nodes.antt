@@ -1,4 +1,4 @@
--- The bytes of a node that is made of a place.
+-- The bytes of a node that is made of an address.
 use Rattle.std.proofs.Common.{◌≡◌, ℕ, List, [], ◌∷◌, ◌++◌, length, refl}
 use Rattle.byteorder.specs.Endian.{big_bytes}
 use borrow.Rule.Slice.PartMut.{put_mid}

@@ -67,7 +67,7 @@ not_here place k c isnt here same = cc (ap (λ (p : Place). are_one_place p plac
 pub some_is : {X : Type 0} (x c : X) → Some x ≡ Some c → x ≡ c
 some_is x c e = cc
 
--- what is so of all is so of the one that is found
+-- what holds for all holds for the one that is found
 has_by : {X : Type 0} (P : X → Type 0) (x c : X) (b : Bool) (o : Option X) → P x → (o ≡ Some c → P c) → cond b (Some x) o ≡ Some c → P c
 has_by P x c true o px rest found = subst P (some_is x c found) px
 has_by P x c false o px rest found = rest found
@@ -92,7 +92,7 @@ none_passes : {X : Type 0} (p : X → Bool) (xs : List X) → find p xs ≡ None
 none_passes p [] none = λ k d lt. absurd_below lt
 none_passes p (x ∷ xs) none = fails_by p x xs (p x) refl (none_passes p xs) none
 
--- those who are at another place have another node
+-- clients at another address have another node
 abbrev Differs : Place → Client → Client → Type 0
 Differs place c k = is_client_at place k ≡ false → k.node ≢ c.node
 
@@ -117,7 +117,7 @@ others_differ place c [] once found = cc
 others_differ place c (x ∷ xs) once found =
     differs_by place x c xs (is_client_at place x) refl (heads AreTwoClients x xs once) (others_differ place c xs (tails AreTwoClients x xs once)) found
 
--- those who are at another place are others than the one that is heard
+-- clients at another address are not the one that is heard
 abbrev AreOthers : Place → Client → Client → Type 0
 AreOthers place c k = is_client_at place k ≡ false → AreTwoClients k c
 
@@ -143,7 +143,7 @@ kept_others place c known others k d lt =
     All-filter (λ x. not (is_client_at place x)) (AreOthers place c) known others k d lt
     (is_not (is_client_at place (get_or (filter (λ x. not (is_client_at place x)) known) k d)) (filter_passes (λ x. not (is_client_at place x)) known k d lt))
 
--- each of them has the node of its place
+-- each of them has the node of its address
 heard_node : (place : Place) (now : ℕ) (known : List Client) (o : Option Client) → All HasPlaceNode known → client_at place known ≡ o → HasPlaceNode (client_heard (node_of_place place) place now o)
 heard_node place now known None nodes is = refl
 heard_node place now known (Some c) nodes is = found_has HasPlaceNode (is_client_at place) known c nodes is

@@ -1,4 +1,4 @@
--- Who is known, once a client was heard.
+-- Which clients are known, once one was heard.
 use Rattle.std.proofs.Common.{◌≡◌, ◌≤◌, ◌+◌, ◌-◌, ℕ, List, [], ◌∷◌, ◌++◌, Bool, true, false, Option, Some, None, length, take, drop, filter, find, not, cond, arith, refl, sym, ap, subst, ◌∙◌, take-append-drop}
 use Rattle.std.specs.Prelude.{is_some, Ok, Err, ◌==◌, ◌&&◌, nat_lt, if◌then◌else◌}
 use Rattle.std.specs.Option.{option_or}
@@ -23,7 +23,7 @@ use Rattle.ipxnet_server.specs.PeerServers.{far_client_of}
 use Rattle.ipxnet_server.proofs.Hears.{taker_known}
 use Rattle.ipxnet_server.proofs.Once.{fewer, found_passes, same_place}
 
--- ---- places
+-- ---- addresses
 
 both_true : (a b : Bool) → (a && b) ≡ true → (a ≡ true) × (b ≡ true)
 both_true true b e = (refl, e)
@@ -39,7 +39,7 @@ one_place a b e =
     let port : a.udp_port ≡ b.udp_port = eqb-true a.udp_port b.udp_port both.1 in
     ap (λ (bytes : List ℕ). place_of bytes a.udp_port) ip ∙ ap (place_of b.ip) port
 
--- ---- those who are left out, and those who stay
+-- ---- the clients that are removed, and those that stay
 
 gone_by : (from : Place) (x : Client) (b : Bool) (rest : List Client) → is_client_at from x ≡ b → find (is_client_at from) rest ≡ None → find (is_client_at from) (cond (not b) (x ∷ rest) rest) ≡ None
 gone_by from x true rest is none = none
@@ -123,7 +123,7 @@ still_there most now node from place xs (Some c) few is known apart there =
     let all : is_some (find test (kept ++ last ∷ [])) ≡ true = ap is_some (find-append test kept (last ∷ [])) ∙ first_is (find test kept) (find test (last ∷ [])) stays in
     ap (λ (i : ℕ). is_some (find test (drop i kept ++ last ∷ []))) zero ∙ all
 
--- ---- a lobby behind a datagram
+-- ---- a server after a datagram
 
 pub hearing_clients : (heard : Disposition) (from : Place) (now : ℕ) (l : ServerView) → is_of_client heard ≡ true → (server_hearing heard from now l).clients ≡ clients_heard l.most (node_given l from) from now l.clients
 hearing_clients (Registered answer) from now l e = refl
@@ -160,7 +160,7 @@ taker_kept true heard from place now l of few back one sender there =
 taker_kept false heard from place now l of few back one sender there =
     ap (λ (known : List Client). is_some (client_at place known)) (others_clients heard from now l of) ∙ there
 
--- where nobody who is joined sent it, no far client is another
+-- if no joined router sent it, no remote client changes
 pub hearing_far : (heard : Disposition) (from : Place) (now : ℕ) (l : ServerView) → is_of_client heard ≡ not (is_dropped heard) → (server_hearing heard from now l).far ≡ l.far
 hearing_far (Registered answer) from now l e = refl
 hearing_far (Pinged giver answer) from now l e = refl

@@ -1,5 +1,5 @@
--- Lobbies at several routers that are joined as one network: which places are those of the other
--- routers, and which clients these have. All of it is own.
+-- Servers of several routers that are joined as one network: the addresses of the other routers, and the
+-- clients that these have. Defined by this project.
 use Rattle.std.specs.Prelude.{ℕ, ◌+◌, ◌-◌, List, [], ◌∷◌, ◌++◌, length, drop, filter, find, take, Bool, not, nat_lt, Option, is_some, if◌then◌else◌}
 use Rattle.std.specs.List.{list_any}
 use Rattle.std.specs.Str.{bytes_eq}
@@ -9,11 +9,11 @@ use Rattle.ipxnet_server.specs.declared.peer_servers.RemoteClient.{RemoteClient}
 use Rattle.ipxnet_server.specs.declared.place.Place.{Place}
 use Rattle.ipxnet_server.specs.ServerClients.{are_one_place, forgotten_after, node_of_place}
 
--- so many clients of joined routers are known at most
+-- how many clients of joined routers are known at most
 abbrev pub max_remote_clients : ℕ
 max_remote_clients = 1024
 
--- a joined router is at a place
+-- a joined router has this address
 abbrev pub is_joined_place : Place → List Place → Bool
 is_joined_place place routers = list_any (λ r. are_one_place r place) routers
 
@@ -24,26 +24,26 @@ has_far_node node f = bytes_eq f.node.0 node.0
 abbrev pub far_client_of : Node → List RemoteClient → Option RemoteClient
 far_client_of node far = find (has_far_node node) far
 
--- those who were heard less than a day ago; by a clock that went back no time has passed
+-- the clients that were heard less than a day ago; if the clock went back, no time has passed
 abbrev pub was_far_heard : ℕ → RemoteClient → Bool
 was_far_heard now f = nat_lt (now - f.heard) forgotten_after
 
 abbrev pub far_clients_left : ℕ → List RemoteClient → List RemoteClient
 far_clients_left now far = filter (was_far_heard now) far
 
--- the client of a node is heard through a router: it is known once, behind all the others, and where
--- there are too many the first one goes
+-- the client of a node is heard through a router. It is then known once, as the last one, and if there are
+-- too many the first one goes
 abbrev pub far_clients_heard : Node → Place → ℕ → List RemoteClient → List RemoteClient
 far_clients_heard node router now far =
     drop (length (filter (λ f. not (has_far_node node f)) far) + 1 - max_remote_clients)
     (filter (λ f. not (has_far_node node f)) far)
     ++ record { node = node; router = router; heard = now } ∷ []
 
--- a node that a router makes for a client at a place: its own, with the client's port of UDP at the end
+-- a node that a router makes for a client at an address: its own, with the client's UDP port at the end
 abbrev pub made_node : Node → Place → Node
 made_node own place = record { 0 = take 4 own.0 ++ big_bytes 2 place.udp_port }
 
--- the node that a new client at a place gets: that of the place, or one of the router's making where a
+-- the node that a new client at an address gets: that of the address, or one that the router makes if a
 -- client of a joined router has that
 abbrev pub newcomer_node : Node → List RemoteClient → Place → Node
 newcomer_node own far place =

@@ -1,5 +1,5 @@
--- The clients of a lobby, and for how long they are known. A node is made as DOSBox 0.74-3 makes it;
--- all else is own.
+-- The clients of an ipxnet server, and for how long they are known. A node is made as DOSBox 0.74-3 makes it;
+-- all else is defined by this project.
 use Rattle.std.specs.Prelude.{◌≡◌, ◌≢◌, ℕ, ◌+◌, ◌-◌, List, [], ◌∷◌, ◌++◌, length, drop, filter, find, count_by, AllPairs, Bool, true, not, ◌==◌, ◌&&◌, nat_le, nat_lt, Option, Some, None}
 use Rattle.std.specs.Str.{bytes_eq}
 use Rattle.byteorder.specs.Endian.{big_bytes}
@@ -7,12 +7,12 @@ use Rattle.ipx_wire.specs.declared.address.Node.{Node}
 use Rattle.ipxnet_server.specs.declared.place.Place.{Place}
 use Rattle.ipxnet_server.specs.declared.clients.Client.{Client}
 
--- a lobby has so many clients at most
+-- the most clients that a server may have
 abbrev pub max_server_clients : ℕ
 max_server_clients = 150
 
--- the times in ms: behind the first a silent client is forgotten, behind the second where there is no
--- room for another; and in the third so many new ones may register
+-- times in ms: after the first a silent client is forgotten, and after the second if there is no room for
+-- another. Only so many new ones may register within the third
 abbrev pub forgotten_after : ℕ
 forgotten_after = 86400000
 
@@ -25,7 +25,7 @@ newcomer_time = 1000
 abbrev pub max_recent_registrations : ℕ
 max_recent_registrations = 10
 
--- the node of a client at a place: the IP address, and then the port of UDP
+-- the node of a client at an address: the IP address, and then the UDP port
 abbrev pub node_of_place : Place → Node
 node_of_place place = record { 0 = place.ip ++ big_bytes 2 place.udp_port }
 
@@ -38,18 +38,18 @@ is_client_at place c = are_one_place c.place place
 abbrev pub has_client_node : Node → Client → Bool
 has_client_node node c = bytes_eq c.node.0 node.0
 
--- the client at a place, and the client of a node
+-- the client at an address, and the client of a node
 abbrev pub client_at : Place → List Client → Option Client
 client_at place known = find (is_client_at place) known
 
 abbrev pub client_of_node : Node → List Client → Option Client
 client_of_node node known = find (has_client_node node) known
 
--- a client has the node of its place
+-- a client has the node of its address
 abbrev pub HasPlaceNode : Client → Type 0
 HasPlaceNode c = c.node ≡ node_of_place c.place
 
--- no two clients are at one place, and no two have one node
+-- no two clients have one address, and no two have one node
 pub record AreTwoClients (a b : Client) : Type 0 where
   pub places : a.place ≢ b.place
   pub nodes : a.node ≢ b.node
@@ -57,22 +57,22 @@ pub record AreTwoClients (a b : Client) : Type 0 where
 abbrev pub EachClientOnce : List Client → Type 0
 EachClientOnce known = AllPairs AreTwoClients known
 
--- it was heard less than so long ago; by a clock that went back no time has passed
+-- it was heard less than this long ago; if the clock went back, no time has passed
 abbrev pub was_heard_within : ℕ → ℕ → Client → Bool
 was_heard_within time now c = nat_lt (now - c.heard) time
 
--- those who are not forgotten
+-- the clients that are not forgotten
 abbrev pub clients_left : ℕ → List Client → List Client
 clients_left now known = filter (was_heard_within forgotten_after now) known
 
--- how many registered first less than a second ago; by a clock that went back no time has passed
+-- how many registered first less than a second ago; if the clock went back, no time has passed
 abbrev pub is_newcomer : ℕ → Client → Bool
 is_newcomer now c = nat_lt (now - c.since) newcomer_time
 
 abbrev pub recent_registrations : ℕ → List Client → ℕ
 recent_registrations now known = count_by (is_newcomer now) known
 
--- the first one, which was heard before all others, in the order of calls, was heard within the hour
+-- the first one, which was heard before all others in the order of calls, was heard within the last hour
 abbrev pub is_first_heard : ℕ → List Client → Bool
 is_first_heard now [] = true
 is_first_heard now (c ∷ rest) = was_heard_within replaced_after now c
@@ -81,13 +81,13 @@ is_first_heard now (c ∷ rest) = was_heard_within replaced_after now c
 abbrev pub is_server_full : ℕ → ℕ → List Client → Bool
 is_server_full most now known = nat_le most (length known) && is_first_heard now known
 
--- the client that is heard at a place, which is a new one of this node where none is known there
+-- the client that is heard at an address; if none is known there, it is a new one with this node
 abbrev pub client_heard : Node → Place → ℕ → Option Client → Client
 client_heard node place now None =
     record { node = node; place = place; since = now; heard = now }
 client_heard node place now (Some c) = record c { heard = now }
 
--- it is known once, behind all the others, and where there are too many the first one goes
+-- it is then known once, as the last one, and if there are too many the first one goes
 abbrev pub clients_heard : ℕ → Node → Place → ℕ → List Client → List Client
 clients_heard most node place now known =
     drop (length (filter (λ c. not (is_client_at place c)) known) + 1 - most)

@@ -1,14 +1,14 @@
--- What a lobby counts of what it drops. All of it is own.
+-- What a server counts of what it drops. Defined by this project.
 use Rattle.std.specs.Prelude.{ℕ, ◌+◌, ◌-◌, ◌^◌, min}
 use Rattle.ipxnet_server.specs.declared.counts.ServerCounts.{ServerCounts}
 use Rattle.ipxnet_server.specs.declared.drops.ServerDrop.{ServerDrop}
 use Rattle.ipxnet_server.specs.declared.drops.ServerDrop.TheVariants.{Malformed, NodeTaken, TooManyNew, Full, Unregistered, OtherSource, TooLong, NoSuchNode, ToItself, PingElsewhere, BroadcastElsewhere, FromElsewhere, Response, NotBehind, ForElsewhere}
 
--- a count of 64 bits goes up by one, and stays where it is the greatest
+-- a count of 64 bits goes up by one, and stays at the greatest
 abbrev pub drops_raised : ℕ → ℕ
 drops_raised n = min (n + 1) (2 ^ 64 - 1)
 
--- one more is dropped: the count of its cause alone is another
+-- one more is dropped: only the count of its cause changes
 abbrev pub drop_counted : ServerDrop → ServerCounts → ServerCounts
 drop_counted (Malformed fault) c = record c { malformed = drops_raised c.malformed }
 drop_counted (NodeTaken node) c = record c { node_taken = drops_raised c.node_taken }

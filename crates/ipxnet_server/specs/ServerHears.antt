@@ -1,6 +1,6 @@
--- What a lobby does with a datagram, and with a packet of its router. Registration and ping are
--- DOSBox 0.74-3's, the socket and the layout of both as it has them; the order of the cases, what is
--- dropped, and all that joined routers do, is own.
+-- What an ipxnet server does with a datagram, and with a packet of its router. Registration and ping are
+-- those of DOSBox 0.74-3, with its socket and layout. The order of the cases, what is dropped, and all that
+-- joined routers do, is defined by this project.
 use Rattle.std.specs.Prelude.{◌≡◌, ℕ, List, [], length, replicate, Bool, true, false, not, ◌==◌, ◌&&◌, ◌||◌, nat_le, nat_lt, is_some, Option, Some, None, Result, Ok, Err, if◌then◌else◌}
 use Rattle.std.specs.Str.{bytes_eq}
 use Rattle.ipx_wire.specs.Assigned.{broadcast_node, ipx_header_size, local_network, rip_socket, sap_socket, unknown_type}
@@ -23,8 +23,8 @@ use Rattle.ipxnet_server.specs.ServerClients.{are_one_place, is_server_full, cli
 use Rattle.ipxnet_server.specs.ServerCounted.{drop_counted, no_drops}
 use Rattle.ipxnet_server.specs.PeerServers.{far_client_of, far_clients_heard, far_clients_left, is_joined_place, newcomer_node}
 
--- a lobby: its port, how many clients it may have, who they are, the one that was heard last behind the
--- others, how much was dropped, where the routers are that it is joined to, and which clients these have
+-- a server: its port, the most clients that it may have, its clients in the order in which they were last
+-- heard, and its counts. Also the addresses of joined routers, and their clients
 pub record ServerView : Type 0 where
   pub port : ServerPort
   pub most : ℕ
@@ -33,7 +33,7 @@ pub record ServerView : Type 0 where
   pub routers : List Place
   pub far : List RemoteClient
 
--- the socket of registrations and pings, and the most bytes that a client takes
+-- the socket of registrations and pings, and the most bytes that a client accepts
 abbrev pub server_socket : ℕ
 server_socket = 2
 
@@ -50,11 +50,11 @@ server_header network to from = record {
   from = record { network = network; node = from; socket = record { 0 = server_socket } };
 }
 
--- to a client of a node, whom it tells its network and node
+-- to a registration: it tells the client its network and node
 abbrev pub registration_answer : ServerPort → Node → IpxHeader
 registration_answer port node = server_header port.network node port.own
 
--- to a ping of a node
+-- to a ping from a node
 abbrev pub ping_answer : ServerPort → Node → IpxHeader
 ping_answer port node = server_header (record { 0 = local_network }) node port.own
 
@@ -63,16 +63,16 @@ ping_answer port node = server_header (record { 0 = local_network }) node port.o
 abbrev pub is_to_all_nodes : IpxHeader → Bool
 is_to_all_nodes h = bytes_eq h.to.node.0 broadcast_node
 
--- in a datagram of so many bytes, from node 0 to node 0
+-- it is alone in a datagram of 30 bytes, from node 0 to node 0
 abbrev pub is_registration : IpxHeader → ℕ → Bool
 is_registration h size = (size == ipx_header_size) && bytes_eq h.to.node.0 (replicate 6 0)
     && bytes_eq h.from.node.0 (replicate 6 0) && (h.to.socket.0 == server_socket)
 
--- it stays on the network of the port
+-- it is for the network of the port
 abbrev pub is_for_server : ServerPort → IpxHeader → Bool
 is_for_server port h = (h.to.network.0 == local_network) || (h.to.network.0 == port.network.0)
 
--- a service of the router is asked
+-- it is for a service of the router
 abbrev pub is_to_service : IpxHeader → Bool
 is_to_service h = (h.to.socket.0 == rip_socket) || (h.to.socket.0 == sap_socket)
 
@@ -80,34 +80,34 @@ is_to_service h = (h.to.socket.0 == rip_socket) || (h.to.socket.0 == sap_socket)
 abbrev pub is_from_server : ServerPort → IpxHeader → Bool
 is_from_server port h = (h.from.network.0 == local_network) || (h.from.network.0 == port.network.0)
 
--- one of its sockets is this
+-- one of its sockets is this one
 abbrev pub has_socket : ℕ → IpxHeader → Bool
 has_socket socket h = (h.to.socket.0 == socket) || (h.from.socket.0 == socket)
 
--- it tells routes (RIP) or services (SAP): a response, by a socket and its operation
+-- it advertises routes (RIP) or services (SAP): a response, by its socket and operation
 abbrev pub tells_router : PacketView → Bool
 tells_router p = nat_le 2 (length p.body)
     && ((has_socket rip_socket p.header && number 2 0 p.body == 2)
     || (has_socket sap_socket p.header && (number 2 0 p.body == 2 || number 2 0 p.body == 4)))
 
--- the core gets of clients what comes from their network and tells it nothing
+-- the core may get it from a client: it comes from their network, and advertises nothing
 abbrev pub may_reach_core : ServerPort → PacketView → Bool
 may_reach_core port p = is_from_server port p.header && not (tells_router p)
 
--- ---- what becomes of it, the first case that applies
+-- ---- what becomes of it: the first case that applies
 
--- a node that is the router's, all nodes' or a client's
+-- the node is the router's, the broadcast node or a client's
 abbrev pub is_node_here : ServerPort → List Client → Node → Bool
 is_node_here port known node = bytes_eq node.0 port.own.0 || bytes_eq node.0 broadcast_node
     || is_some (client_of_node node known)
 
--- no new client can have one of these, nor that of a client of a joined router. A client's it cannot be
--- while each has the node of its place
+-- no new client can have this node: one of these, or that of a client of a joined router. It can't be a
+-- client's here while each has the node of its address
 abbrev pub is_node_taken : ServerView → Node → Bool
 is_node_taken l node =
     is_node_here l.port l.clients node || is_some (far_client_of node l.far)
 
--- why who registers from a place, and would get this node, becomes no client
+-- why a registration that would get this node is refused
 abbrev pub newcomer_drop : ServerView → Node → ℕ → Option ServerDrop
 newcomer_drop l node now =
     if is_node_taken l node then Some (NodeTaken node)
@@ -119,11 +119,11 @@ abbrev pub newcomer_hears : ServerPort → Node → Option ServerDrop → Dispos
 newcomer_hears port node None = Registered (registration_answer port node)
 newcomer_hears port node (Some drop) = Dropped drop
 
--- the node that a new client of a lobby gets
+-- the node that a new client of a server gets
 abbrev pub node_given : ServerView → Place → Node
 node_given l from = newcomer_node l.port.own l.far from
 
--- a registration, from a place where this client is known
+-- a registration, from an address where this client is known
 abbrev pub registration_hears : ServerView → Place → ℕ → Option Client → Disposition
 registration_hears l from now None =
     newcomer_hears l.port (node_given l from) (newcomer_drop l (node_given l from) now)
@@ -144,19 +144,19 @@ core_hears port p =
     else if tells_router p then Dropped Response
     else ToCore
 
--- to the joined router behind which a node is known, or to each
+-- to the joined router where a node is known, otherwise to each
 abbrev pub joined_takers : Option RemoteClient → Recipients
 joined_takers None = Joined
 joined_takers (Some f) = JoinedAt f.router
 
--- to one node here, which no client has
+-- to one node here that no client has
 abbrev pub far_hear : ServerView → Node → ℕ → Disposition
 far_hear l node size =
     if length l.routers == 0 then Dropped (NoSuchNode node)
     else if nat_lt max_client_bytes size then Dropped (TooLong size)
     else ToJoined (joined_takers (far_client_of node l.far))
 
--- to one node here, of which this is the client
+-- to one node here, which this client has
 abbrev pub client_hears : ServerView → Place → IpxHeader → ℕ → Option Client → Disposition
 client_hears l from h size None = far_hear l h.to.node size
 client_hears l from h size (Some c) =
@@ -171,14 +171,14 @@ server_hears_here l from p size =
     else if bytes_eq p.header.to.node.0 l.port.own.0 then core_hears l.port p
     else client_hears l from p.header size (client_of_node p.header.to.node l.clients)
 
--- to another
+-- to another network
 abbrev pub server_hears_elsewhere : ServerPort → PacketView → Disposition
 server_hears_elsewhere port p =
     if p.header.to.socket.0 == server_socket then Dropped (PingElsewhere p.header.to.network)
     else if is_to_all_nodes p.header then Dropped (BroadcastElsewhere p.header.to.network)
     else core_hears port p
 
--- from a place where this client is known
+-- from an address where this client is known
 abbrev pub server_hears_from : ServerView → Place → PacketView → ℕ → Option Client → Disposition
 server_hears_from l from p size None = Dropped Unregistered
 server_hears_from l from p size (Some c) =
@@ -186,21 +186,20 @@ server_hears_from l from p size (Some c) =
     else if is_for_server l.port p.header then server_hears_here l from p size
     else server_hears_elsewhere l.port p
 
--- no client behind a joined router can have one of these, nor 0
+-- no client of a joined router can have this node: 0, or one of those above
 abbrev pub is_not_behind : ServerPort → List Client → Node → Bool
 is_not_behind port known node =
     bytes_eq node.0 (replicate 6 0) || is_node_here port known node
 
--- the node of a far client that a packet of a joined router is from: of none where it comes from
--- another network
+-- the node of a remote client that a joined router's packet is from; none if it comes from another network
 abbrev pub far_source : ServerPort → IpxHeader → Option Node
 far_source port h = if is_from_server port h then Some h.from.node else None
 
--- from a far client to its own node: it tells where that is, and is for nobody
+-- from a remote client to its own node: it shows where that is, and is for nobody
 abbrev pub tells_node : ServerPort → IpxHeader → Bool
 tells_node port h = is_from_server port h && bytes_eq h.to.node.0 h.from.node.0
 
--- a joined router's, to one node, of which this is the client here
+-- from a joined router to one node, which this client has
 abbrev pub one_hears_joined : ServerPort → Place → IpxHeader → ℕ → Option Client → Disposition
 one_hears_joined port from h size None = Dropped (NoSuchNode h.to.node)
 one_hears_joined port from h size (Some c) =
@@ -208,13 +207,13 @@ one_hears_joined port from h size (Some c) =
     else if nat_lt max_client_bytes size then Dropped (TooLong size)
     else FromJoined (far_source port h) (One c.place)
 
--- the same to all nodes
+-- from a joined router to all nodes
 abbrev pub all_hear_joined : ServerPort → Place → IpxHeader → ℕ → Disposition
 all_hear_joined port from h size =
     if nat_lt max_client_bytes size then Dropped (TooLong size)
     else FromJoined (far_source port h) (Here from)
 
--- from the place of a joined router: the core gets none of it, nor does any joined router
+-- from the address of a joined router: neither the core nor any joined router gets it
 abbrev pub joined_hears : ServerView → Place → IpxHeader → ℕ → Disposition
 joined_hears l from h size =
     if not (is_for_server l.port h) then Dropped (ForElsewhere h.to.network)
@@ -224,7 +223,7 @@ joined_hears l from h size =
     else if is_to_all_nodes h then all_hear_joined l.port from h size
     else one_hears_joined l.port from h size (client_of_node h.to.node l.clients)
 
--- a packet, in a datagram of so many bytes from a place
+-- a packet, in a datagram of `size` bytes from an address
 abbrev pub server_hears : ServerView → Place → PacketView → ℕ → ℕ → Disposition
 server_hears l from p size now =
     if is_joined_place from l.routers then joined_hears l from p.header size
@@ -232,9 +231,9 @@ server_hears l from p size now =
     then registration_hears l from now (client_at from l.clients)
     else server_hears_from l from p size (client_at from l.clients)
 
--- ---- whom it reaches
+-- ---- where it is sent
 
--- the clients and joined routers that get the bytes as they came
+-- the clients and joined routers that get the bytes as they arrived
 abbrev pub takers_of : Disposition → Recipients
 takers_of (Registered answer) = Nobody
 takers_of (Pinged from answer) = Others from
@@ -255,7 +254,7 @@ is_taker (Here from) place = not (are_one_place from place)
 is_taker Joined place = false
 is_taker (JoinedAt one) place = false
 
--- the same of a joined router: it gets what a client sent to all nodes, or to a node that no client has
+-- the same for a joined router: it gets what a client sent to all nodes, or to a node that no client has
 abbrev pub is_joined_taker : Recipients → Place → Bool
 is_joined_taker Nobody place = false
 is_joined_taker (One one) place = false
@@ -265,15 +264,15 @@ is_joined_taker (Here from) place = false
 is_joined_taker Joined place = true
 is_joined_taker (JoinedAt one) place = are_one_place one place
 
--- the takers have the client at a place: there is one, and it is among them
+-- the takers have the client at an address: there is one, and it is among them
 abbrev pub takers_reach : ServerView → Recipients → Place → Bool
 takers_reach l takers place = is_some (client_at place l.clients) && is_taker takers place
 
--- the takers have the joined router at a place
+-- the takers have the joined router at an address
 abbrev pub takers_join : ServerView → Recipients → Place → Bool
 takers_join l takers place = is_joined_place place l.routers && is_joined_taker takers place
 
--- the core gets them
+-- the core gets the bytes
 abbrev pub goes_to_core : Disposition → Bool
 goes_to_core (Registered answer) = false
 goes_to_core (Pinged from answer) = false
@@ -285,7 +284,7 @@ goes_to_core (ToJoined takers) = false
 goes_to_core (FromJoined told takers) = false
 goes_to_core (Dropped drop) = false
 
--- the answer that goes back to where they came from
+-- the answer that goes back to the source address
 abbrev pub answer_of : Disposition → Option IpxHeader
 answer_of (Registered answer) = Some answer
 answer_of (Pinged from answer) = Some answer
@@ -309,7 +308,7 @@ is_dropped (ToJoined takers) = false
 is_dropped (FromJoined told takers) = false
 is_dropped (Dropped drop) = true
 
--- a client sent them
+-- a client sent the bytes
 abbrev pub is_of_client : Disposition → Bool
 is_of_client (Registered answer) = true
 is_of_client (Pinged from answer) = true
@@ -321,7 +320,7 @@ is_of_client (ToJoined takers) = true
 is_of_client (FromJoined told takers) = false
 is_of_client (Dropped drop) = false
 
--- what tells joined routers that a client registered: a header from its node to its node
+-- what tells joined routers that a client registered: a header from its node to the same node
 abbrev pub notice_of : Disposition → Option IpxHeader
 notice_of (Registered answer) = Some (record answer { from = answer.to })
 notice_of (Pinged from answer) = None
@@ -333,21 +332,20 @@ notice_of (ToJoined takers) = None
 notice_of (FromJoined told takers) = None
 notice_of (Dropped drop) = None
 
--- bytes are that answer, and nothing else
+-- the bytes are that answer, and nothing else
 abbrev pub IsAnswer : Disposition → List ℕ → Type 0
 IsAnswer heard bytes = (h : IpxHeader) × (answer_of heard ≡ Some h) × IsIpx (packet_of h []) bytes []
 
--- bytes are what joined routers are told, and nothing else
+-- the bytes are what joined routers are told, and nothing else
 abbrev pub IsNotice : Disposition → List ℕ → Type 0
 IsNotice heard bytes = (h : IpxHeader) × (notice_of heard ≡ Some h) × IsIpx (packet_of h []) bytes []
 
--- whom a packet of the core for all nodes reaches: each client here, as what another network sends to all
--- nodes of this one, and no joined router; and where it is to a service of a router nobody, since no client
--- listens to that
+-- who gets a packet of the core for all nodes: each client here, as for a broadcast from another network, and
+-- no joined router. If it is for a service of a router, nobody does, because no client listens to that
 abbrev pub all_get : Bool → Recipients
 all_get to_service = if to_service then Nobody else All
 
--- whom one for a node reaches, of so many bytes
+-- who gets a packet of the core for one node, of `size` bytes
 abbrev pub client_gets : ServerView → Node → Option Client → Result Recipients ServerDrop
 client_gets l node None =
     if length l.routers == 0 then Err (NoSuchNode node)
@@ -360,23 +358,23 @@ server_gives l node to_service size =
     else if bytes_eq node.0 broadcast_node then Ok (all_get to_service)
     else client_gets l node (client_of_node node l.clients)
 
--- ---- what the lobby is then
+-- ---- the server after that
 
--- who was silent for a day is forgotten
+-- clients that were silent for a day are forgotten
 abbrev pub server_aged : ℕ → ServerView → ServerView
 server_aged now l =
     record l { clients = clients_left now l.clients; far = far_clients_left now l.far }
 
--- one more was dropped, and nothing else is another
+-- one more was dropped, and nothing else changes
 abbrev pub server_dropping : ServerDrop → ServerView → ServerView
 server_dropping drop l = record l { counts = drop_counted drop l.counts }
 
--- the client at a place was heard
+-- the client at an address was heard
 abbrev pub server_knowing : Place → ℕ → ServerView → ServerView
 server_knowing from now l =
     record l { clients = clients_heard l.most (node_given l from) from now l.clients }
 
--- the joined router at a place told where a node is, or none
+-- the joined router at an address showed where a node is, or nothing
 abbrev pub server_told : Option Node → Place → ℕ → ServerView → ServerView
 server_told None from now l = l
 server_told (Some node) from now l = record l { far = far_clients_heard node from now l.far }
@@ -392,12 +390,12 @@ server_hearing (ToJoined takers) from now l = server_knowing from now l
 server_hearing (FromJoined told takers) from now l = server_told told from now l
 server_hearing (Dropped drop) from now l = server_dropping drop l
 
--- a packet of the core reaches them, or none
+-- a packet of the core is sent to these, or dropped
 abbrev pub server_giving : Result Recipients ServerDrop → ServerView → ServerView
 server_giving (Ok takers) l = l
 server_giving (Err drop) l = server_dropping drop l
 
--- nobody is known yet
+-- no client is known yet
 abbrev pub joined_server : ServerPort → ℕ → List Place → ServerView
 joined_server port most routers = record {
   port = port;

@@ -1,4 +1,4 @@
--- What private functions of a lobby tell one another.
+-- Definitions for private functions of a server.
 use Rattle.std.specs.Prelude.{◌≡◌, ◌≤◌, ℕ, List, [], length, not, true, false, None, is_some}
 use Rattle.ipx_wire.specs.declared.ipx.packet.IpxHeader.{IpxHeader}
 use Rattle.ipxnet_server.specs.declared.clients.Client.{Client}
@@ -11,13 +11,12 @@ use Rattle.ipxnet_server.specs.ServerClients.{EachClientOnce, client_at, client_
 use Rattle.ipxnet_server.specs.ServerHears.{IsAnswer, ServerView, answer_of, goes_to_core, is_dropped, is_joined_taker, is_of_client, is_taker, node_given, takers_of}
 use Rattle.ipxnet_server.specs.PeerServers.{is_joined_place, max_remote_clients}
 
--- how many clients there may be, and who they are
+-- how many clients there may be, and the clients
 pub record ClientsView : Type 0 where
   pub most : ℕ
   pub known : List Client
 
--- what is so of all clients that a lobby has: no more than it may, and each once; and there is room for
--- all
+-- what holds for the clients of a server: no more than allowed, each once, and memory for all
 pub record AreClients (most : ℕ) (known : List Client) (room : ℕ) : Type 0 where
   pub some : 1 ≤ most
   pub few : most ≤ max_server_clients
@@ -25,27 +24,27 @@ pub record AreClients (most : ℕ) (known : List Client) (room : ℕ) : Type 0 w
   pub once : EachClientOnce known
   pub all : room ≡ most
 
--- where joined routers are, and which clients they have
+-- the addresses of joined routers, and their clients
 pub record JoinedView : Type 0 where
   pub routers : List Place
   pub far : List RemoteClient
 
--- what is so of these: none where no router is joined, no more than may be, and there is room for all
+-- what holds for these: none if no router is joined, no more than allowed, and memory for all
 pub record AreFarClients (routers : List Place) (far : List RemoteClient) (room : ℕ) : Type 0 where
   pub none : routers ≡ [] → far ≡ []
   pub within : length far ≤ max_remote_clients
   pub all : room ≡ max_remote_clients
 
--- what comes of a joined router goes to no joined router and not to the core, and is not answered
+-- what comes from a joined router goes to no joined router and not to the core, and is not answered
 pub record StaysAmongClients (heard : Disposition) : Type 0 where
   pub ring : (place : Place) → is_joined_taker (takers_of heard) place ≡ false
   pub core : goes_to_core heard ≡ false
   pub answer : answer_of heard ≡ None
   pub client : is_of_client heard ≡ false
 
--- what is so of each datagram of so many bytes, whatever becomes of it: it goes back to its sender
--- never, its answer is no longer, a node that is given is free, it goes from clients to clients, and a
--- joined router's stays among those
+-- what holds for each datagram of `size` bytes, whatever becomes of it. It is never sent back to its sender,
+-- and its answer is no longer. A node that is given is free. It goes from clients to clients, and a joined
+-- router's stays among those
 pub record IsSoundHearing (l : ServerView) (from : Place) (size : ℕ) (heard : Disposition) : Type 0 where
   pub back : is_taker (takers_of heard) from ≡ false
   pub as_many : (header : IpxHeader) (answer : List ℕ) → heard ≡ Registered header

@@ -1,4 +1,4 @@
-//! The clients of a lobby.
+//! The clients of an ipxnet server.
 
 ghost use Rattle.std.specs.Prelude.{◌≡◌, ◌≤◌, ◌<◌, ◌+◌, ◌-◌, [], None, IfOk, drop, filter, find, length, not, option_copied};
 ghost use Rattle.std.specs.Vec.{vec_capacity, vec_len};
@@ -10,14 +10,14 @@ use ipx_wire::Node;
 use std::alloc::{AllocError, Global};
 use std::marker::Model;
 
-/// The most clients that a lobby may have, as `IpxnetServer::may_have` says.
+/// The most clients that a server may have, as `IpxnetServer::may_have` says.
 pub const MAX_CLIENTS: usize = 150;
 
-/// After how many milliseconds of silence a client is forgotten: a day.
+/// A client is forgotten after this many milliseconds of silence: a day.
 pub const FORGOTTEN_AFTER_MS: u64 = 86_400_000;
 
-/// After how many milliseconds of silence a client is forgotten where there is no room for another:
-/// an hour.
+/// If there is no room for another client, one is forgotten after this many milliseconds of
+/// silence: an hour.
 pub const REPLACED_AFTER_MS: u64 = 3_600_000;
 
 /// How many new clients may register in less than a second.
@@ -31,15 +31,15 @@ const NEWCOMER_MS: u64 = 1000;
 pub struct Client {
     /// The node that it was given.
     pub node: Node,
-    /// Where it is.
+    /// Its address.
     pub place: Place,
     /// When it registered first, in ms.
     pub since: u64,
-    /// When it was heard last, in ms.
+    /// When it was last heard, in ms.
     pub heard: u64,
 }
 
-/// The clients of a lobby, the one that was heard last behind the others.
+/// The clients of a server, in the order in which they were last heard.
 #[derive(Drop)]
 pub struct Clients {
     known: Vec<Client>,
@@ -57,7 +57,7 @@ impl Model for Clients {
     ghost invariant = { λ c. AreClients c.most c.known.items (vec_capacity c.known) };
 }
 
-/// All of them but the one at a place.
+/// Removes the client at an address.
 fn leave_out(known: &mut Vec<Client>, place: Place)
     ensures items { known.new.items ≡ filter (λ c. not (is_client_at place c)) known.old.items }
     ensures fewer { vec_len known.new ≤ vec_len known.old }
@@ -66,7 +66,7 @@ fn leave_out(known: &mut Vec<Client>, place: Place)
     known.retain(|client| client.place != place);
 }
 
-/// All of them but those who were silent for a day.
+/// Removes the clients that were silent for a day.
 fn leave_out_silent(known: &mut Vec<Client>, now: u64)
     ensures items { known.new.items ≡ clients_left now known.old.items }
     ensures fewer { vec_len known.new ≤ vec_len known.old }
@@ -75,7 +75,7 @@ fn leave_out_silent(known: &mut Vec<Client>, now: u64)
     known.retain(|client| now.saturating_sub(client.heard) < FORGOTTEN_AFTER_MS);
 }
 
-/// Lets the client go that was heard before all others, where no other finds room.
+/// Removes the client that was heard before all others, if there is no room for another.
 fn make_room(known: &mut Vec<Client>, most: usize)
     requires some { 1 ≤ most }
     requires few { vec_len known.old ≤ most }
@@ -88,7 +88,7 @@ fn make_room(known: &mut Vec<Client>, most: usize)
     }
 }
 
-/// The client at a place.
+/// The client at an address.
 fn find_place(known: &[Client], place: Place) -> Option<&Client>
     ensures { option_copied result ≡ find (is_client_at place) known.now }
 {
@@ -110,7 +110,7 @@ fn is_new(now: u64, client: &Client) -> bool
 }
 
 impl Clients {
-    /// None yet. Memory for all of them is taken here.
+    /// No clients yet. This takes the memory for all of them.
     pub fn new(alloc: Global, most: usize) -> Result<Clients, AllocError>
         requires some { 1 ≤ most }
         requires few { most ≤ max_server_clients }
@@ -120,7 +120,7 @@ impl Clients {
         Ok(Clients { known, most })
     }
 
-    /// The clients, the one that was heard last behind the others.
+    /// The clients, in the order in which they were last heard.
     pub fn all(&self) -> &[Client]
         ensures all { result.now ≡ self.now.known }
         ensures once { EachClientOnce self.now.known }
@@ -130,7 +130,7 @@ impl Clients {
         &self.known
     }
 
-    /// Those who were silent for a day are forgotten.
+    /// Forgets the clients that were silent for a day.
     pub fn age(&mut self, now: u64)
         ensures left { self.new ≡ record self.old { known = clients_left now self.old.known } }
         ensures few { length self.new.known ≤ self.new.most }
@@ -138,7 +138,7 @@ impl Clients {
         leave_out_silent(&mut self.known, now);
     }
 
-    /// The client at a place.
+    /// The client at an address.
     pub fn at(&self, place: Place) -> Option<Client>
         ensures { result ≡ client_at place self.now.known }
     {
@@ -162,7 +162,8 @@ impl Clients {
             .count()
     }
 
-    /// Whether there is no room for one more: as many as may be, all heard within the last hour.
+    /// Whether there is no room for one more: there are as many as allowed, all heard within the
+    /// last hour.
     pub fn is_full(&self, now: u64) -> bool
         ensures { result ≡ is_server_full self.now.most now self.now.known }
     {
@@ -175,7 +176,8 @@ impl Clients {
         }
     }
 
-    /// The client that is heard at a place, which is a new one of this node where none is known there.
+    /// The client that is heard at an address. If none is known there, it is a new one with this
+    /// node.
     fn heard_at(&self, node: Node, place: Place, now: u64) -> Client
         ensures { result ≡ client_heard node place now (client_at place self.now.known) }
     {
@@ -193,8 +195,8 @@ impl Clients {
         }
     }
 
-    /// A client is heard at a place, where a new one's node is no other's. Where there are too many
-    /// the one goes that was heard before all others.
+    /// A client is heard at an address. A new one must have a node that no other client has. If
+    /// there are too many, the one heard before all others is removed.
     pub fn put(&mut self, node: Node, place: Place, now: u64)
         requires { client_at place self.old.known ≡ None
             → client_of_node node self.old.known ≡ None }

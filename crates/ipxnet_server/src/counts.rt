@@ -1,11 +1,11 @@
-//! How much a lobby dropped.
+//! How much a server dropped.
 
 ghost use Rattle.std.specs.Prelude.{◌≡◌};
 ghost use Rattle.ipxnet_server.specs.ServerCounted.{drop_counted, drops_raised, no_drops};
 
 use crate::drops::ServerDrop;
 
-/// How much was dropped, by its cause: a count for each of `ServerDrop`. Each stays at the greatest
+/// How much was dropped, with a count for each cause in `ServerDrop`. Each stays at the greatest
 /// u64.
 #[derive(Clone, Copy, Debug, PartialEq, Eq)]
 pub struct ServerCounts {
@@ -26,7 +26,7 @@ pub struct ServerCounts {
     pub for_elsewhere: u64,
 }
 
-/// A count goes up by one, and stays where it is the greatest.
+/// Adds one to a count, which stays at the greatest u64.
 fn saturating_increment(count: &mut u64)
     ensures { count.new ≡ drops_raised count.old }
 {
@@ -57,7 +57,7 @@ impl ServerCounts {
         }
     }
 
-    /// One more is dropped: the count of its cause goes up, and no other.
+    /// Adds one to the count of this cause.
     pub fn count(&mut self, drop: ServerDrop)
         ensures { self.new ≡ drop_counted drop self.old }
     {

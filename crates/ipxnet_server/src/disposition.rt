@@ -12,29 +12,29 @@ use ipx_wire::{IPX_HEADER_SIZE, IpxHeader, Node, Packet, encode_into};
 /// What becomes of a datagram.
 #[derive(Clone, Copy, Debug, PartialEq, Eq)]
 pub enum Disposition {
-    /// A registration: it is answered by this.
+    /// It is a registration. This is the answer.
     Registered(IpxHeader),
-    /// A ping, from a client at a place: it is answered by this, and goes on to the other clients,
-    /// who answer for themselves.
+    /// It is a ping from a client at an address. This is the answer. It is also sent to the other
+    /// clients, which answer it themselves.
     Pinged(Place, IpxHeader),
-    /// It goes to the client at a place.
+    /// It is sent to the client at an address.
     ToClient(Place),
-    /// It goes to each client but the one at a place, which sent it, and to each joined router.
+    /// It is sent to each joined router, and to each client except the sender at this address.
     ToOthers(Place),
     /// The same, and the core of the port gets it too.
     ToOthersAndCore(Place),
-    /// The core of the port gets it alone.
+    /// Only the core of the port gets it.
     ToCore,
-    /// It is a client's for a node that no client has: it goes to these joined routers.
+    /// A client sent it to a node that no client has. It is sent to these joined routers.
     ToJoined(Recipients),
-    /// It came from a joined router, and goes to these clients: also whose node is there, where it tells
-    /// that.
+    /// It came from a joined router, and is sent to these clients. If it shows that a node is at
+    /// that router, this is the node.
     FromJoined(Option<Node>, Recipients),
-    /// Nobody gets it: why.
+    /// It is dropped, for this cause.
     Dropped(ServerDrop),
 }
 
-/// The bytes of a header with no body.
+/// The bytes of a header without a body.
 fn bytes_of(header: IpxHeader) -> [u8; IPX_HEADER_SIZE]
     ensures { IsIpx (packet_of header []) result [] }
 {
@@ -45,7 +45,7 @@ fn bytes_of(header: IpxHeader) -> [u8; IPX_HEADER_SIZE]
 }
 
 impl Disposition {
-    /// The clients and joined routers that the bytes go on to, as they came.
+    /// The clients and joined routers that the bytes are sent to, as they arrived.
     pub fn takers(self) -> Recipients
         ensures { result ≡ takers_of self }
     {
@@ -60,14 +60,14 @@ impl Disposition {
         }
     }
 
-    /// Whether the core of the port gets the bytes, as they came.
+    /// Whether the core of the port gets the bytes, as they arrived.
     pub fn is_for_core(self) -> bool
         ensures { result ≡ goes_to_core self }
     {
         matches!(self, Disposition::ToOthersAndCore(_) | Disposition::ToCore)
     }
 
-    /// The answer that goes back to where the datagram came from, if there is one.
+    /// The answer to send back to the source address, if there is one.
     pub fn answer(self) -> Option<[u8; IPX_HEADER_SIZE]>
         ensures answer { IfSome result (λ bytes. IsAnswer self bytes) }
         ensures answered { is_some result ≡ is_some (answer_of self) }
@@ -86,8 +86,9 @@ impl Disposition {
         }
     }
 
-    /// What tells each joined router that a client registered, if one did: a packet from its node to
-    /// its node. A router that hears it gives that node to no client of its own.
+    /// What tells each joined router that a client registered, if one did: a packet from the
+    /// client's node to the same node. A router that receives it gives that node to no client of
+    /// its own.
     pub fn announcement(self) -> Option<[u8; IPX_HEADER_SIZE]>
         ensures announcement { IfSome result (λ bytes. IsNotice self bytes) }
         ensures noticed { is_some result ≡ is_some (notice_of self) }

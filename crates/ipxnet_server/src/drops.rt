@@ -3,54 +3,58 @@
 use ipx_wire::{IpxFault, Network, Node};
 use thiserror::Error;
 
-/// Why a datagram that came, or a packet of the core, goes nowhere.
+/// Why a received datagram, or a packet of the core, is dropped.
 #[derive(Clone, Copy, Debug, PartialEq, Eq, Error)]
 pub enum ServerDrop {
-    /// It is no packet: why.
+    /// It is not a packet, for this cause.
     #[error("{0}")]
     Malformed(IpxFault),
-    /// A registration whose node is the router's or all nodes', or in a lobby that is joined another
-    /// client's, here or there: which.
+    /// It is a registration whose node is taken. It is the router's or the broadcast node, or, if
+    /// servers are joined, that of another client here or at a joined router. The value is the
+    /// node.
     #[error("a client's node is taken: {0}")]
     NodeTaken(Node),
-    /// A registration, and ten clients are new in less than a second.
+    /// It is a registration, and ten clients registered less than a second ago.
     #[error("too many registrations in a second")]
     TooManyNew,
-    /// A registration, and there are as many clients as there may be, all heard within the last hour.
+    /// It is a registration, and there are as many clients as allowed, all heard within the last
+    /// hour.
     #[error("the lobby is full")]
     Full,
-    /// It came from where no client is known.
+    /// No client is known at its source address.
     #[error("from no client")]
     Unregistered,
-    /// It has another source node than its client was given: which.
+    /// Its source node, which is the value, is not the one that its client was given.
     #[error("a client sent from a node that is not its own: {0}")]
     OtherSource(Node),
-    /// It has more bytes than a client takes: how many.
+    /// It has more bytes than a client accepts. The value is how many.
     #[error("{0} bytes, over the 1424 that a client takes")]
     TooLong(usize),
-    /// Nobody here has the node that it is for: which.
+    /// No client here has its destination node, which is the value.
     #[error("no client has the node {0}")]
     NoSuchNode(Node),
     /// It is for the client that sent it.
     #[error("a client sent to itself")]
     ToItself,
-    /// It is for the socket of registrations and pings on another network: on which.
+    /// It is for the socket of registrations and pings on another network, which is the value.
     #[error("a ping for network {0}")]
     PingElsewhere(Network),
-    /// It is for all nodes of another network: of which.
+    /// It is for all nodes of another network, which is the value.
     #[error("a broadcast for network {0}")]
     BroadcastElsewhere(Network),
-    /// It is for the core alone, and its source network is neither 0 nor the port's: which.
+    /// It is only for the core, and its source network, which is the value, is neither 0 nor the
+    /// port's.
     #[error("a client sent from network {0}")]
     FromElsewhere(Network),
-    /// It is for the core alone, and is a response of RIP or SAP, which tells routes or services.
+    /// It is only for the core, and is a response of RIP or SAP, which advertises routes or
+    /// services.
     #[error("a client told routes or services")]
     Response,
-    /// A joined router's, from a node of this network that no client there can have: 0, the router's
-    /// here, all nodes' or a client's here: which.
+    /// It is from a joined router, and from a node of this network that no client there can have.
+    /// That is 0, the router's here, the broadcast node or a client's here. The value is the node.
     #[error("a joined router sent from a node that is not behind it: {0}")]
     NotBehind(Node),
-    /// A joined router's, for another network: for which.
+    /// It is from a joined router, and for another network, which is the value.
     #[error("a joined router sent for network {0}")]
     ForElsewhere(Network),
 }

@@ -21,7 +21,7 @@ use ipx_wire::{
 /// The socket of registrations and pings.
 pub const SERVER_SOCKET: Socket = Socket(2);
 
-/// The most bytes of a datagram that a client takes whole.
+/// The most bytes of a datagram that a client accepts whole.
 pub const MAX_CLIENT_BYTES: usize = 1424;
 
 /// The operations of responses: of RIP and SAP, and of a SAP query for the nearest service.
@@ -29,7 +29,7 @@ const RESPONSE: u16 = 2;
 
 const NEAREST_RESPONSE: u16 = 4;
 
-/// Whether a client would not take so many bytes whole.
+/// Whether this many bytes are more than a client accepts whole.
 pub fn is_too_long(size: usize) -> bool
     ensures { result ≡ nat_lt max_client_bytes size }
 {
@@ -63,7 +63,7 @@ pub fn answer_with_node(port: ServerPort, node: Node) -> IpxHeader
     header_between(port.network, node, port.own)
 }
 
-/// Whether a packet, in a datagram of so many bytes, is a registration.
+/// Whether a packet, in a datagram of `size` bytes, is a registration.
 pub fn registers(header: IpxHeader, size: usize) -> bool
     ensures { result ≡ is_registration header size }
 {
@@ -73,7 +73,7 @@ pub fn registers(header: IpxHeader, size: usize) -> bool
         && header.to.socket == SERVER_SOCKET
 }
 
-/// Whether a packet stays on the network of the port.
+/// Whether a packet is for the network of the port.
 pub fn stays(port: ServerPort, header: IpxHeader) -> bool
     ensures { result ≡ is_for_server port header }
 {
@@ -106,7 +106,8 @@ pub fn is_for_service(bytes: &[u8]) -> bool
     }
 }
 
-/// The clients that a packet of the core for all nodes goes to, which may be for a service of a router.
+/// The clients that a packet of the core for all nodes is sent to. `to_service` says that it is for
+/// a service of a router.
 pub fn takers_of_all(to_service: bool) -> Recipients
     ensures { result ≡ all_get to_service }
 {
@@ -124,14 +125,14 @@ pub fn is_from_here(port: ServerPort, header: IpxHeader) -> bool
     header.from.network == Network::LOCAL || header.from.network == port.network
 }
 
-/// Whether one of a packet's sockets is this.
+/// Whether one of a packet's sockets is this one.
 fn has(socket: Socket, header: IpxHeader) -> bool
     ensures { result ≡ has_socket socket.0 header }
 {
     header.to.socket == socket || header.from.socket == socket
 }
 
-/// Whether a packet tells routes or services: a response of RIP or SAP.
+/// Whether a packet advertises routes or services: a response of RIP or SAP.
 fn tells(packet: &Packet<'_>) -> bool
     ensures { result ≡ tells_router (packet_view packet.now) }
 {
@@ -144,14 +145,15 @@ fn tells(packet: &Packet<'_>) -> bool
             && (operation == RESPONSE || operation == NEAREST_RESPONSE))
 }
 
-/// Whether the core may get a packet: it comes from the network of the port, and tells nothing.
+/// Whether the core may get a packet: it comes from the network of the port, and advertises
+/// nothing.
 fn may_reach(port: ServerPort, packet: &Packet<'_>) -> bool
     ensures { result ≡ may_reach_core port (packet_view packet.now) }
 {
     is_from_here(port, packet.header) && !tells(packet)
 }
 
-/// What becomes of a packet that is for the core alone.
+/// What becomes of a packet that is only for the core.
 pub fn to_core(port: ServerPort, packet: &Packet<'_>) -> Disposition
     ensures { result ≡ core_hears port (packet_view packet.now) }
 {
@@ -164,7 +166,7 @@ pub fn to_core(port: ServerPort, packet: &Packet<'_>) -> Disposition
     Disposition::ToCore
 }
 
-/// What becomes of a packet for all nodes here, in a datagram of so many bytes.
+/// What becomes of a packet for all nodes here, in a datagram of `size` bytes.
 pub fn to_all(port: ServerPort, from: Place, packet: &Packet<'_>, size: usize) -> Disposition
     ensures { result ≡ all_hear port from (packet_view packet.now) size }
 {
@@ -196,8 +198,8 @@ pub fn elsewhere(port: ServerPort, packet: &Packet<'_>) -> Disposition
     to_core(port, packet)
 }
 
-/// The joined routers that bytes for a node go to which no client has: the one behind which it is
-/// known, or each.
+/// The joined routers that a packet is sent to if no client has its node: the router where the node
+/// is known, otherwise each.
 pub fn joined_takers_of(far: Option<RemoteClient>) -> Recipients
     ensures { result ≡ joined_takers far }
 {
@@ -207,7 +209,7 @@ pub fn joined_takers_of(far: Option<RemoteClient>) -> Recipients
     }
 }
 
-/// The node that a packet of a joined router is from, where it comes from the network of the port.
+/// The node that a joined router's packet is from, if it comes from the network of the port.
 fn far_node(port: ServerPort, header: IpxHeader) -> Option<Node>
     ensures { result ≡ far_source port header }
 {
@@ -218,14 +220,14 @@ fn far_node(port: ServerPort, header: IpxHeader) -> Option<Node>
     }
 }
 
-/// Whether a packet of a joined router tells where a node is, and is for nobody.
+/// Whether a packet of a joined router only shows where a node is.
 pub fn notes_node(port: ServerPort, header: IpxHeader) -> bool
     ensures { result ≡ tells_node port header }
 {
     is_from_here(port, header) && header.to.node == header.from.node
 }
 
-/// What becomes of a packet of a joined router for all nodes, in a datagram of so many bytes.
+/// What becomes of a packet of a joined router for all nodes, in a datagram of `size` bytes.
 pub fn joined_to_all(port: ServerPort, from: Place, header: IpxHeader, size: usize) -> Disposition
     ensures { result ≡ all_hear_joined port from header size }
 {

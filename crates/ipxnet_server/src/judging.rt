@@ -1,4 +1,4 @@
-//! What becomes of a packet, by who is known.
+//! What becomes of a packet, from the clients that are known.
 
 ghost use Rattle.std.specs.Prelude.{◌≡◌, []};
 ghost use Rattle.ipx_wire.specs.Ipx.{packet_view};
@@ -19,14 +19,14 @@ use crate::server::IpxnetServer;
 use ipx_wire::{IpxHeader, Node, Packet};
 
 impl IpxnetServer {
-    /// Whether a node is the router's, all nodes' or a client's.
+    /// Whether a node is the router's, the broadcast node or a client's.
     fn is_here(&self, node: Node) -> bool
         ensures { result ≡ is_node_here self.now.port self.now.clients node }
     {
         node == self.port.own || node == Node::BROADCAST || self.clients.of_node(node).is_some()
     }
 
-    /// Whether no client behind a joined router can have a node.
+    /// Whether no client of a joined router can have a node.
     fn is_not_behind(&self, node: Node) -> bool
         ensures { result ≡ is_not_behind self.now.port self.now.clients node }
     {
@@ -40,7 +40,7 @@ impl IpxnetServer {
         self.is_here(node) || self.joined.of_node(node).is_some()
     }
 
-    /// The node that a new client at a place gets.
+    /// The node that a new client at an address gets.
     pub(crate) fn node_for(&self, from: Place) -> Node
         ensures node { result ≡ node_given self.now from }
         ensures alone { self.now.routers ≡ [] → result ≡ node_of_place from }
@@ -48,7 +48,7 @@ impl IpxnetServer {
         self.joined.node_for(self.port.own, from)
     }
 
-    /// Why who registers, and would get this node, becomes no client.
+    /// Why a registration that would get this node is refused.
     fn refuses(&self, node: Node, now: u64) -> Option<ServerDrop>
         ensures { result ≡ newcomer_drop self.now node now }
     {
@@ -78,7 +78,7 @@ impl IpxnetServer {
         }
     }
 
-    /// What becomes of a packet for one node here, which no client has.
+    /// What becomes of a packet for one node here that no client has.
     fn to_far(&self, node: Node, size: usize) -> Disposition
         ensures { result ≡ far_hear self.now node size }
     {
@@ -117,7 +117,7 @@ impl IpxnetServer {
         self.to_node(from, packet.header, size)
     }
 
-    /// What becomes of a packet of a client, if one is known there.
+    /// What becomes of a packet from a client's address, if a client is known there.
     fn from_client(
         &self,
         from: Place,

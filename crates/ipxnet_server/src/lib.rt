@@ -1,12 +1,12 @@
-//! A port for the clients of DOSBox's ipxnet: players who reach a router over UDP.
+//! A server for the clients of DOSBox's ipxnet: players who reach a router over UDP.
 //!
-//! [`IpxnetServer::hear`] says of a datagram that came from a place what is answered, to which clients the
-//! bytes go on, and whether the core of the port gets them. [`IpxnetServer::give`] says which clients a
-//! packet of the core goes to. Memory is taken by [`IpxnetServer::new`] and [`IpxnetServer::joined_to`] alone.
+//! [`IpxnetServer::hear`] takes a datagram and its source address. It tells what is answered, which
+//! clients the bytes are sent to, and whether the core of the port gets them.
+//! [`IpxnetServer::give`] tells which clients a packet of the core is sent to. Only
+//! [`IpxnetServer::new`] and [`IpxnetServer::joined_to`] allocate memory.
 //!
-//! Lobbies of several routers can be joined as one network: what a client of one sends to all nodes,
-//! or to a node that none there has, goes to the joined routers too, and from there to their clients
-//! alone.
+//! Servers of several routers can be joined as one network. Joined routers get what a client sends
+//! to all nodes, or to a node that no client of its server has. They send it only to their clients.
 #![tactic(auto)]
 
 mod clients;

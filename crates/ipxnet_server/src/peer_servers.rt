@@ -1,4 +1,4 @@
-//! The routers that a lobby is joined to, and the clients that these have.
+//! The routers that a server is joined to, and their clients.
 
 ghost use Rattle.std.specs.Prelude.{◌≡◌, ◌≤◌, ◌<◌, ◌+◌, ◌-◌, [], IfOk, None, drop, filter, find, length, not, option_copied, true};
 ghost use Rattle.std.specs.Vec.{vec_capacity, vec_len};
@@ -12,22 +12,22 @@ use ipx_wire::Node;
 use std::alloc::{AllocError, Global};
 use std::marker::Model;
 
-/// How many clients of joined routers are known at once.
+/// How many clients of joined routers are known at most.
 pub const MAX_REMOTE_CLIENTS: usize = 1024;
 
 /// A client of a joined router.
 #[derive(Clone, Copy, Debug, PartialEq, Eq)]
 pub struct RemoteClient {
-    /// Its node, as that router tells.
+    /// Its node, as that router showed.
     pub node: Node,
-    /// Where the router is.
+    /// The router's address.
     pub router: Place,
-    /// When it was heard last, in ms.
+    /// When it was last heard, in ms.
     pub heard: u64,
 }
 
-/// The routers that a lobby is joined to, and their clients, the one that was heard last behind the
-/// others.
+/// The routers that a server is joined to, and their clients, in the order in which these were last
+/// heard.
 #[derive(Drop)]
 pub struct Joined {
     routers: Vec<Place>,
@@ -45,14 +45,14 @@ impl Model for Joined {
     ghost invariant = { λ j. AreFarClients j.routers.items j.far.items (vec_capacity j.far) };
 }
 
-/// Whether one of these is at a place.
+/// Whether one of these is at an address.
 fn is_one(routers: &[Place], place: Place) -> bool
     ensures { result ≡ is_joined_place place routers.now }
 {
     routers.iter().any(|router| *router == place)
 }
 
-/// All of them but the one of a node.
+/// Removes the client of a node.
 fn leave_out(far: &mut Vec<RemoteClient>, node: Node)
     ensures items { far.new.items ≡ filter (λ f. not (has_far_node node f)) far.old.items }
     ensures fewer { vec_len far.new ≤ vec_len far.old }
@@ -61,7 +61,7 @@ fn leave_out(far: &mut Vec<RemoteClient>, node: Node)
     far.retain(|client| client.node != node);
 }
 
-/// All of them but those who were silent for a day.
+/// Removes the clients that were silent for a day.
 fn leave_out_silent(far: &mut Vec<RemoteClient>, now: u64)
     ensures items { far.new.items ≡ far_clients_left now far.old.items }
     ensures fewer { vec_len far.new ≤ vec_len far.old }
@@ -70,7 +70,7 @@ fn leave_out_silent(far: &mut Vec<RemoteClient>, now: u64)
     far.retain(|client| now.saturating_sub(client.heard) < FORGOTTEN_AFTER_MS);
 }
 
-/// Lets the one go that was heard before all others, where no other finds room.
+/// Removes the client that was heard before all others, if there is no room for another.
 fn make_room(far: &mut Vec<RemoteClient>)
     requires { vec_len far.old ≤ max_remote_clients }
     ensures items { far.new.items
@@ -83,15 +83,15 @@ fn make_room(far: &mut Vec<RemoteClient>)
     }
 }
 
-/// The one of a node.
+/// The client of a node.
 fn find_node(far: &[RemoteClient], node: Node) -> Option<&RemoteClient>
     ensures { option_copied result ≡ find (has_far_node node) far.now }
 {
     far.iter().find(|client| client.node == node)
 }
 
-/// A node of a router's making for a client at a place: the router's, with the client's port of UDP in
-/// place of its last two bytes.
+/// A node that a router makes for a client at an address: the router's node, with the client's UDP
+/// port as its last two bytes.
 fn make_node(own: Node, place: Place) -> Node
     ensures { result ≡ made_node own place }
 {
@@ -101,7 +101,7 @@ fn make_node(own: Node, place: Place) -> Node
 }
 
 impl Joined {
-    /// These routers, and none of their clients yet. Memory for all of those is taken here.
+    /// These routers, and none of their clients yet. This takes the memory for all of those.
     pub fn new(alloc: Global, routers: Vec<Place>) -> Result<Joined, AllocError>
         ensures { IfOk result (λ j. j ≡ record { routers = routers.items; far = [] }) }
     {
@@ -109,14 +109,14 @@ impl Joined {
         Ok(Joined { routers, far })
     }
 
-    /// Where the routers are.
+    /// The routers' addresses.
     pub fn routers(&self) -> &[Place]
         ensures { result.now ≡ self.now.routers }
     {
         &self.routers
     }
 
-    /// Their clients, the one that was heard last behind the others.
+    /// Their clients, in the order in which they were last heard.
     pub fn far_clients(&self) -> &[RemoteClient]
         ensures far { result.now ≡ self.now.far }
         ensures few { length self.now.far ≤ max_remote_clients }
@@ -125,7 +125,7 @@ impl Joined {
         &self.far
     }
 
-    /// Whether one of the routers is at a place.
+    /// Whether one of the routers is at an address.
     pub fn has(&self, place: Place) -> bool
         ensures { result ≡ is_joined_place place self.now.routers }
     {
@@ -140,7 +140,7 @@ impl Joined {
         find_node(&self.far, node).copied()
     }
 
-    /// The node that a new client at a place gets from a router with this node.
+    /// The node that a new client at an address gets from a router with this node.
     pub fn node_for(&self, own: Node, place: Place) -> Node
         ensures node { result ≡ newcomer_node own self.now.far place }
         ensures alone { self.now.routers ≡ [] → result ≡ node_of_place place }
@@ -152,15 +152,15 @@ impl Joined {
         node
     }
 
-    /// Those who were silent for a day are forgotten.
+    /// Forgets the clients that were silent for a day.
     pub fn age(&mut self, now: u64)
         ensures { self.new ≡ record self.old { far = far_clients_left now self.old.far } }
     {
         leave_out_silent(&mut self.far, now);
     }
 
-    /// The client of a node is heard through the router at a place. Where there are too many the one
-    /// goes that was heard before all others.
+    /// The client of a node is heard through the router at an address. If there are too many, the
+    /// one heard before all others is removed.
     pub fn put(&mut self, node: Node, router: Place, now: u64)
         requires { is_joined_place router self.old.routers ≡ true }
         ensures { self.new ≡ record self.old {

@@ -1,4 +1,4 @@
-//! Where a client is.
+//! The address of a client.
 
 ghost use Rattle.std.specs.Prelude.{◌≡◌};
 ghost use Rattle.ipxnet_server.specs.ServerClients.{node_of_place};
@@ -6,7 +6,7 @@ ghost use Rattle.ipxnet_server.specs.ServerClients.{node_of_place};
 use byteorder::{BigEndian, ByteOrder};
 use ipx_wire::Node;
 
-/// Where a client is: an IP address, and a port of UDP there.
+/// The address of a client: an IP address, and a UDP port there.
 #[derive(Clone, Copy, Debug, PartialEq, Eq)]
 pub struct Place {
     pub ip: [u8; 4],
@@ -14,8 +14,8 @@ pub struct Place {
 }
 
 impl Place {
-    /// The node that a client there gets: the IP address, and then the port, high byte first. So do
-    /// the servers that its users know, and two places have two nodes.
+    /// The node that a client there gets: the IP address, then the port, high byte first. The known
+    /// ipxnet servers do the same, and two addresses have two nodes.
     pub fn node(self) -> Node
         ensures { result ≡ node_of_place self }
     {

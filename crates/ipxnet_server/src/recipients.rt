@@ -5,28 +5,29 @@ ghost use Rattle.ipxnet_server.specs.ServerHears.{is_joined_taker, is_taker};
 
 use crate::place::Place;
 
-/// The clients of a lobby, and the routers that it is joined to, that bytes go to.
+/// The clients of a server, and the routers that it is joined to, that bytes are sent to.
 #[derive(Clone, Copy, Debug, PartialEq, Eq)]
 pub enum Recipients {
     /// None.
     Nobody,
-    /// The one at a place: at which.
+    /// The client at this address.
     One(Place),
-    /// Each client but the one that sent them, where that is; and each joined router.
+    /// Each joined router, and each client except the sender at this address.
     Others(Place),
     /// Each client, and no joined router.
     All,
-    /// The same, of what came from a joined router: where that is.
+    /// Each client except one at this address, and no joined router. The bytes came from the joined
+    /// router there.
     Here(Place),
     /// Each joined router, and no client.
     Joined,
-    /// The joined router at a place: at which.
+    /// The joined router at this address.
     JoinedAt(Place),
 }
 
 impl Recipients {
-    /// Whether the client at a place is one of them, where there is a client: `IpxnetServer::reaches` asks
-    /// for that too.
+    /// Whether a client at an address is one of them. Whether a client is there is not asked, but
+    /// `IpxnetServer::reaches` asks it too.
     pub fn has(self, place: Place) -> bool
         ensures { result ≡ is_taker self place }
     {
@@ -40,8 +41,8 @@ impl Recipients {
         }
     }
 
-    /// Whether the joined router at a place is one of them, where a router is joined: `IpxnetServer::joins`
-    /// asks for that too.
+    /// Whether a joined router at an address is one of them. Whether a router is joined there is
+    /// not asked, but `IpxnetServer::joins` asks it too.
     pub fn has_router(self, place: Place) -> bool
         ensures { result ≡ is_joined_taker self place }
     {

@@ -1,4 +1,4 @@
-//! A port for clients that register.
+//! The ipxnet server of a port.
 
 ghost use Rattle.std.specs.Prelude.{◌≡◌, ◌≤◌, ◌&&◌, ℕ, All, List, [], IfOk, None, Ok, Option, Some, false, is_some, length, nat_le, true};
 ghost use Rattle.ipx_wire.specs.declared.ipx.fault.IpxFault.{IpxFault};
@@ -30,8 +30,8 @@ use ipx_wire::{Node, decode};
 use std::alloc::{AllocError, Global};
 use std::marker::Model;
 
-/// A port for clients that register, and a hub between them, which may be joined to those of other
-/// routers.
+/// An ipxnet server: it registers clients and forwards packets between them. It may be joined to
+/// the servers of other routers.
 #[derive(Drop)]
 pub struct IpxnetServer {
     pub(crate) port: ServerPort,
@@ -60,15 +60,15 @@ impl Model for IpxnetServer {
 }
 
 impl IpxnetServer {
-    /// Whether a lobby may have so many clients at most: 1 to `MAX_CLIENTS`.
+    /// Whether a server may be limited to `most` clients: 1 to `MAX_CLIENTS`.
     pub fn may_have(most: usize) -> bool
         ensures { result ≡ (nat_le 1 most && nat_le most max_server_clients) }
     {
         1 <= most && most <= MAX_CLIENTS
     }
 
-    /// A lobby of a port, with at most so many clients: 1 to 150, which the caller owes. It is joined
-    /// to no router, and nobody is known yet. Memory is taken here, or by `IpxnetServer::joined_to`, alone.
+    /// A server of a port, with at most `most` clients, which must be 1 to 150. It is joined to no
+    /// router, and knows no client. Only this and `IpxnetServer::joined_to` allocate memory.
     pub fn new(alloc: Global, port: ServerPort, most: usize) -> Result<IpxnetServer, AllocError>
         requires some { 1 ≤ most }
         requires few { most ≤ max_server_clients }
@@ -77,9 +77,9 @@ impl IpxnetServer {
         IpxnetServer::joined_to(alloc, port, most, Vec::new(alloc))
     }
 
-    /// The same lobby, joined to those of routers at these places as one network: each of these names
-    /// the others, and has the same network number and a node of its own. A place is that from which
-    /// the router sends.
+    /// The same server, joined to those of the routers at these addresses as one network. Each of
+    /// these must name all others, have the same network number, and have its own node. An address
+    /// is the one that the router sends from.
     pub fn joined_to(
         alloc: Global,
         port: ServerPort,
@@ -114,8 +114,8 @@ impl IpxnetServer {
         self.counts
     }
 
-    /// The clients, the one that was heard last behind the others: no two at one place, and no two of
-    /// one node, which is that of its place where no router is joined.
+    /// The clients, in the order in which they were last heard. No two have one address, and no two
+    /// have one node. If no router is joined, each has the node of its address.
     pub fn clients(&self) -> &[Client]
         ensures all { result.now ≡ self.now.clients }
         ensures once { EachClientOnce self.now.clients }
@@ -127,14 +127,14 @@ impl IpxnetServer {
         self.clients.all()
     }
 
-    /// Where the routers are that the lobby is joined to.
+    /// The addresses of the routers that the server is joined to.
     pub fn routers(&self) -> &[Place]
         ensures { result.now ≡ self.now.routers }
     {
         self.joined.routers()
     }
 
-    /// The clients of joined routers, the one that was heard last behind the others.
+    /// The clients of joined routers, in the order in which they were last heard.
     pub fn far_clients(&self) -> &[RemoteClient]
         ensures all { result.now ≡ self.now.far }
         ensures few { length self.now.far ≤ max_remote_clients }
@@ -143,14 +143,15 @@ impl IpxnetServer {
         self.joined.far_clients()
     }
 
-    /// Whether bytes with these takers go to the joined router at a place.
+    /// Whether bytes with these takers are sent to the joined router at an address.
     pub fn joins(&self, takers: Recipients, place: Place) -> bool
         ensures { result ≡ takers_join self.now takers place }
     {
         self.joined.has(place) && takers.has_router(place)
     }
 
-    /// Whether bytes with these takers go to a place: a client is known there, and it is one of them.
+    /// Whether bytes with these takers are sent to an address: a client is known there, and it is
+    /// one of them.
     pub fn reaches(&self, takers: Recipients, place: Place) -> bool
         ensures { result ≡ takers_reach self.now takers place }
     {
@@ -171,7 +172,7 @@ impl IpxnetServer {
         }
     }
 
-    /// The client at a place was heard.
+    /// The client at an address was heard.
     fn know(&mut self, from: Place, now: u64)
         requires { client_at from self.old.clients ≡ None
             → client_of_node (node_given self.old from) self.old.clients ≡ None }
@@ -181,7 +182,7 @@ impl IpxnetServer {
         self.clients.put(node, from, now);
     }
 
-    /// The joined router at a place told where a node is, or none.
+    /// The joined router at an address showed where a node is, or nothing.
     fn know_far(&mut self, told: Option<Node>, from: Place, now: u64)
         requires { is_joined_place from self.old.routers ≡ true }
         ensures { self.new ≡ server_told told from now self.old }
@@ -191,7 +192,8 @@ impl IpxnetServer {
         }
     }
 
-    /// Keeps what became of a datagram: its cause, where it was dropped, or that its sender was heard.
+    /// Records what became of a datagram: its cause if it was dropped, otherwise that its sender
+    /// was heard.
     fn keep(&mut self, heard: Disposition, from: Place, now: u64)
         requires free { is_of_client heard ≡ true → client_at from self.old.clients ≡ None
             → client_of_node (node_given self.old from) self.old.clients ≡ None }
@@ -212,7 +214,7 @@ impl IpxnetServer {
         }
     }
 
-    /// Those who were silent for a day are forgotten.
+    /// Forgets the clients that were silent for a day.
     fn age(&mut self, now: u64)
         ensures aged { self.new ≡ server_aged now self.old }
         ensures few { length self.new.clients ≤ self.new.most }
@@ -221,47 +223,49 @@ impl IpxnetServer {
         self.joined.age(now);
     }
 
-    /// A datagram that came from a place at the moment `now`, in ms: what is answered, which clients
-    /// and joined routers the bytes go on to, and whether the core gets them. No memory is taken.
+    /// What becomes of a datagram that came from an address at time `now`, in ms: what is answered,
+    /// which clients and joined routers the bytes are sent to, and whether the core gets them. It
+    /// allocates no memory.
     ///
-    /// One calls it with whatever came, first sends the answer to that place, and then the bytes, as
-    /// they came, to each of the clients and joined routers that are among the takers, and to each
-    /// joined router the notice. What is dropped changes nothing but its count, and who was silent for
-    /// a day is forgotten at any call.
+    /// Call it with each datagram. First send the answer to that address. Then send the bytes, as
+    /// they arrived, to each client and joined router among the takers, and the announcement to
+    /// each joined router. A dropped datagram changes only the count of its cause. Each call
+    /// forgets the clients that were silent for a day.
     pub fn hear(&mut self, from: Place, bytes: &[u8], now: u64) -> Disposition
-        // What becomes of it: bytes are no packet, or they begin with one.
+        // What becomes of it, if the bytes are no packet, and if they begin with one.
         ensures malformed { (f : IpxFault) → ipx_fault bytes.now ≡ Some f
             → result ≡ Dropped (Malformed f) }
         ensures packet { (p : PacketView) → BeginsWith bytes.now p
             → result ≡ server_hears (server_aged now self.old) from p (length bytes.now) now }
-        // What the lobby is then.
+        // What the server is then.
         ensures server { self.new ≡ server_hearing result from now (server_aged now self.old) }
-        // It never goes back to its sender, but for an answer: to a registration one of as many bytes.
+        // It is never sent back to its sender, except as an answer. A registration has an answer of
+        // as many bytes.
         ensures back { is_taker (takers_of result) from ≡ false }
         ensures as_many { (header : IpxHeader) (answer : List ℕ) → result ≡ Registered header
             → IsAnswer result answer → length answer ≡ length bytes.now }
         ensures no_longer { (answer : List ℕ) → IsAnswer result answer
             → length answer ≤ length bytes.now }
-        // Who sent what is not dropped is a client then, or a joined router, and the one that it goes
-        // to is a client.
+        // The sender of a datagram that is not dropped is then a client, or it is a joined router.
+        // The one client that it is sent to is known.
         ensures sender { is_dropped result ≡ false → is_joined_place from self.old.routers ≡ false
             → client_at from self.new.clients ≡ Some (client_heard
             (node_given (server_aged now self.old) from) from now
             (client_at from (clients_left now self.old.clients))) }
         ensures taker { (place : Place) → takers_of result ≡ One place
             → is_some (client_at place self.new.clients) ≡ true }
-        // The core gets nothing that comes from another network, nor a response of RIP or SAP.
+        // The core gets nothing that comes from another network, and no response of RIP or SAP.
         ensures core { (p : PacketView) → BeginsWith bytes.now p → goes_to_core result ≡ true
             → may_reach_core self.old.port p ≡ true }
-        // What came from a joined router goes to none of them, and not to the core; it is not answered,
-        // and makes no client.
+        // What came from a joined router is sent to no joined router and not to the core. It is not
+        // answered, and makes no client.
         ensures ring { is_joined_place from self.old.routers ≡ true
             → (place : Place) → is_joined_taker (takers_of result) place ≡ false }
         ensures apart { is_joined_place from self.old.routers ≡ true → goes_to_core result ≡ false }
         ensures unanswered { is_joined_place from self.old.routers ≡ true → answer_of result ≡ None }
         ensures members { is_joined_place from self.old.routers ≡ true
             → self.new.clients ≡ clients_left now self.old.clients }
-        // Nothing that a client sent tells where a far client is.
+        // Nothing that a client sent shows where a remote client is.
         ensures told { is_joined_place from self.old.routers ≡ false
             → self.new.far ≡ (server_aged now self.old).far }
     {
@@ -271,11 +275,11 @@ impl IpxnetServer {
         heard
     }
 
-    /// Which clients and joined routers a packet of the core for a node goes to, at the moment `now`,
-    /// in ms, or why it goes to none. What it tells or asks all nodes by RIP and SAP goes to nobody. No
-    /// memory is taken.
+    /// Which clients and joined routers a packet of the core for a node is sent to, or why it is
+    /// dropped. The time `now` is in ms. A packet for all nodes that is for the socket of RIP or
+    /// SAP is sent to nobody. It allocates no memory.
     pub fn give(&mut self, node: Node, packet: &[u8], now: u64) -> Result<Recipients, ServerDrop>
-        // A packet may be for a service of a router; bytes that are none are not.
+        // A packet may be for a service of a router; bytes that are no packet are not.
         ensures packet { (p : PacketView) → BeginsWith packet.now p → result ≡ server_gives
             (server_aged now self.old) node (is_to_service p.header) (length packet.now) }
         ensures malformed { (f : IpxFault) → ipx_fault packet.now ≡ Some f
@@ -294,8 +298,8 @@ impl IpxnetServer {
         takers
     }
 
-    /// Which clients a packet of the core of so many bytes goes to, which may be for a service of a
-    /// router.
+    /// Which clients a packet of the core of `size` bytes is sent to. `to_service` says that it is
+    /// for a service of a router.
     fn takers(&self, node: Node, to_service: bool, size: usize) -> Result<Recipients, ServerDrop>
         ensures { result ≡ server_gives self.now node to_service size }
     {

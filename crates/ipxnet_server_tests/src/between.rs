@@ -1,4 +1,4 @@
-//! Packets between players: who gets them, and what stays as it came.
+//! Packets between players: who gets them, and that they are sent as they arrived.
 
 use crate::caller::give;
 use crate::fixture::{
@@ -8,7 +8,7 @@ use ipx_wire::Node;
 use ipxnet_server::{Disposition, IpxnetServer, ServerDrop};
 use std::test::Fail;
 
-/// By the network that they were told, or by 0; whatever its hops and type are.
+/// To the network that players were told, or to 0, with any hops and type.
 #[test]
 fn to_one_player(rt: HostRuntime) -> Result<(), Fail> {
     let mut server = IpxnetServer::new(rt.alloc(), PORT, 64)?;
@@ -20,20 +20,20 @@ fn to_one_player(rt: HostRuntime) -> Result<(), Fail> {
         server.hear(FIRST, &bytes, 0),
         Disposition::ToClient(SECOND)
     );
-    // With bytes behind it, which go along.
+    // With bytes after it, which are sent too.
     let mut padded = [0xee; 36];
     padded[..34].copy_from_slice(&CAME);
     assert_eq!(rt;
         server.hear(FIRST, &padded, 0),
         Disposition::ToClient(SECOND)
     );
-    // Also to a socket of the router's services: it is for that player's program.
+    // Also to a socket of the router's services: the packet is for that player's program.
     let rip = packet(SECOND_NODE, 0x453, FIRST_NODE);
     assert_eq!(rt; server.hear(FIRST, &rip, 0), Disposition::ToClient(SECOND));
     Ok(())
 }
 
-/// To all nodes: to the others, and where it asks for routes or services to the core too.
+/// To all nodes: to the others, and if it asks for routes or services to the core too.
 #[test]
 fn to_all_players(rt: HostRuntime) -> Result<(), Fail> {
     let mut server = IpxnetServer::new(rt.alloc(), PORT, 64)?;
@@ -50,7 +50,7 @@ fn to_all_players(rt: HostRuntime) -> Result<(), Fail> {
             (false, [false, true, true], core)
         );
     }
-    // NetBIOS, of type 20: to the others, as any.
+    // NetBIOS, of type 20: to the others, like any other packet.
     let mut netbios = packet(Node::BROADCAST, 0x455, FIRST_NODE);
     netbios[5] = 20;
     assert_eq!(rt;
@@ -60,7 +60,7 @@ fn to_all_players(rt: HostRuntime) -> Result<(), Fail> {
     Ok(())
 }
 
-/// To the router's node: to the core alone.
+/// To the router's node: only to the core.
 #[test]
 fn to_the_router(rt: HostRuntime) -> Result<(), Fail> {
     let mut server = IpxnetServer::new(rt.alloc(), PORT, 64)?;
@@ -73,7 +73,7 @@ fn to_the_router(rt: HostRuntime) -> Result<(), Fail> {
     Ok(())
 }
 
-/// A player takes 1,424 bytes whole, and no more.
+/// A player accepts 1,424 bytes whole, and no more.
 #[test]
 fn sizes(rt: HostRuntime) -> Result<(), Fail> {
     let mut server = IpxnetServer::new(rt.alloc(), PORT, 64)?;
@@ -92,14 +92,14 @@ fn sizes(rt: HostRuntime) -> Result<(), Fail> {
     );
     assert_eq!(rt; server.hear(FIRST, &one[..1425], 0), long);
     assert_eq!(rt; server.counts().too_long, 2);
-    // The core takes more.
+    // The core accepts more.
     let router = long_packet(PORT.own, 1500);
     assert_eq!(rt; server.hear(FIRST, &router, 0), Disposition::ToCore);
     Ok(())
 }
 
-/// Whom it is sent from counts, not the source node alone: a packet with the second player's node
-/// goes nowhere from the first.
+/// The source address counts, not only the source node: a packet from the first player with the
+/// second's node is dropped.
 #[test]
 fn from_anothers_node(rt: HostRuntime) -> Result<(), Fail> {
     let mut server = IpxnetServer::new(rt.alloc(), PORT, 64)?;

@@ -1,4 +1,4 @@
-//! How one gives a datagram on that came from a place.
+//! How a caller sends on a datagram that came from an address.
 
 use crate::fixture::{
     CAME, FIRST, FIRST_NODE, PORT, REGISTRATION, SECOND, THIRD, packet, register_all,
@@ -16,8 +16,8 @@ pub fn reached(server: &IpxnetServer, takers: Recipients) -> [bool; 3] {
     ]
 }
 
-/// What becomes of a datagram: whether it is answered, which of the three players get it, and whether
-/// the core does.
+/// What becomes of a datagram: whether it is answered, which of the three players get it, and
+/// whether the core does.
 pub fn give(server: &mut IpxnetServer, from: Place, bytes: &[u8]) -> (bool, [bool; 3], bool) {
     let heard = server.hear(from, bytes, 0);
     let answered = heard.answer().is_some();
@@ -31,7 +31,7 @@ pub fn give(server: &mut IpxnetServer, from: Place, bytes: &[u8]) -> (bool, [boo
 #[test]
 fn datagrams_of_three_players(rt: HostRuntime) -> Result<(), Fail> {
     let mut server = IpxnetServer::new(rt.alloc(), PORT, 64)?;
-    // Before it registers nobody gets anything, and nothing comes of what it sends.
+    // Before a player registers nobody gets anything, and what it sends is dropped.
     assert_eq!(rt; give(&mut server, FIRST, &CAME), (false, [false; 3], false));
     assert_eq!(rt;
         give(&mut server, FIRST, &REGISTRATION),

@@ -1,14 +1,14 @@
-//! What is dropped, its cause, and that nothing but a count changes.
+//! What is dropped, its cause, and that only a count changes.
 
 use crate::fixture::{CAME, FIRST, FIRST_NODE, PORT, SECOND, packet, packet_for, register_all};
 use ipx_wire::{IpxFault, Network, Node};
 use ipxnet_server::{Disposition, IpxnetServer, Place, ServerCounts, ServerDrop};
 use std::test::Fail;
 
-/// A node that nobody has.
+/// A node that no client has.
 const NOBODY: Node = Node([2, 0, 0, 0, 0, 1]);
 
-/// Each cause of what a client sends, from the first to the last.
+/// Each cause for what a client sends, in order.
 #[test]
 fn causes(rt: HostRuntime) -> Result<(), Fail> {
     let mut server = IpxnetServer::new(rt.alloc(), PORT, 64)?;
@@ -48,12 +48,12 @@ fn causes(rt: HostRuntime) -> Result<(), Fail> {
         ..ServerCounts::new()
     };
     assert_eq!(rt; server.counts(), wanted);
-    // None of them was heard from by that.
+    // None of that counts as heard from it.
     assert_eq!(rt; server.clients()[0], before);
     Ok(())
 }
 
-/// Another port of the same address is another end.
+/// Another port of the same IP address is another address.
 #[test]
 fn from_another_port(rt: HostRuntime) -> Result<(), Fail> {
     let mut server = IpxnetServer::new(rt.alloc(), PORT, 64)?;
@@ -78,7 +78,7 @@ fn from_another_port(rt: HostRuntime) -> Result<(), Fail> {
     Ok(())
 }
 
-/// Three bytes, and a packet that is cut: from whomever they come.
+/// Three bytes, and a truncated packet, from any address.
 #[test]
 fn no_packets(rt: HostRuntime) -> Result<(), Fail> {
     let mut server = IpxnetServer::new(rt.alloc(), PORT, 64)?;
@@ -95,7 +95,7 @@ fn no_packets(rt: HostRuntime) -> Result<(), Fail> {
     Ok(())
 }
 
-/// What is said of each cause.
+/// The text of each cause.
 #[test]
 fn texts(rt: HostRuntime) -> Result<(), Fail> {
     let rows = [

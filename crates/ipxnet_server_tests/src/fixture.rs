@@ -3,7 +3,7 @@
 use ipx_wire::{Network, Node};
 use ipxnet_server::{IpxnetServer, Place, ServerPort};
 
-/// The port, which tells players the network 0000d05b.
+/// The port, whose network 0000d05b players are told.
 pub const PORT: ServerPort = ServerPort {
     network: Network(0xd05b),
     own: Node([2, 0, 0, 0, 0xd0, 0x5b]),
@@ -37,8 +37,8 @@ pub const REGISTRATION: [u8; 30] = [
     2,
 ];
 
-/// A packet of 34 bytes from the first player to socket 4001 of the second, as its driver sends it:
-/// both networks are the one that it was told.
+/// A packet of 34 bytes from the first player to socket 4001 of the second, as its driver sends it.
+/// Both networks are the one that it was told.
 pub const CAME: [u8; 34] = [
     0xff, 0xff, 0, 0x22, 0, 4, 0, 0, 0xd0, 0x5b, 0x7f, 0, 0, 1, 0xbc, 0x48, 0x40, 1, 0, 0, 0xd0,
     0x5b, 0x7f, 0, 0, 1, 0xbc, 0x47, 0x40, 1, 1, 2, 3, 4,
@@ -62,7 +62,7 @@ pub fn packet_for(network: u32, to: Node, socket: u16, from: Node) -> [u8; 34] {
     bytes
 }
 
-/// A packet of so many bytes from the first player, at most 1,500.
+/// A packet of `size` bytes from the first player, at most 1,500.
 pub fn long_packet(to: Node, size: u16) -> [u8; 1500] {
     let mut bytes = [0; 1500];
     bytes[..34].copy_from_slice(&packet(to, 0x4001, FIRST_NODE));

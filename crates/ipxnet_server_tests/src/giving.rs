@@ -1,4 +1,4 @@
-//! Packets of the core, and the players that they go to.
+//! Packets of the core, and the players that they are sent to.
 
 use crate::caller::reached;
 use crate::fixture::{
@@ -8,7 +8,8 @@ use ipx_wire::Node;
 use ipxnet_server::{IpxnetServer, Recipients, ServerCounts, ServerDrop};
 use std::test::Fail;
 
-/// To a node's player, to all for all nodes, and to nobody for another node.
+/// A packet is sent to its node's player, and one for all nodes to all. One for another node is
+/// sent to nobody.
 #[test]
 fn packets_of_the_core(rt: HostRuntime) -> Result<(), Fail> {
     let mut server = IpxnetServer::new(rt.alloc(), PORT, 64)?;
@@ -39,8 +40,9 @@ fn packets_of_the_core(rt: HostRuntime) -> Result<(), Fail> {
     Ok(())
 }
 
-/// What it tells or asks all nodes at the sockets of RIP and SAP goes to nobody, and is no drop; to one
-/// node, or from those sockets to another, it goes, as does what is no packet.
+/// A packet for all nodes at the socket of RIP or SAP is sent to nobody, and is not counted as
+/// dropped. A packet to one node is sent, and so is one from those sockets to another socket, and
+/// what is no packet.
 #[test]
 fn what_a_router_tells(rt: HostRuntime) -> Result<(), Fail> {
     let mut server = IpxnetServer::new(rt.alloc(), PORT, 64)?;
@@ -88,7 +90,7 @@ fn long_packets_of_the_core(rt: HostRuntime) -> Result<(), Fail> {
     Ok(())
 }
 
-/// Who was silent for a day gets none.
+/// A player that was silent for a day gets none.
 #[test]
 fn to_one_who_is_forgotten(rt: HostRuntime) -> Result<(), Fail> {
     let mut server = IpxnetServer::new(rt.alloc(), PORT, 64)?;

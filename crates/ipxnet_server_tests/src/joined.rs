@@ -1,4 +1,4 @@
-//! Lobbies at several sites that are joined as one network.
+//! Servers at several sites that are joined as one network.
 
 use crate::caller::reached;
 use crate::fixture::{
@@ -12,15 +12,15 @@ use ipxnet_server::{
 };
 use std::test::Fail;
 
-/// A node that nobody has.
+/// A node that no client has.
 const NOBODY: Node = Node([2, 0, 0, 0, 0, 1]);
 
-/// Which of the two other sites of the north get the bytes.
+/// Which of the two other sites get the bytes from the north.
 fn passed(server: &IpxnetServer, takers: Recipients) -> [bool; 2] {
     [server.joins(takers, SOUTH), server.joins(takers, WEST)]
 }
 
-/// To all nodes: to the others here and to each site once, and there to the clients alone.
+/// To all nodes: to the others here and to each site once, and there only to the clients.
 #[test]
 fn to_all_at_each_site(rt: HostRuntime) -> Result<(), Fail> {
     let mut here = north(rt.alloc())?;
@@ -44,14 +44,14 @@ fn to_all_at_each_site(rt: HostRuntime) -> Result<(), Fail> {
         assert!(rt; !heard.is_for_core());
         assert_eq!(rt; heard.answer(), None);
     }
-    // The site that it came from is no client there.
+    // The site that sent it is not a client there.
     assert_eq!(rt; there.clients().len(), 1);
     assert_eq!(rt; there.counts(), ServerCounts::new());
     Ok(())
 }
 
-/// To a node that no client here has: to each site, and once it is known where it is to that alone.
-/// What is for a client here goes to no site.
+/// To a node that no client here has: to each site, and once it is known at a site, only to that
+/// one. What is for a client here is sent to no site.
 #[test]
 fn to_one_at_a_site(rt: HostRuntime) -> Result<(), Fail> {
     let mut here = north(rt.alloc())?;
@@ -81,15 +81,15 @@ fn to_one_at_a_site(rt: HostRuntime) -> Result<(), Fail> {
     let heard = here.hear(FIRST, &far, 0);
     assert_eq!(rt; heard, Disposition::ToJoined(Recipients::JoinedAt(SOUTH)));
     assert_eq!(rt; passed(&here, heard.takers()), [true, false]);
-    // It is at the site that told of it last.
+    // It is at the site that showed it last.
     here.hear(WEST, &back, 8);
     let heard = here.hear(FIRST, &far, 0);
     assert_eq!(rt; passed(&here, heard.takers()), [false, true]);
     Ok(())
 }
 
-/// A registration tells each site, by 30 bytes from its node to its node, and there the same place
-/// gets another node, of that router's making: the first four bytes of its own, and the port of UDP.
+/// A registration tells each site, by 30 bytes from its node to its node. There the same address
+/// gets another node, which that router makes: the first four bytes of its own, and the UDP port.
 #[test]
 fn one_place_at_two_sites(rt: HostRuntime) -> Result<(), Fail> {
     let mut here = north(rt.alloc())?;
@@ -114,7 +114,7 @@ fn one_place_at_two_sites(rt: HostRuntime) -> Result<(), Fail> {
     let made = Node([0xc6, 0x33, 0x64, 7, 0xbc, 0x47]);
     assert_eq!(rt; there.hear(FIRST, &REGISTRATION, 5).answer(), Some(answer));
     assert_eq!(rt; there.clients()[0].node, made);
-    // It keeps that, and sends from there.
+    // The client keeps that node, and sends from it.
     assert_eq!(rt; there.hear(FIRST, &REGISTRATION, 9).answer(), Some(answer));
     let all = packet(Node::BROADCAST, 0x4001, made);
     assert_eq!(rt; there.hear(FIRST, &all, 9), Disposition::ToOthers(FIRST));
@@ -123,7 +123,7 @@ fn one_place_at_two_sites(rt: HostRuntime) -> Result<(), Fail> {
         there.hear(FIRST, &other, 9),
         Disposition::Dropped(ServerDrop::OtherSource(FIRST_NODE))
     );
-    // Another place has its own, and a made one that is taken too is given to nobody.
+    // Another address has its own node. A made node that is taken too is given to nobody.
     there.hear(SECOND, &REGISTRATION, 5);
     assert_eq!(rt; there.clients()[1].node, SECOND_NODE);
     let mut third = north(rt.alloc())?;
@@ -137,8 +137,8 @@ fn one_place_at_two_sites(rt: HostRuntime) -> Result<(), Fail> {
     Ok(())
 }
 
-/// What a site may not send: from a node that is known here, so that no packet of a client comes back;
-/// for another network; to nobody here. A site does not register.
+/// What a site may not send: from a node that is known here, so that no packet of a client comes
+/// back; for another network; to no client here. A site does not register.
 #[test]
 fn what_a_site_may_not_send(rt: HostRuntime) -> Result<(), Fail> {
     let mut here = north(rt.alloc())?;
@@ -190,8 +190,8 @@ fn what_a_site_may_not_send(rt: HostRuntime) -> Result<(), Fail> {
     Ok(())
 }
 
-/// Another port of a site's address is no site, and of a site that does not name this one nothing is
-/// heard.
+/// Another port of a site's address is no site. What comes from a site that does not name this one
+/// is dropped.
 #[test]
 fn who_is_no_site(rt: HostRuntime) -> Result<(), Fail> {
     let mut here = north(rt.alloc())?;
@@ -220,8 +220,8 @@ fn who_is_no_site(rt: HostRuntime) -> Result<(), Fail> {
     Ok(())
 }
 
-/// Packets of the core: to a node that no client here has by the sites, and to all nodes here alone.
-/// What a site's core forwards comes from another network, and tells of no node here.
+/// Packets of the core: to a node that no client here has they are sent to the sites, and to all
+/// nodes only here. What a site's core forwards comes from another network, and shows no node here.
 #[test]
 fn packets_of_the_core(rt: HostRuntime) -> Result<(), Fail> {
     let mut here = north(rt.alloc())?;
@@ -251,7 +251,7 @@ fn packets_of_the_core(rt: HostRuntime) -> Result<(), Fail> {
         here.give(THIRD_NODE, &[0; 1425], 0),
         Err(ServerDrop::TooLong(1425))
     );
-    // From network 00000099, by a node that a client here has too: another end.
+    // From network 00000099, with a node that a client here has too: it is another sender.
     let mut forwarded = packet(FIRST_NODE, 0x4001, FIRST_NODE);
     forwarded[18..22].copy_from_slice(&[0, 0, 0, 0x99]);
     assert_eq!(rt;
@@ -262,7 +262,7 @@ fn packets_of_the_core(rt: HostRuntime) -> Result<(), Fail> {
     Ok(())
 }
 
-/// No client takes more than 1,424 bytes, at whichever site.
+/// No client accepts more than 1,424 bytes, at any site.
 #[test]
 fn long_packets(rt: HostRuntime) -> Result<(), Fail> {
     let mut here = north(rt.alloc())?;
@@ -286,7 +286,7 @@ fn long_packets(rt: HostRuntime) -> Result<(), Fail> {
     Ok(())
 }
 
-/// A client of a site is known for a day behind its last packet, and 1,024 of them at most.
+/// A client of a site is known for a day after its last packet, and at most 1,024 of them are.
 #[test]
 fn far_clients_that_go(rt: HostRuntime) -> Result<(), Fail> {
     let mut here = north(rt.alloc())?;
@@ -306,7 +306,7 @@ fn far_clients_that_go(rt: HostRuntime) -> Result<(), Fail> {
     Ok(())
 }
 
-/// Where memory is refused there is no lobby, and one is made at the next try.
+/// If memory is refused there is no server, and the next try makes one.
 #[test]
 fn refused_joined_server(rt: HostRuntime) -> Result<(), Fail> {
     let mut server = match north(rt.alloc()) {
@@ -320,7 +320,7 @@ fn refused_joined_server(rt: HostRuntime) -> Result<(), Fail> {
     Ok(())
 }
 
-/// What is said of what a site may not send.
+/// The text of the causes for what a site may not send.
 #[test]
 fn texts_of_sites(rt: HostRuntime) -> Result<(), Fail> {
     let rows = [

@@ -1,5 +1,5 @@
-//! Tests of a port for clients that register, with literal values. They call what that crate makes
-//! public, and no crate stands on this one.
+//! Tests of an ipxnet server, with literal values. They call what `ipxnet_server` makes public, and
+//! no crate depends on this one.
 #![tactic(auto)]
 
 #[cfg(test)]

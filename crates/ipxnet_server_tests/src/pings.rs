@@ -11,13 +11,13 @@ const PING: [u8; 30] = [
     0x7f, 0, 0, 1, 0xbc, 0x47, 0, 2,
 ];
 
-/// What the router answers it.
+/// The router's answer to it.
 const ANSWER: [u8; 30] = [
     0xff, 0xff, 0, 0x1e, 0, 0, 0, 0, 0, 0, 0x7f, 0, 0, 1, 0xbc, 0x47, 0, 2, 0, 0, 0, 0, 2, 0, 0, 0,
     0xd0, 0x5b, 0, 2,
 ];
 
-/// What the second player answers it.
+/// The second player's answer to it.
 const OF_SECOND: [u8; 30] = [
     0xff, 0xff, 0, 0x1e, 0, 0, 0, 0, 0, 0, 0x7f, 0, 0, 1, 0xbc, 0x47, 0, 2, 0, 0, 0, 0, 0x7f, 0, 0,
     1, 0xbc, 0x48, 0, 2,
@@ -33,7 +33,7 @@ fn a_ping(rt: HostRuntime) -> Result<(), Fail> {
         (true, [false, true, true], false)
     );
     assert_eq!(rt; server.hear(FIRST, &PING, 0).answer(), Some(ANSWER));
-    // Others answer for themselves, to the one that asked alone.
+    // The others answer for themselves, only to the sender.
     assert_eq!(rt;
         give(&mut server, SECOND, &OF_SECOND),
         (false, [true, false, false], false)
@@ -41,7 +41,7 @@ fn a_ping(rt: HostRuntime) -> Result<(), Fail> {
     Ok(())
 }
 
-/// It may name the network, come from another socket and be longer.
+/// It may name the network, come from another socket, and be longer.
 #[test]
 fn a_ping_of_another_kind(rt: HostRuntime) -> Result<(), Fail> {
     let mut server = IpxnetServer::new(rt.alloc(), PORT, 64)?;
@@ -52,7 +52,7 @@ fn a_ping_of_another_kind(rt: HostRuntime) -> Result<(), Fail> {
     Ok(())
 }
 
-/// One to a node goes there as any packet does, and one to another network goes nowhere.
+/// A ping to one node is sent there like any packet, and one to another network is dropped.
 #[test]
 fn pings_that_the_router_leaves(rt: HostRuntime) -> Result<(), Fail> {
     let mut server = IpxnetServer::new(rt.alloc(), PORT, 64)?;
@@ -72,7 +72,7 @@ fn pings_that_the_router_leaves(rt: HostRuntime) -> Result<(), Fail> {
     Ok(())
 }
 
-/// From an end that is not registered it is not answered.
+/// From an address that is not registered it is not answered.
 #[test]
 fn a_ping_of_an_unknown_sender(rt: HostRuntime) -> Result<(), Fail> {
     let mut server = IpxnetServer::new(rt.alloc(), PORT, 64)?;

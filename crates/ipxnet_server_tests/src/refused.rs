@@ -1,10 +1,10 @@
-//! Memory that is refused where a lobby is made.
+//! A server is made while memory is refused.
 
 use crate::fixture::{FIRST, FIRST_NODE, PORT, REGISTRATION};
 use ipxnet_server::{IpxnetServer, Recipients};
 use std::test::Fail;
 
-/// Where memory is refused there is no lobby, and one is made at the next try.
+/// If memory is refused there is no server, and the next try makes one.
 #[test]
 fn refused_server(rt: HostRuntime) -> Result<(), Fail> {
     let mut server = match IpxnetServer::new(rt.alloc(), PORT, 64) {

@@ -5,20 +5,20 @@ use ipx_wire::{IpxFault, Node};
 use ipxnet_server::{Client, Disposition, IpxnetServer, Place, ServerDrop, ServerPort};
 use std::test::Fail;
 
-/// What the first player is answered: its network and node are those that it takes from then on, and
-/// it comes from the router's.
+/// The answer to the first player. It takes its network and node from there, and the answer comes
+/// from the router's.
 const ANSWER: [u8; 30] = [
     0xff, 0xff, 0, 0x1e, 0, 0, 0, 0, 0xd0, 0x5b, 0x7f, 0, 0, 1, 0xbc, 0x47, 0, 2, 0, 0, 0xd0, 0x5b,
     2, 0, 0, 0, 0xd0, 0x5b, 0, 2,
 ];
 
-/// What the third player is answered.
+/// The answer to the third player.
 const THIRD_ANSWER: [u8; 30] = [
     0xff, 0xff, 0, 0x1e, 0, 0, 0, 0, 0xd0, 0x5b, 10, 0, 0, 9, 0, 0xd5, 0, 2, 0, 0, 0xd0, 0x5b, 2,
     0, 0, 0, 0xd0, 0x5b, 0, 2,
 ];
 
-/// Each is answered at once, with the network and its own node, and from then on it is a client.
+/// Each is answered at once, with the network and its own node, and is then a client.
 #[test]
 fn answers(rt: HostRuntime) -> Result<(), Fail> {
     let mut server = IpxnetServer::new(rt.alloc(), PORT, 64)?;
@@ -45,7 +45,7 @@ fn answers(rt: HostRuntime) -> Result<(), Fail> {
     Ok(())
 }
 
-/// From the same end it is answered the same again, and takes no second place.
+/// From the same address it gets the same answer, and is no second client.
 #[test]
 fn the_same_end_again(rt: HostRuntime) -> Result<(), Fail> {
     let mut server = IpxnetServer::new(rt.alloc(), PORT, 64)?;
@@ -58,7 +58,7 @@ fn the_same_end_again(rt: HostRuntime) -> Result<(), Fail> {
     Ok(())
 }
 
-/// Its networks, its source socket, hops and type are not looked at.
+/// Its networks, its source socket, hops and type are not read.
 #[test]
 fn what_is_not_looked_at(rt: HostRuntime) -> Result<(), Fail> {
     let mut server = IpxnetServer::new(rt.alloc(), PORT, 64)?;
@@ -70,14 +70,14 @@ fn what_is_not_looked_at(rt: HostRuntime) -> Result<(), Fail> {
     Ok(())
 }
 
-/// Whether an end that is not registered is, once it sent a registration with a byte changed.
+/// Whether an address is registered after it sent a registration with one byte changed.
 fn registers_with(server: &mut IpxnetServer, place: usize, value: u8) -> bool {
     let mut bytes = REGISTRATION;
     bytes[place] = value;
     server.hear(FIRST, &bytes, 0) != Disposition::Dropped(ServerDrop::Unregistered)
 }
 
-/// What is none: with another socket or node, or with a byte behind it.
+/// What is not a registration: a packet with another socket or node, or with one more byte.
 #[test]
 fn what_is_no_registration(rt: HostRuntime) -> Result<(), Fail> {
     let mut server = IpxnetServer::new(rt.alloc(), PORT, 64)?;
@@ -111,7 +111,7 @@ fn what_is_no_registration(rt: HostRuntime) -> Result<(), Fail> {
     Ok(())
 }
 
-/// The router's node is no client's, nor is that of all nodes.
+/// A client can't have the router's node or the broadcast node.
 #[test]
 fn nodes_that_are_taken(rt: HostRuntime) -> Result<(), Fail> {
     let port = ServerPort {

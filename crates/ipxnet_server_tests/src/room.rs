@@ -5,7 +5,7 @@ use ipx_wire::Node;
 use ipxnet_server::{Disposition, IpxnetServer, MAX_CLIENTS, Place, ServerDrop};
 use std::test::Fail;
 
-/// A place of a number.
+/// The address with this number.
 fn place(number: u16) -> Place {
     Place {
         ip: [192, 0, 2, 1],
@@ -13,7 +13,7 @@ fn place(number: u16) -> Place {
     }
 }
 
-/// Whether an end registers at a moment, and why it does not.
+/// Whether an address registers at a given time, and why it does not.
 fn registers(server: &mut IpxnetServer, from: Place, now: u64) -> Option<ServerDrop> {
     match server.hear(from, &REGISTRATION, now) {
         Disposition::Dropped(drop) => Some(drop),
@@ -21,7 +21,7 @@ fn registers(server: &mut IpxnetServer, from: Place, now: u64) -> Option<ServerD
     }
 }
 
-/// How many there may be: 1 to 150.
+/// How many are allowed: 1 to 150.
 #[test]
 fn how_many_there_may_be(rt: HostRuntime) -> Result<(), Fail> {
     for (most, may) in [(0, false), (1, true), (64, true), (150, true), (151, false)] {
@@ -31,7 +31,7 @@ fn how_many_there_may_be(rt: HostRuntime) -> Result<(), Fail> {
     Ok(())
 }
 
-/// By a clock that went back no time has passed: who registered before that is new as ever.
+/// If the clock went back no time has passed: a client that registered earlier is still new.
 #[test]
 fn ten_before_the_clock_went_back(rt: HostRuntime) -> Result<(), Fail> {
     let mut server = IpxnetServer::new(rt.alloc(), PORT, 150)?;
@@ -48,7 +48,7 @@ fn ten_before_the_clock_went_back(rt: HostRuntime) -> Result<(), Fail> {
     Ok(())
 }
 
-/// In a full lobby, the player that was silent longest makes room behind an hour.
+/// In a full server, the player that was silent longest makes room after an hour.
 #[test]
 fn who_makes_room(rt: HostRuntime) -> Result<(), Fail> {
     let mut server = IpxnetServer::new(rt.alloc(), PORT, 2)?;
@@ -61,7 +61,7 @@ fn who_makes_room(rt: HostRuntime) -> Result<(), Fail> {
         Some(ServerDrop::Full)
     );
     assert_eq!(rt; server.counts().full, 1);
-    // Who is known registers as ever.
+    // A known client registers as before.
     assert_eq!(rt; server.clients().len(), 2);
     assert_eq!(rt; registers(&mut server, THIRD, 3_600_010), None);
     assert_eq!(rt; server.clients().len(), 2);
@@ -75,7 +75,7 @@ fn who_makes_room(rt: HostRuntime) -> Result<(), Fail> {
     Ok(())
 }
 
-/// Ten in a second, and the next one a second behind the first.
+/// Ten in a second, and the next one a second after the first.
 #[test]
 fn ten_in_a_second(rt: HostRuntime) -> Result<(), Fail> {
     let mut server = IpxnetServer::new(rt.alloc(), PORT, 150)?;
@@ -89,7 +89,7 @@ fn ten_in_a_second(rt: HostRuntime) -> Result<(), Fail> {
         registers(&mut server, place(11), 1099),
         Some(ServerDrop::TooManyNew)
     );
-    // One that is known is answered all the same.
+    // A known client is answered all the same.
     assert_eq!(rt; registers(&mut server, place(1), 1099), None);
     assert_eq!(rt; registers(&mut server, place(11), 1100), None);
     assert_eq!(rt;
@@ -101,7 +101,7 @@ fn ten_in_a_second(rt: HostRuntime) -> Result<(), Fail> {
     Ok(())
 }
 
-/// A hundred and fifty, and no one more within the hour.
+/// A hundred and fifty, and no more within the hour.
 #[test]
 fn a_full_server(rt: HostRuntime) -> Result<(), Fail> {
     let mut server = IpxnetServer::new(rt.alloc(), PORT, 150)?;

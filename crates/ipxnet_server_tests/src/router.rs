@@ -1,4 +1,4 @@
-//! A lobby at a port of a router: to another network and back, and routes that are asked.
+//! A server at a port of a router: to another network and back, and requests for routes.
 
 use crate::fixture::{CAME, FIRST, FIRST_NODE, PORT, packet, packet_for, register_all};
 use ipx_router::{Outcome, Port, Reason, Router};
@@ -22,7 +22,7 @@ const ASKS: [u8; 40] = [
     0x5b, 0x7f, 0, 0, 1, 0xbc, 0x47, 4, 0x53, 0, 1, 0, 0, 0, 0x99, 0xff, 0xff, 0xff, 0xff,
 ];
 
-/// A router with the lobby at its first port, and network 99 at its second.
+/// A router with the server at its first port, and network 99 at its second.
 fn router(alloc: Global) -> Result<Router, Fail> {
     let mut ports = Vec::new(alloc);
     ports.push(Port {
@@ -38,7 +38,7 @@ fn router(alloc: Global) -> Result<Router, Fail> {
     Ok(Router::new(alloc, ports)?)
 }
 
-/// To another network with source network 0: one hop on, and from the network of the port.
+/// To another network with source network 0: one hop more, and from the network of the port.
 #[test]
 fn to_another_network(rt: HostRuntime) -> Result<(), Fail> {
     let mut server = IpxnetServer::new(rt.alloc(), PORT, 64)?;
@@ -57,7 +57,7 @@ fn to_another_network(rt: HostRuntime) -> Result<(), Fail> {
     Ok(())
 }
 
-/// Type 20 goes to no other network: the router drops it, as on any port.
+/// Type 20 is sent to no other network: the router drops it, as on any port.
 #[test]
 fn netbios_to_another_network(rt: HostRuntime) -> Result<(), Fail> {
     let mut server = IpxnetServer::new(rt.alloc(), PORT, 64)?;
@@ -71,7 +71,7 @@ fn netbios_to_another_network(rt: HostRuntime) -> Result<(), Fail> {
     Ok(())
 }
 
-/// And back: to the player of the node.
+/// And back: to the player with that node.
 #[test]
 fn from_another_network(rt: HostRuntime) -> Result<(), Fail> {
     let mut server = IpxnetServer::new(rt.alloc(), PORT, 64)?;
@@ -88,7 +88,7 @@ fn from_another_network(rt: HostRuntime) -> Result<(), Fail> {
     Ok(())
 }
 
-/// A program that asks for a route is answered, at its node.
+/// A program that asks for a route is answered at its node.
 #[test]
 fn a_route_is_asked(rt: HostRuntime) -> Result<(), Fail> {
     let mut server = IpxnetServer::new(rt.alloc(), PORT, 64)?;
@@ -111,7 +111,7 @@ fn a_route_is_asked(rt: HostRuntime) -> Result<(), Fail> {
     Ok(())
 }
 
-/// What stays on the port is none of the router's: it drops it.
+/// What stays on the network of the port is not for the router: it drops it.
 #[test]
 fn what_stays_is_for_the_server(rt: HostRuntime) -> Result<(), Fail> {
     let mut router = router(rt.alloc())?;

@@ -5,8 +5,8 @@ use ipx_wire::Node;
 use ipxnet_server::{Disposition, IpxnetServer, ServerDrop};
 use std::test::Fail;
 
-/// A day behind the last that was heard it is forgotten, at whatever comes, and registers again with
-/// the same node.
+/// A player is forgotten a day after it was last heard, whatever is received then, and registers
+/// again with the same node.
 #[test]
 fn after_a_day(rt: HostRuntime) -> Result<(), Fail> {
     let mut server = IpxnetServer::new(rt.alloc(), PORT, 64)?;
@@ -27,7 +27,7 @@ fn after_a_day(rt: HostRuntime) -> Result<(), Fail> {
     Ok(())
 }
 
-/// What is dropped does not count as heard; a clock that went back lets nobody go.
+/// What is dropped does not count as heard. If the clock went back, nobody is forgotten.
 #[test]
 fn what_counts_as_heard(rt: HostRuntime) -> Result<(), Fail> {
     let mut server = IpxnetServer::new(rt.alloc(), PORT, 64)?;

@@ -1,11 +1,11 @@
-//! Three lobbies at three sites, each joined to the others, and what goes between them.
+//! Three servers at three sites, each joined to the others, and what is sent between them.
 
 use crate::fixture::PORT;
 use ipx_wire::Node;
 use ipxnet_server::{IpxnetServer, Place, ServerPort};
 use std::alloc::{AllocError, Global};
 
-/// Where the routers are.
+/// The routers' addresses.
 pub const NORTH: Place = Place {
     ip: [192, 0, 2, 10],
     udp_port: 2130,
@@ -27,13 +27,13 @@ pub const SOUTH_PORT: ServerPort = ServerPort {
     ..PORT
 };
 
-/// The lobby of the north, joined to the south and the west.
+/// The server of the north, joined to the south and the west.
 pub fn north(alloc: Global) -> Result<IpxnetServer, AllocError> {
     let routers = Vec::from_slice(alloc, &[SOUTH, WEST])?;
     IpxnetServer::joined_to(alloc, PORT, 64, routers)
 }
 
-/// The lobby of the south, joined to the north and the west.
+/// The server of the south, joined to the north and the west.
 pub fn south(alloc: Global) -> Result<IpxnetServer, AllocError> {
     let routers = Vec::from_slice(alloc, &[NORTH, WEST])?;
     IpxnetServer::joined_to(alloc, SOUTH_PORT, 64, routers)

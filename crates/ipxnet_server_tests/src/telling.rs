@@ -1,4 +1,5 @@
-//! What clients tell of routes and services, or send from another network: none of it reaches the core.
+//! What clients advertise of routes and services, or send from another network: none of it reaches
+//! the core.
 
 use crate::caller::give;
 use crate::fixture::{
@@ -22,7 +23,7 @@ fn told(to: Node, socket: u16, from: u16, operation: u8) -> [u8; 34] {
     bytes
 }
 
-/// To the router's node: requests alone go to the core, and responses nowhere.
+/// To the router's node: only requests go to the core, and responses are dropped.
 #[test]
 fn responses_to_the_router(rt: HostRuntime) -> Result<(), Fail> {
     let mut server = IpxnetServer::new(rt.alloc(), PORT, 64)?;
@@ -50,7 +51,7 @@ fn responses_to_the_router(rt: HostRuntime) -> Result<(), Fail> {
         assert_eq!(rt; server.hear(FIRST, &bytes, 0), wanted);
     }
     assert_eq!(rt; server.counts().response, 6);
-    // One byte is no operation, and is for the core to judge.
+    // One byte is no operation; the core decides what it is.
     let mut short = told(PORT.own, 0x453, 0x453, 2);
     short[3] = 0x1f;
     assert_eq!(rt; server.hear(FIRST, &short, 0), Disposition::ToCore);
@@ -83,7 +84,7 @@ fn responses_to_all(rt: HostRuntime) -> Result<(), Fail> {
     Ok(())
 }
 
-/// To a client, and to another network: to the client it goes, and elsewhere not.
+/// To a client it is sent, and to another network it is not.
 #[test]
 fn responses_to_others(rt: HostRuntime) -> Result<(), Fail> {
     let mut server = IpxnetServer::new(rt.alloc(), PORT, 64)?;
@@ -104,7 +105,7 @@ fn responses_to_others(rt: HostRuntime) -> Result<(), Fail> {
     Ok(())
 }
 
-/// From network 99: not to the core, and as ever to clients; from 0 or the port's: to the core.
+/// From network 99: not to the core, and to clients as before. From 0 or the port's: to the core.
 #[test]
 fn packets_of_another_network(rt: HostRuntime) -> Result<(), Fail> {
     let mut server = IpxnetServer::new(rt.alloc(), PORT, 64)?;

@@ -1,4 +1,4 @@
--- What is left in a table once a response was heard.
+-- What is in a table after a response was learned.
 use Rattle.std.proofs.Common.{ℕ, zero, suc, ◌≤◌, ◌≡◌, ◌⊎◌, Bool, true, false, cond, List, [], ◌∷◌, Contains, Option, Some, None, if◌then◌else◌, refl, sym, ap, ◌∙◌, subst, inl, inr, arith}
 use Rattle.std.specs.Cmp.{IsTotalOrder}
 use Rattle.std.specs.Ordering.{is_eq}
@@ -61,7 +61,7 @@ apply_if false f g p = refl
 abbrev pub one_word : (h same dead : Bool) → Word → Option Word → Option Word
 one_word h same dead new old = cond h (cond same (cond dead None (Some new)) old) old
 
--- the offer stands, and was heard since
+-- the offer is in the table, and was learned since
 pub record Stands (v : RouteMetric) (low : ℕ) (o : Option Word) : Type 0 where
   pub moment : ℕ
   pub is : o ≡ Some (v, moment)

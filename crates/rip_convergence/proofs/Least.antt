@@ -1,4 +1,4 @@
--- Routers take the least ways, one window for each hop.
+-- Routers take the shortest paths, one window for each hop.
 use Rattle.std.proofs.Common.{ℕ, zero, suc, ◌+◌, ◌*◌, ◌≤◌, ◌≡◌, Some, None, sym, ap, ◌∙◌, inl, inr, arith}
 use Rattle.std.proofs.Math.Nat.{suc-mul, mul-le-mul_right}
 use Rattle.ipx_wire.specs.declared.address.Network.{Network}
@@ -13,7 +13,7 @@ use Rattle.rip_convergence.proofs.Roots.{hops_told, are_ways}
 
 module _ (laws : LawsOfTables) (net : Internet) (d : Network) (window : ℕ) (clock : Clock) (x : Routing) (start : ℕ)
     (history : IsHistory net d window clock x start (start + 16 * window)) (extend : LeastWaysExtend net d) where
-  -- what was told through a window is on the least way
+  -- what was advertised through a window is on the shortest path
   settle : (t r s : ℕ) (a b : Route) → IsLeastWay net d r b → TellsRoute net d s a r b
       → start + 16 * window + window ≤ clock t → HasAsGood net d window clock x t r b → x t r ≡ Some b
   settle t r s a b least tells late g =

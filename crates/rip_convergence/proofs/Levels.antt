@@ -1,4 +1,4 @@
--- Ways have few ticks, so routes settle soon: by levels of ticks, and by levels of ticks and hops.
+-- Paths have few ticks, so routes settle soon: by levels of ticks, and by levels of ticks and hops.
 use Rattle.std.proofs.Common.{ℕ, ◌+◌, ◌*◌, ◌<◌, ◌≤◌, ◌≡◌, true, false, min, nat_le, refl, sym, ap, ◌∙◌, subst, inl, inr, arith}
 use Rattle.std.proofs.lemmas.Bool.{leb-true, leb-false}
 use Rattle.std.specs.Cmp.{nat_cmp_is}
@@ -45,7 +45,7 @@ better_steep a b h =
     ]
 
 module _ (net : Internet) (d : Network) (most : ℕ) (costs : CostsUpTo most net) where
-  -- a telling adds its port's cost
+  -- an advertisement adds its port's cost
   ticks_told : (s r : ℕ) (a b : Route) (t : TellsRoute net d s a r b)
       → (t.meet.far.cost ≤ most) × (b.metric.ticks ≡ min (a.metric.ticks + t.meet.far.cost) 65535)
   ticks_told s r a b t =
@@ -70,7 +70,7 @@ module _ (net : Internet) (d : Network) (most : ℕ) (costs : CostsUpTo most net
       let high : b.metric.hops * most ≤ 15 * most = mul-le-mul_right most so.1 in
       omega (arith, so.0, high)
 
-  -- whatever the levels count, if a telling goes up and a better route is no higher
+  -- whatever the levels count, if an advertised route has a higher level and a better route no higher one
   module _ (laws : LawsOfTables) (window : ℕ) (level : Route → ℕ)
       (rises : (s r : ℕ) (a b : Route) → IsFew a → TellsRoute net d s a r b → level a < level b)
       (in_order : (a b : Route) → better_route a b ≡ true → level a ≤ level b)

@@ -1,4 +1,4 @@
--- The order of routes is strict and total, and tells them apart by all that they have.
+-- The order of routes is strict and total.
 use Rattle.std.proofs.Common.{ℕ, ◌≤◌, ◌≡◌, true, false, nat_le, refl, sym, ap, ◌∙◌, inl, inr}
 use Rattle.std.proofs.lemmas.Bool.{leb-true, leb-false}
 use Rattle.std.proofs.lemmas.Cmp.{nat_cmp_total, nat_list_cmp_total, on_total, then_total}
@@ -20,7 +20,7 @@ use Rattle.rip_convergence.proofs.Settling.{bool_cases}
 pub source_total : IsTotalOrder source_cmp
 source_total = then_total (on_total (λ s. s.port) nat_cmp_total) (on_total (λ s. s.neighbour.0) nat_list_cmp_total)
 
--- of two routes that are told, one is better unless they are the same
+-- of two advertised routes, one is better unless they are the same
 pub told_apart : (laws : LawsOfTables) (net : Internet) (d : Network) (r s u : ℕ) (a b c e : Route) → TellsRoute net d s c r a
     → TellsRoute net d u e r b → better_route a b ≡ false → better_route b a ≡ false → a ≡ b
 told_apart laws net d r s u a b c e one two lesser other =

@@ -1,4 +1,4 @@
--- After 16 windows each route is a way that is there.
+-- After 16 windows each route follows a path that exists.
 use Rattle.std.proofs.Common.{ℕ, zero, suc, ◌+◌, ◌*◌, ◌<◌, ◌≤◌, ◌≡◌, ◌⊎◌, Some, min, ap, ◌∙◌, inl, inr, arith}
 use Rattle.std.proofs.lemmas.Bool.{leb-false}
 use Rattle.std.proofs.Math.Nat.{suc-mul}
@@ -8,7 +8,7 @@ use Rattle.rip_convergence.specs.Histories.{Clock, Internet, TellsRoute, Routing
 use Rattle.rip_convergence.specs.Ways.{Way, own, over}
 
 module _ (net : Internet) (d : Network) where
-  -- a telling adds a hop, and fewer than 16 are heard
+  -- an advertisement adds a hop, and fewer than 16 are learned
   pub hops_told : (s r : ℕ) (a b : Route) → TellsRoute net d s a r b
       → (b.metric.hops ≡ a.metric.hops + 1) × (b.metric.hops < 16)
   hops_told s r a b h =
@@ -18,7 +18,7 @@ module _ (net : Internet) (d : Network) where
       (omega (arith, is, low, same), omega (arith, low, same))
 
   module _ (window : ℕ) (clock : Clock) (x : Routing) (start : ℕ) (sourced : IsSourced net d window clock x start) where
-    -- what is left of a made up tale has a hop for each window
+    -- what is left of a forged route has a hop for each window
     pub rooted : (k t r : ℕ) (b : Route) → start + k * window ≤ clock t → x t r ≡ Some b
         → (k ≤ b.metric.hops) ⊎ Way net d r b
     rooted zero t r b late has = inl (omega arith)

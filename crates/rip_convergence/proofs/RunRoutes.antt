@@ -41,7 +41,7 @@ route_is laws ports routes now d (Some b) a is leads = ap (λ r. Some r) (one_by
 
 module _ (laws : LawsOfTables) (net : Internet) (d : Network) (clock : Clock) (c : Saying) (heard : ℕ → Hearing) (x : Routing)
     (run : IsRun net clock c heard) (honest : NothingForged net clock c heard d) (are : AreRoutes net d clock c x) where
-  -- what stands in a table of the network was heard, unless it stood there at first
+  -- what is in a table for the network was learned, unless it was there at first
   record WasHeard (r : ℕ) (p : Network × Source) (w : Word) : Type 0 where
     n : ℕ
     source : Source
@@ -57,7 +57,7 @@ module _ (laws : LawsOfTables) (net : Internet) (d : Network) (clock : Clock) (c
     hears : is_heard ours e ≡ true
     alive : route_dead (route_metric e) ≡ false
 
-  -- heard at a step before
+  -- learned at a step before
   abbrev Kept : ℕ → ℕ → Network × Source → Word → Type 0
   Kept t r p w = (w.1 ≤ clock 0) ⊎ ((h : WasHeard r p w) × (h.n < t))
 
@@ -170,7 +170,7 @@ module _ (laws : LawsOfTables) (net : Internet) (d : Network) (clock : Clock) (c
     abbrev pt : Network × Source
     pt = (d, tells.best.0)
 
-    -- whatever is heard of the same source within the window is the same
+    -- everything that is learned from the same source within the window is the same
     agree : (n : ℕ) → n ≤ t → clock t < clock n + 180000 → (heard n).router ≡ r → (e : RipEntry) → Contains (heard n).entries e
         → is_same network_cmp (e.network, (heard n).source) pt ≡ true → route_metric e ≡ v
     agree n within recent at e m same =

@@ -1,4 +1,4 @@
--- The theorems of histories, of runs.
+-- The theorems of histories, applied to runs.
 use Rattle.std.proofs.Common.{ℕ, ◌+◌, ◌-◌, ◌*◌, ◌≤◌, ◌≡◌, Option, Some, None, refl, sym, ◌∙◌, inl, inr, arith}
 use Rattle.ipx_wire.specs.declared.address.Network.{Network}
 use Rattle.ipx_router.specs.declared.route.Route.{Route}
@@ -62,7 +62,7 @@ module _ (laws : LawsOfTables) where
             (g.best, g.has, g.not_worse);
       }
 
-  -- a solution that stands still from the first step on is a history, with windows of two steps
+  -- a solution that does not change from the first step on is a history, with windows of two steps
   as_history : (net : Internet) (d : Network) (x : ℕ → Option Route) → IsSolution net d x
       → IsHistory net d 2 (λ n. n) (λ n. x) 0 32
   as_history net d x is = record {

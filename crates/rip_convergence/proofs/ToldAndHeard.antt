@@ -1,4 +1,4 @@
--- What one router tells on a port is what another hears of it.
+-- What one router advertises on a port is what another learns of it.
 use Rattle.std.proofs.Common.{◌≡◌, ◌≢◌, ◌==◌, ℕ, zero, suc, ◌+◌, ◌-◌, ◌<◌, Bool, true, false, cond, List, [], ◌∷◌, ◌++◌, length, take, drop, slice_get, Option, Some, None, MatchBool, MatchOption, refl, sym, ap, ◌∙◌, subst, inl, inr, arith, eqb-true, append-nil}
 use Rattle.std.specs.Prelude.{◌&&◌, nat_eq}
 use Rattle.std.specs.Cmp.Lexicographic.{pointwise}
@@ -94,7 +94,7 @@ module _ (ports : List Port) (routes : Routes) (services : Services) (now : ℕ)
       (cut_by_port 50 (λ part. IsRipPacket (all_nodes at.number at.port rip_socket) (rip.Response part)) at.number (λ part s is. let own : IsRipPacket (all_nodes at.number at.port rip_socket) (rip.Response part) s = is in own.port) t.told_routes t.route_packets t.in_route_packets)
       (cut_by_port 7 (λ part. IsSapPacket (all_nodes at.number at.port sap_socket) (sap.Response false part)) at.number (λ part s is. let own : IsSapPacket (all_nodes at.number at.port sap_socket) (sap.Response false part) s = is in own.port) t.told_services t.service_packets t.in_service_packets))
 
-  -- what is told on later ports does not leave by an earlier one
+  -- what is advertised on later ports does not leave by an earlier one
   none_later : (number port : ℕ) → port < number → (later : List Port) (sent : List SendingView) → AreTellings ports routes services now number later sent → leaving_by port sent ≡ []
   none_later number port less [] sent t = ap (leaving_by port) t
   none_later number port less (near ∷ later) sent t =
@@ -105,7 +105,7 @@ module _ (ports : List Port) (routes : Routes) (services : Services) (now : ℕ)
   abbrev IsToldBy : ℕ → Port → List SendingView → Type 0
   IsToldBy number port = AreTold ports routes services (record { number = number; port = port; now = now })
 
-  -- what leaves by a first port is what is told on it
+  -- what leaves by a first port is what is advertised on it
   told_first : (number : ℕ) (far : Port) (later : List Port) (sent first rest : List SendingView) → sent ≡ first ++ rest
       → IsToldBy number far first → AreTellings ports routes services now (number + 1) later rest → IsToldBy number far (leaving_by number sent)
   told_first number far later sent first rest is one more =
@@ -140,7 +140,7 @@ module _ (ports : List Port) (routes : Routes) (services : Services) (now : ℕ)
   told_on (near ∷ later) number (suc k) port e far sent there t =
       told_there number port near far sent t.0 t.1 t.2 t.3 (λ f. further number k port e f) (told_on later (number + 1) k port (one_on number k port e) far t.1 there t.4)
 
--- ---- one packet is heard
+-- ---- one packet is received
 
 lists_same : (xs ys : List ℕ) → pointwise nat_eq xs ys ≡ true → xs ≡ ys
 lists_same [] [] h = refl
@@ -159,12 +159,12 @@ not_node a b apart = elim (bool_cases (is_node a b)) [
   | inr other ↦ other
 ]
 
--- what an option has where it has nothing
+-- what an option has if it is `None`
 of_none : {F : Type 0} (P : Type 0) (Q : F → Type 0) (o : Option F) → o ≡ None → MatchOption o P Q → P
 of_none P Q None e h = h
 of_none P Q (Some f) e h = cc
 
--- ---- what stands at a moment stands at that moment
+-- ---- what a table says at a time is still so at that time
 
 young_now : (now : ℕ) → is_young now now ≡ true
 young_now now = lt-ltb (now - now) 180000 (omega arith)
@@ -208,7 +208,7 @@ fresh_some : (port now : ℕ) (ss : List SendingView) (old new : RouterView) →
 fresh_some port now [] old new is some = absurd (some refl)
 fresh_some port now (s ∷ ss) old new h some = fresh_all port now ss h.1 new h.4 (fresh_by old h.1 port s.bytes now h.0 h.2)
 
--- ---- packets are heard
+-- ---- packets are received
 
 in_two : (port now : ℕ) (xs ys : List SendingView) (old new : RouterView) → ReceivesInTurn port now old (xs ++ ys) new → (mid : RouterView) × ReceivesInTurn port now old xs mid × ReceivesInTurn port now mid ys new
 in_two port now [] ys old new h = (old, refl, h)
@@ -278,7 +278,7 @@ module _ (near far : Port) (one_network : far.network ≡ near.network) (two_nod
     abbrev Receiving : RouterView → List SendingView → RouterView → Type 0
     Receiving = ReceivesInTurn p now
 
-    -- what one knows is what the other knew and these entries
+    -- what one router knows is what the other knew and these entries
     abbrev Learns : RouterView → List RipEntry → RouterView → Type 0
     Learns old entries new = (new.ports ≡ old.ports) × ((x : Network × Source) → after_age (routes_in new.routes) now x ≡ after_routes old.ports source now (after_age (routes_in old.routes) now) entries x)
 
@@ -340,7 +340,7 @@ none_first (x ∷ xs) ys e = let l : length (x ∷ (xs ++ ys)) ≡ 0 = ap length
 cut_of_none : (to : Recipient) (entries : List RipEntry) (ss : List SendingView) → ss ≡ [] → AreRoutePackets to entries ss → entries ≡ []
 cut_of_none to entries ss none cut = subst (AreRoutePackets to entries) none cut
 
--- ---- what is known at a moment is what stands in the table and is young
+-- ---- what is known at a time is what is in the table and is young
 
 best_of_aged : (c : Routes) (d : Network) (now : ℕ) (best : Source × RouteMetric) → IsBest route_before (after_age c now) d now best → IsBest route_before c d now best
 best_of_aged c d now best is = record {

@@ -1,4 +1,4 @@
--- Two routers that tell one another by turns.
+-- Two routers that advertise to each other in turn.
 use Rattle.std.proofs.Common.{◌≡◌, ◌≢◌, ◌⊎◌, ◌==◌, ℕ, zero, suc, ◌+◌, ◌-◌, ◌*◌, ◌<◌, ◌≤◌, true, false, cond, List, [], ◌∷◌, Contains, slice_get, Option, Some, None, refl, sym, ap, ◌∙◌, subst, inl, inr, arith, eqb-true}
 use Rattle.std.proofs.lemmas.Bool.{eq-eqb, eqb-false, ne_eqb}
 use Rattle.ipx_wire.specs.declared.address.Network.{Network}
@@ -54,7 +54,7 @@ port_is i zero port at = inl (refl, sym (some_same (shared_port i) port at))
 port_is i (suc zero) port at = inr (refl, sym (some_same (own_port i) port at))
 port_is i (suc (suc k)) port at = let none : None ≡ Some port = at in cc
 
--- they meet on network 1 alone
+-- they meet only on network 1
 record TheyMeet (s q r p : ℕ) (m : Meet two_routers s q r p) : Type 0 where
   hearer : r < 2
   teller : s ≡ 1 - r
@@ -116,7 +116,7 @@ turn_low : (n : ℕ) → turn n < 2
 turn_low zero = omega arith
 turn_low (suc n) = omega arith
 
--- what a router has to tell of its own network
+-- what a router advertises of its own network
 abbrev entry : ℕ → RipEntry
 entry i = record { network = record { 0 = i + 2 }; hops = 1; ticks = 1 }
 
@@ -167,7 +167,7 @@ direct_is i d = elim (bool_cases (1 == d.0)) [
 own_direct : (i : ℕ) (d : Network) → d.0 ≡ i + 2 → direct_route (ports_of_two i) d ≡ Some 1
 own_direct i d is = simp (ne_eqb 1 d.0 (λ e. omega (arith, e, is)), eq-eqb (i + 2) d.0 (sym is)) refl
 
--- each tells its own network
+-- each advertises its own network
 told_own : (i : ℕ) (c : Routes) (now : ℕ) → IsToldRoute (ports_of_two i) c (at_port i now) (entry i)
 told_own i c now = record {
   route = over_port 1;
@@ -176,7 +176,7 @@ told_own i c now = record {
   is = refl;
 }
 
--- and nothing else, since all that it heard came by the same port
+-- and nothing else, since everything that it learned came by the same port
 told_only : (i : ℕ) (c : Routes) (now : ℕ) → ((p : Network × Source) (w : Word) → c p ≡ Some w → p.1 ≡ from_other i) → (e : RipEntry) → IsToldRoute (ports_of_two i) c (at_port i now) e → e ≡ entry i
 told_only i c now only e told = by_direct (direct_is i e.network)
   where
@@ -202,7 +202,7 @@ still_young now (Some v) w h = elim (bool_cases (is_young now v.1)) [
   | inr old ↦ let none : None ≡ Some w = sym (ap (λ b. cond b (Some v) None) old) ∙ h in cc
 ]
 
--- the route by the port on the network, or by what one source said
+-- the route by the port on the network, or by the offer of one source
 abbrev route_by : Option ℕ → Source → Option Word → Option Route
 route_by (Some place) source w = Some (over_port place)
 route_by None source None = None
@@ -211,7 +211,7 @@ route_by None source (Some w) = Some (over_neighbour (source, w.0))
 not_both : (w : Word) → Some w ≡ None → ⊥
 not_both w e = cc
 
--- where all came from that source, it is the route
+-- if everything came from that source, it is the route
 module _ (laws : LawsOfTables) (ports : List Port) (c : Routes) (now : ℕ) (d : Network) (source : Source) (only : (p : Network × Source) (w : Word) → c p ≡ Some w → p.1 ≡ source) where
   from_it : (s : Source) (w : Word) → c (d, s) ≡ Some w → c (d, source) ≡ Some w
   from_it s w is = sym (ap (λ z. c (d, z)) (only (d, s) w is)) ∙ is
@@ -251,7 +251,7 @@ module _ (laws : LawsOfTables) (first : ℕ → Routes) (from : IsFromOther firs
   out_of_turn : (n r : ℕ) (p : Network × Source) → r ≢ turn n → table (suc n) r p ≡ table n r p
   out_of_turn n r p other = ap (λ b. cond b (after_turn n r (table n r)) (table n r) p) (ne_eqb r (turn n) other)
 
-  -- all that a table holds came from the other router
+  -- everything that a table holds came from the other router
   only_other : (n r : ℕ) (p : Network × Source) (w : Word) → table n r p ≡ Some w → p.1 ≡ from_other r
   only_other zero r p w is = (from r p w is).0
   only_other (suc n) r p w is = elim (bool_cases (r == turn n)) [
@@ -330,7 +330,7 @@ module _ (laws : LawsOfTables) (first : ℕ → Routes) (from : IsFromOther firs
       often = all_is_heard;
     }
 
--- ---- each least way is a least way and one telling more
+-- ---- each shortest path is a shortest path and one more advertisement
 
 module _ (laws : LawsOfTables) (d : Network) where
   owns_one : (r : ℕ) (a b : Route) → Owns two_routers d r a → Owns two_routers d r b → a ≡ b
@@ -379,7 +379,7 @@ exist laws d first from = (
 
 -- ---- a forged route
 
--- each has it over the other
+-- each has it by the other one
 abbrev forged : ℕ → Routes
 forged r = content network_cmp (record { key = gone_network; source = from_other r; metric = record { ticks = 2; hops = 2 }; heard = 0 } ∷ [])
 

@@ -1,4 +1,4 @@
--- What one router tells on a port is what another hears of it.
+-- What one router advertises on a port is what another learns of it.
 use Rattle.std.specs.Prelude.{◌≡◌, ◌≢◌, ◌↔◌, ◌==◌, ℕ, true, List, [], ◌∷◌, Contains, Option}
 use Rattle.std.specs.List.{filter}
 use Rattle.ipx_wire.specs.declared.address.Network.{Network}
@@ -20,23 +20,22 @@ use Rattle.rip_convergence.specs.Histories.{Internet, Meet}
 abbrev pub leaving_by : ℕ → List SendingView → List SendingView
 leaving_by port = filter (λ s. s.port == port)
 
--- a router receives these packets on a port, one after another at one moment, and never finds its
--- table full
+-- a router receives these packets on a port, one after another at one time, and never finds its table full
 abbrev pub ReceivesInTurn : ℕ → ℕ → RouterView → List SendingView → RouterView → Type 0
 ReceivesInTurn port now old [] new = new ≡ old
 ReceivesInTurn port now old (s ∷ later) new = (a : OutcomeView) × (next : RouterView)
     × Receives old port s.bytes now a next × (a ≢ Dropped TableFull)
     × ReceivesInTurn port now next later new
 
--- of these packets a router heard these entries and no others; where there is none, it is as it was
+-- of these packets a router learned these entries and no others; if there is none, it is unchanged
 pub record HearsEntries (port now : ℕ) (source : Source) (old : RouterView)
     (packets : List SendingView) (new : RouterView) (entries : List RipEntry) : Type 0 where
   pub none : packets ≡ [] → (entries ≡ []) × (new ≡ old)
   pub some : packets ≢ [] → (p : Network × Source) → routes_in new.routes p
       ≡ after_routes old.ports source now (after_age (routes_in old.routes) now) entries p
 
--- what a router tells when it is time, and another on the same network receives at that moment, is
--- heard from the node of the port by which it left, as just the entries that are told there
+-- what a router advertises when it is due, and another on the same network receives at that time, is learned
+-- from the node of the port by which it left, as exactly the entries that are advertised there
 abbrev pub TellingsAreHeard : Type 0
 TellingsAreHeard = (net : Internet) (s q r p : ℕ) (meet : Meet net s q r p)
     (teller old new : RouterView) (now : ℕ) (sent : List SendingView) (told : Option ℕ)

@@ -1,5 +1,4 @@
--- What the routers of a network say of one network, moment after moment, and what one tells
--- another.
+-- What the routers of a network say of one network, step by step, and what one advertises to another.
 use Rattle.std.specs.Prelude.{◌≡◌, ◌≢◌, ◌⊎◌, ℕ, ◌+◌, ◌<◌, ◌≤◌, Bool, true, false, List, Option, Some, None, not, ◌==◌, ◌||◌, slice_get}
 use Rattle.std.specs.List.{list_any}
 use Rattle.ipx_wire.specs.Assigned.{all_networks, local_network}
@@ -15,11 +14,11 @@ use Rattle.ipx_router.specs.Ports.{IsPort}
 use Rattle.ipx_router.specs.RouteChoice.{direct_route, over_neighbour, over_port}
 use Rattle.ipx_router.specs.Told.{told_hops, told_ticks}
 
--- the routers of a network, by place: of each its ports
+-- the routers of a network, by index: the ports of each
 abbrev pub Internet : Type 0
 Internet = List (List Port)
 
--- two routers stand on one network, the first by its port q, the second by its port p
+-- two routers are on one network, the first by its port q, the second by its port p
 pub record Meet (net : Internet) (s q r p : ℕ) : Type 0 where
   pub theirs : List Port
   pub ours : List Port
@@ -32,11 +31,11 @@ pub record Meet (net : Internet) (s q r p : ℕ) : Type 0 where
   pub one_network : far.network ≡ near.network
   pub two : s ≢ r
 
--- a route's metric as it is told on a port of this cost
+-- a route's metric as it is advertised on a port of this cost
 abbrev pub told_metric : ℕ → RouteMetric → RouteMetric
 told_metric cost m = record { ticks = told_ticks m.ticks cost; hops = told_hops m.hops }
 
--- the network is a port's own: the route that is always there
+-- the network is a port's own: the route that always exists
 pub record Owns (net : Internet) (d : Network) (r : ℕ) (b : Route) : Type 0 where
   pub ours : List Port
   pub place : ℕ
@@ -44,14 +43,14 @@ pub record Owns (net : Internet) (d : Network) (r : ℕ) (b : Route) : Type 0 wh
   pub direct : direct_route ours d ≡ Some place
   pub is : b ≡ over_port place
 
--- a router hears of the network: it is neither the one at hand nor all of them, nor a port's own
+-- a router learns the network: it is neither 0 nor FFFFFFFF, nor a port's own
 abbrev pub is_foreign : List Port → Network → Bool
 is_foreign ports d = not ((d.0 == local_network) || (d.0 == all_networks)
     || list_any (λ p. p.network.0 == d.0) ports)
 
--- router s, whose route to the network is a, tells it to router r, which hears it as the route b.
--- Nothing is told on the port that the route leaves by, nor heard of a router's own network, and 16
--- hops take it out
+-- router s, whose route to the network is a, advertises it to router r, which learns it as the route b.
+-- Nothing is advertised on the port that the route leaves by, nor learned of a router's own network, and 16
+-- hops remove a route
 pub record TellsRoute (net : Internet) (d : Network) (s : ℕ) (a : Route) (r : ℕ) (b : Route) : Type 0 where
   pub q : ℕ
   pub p : ℕ
@@ -81,12 +80,12 @@ better_route a b = is_better route_before (as_offer a) (as_offer b)
 abbrev pub Routing : Type 0
 Routing = ℕ → ℕ → Option Route
 
--- the moment of each step
+-- the time of each step
 abbrev pub Clock : Type 0
 Clock = ℕ → ℕ
 
 module _ (net : Internet) (d : Network) (window : ℕ) (clock : Clock) (x : Routing) where
-  -- a route was told at a step before, within the window, by a router whose route it then came from
+  -- a route was advertised at a step before, within the window, by a router whose route it then came from
   pub record WasTold (t r : ℕ) (b : Route) : Type 0 where
     pub who : ℕ
     pub route : Route
@@ -102,18 +101,18 @@ module _ (net : Internet) (d : Network) (window : ℕ) (clock : Clock) (x : Rout
     pub has : x t r ≡ Some best
     pub not_worse : better_route b best ≡ false
 
-  -- no tale is made up: after a window every route is the router's own or was told within it
+  -- nothing is made up: after a window every route is the router's own or was advertised within the window
   abbrev pub IsSourced : ℕ → Type 0
   IsSourced from = (t r : ℕ) (b : Route) → from + window ≤ clock t → x t r ≡ Some b
       → Owns net d r b ⊎ WasTold t r b
 
-  -- what a router had to tell through a whole window was told, heard and kept
+  -- what a router had to advertise through a whole window was advertised, learned and kept
   abbrev pub IsHeardThroughout : ℕ → Type 0
   IsHeardThroughout from = (t s r : ℕ) (a b : Route) → from + window ≤ clock t → TellsRoute net d s a r b
       → ((u : ℕ) → u ≤ t → clock t < clock u + window → x u s ≡ Some a) → HasAsGood t r b
 
-  -- from a moment on nothing is made up, and from a later one on nothing is missed: what the tables
-  -- held at the first is open
+  -- from a time on nothing is made up, and from a later time on nothing is missed: what the tables held at
+  -- the first step is open
   pub record IsHistory (start heard_from : ℕ) : Type 0 where
     pub own : (t r : ℕ) (b : Route) → Owns net d r b → x t r ≡ Some b
     pub sourced : IsSourced start

@@ -13,7 +13,7 @@ use Rattle.ipx_router.specs.Knowledge.{routes_in}
 use Rattle.ipx_router.specs.OutcomeView.{OutcomeView}
 use Rattle.ipx_router.specs.RouterView.{RouterView}
 
--- a RIP response in bytes, whose entries begin with these
+-- a RIP response as bytes, whose entries begin with these
 pub record IsInResponse (bytes : List ℕ) (port : ℕ) (source : Source)
     (taken : List RipEntry) : Type 0 where
   pub packet : PacketView
@@ -26,7 +26,7 @@ pub record IsInResponse (bytes : List ℕ) (port : ℕ) (source : Source)
   pub first : taken ≡ take count entries
   pub came_by : source ≡ record { port = port; neighbour = packet.header.from.node }
 
--- it ages its table, and hears entries: none, or the first ones of the response that came
+-- it ages its table, and learns entries: none, or the first ones of the response that arrived
 pub record IsRunStep (old : RouterView) (port : ℕ) (bytes : List ℕ) (now : ℕ)
     (new : RouterView) : Type 0 where
   pub source : Source

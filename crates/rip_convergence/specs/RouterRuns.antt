@@ -1,5 +1,5 @@
--- A run of the routers of a network, as what their tables say: at each step one router hears some
--- entries of one response.
+-- A run of the routers of a network, as what their tables say: at each step one router learns some entries of
+-- one response.
 use Rattle.std.specs.Prelude.{◌≡◌, ◌≢◌, ◌⊎◌, ℕ, ◌+◌, ◌<◌, ◌≤◌, List, Some, None, Contains, slice_get, suc}
 use Rattle.ipx_wire.specs.declared.address.Network.{Network}
 use Rattle.ipx_control.specs.declared.rip.packet.RipEntry.{RipEntry}
@@ -13,7 +13,7 @@ use Rattle.ipx_router.specs.RouteChoice.{IsRouteOrNone}
 use Rattle.ipx_router.specs.Told.{IsToldRoute}
 use Rattle.rip_convergence.specs.Histories.{Clock, Internet, IsHistory, Meet, Routing}
 
--- who hears, from whom, and the entries that it took
+-- the router that learns, the source, and the entries that it took
 pub record Hearing : Type 0 where
   pub router : ℕ
   pub source : Source
@@ -24,8 +24,8 @@ abbrev pub Saying : Type 0
 Saying = ℕ → ℕ → Routes
 
 module _ (net : Internet) (clock : Clock) (c : Saying) (heard : ℕ → Hearing) where
-  -- the router that hears ages its table and hears the entries as `receive` does; the others age
-  -- theirs or leave them
+  -- the router that learns ages its table and learns the entries as `receive` does; the others age theirs or
+  -- leave them unchanged
   pub record IsRun : Type 0 where
     pub rises : (n : ℕ) → clock n ≤ clock (suc n)
     pub past : (r : ℕ) (p : Network × Source) (m : RouteMetric) (moment : ℕ)
@@ -38,7 +38,8 @@ module _ (net : Internet) (clock : Clock) (c : Saying) (heard : ℕ → Hearing)
     pub others : (n r : ℕ) (p : Network × Source) → r ≢ (heard n).router
         → (c (suc n) r p ≡ c n r p) ⊎ (c (suc n) r p ≡ after_age (c n r) (clock n) p)
 
-  -- at a step at the same moment, router s tells on port q to those whom port p of router r hears
+  -- at a step at the same time, router s advertises on port q to the routers on the network of port p of
+  -- router r
   pub record TellsTo (n : ℕ) (r : ℕ) (source : Source) : Type 0 where
     pub s : ℕ
     pub q : ℕ
@@ -49,19 +50,19 @@ module _ (net : Internet) (clock : Clock) (c : Saying) (heard : ℕ → Hearing)
     pub before : told_at ≤ n
     pub same_moment : clock told_at ≡ clock n
 
-  -- an entry is what that router then told
+  -- an entry is what that router then advertised
   abbrev pub WasSaid : (n r : ℕ) (source : Source) → TellsTo n r source → RipEntry → Type 0
   WasSaid n r source t = IsToldRoute t.meet.theirs (c t.told_at t.s)
       (record { number = t.q; port = t.meet.far; now = clock t.told_at })
 
-  -- nothing is forged of the network: each entry of it that is heard was told
+  -- nothing is forged of the network: each entry of it that is learned was advertised
   abbrev pub NothingForged : Network → Type 0
   NothingForged d = (n : ℕ) (e : RipEntry) → Contains (heard n).entries e → e.network ≡ d
       → (t : TellsTo n (heard n).router (heard n).source)
       × WasSaid n (heard n).router (heard n).source t e
 
-  -- what a neighbour has to tell of the network through a whole window, from a moment on, is heard
-  -- of it once in that window at least
+  -- if a neighbour has the same to advertise of the network through a whole window, from a time on, it is
+  -- learned at least once in that window
   abbrev pub AllIsHeard : Network → ℕ → Type 0
   AllIsHeard d from = (n s q r p : ℕ) → from + 180000 ≤ clock n → (meet : Meet net s q r p)
       → (e : RipEntry) → e.network ≡ d → ((m : ℕ) → m ≤ n → clock n < clock m + 180000
@@ -83,7 +84,7 @@ pub record AreRoutes (net : Internet) (d : Network) (clock : Clock) (c : Saying)
       → IsRouteOrNone ours (c n r) (clock n) d (x n r)
   pub no_router : (n r : ℕ) → slice_get net r ≡ None → x n r ≡ None
 
--- the routes of a run are a history, with the ageing time as window
+-- the routes of a run are a history, with the age limit of offers as window
 abbrev pub RunsAreHistories : Type 0
 RunsAreHistories = (net : Internet) (d : Network) (clock : Clock) (c : Saying)
     (heard : ℕ → Hearing) (x : Routing) (from : ℕ) → NodesDiffer net → IsRun net clock c heard

@@ -1,5 +1,4 @@
--- What is proved below of tables, as the proofs here are given it: each field is a clause of a
--- public function of `ipx_tables`.
+-- The laws of tables that the proofs here use. Each field is a clause of a public function of `ipx_tables`.
 use Rattle.std.specs.Prelude.{◌≡◌, ℕ}
 use Rattle.ipx_wire.specs.declared.address.Network.{Network}
 use Rattle.ipx_tables.specs.declared.route.RouteMetric.{RouteMetric}
@@ -11,10 +10,10 @@ use Rattle.ipx_tables.specs.Route.{route_before}
 use Rattle.ipx_router.specs.Knowledge.{Routes}
 
 pub record LawsOfTables : Type 0 where
-  -- a network has one best offer at most
+  -- a network has at most one best offer
   pub one_best : (c : Routes) (network : Network) (now : ℕ) (a b : Source × RouteMetric)
       → IsBest route_before c network now a → IsBest route_before c network now b → a ≡ b
   -- of two different offers exactly one is better
   pub strict : IsStrictTotal (is_better route_before)
-  -- no two sources tie
+  -- no two sources compare as equal
   pub apart : TellsApart source_cmp

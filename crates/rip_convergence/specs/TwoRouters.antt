@@ -1,4 +1,4 @@
--- A network of two routers, of which it is proved that fair runs exist.
+-- A network of two routers, for which it is proved that fair runs exist.
 use Rattle.std.specs.Prelude.{◌≡◌, ℕ, ◌+◌, ◌-◌, ◌*◌, ◌<◌, ◌≤◌, List, [], ◌∷◌, Some, None}
 use Rattle.ipx_wire.specs.declared.address.Network.{Network}
 use Rattle.ipx_wire.specs.declared.address.Node.{Node}
@@ -16,7 +16,7 @@ use Rattle.rip_convergence.specs.Ways.{CostsWithin, LeastWaysExtend}
 abbrev pub own_node : ℕ → Node
 own_node router = record { 0 = 0 ∷ 0 ∷ 0 ∷ 0 ∷ 0 ∷ (router + 1) ∷ [] }
 
--- the ports of router 0 and of router 1: each stands on network 1, and on one of its own, 2 or 3
+-- the ports of router 0 and of router 1: each is on network 1, and on a network of its own, 2 or 3
 abbrev pub ports_of_two : ℕ → List Port
 ports_of_two router =
     record { network = record { 0 = 1 }; node = own_node router; cost = 1 }
@@ -29,7 +29,7 @@ two_routers = ports_of_two 0 ∷ ports_of_two 1 ∷ []
 abbrev pub by_half_minutes : Clock
 by_half_minutes n = n * 30000
 
--- whom a router hears the other from
+-- the source from which a router learns routes of the other
 abbrev pub from_other : ℕ → Source
 from_other router = record { port = 1; neighbour = own_node (1 - router) }
 
@@ -38,7 +38,7 @@ abbrev pub IsFromOther : (ℕ → Routes) → Type 0
 IsFromOther first = (r : ℕ) (p : Network × Source) (w : RouteMetric × ℕ) → first r p ≡ Some w
     → (p.1 ≡ from_other r) × (w.1 ≡ 0)
 
--- all that the theorems ask of a network of routers, and a fair run of it from these tables
+-- everything that the theorems require of a network of routers, and a fair run of it from these tables
 pub record MeetsAllPremises (net : Internet) (d : Network) (clock : Clock) (x : Routing)
     (first : ℕ → Routes) : Type 0 where
   pub nodes : NodesDiffer net
@@ -47,7 +47,7 @@ pub record MeetsAllPremises (net : Internet) (d : Network) (clock : Clock) (x : 
   pub fair : IsFairRun net d clock x
   pub begins : fair.one.says 0 ≡ first
 
--- from any such tables there is a run in which the two tell one another by turns
+-- from any such tables there is a run in which the two advertise to each other in turn
 abbrev pub FairRunsExist : Type 0
 FairRunsExist = (d : Network) (first : ℕ → Routes) → IsFromOther first
     → (x : Routing) × MeetsAllPremises two_routers d by_half_minutes x first
@@ -59,7 +59,7 @@ gone_network = record { 0 = 7 }
 abbrev pub forged_route : ℕ → Route
 forged_route router = over_neighbour (from_other router, record { ticks = 2; hops = 2 })
 
--- there is one that begins with such a route at both, and 48 minutes later neither has one
+-- there is one that starts with such a route at both, and 48 minutes later neither has one
 abbrev pub ForgedRouteGoes : Type 0
 ForgedRouteGoes = (x : Routing) × IsFairRun two_routers gone_network by_half_minutes x
     × ((r : ℕ) → r < 2 → x 0 r ≡ Some (forged_route r))

@@ -1,4 +1,4 @@
-//! What is proved in the crates below, at once.
+//! The laws of lower crates, in records.
 
 ghost use Rattle.rip_convergence.specs.PacketLaws.{LawsOfPackets};
 ghost use Rattle.rip_convergence.specs.TableLaws.{LawsOfTables};
@@ -7,7 +7,7 @@ use ipx_control::{bytes_are_one_rip, rip_fault_is_of_no_rip};
 use ipx_tables::{RouteMetric, one_best, one_is_better, sources_are_apart};
 use ipx_wire::{Network, bytes_are_one_packet, ipx_fault_is_of_no_packet};
 
-/// The laws of tables on which the theorems stand.
+/// The laws of tables on which the theorems depend.
 pub fn laws_below()
     ensures { LawsOfTables }
 {
@@ -16,7 +16,7 @@ pub fn laws_below()
     sources_are_apart();
 }
 
-/// The laws of packets on which rests what a neighbour hears.
+/// The laws of packets on which it depends what a neighbour learns.
 pub fn packet_laws()
     ensures { LawsOfPackets }
 {

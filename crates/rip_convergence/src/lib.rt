@@ -1,7 +1,7 @@
-//! Whatever the tables of routers held, their routes settle: theory, without code.
+//! Whatever the tables of routers held, their routes converge. This crate is theory, without code.
 //!
-//! `ipx_router` has what a router hears and tells. Each law here is about a whole network of
-//! routers over time, and stands in `specs/`, in the file that its function names.
+//! `ipx_router` has what a router learns and advertises. Each law here is about a whole network of
+//! routers over time, and is defined in `specs/`, in the file that its function names.
 #![tactic(auto)]
 
 mod below;

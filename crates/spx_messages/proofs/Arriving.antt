@@ -1,4 +1,4 @@
--- What a datagram does to an endpoint, from what its links did.
+-- The effect of a datagram on an endpoint, from its effect on the links.
 use Rattle.std.proofs.Common.{◌≡◌, ℕ, List, Option, None, Some, Result, Ok, Err, IfOk, OnErr, refl, ap, sym, subst, ◌∙◌, inl, inr}
 use Rattle.ipx_wire.specs.declared.address.Address.{Address}
 use Rattle.ipx_wire.specs.declared.address.Socket.{Socket}
@@ -21,7 +21,7 @@ use Rattle.spx_messages.specs.declared.listening.Listener.{Listener}
 use Rattle.spx_messages.specs.declared.parts.Part.{Part}
 use Rattle.spx_messages.specs.declared.receive.reading.ConnectionPacket.{ConnectionPacket}
 
--- the endpoint with other links, messages in part, and what was heard last
+-- the endpoint with other links, partial messages, and link that read last
 abbrev pub heard_with : EndpointView → LinksView → List Part → Option ℕ → EndpointView
 heard_with e links parts heard = record e { links = links; parts = parts; heard = heard }
 
@@ -56,7 +56,7 @@ same_but e links heard s = record {
   self = same_self e links e.parts heard;
 }
 
--- nothing changed but what was heard
+-- nothing changed but the link that read last
 unheard : (e : EndpointView) (links : LinksView) (parts : List Part) → Unasked e.links links e.parts parts → Unheard e (heard_with e links parts None)
 unheard e links parts u =
     let P : LinksView → List Part → Type 0 = λ ls ps. Unheard e (heard_with e ls ps None) in
@@ -79,7 +79,7 @@ changes_end e links heard id l c = record {
 both : (o p : Option LinkView) (m n : Option MessageView) → o ≡ p → m ≡ n → held_with o m ≡ held_with p n
 both o p m n e f = cc
 
--- a link came
+-- a link was added
 adds_end : (e : EndpointView) (links : LinksView) (parts : List Part) (heard : Option ℕ) (id : ℕ) (l : LinkView) → Adds e.links links id l → Forgets e.parts parts id → AddsEnd e (heard_with e links parts heard) id l
 adds_end e links parts heard id l a f = record {
   held = both (link_at links id) (Some l) (rest_in parts id) None a.link f.gone;

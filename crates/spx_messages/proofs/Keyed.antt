@@ -1,4 +1,4 @@
--- Items in a list, found by a number that each has, and what a change of the list does to that.
+-- Items of a list that are found by a number of each, and how a change of the list affects that.
 use Rattle.std.proofs.Common.{◌≡◌, ◌≢◌, ℕ, ◌<◌, List, [], ◌∷◌, ◌++◌, Bool, true, false, not, cond, ◌==◌, refl, ap, sym, subst, ◌∙◌, nat_lt, position, Option, None, Some, slice_get, get_or, set, length, arith, filter, find}
 use Rattle.std.specs.List.{position_or_len}
 use Rattle.std.specs.Option.{option_or}
@@ -21,7 +21,7 @@ eq_from a b e = (Decides-eqb a b).0 e
 pub eq_false : (a b : ℕ) → a ≢ b → (a == b) ≡ false
 eq_false a b n = grind (arith, nat_tests)
 
--- ---- without those of a number
+-- ---- without the items of a number
 
 gone_step : {X : Type 0} (key : X → ℕ) (id : ℕ) (x : X) (xs : List X) (b : Bool) → has key id x ≡ b → find (has key id) (without key id xs) ≡ None → find (has key id) (cond (not b) (x ∷ without key id xs) (without key id xs)) ≡ None
 gone_step key id x xs true e below = below
@@ -40,7 +40,7 @@ pub stays : {X : Type 0} (key : X → ℕ) (id q : ℕ) (xs : List X) → q ≢ 
 stays key id q [] apart = refl
 stays key id q (x ∷ xs) apart = stays_step key id q x xs (has key id x) apart refl (stays key id q xs apart)
 
--- ---- at the place of a number
+-- ---- at the index of a number
 
 place_step : {X : Type 0} (p : X → Bool) (xs : List X) (k : ℕ) (b : Bool) → nat_lt (position_or_len p xs) (length xs) ≡ b → cond b (Some (position_or_len p xs)) None ≡ Some k → (k ≡ position_or_len p xs) × (k < length xs)
 place_step p xs k true e is =
@@ -51,7 +51,7 @@ place_step p xs k false e is = absurd (cc is)
 pub place_of_position : {X : Type 0} (p : X → Bool) (xs : List X) (k : ℕ) → position p xs ≡ Some k → (k ≡ position_or_len p xs) × (k < length xs)
 place_of_position p xs k is = place_step p xs k (nat_lt (position_or_len p xs) (length xs)) refl is
 
--- what stands at the place is what is found
+-- the item at the index is the one that is found
 pub found_at_place : {X : Type 0} (p : X → Bool) (xs : List X) (k : ℕ) (x : X) → position p xs ≡ Some k → x ≡ get_or xs k x → find p xs ≡ Some x
 found_at_place p xs k x is read =
     let place = place_of_position p xs k is in
@@ -61,7 +61,7 @@ past_step : {X : Type 0} (p : X → Bool) (xs : List X) (b : Bool) → nat_lt (p
 past_step p xs true e is = absurd (cc is)
 past_step p xs false e is = find_at p xs ∙ slice_get_past xs (position_or_len p xs) (grind (arith, nat_tests))
 
--- where none has a place, none is found
+-- if no item has an index, none is found
 pub found_nowhere : {X : Type 0} (p : X → Bool) (xs : List X) → position p xs ≡ None → find p xs ≡ None
 found_nowhere p xs is = past_step p xs (nat_lt (position_or_len p xs) (length xs)) refl is
 
@@ -76,7 +76,7 @@ found_passes p (x ∷ xs) y e = found_step p x y (p x) (find p xs) (found_passes
 
 -- ---- changes
 
--- a write over the one of a number, by one of the same number
+-- an item is replaced by another one of the same number
 pub written : {X : Type 0} (key : X → ℕ) (id : ℕ) (xs : List X) (k : ℕ) (y : X) → position (has key id) xs ≡ Some k → key y ≡ id → find (has key id) (set xs k y) ≡ Some y
 written key id xs k y is same =
     let place = place_of_position (has key id) xs k is in
@@ -96,7 +96,7 @@ or_none (Some x) = refl
 find_last : {X : Type 0} (p : X → Bool) (y : X) (b : Bool) → p y ≡ b → find p (y ∷ []) ≡ cond b (Some y) None
 find_last p y b e = ap (λ c. cond c (Some y) None) e
 
--- one behind the others, of a number that none of them has
+-- an item is added at the end, with a number that no other has
 pub pushed : {X : Type 0} (key : X → ℕ) (id : ℕ) (xs : List X) (y : X) → find (has key id) xs ≡ None → key y ≡ id → find (has key id) (xs ++ y ∷ []) ≡ Some y
 pushed key id xs y free same =
     find-append (has key id) xs (y ∷ []) ∙ ap (λ o. option_or o (find (has key id) (y ∷ []))) free ∙ find_last (has key id) y true (eq_true (key y) id same)

@@ -1,5 +1,5 @@
--- What a datagram does to an endpoint is one. What is said of it is brought into one order of
--- questions first, each with two answers: then two accounts of one datagram go the same way.
+-- A datagram has exactly one effect on an endpoint. The contract is first brought into a fixed order of
+-- questions, each with two answers. Then two effects of one datagram take the same way.
 use Rattle.std.proofs.Common.{◌≡◌, ◌≢◌, ℕ, ◌<◌, ◌≤◌, ◌==◌, Bool, true, false, List, Option, None, Some, refl, ap, sym, subst, ◌∙◌, ◌⊎◌, inl, inr, arith, is_some}
 use Rattle.std.proofs.lemmas.Bool.Decides.{Decides-eqb, leb_tells}
 use lib.Dec.{leb}
@@ -22,14 +22,14 @@ use Rattle.spx_messages.specs.EndpointView.{EndpointView, Held, buffers_at, held
 use Rattle.spx_messages.specs.declared.arrived.Arrived.{Arrived}
 use Rattle.spx_messages.specs.declared.arrived.Arrived.TheVariants as Arriveds
 
--- what is known of bytes and packets
+-- laws of bytes and packets
 pub record WireLaws : Type 0 where
   pub one_packet : (p q : PacketView) (bytes s t : List ℕ) → IsIpx p bytes s → IsIpx q bytes t → (p ≡ q) × (s ≡ t)
   pub one_spx : (h k : SpxHeader) (body other bytes : List ℕ) → IsSpx h body bytes → IsSpx k other bytes → (h ≡ k) × (body ≡ other)
   pub no_ipx_fault : (p : PacketView) (bytes tail : List ℕ) → IsIpx p bytes tail → ipx_fault bytes ≡ None
   pub no_spx_fault : (h : SpxHeader) (body bytes : List ℕ) → IsSpx h body bytes → spx_fault bytes ≡ None
 
--- two answers, and two endpoints after them, are one
+-- two answers are equal, and so are the endpoints after them
 pub record One (a b : Arrived) (new other : EndpointView) : Type 0 where
   pub answer : a ≡ b
   pub same : SameBut new other
@@ -69,7 +69,7 @@ one_unheard a b c old new other x y u v = record {
   heard = v.heard ∙ sym u.heard;
 }
 
--- what is held under an id is given, and under the others it is as before
+-- what one id holds is given, and the others hold what they held
 held_alike : (f g k : ℕ → Option Held) (id : ℕ) (o : Option Held) (q : ℕ) (b : Bool) → (q == id) ≡ b → g id ≡ o → k id ≡ o → ((n : ℕ) → n ≢ id → g n ≡ f n) → ((n : ℕ) → n ≢ id → k n ≡ f n) → k q ≡ g q
 held_alike f g k id o q true e gs ks go ko =
     let is : q ≡ id = (Decides-eqb q id).0 e in
@@ -103,7 +103,7 @@ below_or_not k m = by (leb_tells k m)
     by (inl h) = inl h.1
     by (inr h) = inr h.1
 
--- the first free id is one
+-- there is one first free id
 not_passed : (s : LinksView) (a b : ℕ) (x : IsNextFree s a) (y : IsNextFree s b) → x.steps < y.steps → ⊥
 not_passed s a b x y less =
     let live : IsLive s (id_after s.last x.steps) = y.passed x.steps less in

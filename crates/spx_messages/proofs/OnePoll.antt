@@ -1,4 +1,4 @@
--- What a poll does is one.
+-- A poll has exactly one result.
 use Rattle.std.proofs.Common.{◌≡◌, ℕ, ◌+◌, ◌<◌, ◌≤◌, List, [], ◌++◌, length, take, drop, get_or, Option, None, Some, refl, ap, sym, subst, ◌∙◌, ◌⊎◌, inl, inr, arith, append-nil, take-append-drop}
 use Rattle.std.proofs.lemmas.List.{get_or-drop, get_or-take, get_or_past, length-take, length-take-le}
 use Rattle.ipx_wire.specs.Ipx.{IsBytes, IsIpx, PacketView}
@@ -14,7 +14,7 @@ use Rattle.spx_messages.specs.OneValue.{IsRoomStill, IsOnePoll}
 use Rattle.spx_messages.specs.Polls.{FirstLinkGives, Polls, RestsAt, home_of, next_node, polled_held}
 use Rattle.spx_messages.proofs.Once.{below_or_not, none_or_some, same_self}
 
--- what is known of the bytes of a packet
+-- laws of the bytes of a packet
 pub record ByteLaws : Type 0 where
   pub ipx : (p : PacketView) (a b tail : List ℕ) → IsBytes a → IsBytes b → IsIpx p a tail → IsIpx p b tail → a ≡ b
   pub spx : (h : SpxHeader) (body a b : List ℕ) → IsBytes a → IsBytes b → IsSpx h body a → IsSpx h body b → HasFreeBitsClear a → HasFreeBitsClear b → a ≡ b
@@ -44,7 +44,7 @@ module _ (f : ByteLaws) (home : Home) (l : LinkView) (g : OutgoingView) where
       let same : x.packet ≡ y.packet = λ i. record { header = header i; body = body i } in
       f.ipx y.packet a b [] in_a in_b (subst (λ (p : PacketView). IsIpx p a []) same x.is) y.is
 
--- as many bytes, and the same room
+-- the same length, and the same buffer
 count_one : (n m : ℕ) (a b : List ℕ) → n ≤ length a → m ≤ length b → take n a ≡ take m b → n ≡ m
 count_one n m a b fits_n fits_m same = sym (length-take-le n a fits_n) ∙ ap length same ∙ length-take-le m b fits_m
 
@@ -59,12 +59,12 @@ rests_alike : (old new other : EndpointView) (now q : ℕ) (o : Option Held) →
 rests_alike old new other now q None is x y = y.none is ∙ sym (x.none is)
 rests_alike old new other now q (Some h) is x y = (y.asked h is).1 ∙ sym (x.asked h is).1
 
--- a link that gives a packet does not rest
+-- a link that gives a packet does not give nothing
 gives_or_rests : {A : Type 0} (old new : EndpointView) (now id : ℕ) (h : Held) (g : OutgoingView) → held_at old id ≡ Some h → (poll_link h.link now).0 ≡ Some g → RestsAt old new now id → A
 gives_or_rests {A} old new now id h g at gives rests = none_or_some (poll_link h.link now).0 g (rests.asked h at).0 gives
 
 module _ (old : EndpointView) (now : ℕ) where
-  -- what is said of the link that gave a packet
+  -- what is known of the link that gave a packet
   record Gave (id : ℕ) (held : Held) (given : OutgoingView) (node : Node) (n : ℕ) (room written : List ℕ) (new : EndpointView) : Type 0 where
     becomes : held_at new id ≡ Some (polled_held held now)
     below : (q : ℕ) → q < id → RestsAt old new now q
@@ -79,7 +79,7 @@ module _ (old : EndpointView) (now : ℕ) where
   gave : (node : Node) (n : ℕ) (room written : List ℕ) (new : EndpointView) (x : FirstLinkGives old now node n room written new) → Gave x.id x.held x.given node n room written new
   gave node n room written new x = record { becomes = x.becomes; below = x.below; above = x.above; said = x.said; short = x.short; is = x.is; clear = x.clear; behind = x.behind; next = x.next }
 
-  -- two accounts of one link
+  -- two results of one link
   module _ (f : ByteLaws) (id : ℕ) (held : Held) (given : OutgoingView) (node_a node_b : Node) (n m : ℕ) (room a b : List ℕ) (new other : EndpointView) where
     held_one : Gave id held given node_a n room a new → Gave id held given node_b m room b other → (q : ℕ) → held_at other q ≡ held_at new q
     held_one x y q = by (below_or_not id q) (below_or_not q id)
@@ -99,7 +99,7 @@ module _ (old : EndpointView) (now : ℕ) where
         let node : node_a ≡ node_b = x.next ∙ sym y.next in
         (node, count, room_one n m room a b count front x.behind y.behind, held_one x y, y.said ∙ sym x.said)
 
--- ---- the first link that gives is one
+-- ---- the first link that gives a packet is determined
 
 module _ (old : EndpointView) (now : ℕ) (node_a node_b : Node) (n m : ℕ) (room a b : List ℕ) (new other : EndpointView) where
   abbrev FirstA : Type 0

@@ -13,14 +13,14 @@ use Rattle.spx_messages.specs.EndpointTurns.{AllRest, IsPacketBetween, Rests, Tu
 use Rattle.spx_messages.specs.declared.poll.turn.Given.{Given}
 use Rattle.spx_messages.specs.declared.poll.writing.HostAddress.{HostAddress}
 
--- an endpoint with other links, of which the last poll said this
+-- an endpoint with other links, and this as the result of the last poll
 abbrev pub with_links : EndpointView → LinksView → Option (ℕ × Sent) → EndpointView
 with_links e links said = record e { links = links; said = said }
 
 abbrev pub place_of : EndpointView → HostAddress
 place_of e = record { network = e.network; node = e.node; router = e.router }
 
--- ---- what is held where a link is
+-- ---- what an id with a link holds
 
 held_link : (o : Option LinkView) (rest : Option MessageView) (h : Held) → held_with o rest ≡ Some h → (o ≡ Some h.link) × (rest ≡ h.rest)
 held_link None rest h is = absurd (cc is)

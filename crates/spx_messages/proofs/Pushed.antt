@@ -1,4 +1,4 @@
--- A unit pushed behind the part of a message: the cases of its call.
+-- A unit added to a partial message: the cases of its call.
 use Rattle.std.proofs.Common.{◌≡◌, ℕ, List, refl, sym, subst, ◌∙◌, None, Some, get_or, set, Option, Result, Ok, Err, IfOk, IsOkUnless, option_map}
 use Rattle.spx_link.specs.declared.unit.Unit.{Unit}
 use Rattle.spx_units.specs.declared.fault.MessageFault.{MessageFault}
@@ -20,7 +20,7 @@ pushes_along rest rest' u r after after' e f p =
     let Q : Option MessageView → Type 0 = λ o. Pushes rest u r o in
     subst P (sym e) (subst Q (sym f) p)
 
--- at its place
+-- at its index
 pub pushes_at : (parts : List Part) (id k : ℕ) (x y : Part) (u : Unit) (r : PushAnswer) → IsPlace parts id k → x ≡ get_or parts k x → y.id ≡ x.id → Pushes x.inbox u r y.inbox → Pushes (rest_in parts id) u r (rest_in (set parts k y) id)
 pushes_at parts id k x y u r is read same p =
     pushes_along x.inbox (rest_in parts id) u r y.inbox (rest_in (set parts k y) id)
@@ -28,7 +28,7 @@ pushes_at parts id k x y u r is read same p =
     (rest_written parts id k y is (same ∙ id_at_place parts id k x is read))
     p
 
--- where it was refused, nothing is left of it
+-- if it was refused, nothing of it is stored
 pub pushes_refused : (u : Unit) (r r' : PushAnswer) (f : MessageFault) (after after' : Option MessageView) → Pushes None u r after → r ≡ Err f → r' ≡ Err f → after' ≡ None → Pushes None u r' after'
 pushes_refused u r r' f after after' p is is' none =
     let same : r ≡ r' = is ∙ sym is' in
@@ -40,7 +40,7 @@ pushes_refused u r r' f after after' p is is' none =
       unchanged = λ w. none;
     }
 
--- where it was done, and then memory was refused
+-- if it was added, and memory was refused after that
 pub pushes_undone : (u : Unit) (r r' : PushAnswer) (m : Option Message) (after after' : Option MessageView) → Pushes None u r after → r ≡ Ok m → r' ≡ Err MessageFaults.OutOfMemory → after' ≡ None → Pushes None u r' after'
 pushes_undone u r r' m after after' p is is' none =
     record {

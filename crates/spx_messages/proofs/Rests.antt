@@ -1,4 +1,4 @@
--- What came in part, by the ids of links, and what a change of the list of parts does to that.
+-- Partial messages by the ids of links, and how a change of their list affects them.
 use Rattle.std.proofs.Common.{◌≡◌, ◌≢◌, ℕ, List, [], ◌∷◌, ◌++◌, not, ◌==◌, filter, position, ap, None, Some, get_or, set}
 use Rattle.spx_messages.specs.declared.parts.Part.{Part}
 use Rattle.spx_messages.specs.EndpointView.{rest_in, rest_of}
@@ -16,7 +16,7 @@ rest_gone id parts = ap rest_of (gone id_of id parts)
 pub rest_stays : (id q : ℕ) (parts : List Part) → q ≢ id → rest_in (rests_without id parts) q ≡ rest_in parts q
 rest_stays id q parts apart = ap rest_of (stays id_of id q parts apart)
 
--- ---- at a place
+-- ---- at an index
 
 abbrev pub IsPlace : List Part → ℕ → ℕ → Type 0
 IsPlace parts id k = position (λ (p : Part). p.id == id) parts ≡ Some k

@@ -42,14 +42,14 @@ zero_or_over q = by (under_or_over q 0)
     by (inl h) = inl (omega arith)
     by (inr h) = inr h
 
--- no link is live under 0
+-- no link has id 0
 abbrev HasIds : LinksView → Type 0
 HasIds s = (q : ℕ) → IsLive s q → (0 < q) × (q < 65535)
 
 live_of : (s : LinksView) (q : ℕ) (l : LinkView) → link_at s q ≡ Some l → IsLive s q
 live_of s q l is = ap is_some is
 
--- the least id above is that of each live one up to it
+-- if an id is the least above a bound, any live id between them is that id
 least_is : (s : LinksView) (below next q : ℕ) → IsLeast (IsAbove s below) next → IsLive s q → below < q → q ≤ next → q ≡ next
 least_is s below next q least live above low =
     let up = least.least q (record { live = live; above = above }) in
@@ -57,7 +57,7 @@ least_is s below next q least live above low =
 
 -- ---- the links up to an id
 
--- no link was asked yet
+-- no link was polled yet
 pub begin : (s : LinksView) (now : ℕ) → RestsTo s s now 0
 begin s now = record {
   asked = λ q l over low there. absurd (omega arith);
@@ -68,7 +68,7 @@ begin s now = record {
   count = refl;
 }
 
--- the next one is asked, and gives nothing
+-- the next link is polled, and gives nothing
 record One (old mid new : LinksView) (now below next : ℕ) : Type 0 where
   pub asked : RestsTo old mid now below
   pub least : IsLeast (IsAbove mid below) next

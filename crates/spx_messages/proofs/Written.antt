@@ -1,4 +1,4 @@
--- A packet that is written behind the place of its header, and then that header.
+-- A packet that is written after the place of its header, followed by that header.
 use Rattle.std.proofs.Common.{◌≡◌, ◌≤◌, ℕ, ◌+◌, ◌-◌, List, [], ◌++◌, length, take, drop, arith, sym, ap, subst, ◌∙◌}
 use Rattle.std.proofs.lemmas.List.{drop-drop, length-drop, length-take-le, drop_at, drop_all, append-nil, take_rest}
 use Rattle.ipx_wire.specs.Assigned.{ipx_header_size, spx_type}
@@ -10,14 +10,14 @@ use Rattle.spx_link.specs.Poll.{OutgoingView}
 use Rattle.spx_messages.specs.EndpointTurns.{IsPacketBetween}
 use borrow.Rule.Slice.PartMut.{put_mid, mid_of}
 
--- what stands from a place on, once all from there on was written
+-- what follows an index after everything from there on was written
 pub from_place : (a : ℕ) (room inner : List ℕ) → a ≤ length room → drop a (put_mid a (length room - a) room inner) ≡ inner
 from_place a room inner fits =
     let end : drop (length room - a) (drop a room) ≡ [] = drop_all (length room - a) (drop a room) (omega (arith, length-drop a room)) in
     let rest : inner ++ drop (length room - a) (drop a room) ≡ inner = ap (λ (l : List ℕ). inner ++ l) end ∙ append-nil inner in
     drop_at (take a room) _ a (length-take-le a room fits) ∙ rest
 
--- behind both headers and the body the room is as it was
+-- after both headers and the body the buffer is unchanged
 pub behind : (count : ℕ) (room inner written : List ℕ) → 30 ≤ length room → drop count inner ≡ drop count (mid_of 30 (length room - 30) room) → drop 30 written ≡ drop 30 (put_mid 30 (length room - 30) room inner) → drop (30 + count) written ≡ drop (30 + count) room
 behind count room inner written fits inside outside =
     let all : mid_of 30 (length room - 30) room ≡ drop 30 room = take_rest room 30 in

@@ -1,5 +1,4 @@
--- What a datagram does to an endpoint, and its answer, by the first case that holds (Novell IPX and
--- SPX).
+-- How an endpoint handles a datagram, and its answer, by the first case that holds (Novell IPX and SPX).
 use Rattle.std.specs.Prelude.{ℕ, ◌≡◌, ◌≢◌, ◌<◌, ◌≤◌, ◌⊎◌, List, Some, None}
 use Rattle.ipx_wire.specs.Assigned.{spx_type}
 use Rattle.ipx_wire.specs.Ipx.{PacketView, BeginsWith, ipx_fault}
@@ -20,7 +19,7 @@ use Rattle.spx_messages.specs.declared.arrived.Arrived.{Arrived}
 use Rattle.spx_link.specs.declared.received.Received.TheVariants as Receiveds
 use Rattle.spx_messages.specs.declared.arrived.Arrived.TheVariants as Arriveds
 
--- a packet of a connection, to this host
+-- an SPX packet to this host
 pub record IsOurs (e : EndpointView) (p : PacketView) : Type 0 where
   pub kind : p.header.kind ≡ spx_type
   pub node : p.header.to.node ≡ e.node
@@ -42,13 +41,13 @@ pub record IsBadSpx (e : EndpointView) (bytes : List ℕ) (f : SpxFault) : Type 
   pub ours : IsOurs e packet
   pub fault : spx_fault packet.body ≡ Some f
 
--- what it is read as
+-- the SPX packet that the datagram is read as
 pub record Comes (e : EndpointView) (p : PacketView) (h : SpxHeader)
     (body bytes : List ℕ) : Type 0 where
   pub is : IsConnectionPacket p h body bytes
   pub ours : IsOurs e p
 
--- a request of which no link was accepted yet
+-- a request for which no link was made yet
 pub record IsNewRequest (e : EndpointView) (p : PacketView) (h : SpxHeader)
     (body bytes : List ℕ) : Type 0 where
   pub comes : Comes e p h body bytes
@@ -71,7 +70,7 @@ pub record IsOneTooMany (e : EndpointView) (bytes : List ℕ) : Type 0 where
   pub listens : buffers_at e packet.header.to.socket ≡ Some buffers
   pub full : most_links ≤ count_of e.links
 
--- a new request to a socket that listens, and there is room for its link
+-- a new request to a socket that listens, with space for its link
 pub record IsAcceptable (e : EndpointView) (bytes : List ℕ) : Type 0 where
   pub packet : PacketView
   pub header : SpxHeader
@@ -81,7 +80,7 @@ pub record IsAcceptable (e : EndpointView) (bytes : List ℕ) : Type 0 where
   pub listens : buffers_at e packet.header.to.socket ≡ Some buffers
   pub room : count_of e.links < most_links
 
--- a link is made of the request
+-- a link is made for the request
 pub record IsAccepted (old : EndpointView) (bytes : List ℕ) (now id : ℕ)
     (new : EndpointView) : Type 0 where
   pub packet : PacketView
@@ -96,7 +95,7 @@ pub record IsAccepted (old : EndpointView) (bytes : List ℕ) (now id : ℕ)
       (accepted_from id packet.header.to.socket packet.header.from header buffers now)
   pub heard : new.heard ≡ None
 
--- a request came again: the link that it made owes its reply once more
+-- a repeated request: the link that was made for it owes another reply
 pub record IsAskedAgain (old : EndpointView) (bytes : List ℕ) (id : ℕ)
     (new : EndpointView) : Type 0 where
   pub packet : PacketView
@@ -129,7 +128,7 @@ pub record IsHeard (old : EndpointView) (bytes : List ℕ) (id : ℕ) (r : Recei
       (record held { link = (receive_link held.link header body).1 })
   pub heard : new.heard ≡ Some id
 
--- no link, or none that reads it
+-- there is no link for it, or the link does not read it
 pub record IsStrange (e : EndpointView) (bytes : List ℕ) : Type 0 where
   pub packet : PacketView
   pub header : SpxHeader

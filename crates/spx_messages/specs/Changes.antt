@@ -1,18 +1,18 @@
--- How an endpoint changes: under one id, or not at all.
+-- How an endpoint changes: at one id, or not at all.
 use Rattle.std.specs.Prelude.{ℕ, ◌≡◌, ◌≢◌, ◌+◌, Some, None}
 use Rattle.ipx_wire.specs.declared.address.Socket.{Socket}
 use Rattle.spx_link.specs.LinkView.{LinkView}
 use Rattle.spx_link.specs.Links.{count_of}
 use Rattle.spx_messages.specs.EndpointView.{EndpointView, Held, buffers_at, held_at, rest_in}
 
--- the address and what listens are as before
+-- the address and the listening sockets are unchanged
 pub record SameSelf (old new : EndpointView) : Type 0 where
   pub network : new.network ≡ old.network
   pub node : new.node ≡ old.node
   pub router : new.router ≡ old.router
   pub buffers : (socket : Socket) → buffers_at new socket ≡ buffers_at old socket
 
--- what is held under an id becomes this, and nothing else changes
+-- an id now holds this, and nothing else changes
 pub record ChangesEnd (old new : EndpointView) (id : ℕ) (after : Held) : Type 0 where
   pub held : held_at new id ≡ Some after
   pub others : (q : ℕ) → q ≢ id → held_at new q ≡ held_at old q
@@ -20,7 +20,7 @@ pub record ChangesEnd (old new : EndpointView) (id : ℕ) (after : Held) : Type 
   pub count : count_of new.links ≡ count_of old.links
   pub self : SameSelf old new
 
--- a link comes under an id, with no part of a message; the id is then the one last given
+-- a link is added under an id, without a partial message; that id is now the last one that was given
 pub record AddsEnd (old new : EndpointView) (id : ℕ) (made : LinkView) : Type 0 where
   pub held : held_at new id ≡ Some (record { link = made; rest = None })
   pub others : (q : ℕ) → q ≢ id → held_at new q ≡ held_at old q
@@ -28,7 +28,7 @@ pub record AddsEnd (old new : EndpointView) (id : ℕ) (made : LinkView) : Type 
   pub count : count_of new.links ≡ count_of old.links + 1
   pub self : SameSelf old new
 
--- an id goes, with its link and its part of a message
+-- an id is removed, with its link and its partial message
 pub record ReleasesEnd (old new : EndpointView) (id : ℕ) : Type 0 where
   pub gone : held_at new id ≡ None
   pub rest : rest_in new.parts id ≡ None
@@ -37,7 +37,7 @@ pub record ReleasesEnd (old new : EndpointView) (id : ℕ) : Type 0 where
   pub count : count_of new.links + 1 ≡ count_of old.links
   pub self : SameSelf old new
 
--- nothing changes but what was said and heard last
+-- nothing changes, except for the last packet sent and the last datagram read
 pub record SameBut (old new : EndpointView) : Type 0 where
   pub held : (q : ℕ) → held_at new q ≡ held_at old q
   pub last : new.links.last ≡ old.links.last

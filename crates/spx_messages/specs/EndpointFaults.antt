@@ -1,4 +1,4 @@
--- The numbers of the faults of an endpoint's calls.
+-- The numbers of the faults of an endpoint's calls. Defined by this project.
 use Rattle.std.specs.Prelude.{ℕ}
 use Rattle.spx_link.specs.LinkFaults.{links_fault_number, offer_fault_number}
 use Rattle.spx_units.specs.Message.{message_fault_number}

@@ -1,5 +1,4 @@
--- Words of private functions: a turn over the links of a host, which asks them in the order of
--- their ids.
+-- Definitions for private functions: a turn over the links of a host, in the order of their ids.
 use Rattle.std.specs.Prelude.{◌≡◌, ◌≤◌, ◌<◌, ℕ, List, [], None, Some, if◌then◌else◌, ◌==◌, ◌||◌}
 use Rattle.ipx_wire.specs.Assigned.{spx_type}
 use Rattle.ipx_wire.specs.Ipx.{IsIpx}
@@ -13,11 +12,11 @@ use Rattle.spx_link.specs.Poll.{OutgoingView, poll_link}
 use Rattle.spx_messages.specs.declared.poll.turn.Given.{Given}
 use Rattle.spx_messages.specs.declared.poll.writing.HostAddress.{HostAddress}
 
--- a socket of a host
+-- the address of a socket of a host
 abbrev pub address_at : HostAddress → Socket → Address
 address_at p socket = record { network = p.network; node = p.node; socket = socket }
 
--- the node that a packet goes to first
+-- the next node of a packet to this address
 abbrev pub node_towards : HostAddress → Address → Node
 node_towards p to =
     if (to.network.0 == p.network.0) || (to.network.0 == 0) then to.node else p.router
@@ -44,12 +43,12 @@ pub record GivesPacket (place : HostAddress) (s : LinksView) (id now : ℕ) (g :
   pub next : g.next ≡ node_towards place link.remote
   pub is : IsPacketBetween (address_at place link.local) link.remote given bytes
 
--- the link of an id was asked and gave nothing
+-- the link of this id was polled and gave nothing
 pub record Rests (old new : LinksView) (now id : ℕ) (l : LinkView) : Type 0 where
   pub nothing : (poll_link l now).0 ≡ None
   pub link : link_at new id ≡ Some (poll_link l now).1
 
--- the links up to an id were asked and gave nothing, and the others are as they were
+-- the links up to an id were polled and gave nothing, and the others are unchanged
 pub record RestsTo (old new : LinksView) (now below : ℕ) : Type 0 where
   pub asked : (q : ℕ) (l : LinkView) → 0 < q → q ≤ below → link_at old q ≡ Some l
       → Rests old new now q l
@@ -59,15 +58,15 @@ pub record RestsTo (old new : LinksView) (now below : ℕ) : Type 0 where
   pub last : new.last ≡ old.last
   pub count : count_of new ≡ count_of old
 
--- each link was asked and gave nothing
+-- each link was polled and gave nothing
 pub record AllRest (old new : LinksView) (now : ℕ) : Type 0 where
   pub asked : (q : ℕ) (l : LinkView) → link_at old q ≡ Some l → Rests old new now q l
   pub none : (q : ℕ) → link_at old q ≡ None → link_at new q ≡ None
   pub last : new.last ≡ old.last
   pub count : count_of new ≡ count_of old
 
--- the link of an id gave a packet: those below were asked and gave nothing, those above were not
--- asked
+-- the link of an id gave a packet: those with lower ids were polled and gave nothing, those with higher ids
+-- were not polled
 pub record Turned (place : HostAddress) (old new : LinksView) (now : ℕ) (g : Given)
     (bytes : List ℕ) : Type 0 where
   pub gives : GivesPacket place old g.id now g bytes

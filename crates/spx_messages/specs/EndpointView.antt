@@ -1,5 +1,4 @@
--- What a host's endpoint holds, as its contracts see it: by the ids of its links, and the sockets
--- that listen (Novell SPX).
+-- An endpoint in contracts: what it holds by the ids of its links, and the listening sockets (Novell SPX).
 use Rattle.std.specs.Prelude.{ℕ, ◌==◌, List, Option, Some, None, find, option_map}
 use Rattle.ipx_wire.specs.declared.address.Network.{Network}
 use Rattle.ipx_wire.specs.declared.address.Node.{Node}
@@ -18,17 +17,17 @@ pub record EndpointView : Type 0 where
   pub listening : List Listener
   pub links : LinksView
   pub parts : List Part
-  -- what the last poll gave, and of which id
+  -- the link and kind of the packet that the last poll gave
   pub said : Option (ℕ × Sent)
-  -- the id whose link read the last datagram
+  -- the id of the link that read the last datagram
   pub heard : Option ℕ
 
--- of an id: its link, and the message that it has in part
+-- what an id holds: its link, and its partial message
 pub record Held : Type 0 where
   pub link : LinkView
   pub rest : Option MessageView
 
--- what stands behind an id in a list
+-- the entry of an id in a list
 abbrev pub part_in : List Part → ℕ → Option Part
 part_in parts id = find (λ p. p.id == id) parts
 
@@ -46,7 +45,7 @@ held_with (Some l) rest = Some (record { link = l; rest = rest })
 abbrev pub held_among : LinksView → List Part → ℕ → Option Held
 held_among links parts id = held_with (link_at links id) (rest_in parts id)
 
--- what is held under an id
+-- what an id holds
 abbrev pub held_at : EndpointView → ℕ → Option Held
 held_at e id = held_among e.links e.parts id
 
@@ -56,6 +55,6 @@ listener_in listening socket = find (λ l. l.socket.0 == socket) listening
 abbrev pub buffers_in : List Listener → ℕ → Option ℕ
 buffers_in listening socket = option_map (λ l. l.buffers) (listener_in listening socket)
 
--- of a socket that listens, how many buffers each link gets that is accepted there
+-- for a socket that listens, the number of buffers of each link that is accepted there
 abbrev pub buffers_at : EndpointView → Socket → Option ℕ
 buffers_at e socket = buffers_in e.listening socket.0

@@ -1,5 +1,5 @@
--- What a poll does is one: two results that meet the relation of `poll`, from one endpoint, time and
--- room, are the same to the byte, and leave the same.
+-- A poll has exactly one result. Two results that meet the contract of `poll`, from one endpoint, time and
+-- buffer, are equal to the byte, and leave the same state.
 use Rattle.std.specs.Prelude.{ℕ, ◌≡◌, ◌≤◌, List, length, Option}
 use Rattle.ipx_wire.specs.Assigned.{spx_max_packet_size}
 use Rattle.ipx_wire.specs.Ipx.{IsBytes}
@@ -8,13 +8,13 @@ use Rattle.spx_messages.specs.Changes.{SameBut}
 use Rattle.spx_messages.specs.EndpointView.{EndpointView}
 use Rattle.spx_messages.specs.Polls.{Polls}
 
--- as every slice of bytes is after a call: bytes, and as many as before
+-- any slice of bytes after a call: it holds bytes, and as many as before
 pub record IsRoomStill (room written : List ℕ) : Type 0 where
   pub bytes : IsBytes written
   pub size : length written ≡ length room
 
--- two polls gave the same: the next node and how many bytes, all bytes of the room, what each id holds
--- after it, and whose the packet was and what for
+-- two polls gave the same: next node and length, all bytes of the buffer, what each id holds after it, and
+-- the packet's link and kind
 pub record IsSamePoll (a b : Option (Node × ℕ)) (written_a written_b : List ℕ)
     (new other : EndpointView) : Type 0 where
   pub result : a ≡ b
@@ -23,7 +23,7 @@ pub record IsSamePoll (a b : Option (Node × ℕ)) (written_a written_b : List �
   pub said : other.said ≡ new.said
   pub heard : other.heard ≡ new.heard
 
--- room is as long as the caller of `poll` owes it
+-- the buffer is as long as the caller of `poll` owes it
 abbrev pub IsOnePoll : Type 0
 IsOnePoll = (old new other : EndpointView) (now : ℕ) (a b : Option (Node × ℕ))
     (room written_a written_b : List ℕ) → spx_max_packet_size ≤ length room

@@ -1,5 +1,5 @@
--- What a poll of an endpoint does: its links are asked in the order of their ids until one gives a
--- packet, which is written.
+-- The poll of an endpoint: its links are polled in the order of their ids until one gives a packet, which is
+-- written.
 use Rattle.std.specs.Prelude.{ℕ, ◌≡◌, ◌<◌, ◌≤◌, List, take, drop, Option, Some, None, if◌then◌else◌, ◌==◌, ◌||◌}
 use Rattle.ipx_wire.specs.Assigned.{spx_max_packet_size}
 use Rattle.ipx_wire.specs.Spx.{HasFreeBitsClear}
@@ -17,18 +17,17 @@ home_of e = record { network = e.network; node = e.node }
 abbrev pub polled_held : Held → ℕ → Held
 polled_held h now = record h { link = (poll_link h.link now).1 }
 
--- the link of an id, if there is one, was asked and gave nothing
+-- the link of an id, if there is one, was polled and gave nothing
 pub record RestsAt (old new : EndpointView) (now id : ℕ) : Type 0 where
   pub asked : (h : Held) → held_at old id ≡ Some h
       → ((poll_link h.link now).0 ≡ None) × (held_at new id ≡ Some (polled_held h now))
   pub none : held_at old id ≡ None → held_at new id ≡ None
 
--- the same node where the network is this one or none, else the router
+-- the destination node if its network is the host's own or 0, and otherwise the router
 abbrev pub next_node : EndpointView → Address → Node
 next_node e to = if (to.network.0 == e.network.0) || (to.network.0 == 0) then to.node else e.router
 
--- the link of the first id that has something to give gives it; the free bits of the control byte
--- are 0
+-- the link of the lowest id that has a packet to send gives it; the free bits of the control byte are 0
 pub record FirstLinkGives (old : EndpointView) (now : ℕ) (node : Node) (n : ℕ) (room written : List ℕ)
     (new : EndpointView) : Type 0 where
   pub id : ℕ

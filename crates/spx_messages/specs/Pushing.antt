@@ -1,4 +1,4 @@
--- Words of private functions: what a unit does to the part of a message, and to what an id holds.
+-- Definitions for private functions: how a unit changes a partial message, and what an id holds.
 use Rattle.std.specs.Prelude.{ℕ, ◌≡◌, ◌≢◌, true, false, IfOk, IsOkUnless, List, Option, Some, None, Result, Err, option_map}
 use Rattle.spx_link.specs.declared.unit.Unit.{Unit}
 use Rattle.spx_link.specs.Links.{ChangesOnly, LinksView}
@@ -11,7 +11,7 @@ use Rattle.spx_messages.specs.declared.parts.Part.{Part}
 use Rattle.spx_messages.specs.EndpointView.{Held, rest_in}
 use Rattle.spx_messages.specs.Taking.{TakenView, Part as OnePart, Whole}
 
--- a unit was pushed behind the part of a message: what that answered, and the part that is left
+-- a unit was added to a partial message: the answer, and the partial message after it
 pub record Pushes (rest : Option MessageView) (u : Unit)
     (result : Result (Option Message) MessageFault) (after : Option MessageView) : Type 0 where
   pub overlong : is_overlong rest u ≡ true → (result ≡ Err MessageFaults.Overlong) × (after ≡ None)
@@ -22,12 +22,12 @@ pub record Pushes (rest : Option MessageView) (u : Unit)
   pub memory : is_overlong rest u ≡ false → IsOkUnless result MessageFaults.OutOfMemory
   pub unchanged : result ≡ Err MessageFaults.OutOfMemory → after ≡ rest
 
--- what is taken where a unit was pushed
+-- what is taken if a unit was added
 abbrev pub taken_by_push : Option MessageView → TakenView
 taken_by_push None = OnePart
 taken_by_push (Some m) = Whole m
 
--- under an id the link and the part become these, and nothing else changes
+-- an id now holds this link and this partial message, and nothing else changes
 pub record ChangesHeld (links links' : LinksView) (parts parts' : List Part) (id : ℕ)
     (after : Held) : Type 0 where
   pub link : ChangesOnly links links' id after.link

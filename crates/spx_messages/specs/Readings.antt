@@ -1,4 +1,4 @@
--- Words of private functions: what a host reads in a datagram, and what it answers to that.
+-- Definitions for private functions: how a host reads a datagram, and its answer.
 use Rattle.std.specs.Prelude.{ℕ, ◌≡◌, ◌≢◌, ◌<◌, ◌≤◌, ◌⊎◌, List, Some, None}
 use Rattle.ipx_wire.specs.Assigned.{spx_type}
 use Rattle.ipx_wire.specs.Connection.{IsConnectionPacket}
@@ -22,7 +22,7 @@ use Rattle.spx_messages.specs.declared.listening.Listener.{Listener}
 use Rattle.spx_messages.specs.declared.parts.Part.{Part}
 use Rattle.spx_messages.specs.declared.receive.reading.ConnectionPacket.{ConnectionPacket}
 
--- a packet of a connection, to this host
+-- an SPX packet to this host
 pub record IsTo (home : Home) (h : IpxHeader) : Type 0 where
   pub kind : h.kind ≡ spx_type
   pub node : h.to.node ≡ home.node
@@ -77,48 +77,48 @@ pub record IsReadBy (old new : LinksView) (r : ConnectionPacket) (id : ℕ) (ans
   pub read : answer ≢ Receiveds.Stranger
   pub changes : ChangesOnly old new id (receive_link link r.header r.body.now).1
 
--- no link, or none that reads it
+-- there is no link for it, or the link does not read it
 abbrev pub IsOfNobody : LinksView → ConnectionPacket → Type 0
 IsOfNobody s r =
     (l : LinkView) → link_at s r.header.to_id ≡ Some l → l.local ≡ r.to → l.remote ≡ r.from
     → (receive_link l r.header r.body.now).0 ≡ Receiveds.Stranger
 
--- of the packets from an address and an id there, no link was accepted
+-- no link was accepted for a request from this address and connection id
 abbrev pub IsNew : LinksView → ConnectionPacket → Type 0
 IsNew s r = (id : ℕ) → ¬ IsAcceptedFrom s r.from r.header.from_id id
 
--- the part of a message that came under an id is gone, and the others stay
+-- the partial message of an id is removed, and the others stay
 pub record Forgets (old new : List Part) (id : ℕ) : Type 0 where
   pub gone : rest_in new id ≡ None
   pub others : (q : ℕ) → q ≢ id → rest_in new q ≡ rest_in old q
 
--- a request came again: the link that it made owes its reply once more
+-- a repeated request: the link that was made for it owes another reply
 pub record OwesReplyAgain (old new : LinksView) (r : ConnectionPacket) (id : ℕ) : Type 0 where
   pub least : IsLeast (IsAcceptedFrom old r.from r.header.from_id) id
   pub link : LinkView
   pub at : link_at old id ≡ Some link
   pub changes : ChangesOnly old new id (owe_reply_link link)
 
--- no socket listens that the request is for
+-- the socket of the request does not listen
 pub record IsDeafTo (listening : List Listener) (s : LinksView) (r : ConnectionPacket) : Type 0 where
   pub new : IsNew s r
   pub deaf : buffers_in listening r.to.0 ≡ None
 
--- a socket listens, and each link is held that may be
+-- the socket listens, and there are as many links as there may be
 pub record IsFullFor (listening : List Listener) (s : LinksView) (r : ConnectionPacket) : Type 0 where
   pub new : IsNew s r
   pub buffers : ℕ
   pub listens : buffers_in listening r.to.0 ≡ Some buffers
   pub full : most_links ≤ count_of s
 
--- a socket listens, and there is room for a link
+-- the socket listens, and there is space for a link
 pub record IsOpenTo (listening : List Listener) (s : LinksView) (r : ConnectionPacket) : Type 0 where
   pub new : IsNew s r
   pub buffers : ℕ
   pub listens : buffers_in listening r.to.0 ≡ Some buffers
   pub room : count_of s < most_links
 
--- a link is made of the request, with no part of a message
+-- a link is made for the request, without a partial message
 pub record Accepts (listening : List Listener) (old new : LinksView) (before after : List Part)
     (r : ConnectionPacket) (now id : ℕ) : Type 0 where
   pub room : IsOpenTo listening old r
@@ -126,12 +126,12 @@ pub record Accepts (listening : List Listener) (old new : LinksView) (before aft
   pub adds : Adds old new id (accepted_from id r.to r.from r.header room.buffers now)
   pub forgets : Forgets before after id
 
--- the links and the messages in part are as they were
+-- the links and the partial messages are unchanged
 pub record Unasked (old new : LinksView) (before after : List Part) : Type 0 where
   pub links : new ≡ old
   pub parts : after ≡ before
 
--- what a request is answered, and what it does
+-- the answer to a request, and its effect
 abbrev pub IsAsked : List Listener → LinksView → LinksView → List Part → List Part → ConnectionPacket → ℕ
     → Arrived → Type 0
 IsAsked listening old new before after r now (Arriveds.Bad f) = ⊥

@@ -1,4 +1,4 @@
--- What a take gives, and what it leaves under its id.
+-- What a take gives, and what its id holds after it.
 use Rattle.std.specs.Prelude.{◌≡◌, ◌⊎◌, Option, Some, None, if◌then◌else◌}
 use Rattle.std.specs.Prelude.{Result, Ok, Err}
 use Rattle.spx_link.specs.declared.unit.Unit.{Unit}
@@ -13,7 +13,7 @@ use Rattle.spx_messages.specs.declared.taken.Taken.{Taken}
 use Rattle.spx_messages.specs.declared.taken.Taken.TheVariants as takens
 use Rattle.spx_messages.specs.EndpointView.{Held}
 
--- what is taken, without where it lies in memory
+-- what is taken, without its place in memory
 pub data TakenView : Type 0 where
   Nothing : TakenView
   Part : TakenView
@@ -26,11 +26,11 @@ taken_view takens.Part = Part
 taken_view (takens.Whole m) = Whole (message_view m)
 taken_view takens.PeerEnd = PeerEnd
 
--- the first unit has left the link
+-- the first unit was taken from the link
 abbrev pub taken_held : Held → Held
 taken_held h = record h { link = (take_link h.link).1 }
 
--- too many bytes came of a message: the link is lost, and the part of the message is gone
+-- a message grew too long: the link becomes lost, and the partial message is removed
 abbrev pub overrun : Held → Held
 overrun h = record { link = lose_link (take_link h.link).1; rest = None }
 
@@ -53,15 +53,15 @@ abbrev pub takes_first : Held → Option Unit → Result TakenView EndFault × H
 takes_first h None = (Ok Nothing, h)
 takes_first h (Some u) = takes_unit h u
 
--- what a take gives where memory suffices, and what is held then
+-- what a take gives if there is enough memory, and what the id holds after it
 abbrev pub take_end : Held → Result TakenView EndFault × Held
 take_end h = takes_first h (first_of h.link.held)
 
--- what a take answered, without where it lies in memory
+-- the answer of a take, without its place in memory
 abbrev pub result_view : Result Taken EndFault → Result TakenView EndFault
 result_view (Ok t) = Ok (taken_view t)
 result_view (Err f) = Err f
 
--- a take adds a unit to a message: then alone it wants memory
+-- a take adds a unit to a message: only then it needs memory
 abbrev pub IsPushed : Held → Type 0
 IsPushed h = ((take_end h).0 ≡ Ok Part) ⊎ ((m : MessageView) × ((take_end h).0 ≡ Ok (Whole m)))

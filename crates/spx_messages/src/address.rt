@@ -1,4 +1,4 @@
-//! Where an endpoint stands.
+//! The network of an endpoint.
 
 ghost use Rattle.std.specs.Prelude.{◌≡◌};
 

@@ -1,4 +1,4 @@
-//! What a user of connections calls.
+//! The calls of a user of connections.
 
 ghost use Rattle.std.specs.Prelude.{◌≡◌, ◌≢◌, ◌<◌, ◌↔◌, ◌⊎◌, Err, IfErr, IfOk, IfSome, IsOk, None, OnErr, OnOk, Some, true};
 ghost use Rattle.spx_link.specs.Limits.{most_links};
@@ -27,10 +27,10 @@ use spx_units::{Message, cut};
 use std::alloc::Global;
 
 impl Endpoint {
-    /// Asks for a connection between a socket here and an address, and tells the id of its link.
-    /// The caller owes 1 to 8,192 buffers.
+    /// Asks for a connection from a local socket to an address, and gives the id of its link. The
+    /// caller owes 1 to 8,192 buffers.
     ///
-    /// It is refused where 16 links are held, else only for want of memory.
+    /// It is refused if there are 16 links, and otherwise only if it is out of memory.
     pub fn dial(
         &mut self,
         alloc: Global,
@@ -55,11 +55,11 @@ impl Endpoint {
         Ok(id)
     }
 
-    /// Cuts a message into units and queues them on the link of an id.
+    /// Splits a message into units and queues them on a link.
     ///
-    /// The first of these refuses it: no link has the id; the message is too long, or of the
-    /// streams FE and FF; the link is not open yet, or ends. Want of memory may refuse it in the
-    /// place of the last one, or where none holds.
+    /// The first of these faults refuses it: no link has the id; the message is too long, or of
+    /// stream FE or FF; the link is not open yet, or is ending. Out of memory may come in place of
+    /// the last one, or if there is no fault.
     pub fn send(&mut self, alloc: Global, id: u16, message: &Message) -> Result<(), EndFault>
         ensures unknown { (result ≡ Err EndFaults.NoSuchEnd) ↔ (held_at self.old id ≡ None) }
         ensures uncut { IfSome (held_at self.old id) (λ _. (f : MessageFault)
@@ -85,10 +85,10 @@ impl Endpoint {
         Ok(())
     }
 
-    /// Asks for the end of the link of an id: what was sent before goes out first.
+    /// Asks for the end of a connection. What was sent before goes out first.
     ///
-    /// The first of these refuses it: no link has the id; the link is not open yet, or ends; memory
-    /// is wanted. Where it is refused nothing changes.
+    /// The first of these faults refuses it: no link has the id; the link is not open yet, or is
+    /// ending; out of memory. If it is refused, nothing changes.
     pub fn close(&mut self, alloc: Global, id: u16) -> Result<(), EndFault>
         ensures unknown { (result ≡ Err EndFaults.NoSuchEnd) ↔ (held_at self.old id ≡ None) }
         ensures refused { IfSome (held_at self.old id) (λ h. (f : OfferFault)
@@ -106,10 +106,10 @@ impl Endpoint {
         Ok(())
     }
 
-    /// Takes the first unit that the link of an id holds, and tells the message that it ends.
+    /// Takes the first unit that a link holds, and gives the message that it completes, if any.
     ///
-    /// Where the message grew over 65,535 bytes, it is refused as `Overlong`, that unit is gone and
-    /// the link is lost. Want of memory and an unknown id change nothing.
+    /// If the message grew over 65,535 bytes, it is refused as `Overlong`, that unit is removed,
+    /// and the link becomes lost. Out of memory and an unknown id change nothing.
     pub fn take(&mut self, alloc: Global, id: u16) -> Result<Taken, EndFault>
         ensures unknown { (result ≡ Err EndFaults.NoSuchEnd) ↔ (held_at self.old id ≡ None) }
         ensures takes { IfSome (held_at self.old id) (λ h.
@@ -126,11 +126,12 @@ impl Endpoint {
         take_from(alloc, &mut self.links, &mut self.parts, id)
     }
 
-    /// So many units of the link of an id may be outstanding from now on, and by hand they go again
-    /// where `again` asks for them, not 500 milliseconds after they were sent. A window over 8,192
-    /// acts as 8,192. Whoever has them go by hand owes the asking: else a lost unit stays lost.
+    /// Limits the outstanding units of a link to `window` from now on. A window over 8,192 acts as
+    /// 8,192. If `manual`, units are retransmitted only when `again` asks for it, and not 500
+    /// milliseconds after they were sent. A caller that sets `manual` owes these calls, or a lost
+    /// unit stays lost.
     ///
-    /// It is refused only where no link has the id.
+    /// It is refused only if no link has the id.
     pub fn pace(&mut self, id: u16, window: u16, manual: bool) -> Result<(), EndFault>
         ensures unknown { (result ≡ Err EndFaults.NoSuchEnd) ↔ (held_at self.old id ≡ None) }
         ensures fault { IfErr result (λ f. f ≡ EndFaults.NoSuchEnd) }
@@ -145,10 +146,10 @@ impl Endpoint {
         Ok(())
     }
 
-    /// The outstanding unit at this place, from 0, of the link of an id goes again at the next poll
-    /// of that link, where it goes by hand and a unit is outstanding there.
+    /// Retransmits the outstanding unit at this index, from 0, at the next poll of the link. It
+    /// does so only if the link retransmits manually, and a unit is outstanding at the index.
     ///
-    /// It is refused only where no link has the id.
+    /// It is refused only if no link has the id.
     pub fn again(&mut self, id: u16, place: u16) -> Result<(), EndFault>
         ensures unknown { (result ≡ Err EndFaults.NoSuchEnd) ↔ (held_at self.old id ≡ None) }
         ensures fault { IfErr result (λ f. f ≡ EndFaults.NoSuchEnd) }
@@ -163,8 +164,8 @@ impl Endpoint {
         Ok(())
     }
 
-    /// Forgets the link of an id, and what came of a message over it. Call it once the connection
-    /// is done or lost: the peer is told nothing. It is refused only where no link has the id.
+    /// Removes a link, and its partial message. Call it after the connection is done or lost: the
+    /// peer is told nothing. It is refused only if no link has the id.
     pub fn release(&mut self, id: u16) -> Result<(), EndFault>
         ensures unknown { (result ≡ Err EndFaults.NoSuchEnd) ↔ (held_at self.old id ≡ None) }
         ensures fault { IfErr result (λ f. f ≡ EndFaults.NoSuchEnd) }

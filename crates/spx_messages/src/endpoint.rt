@@ -13,10 +13,10 @@ use spx_link::{Links, Sent};
 use std::alloc::Global;
 use std::marker::Model;
 
-/// The connections of a host: its links by their ids, and the messages on their way.
+/// The connections of a host: its links by their ids, and the partial messages.
 ///
-/// Moments are in milliseconds and are handed in. It gives its packets by `poll`, and reads
-/// datagrams by `receive`.
+/// Times are in milliseconds and are passed in. `poll` gives its packets, and `receive` reads
+/// datagrams.
 #[derive(Drop)]
 pub struct Endpoint {
     pub(crate) network: Network,
@@ -47,8 +47,8 @@ impl Model for Endpoint {
 }
 
 impl Endpoint {
-    /// The endpoint of a host at this network and node, whose packets for other networks go to the
-    /// node `router`. It takes no memory.
+    /// The endpoint of a host with this network and node. Its packets for other networks go to the
+    /// node `router`. It allocates nothing.
     pub fn new(alloc: Global, network: Network, node: Node, router: Node) -> Endpoint
         ensures network { result.network ≡ network }
         ensures node { result.node ≡ node }
@@ -72,8 +72,9 @@ impl Endpoint {
         }
     }
 
-    /// Links are accepted at a socket from now on, each with so many buffers: the caller owes 1 to
-    /// 8,192. Where the socket listens already, its buffers are replaced, and no memory is wanted.
+    /// Accepts connections at a socket from now on, each with so many buffers. The caller owes 1 to
+    /// 8,192 buffers. If the socket listens already, its number of buffers is replaced, and nothing
+    /// is allocated.
     pub fn listen(
         &mut self,
         _alloc: Global,

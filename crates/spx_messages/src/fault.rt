@@ -11,10 +11,10 @@ use thiserror::Error;
 /// Why a call on a connection was refused.
 #[derive(Clone, Copy, Debug, PartialEq, Eq, Error)]
 pub enum EndFault {
-    /// Units, or the end, were not queued.
+    /// Units, or the end of the connection, were not queued.
     #[error("{0}")]
     Offer(OfferFault),
-    /// A message was not cut, or too long a one came.
+    /// A message was not split into units, or a received message was too long.
     #[error("{0}")]
     Message(MessageFault),
     /// No link was made.
@@ -26,7 +26,7 @@ pub enum EndFault {
 }
 
 impl EndFault {
-    /// The fault's number, 25 to 31 or 34: what programs print and compare.
+    /// The fault's number, 25 to 31 or 34. Programs print and compare it.
     pub fn number(&self) -> u8
         ensures { result ≡ end_fault_number self.now }
     {

@@ -1,4 +1,4 @@
-//! Laws of what an endpoint does, which follow from its words.
+//! Laws of an endpoint, which follow from its contracts.
 
 ghost use Rattle.std.specs.Prelude.{◌≡◌, ℕ, List};
 ghost use Rattle.spx_messages.specs.Arrives.{Arrives};
@@ -12,8 +12,9 @@ use ipx_wire::{
     packet_is_one_list_of_bytes, spx_fault_is_of_no_spx_packet, spx_packet_is_one_list_of_bytes,
 };
 
-/// What a datagram does is one: the answer, what each id holds after it, and who heard it. So what
-/// the words say of a packet that the datagram is, they say of whatever packet it is.
+/// A datagram has exactly one effect: the answer, what each id holds after it, and the link that
+/// read it. So what a contract says of one reading of the datagram as a packet holds for every
+/// reading.
 pub fn datagram_does_one_thing()
     ensures answer { (old new other : EndpointView) (bytes : List ℕ) (now : ℕ) (a b : Arrived)
         → Arrives old bytes now a new → Arrives old bytes now b other → a ≡ b }
@@ -30,8 +31,8 @@ pub fn datagram_does_one_thing()
     spx_fault_is_of_no_spx_packet();
 }
 
-/// What a poll does is one: whether a packet is given, its bytes and its next node, whose it is and
-/// what for, and what each id holds after it.
+/// A poll has exactly one result: whether it gives a packet, its bytes and next node, its link and
+/// kind, and what each id holds after it.
 pub fn poll_is_one()
     ensures { IsOnePoll }
 {

@@ -1,8 +1,8 @@
-//! Whole messages in and out of a host: its connections, by their ids (Novell SPX).
+//! Whole messages over the connections of a host, by their ids (Novell SPX).
 //!
-//! A host has one [`Endpoint`]. [`Endpoint::receive`] reads the datagrams that come to it,
-//! [`Endpoint::poll`] gives those that it sends; applications call `dial`, `listen`, `send`,
-//! `take`, `close` and `release`. Sockets and clocks are the caller's.
+//! A host has one [`Endpoint`]. [`Endpoint::receive`] reads the datagrams that arrive for it, and
+//! [`Endpoint::poll`] gives those that it sends. Applications call `dial`, `listen`, `send`,
+//! `take`, `close` and `release`. The caller owns sockets and clocks.
 #![tactic(auto)]
 
 mod address;

@@ -1,18 +1,18 @@
-//! The sockets that listen.
+//! Listening sockets.
 
 ghost use Rattle.std.specs.Prelude.{◌==◌, ◌≡◌, ◌≢◌, ℕ, None, OnErr, OnOk, Some, position};
 ghost use Rattle.spx_messages.specs.EndpointView.{buffers_in};
 
 use ipx_wire::{OutOfMemory, Socket};
 
-/// A socket that listens, and how many buffers each link gets that is accepted there.
+/// A listening socket, and the number of buffers of each link that is accepted there.
 #[derive(Clone, Copy, Debug, PartialEq, Eq)]
 pub struct Listener {
     pub socket: Socket,
     pub buffers: u16,
 }
 
-/// How many buffers a link gets that is accepted at a socket, if that listens.
+/// The number of buffers of a link that is accepted at a socket, if that listens.
 pub fn buffers_of(listening: &[Listener], socket: Socket) -> Option<u16>
     ensures { result ≡ buffers_in listening.now socket.0 }
 {
@@ -20,14 +20,15 @@ pub fn buffers_of(listening: &[Listener], socket: Socket) -> Option<u16>
     Some(listener.buffers)
 }
 
-/// The place of the socket among those that listen.
+/// The index of the socket among those that listen.
 fn place_of(listening: &[Listener], socket: Socket) -> Option<usize>
     ensures { result ≡ position (λ l. l.socket.0 == socket.0) listening.now }
 {
     listening.iter().position(|l| l.socket.0 == socket.0)
 }
 
-/// A socket listens with so many buffers from now on. Memory is wanted only where it did not.
+/// Makes a socket listen with so many buffers from now on. It allocates only if the socket did not
+/// listen before.
 pub fn add_listener(
     listening: &mut Vec<Listener>,
     socket: Socket,

@@ -1,4 +1,4 @@
-//! The messages that came in part, by the ids of their links.
+//! Partial messages, by the ids of their links.
 
 ghost use Rattle.std.specs.Prelude.{◌==◌, ◌≡◌, ◌≢◌, ℕ, None, filter, not, position};
 ghost use Rattle.spx_link.specs.Limits.{end_stream};
@@ -9,14 +9,14 @@ use spx_link::Unit;
 use spx_units::{Inbox, Message, MessageFault};
 use std::alloc::Global;
 
-/// The message that came in part over the link of an id.
+/// The partial message of the link of this id.
 #[derive(Drop)]
 pub struct Part {
     pub id: u16,
     pub inbox: Inbox,
 }
 
-/// No message came in part over the link of this id.
+/// Removes the partial message of the link of this id.
 pub fn forget(parts: &mut Vec<Part>, id: u16)
     ensures kept { parts.new.items ≡ filter (λ p. not (p.id == id)) parts.old.items }
     ensures gone { rest_in parts.new.items id ≡ None }
@@ -31,8 +31,8 @@ fn place_of(parts: &[Part], id: u16) -> Option<usize>
     parts.iter().position(|part| part.id == id)
 }
 
-/// Adds a unit to the message of an id, and hands out the message that it ends. The caller owes
-/// another stream than FE. Where memory is refused, what came in part is as it was.
+/// Adds a unit to the message of an id, and gives the message that it completes, if any. The caller
+/// owes another stream than FE. If memory is refused, the partial message is as it was.
 pub fn add_unit(
     alloc: Global,
     parts: &mut Vec<Part>,
@@ -50,7 +50,7 @@ pub fn add_unit(
     }
 }
 
-/// Adds a unit to the message of an id of which nothing came yet.
+/// Adds the first unit to the message of an id.
 fn add_first(
     alloc: Global,
     parts: &mut Vec<Part>,

@@ -1,4 +1,4 @@
-//! The packets that an endpoint gives.
+//! The packets that an endpoint sends.
 
 ghost use Rattle.std.specs.Prelude.{◌≡◌, ◌≤◌, length};
 ghost use Rattle.ipx_wire.specs.Assigned.{spx_max_packet_size};
@@ -13,12 +13,11 @@ use crate::poll::writing::HostAddress;
 use ipx_wire::Node;
 
 impl Endpoint {
-    /// Writes one packet to the front of the room, and tells the node that it goes to next and how
-    /// many bytes it takes. `sent` then tells whose it is and what. The caller owes room of 576
-    /// bytes.
+    /// Writes one packet to the front of the buffer, and gives its next node and its length in
+    /// bytes. After that, `sent` gives its link and kind. The caller owes a buffer of 576 bytes.
     ///
-    /// The links are asked in the order of their ids. None where none has anything to send at this
-    /// moment. It takes no memory.
+    /// Links are polled in the order of their ids. `None` if no link has anything to send at this
+    /// time. It allocates nothing.
     pub fn poll(&mut self, now: u64, room: &mut [u8]) -> Option<(Node, usize)>
         requires { spx_max_packet_size ≤ length room.old }
         ensures { Polls self.old now result room.old room.new self.new }

@@ -1,4 +1,4 @@
-//! What an endpoint tells of its connections.
+//! Getters of an endpoint's connections.
 
 ghost use Rattle.std.specs.Prelude.{◌≡◌, ◌↔◌, Err, IfErr, IfOk, IfSome, IsTrue, None, Ok, option_copied};
 ghost use Rattle.spx_link.specs.Courses.{IsWhole};
@@ -14,9 +14,9 @@ use crate::links::link_of;
 use spx_link::{Numbers, Sent, State, Unit};
 
 impl Endpoint {
-    /// The state of the link of an id. It is refused where no link has the id, as are `numbers`,
-    /// `is_all_acked` and `peek`. Ask it before `send`, which needs Live, and to see that a connection
-    /// is done or lost.
+    /// The state of a link. It is refused if no link has the id, and so are `numbers`,
+    /// `is_all_acked` and `peek`. Check it before `send`, which needs Live, and to see that a
+    /// connection is done or lost.
     pub fn state(&self, id: u16) -> Result<State, EndFault>
         ensures unknown { (result ≡ Err EndFaults.NoSuchEnd) ↔ (held_at self.now id ≡ None) }
         ensures known { IfSome (held_at self.now id) (λ h. result ≡ Ok h.link.state) }
@@ -25,7 +25,7 @@ impl Endpoint {
         Ok(link.state())
     }
 
-    /// The sequence numbers and counts of the link of an id, for whoever shows a connection.
+    /// The sequence numbers and counts of a link, for a status display.
     pub fn numbers(&self, id: u16) -> Result<Numbers, EndFault>
         ensures unknown { (result ≡ Err EndFaults.NoSuchEnd) ↔ (held_at self.now id ≡ None) }
         ensures known { IfSome (held_at self.now id) (λ h. result ≡ Ok (numbers_of h.link)) }
@@ -34,8 +34,9 @@ impl Endpoint {
         Ok(link.numbers())
     }
 
-    /// Whether the end of the link of an id is queued, and the peer has acknowledged all that was
-    /// queued, the end too. Ask it to see that a connection is done: then the peer has read all.
+    /// Whether the end of the connection is queued, and the peer has acknowledged everything that
+    /// was queued, including the end. It shows that a connection is done: the peer has then read
+    /// everything.
     pub fn is_all_acked(&self, id: u16) -> Result<bool, EndFault>
         ensures unknown { (result ≡ Err EndFaults.NoSuchEnd) ↔ (held_at self.now id ≡ None) }
         ensures known { IfSome (held_at self.now id) (λ h.
@@ -46,7 +47,7 @@ impl Endpoint {
         Ok(link.is_all_acked())
     }
 
-    /// The unit that a take of the link of an id takes next, if one is held.
+    /// The unit that the next `take` of this link takes, if it holds one.
     pub fn peek(&self, id: u16) -> Result<Option<&Unit>, EndFault>
         ensures unknown { (result ≡ Err EndFaults.NoSuchEnd) ↔ (held_at self.now id ≡ None) }
         ensures known { IfSome (held_at self.now id) (λ h.
@@ -57,23 +58,23 @@ impl Endpoint {
         Ok(link.peek())
     }
 
-    /// The link and the kind of the packet that the last poll wrote. None where it wrote none.
+    /// The link and the kind of the packet that the last poll wrote. `None` if it wrote none.
     pub fn sent(&self) -> Option<(u16, Sent)>
         ensures { result ≡ self.now.said }
     {
         self.sent
     }
 
-    /// The id of the link that read the last datagram. None where no link read it: a request that
-    /// is answered by the reply again is read by none.
+    /// The id of the link that read the last datagram, or `None`. A repeated request is answered by
+    /// another reply, and no link reads it.
     pub fn heard(&self) -> Option<u16>
         ensures { result ≡ self.now.heard }
     {
         self.heard
     }
 
-    /// The moment, in milliseconds, before which a poll gives nothing. From it on polls send
-    /// something or give a link up. None where that takes a datagram or a call first.
+    /// The time in milliseconds before which a poll gives nothing. From then on, polls send
+    /// something or give a link up. `None` if that needs a datagram or a call first.
     pub fn next_due(&self) -> Option<u64>
         ensures { IsNextDueOfAll self.now.links result }
     {

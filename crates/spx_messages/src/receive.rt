@@ -1,4 +1,4 @@
-//! What a datagram does to an endpoint.
+//! How an endpoint handles a datagram.
 
 ghost use Rattle.std.specs.Prelude.{◌≡◌, IfOk, OnErr};
 ghost use Rattle.spx_messages.specs.Arrives.{Arrives, IsAcceptable, Unheard};
@@ -16,10 +16,11 @@ use ipx_wire::OutOfMemory;
 use std::alloc::Global;
 
 impl Endpoint {
-    /// Reads a datagram, and answers what became of it. `heard` then tells which link read it.
+    /// Reads a datagram, and says what was done with it. After that, `heard` gives the link that
+    /// read it.
     ///
-    /// Memory is wanted only where it asks for a connection that would be accepted: where that is
-    /// refused, nothing changes, and no link heard it.
+    /// Memory is needed only for a connection request that would be accepted. If it is refused,
+    /// nothing changes, and no link read the datagram.
     pub fn receive(&mut self, alloc: Global, bytes: &[u8], now: u64) -> Result<Arrived, OutOfMemory>
         ensures arrives { IfOk result (λ a. Arrives self.old bytes.now now a self.new) }
         ensures memory { OnErr result (IsAcceptable self.old bytes.now) }

@@ -1,16 +1,16 @@
-//! What is taken from a connection.
+//! What a take from a connection gives.
 
 use spx_units::Message;
 
 /// What a take gave.
 #[derive(Drop)]
 pub enum Taken {
-    /// No unit was held.
+    /// The link held no unit.
     Nothing,
-    /// A unit that ends no message.
+    /// A unit that does not complete a message.
     Part,
-    /// A message, which the unit ended.
+    /// A message, completed by the unit.
     Whole(Message),
-    /// The end of the connection: its peer sends nothing more.
+    /// The end of the connection: the peer sends nothing more.
     PeerEnd,
 }

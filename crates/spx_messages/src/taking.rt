@@ -1,4 +1,4 @@
-//! What is taken from a link, and joined to the part of its message.
+//! What is taken from a link and added to a partial message.
 
 ghost use Rattle.std.specs.Prelude.{◌≡◌, ◌≢◌, ◌↔◌, ℕ, Err, IfOk, IfSome, MatchResult, None, Ok, Some, option_copied, option_map};
 ghost use Rattle.spx_link.specs.Links.{ChangesOnly, IsLive, link_at};
@@ -21,7 +21,7 @@ use std::alloc::Global;
 /// The datastream type of the end of a connection.
 const END_STREAM: u8 = 0xfe;
 
-/// Takes the first unit that the link of an id holds, and tells the message that it ends.
+/// Takes the first unit that a link holds, and gives the message that it completes, if any.
 pub fn take_from(
     alloc: Global,
     links: &mut Links,
@@ -54,8 +54,8 @@ pub fn take_from(
     }
 }
 
-/// Takes the first unit of a live id, which was pushed, unless memory was refused for that. A link
-/// of which too long a message came is lost.
+/// Takes the first unit of a live id, after it was added to its message, unless memory was refused
+/// for that. If the message is too long, the link becomes lost.
 fn take_pushed(
     links: &mut Links,
     id: u16,

@@ -7,7 +7,7 @@ use spx_messages::{Arrived, EndFault, Taken};
 use std::process::Abort;
 use std::test::Fail;
 
-/// A call with an id that no link has.
+/// Calls with an id that no link has.
 #[test]
 fn no_such_end(rt: HostRuntime) -> Result<(), Fail> {
     let mut near = Host::near(rt.alloc());
@@ -23,7 +23,8 @@ fn no_such_end(rt: HostRuntime) -> Result<(), Fail> {
     Ok(())
 }
 
-/// Nothing is sent over a link that is not open yet; what cannot be cut is told first.
+/// Nothing is sent over a link that is not open yet. A message that cannot be split is reported
+/// before that.
 #[test]
 fn not_open_yet(rt: HostRuntime) -> Result<(), Fail> {
     let mut near = Host::near(rt.alloc());
@@ -37,8 +38,8 @@ fn not_open_yet(rt: HostRuntime) -> Result<(), Fail> {
     Ok(())
 }
 
-/// A window of 0 holds a message back, and by hand its unit goes again where it is asked for: the
-/// far host reads it once. Neither call is refused by a link that is not open yet.
+/// A window of 0 delays a message. With manual retransmission its unit is sent again when asked
+/// for, and the far host reads it once. A link that is not open yet refuses neither call.
 #[test]
 fn paced(rt: HostRuntime) -> Result<(), Fail> {
     let mut near = Host::near(rt.alloc());
@@ -61,7 +62,7 @@ fn paced(rt: HostRuntime) -> Result<(), Fail> {
     Ok(())
 }
 
-/// The end of a connection comes behind the message that was sent before.
+/// The end of a connection comes after the message that was sent before it.
 #[test]
 fn ends(rt: HostRuntime) -> Result<(), Fail> {
     let mut near = Host::near(rt.alloc());

@@ -1,4 +1,4 @@
-//! Messages between two hosts, and what a host answers to datagrams.
+//! Messages between two hosts, and a host's answers to datagrams.
 
 use crate::hosts::{Host, ROOM, joins, passes};
 use crate::units::message;
@@ -30,7 +30,7 @@ fn first_poll(rt: HostRuntime) -> Result<(), Fail> {
     Ok(())
 }
 
-/// The same network needs no router.
+/// On the same network no router is needed.
 #[test]
 fn next_node(rt: HostRuntime) -> Result<(), Fail> {
     let mut near = Host::near(rt.alloc());
@@ -40,7 +40,7 @@ fn next_node(rt: HostRuntime) -> Result<(), Fail> {
     Ok(())
 }
 
-/// What a host answers to a datagram in hex. No hex is no memory.
+/// What a host answers to a datagram in hex. Text that is no hex gives `None`.
 fn answer(alloc: Global, host: &mut Host, text: &str) -> Result<Option<Arrived>, Fail> {
     let Ok(bytes) = hex::decode(alloc, text.as_bytes()) else {
         return Ok(None);
@@ -48,7 +48,7 @@ fn answer(alloc: Global, host: &mut Host, text: &str) -> Result<Option<Arrived>,
     Ok(Some(host.receive(&bytes)?))
 }
 
-/// A request of stream FE is none, and there is no link that it is for.
+/// A packet of stream FE is no request, and there is no link for it.
 #[test]
 fn end_for_nobody(rt: HostRuntime) -> Result<(), Fail> {
     let mut far = Host::far(rt.alloc());
@@ -58,7 +58,7 @@ fn end_for_nobody(rt: HostRuntime) -> Result<(), Fail> {
     Ok(())
 }
 
-/// A request that comes again is answered by the reply again, and no link reads it.
+/// A repeated request is answered by another reply, and no link reads it.
 #[test]
 fn request_again(rt: HostRuntime) -> Result<(), Fail> {
     let alloc = rt.alloc();
@@ -74,7 +74,7 @@ fn request_again(rt: HostRuntime) -> Result<(), Fail> {
     Ok(())
 }
 
-/// A unit that comes twice is kept once, and read by its link both times.
+/// A unit that arrives twice is kept once, and read by its link both times.
 #[test]
 fn unit_again(rt: HostRuntime) -> Result<(), Fail> {
     let mut near = Host::near(rt.alloc());
@@ -90,7 +90,7 @@ fn unit_again(rt: HostRuntime) -> Result<(), Fail> {
     Ok(())
 }
 
-/// The first message that comes out of the far host.
+/// The first message that the far host completes.
 fn first_message(near: &mut Host, far: &mut Host) -> Result<Option<Message>, Fail> {
     for _ in 0..200 {
         passes(near, far)?;
@@ -102,7 +102,7 @@ fn first_message(near: &mut Host, far: &mut Host) -> Result<Option<Message>, Fai
     Ok(None)
 }
 
-/// Whether a message of so many bytes comes out, and is that message.
+/// Whether a message of so many bytes arrives complete and unchanged.
 fn comes_out(rt: &impl Abort, alloc: Global, length: usize) -> Result<bool, Fail> {
     let mut near = Host::near(alloc);
     let mut far = Host::far(alloc);
@@ -121,7 +121,7 @@ fn messages_pass(rt: HostRuntime) -> Result<(), Fail> {
     Ok(())
 }
 
-/// Passes a unit from the near host to the far one, but for its end of message.
+/// Passes a unit from the near host to the far one, without its end of message.
 fn passes_part(rt: &impl Abort, near: &mut Host, far: &mut Host) -> Result<(), Fail> {
     let mut room = [0; ROOM];
     let count = near.poll(&mut room).unwrap_or(0);
@@ -141,7 +141,8 @@ fn fills(rt: &impl Abort, near: &mut Host, far: &mut Host) -> Result<(), Fail> {
     Ok(())
 }
 
-/// 65,536 bytes without an end of message: the link is lost, and the message behind them is whole.
+/// 65,536 bytes without an end of message: the link becomes lost, and the message after them is
+/// still complete.
 #[test]
 fn overlong_message(rt: HostRuntime) -> Result<(), Fail> {
     let mut near = Host::near(rt.alloc());

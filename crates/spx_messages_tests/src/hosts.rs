@@ -21,10 +21,10 @@ const FROM: Socket = Socket(0x4001);
 
 const TO: Socket = Socket(0x4000);
 
-/// The size of the room for a packet.
+/// The size of the buffer for a packet.
 pub const ROOM: usize = 576;
 
-/// A host. Its moment is 0, and where no id is named, that is 1.
+/// A host. Its time is always 0. A call without an id uses id 1.
 #[derive(Drop)]
 pub struct Host {
     endpoint: Endpoint,
@@ -63,7 +63,7 @@ impl Host {
         self.send_over(1, sent)
     }
 
-    /// Sends over the link of an id.
+    /// Sends over a link.
     pub fn send_over(&mut self, id: u16, sent: &Message) -> Result<(), EndFault> {
         self.endpoint.send(self.alloc, id, sent)
     }
@@ -82,12 +82,12 @@ impl Host {
         Ok(whole(taken))
     }
 
-    /// Sets the window of a link, and whether its units go by hand.
+    /// Sets the window of a link, and whether it retransmits manually.
     pub fn pace(&mut self, id: u16, window: u16, manual: bool) -> Result<(), EndFault> {
         self.endpoint.pace(id, window, manual)
     }
 
-    /// Asks for a place of a link again.
+    /// Asks a link to retransmit the unit at an index.
     pub fn again(&mut self, id: u16, place: u16) -> Result<(), EndFault> {
         self.endpoint.again(id, place)
     }
@@ -100,12 +100,12 @@ impl Host {
         self.endpoint.state(id)
     }
 
-    /// Whether all is acknowledged, the end too.
+    /// Whether everything is acknowledged, including the end.
     pub fn is_all_acked(&self, id: u16) -> Result<bool, EndFault> {
         self.endpoint.is_all_acked(id)
     }
 
-    /// How many units are held.
+    /// The number of held units.
     pub fn held(&self) -> Result<u16, EndFault> {
         Ok(self.endpoint.numbers(1)?.held)
     }
@@ -127,12 +127,12 @@ impl Host {
         self.endpoint.next_due()
     }
 
-    /// What it answers to a datagram.
+    /// Its answer to a datagram.
     pub fn receive(&mut self, bytes: &[u8]) -> Result<Arrived, OutOfMemory> {
         self.endpoint.receive(self.alloc, bytes, 0)
     }
 
-    /// The same of a datagram that is handed to it again where memory is refused.
+    /// The same. If memory is refused, the datagram is passed again.
     pub fn hear(&mut self, bytes: &[u8]) -> Result<Arrived, OutOfMemory> {
         match self.receive(bytes) {
             Ok(arrived) => Ok(arrived),
@@ -140,7 +140,7 @@ impl Host {
         }
     }
 
-    /// Writes the packet that it gives to the room, and answers how many bytes there are.
+    /// Writes the packet that it gives to the buffer, and gives its length.
     pub fn poll(&mut self, room: &mut [u8]) -> Option<usize>
         requires { 576 ≤ length room.old }
         ensures { IfSome result (λ count. count ≤ 576) }
@@ -165,7 +165,7 @@ impl Host {
         self.poll(&mut room).is_some()
     }
 
-    /// Listens at the socket that is asked, once more where memory is refused.
+    /// Listens at the socket of the tests. If memory is refused, it is tried again.
     pub fn opens(&mut self) -> Result<(), OutOfMemory> {
         if self.listen(TO.0).is_err() {
             self.listen(TO.0)?;
@@ -173,7 +173,7 @@ impl Host {
         Ok(())
     }
 
-    /// Asks the far host for a connection, once more where memory is refused.
+    /// Asks the far host for a connection. If memory is refused, it is tried again.
     pub fn dial_at_last(&mut self) -> Result<u16, EndFault> {
         match self.dial() {
             Ok(id) => Ok(id),
@@ -190,7 +190,7 @@ pub fn whole(taken: Taken) -> Option<Message> {
     }
 }
 
-/// Hands the packet that a host gives to the other one. None where it gives none.
+/// Passes the packet that a host gives to the other one. `None` if it gives none.
 pub fn passes(from: &mut Host, to: &mut Host) -> Result<Option<Arrived>, OutOfMemory> {
     let mut room = [0; ROOM];
     let Some(count) = from.poll(&mut room) else {
@@ -200,7 +200,7 @@ pub fn passes(from: &mut Host, to: &mut Host) -> Result<Option<Arrived>, OutOfMe
     Ok(Some(to.hear(bytes)?))
 }
 
-/// Joins the near and the far host: each has link 1 then.
+/// Connects the near host with the far one. After that, each has link 1.
 pub fn joins(rt: &impl Abort, near: &mut Host, far: &mut Host) -> Result<(), Fail> {
     far.opens()?;
     assert_eq!(rt; near.dial_at_last()?, 1);

@@ -1,5 +1,5 @@
-//! Tests of messages, of units and of endpoints, with literal values. They call what those crates
-//! make public, and no crate stands on this one.
+//! Tests of messages, of units and of endpoints, with literal values. They call the public
+//! functions of those crates. No crate depends on this one.
 #![tactic(auto)]
 
 #[cfg(test)]

@@ -1,4 +1,4 @@
-//! A host that reads datagrams where every request for memory is refused.
+//! A host that reads datagrams while every request for memory is refused.
 
 use crate::hosts::{Host, ROOM, joins};
 use crate::units::message;
@@ -7,15 +7,15 @@ use spx_messages::Arrived;
 use std::alloc::Global;
 use std::test::Fail;
 
-/// Asks for so many bytes. Where requests are refused from one of 77,777 bytes on, until one of
-/// 77,778 bytes, this says from when to when.
+/// Requests so many bytes. A test run that refuses all requests from one of 77,777 bytes to one of
+/// 77,778 bytes takes these two as its limits.
 fn asks_for(alloc: Global, size: usize) -> bool {
     let block: Result<Vec<u8>, _> = Vec::with_capacity(alloc, size);
     block.is_ok()
 }
 
-/// A datagram for a link that is joined. Between the two requests nothing is asked of memory: run
-/// it with each request between them refused.
+/// A datagram for an open link. Between the two requests no memory is requested: run it with each
+/// request between them refused.
 #[test]
 fn no_memory_datagram(rt: HostRuntime) -> Result<(), Fail> {
     let mut near = Host::near(rt.alloc());

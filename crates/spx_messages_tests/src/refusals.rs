@@ -28,7 +28,7 @@ fn datagrams_of_no_connection(rt: HostRuntime) -> Result<(), Fail> {
     Ok(())
 }
 
-/// A host that asked for sixteen connections accepts none.
+/// A host that asked for sixteen connections accepts no request.
 #[test]
 fn no_room_for_a_request(rt: HostRuntime) -> Result<(), Fail> {
     let mut near = Host::near(rt.alloc());
@@ -56,7 +56,7 @@ fn sixteen_dials(rt: HostRuntime) -> Result<(), Fail> {
     Ok(())
 }
 
-/// A link that is not open yet, and one that ends.
+/// A link that is not open yet, and one that is ending.
 #[test]
 fn not_open_and_ended(rt: HostRuntime) -> Result<(), Fail> {
     let mut near = Host::near(rt.alloc());
@@ -81,7 +81,7 @@ fn is_ended(rt: &impl Abort, near: &mut Host) -> Result<(), Fail> {
     Ok(())
 }
 
-/// An unknown id is told before a message that is too long.
+/// An unknown id is reported before a message that is too long.
 #[test]
 fn too_long_to_send(rt: HostRuntime) -> Result<(), Fail> {
     let mut near = Host::near(rt.alloc());

@@ -1,4 +1,4 @@
-//! Messages where memory is refused. Run these with each request for memory refused.
+//! Messages if memory is refused. Run these with each request for memory refused.
 
 use crate::units::message;
 use spx_link::Unit;
@@ -7,7 +7,7 @@ use std::alloc::{AllocError, Global};
 use std::process::Abort;
 use std::test::Fail;
 
-/// A message, made once more where memory was refused.
+/// A message. If memory is refused, it is tried again.
 pub fn message_at_last(alloc: Global, stream: u8, length: usize) -> Result<Message, AllocError> {
     match message(alloc, stream, length) {
         Ok(sent) => Ok(sent),
@@ -15,7 +15,7 @@ pub fn message_at_last(alloc: Global, stream: u8, length: usize) -> Result<Messa
     }
 }
 
-/// The units of a message, cut once more where memory was refused.
+/// The units of a message. If memory is refused, it is split again.
 fn cut_at_last(rt: &impl Abort, alloc: Global, sent: &Message) -> Result<Vec<Unit>, Fail> {
     match cut(alloc, sent) {
         Ok(units) => Ok(units),
@@ -26,7 +26,7 @@ fn cut_at_last(rt: &impl Abort, alloc: Global, sent: &Message) -> Result<Vec<Uni
     }
 }
 
-/// A unit pushed once more where memory was refused: the inbox is then as it was.
+/// Adds a unit. If memory is refused, the inbox is as it was, and it is tried again.
 fn push_at_last(
     rt: &impl Abort,
     alloc: Global,

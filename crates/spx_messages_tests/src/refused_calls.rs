@@ -1,4 +1,4 @@
-//! An endpoint where memory is refused. Run these with each request for memory refused.
+//! An endpoint if memory is refused. Run these with each request for memory refused.
 
 use crate::hosts::{Host, ROOM, joins, passes, whole};
 use crate::refused::message_at_last;
@@ -7,10 +7,10 @@ use spx_messages::{Arrived, EndFault, Message, Taken};
 use std::process::Abort;
 use std::test::Fail;
 
-/// The number of the faults that say that memory was refused.
+/// The number of the fault for refused memory.
 const WANT: u8 = 27;
 
-/// A listen that is refused succeeds when it is made again, and no other socket listens then.
+/// A listen that is refused succeeds when it is repeated. No other socket listens after that.
 #[test]
 fn refused_listen(rt: HostRuntime) -> Result<(), Fail> {
     let mut near = Host::near(rt.alloc());
@@ -25,7 +25,7 @@ fn refused_listen(rt: HostRuntime) -> Result<(), Fail> {
     Ok(())
 }
 
-/// A link that is made: where memory is refused, none came.
+/// A link is made. If memory is refused, none was.
 #[test]
 fn refused_dial(rt: HostRuntime) -> Result<(), Fail> {
     let mut near = Host::near(rt.alloc());
@@ -40,7 +40,7 @@ fn refused_dial(rt: HostRuntime) -> Result<(), Fail> {
     Ok(())
 }
 
-/// A request that asks for a link: where memory is refused, none came, and no link heard it.
+/// A request for a connection. If memory is refused, no link was made, and no link read it.
 #[test]
 fn refused_accept(rt: HostRuntime) -> Result<(), Fail> {
     let mut near = Host::near(rt.alloc());
@@ -62,7 +62,7 @@ fn accepts(rt: &impl Abort, far: &mut Host, bytes: &[u8]) -> Result<(), Fail> {
     Ok(())
 }
 
-/// Sends a message, once more where memory is refused; then none was queued.
+/// Sends a message. If memory is refused, none was queued, and it is tried again.
 fn sends(rt: &impl Abort, near: &mut Host, sent: &Message) -> Result<(), Fail> {
     if let Err(fault) = near.send(sent) {
         assert_eq!(rt; fault.number(), WANT);
@@ -101,7 +101,7 @@ fn refused_close(rt: HostRuntime) -> Result<(), Fail> {
     Ok(())
 }
 
-/// A take that is refused leaves the unit where it was, and takes it when it is made again.
+/// A take that is refused leaves the unit where it was, and succeeds when it is repeated.
 fn takes(rt: &impl Abort, far: &mut Host) -> Result<Taken, Fail> {
     let held = far.held()?;
     match far.take() {
@@ -120,7 +120,7 @@ fn passes_and_takes(rt: &impl Abort, near: &mut Host, far: &mut Host) -> Result<
     takes(rt, far)
 }
 
-/// A message of three units, each taken at last.
+/// A message of three units, each taken, some on a second try.
 #[test]
 fn refused_take(rt: HostRuntime) -> Result<(), Fail> {
     let mut near = Host::near(rt.alloc());

@@ -1,4 +1,4 @@
-//! Messages cut into units, and units joined to messages.
+//! Messages split into units, and units joined to messages.
 
 use spx_units::{Inbox, Message, MessageFault, cut};
 use std::alloc::{AllocError, Global};
@@ -14,7 +14,7 @@ pub fn message(alloc: Global, stream: u8, length: usize) -> Result<Message, Allo
     Ok(Message { stream, body })
 }
 
-/// How many units a message is cut into, and how many bytes the last has.
+/// The number of units of a message, and the length of the last.
 fn counts(alloc: Global, length: usize) -> Result<(usize, usize), Fail> {
     let units = cut(alloc, &message(alloc, 0, length)?)?;
     let last = units.last().map_or(0, |unit| unit.body.len());
@@ -31,7 +31,7 @@ fn cut_into_units(rt: HostRuntime) -> Result<(), Fail> {
     Ok(())
 }
 
-/// Why a message is not cut.
+/// Why a message is not split.
 fn refusal(alloc: Global, stream: u8, length: usize) -> Result<Option<MessageFault>, Fail> {
     Ok(cut(alloc, &message(alloc, stream, length)?).err())
 }
@@ -67,7 +67,7 @@ fn fault_numbers(rt: HostRuntime) {
     assert_eq!(rt; MessageFault::Overlong.number(), 31);
 }
 
-/// A message that is cut and joined again.
+/// A message that is split and joined again.
 fn passed(alloc: Global, sent: &Message) -> Result<Option<Message>, Fail> {
     let units = cut(alloc, sent)?;
     let mut inbox = Inbox::new(alloc);
@@ -78,7 +78,7 @@ fn passed(alloc: Global, sent: &Message) -> Result<Option<Message>, Fail> {
     Ok(got)
 }
 
-/// Whether a message comes out of the units of one of so many bytes, and is that message.
+/// Whether a message of so many bytes is joined from its units unchanged.
 fn comes_out(alloc: Global, stream: u8, length: usize) -> Result<bool, Fail> {
     let sent = message(alloc, stream, length)?;
     let got = passed(alloc, &sent)?;
@@ -95,8 +95,8 @@ fn join_rows(rt: HostRuntime) -> Result<(), Fail> {
 }
 
 /// Three units: the two of a message of 535 bytes of stream 1, and between them one of stream FE
-/// with a byte of its own and the mark that ends a message. The inbox leaves that one out: the
-/// message that comes out with the third has the bytes of the first and the last alone.
+/// with a byte and an end of message. The inbox leaves that one out. The message that the third
+/// completes has only the bytes of the first and the last.
 #[test]
 fn end_between_two_units(rt: HostRuntime) -> Result<(), Fail> {
     let alloc = rt.alloc();
@@ -124,7 +124,7 @@ fn end_between_two_units(rt: HostRuntime) -> Result<(), Fail> {
     Ok(())
 }
 
-/// An inbox that holds nothing leaves out a unit of stream FE too.
+/// An empty inbox also leaves out a unit of stream FE.
 #[test]
 fn end_in_an_empty_inbox(rt: HostRuntime) -> Result<(), Fail> {
     let alloc = rt.alloc();
@@ -140,7 +140,7 @@ fn end_in_an_empty_inbox(rt: HostRuntime) -> Result<(), Fail> {
     Ok(())
 }
 
-/// 65,536 bytes without an end of message are refused, and the inbox is empty then.
+/// 65,536 bytes without an end of message are refused, and the inbox is empty after that.
 #[test]
 fn overlong_row(rt: HostRuntime) -> Result<(), Fail> {
     let alloc = rt.alloc();
@@ -155,7 +155,7 @@ fn overlong_row(rt: HostRuntime) -> Result<(), Fail> {
     Ok(())
 }
 
-/// Hands on 65,535 bytes of a message that has not ended, and counts them.
+/// Adds 65,535 bytes of a message that is not complete, and counts them.
 fn fill(alloc: Global, inbox: &mut Inbox) -> Result<usize, Fail> {
     let mut units = cut(alloc, &message(alloc, 0, 65_535)?)?;
     if let Some(last) = units.last_mut() {
@@ -170,7 +170,7 @@ fn fill(alloc: Global, inbox: &mut Inbox) -> Result<usize, Fail> {
     Ok(bytes)
 }
 
-/// A message of one unit comes out as it is.
+/// A message of one unit comes out unchanged.
 fn joins_alone(alloc: Global, inbox: &mut Inbox) -> Result<bool, Fail> {
     let units = cut(alloc, &message(alloc, 3, 1)?)?;
     let mut got = None;

@@ -16,7 +16,7 @@ use Rattle.spx_theory.specs.Scene.{Stand}
 use Rattle.spx_theory.proofs.Lists.{get_before, get_last, get_here, read_there}
 use Rattle.spx_theory.proofs.Tied.{mark_at, Letter, Tied}
 
--- a mark that stood stands, and a new one is the last
+-- an old mark stays, and a new one is the last
 pub mark_before : (marks : List Mark) (m : Mark) (k : ℕ) → k < length marks → mark_at (marks ++ m ∷ []) k ≡ mark_at marks k
 mark_before marks m k within =
     let at : slice_get marks k ≡ Some (mark_at marks k) = slice_get-get_or marks k nowhere within in
@@ -25,7 +25,7 @@ mark_before marks m k within =
 pub mark_here : (marks : List Mark) (m : Mark) → mark_at (marks ++ m ∷ []) (length marks) ≡ m
 mark_here marks m = read_there (marks ++ m ∷ []) (length marks) m nowhere (get_here marks m)
 
--- of one half: a parcel comes, which is one of its own (o) or another's
+-- of one half: a parcel is added, which is one of its own (o) or another's
 pub record Adds (c d : ℕ) (ends : List Stand) (parcels : List (List ℕ)) (bytes : List ℕ) (marks : List Mark) (m : Mark) (sent more : List ℕ) (x y x' y' : Half) : Type 0 where
   pub later : Later x.end y.end x'.end y'.end
   pub units : x'.end.units ≡ x.end.units

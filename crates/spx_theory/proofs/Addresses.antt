@@ -1,4 +1,4 @@
--- Where addresses differ, nothing is released and nothing injected is read, each end reads its own peer alone.
+-- If addresses differ, and nothing is released or injected, each end reads only its own peer.
 use Rattle.std.proofs.Common.{◌≡◌, ℕ, Bool, true, false, List, [], ◌++◌, Some, refl, sym, ◌∙◌, ap, subst, inl, inr}
 use Rattle.std.specs.Prelude.{slice_get}
 use Rattle.spx_theory.specs.Note.{Note}
@@ -25,7 +25,7 @@ use Rattle.spx_theory.proofs.NextIdentified.{next_identified}
 use Rattle.spx_theory.specs.Below.{LawsBelow}
 use Rattle.spx_theory.proofs.Lists.{same_element}
 
--- homes stand
+-- homes do not change
 same_homes : (s s' : Scene) (deed : Deed) → DoesDeed deed s s' → s'.homes ≡ s.homes
 same_homes s s' (Dials host id socket to buffers now) does = ap (λ (z : Scene). z.homes) does.after
 same_homes s s' (Accepts host id socket parcel buffers now) does = ap (λ (z : Scene). z.homes) does.after
@@ -49,7 +49,7 @@ pub have_networks : {s : Scene} → Reached s → HaveNetworks s.homes
 have_networks {s} (begun is) = is.homes
 have_networks {s} (happened old deed reached does) = subst HaveNetworks (sym (same_homes old s deed does)) (have_networks reached)
 
--- a premise of a log is one of all that came before
+-- a premise of a log holds for every earlier log
 injected_before : (log more : List Note) → NothingInjected (log ++ more) → NothingInjected log
 injected_before log more none k r at =
     let g : Grew (scan log) (seen_all (scan log) more) = all_grew (scan log) more in
@@ -69,7 +69,7 @@ known_begun s is =
       told = λ k r at. absurd (cc at);
     })))
 
--- ids differ before a deed as they do after it
+-- if ids differ after a deed, they differ before it
 ids_before : (old s : Scene) (deed : Deed) → DoesDeed deed old s → IdsDiffer s → IdsDiffer old
 ids_before old s deed does differ j k e f h at at' here here' own =
     let a : (x : Stand) × (slice_get s.ends j ≡ Some x) × StaysAtHost e x = ends_stay old s deed does j e at in
@@ -88,7 +88,7 @@ one_end homes s same f differ j k x y g h at at' here here' network node own =
     (ap (λ hs. slice_get hs b.stand.host) same ∙ ap (slice_get homes) (sym b.host) ∙ here')
     (sym a.own ∙ own ∙ b.own)
 
--- in every scene that is reached
+-- in every scene that can be reached
 pub identified_along : (laws : LawsBelow) {s : Scene} → Reached s → IdsDiffer s → NothingInjected s.log → IdentifiedAt s.homes s
 identified_along laws {s} (begun is) differ nothing = known_begun s is
 identified_along laws {s} (happened old deed reached does) differ nothing =
@@ -99,7 +99,7 @@ identified_along laws {s} (happened old deed reached does) differ nothing =
     subst (λ hs. IdentifiedAt hs old) (sym same) (identified_along laws reached was (injected_before old.log g.more (subst NothingInjected g.is nothing))) in
     next_identified laws s.homes (subst HaveNetworks (sym same) (have_networks reached)) old s deed does (sym same) (facts_along laws reached) nothing before (one_end s.homes old (sym same) before was)
 
--- ---- a partner that has one as its partner is the peer
+-- ---- if a partner has this end as its partner, it is the peer
 peers_of : (homes : List Home) (s : Scene) (f : IdentifiedAt homes s) (r : Reading) (t : IsTold f.identities r) (b : Bool) → t.one.role.called ≡ b → ArePeersIn (scan s.log) r.who t.other
 peers_of homes s f r t true is =
     let q : HasPartner homes f.identities r.who t.one = ((f.are r.who t.one t.here).partner t.joined).1 in
@@ -141,7 +141,7 @@ ids_tell_peers laws s reached differ nothing k r at first =
 pub addresses_tell_peers : (laws : LawsBelow) (s : Scene) → Reached s → AddressesTellPeers s
 addresses_tell_peers laws s reached differ stay nothing = ids_tell_peers laws s reached (ids_differ laws s reached differ stay) nothing
 
--- ---- a link goes to where its peer is
+-- ---- a link goes to the host of its peer
 
 -- an end that has a partner joined, or was made by a request
 has_joined : (homes : List Home) (identities : List Identity) (k d : ℕ) (x : Identity) → IdentityIs homes identities k x → x.role.partner ≡ Some d → (b : Bool) → x.role.joined ≡ b → x.role.joined ≡ true

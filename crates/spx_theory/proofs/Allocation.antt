@@ -1,4 +1,4 @@
--- No end sends a unit that was not allowed to it, and one without a peer gets nothing.
+-- No end sends a unit that was not allowed, and an end without a peer reads no unit.
 use Rattle.std.proofs.Common.{◌≡◌, ◌≢◌, ◌⊎◌, ℕ, Bool, true, false, List, ◌++◌, Option, Some, None, refl, sym, ◌∙◌, inl, inr, ap, subst, arith}
 use Rattle.std.specs.Prelude.{slice_get}
 use Rattle.std.proofs.lemmas.Bool.{cases_eq, cases_Bool}
@@ -94,7 +94,7 @@ alone_reads log who p none =
       inside = λ k r at. p.nothing_injected k r at;
     }
 
--- the sender's buffers are those that it has in the end
+-- the sender's buffers are those that it has at the end
 settled : (c d : ℕ) (before later log : List Note) (n : ℕ) → log ≡ before ++ later → IsAllowing c d (role_of (scan log) d).buffers n before → IsAllowed before c n
 settled c d before later log n is a =
     let stays = role_stays before later d a.posted.known in

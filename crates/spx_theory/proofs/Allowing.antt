@@ -1,4 +1,4 @@
--- In the machine of a log every limit was allowed by a packet that was read: of the fold alone.
+-- In the machine of a log every limit was allowed by a packet that was read: a fact of the fold only.
 use Rattle.std.proofs.Common.{◌≡◌, ◌⊎◌, ◌+◌, ◌-◌, ◌<◌, ◌==◌, ℕ, max, Bool, true, false, cond, List, [], ◌∷◌, ◌++◌, length, Option, Some, None, refl, sym, ◌∙◌, inl, inr, ap, subst, arith, length-append, eqb-true}
 use Rattle.std.specs.Prelude.{slice_get}
 use Rattle.std.proofs.lemmas.List.{append-nil, append_assoc}
@@ -20,7 +20,7 @@ use Rattle.spx_theory.proofs.Growing.{IsPosted, posted_more, IsAllowing, allowin
 use Rattle.spx_theory.proofs.Placing.{Numbered, AllNumbered}
 use Rattle.spx_theory.proofs.Others.{mail_there}
 
--- what comes into the mail of the half x of c, and as what mark
+-- what is added to the mail of the half x of c, and its mark
 pub record Comes (c : ℕ) (s : Scan) (x : Half) (n : Note) (o : Option Packet) (m : Mark) : Type 0 where
   pub each : (q : Packet) → o ≡ Some q
       → (IsMadeBy n c m.origin × (q.allows ≡ x.end.taken + x.end.buffers) × (c < length s.roles)) ⊎ ((from : ℕ) × (slice_get x.mail from ≡ Some (Some q)) × (m.origin ≡ (mark_at s.marks from).origin))
@@ -50,7 +50,7 @@ quiet : (c : ℕ) (s : Scan) (x : Half) (n : Note) (b : Bool) (y : Half) → (se
 quiet c s x n true y marks buffers mail = record { buffers = buffers; mails = inl (mail, marks) }
 quiet c s x n false y marks buffers mail = record { buffers = refl; mails = inl (refl, marks) }
 
--- one by which c, or another, makes one
+-- an entry by which c, or another end, makes a parcel
 makes : (c who : ℕ) (s : Scan) (x : Half) (n : Note) (m : Mark) (y : Half) (q : Packet) → (seen s n).marks ≡ s.marks ++ m ∷ [] → y.end.buffers ≡ x.end.buffers → y.mail ≡ x.mail ++ Some q ∷ []
     → (who ≡ c → IsMadeBy n c m.origin) → q.allows ≡ x.end.taken + x.end.buffers → who < length s.roles → Steps c s x (cond (who == c) y (not_mine x)) n
 makes c who s x n m y q marks buffers mail by allows known =

@@ -1,4 +1,4 @@
--- In every scene that is reached a pair is held, as long as its premises stand.
+-- In every scene that can be reached, the invariant of a pair holds as long as its premises do.
 use Rattle.std.proofs.Common.{◌≡◌, ◌≢◌, ◌≤◌, ℕ, false, List, [], ◌++◌, length, take, Some, refl, sym, ◌∙◌, ap, subst, arith}
 use Rattle.std.specs.Prelude.{slice_get}
 use Rattle.std.proofs.lemmas.List.{append-nil}
@@ -107,7 +107,8 @@ module _ (laws : LawsBelow) (c d a b : ℕ) (differ : c ≢ d) (small : a ≤ mo
         next_tells laws c d a b differ old s deed does f h.0 h.1,
       )
 
--- ---- the headline's first clauses: links are the machine of the log, and what counts as acknowledged was read
+-- ---- the first clauses of the headline: links are the machine of the log, and what counts as acknowledged
+-- was read
 pub record InStep (s : Scene) (c d : ℕ) (p : Pair) : Type 0 where
   pub one : IfStands s c (λ l. Mirrors l p.one.end)
   pub two : IfStands s d (λ l. Mirrors l p.two.end)
@@ -130,7 +131,7 @@ joined_differ s c d j same =
     let role : j.caller ≡ j.callee = cc both in
     absurd (cc (sym j.called ∙ ap (λ (r : Role). r.called) role ∙ j.accepted))
 
--- ---- and what an end handed out begins what its peer handed in
+-- ---- and what an end handed out is a prefix of what was handed in at its peer
 pub prefix_of : (c d : ℕ) (s : Scene) → AreOk s.log → Said c d s → IsBeginning (handed_out c s.log) (handed_in d s.log)
 prefix_of c d s ok said =
     let k : ℕ = length (taken_of c s.log) in

@@ -1,4 +1,4 @@
--- What a written packet is read as, and what it is read as once a router carried it.
+-- How a written packet is read, and how it is read after a router forwarded it.
 use Rattle.std.proofs.Common.{◌≡◌, ℕ, List, [], sym, ◌∙◌, ap, subst}
 use Rattle.ipx_wire.specs.declared.spx.packet.SpxHeader.{SpxHeader}
 use Rattle.ipx_wire.specs.declared.address.Network.{Network}
@@ -12,14 +12,14 @@ use Rattle.spx_theory.specs.PacketsOnWay.{IsOneOn, one_on}
 use Rattle.spx_units.specs.WrittenPackets.{Home, IsWrittenPacket}
 use Rattle.spx_theory.specs.Below.{LawsBelow}
 
--- what was written is read as what was given, and as nothing else
+-- what was written is read as what was given, and in no other way
 pub written_says : (laws : LawsBelow) (home : Home) (l : LinkView) (g : OutgoingView) (bytes : List ℕ) → IsWrittenPacket home l g bytes → SaysOnly g.header g.body bytes
 written_says laws home l g bytes w p k other reads =
     let same = (laws.one_packet p w.packet bytes reads.tail [] reads.packet w.is).0 in
     let spx : IsSpx k other w.packet.body = subst (λ (q : PacketView). IsSpx k other q.body) same reads.spx in
     laws.one_spx k g.header other g.body w.packet.body spx w.spx
 
--- what a router carried is read as what it got, and as nothing else
+-- what a router forwarded is read like what it got, and in no other way
 pub carried_reads : (laws : LawsBelow) (network : Network) (old new : List ℕ) → IsOneOn network old new
     → (p : PacketView) (h : SpxHeader) (body : List ℕ) → IsConnectionPacket p h body new → (q : PacketView) × IsConnectionPacket q h body old
 carried_reads laws network old new on p h body reads =

@@ -1,4 +1,4 @@
--- Each parcel is its origin, or that carried by routers.
+-- Each parcel is its origin, or was forwarded from it by routers.
 use Rattle.std.proofs.Common.{◌≡◌, ◌≢◌, ◌⊎◌, ◌<◌, ◌+◌, ◌==◌, ℕ, Bool, true, false, cond, List, [], ◌∷◌, ◌++◌, length, Some, refl, sym, ◌∙◌, ap, subst, arith, inl, inr, length-append, add_assoc}
 use Rattle.std.specs.Prelude.{slice_get}
 use Rattle.std.proofs.lemmas.Option.{slice_get_within}
@@ -24,12 +24,12 @@ use Rattle.spx_link.specs.declared.received.Received.TheVariants as Rs
 use Rattle.spx_theory.specs.Below.{LawsBelow}
 use Rattle.spx_theory.proofs.Fields.{log_of, parcels_of}
 
--- ---- one router more
+-- ---- one more router
 
 not_zero : (n : ℕ) → n ≢ 0 → (n == 0) ≡ false
 not_zero n h = grind (arith, nat_tests)
 
--- once a network stands there, another router leaves it
+-- if the source network is set, another router does not change it
 net_twice : (own n here : Network) → n.0 ≢ 0 → (b : Bool) → b ≡ (own.0 == 0) → cond ((cond b n own).0 == 0) here (cond b n own) ≡ cond b n own
 net_twice own n here h true e = rw (not_zero n.0 h) refl
 net_twice own n here h false e = rw (sym e) refl
@@ -38,7 +38,7 @@ twice : (network here : Network) (passed : ℕ) (p : PacketView) → network.0 �
 twice network here passed p h =
     rw (add_assoc p.header.hops passed 1, net_twice p.header.from.network network here h (p.header.from.network.0 == 0) refl) refl
 
--- the parcel k, of which this is the mark: where its origin lies, and what it became
+-- the parcel k with this mark: the network of its origin, and what was forwarded
 pub record Comes (parcels : List (List ℕ)) (segments : List Network) (k : ℕ) (bytes : List ℕ) (m : Mark) : Type 0 where
   pub origin : List ℕ
   pub network : Network
@@ -126,7 +126,7 @@ added parcels bytes segments segment marks m new o =
       ];
     }
 
--- one that no router carried is its own origin
+-- a parcel that no router forwarded is its own origin
 itself : (parcels : List (List ℕ)) (bytes : List ℕ) (segments : List Network) (segment : Network) (m : Mark) → length segments ≡ length parcels → m.origin ≡ length parcels → m.passed ≡ 0
     → Comes (parcels ++ bytes ∷ []) (segments ++ segment ∷ []) (length parcels) bytes m
 itself parcels bytes segments segment m places origin passed =
@@ -138,7 +138,7 @@ itself parcels bytes segments segment m places origin passed =
       from = inl (passed, refl, origin);
     }
 
--- ---- every deed
+-- ---- each deed
 
 abbrev pub OriginsAt : Scene → Type 0
 OriginsAt s = Origins s.parcels s.segments (scan s.log).marks
@@ -154,7 +154,7 @@ read_marks Rs.PeerEnded who k s = refl
 read_marks Rs.Confirmed who k s = refl
 read_marks Rs.Stranger who k s = refl
 
--- the mark of a parcel that no router carried
+-- the mark of a parcel that no router forwarded
 pub record IsMarked (s : Scan) (n : Note) : Type 0 where
   pub mark : Mark
   pub marks : (seen s n).marks ≡ s.marks ++ mark ∷ []
@@ -189,7 +189,7 @@ unnoted s s' parcels segments log o =
     subst (λ ps. Origins ps s'.segments (scan s'.log).marks) (sym parcels)
     (subst (λ gs. Origins s.parcels gs (scan s'.log).marks) (sym segments) (subst (λ l. Origins s.parcels s.segments (scan l).marks) (sym log) o))
 
--- an entry that makes one
+-- an entry that makes a parcel
 moved : (s : Scene) (bytes : List ℕ) (segment : Network) (n : Note) (m : Mark) → (seen (scan s.log) n).marks ≡ (scan s.log).marks ++ m ∷ []
     → Comes (s.parcels ++ bytes ∷ []) (s.segments ++ segment ∷ []) (length s.parcels) bytes m → OriginsAt s
     → Origins (s.parcels ++ bytes ∷ []) (s.segments ++ segment ∷ []) (scan (s.log ++ n ∷ [])).marks

@@ -1,4 +1,4 @@
--- Facts of the link of every end, when one end is written or one comes.
+-- Facts of the link of every end, when one end is replaced or added.
 use Rattle.std.proofs.Common.{◌≡◌, ◌≢◌, ℕ, List, [], ◌∷◌, ◌++◌, length, set, Some, ◌∙◌, sym, ap, subst, inl, inr}
 use Rattle.std.specs.Prelude.{slice_get}
 use Rattle.spx_link.specs.LinkView.{LinkView}

@@ -1,4 +1,4 @@
--- An end stays where it is, and one that is released sends no more.
+-- An end stays at its host, and a released one sends no more.
 use Rattle.std.proofs.Common.{◌≡◌, ◌+◌, ℕ, List, [], ◌∷◌, ◌++◌, length, set, Some, None, refl, sym, ◌∙◌, ap, subst, arith, inl, inr}
 use Rattle.std.specs.Prelude.{slice_get}
 use Rattle.std.proofs.lemmas.List.{append-nil}
@@ -20,7 +20,7 @@ use Rattle.spx_theory.proofs.Held.{outs_seen, set_other, set_here}
 use Rattle.spx_theory.proofs.EndsTelling.{SentBy, given_more, given_sent, read_sent}
 use Rattle.spx_theory.proofs.Fields.{log_of}
 
--- ---- who is released sends no more
+-- ---- a released end sends no more
 
 quiet : (s s' : Scene) (ns : List Note) (who : ℕ) → s'.log ≡ s.log ++ ns → (seen_all (scan s.log) ns).sent ≡ (scan s.log).sent → sent_by who s'.log ≡ sent_by who s.log
 quiet s s' ns who log same = ap (λ l. sent_by who l) log ∙ ap (λ (t : Scan). times who t.sent) (seen_all-append unread s.log ns) ∙ ap (times who) same

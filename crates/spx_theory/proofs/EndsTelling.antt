@@ -1,4 +1,4 @@
--- What is told of the ends is read off the log.
+-- The summaries of the ends follow from the log.
 use Rattle.std.proofs.Common.{◌≡◌, ◌≢◌, ◌≤◌, ◌<◌, ◌+◌, ◌==◌, ℕ, true, false, cond, List, [], ◌∷◌, ◌++◌, length, set, Some, None, refl, sym, ◌∙◌, ap, subst, arith, inl, inr, length-append, length-set, ne_eqb}
 use Rattle.std.specs.Prelude.{slice_get, slice_index_or}
 use Rattle.std.proofs.lemmas.List.{append-nil}
@@ -33,7 +33,7 @@ pub record AreTold (ends : List Stand) (s : Scan) : Type 0 where
   pub buffers : (who : ℕ) (e : Stand) (l : LinkView) (r : Role) → slice_get ends who ≡ Some e → e.link ≡ Some l → slice_get s.roles who ≡ Some r → l.buffers ≡ r.buffers
   pub unmade : (who : ℕ) → length ends ≤ who → times who s.sent ≡ 0
 
--- roles keep their buffers, and none comes or goes
+-- roles keep their buffers, and none is added or removed
 pub record SameRoles (old new : List Role) : Type 0 where
   pub count : length new ≡ length old
   pub buffers : (k : ℕ) (r : Role) → slice_get new k ≡ Some r → (q : Role) × (slice_get old k ≡ Some q) × (q.buffers ≡ r.buffers)
@@ -64,7 +64,7 @@ joined_roles m rs who =
       ];
     }
 
--- the link of an end as it is after it sent these units
+-- the link of an end after it sent these units
 abbrev Follows' : ℕ → List ℕ → Stand → Stand → Type 0
 Follows' j more old new = (k : LinkView) → new.link ≡ Some k
     → (l : LinkView) × (old.link ≡ Some l) × ((n : ℕ) → l.next ≡ mark n → k.next ≡ mark (n + times j more)) × (k.buffers ≡ l.buffers)
@@ -141,7 +141,7 @@ same_link j e l new k was is same m at =
     plain : (n : ℕ) → n + 0 ≡ n
     plain n = omega arith
 
--- the units that are sent by what is given
+-- the units of a packet that is sent
 abbrev pub given_more : Sent → ℕ → List ℕ
 given_more Sents.Request who = []
 given_more Sents.Reply who = []
@@ -189,7 +189,7 @@ read_sent Rs.PeerEnded who k s = nothing_sent who s _ refl refl
 read_sent Rs.Confirmed who k s = nothing_sent who s _ refl refl
 read_sent Rs.Stranger who k s = nothing_sent who s _ refl refl
 
--- ---- every deed
+-- ---- each deed
 
 abbrev pub AreToldAt : Scene → Type 0
 AreToldAt s = AreTold s.ends (scan s.log)

@@ -1,4 +1,5 @@
--- In every scene that is reached: ends are where they were opened, gone just where they were released, and their end is queued just where it was asked for.
+-- In every scene that can be reached: ends are where they were opened, gone exactly if they were released,
+-- and their end is queued exactly if it was asked for.
 use Rattle.std.proofs.Common.{◌≡◌, ◌≢◌, ◌<◌, ◌≤◌, ◌+◌, ℕ, true, false, List, [], ◌∷◌, ◌++◌, length, set, Option, Some, None, refl, sym, ◌∙◌, inl, inr, ap, subst, arith, length-append, length-set}
 use Rattle.std.specs.Prelude.{slice_get, slice_index_or, Contains}
 use Rattle.std.proofs.lemmas.List.{append-nil}
@@ -23,7 +24,7 @@ use Rattle.spx_link.specs.declared.received.Received.TheVariants as Rs
 use Rattle.spx_theory.specs.Below.{LawsBelow}
 use Rattle.spx_theory.proofs.Fields.{ends_of, log_of}
 
--- ---- the end of which an entry says where it is opened, that it is released, or that its close is asked for
+-- ---- the end that an entry opens, releases or closes
 abbrev pub about : Note → Option ℕ
 about (Opened who host buffers) = Some who
 about (Accepted who parcel buffers) = None
@@ -41,7 +42,7 @@ about (Told router parcel) = None
 about (Carried from parcel) = None
 about (Injected parcel) = None
 
--- entries that say none of it
+-- entries that do none of that
 abbrev pub ArePlain : List Note → Type 0
 ArePlain [] = Unit {0}
 ArePlain (n ∷ ns) = (about n ≡ None) × ArePlain ns
@@ -100,7 +101,7 @@ plain_unsaid who ns plain n has is = let no : None ≡ Some who = sym (plain_at 
 old_of : (log ns : List Note) (who : ℕ) (n : Note) → IsUnsaid who ns → about n ≡ Some who → Contains (log ++ ns) n → Contains log n
 old_of log ns who n none is has = elim (Contains-append_cases log ns n has) [ inl old ↦ old | inr new ↦ absurd (none n new is) ]
 
--- the link keeps whether its end is queued, or is gone as it was
+-- the link keeps whether its end is queued, or stays released
 pub record KeepsEnding (old new : Stand) : Type 0 where
   pub host : new.host ≡ old.host
   pub gone : new.link ≡ None → old.link ≡ None
@@ -122,7 +123,7 @@ same_ending e = record { host = refl; gone = λ is. is; still = λ is. is; queue
 
 -- ---- the next scene
 
--- the new entries are about ends that are there
+-- the new entries are about ends that exist
 abbrev AreThere : ℕ → List Note → Type 0
 AreThere count ns = (n : Note) (who : ℕ) → Contains ns n → about n ≡ Some who → who < count
 
@@ -143,16 +144,16 @@ there_on ends ends' log ns old grows new n who has is =
       | inr now ↦ new n who now is
     ]
 
--- what is so of all ends and the log
+-- the invariant of all ends and the log
 pub record AreSaidBy (ends : List Stand) (log : List Note) : Type 0 where
   pub each : (who : ℕ) (e : Stand) → slice_get ends who ≡ Some e → IsSaid log who e
-  -- entries are about ends that are there
+  -- entries are about ends that exist
   pub there : (n : Note) (who : ℕ) → Contains log n → about n ≡ Some who → who < length ends
 
 abbrev pub AreSaid : Scene → Type 0
 AreSaid s = AreSaidBy s.ends s.log
 
--- an end is written, and entries are about no other
+-- an end is replaced, and entries are about no other
 said_set : (ends : List Stand) (log ns : List Note) (j : ℕ) (old new : Stand) → slice_get ends j ≡ Some old → AreThere (length ends) ns
     → ((who : ℕ) → j ≢ who → IsUnsaid who ns) → (IsSaid log j old → IsSaid (log ++ ns) j new) → AreSaidBy ends log → AreSaidBy (set ends j new) (log ++ ns)
 said_set ends log ns j old new at there others now said =
@@ -164,12 +165,12 @@ said_set ends log ns j old new at there others now said =
       there = there_on ends (set ends j new) log ns said.there (omega (arith, length-set ends j new)) (λ n who has is. let within = there n who has is in omega (arith, within, length-set ends j new));
     }
 
--- an end is written, and the entries say nothing of ends
+-- an end is replaced, and the entries are about no end
 said_plain : (ends : List Stand) (log ns : List Note) (j : ℕ) (old new : Stand) → slice_get ends j ≡ Some old → ArePlain ns → KeepsEnding old new → AreSaidBy ends log → AreSaidBy (set ends j new) (log ++ ns)
 said_plain ends log ns j old new at plain keeps said =
     said_set ends log ns j old new at (plain_there (length ends) ns plain) (λ who differ. plain_unsaid who ns plain) (stays_said log ns j old new (plain_unsaid j ns plain) keeps) said
 
--- an end comes
+-- an end is added
 said_more : (ends : List Stand) (log ns : List Note) (new : Stand) → AreThere (length ends + 1) ns
     → ((who : ℕ) → who < length ends → IsUnsaid who ns) → (((n : Note) → Contains log n → about n ≢ Some (length ends)) → IsSaid (log ++ ns) (length ends) new) → AreSaidBy ends log → AreSaidBy (ends ++ new ∷ []) (log ++ ns)
 said_more ends log ns new there others now said =
@@ -190,7 +191,7 @@ said_same ends log ns plain said =
       there = there_on ends ends log ns said.there (omega arith) (plain_there (length ends) ns plain);
     }
 
--- ---- every deed
+-- ---- each deed
 
 -- an end with a link, that keeps whether its end is queued
 keeps_linked : (old new : Stand) (l k : LinkView) → old.link ≡ Some l → new.link ≡ Some k → new.host ≡ old.host → k.end_queued ≡ l.end_queued → KeepsEnding old new
@@ -205,7 +206,7 @@ keeps_linked old new l k was is host same =
 at_once : (s s' : Scene) (ends : List Stand) (log : List Note) → s'.ends ≡ ends → s'.log ≡ log → AreSaidBy ends log → AreSaid s'
 at_once s s' ends log is-ends is-log said = subst (λ es. AreSaidBy es s'.log) (sym is-ends) (subst (AreSaidBy ends) (sym is-log) said)
 
--- one link is written, and entries are plain
+-- one link is replaced, and the entries are plain
 linked_said : (s s' : Scene) (ns : List Note) (j : ℕ) (old new : Stand) (l k : LinkView) → Stands s j old l → new.link ≡ Some k → new.host ≡ old.host → k.end_queued ≡ l.end_queued
     → ArePlain ns → s'.ends ≡ set s.ends j new → s'.log ≡ s.log ++ ns → AreSaid s → AreSaid s'
 linked_said s s' ns j old new l k stands is host same plain ends log said =
@@ -214,7 +215,7 @@ linked_said s s' ns j old new l k stands is host same plain ends log said =
 unlogged : (s s' : Scene) → s'.log ≡ s.log → s'.log ≡ s.log ++ []
 unlogged s s' is = is ∙ sym (append-nil s.log)
 
--- an end comes whose end is not queued, by entries of which the first alone is about it, or none
+-- an end is added whose end is not queued; of its entries, only the first is about it, or none
 new_said : (log ns : List Note) (who : ℕ) (e : Stand) (l : LinkView) → e.link ≡ Some l → l.end_queued ≡ false → ((n : Note) → Contains log n → about n ≢ Some who)
     → ((host buffers : ℕ) → Contains ns (Opened who host buffers) → e.host ≡ host) → ¬ Contains ns (Released who) → ¬ Contains ns (AsksEnd who) → IsSaid (log ++ ns) who e
 new_said log ns who e l is unended none host released asked =

@@ -1,4 +1,4 @@
--- What is so of every scene that is reached, whatever was injected.
+-- Invariants of every scene that can be reached, whatever was injected.
 use Rattle.std.proofs.Common.{◌≡◌, ◌≢◌, ◌+◌, ◌≤◌, ◌<◌, ℕ, zero, suc, false, List, [], ◌∷◌, ◌++◌, length, set, Some, None, refl, sym, ◌∙◌, inl, inr, ap, subst, arith, length-append, length-set}
 use Rattle.std.specs.Prelude.{slice_get}
 use Rattle.std.proofs.lemmas.Bool.{cases_lt, cases_eq}
@@ -34,7 +34,7 @@ nothing_past [] k past = refl
 nothing_past (m ∷ ms) zero past = absurd (omega (arith, past))
 nothing_past (m ∷ ms) (suc k) past = nothing_past ms k (omega (arith, past))
 
--- one end is written, whose link is none that opens
+-- one end is replaced, whose link is not opening
 pub opening_set : (ends : List Stand) (roles : List Role) (who : ℕ) (old new : Stand) → slice_get ends who ≡ Some old
     → ((m : LinkView) → new.link ≡ Some m → m.state ≡ Opening → (l : LinkView) × (old.link ≡ Some l) × (l.state ≡ Opening))
     → OpeningsAreUnjoined ends roles → OpeningsAreUnjoined (set ends who new) roles
@@ -107,7 +107,7 @@ facts_end ends e parcels s t r log ns marks roles newest are opens f =
           ]);
     }
 
--- an end joined: its link opens no more
+-- an end joined: its link is no longer opening
 pub facts_joined : (ends : List Stand) (who : ℕ) (new : Stand) (parcels : List (List ℕ)) (s t : Scan) (r : Role) (log ns : List Note)
     → t.marks ≡ s.marks → t.roles ≡ set s.roles who r → t.newest ≡ None → AreIn (length parcels) ns
     → ((l : LinkView) → new.link ≡ Some l → l.state ≢ Opening)

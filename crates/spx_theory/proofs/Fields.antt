@@ -12,7 +12,7 @@ parcels_of z = z.parcels
 abbrev pub log_of : Scene → List Note
 log_of z = z.log
 
--- what is so of ends, parcels and log is so of the scene that has them
+-- if it holds of ends, parcels and log, it holds of the scene that has them
 pub at_scene : (P : List Stand → List (List ℕ) → List Note → Type 0) (s : Scene) (ends : List Stand) (parcels : List (List ℕ)) (log : List Note)
     → s.ends ≡ ends → s.parcels ≡ parcels → s.log ≡ log → P ends parcels log → P s.ends s.parcels s.log
 at_scene P s ends parcels log one two three t =

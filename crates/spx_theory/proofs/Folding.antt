@@ -1,4 +1,4 @@
--- What is read off a log, and the machine of a log, when entries and parcels come.
+-- The index of a log, and the machine of a log, when entries and parcels are added.
 use Rattle.std.proofs.Common.{◌≡◌, ◌+◌, ◌<◌, ◌==◌, ℕ, zero, suc, cond, List, [], ◌∷◌, ◌++◌, length, Some, refl, ◌∙◌, ap, arith}
 use Rattle.std.specs.Prelude.{slice_index_or}
 use Rattle.spx_theory.specs.Note.{Note, Opened, Accepted, Joined, HandsIn, HandsOut, TakesUnit, AsksEnd, Got, Released, SendsUnit, SendsAgain, SendsSystem, Told, Carried, Injected}
@@ -14,7 +14,7 @@ pub pair_from-append : (parcels : List (List ℕ)) (c d : ℕ) (p : Pair) (xs ys
 pair_from-append parcels c d p [] ys = refl
 pair_from-append parcels c d p (x ∷ xs) ys = pair_from-append parcels c d (pair_after parcels c d p x) xs ys
 
--- the parcel of a unit that is sent again is one of so many
+-- the parcel of a unit that is sent again exists
 abbrev pub NoteIn : ℕ → Note → Type 0
 NoteIn count (SendsAgain who parcel) = parcel < count
 NoteIn count n = Unit {0}
@@ -81,13 +81,13 @@ pair_same parcels more c d p (n ∷ ns) are =
     let e : pair_after (parcels ++ more) c d p n ≡ q = ap (λ h. record { one = h; two = half_after (parcels ++ more) d p.two p.one n }) one ∙ ap (λ h. record { one = half_after parcels c p.one p.two n; two = h }) two in
     ap (λ r. pair_from (parcels ++ more) c d r ns) e ∙ pair_same parcels more c d q ns are.1
 
--- entries and parcels come
+-- entries and parcels are added
 pub pair_grows : (c d a b : ℕ) (parcels more : List (List ℕ)) (log ns : List Note) → AreIn (length parcels) log
     → pair_between c d a b (parcels ++ more) (log ++ ns) ≡ pair_from (parcels ++ more) c d (pair_between c d a b parcels log) ns
 pair_grows c d a b parcels more log ns are =
     let start : Pair = record { one = new_half a; two = new_half b } in
     pair_from-append (parcels ++ more) c d start log ns ∙ ap (λ p. pair_from (parcels ++ more) c d p ns) (pair_same parcels more c d start log are)
 
--- entries come alone
+-- only entries are added
 pub pair_noted : (c d a b : ℕ) (parcels : List (List ℕ)) (log ns : List Note) → pair_between c d a b parcels (log ++ ns) ≡ pair_from parcels c d (pair_between c d a b parcels log) ns
 pair_noted c d a b parcels log ns = pair_from-append parcels c d (record { one = new_half a; two = new_half b }) log ns

@@ -1,4 +1,5 @@
--- What ends hand in and out, take and send, when the log grows; and that what is joined of units taken begins what was handed in.
+-- What ends hand in and out, take and send, when the log grows; and that the units taken, joined, are a
+-- prefix of what was handed in.
 use Rattle.std.proofs.Common.{◌≡◌, ◌≢◌, ◌+◌, ◌-◌, ◌≤◌, ◌<◌, ◌==◌, ℕ, zero, suc, Bool, true, false, cond, List, [], ◌∷◌, ◌++◌, length, take, Option, Some, None, refl, sym, ◌∙◌, inl, inr, ap, subst, arith, length-append}
 use Rattle.std.specs.Prelude.{slice_get}
 use Rattle.std.proofs.lemmas.List.{append-nil, append_assoc, take-append-le}
@@ -120,7 +121,7 @@ pub record Joins (e : ℕ) (log : List Note) (ms : List MessageView) (k : ℕ) :
   pub begins : (join_all (record { messages = ms; rest = None }) (take k (units_of e log))).messages ++ rest ≡ ms ++ handed_in e log
   pub short : (u : Unit) → slice_get (units_of e log) k ≡ Some u → u.stream ≢ 254 → length (added (join_all (record { messages = ms; rest = None }) (take k (units_of e log))).rest u).body ≤ 65535
 
--- the units of a note, and then those of the others
+-- the units of an entry, followed by those of the others
 take_in : (us vs : List Unit) (k : ℕ) → k ≤ length us → take k (us ++ vs) ≡ take k us
 take_in us vs k le = take-append-le k us vs le
 
@@ -139,7 +140,7 @@ get_past [] vs k le = ap (slice_get vs) (omega arith)
 get_past (u ∷ us) vs zero le = absurd (omega (arith, le))
 get_past (u ∷ us) vs (suc k) le = get_past us vs k (omega (arith, le)) ∙ ap (slice_get vs) (omega arith)
 
--- a block of units that joins to some messages and no rest, before others
+-- a block of units that joins to some messages without a rest, before others
 join_block : (e : ℕ) (ns : List Note) (us : List Unit) (ms more : List MessageView) (k : ℕ)
     → join_all (record { messages = ms; rest = None }) us ≡ record { messages = ms ++ more; rest = None } → length us ≤ k
     → Joins e ns (ms ++ more) (k - length us)
@@ -167,7 +168,7 @@ joins_log e [] ms k ranged = record { rest = []; begins = ap (λ (us : List Unit
 joins_log e (n ∷ ns) ms k ranged =
     by_note n (λ who m is. ranged 0 who m (ap Some is)) (λ vs i. joins_log e ns vs i (λ j who m at. ranged (suc j) who m at))
   where
-    -- a note without units
+    -- an entry without units
     none : (m : Note) → units_by e m ≡ [] → in_by e m ≡ [] → ((vs : List MessageView) (i : ℕ) → Joins e ns vs i) → Joins e (m ∷ ns) ms k
     none m no_units no_texts deeper =
         let j = deeper ms k in

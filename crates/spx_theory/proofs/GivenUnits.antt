@@ -1,4 +1,5 @@
--- An entry of a unit sent was made by an end that was asked and gave that unit, in a scene whose log ended there.
+-- An entry of a sent unit was made by an end that was polled and gave that unit, in a scene whose log ended
+-- there.
 use Rattle.std.proofs.Common.{◌≡◌, ℕ, List, [], ◌∷◌, ◌++◌, length, refl, sym, ◌∙◌, inl, inr, ap, subst, arith, length-append}
 use Rattle.std.proofs.lemmas.List.{append-nil}
 use Rattle.ipx_wire.specs.declared.address.Network.{Network}
@@ -69,7 +70,7 @@ one_note : (n x : Note) (pre after : List Note) → n ∷ [] ≡ pre ++ x ∷ af
 one_note n x [] after is = (refl, cc is)
 one_note n x (m ∷ pre) after is = let rest : [] ≡ pre ++ x ∷ after = cc is in absurd (omega (arith, ap length rest, length-append pre (x ∷ after)))
 
--- what happened last, where it may be the one
+-- the last deed, if it may be the one
 abbrev IsLast : (s s' : Scene) → List Note → List Note → ℕ → ℕ → Type 0
 IsLast s s' ns after who parcel =
     (pre : List Note) → ns ≡ pre ++ SendsUnit who parcel ∷ after → Reached s → GaveUnit s'.log (s.log ++ pre) who

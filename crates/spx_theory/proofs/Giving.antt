@@ -22,7 +22,7 @@ use Rattle.spx_theory.proofs.Tied.{mark_at, Letter, Whole}
 use Rattle.spx_theory.proofs.Moving.{sees_same, other_end, this_link}
 use Rattle.spx_theory.proofs.Adding.{adds, mark_here}
 
--- the bag is not seen
+-- the bag does not matter
 pub with_bag : (l : LinkView) (c d : End) (bag : List Packet) → Follows l c d → Follows l (record c { bag = bag }) d
 with_bag l c d bag f =
     let t = f.tracks in
@@ -45,7 +45,7 @@ abbrev pub with_mail : Option ℕ → End → Half → End → Half
 with_mail position e x d = record { end = mailed position e d; mail = x.mail ++ Some (packet_now position e d) ∷ [] }
 
 module _ (c d : ℕ) (differ : c ≢ d) (ends : List Stand) (parcels : List (List ℕ)) (marks : List Mark) (sent more : List ℕ) (x y : Half) where
-  -- the end e of c, which stands just before the packet is mailed
+  -- the end e of c, as it is just before the packet is sent
   pub record Gave (position : Option ℕ) (e : End) (w : Stand) (l : LinkView) (g : OutgoingView) (bytes : List ℕ) (m : Mark) : Type 0 where
     pub sound : AreSound (mailed position e y.end) y.end
     pub run : Runs (mailed position e y.end) y.end

@@ -1,4 +1,4 @@
--- A log that grows: where an entry stands in it, its marks and roles, and what a packet allowed.
+-- A log that grows: the index of an entry in it, its marks and roles, and what a packet allowed.
 use Rattle.std.proofs.Common.{◌≡◌, ◌⊎◌, ◌+◌, ◌<◌, ℕ, List, [], ◌∷◌, ◌++◌, length, Some, refl, sym, ◌∙◌, inl, inr, ap, subst, arith, length-append}
 use Rattle.std.specs.Prelude.{slice_get}
 use Rattle.std.proofs.lemmas.List.{append-nil, append_assoc}
@@ -13,7 +13,7 @@ use Rattle.spx_theory.proofs.Tied.{mark_at}
 use Rattle.spx_theory.proofs.Folding.{seen_all-append}
 use Rattle.spx_theory.proofs.PairPremises.{all_grew, RolesLater}
 
--- an entry of a log that grew stands before or behind
+-- an entry of a log that grew is an old one or a new one
 pub splits : {A : Type 0} (xs ys before after : List A) (x : A) → xs ++ ys ≡ before ++ x ∷ after
     → ((mid : List A) × (xs ≡ before ++ x ∷ mid)) ⊎ ((pre : List A) × (before ≡ xs ++ pre) × (ys ≡ pre ++ x ∷ after))
 splits [] ys before after x is = inr (before, refl, is)
@@ -26,7 +26,7 @@ splits (y ∷ xs) ys (b ∷ before) after x is =
       | inr out ↦ inr (out.0, ap (λ zs. b ∷ zs) out.1 ∙ ap (λ z. z ∷ (xs ++ out.0)) (sym same), out.2)
     ]
 
--- marks only come
+-- marks are only added
 pub marks_after : (s : Scan) (n : Note) → (more : List Mark) × ((seen s n).marks ≡ s.marks ++ more)
 marks_after s (SendsUnit who parcel) = (_, refl)
 marks_after s (SendsAgain who parcel) = (_, refl)

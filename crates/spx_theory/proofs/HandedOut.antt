@@ -19,7 +19,8 @@ use Rattle.spx_theory.proofs.Speaking.{eqb_same}
 use Rattle.spx_theory.proofs.Gathering.{gathered-append}
 use Rattle.spx_theory.proofs.Telling.{AreSilent, linked', given_silent, read_silent, outs_out, outs_taken, join_more, join_one_more}
 
--- of one end: until it is made it takes nothing, and then it hands out what it took, while no message grew too long
+-- of one end: until it is made it takes nothing, and after that it hands out what it took, as long as no
+-- message grew too long
 pub record HandsOver (ends : List Stand) (log : List Note) (who : ℕ) : Type 0 where
   pub unmade : length ends ≤ who → (taken_of who log ≡ []) × (handed_out who log ≡ [])
   pub made : (e : Stand) → slice_get ends who ≡ Some e → e.overlong ≡ false → (handed_out who log ≡ (joined (taken_of who log)).messages) × (e.link ≢ None → e.rest ≡ (joined (taken_of who log)).rest)
@@ -53,7 +54,7 @@ written_end ends j e x who there stands keeps w at well =
       | inr other ↦ inl (w, other.1, (λ stands'. (refl, stands')), well)
     ]
 
--- entries by which nobody takes a unit or hands out a message
+-- entries by which no end takes a unit or hands out a message
 silent : (who : ℕ) (ends ends' : List Stand) (log ns : List Note) → AreSilent ns → length ends ≤ length ends' → Continues ends ends' who → HandsOver ends log who → HandsOver ends' (log ++ ns) who
 silent who ends ends' log ns quiet more goes h =
     let taken : taken_of who (log ++ ns) ≡ taken_of who log = gathered-append (taken_by who) log ns ∙ ap (λ us. taken_of who log ++ us) (quiet.taken who) ∙ append-nil (taken_of who log) in
@@ -120,7 +121,7 @@ takes_other j who ends log stand w u joins differ at h =
       ];
     }
 
--- ---- every deed
+-- ---- each deed
 
 abbrev pub HandsOverAt : Scene → Type 0
 HandsOverAt s = (who : ℕ) → HandsOver s.ends s.log who

@@ -1,4 +1,4 @@
--- The headline for the functions of a link, over every scene that is reached.
+-- The headline for the functions of a link, over every scene that can be reached.
 use Rattle.std.proofs.Common.{ℕ, ◌≡◌, ◌≤◌, ◌++◌, length, take, drop, sym, ap, ◌∙◌, arith}
 use Rattle.std.proofs.Math.Seq.{take-append_seam}
 use Rattle.spx_theory.specs.Scan.{scan, role_of}
@@ -22,7 +22,7 @@ taken_units : (c d : ℕ) (s : Scene) (n : ℕ) → Said c d s → n ≡ length 
 taken_units c d s n said is =
     sym (ap (λ k. take k (units_of d s.log)) is ∙ ap (take (length (taken_of c s.log))) (sym said.begins.1) ∙ take-append_seam (taken_of c s.log) said.begins.0)
 
--- what is taken and what is held are as many as were read
+-- the units taken and those held are as many as were read
 read_units : (c d : ℕ) (s : Scene) (x y : End) (l : LinkView) → Follows l x y → x.taken ≤ x.read → y.units ≡ units_of d s.log
     → taken_of c s.log ≡ take x.taken (units_of d s.log) → taken_of c s.log ++ l.held ≡ take x.read (units_of d s.log)
 read_units c d s x y l f le units taken =

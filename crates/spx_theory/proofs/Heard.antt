@@ -1,5 +1,6 @@
--- In every scene that is reached: an end that took a unit, holds one, or queued its end and has nothing left in its queue read a
--- packet behind the one that made or joined it; one that queued its end was asked to; one that is confirmed has nothing left in its queue.
+-- In every scene that can be reached: an end has read a packet after the one that made or joined it, if it
+-- took a unit, holds one, or queued its end and has an empty queue. One that queued its end was asked to. One
+-- that is confirmed has an empty queue.
 use Rattle.std.proofs.Common.{◌≡◌, ◌≢◌, ◌⊎◌, ◌==◌, ℕ, true, false, List, [], ◌∷◌, ◌++◌, length, map, length-append, set, Option, Some, None, refl, sym, ◌∙◌, inl, inr, ap, subst, arith, ne_eqb}
 use Rattle.std.specs.Prelude.{slice_get, Contains}
 use Rattle.std.proofs.lemmas.List.{append-nil}
@@ -72,7 +73,7 @@ read_grows s s' who g h =
 asked_grows : (s s' : Scene) (n : Note) → LogGrows s s' → Contains s.log n → Contains s'.log n
 asked_grows s s' n g h = subst (λ log. Contains log n) (sym g.is) (Contains-append_left s.log g.more n h)
 
--- the link stays as it was, or is lost
+-- the link stays as it was, or becomes lost
 stays_ok : (s s' : Scene) (who : ℕ) (l k : LinkView) → LogGrows s s' → PollLeaves l k → LinkOk s who l → LinkOk s' who k
 stays_ok s s' who l k g stays ok =
     record {
@@ -109,7 +110,7 @@ links_same : (s s' : Scene) → LogGrows s s' → s'.ends ≡ s.ends → LinksOk
 links_same s s' g ends before j e l stands =
     stays_ok s s' j l l g (same_stays l) (before j e l (record { there = ap (λ es. slice_get es j) (sym ends) ∙ stands.there; link = stands.link }))
 
--- one link is written
+-- one link is replaced
 link_set : (s s' : Scene) (who : ℕ) (e : Stand) (k : LinkView) → LogGrows s s' → s'.ends ≡ set s.ends who (linked e k) → LinkOk s' who k → LinksOk s → LinksOk s'
 link_set s s' who e k g ends ok before = links_set s s' who (linked e k) g ends (λ l is. let same : k ≡ l = cc is in subst (LinkOk s' who) same ok) before
 
@@ -148,7 +149,7 @@ grows_by s s' ns is = record { more = ns; is = is }
 abbrev pub grows_not : (s s' : Scene) → s'.log ≡ s.log → LogGrows s s'
 grows_not s s' is = record { more = []; is = is ∙ sym (append-nil s.log) }
 
--- a packet is read that joins nothing
+-- a packet is read that does not join
 has_read : (s s' : Scene) (who parcel : ℕ) → s'.log ≡ s.log ++ Got who parcel ∷ [] → (scan s.log).newest ≡ None → HasRead (scan s'.log).readings who
 has_read s s' who parcel is newest =
     let t : Scan = scan s.log in
@@ -172,7 +173,7 @@ live_only S.Lost is = absurd (cc is)
 gives_read : (laws : LawsBelow) (s : Scene) (who : ℕ) (l : LinkView) (u : Unit) → LinkOk s who l → (take_link l).0 ≡ Some u → HasRead (scan s.log).readings who
 gives_read laws s who l u ok gives = elim ok.read [ inl h ↦ h | inr none ↦ absurd (laws.close.takes_held l u gives none.0) ]
 
--- no end of the scene queued its end before it may
+-- no end of the scene queued its end too early
 abbrev pub AreOpen : Scene → Type 0
 AreOpen s = (who : ℕ) (e : Stand) (l : LinkView) → Stands s who e l → IsOpen l
 

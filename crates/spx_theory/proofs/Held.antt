@@ -1,4 +1,4 @@
--- What is held of two ends c and d of a scene, c with a buffers and d with b.
+-- The invariant of two ends c and d of a scene, c with a buffers and d with b.
 use Rattle.std.proofs.Common.{◌≡◌, ◌≢◌, ◌≤◌, ℕ, zero, suc, true, false, List, [], ◌∷◌, ◌++◌, length, set, Some, None, refl, sym, ap, subst}
 use Rattle.std.specs.Prelude.{slice_get}
 use Rattle.spx_link.specs.LinkView.{LinkView}
@@ -18,7 +18,7 @@ use Rattle.spx_theory.proofs.Folding.{AreIn, seen_all-append, pair_noted, pair_g
 abbrev pub IsUnjoined : List Role → ℕ → Type 0
 IsUnjoined roles c = (r : Role) → slice_get roles c ≡ Some r → r.joined ≡ false
 
--- an end of the machine that did nothing but send packets without units
+-- an end of the machine that has only sent packets without units
 pub record IsNew (a : ℕ) (e : End) : Type 0 where
   pub base : e.base ≡ 0
   pub sent : e.sent ≡ 0
@@ -61,7 +61,7 @@ module _ (c d a b : ℕ) where
       subst (λ t. Held c d a b ends (s.parcels ++ bytes ∷ []) t (pair_between c d a b (s.parcels ++ bytes ∷ []) (s.log ++ n ∷ []))) (sym (seen_all-append unread s.log (n ∷ [])))
       (subst (λ p. Held c d a b ends (s.parcels ++ bytes ∷ []) (seen (scan s.log) n) p) (sym (pair_grows c d a b s.parcels (bytes ∷ []) s.log (n ∷ []) are)) h)
 
--- ---- entries that say nothing here
+-- ---- entries that do not matter here
 abbrev pub calmed : Scan → Scan
 calmed s = record s { newest = None }
 
@@ -77,7 +77,7 @@ pub outs_are : (count who : ℕ) (ms : List MessageView) → AreIn count (out_no
 outs_are count who [] = tt
 outs_are count who (m ∷ ms) = (tt, outs_are count who ms)
 
--- ---- ends elsewhere
+-- ---- other ends
 pub set_other : {A : Type 0} (xs : List A) (j k : ℕ) (x y : A) → j ≢ k → slice_get xs k ≡ Some y → slice_get (set xs j x) k ≡ Some y
 set_other [] j k x y differ e = e
 set_other (z ∷ zs) zero zero x y differ e = absurd (differ refl)

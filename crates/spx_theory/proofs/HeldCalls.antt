@@ -1,4 +1,4 @@
--- An end is called, and no parcel is made or read.
+-- A call on an end, by which no parcel is made or read.
 use Rattle.std.proofs.Common.{◌≡◌, ◌≢◌, ◌⊎◌, ◌==◌, ℕ, true, false, cond, List, set, Some, None, refl, sym, ◌∙◌, inl, inr, ap, subst, arith, length-set, ne_eqb}
 use Rattle.std.specs.Prelude.{slice_get}
 use Rattle.std.proofs.lemmas.Bool.{cases_eq, cond-true, cond-false}
@@ -26,7 +26,7 @@ abbrev pub IsLeft : Stand → LinkView → Type 0
 IsLeft w l = (m : LinkView) → w.link ≡ Some m → m ≡ l
 
 module _ (c d a b : ℕ) (differ : c ≢ d) (ends : List Stand) (parcels : List (List ℕ)) (s : Scan) (p : Pair) where
-  -- an end of neither is written
+  -- an end that is neither of the two is replaced
   pub other_held : (who : ℕ) (w : Stand) (t : Scan) (q : Pair) → who ≢ c → who ≢ d → t.marks ≡ s.marks → t.sent ≡ s.sent → t.roles ≡ s.roles → q.one ≡ p.one → q.two ≡ p.two
       → Held c d a b ends parcels s p → Held c d a b (set ends who w) parcels t q
   other_held who w t q not_c not_d marks sent roles one two h =
@@ -38,7 +38,7 @@ module _ (c d a b : ℕ) (differ : c ≢ d) (ends : List Stand) (parcels : List 
         unmade = λ past. rw two (h.unmade (omega (arith, past, length-set ends who w)));
       }
 
-  -- the link of an end changes in what the machine does not speak of, and stays quiet if it was
+  -- the link of an end changes in parts that the machine does not have, and stays opening or lost if it was
   pub rests_held : (who : ℕ) (e w : Stand) (l k : LinkView) (t : Scan) → t.marks ≡ s.marks → t.sent ≡ s.sent → t.roles ≡ s.roles
       → slice_get ends who ≡ Some e → e.link ≡ Some l → IsLeft w k → ((x y : End) → Follows l x y → Follows k x y) → (is_quiet l.state ≡ true → is_quiet k.state ≡ true)
       → Held c d a b ends parcels s p → Held c d a b (set ends who w) parcels t p
@@ -109,7 +109,7 @@ module _ (c d a b : ℕ) (differ : c ≢ d) (ends : List Stand) (parcels : List 
         ]
       ]
 
-  -- units stand behind the others: of a message, or the end
+  -- units are added after the others: of a message, or the end
   pub gains_held : (laws : LawsBelow) (us : List Unit) (n : ℕ → Note) (who : ℕ) (e w : Stand) (l k : LinkView)
       → ((j : ℕ) (i : ℕ) (x y : Half) → half_after parcels i x y (n j) ≡ cond (j == i) (gained us x) x) → ((j : ℕ) → seen s (n j) ≡ calmed s)
       → slice_get ends who ≡ Some e → e.link ≡ Some l → refusal l.state ≡ None → IsLeft w k

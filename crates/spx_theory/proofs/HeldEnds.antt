@@ -43,7 +43,7 @@ use Rattle.spx_theory.specs.Below.{LawsBelow}
 pub formed_none : Formed [] false
 formed_none = record { stream = λ k u at. absurd (cc at); end = λ k u at. absurd (cc at); there = λ e. absurd (cc e) }
 
--- a link that is made now is a new end
+-- a new link is a new end
 pub dialed_follows : (id : ℕ) (socket : Socket) (to : Address) (buffers now a : ℕ) (x y : End) → IsNew a x → buffers ≡ a → buffers ≤ most_units → Follows (dialed id socket to buffers now) x y
 dialed_follows id socket to buffers now a x y n same small =
     record {
@@ -107,7 +107,7 @@ accepted_follows id socket from h buffers now b x y q n same small none read all
     drop-nil (suc k) = refl
 
 module _ (c d a b : ℕ) (differ : c ≢ d) (ends : List Stand) (parcels : List (List ℕ)) (s : Scan) (p : Pair) where
-  -- an end of neither comes
+  -- an end that is neither of the two is added
   pub other_comes : (e : Stand) (r : Role) (t : Scan) (q : Pair) → length s.roles ≡ length ends → length ends ≢ c → length ends ≢ d
       → t.marks ≡ s.marks → t.sent ≡ s.sent → t.roles ≡ s.roles ++ r ∷ [] → q.one ≡ p.one → q.two ≡ p.two
       → Held c d a b ends parcels s p → Held c d a b (ends ++ e ∷ []) parcels t q

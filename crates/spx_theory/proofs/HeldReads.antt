@@ -32,7 +32,7 @@ asker_end (BySystem who) d is = is
 asker_end (ByRouter router) d is = absurd (cc is)
 asker_end FromOutside d is = absurd (cc is)
 
--- a packet that joins makes two entries, any other one
+-- a packet that joins makes two entries, and any other one
 pub notes_cases : (r : Received) (who k : ℕ) → r ≢ Rs.Stranger
     → ((r ≡ Rs.Joined) × (notes_of r who k ≡ Joined who k ∷ Got who k ∷ [])) ⊎ ((r ≢ Rs.Joined) × (notes_of r who k ≡ Got who k ∷ []))
 notes_cases Rs.Joined who k read = inl (refl, refl)
@@ -45,7 +45,7 @@ notes_cases Rs.PeerEnded who k read = inr ((λ h. cc), refl)
 notes_cases Rs.Confirmed who k read = inr ((λ h. cc), refl)
 notes_cases Rs.Stranger who k read = absurd (read refl)
 
--- the units between are those that both ends sent since the mark
+-- the units between are those that both ends sent after the mark
 upto_now : (e from : ℕ) (sent : List ℕ) → times e (drop from (take (length sent) sent)) < 32768 → times e (drop from sent) < 32768
 upto_now e from sent near = subst (λ xs. times e (drop from xs) < 32768) (take-length sent) near
 
@@ -53,12 +53,12 @@ abbrev pub reading_now : Scan → ℕ → ℕ → Bool → Reading
 reading_now s who k first = record { who = who; maker = (mark_of s k).maker; from = (mark_of s k).units; to = length s.sent; first = first }
 
 module _ (c d a b : ℕ) (differ : c ≢ d) (laws : LawsBelow) (ends : List Stand) (parcels : List (List ℕ)) (s : Scan) (p : Pair) where
-  -- the roles and what is read off are no others
+  -- the roles and the readings are the same
   abbrev pub Premised : List Role → List Reading → Type 0
   Premised roles readings =
       (AreRoles c d a b (record s { roles = roles })) × Each (ReadsOf c d s.sent) readings × Each (ReadsOf d c s.sent) readings
 
-  -- what is read of this end, beside the other
+  -- a packet that this end reads, with the other end
   pub got_whole : Whole c d ends parcels s.marks s.sent p.one p.two → (e : Stand) (l : LinkView) (k : ℕ) (bytes : List ℕ) (q : PacketView) (h : SpxHeader) (body : List ℕ)
       → slice_get ends c ≡ Some e → e.link ≡ Some l → slice_get parcels k ≡ Some bytes → IsConnectionPacket q h body bytes → (receive_link l h body).0 ≢ Rs.Stranger
       → (first : Bool) → ReadsOf c d s.sent (reading_now s c k first) → end_of (mark_of s k).maker ≡ Some d

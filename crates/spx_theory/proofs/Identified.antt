@@ -1,4 +1,5 @@
--- The identities of all ends, the packets that bear them, and what changes when ends, packets and readings come.
+-- The identities of all ends, the packets that carry them, and how they change with new ends, packets and
+-- readings.
 use Rattle.std.proofs.Common.{ℕ, ◌≡◌, true, false, List, [], ◌∷◌, ◌++◌, length, set, get_or, Option, Some, None, refl, sym, ◌∙◌, ap, subst, inl, inr, arith, length-append, length-set}
 use Rattle.std.specs.Prelude.{slice_get}
 use Rattle.std.proofs.lemmas.Bool.{cases_eq}
@@ -29,7 +30,7 @@ pub record Identified (homes : List Home) (ends : List Stand) (parcels : List (L
 same_link : (o : Option LinkView) (k m : LinkView) → o ≡ Some k → o ≡ Some m → k ≡ m
 same_link o k m is is' = cc
 
--- the identity of an end that stands
+-- the identity of an end that is not released
 pub record IdentityOf (identities : List Identity) (roles : List Role) (who : ℕ) (e : Stand) (l : LinkView) : Type 0 where
   pub identity : Identity
   pub at : slice_get identities who ≡ Some identity
@@ -79,7 +80,7 @@ module _ (homes : List Home) (ends : List Stand) (parcels : List (List ℕ)) (ma
             ];
       }
 
-  -- a link goes
+  -- a link is released
   pub identified_gone : (who : ℕ) (e w : Stand) → slice_get ends who ≡ Some e → w.link ≡ None → w.host ≡ e.host → w.own ≡ e.own → Identified homes (set ends who w) parcels marks roles readings
   identified_gone who e w there gone host own =
       record {
@@ -123,7 +124,7 @@ module _ (homes : List Home) (ends : List Stand) (parcels : List (List ℕ)) (ma
   pub identified_first : (r : Reading) → r.first ≡ true → Identified homes ends parcels marks roles (readings ++ r ∷ [])
   identified_first r is = identified_got r (λ not. absurd (cc (sym is ∙ not)))
 
-  -- a packet comes
+  -- a packet is added
   pub identified_sent : (bytes : List ℕ) (m : Mark) → length marks ≡ length parcels
       → ((p : PacketView) (h : SpxHeader) (body : List ℕ) → IsConnectionPacket p h body bytes → IsFromOrOutside homes f.identities m.maker p h)
       → Identified homes ends (parcels ++ bytes ∷ []) (marks ++ m ∷ []) roles readings
@@ -142,7 +143,7 @@ module _ (homes : List Home) (ends : List Stand) (parcels : List (List ℕ)) (ma
         ];
       }
 
-  -- an end comes
+  -- an end is added
   pub identified_new : (e : Stand) (l : LinkView) (r : Role) → length roles ≡ length ends → e.link ≡ Some l → e.own ≡ l.own
       → IdentityIs homes f.identities (length ends) (record { host = e.host; names = names l; role = r })
       → Identified homes (ends ++ e ∷ []) parcels marks (roles ++ r ∷ []) readings

@@ -37,7 +37,7 @@ IdentifiedAt homes s = IdentifiedIn homes s.ends s.parcels (scan s.log)
 pub identified_at : (homes : List Home) (ends : List Stand) (parcels : List (List ℕ)) (log ns : List Note) → IdentifiedIn homes ends parcels (seen_all (scan log) ns) → IdentifiedIn homes ends parcels (scan (log ++ ns))
 identified_at homes ends parcels log ns f = subst (IdentifiedIn homes ends parcels) (sym (seen_all-append unread log ns)) f
 
--- what was read last came from no one outside
+-- the last packet that was read is not from outside
 not_outside : (log ns : List Note) (rs : List Reading) (r : Reading) → (seen_all (scan log) ns).readings ≡ rs ++ r ∷ [] → NothingInjected (log ++ ns) → r.maker ≢ FromOutside
 not_outside log ns rs r is nothing =
     nothing (length rs) r (ap (λ (t : Scan). slice_get t.readings (length rs)) (seen_all-append unread log ns) ∙ ap (λ xs. slice_get xs (length rs)) is ∙ get_here rs r)

@@ -1,4 +1,4 @@
--- What of each end tells it from all others, and its peer.
+-- What identifies each end among all others, and its peer.
 use Rattle.std.proofs.Common.{ℕ, ◌≡◌, ◌≢◌, ◌⊎◌, ◌<◌, Bool, true, false, List, [], ◌∷◌, ◌++◌, set, None, Some, refl, sym, ◌∙◌, ap, subst, inl, inr, arith}
 use Rattle.std.specs.Prelude.{slice_get}
 use Rattle.std.proofs.lemmas.Bool.{cases_eq}
@@ -29,7 +29,7 @@ pub record Identity : Type 0 where
 abbrev pub address_at : Home → Names → Address
 address_at h n = record { network = h.network; node = h.node; socket = n.local }
 
--- an end has this identity; its link, while it has one, has these names
+-- an end has this identity; until its link is released, it has these names
 pub record Shows (ends : List Stand) (roles : List Role) (k : ℕ) (c : Identity) : Type 0 where
   pub stand : Stand
   pub there : slice_get ends k ≡ Some stand
@@ -38,7 +38,7 @@ pub record Shows (ends : List Stand) (roles : List Role) (k : ℕ) (c : Identity
   pub own : c.names.own ≡ stand.own
   pub named : (l : LinkView) → stand.link ≡ Some l → c.names ≡ names l
 
--- the end that made or joined it, whose id and address it has
+-- the end that made or joined it, and whose id and address it has
 pub record HasPartner (homes : List Home) (identities : List Identity) (k : ℕ) (x : Identity) : Type 0 where
   pub other : ℕ
   pub identity : Identity
@@ -84,7 +84,7 @@ AreFrom homes identities parcels marks =
     (k : ℕ) (bytes : List ℕ) → slice_get parcels k ≡ Some bytes → (p : PacketView) (h : SpxHeader) (body : List ℕ) → IsConnectionPacket p h body bytes
     → IsFromOrOutside homes identities (mark_at marks k).maker p h
 
--- an end read a packet of its partner, whose partner it is
+-- an end read a packet of its partner, which has it as partner
 pub record IsTold (identities : List Identity) (r : Reading) : Type 0 where
   pub other : ℕ
   pub one : Identity
@@ -100,7 +100,7 @@ pub record IsTold (identities : List Identity) (r : Reading) : Type 0 where
 abbrev pub AreTold : List Identity → List Reading → Type 0
 AreTold identities readings = Each (λ (r : Reading). r.first ≡ false → IsTold identities r) readings
 
--- ---- ends come and join
+-- ---- ends are added and join
 pub record IdentityLater (x y : Identity) : Type 0 where
   pub host : y.host ≡ x.host
   pub own : y.names.own ≡ x.names.own
@@ -196,7 +196,7 @@ pub identity_is_later : (homes : List Home) (old new : List Identity) → Identi
 identity_is_later homes old new later k x c =
     record { home = c.home; range = c.range; idle = c.idle; nobody = c.nobody; partner = λ e. let p = c.partner e in (p.0, partner_later homes old new later k x p.1) }
 
--- ---- an address and an id are one end
+-- ---- an address and an id identify one end
 abbrev pub OneEnd : List Home → List Identity → Type 0
 OneEnd homes identities = (j k : ℕ) (x y : Identity) (g h : Home) → slice_get identities j ≡ Some x → slice_get identities k ≡ Some y → slice_get homes x.host ≡ Some g → slice_get homes y.host ≡ Some h
     → g.network ≡ h.network → g.node ≡ h.node → x.names.own ≡ y.names.own → j ≡ k
@@ -215,7 +215,7 @@ pub record ComesTo (home : Home) (n : Names) (p : PacketView) (h : SpxHeader) : 
   pub to : h.to_id ≡ n.own
 
 module _ (homes : List Home) (networks : HaveNetworks homes) (identities : List Identity) (are : AreIdentities homes identities) (same_end : OneEnd homes identities) where
-  -- the end that sends to an id other than FFFF is joined, and its partner is who reads
+  -- the end that sends to an id other than FFFF is joined, and its partner is the end that reads
   pub record Answers (who : ℕ) (x : Identity) (m : Maker) (f : ℕ) (y : Identity) : Type 0 where
     pub at : slice_get identities f ≡ Some y
     pub joined : y.role.joined ≡ true
@@ -246,7 +246,7 @@ module _ (homes : List Home) (networks : HaveNetworks homes) (identities : List 
         accepted = λ e. ap (λ (c : Identity). c.role.called) (sym is) ∙ q.accepted e;
       }
 
-  -- a joined end reads its partner's packets alone
+  -- a joined end reads only its partner's packets
   pub told_by : (who : ℕ) (x : Identity) (home : Home) (r : Reading) (p : PacketView) (h : SpxHeader) → slice_get identities who ≡ Some x → slice_get homes x.host ≡ Some home
       → ComesTo home x.names p h → h.from_id ≡ x.names.peer → r.who ≡ who → IsFrom homes identities r.maker p h → IsTold identities r
   told_by who x home r p h at home_is comes peer whose f =

@@ -1,4 +1,4 @@
--- Lists with one element more, or another one.
+-- Lists with one more element, or a different one.
 use Rattle.std.proofs.Common.{◌≡◌, ◌≢◌, ◌⊎◌, ◌+◌, ℕ, zero, suc, List, [], ◌∷◌, ◌++◌, length, take, drop, set, Some, refl, inl, inr, ap, arith, sym, ◌∙◌, ◌≤◌}
 use Rattle.std.specs.Prelude.{slice_get, slice_index_or}
 use Rattle.spx_theory.specs.Scan.{times}
@@ -18,7 +18,7 @@ pub get_here : {A : Type 0} (xs : List A) (y : A) → slice_get (xs ++ y ∷ [])
 get_here [] y = refl
 get_here (x ∷ xs) y = get_here xs y
 
--- what stands at a place of a list in which one place was written
+-- the element at an index of a list in which one element was replaced
 pub get_set : {A : Type 0} (xs : List A) (j k : ℕ) (x y : A) → slice_get (set xs j x) k ≡ Some y → ((j ≡ k) × (x ≡ y)) ⊎ ((j ≢ k) × (slice_get xs k ≡ Some y))
 get_set [] j k x y e = cc
 get_set (z ∷ zs) zero zero x y e = inl (refl, cc)
@@ -27,7 +27,7 @@ get_set (z ∷ zs) (suc j) zero x y e = inr ((λ h. cc), e)
 get_set (z ∷ zs) (suc j) (suc k) x y e =
     elim (get_set zs j k x y e) [ inl h ↦ inl (ap suc h.0, h.1) | inr h ↦ inr ((λ g. h.0 (omega arith)), h.1) ]
 
--- an element that stands is the one read
+-- the element at an index is the one that is read
 pub read_there : {A : Type 0} (xs : List A) (k : ℕ) (x d : A) → slice_get xs k ≡ Some x → slice_index_or xs k d ≡ x
 read_there [] k x d e = cc
 read_there (y ∷ ys) zero x d e = cc
@@ -45,7 +45,7 @@ times-parts e (suc n) (x ∷ xs) = omega (arith, times-parts e n xs)
 pub same_element : {A : Type 0} (xs : List A) (k : ℕ) (x y : A) → slice_get xs k ≡ Some x → slice_get xs k ≡ Some y → x ≡ y
 same_element xs k x y one two = let both : Some x ≡ Some y = sym one ∙ two in cc both
 
--- what stands before a place and from there to another is what stands before the other
+-- the part before an index, followed by the part from there to another, is the part before the other
 pub take_parts : {A : Type 0} (n m : ℕ) (xs : List A) → n ≤ m → take n xs ++ drop n (take m xs) ≡ take m xs
 take_parts zero m xs le = refl
 take_parts (suc n) zero xs le = absurd (omega (arith, le))

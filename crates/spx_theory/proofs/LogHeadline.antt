@@ -1,4 +1,4 @@
--- The headline over the entries of a log, from what is read off it.
+-- The headline in terms of the entries of a log, from its index.
 use Rattle.std.proofs.Common.{◌≡◌, ◌<◌, ℕ, List, ◌∷◌, length, sym, ◌∙◌, ap, subst, inl, inr}
 use Rattle.spx_theory.specs.Allocation.{AloneReadsNothing, IsAllowed, WithinAllocation}
 use Rattle.spx_theory.specs.Below.{LawsBelow}
@@ -24,7 +24,7 @@ use Rattle.spx_theory.proofs.Tied.{mark_at}
 counted_units : (who : ℕ) (log : List Note) → sent_by who log ≡ units_sent who log
 counted_units who log = ap (times who) (sent_all unread log) ∙ units_counted who log
 
--- an end that made a packet is there
+-- an end that made a packet exists
 maker_there : (s : Scan) (n : Note) (who origin : ℕ) → IsNumbered s n → IsMadeBy n who origin → who < length s.roles
 maker_there s n who origin is made =
     elim made [

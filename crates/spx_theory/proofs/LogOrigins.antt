@@ -1,4 +1,4 @@
--- The origins of parcels, by the entries that make and carry them, are those of their marks.
+-- The origins of parcels, by the entries that make and forward them, are those of their marks.
 use Rattle.std.proofs.Common.{◌≡◌, ◌<◌, ℕ, zero, suc, List, [], ◌∷◌, ◌++◌, length, get_or, Some, refl, sym, ◌∙◌, ap, subst, arith, length-append, inl, inr}
 use Rattle.std.specs.Prelude.{Contains}
 use Rattle.std.proofs.lemmas.Bool.{cases_lt}
@@ -14,7 +14,7 @@ use Rattle.spx_theory.proofs.Growing.{mark_in, marks_grow}
 use Rattle.spx_theory.proofs.Numbering.{AllNumbered, numbered_at}
 use Rattle.spx_theory.proofs.Tied.{mark_at}
 
--- ---- where an entry stands
+-- ---- the index of an entry
 
 by_place : (xs : List Note) (x : Note) (k : ℕ) → k < length xs → get_or xs k x ≡ x → (before : List Note) × (after : List Note) × (xs ≡ before ++ x ∷ after)
 by_place [] x k within is = absurd (omega (arith, within))
@@ -42,7 +42,7 @@ stays s ns k within =
     let g = marks_grow s ns in
     (ap (λ ms. mark_at ms k) g.1 ∙ mark_in s.marks g.0 k within, omega (arith, ap length g.1, length-append s.marks g.0, within))
 
--- a mark that is there before an entry is there at last
+-- a mark before an entry is still there at the end
 pub mark_later : (log before after : List Note) (n : Note) (k : ℕ) → log ≡ before ++ n ∷ after → k < length (scan before).marks
     → (mark_at (scan log).marks k ≡ mark_at (scan before).marks k) × (k < length (scan log).marks)
 mark_later log before after n k is within =
@@ -78,7 +78,7 @@ made_seen s (Injected parcel) k is makes =
     (at, ap (λ j. s.marks ++ record { origin = j; maker = FromOutside; passed = 0; units = length s.sent } ∷ []) (sym at))
 made_seen s n k is makes = absurd (cc makes)
 
--- the mark of a parcel that an entry of a log makes anew
+-- the mark of a new parcel of an entry of a log
 pub made_mark : (log before after : List Note) (n : Note) (k : ℕ) → AllNumbered unread log → log ≡ before ++ n ∷ after → makes_new n ≡ Some k
     → (k < length (scan log).marks) × (mark_at (scan log).marks k ≡ new_mark (scan before) n k)
 made_mark log before after n k all is makes =

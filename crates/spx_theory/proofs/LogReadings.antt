@@ -1,5 +1,5 @@
--- What ends read, and the units sent between the making of that and the reading, by the entries of
--- the log.
+-- What ends read, and the units sent between the making of a packet and its reading, in terms of the entries
+-- of the log.
 use Rattle.std.proofs.Common.{◌≡◌, ◌⊎◌, ◌+◌, ℕ, true, List, [], ◌∷◌, ◌++◌, length, take, drop, Some, refl, sym, ◌∙◌, ap, arith, inl, inr, append_assoc, length-append}
 use Rattle.std.specs.Prelude.{Contains, slice_get}
 use Rattle.std.proofs.Math.Seq.{drop-append_seam, take-append_seam}
@@ -69,7 +69,7 @@ pub readings_counted : (s : Scan) (ns : List Note) → length (seen_all s ns).re
 readings_counted s [] = omega arith
 readings_counted s (n ∷ ns) = omega (arith, readings_counted (seen s n) ns, readings_on s n)
 
--- each reading comes of an entry
+-- each reading is from an entry
 pub record IsReadAt (s : Scan) (ns : List Note) (r : Reading) : Type 0 where
   pub before : List Note
   pub after : List Note
@@ -97,7 +97,7 @@ reading_all s (n ∷ ns) k r at =
 pub reading_from : (log : List Note) (k : ℕ) (r : Reading) → slice_get (scan log).readings k ≡ Some r → IsReadAt unread log r
 reading_from log k r at = elim (reading_all unread log k r at) [ inl none ↦ absurd (cc none) | inr is ↦ is ]
 
--- ---- what lies between
+-- ---- what is between
 
 mark_units : (log : List Note) → AllNumbered unread log → (before after : List Note) (n : Note) (origin k passed : ℕ) → ComesFrom log origin k passed
     → log ≡ before ++ n ∷ after → makes_new n ≡ Some origin
@@ -169,7 +169,7 @@ after_first log who is =
       | inr some ↦ (some.0, some.1, some.2, newest_makes (scan some.0) some.1 who (ap (λ (z : Scan). z.newest) (sym (scan_last log some.0 some.1 some.2)) ∙ newest))
     ]
 
--- ---- an origin in the beginning of a log
+-- ---- an origin in a prefix of a log
 
 pub comes_later : (log front : List Note) → ((n : Note) → Contains front n → Contains log n) → (origin : ℕ) {k passed : ℕ} → ComesFrom front origin k passed → ComesFrom log origin k passed
 comes_later log front there origin (itself n has makes) = itself n (there n has) makes

@@ -249,7 +249,7 @@ next_once laws s s' (Injects segment bytes) does f all old = once_more s s' _ (a
 
 -- ---- from entries to roles
 
--- a role that is joined after an entry stands so at last
+-- a role that is joined after an entry is the same at the end
 role_last : (log before after : List Note) (n : Note) (who : ℕ) (r : Role) → log ≡ before ++ n ∷ after → slice_get (seen (scan before) n).roles who ≡ Some r → r.joined ≡ true → slice_get (scan log).roles who ≡ Some r
 role_last log before after n who r is at joined =
     let g = (all_grew (seen (scan before) n) after).roles who r at in
@@ -282,7 +282,7 @@ accepted_role log all c d request buffers has by =
       partner = system_partner log p.0 p.1 (Accepted d request buffers) request c all p.2 is.1 by;
     }
 
--- an end that is not joined called
+-- an end that is not joined dialled
 unjoined_called : (log : List Note) (marks : List Mark) (who : ℕ) (r : Role) → RoleSays log marks who r → r.joined ≡ false → r.called ≡ true
 unjoined_called log marks who r says unjoined =
     elim says [
@@ -369,7 +369,7 @@ pub end_made : (log : List Note) → AllNumbered unread log → (who : ℕ) → 
 end_made log all who within =
     made_all log unread log (λ n has. has) all (λ k r at. absurd (cc at)) who (role_of (scan log) who) (role_there [] (scan log) who within)
 
--- an entry's end is there at last
+-- an entry's end is there at the end
 role_at_last : (log before after : List Note) (n : Note) (who : ℕ) (r : Role) → log ≡ before ++ n ∷ after → slice_get (seen (scan before) n).roles who ≡ Some r → who < length (scan log).roles
 role_at_last log before after n who r is at =
     let g = (all_grew (seen (scan before) n) after).roles who r at in

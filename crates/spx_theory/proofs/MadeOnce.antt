@@ -1,4 +1,4 @@
--- One entry makes each parcel, and one each end: each is numbered as many as there are before.
+-- Each parcel is made by one entry, and so is each end: its number is how many there are before.
 use Rattle.std.proofs.Common.{◌≡◌, ◌<◌, ◌≤◌, ◌⊎◌, ℕ, true, false, None, List, [], ◌∷◌, ◌++◌, length, refl, sym, ◌∙◌, ap, subst, arith, inl, inr, length-append, length-set}
 use Rattle.spx_theory.specs.Below.{LawsBelow}
 use Rattle.spx_theory.specs.Deeds.{Reached}
@@ -12,7 +12,7 @@ use Rattle.spx_theory.proofs.Growing.{marks_grow}
 use Rattle.spx_theory.proofs.LogOrigins.{made_seen, new_mark, numbered_in}
 use Rattle.spx_theory.proofs.Numbering.{AllNumbered, are_numbered}
 
--- two places of a list: one place, or one before the other
+-- two indices of a list: the same one, or one before the other
 abbrev Places : List Note → List Note → Note → Note → List Note → List Note → Type 0
 Places before before' n n' after after' =
     ((before' ≡ before) × (n' ≡ n) × (after' ≡ after))
@@ -37,7 +37,7 @@ places (x ∷ xs) (y ∷ ys) after after' n n' is =
       ]
     ]
 
--- what is numbered by a count that each making raises
+-- what is numbered by a count that grows with each one
 module _ (count : Scan → ℕ) (grows : (s : Scan) (ns : List Note) → count s ≤ count (seen_all s ns))
     (Makes : Note → ℕ → Type 0) (at : (s : Scan) (n : Note) (k : ℕ) → IsNumbered s n → Makes n k → (k ≡ count s) × (k < count (seen s n)))
     (log : List Note) (all : AllNumbered unread log) where

@@ -1,4 +1,4 @@
--- What stays tied when one end of a machine moves.
+-- What stays tied when one end of a machine takes a step.
 use Rattle.std.proofs.Common.{◌≡◌, ◌≢◌, ◌+◌, ℕ, Bool, true, List, ◌++◌, length, take, drop, set, Option, Some, None, refl, sym, ◌∙◌, inl, inr, ap, subst, arith}
 use Rattle.std.specs.Prelude.{Contains, slice_get}
 use Rattle.ipx_wire.specs.declared.spx.packet.SpxHeader.{SpxHeader}
@@ -14,7 +14,7 @@ use Rattle.spx_theory.specs.Scene.{Stand, linked}
 use Rattle.spx_theory.proofs.Lists.{get_before, get_set}
 use Rattle.spx_theory.proofs.Tied.{Letter, Tied}
 
--- of the peer its units alone are seen
+-- of the peer only its units matter
 pub sees_same : (l : LinkView) (c d e : End) → e.units ≡ d.units → Follows l c d → Follows l c e
 sees_same l c d e same f =
     let t = f.tracks in
@@ -36,7 +36,7 @@ pub carries_more : (o : Option ℕ) (units more : List Unit) (h : SpxHeader) (bo
 carries_more None units more h body has = has
 carries_more (Some n) units more h body has = (has.0, has.1, get_before units more _ n has.2)
 
--- a letter stands while both ends move on
+-- a letter still holds after both ends took steps
 pub letter_later : (c d : ℕ) (parcels : List (List ℕ)) (marks : List Mark) (sent : List ℕ) (x y x' y' : Half) (more : List Unit)
     → Later x.end y.end x'.end y'.end → x'.end.units ≡ x.end.units ++ more → ((p : Packet) → Contains x.end.bag p → Contains x'.end.bag p)
     → (k : ℕ) (q : Packet) → Letter c d parcels marks sent x y k q → Letter c d parcels marks sent x' y' k q
@@ -53,7 +53,7 @@ letter_later c d parcels marks sent x y x' y' more later units bag k q letter =
           (old.0, subst (λ us. Carries q.position us h body) (sym units) (carries_more q.position x.end.units more h body old.1));
     }
 
--- the end c moves without a parcel, or its peer does
+-- the end c takes a step without a parcel, or its peer does
 pub record Moved (c d : ℕ) (ends : List Stand) (x y x' y' : Half) : Type 0 where
   pub later : Later x.end y.end x'.end y'.end
   pub more : List Unit
@@ -78,7 +78,7 @@ moves c d ends ends' parcels marks sent x y x' y' m t =
       small = omega (arith, m.buffers, t.small);
     }
 
--- an end other than the one that was written
+-- an end other than the one that was replaced
 pub other_end : (ends : List Stand) (c d : ℕ) (w e : Stand) → c ≢ d → slice_get (set ends c w) d ≡ Some e → slice_get ends d ≡ Some e
 other_end ends c d w e differ at = elim (get_set ends c d w e at) [ inl same ↦ absurd (differ same.0) | inr other ↦ other.1 ]
 

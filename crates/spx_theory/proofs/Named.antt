@@ -1,5 +1,5 @@
--- In every scene that is reached, whatever was injected: each end has its id for good, its packets say it, and an end that was made
--- or joined by one of them calls its peer by it.
+-- In every scene that can be reached, whatever was injected: each end keeps its id, its packets carry it, and
+-- an end that was made or joined by one of them addresses its peer by it.
 use Rattle.std.proofs.Common.{◌≡◌, ℕ, true, false, List, [], ◌∷◌, ◌++◌, length, set, Some, None, refl, sym, ap, ◌∙◌, inl, inr, subst, arith, length-append, length-set}
 use Rattle.std.specs.Prelude.{slice_get}
 use Rattle.std.proofs.lemmas.Bool.{cond-false}
@@ -34,12 +34,12 @@ use Rattle.spx_theory.proofs.Lists.{get_before, get_last, get_here, get_set, sam
 use Rattle.spx_theory.proofs.NextFacts.{FactsAt, given_mark, given_scan}
 use Rattle.spx_theory.proofs.Tied.{mark_at}
 
--- a packet of a connection says the id of the end that made it
+-- an SPX packet carries the id of the end that made it
 abbrev SaysId : List ℕ → Maker → List ℕ → Type 0
 SaysId ids m bytes =
     (p : PacketView) (h : SpxHeader) (body : List ℕ) (who : ℕ) → IsConnectionPacket p h body bytes → end_of m ≡ Some who → slice_get ids who ≡ Some h.from_id
 
--- the id of each end, whatever became of its link
+-- the id of each end, even if its link was released
 record Called (ids : List ℕ) (ends : List Stand) (parcels : List (List ℕ)) (marks : List Mark) (roles : List Role) : Type 0 where
   own : (who : ℕ) (e : Stand) (l : LinkView) → slice_get ends who ≡ Some e → e.link ≡ Some l → slice_get ids who ≡ Some l.own
   peer : (who : ℕ) (e : Stand) (l : LinkView) (r : Role) (d : ℕ) → slice_get ends who ≡ Some e → e.link ≡ Some l → slice_get roles who ≡ Some r → r.partner ≡ Some d
@@ -57,7 +57,7 @@ called_at : (ends : List Stand) (parcels : List (List ℕ)) (log ns : List Note)
 called_at ends parcels log ns c = subst (CalledIn ends parcels) (sym (seen_all-append unread log ns)) c
 
 module _ (ends : List Stand) (parcels : List (List ℕ)) (t : Scan) (c : CalledIn ends parcels t) where
-  -- the link of an end is written, or is gone
+  -- the link of an end is replaced, or released
   called_put : (who : ℕ) (e w : Stand) (l : LinkView) → slice_get ends who ≡ Some e → e.link ≡ Some l → ((k : LinkView) → w.link ≡ Some k → names k ≡ names l) → CalledIn (set ends who w) parcels t
   called_put who e w l there is same = (
     c.0,
@@ -80,7 +80,7 @@ module _ (ends : List Stand) (parcels : List (List ℕ)) (t : Scan) (c : CalledI
       own_of : (j : ℕ) (k : LinkView) → who ≡ j → names k ≡ names l → slice_get c.0 j ≡ Some k.own
       own_of j k at named = ap (slice_get c.0) (sym at) ∙ c.1.own who e l there is ∙ ap (λ (n : Names). Some n.own) (sym named)
 
-  -- a parcel comes
+  -- a parcel is added
   called_sent : (bytes : List ℕ) (m : Mark) (t' : Scan) → length t.marks ≡ length parcels → t'.marks ≡ t.marks ++ m ∷ [] → t'.roles ≡ t.roles → SaysId c.0 m.maker bytes → CalledIn ends (parcels ++ bytes ∷ []) t'
   called_sent bytes m t' count marks roles made = (
     c.0,
@@ -98,7 +98,7 @@ module _ (ends : List Stand) (parcels : List (List ℕ)) (t : Scan) (c : CalledI
     },
   )
 
-  -- an end comes
+  -- an end is added
   called_new : (e : Stand) (l : LinkView) (r : Role) (t' : Scan) → length t.roles ≡ length ends → e.link ≡ Some l → t'.marks ≡ t.marks → t'.roles ≡ t.roles ++ r ∷ []
       → ((d : ℕ) → r.partner ≡ Some d → slice_get c.0 d ≡ Some l.peer) → CalledIn (ends ++ e ∷ []) parcels t'
   called_new e l r t' count is marks roles peer = (
@@ -164,7 +164,7 @@ module _ (ends : List Stand) (parcels : List (List ℕ)) (t : Scan) (c : CalledI
 same_named : (e : Stand) (l m : LinkView) → names m ≡ names l → (k : LinkView) → (linked e m).link ≡ Some k → names k ≡ names l
 same_named e l m named k is = let same : m ≡ k = cc is in ap names (sym same) ∙ named
 
--- a link is written, and nothing is read off what is noted
+-- a link is replaced, and the entries change nothing in the index
 keeps : (s : Scene) (ns : List Note) (who : ℕ) (e w : Stand) (l : LinkView) → Stands s who e l → ((k : LinkView) → w.link ≡ Some k → names k ≡ names l)
     → (seen_all (scan s.log) ns).marks ≡ (scan s.log).marks → (seen_all (scan s.log) ns).roles ≡ (scan s.log).roles → CalledAt s → CalledIn (set s.ends who w) s.parcels (scan (s.log ++ ns))
 keeps s ns who e w l stands same marks roles c =
@@ -288,7 +288,7 @@ called_begun s is =
     at_scene (λ ends parcels log. CalledIn ends parcels (scan log)) s [] [] [] is.ends is.parcels is.log
     ([], record { own = λ who e l at. absurd (cc at); peer = λ who e l r d at. absurd (cc at); says = λ k bs at. absurd (cc at); count = refl })
 
--- in every scene that is reached
+-- in every scene that can be reached
 called_along : (laws : LawsBelow) {s : Scene} → Reached s → CalledAt s
 called_along laws {s} (begun is) = called_begun s is
 called_along laws {s} (happened old deed reached does) = next_called laws old s deed does (facts_along laws reached) (called_along laws reached)

@@ -27,7 +27,7 @@ FactsAt s = Facts s.ends s.parcels (scan s.log) s.log
 facts_at : (ends : List Stand) (parcels : List (List ℕ)) (log ns : List Note) → Facts ends parcels (seen_all (scan log) ns) (log ++ ns) → Facts ends parcels (scan (log ++ ns)) (log ++ ns)
 facts_at ends parcels log ns f = subst (λ t. Facts ends parcels t (log ++ ns)) (sym (seen_all-append unread log ns)) f
 
--- an end is written, and nothing is noted
+-- an end is replaced, without an entry
 facts_put : (ends : List Stand) (who : ℕ) (w : Stand) (parcels : List (List ℕ)) (s : Scan) (log : List Note) → OpeningsAreUnjoined (set ends who w) s.roles
     → Facts ends parcels s log → Facts (set ends who w) parcels s log
 facts_put ends who w parcels s log opening f =
@@ -40,7 +40,7 @@ facts_put ends who w parcels s log opening f =
       opening = opening;
     }
 
--- the link of an end is one that opens only where it was open
+-- the link of an end is opening only if it was before
 abbrev pub NeverOpens : LinkView → LinkView → Type 0
 NeverOpens l k = k.state ≡ Opening → l.state ≡ Opening
 
@@ -58,7 +58,7 @@ given_in count Sents.Again who = omega arith
 given_in count Sents.Ack who = tt
 given_in count Sents.Probe who = tt
 
--- the mark of what is given
+-- the mark of a packet that is sent
 abbrev pub given_mark : Scan → Sent → ℕ → Mark
 given_mark s Sents.Request who = record { origin = length s.marks; maker = BySystem who; passed = 0; units = length s.sent }
 given_mark s Sents.Reply who = record { origin = length s.marks; maker = BySystem who; passed = 0; units = length s.sent }

@@ -1,4 +1,4 @@
--- Each deed keeps what is held of a pair.
+-- Each deed keeps the invariant of a pair.
 use Rattle.std.proofs.Common.{◌≡◌, ◌≢◌, ◌⊎◌, ℕ, zero, suc, true, false, nat_le, List, [], ◌∷◌, ◌++◌, length, take, drop, set, Some, None, refl, sym, ◌∙◌, inl, inr, ap, subst, arith, length-set}
 use Rattle.std.specs.Prelude.{slice_get}
 use Rattle.std.proofs.lemmas.Bool.{cases_eq, cond_both}
@@ -89,7 +89,7 @@ module _ (laws : LawsBelow) (c d a b : ℕ) (differ : c ≢ d) where
   same_roles s t same r =
       record { caller = λ q at. r.caller q (ap (λ rs. slice_get rs c) (sym same) ∙ at); callee = λ q at. r.callee q (ap (λ rs. slice_get rs d) (sym same) ∙ at) }
 
-  -- the premises of a log with entries more, over what is read off
+  -- the premises of a log with more entries, in terms of its index
   pub roles_then : (log ns : List Note) → PairPremises c d a b (log ++ ns) → AreRoles c d a b (seen_all (scan log) ns)
   roles_then log ns p = subst (AreRoles c d a b) (seen_all-append unread log ns) p.roles
 

@@ -1,4 +1,4 @@
--- Each deed keeps what is identified of the identities.
+-- Each deed keeps the identities identified.
 use Rattle.std.proofs.Common.{ℕ, ◌≡◌, ◌⊎◌, ◌<◌, ◌==◌, Bool, true, false, List, [], ◌∷◌, ◌++◌, length, set, Some, None, refl, sym, ◌∙◌, ap, subst, inl, inr, arith, ne_eqb}
 use Rattle.std.specs.Prelude.{slice_get}
 use Rattle.std.proofs.lemmas.Bool.{cond-false}
@@ -34,7 +34,7 @@ use Rattle.spx_link.specs.declared.outgoing.Sent.TheVariants as Sents
 use Rattle.spx_theory.specs.Below.{LawsBelow}
 use Rattle.spx_theory.proofs.Lists.{same_element}
 
--- ---- what is given
+-- ---- what is sent
 pub record GivenAll (s : Scan) (what : Sent) (who k : ℕ) : Type 0 where
   pub marks : (seen s (note_of what who k)).marks ≡ s.marks ++ given_mark s what who ∷ []
   pub roles : (seen s (note_of what who k)).roles ≡ s.roles
@@ -56,7 +56,7 @@ apart : (homes : List Home) (identities : List Identity) (k : ℕ) (x : Identity
 apart homes identities k x c true is = inl (is, (c.partner is).0)
 apart homes identities k x c false is = inr (c.idle is)
 
--- a written packet bears the identity of its end
+-- a written packet carries the identity of its end
 given_from : (homes : List Home) (identities : List Identity) (who : ℕ) (c : Identity) (home : Home) (l : LinkView) (g : OutgoingView) (m : Maker) (p : PacketView)
     → slice_get identities who ≡ Some c → slice_get homes c.host ≡ Some home → IdentityIs homes identities who c → c.names ≡ names l → end_of m ≡ Some who → (is_plain g.what ≡ true → m ≡ BySystem who)
     → (l.state ≡ Opening → c.role.called ≡ true) → GaveNames l.state l g
@@ -85,7 +85,7 @@ given_from homes identities who c home l g m p at home_is identity named maker s
       ];
     }
 
--- ---- what a router carries
+-- ---- what a router forwards
 carried_from : (homes : List Home) (networks : HaveNetworks homes) (identities : List Identity) (network : Network) (m : Maker) (p q : PacketView) (h : SpxHeader) → p ≡ one_on network q → IsFrom homes identities m q h → IsFrom homes identities m p h
 carried_from homes networks identities network m p q h is f =
     let far : q.header.from.network ≡ f.home.network = ap (λ (a : Address). a.network) f.from in
@@ -130,7 +130,7 @@ module _ (laws : LawsBelow) (homes : List Home) (networks : HaveNetworks homes) 
   keeps s who e w l k stands is host own same f =
       identified_put homes s.ends s.parcels (scan s.log).marks (scan s.log).roles (scan s.log).readings f who e w l k stands.there stands.link is host own same
 
-  -- entries that nothing is read off from
+  -- entries that change nothing in the index
   noted_known : (ends : List Stand) (parcels : List (List ℕ)) (log ns : List Note) → (seen_all (scan log) ns).marks ≡ (scan log).marks → (seen_all (scan log) ns).roles ≡ (scan log).roles → (seen_all (scan log) ns).readings ≡ (scan log).readings
       → IdentifiedIn homes ends parcels (scan log) → IdentifiedIn homes ends parcels (scan (log ++ ns))
   noted_known ends parcels log ns marks roles readings f =
@@ -139,7 +139,7 @@ module _ (laws : LawsBelow) (homes : List Home) (networks : HaveNetworks homes) 
       (subst (λ rs. Identified homes ends parcels (scan log).marks rs (seen_all (scan log) ns).readings) (sym roles)
       (subst (λ rs. Identified homes ends parcels (scan log).marks (scan log).roles rs) (sym readings) f)))
 
-  -- ---- a packet comes
+  -- ---- a packet is added
   sent_known : (ends : List Stand) (parcels : List (List ℕ)) (bytes : List ℕ) (log : List Note) (n : Note) (m : Mark) → length (scan log).marks ≡ length parcels
       → (seen (scan log) n).marks ≡ (scan log).marks ++ m ∷ [] → (seen (scan log) n).roles ≡ (scan log).roles → (seen (scan log) n).readings ≡ (scan log).readings
       → (f : IdentifiedIn homes ends parcels (scan log))
@@ -206,7 +206,7 @@ module _ (laws : LawsBelow) (homes : List Home) (networks : HaveNetworks homes) 
       let is : p ≡ does.packet = (laws.one_packet p does.packet bytes reads.tail [] reads.packet does.is).0 in
       absurd (does.kind (ap (λ (d : PacketView). d.header.kind) (sym is) ∙ reads.kind))))
 
-  -- ---- every deed
+  -- ---- each deed
   pub next_identified : (s s' : Scene) (deed : Deed) → DoesDeed deed s s' → s.homes ≡ homes → FactsAt s → NothingInjected s'.log → (f : IdentifiedAt homes s) → OneEnd homes f.identities → IdentifiedAt homes s'
   next_identified s s' (Dials host id socket to buffers now) does same facts nothing f one = dials s s' host id socket to buffers now same does facts f
   next_identified s s' (Accepts host id socket parcel buffers now) does same facts nothing f one = accepts laws homes networks s s' host id socket parcel buffers now same does facts nothing f

@@ -37,7 +37,7 @@ pub record AreNumbered (s : Scene) : Type 0 where
   pub count : length (scan s.log).marks ≡ length s.parcels
   pub all : AllNumbered unread s.log
 
--- entries come, and as many parcels as marks
+-- entries are added, and there are as many parcels as marks
 numbered : (s s' : Scene) (ns : List Note) → s'.log ≡ s.log ++ ns → length (seen_all (scan s.log) ns).marks ≡ length s'.parcels → AllNumbered (scan s.log) ns → AreNumbered s → AreNumbered s'
 numbered s s' ns log count all a =
     record {
@@ -74,7 +74,7 @@ given_numbered Sents.Again s who k end parcel = (end, parcel)
 given_numbered Sents.Ack s who k end parcel = (end, parcel)
 given_numbered Sents.Probe s who k end parcel = (end, parcel)
 
--- an end that stands has a role
+-- an end that exists has a role
 has_role : (s : Scene) → AreToldAt s → (who : ℕ) (e : Stand) → slice_get s.ends who ≡ Some e → who < length (scan s.log).roles
 has_role s told who e at = omega (arith, told.count, slice_get_within s.ends who e at)
 
@@ -82,7 +82,7 @@ has_role s told who e at = omega (arith, told.count, slice_get_within s.ends who
 same_count : (s s' : Scene) → s'.parcels ≡ s.parcels → AreNumbered s → length (scan s.log).marks ≡ length s'.parcels
 same_count s s' parcels a = a.count ∙ ap length (sym parcels)
 
--- one parcel more
+-- one more parcel
 more_count : (s s' : Scene) (bytes : List ℕ) (marks : List _) (m : _) → s'.parcels ≡ s.parcels ++ bytes ∷ [] → marks ≡ (scan s.log).marks ++ m ∷ [] → AreNumbered s → length marks ≡ length s'.parcels
 more_count s s' bytes marks m parcels is a =
     ap length is ∙ omega (arith, length-append (scan s.log).marks (m ∷ []), ap length parcels, length-append s.parcels (bytes ∷ []), a.count)

@@ -1,4 +1,4 @@
--- The premises of the headline for two ends alone, as far as they are settled: so they hold of every log that came before.
+-- The premises of the headline for two ends, as far as they are settled: so they hold for every earlier log.
 use Rattle.std.specs.Prelude.{ℕ, ◌≡◌, ◌<◌, true, false, List, Some, slice_get}
 use Rattle.spx_theory.specs.Note.{Note}
 use Rattle.spx_theory.specs.Scan.{Each, Scan, Reading, Role, scan}
@@ -11,7 +11,7 @@ pub record AreRoles (c d a b : ℕ) (s : Scan) : Type 0 where
   pub callee : (r : Role) → slice_get s.roles d ≡ Some r
       → (r.buffers ≡ b) × (r.called ≡ false) × (r.joined ≡ true) × (r.partner ≡ Some c)
 
--- c reads d alone, and what is recent
+-- c reads only d, and only recent packets
 pub record ReadsOf (c d : ℕ) (sent : List ℕ) (r : Reading) : Type 0 where
   pub own : r.who ≡ c → r.first ≡ false → end_of r.maker ≡ Some d
   pub fresh : r.who ≡ c → end_of r.maker ≡ Some d

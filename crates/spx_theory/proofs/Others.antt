@@ -1,4 +1,5 @@
--- What others do leaves a pair tied, and a parcel of another's is none of the pair's; a parcel that a router carried is the packet that it was.
+-- Deeds of others leave a pair tied, and their parcels are none of the pair's; a parcel that a router
+-- forwarded is the packet that it was.
 use Rattle.std.proofs.Common.{◌≡◌, ◌≢◌, ◌≤◌, ◌<◌, ℕ, zero, suc, List, [], ◌∷◌, ◌++◌, length, take, Option, Some, None, refl, sym, ◌∙◌, inl, inr, ap, subst, arith, length-append}
 use Rattle.std.specs.Prelude.{slice_get, slice_index_or}
 use Rattle.std.proofs.lemmas.List.{append-nil}
@@ -19,7 +20,7 @@ use Rattle.spx_theory.proofs.Bytes.{carried_reads}
 use Rattle.spx_theory.proofs.Adding.{adds, mark_here}
 use Rattle.spx_theory.specs.Below.{LawsBelow}
 
--- the ends are others, but for these two
+-- the ends are others, except these two
 pub retied : (c d : ℕ) (ends ends' : List Stand) (parcels : List (List ℕ)) (marks : List Mark) (sent : List ℕ) (x y : Half)
     → ((e : Stand) → slice_get ends' c ≡ Some e → slice_get ends c ≡ Some e) → Tied c d ends parcels marks sent x y → Tied c d ends' parcels marks sent x y
 retied c d ends ends' parcels marks sent x y same t =
@@ -68,7 +69,7 @@ foreign_whole c d ends parcels bytes marks m sent more x y not_c not_d none none
       count = omega (arith, w.count, length-append marks (m ∷ []), length-append parcels (bytes ∷ []));
     }
 
--- ---- a parcel that a router carried
+-- ---- a parcel that a router forwarded
 pub mail_there : (x : Half) (k : ℕ) (q : Packet) → mail_of x k ≡ Some q → slice_get x.mail k ≡ Some (Some q)
 mail_there x k q is = elim (cases_lt k (length x.mail)) [
   | inl within ↦ slice_get-get_or x.mail k None within ∙ ap Some is

@@ -1,4 +1,4 @@
--- Where nothing was injected, what is read off a log has no parcel from outside.
+-- If nothing was injected, the index of a log has no parcel from outside.
 use Rattle.std.proofs.Common.{◌≡◌, ◌≢◌, ◌<◌, ℕ, zero, arith, List, [], ◌∷◌, ◌++◌, length, Some, refl, sym, ◌∙◌, ap, subst, inl, inr, append_assoc}
 use Rattle.std.specs.Prelude.{Contains, slice_get}
 use Rattle.std.proofs.lemmas.List.Elements.{Contains-append_left, Contains-append_right}
@@ -11,7 +11,7 @@ use Rattle.spx_theory.specs.Scene.{Scene}
 use Rattle.spx_theory.proofs.Folding.{seen_all-append}
 use Rattle.spx_theory.proofs.Lists.{get_last}
 
--- no parcel is from outside, and none that was read
+-- no parcel is from outside, and none that was read is
 pub record IsInside (s : Scan) : Type 0 where
   pub marks : (k : ℕ) (m : Mark) → slice_get s.marks k ≡ Some m → m.maker ≢ FromOutside
   pub readings : (k : ℕ) (r : Reading) → slice_get s.readings k ≡ Some r → r.maker ≢ FromOutside
@@ -19,7 +19,7 @@ pub record IsInside (s : Scan) : Type 0 where
 inside_at : (s : Scan) → IsInside s → (parcel : ℕ) → parcel < length s.marks → (mark_of s parcel).maker ≢ FromOutside
 inside_at s i parcel within = i.marks parcel (mark_of s parcel) (slice_get-get_or s.marks parcel nowhere within)
 
--- a mark, or a reading, comes
+-- a mark, or a reading, is added
 marks_more : (marks : List Mark) (m : Mark) → ((k : ℕ) (x : Mark) → slice_get marks k ≡ Some x → x.maker ≢ FromOutside) → m.maker ≢ FromOutside
     → (k : ℕ) (x : Mark) → slice_get (marks ++ m ∷ []) k ≡ Some x → x.maker ≢ FromOutside
 marks_more marks m was new k x at = elim (get_last marks m x k at) [ inl before ↦ was k x before | inr last ↦ subst (λ (z : Mark). z.maker ≢ FromOutside) last.1 new ]

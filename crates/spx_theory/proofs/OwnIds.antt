@@ -1,4 +1,4 @@
--- The link of an end has the end's id; and where addresses differ and no end was released, so do ids.
+-- The link of an end has the end's id. If addresses differ and no end was released, ids differ too.
 use Rattle.std.proofs.Common.{◌≡◌, ◌≢◌, ◌⊎◌, ℕ, List, [], ◌∷◌, ◌++◌, length, set, Option, Some, None, refl, sym, ◌∙◌, ap, subst, inl, inr}
 use Rattle.std.specs.Prelude.{Contains, slice_get}
 use Rattle.std.proofs.lemmas.Bool.{cases_eq}
@@ -39,7 +39,7 @@ more_own ends w was new k e l at is = elim (get_last ends w e k at) [
 is_this : (k l : LinkView) (own : ℕ) → Some k ≡ Some l → k.own ≡ own → l.own ≡ own
 is_this k l own same is = let one : k ≡ l = cc same in ap (λ (x : LinkView). x.own) (sym one) ∙ is
 
--- a link of an end becomes another one of the same names
+-- a link of an end is replaced by one with the same names
 renewed : (s : Scene) (who : ℕ) (e w : Stand) (l k : LinkView) → OwnIn s.ends → Stands s who e l → w.link ≡ Some k → w.own ≡ e.own → names k ≡ names l → OwnIn (set s.ends who w)
 renewed s who e w l k was stands is own same = put_own s.ends who w was (λ m is'.
     is_this k m w.own (sym is ∙ is') (ap (λ (n : Names). n.own) same ∙ was who e l stands.there stands.link ∙ sym own))
@@ -75,7 +75,7 @@ pub own_along : (laws : LawsBelow) {s : Scene} → Reached s → OwnIn s.ends
 own_along laws {s} (begun is) = subst OwnIn (sym is.ends) (λ k e l at. absurd (cc at))
 own_along laws {s} (happened old deed reached does) = own_next laws old s deed does (own_along laws reached)
 
--- ---- an end after a deed was there before, or it is a new one with an id that is free
+-- ---- an end after a deed was there before, or is a new one with a free id
 pub record WasThere (s : Scene) (k : ℕ) (f : Stand) : Type 0 where
   pub stand : Stand
   pub there : slice_get s.ends k ≡ Some stand
@@ -127,7 +127,7 @@ come_from s s' (Carries from network segment bytes) does = subst (ComeFrom s) (s
 come_from s s' (Tells router segment bytes) does = subst (ComeFrom s) (sym (ap ends_of does.after)) (come_same s)
 come_from s s' (Injects segment bytes) does = subst (ComeFrom s) (sym (ap ends_of does)) (come_same s)
 
--- ---- where nothing was released
+-- ---- if nothing was released
 
 -- no two ends of one host have one id
 abbrev OneAtHost : Scene → Type 0
@@ -137,7 +137,7 @@ has_link : (o : Option LinkView) → o ≢ None → (l : LinkView) × (o ≡ Som
 has_link None none = absurd (none refl)
 has_link (Some l) none = (l, refl)
 
--- an end that was there has another id than one that is new
+-- an old end and a new one have different ids
 apart : (laws : LawsBelow) (s : Scene) → Reached s → NothingReleased s.log → (j k : ℕ) (e f : Stand) → WasThere s j e → IsNew s k f → e.host ≡ f.host → e.own ≡ f.own → ⊥
 apart laws s reached stay j k e f was new host own =
     let linked : (l : LinkView) × (was.stand.link ≡ Some l) =

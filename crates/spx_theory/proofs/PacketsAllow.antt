@@ -1,4 +1,4 @@
--- Of every end that ever was: what its packets allow is what it had taken then, with its buffers.
+-- Every end, also a released one: what its packets allow is what it had taken then, plus its buffers.
 use Rattle.std.proofs.Common.{◌≡◌, ◌≢◌, ◌⊎◌, ◌+◌, ◌≤◌, ◌<◌, ◌==◌, ℕ, true, false, List, [], ◌∷◌, ◌++◌, length, set, Option, Some, None, refl, sym, ◌∙◌, inl, inr, ap, subst, arith, length-append, length-set, ne_eqb}
 use Rattle.std.specs.Prelude.{slice_get}
 use Rattle.std.proofs.lemmas.List.{append-nil}
@@ -74,7 +74,7 @@ read_scan s R.PeerEnded who k = record { marks = refl; sent = refl }
 read_scan s R.Confirmed who k = record { marks = refl; sent = refl }
 read_scan s R.Stranger who k = record { marks = refl; sent = refl }
 
--- the entry of what is given
+-- the entry of a packet that is sent
 pub record Posting (s : Scan) (what : Sent) (who k : ℕ) : Type 0 where
   pub mark : Mark
   pub marks : (seen s (note_of what who k)).marks ≡ s.marks ++ mark ∷ []
@@ -91,7 +91,7 @@ posting s Sents.Again who k = record { mark = _; marks = refl; origin = refl; by
 posting s Sents.Ack who k = record { mark = _; marks = refl; origin = refl; by = inr (inr refl); silent = λ e. record { taken = refl; out = refl } }
 posting s Sents.Probe who k = record { mark = _; marks = refl; origin = refl; by = inr (inr refl); silent = λ e. record { taken = refl; out = refl } }
 
--- units that are taken are counted, and no others
+-- only units that are taken are counted
 pub same_kept : (taken : ℕ) (l k : LinkView) → SameReceived l k → HasTakenAndFits taken l → HasTakenAndFits taken k
 same_kept taken l k same t =
     record {
@@ -106,7 +106,7 @@ took_kept taken l k u t was =
       fits = omega (arith, was.fits, ap length t.held, ap length t.ahead, t.buffers);
     }
 
--- ---- what is so
+-- ---- the invariant
 pub record LinkSide (e : ℕ) (l : LinkView) (log : List Note) : Type 0 where
   pub taken : ℕ
   pub kept : HasTakenAndFits taken l
@@ -190,11 +190,11 @@ module _ (s : Scene) (f : FactsAt s) (t : SidesAt s) where
   there : (e : ℕ) (w : Stand) → slice_get s.ends e ≡ Some w → e < length (scan s.log).roles
   there e w at = omega (arith, slice_get_within s.ends e w at, f.roles)
 
-  -- the ends stand as they stood
+  -- the ends are unchanged
   links_same : (ns : List Note) → ((e : ℕ) → taken_of e ns ≡ []) → LinkSides s.ends (s.log ++ ns)
   links_same ns none e w l at is = side_more e l s.log ns (there e w at) (none e) (t.links e w l at is)
 
-  -- one is written
+  -- one end is replaced
   links_set : (ns : List Note) (who : ℕ) (v : Stand) → ((e : ℕ) → e ≢ who → taken_of e ns ≡ []) → ((l : LinkView) → v.link ≡ Some l → LinkSide who l (s.log ++ ns)) → LinkSides (set s.ends who v) (s.log ++ ns)
   links_set ns who v none new =
       links_put (λ e l. LinkSide e l s.log) (λ e l. LinkSide e l (s.log ++ ns)) s.ends v t.links who
@@ -205,7 +205,7 @@ module _ (s : Scene) (f : FactsAt s) (t : SidesAt s) where
       let before : length s.ends ≤ e = omega (arith, le, past) in
       omega (arith, taken_then e s.log ns, t.unmade e before, ap length (none e before))
 
-  -- an end is written, and no parcel made
+  -- an end is replaced, and no parcel is made
   writes : (ns : List Note) (who : ℕ) (w v : Stand) → slice_get s.ends who ≡ Some w → ((e : ℕ) → e ≢ who → taken_of e ns ≡ []) → (seen_all (scan s.log) ns).marks ≡ (scan s.log).marks
       → ((l : LinkView) → v.link ≡ Some l → LinkSide who l (s.log ++ ns)) → Sides (set s.ends who v) s.parcels (s.log ++ ns)
   writes ns who w v at none marks new =
@@ -215,7 +215,7 @@ module _ (s : Scene) (f : FactsAt s) (t : SidesAt s) where
         parcels_say = say_same s.parcels s.log ns marks t.parcels_say;
       }
 
-  -- a link changes in what is not spoken of here
+  -- a link changes in parts that do not matter here
   side_same : (ns : List Note) (who : ℕ) (w : Stand) (l k : LinkView) → Stands s who w l → taken_of who ns ≡ [] → SameReceived l k → (k.state ≢ S.Lost → l.state ≢ S.Lost) → (m : LinkView) → (linked w k).link ≡ Some m → LinkSide who m (s.log ++ ns)
   side_same ns who w l k stands none same open' m is =
       let old = side_more who l s.log ns (there who w stands.there) none (t.links who w l stands.there stands.link) in
@@ -223,7 +223,7 @@ module _ (s : Scene) (f : FactsAt s) (t : SidesAt s) where
       subst (λ x. LinkSide who x (s.log ++ ns)) new
       (record { taken = old.taken; kept = same_kept old.taken l k same old.kept; is = λ o. old.is (open' o); buffers = same.buffers ∙ old.buffers })
 
-  -- an end comes
+  -- an end is added
   comes : (ns : List Note) (v : Stand) (l : LinkView) (r : Role) → v.link ≡ Some l → ((e : ℕ) → taken_of e ns ≡ []) → (seen_all (scan s.log) ns).marks ≡ (scan s.log).marks
       → (seen_all (scan s.log) ns).roles ≡ (scan s.log).roles ++ r ∷ [] → l.buffers ≡ r.buffers → l.expected ≡ 0 → l.held ≡ [] → l.ahead ≡ [] → Sides (s.ends ++ v ∷ []) s.parcels (s.log ++ ns)
   comes ns v l r link none marks roles buffers expected held ahead =
@@ -245,7 +245,7 @@ module _ (s : Scene) (f : FactsAt s) (t : SidesAt s) where
         parcels_say = say_same s.parcels s.log ns marks t.parcels_say;
       }
 
-  -- a parcel comes that no end made
+  -- a parcel is added that no end made
   adds_parcel : (n : Note) (bytes : List ℕ) (m : Mark) → ((e : ℕ) → taken_of e (n ∷ []) ≡ []) → (seen (scan s.log) n).marks ≡ (scan s.log).marks ++ m ∷ []
       → ((p : PacketView) (h : SpxHeader) (body : List ℕ) → IsConnectionPacket p h body bytes → ComesFrom (s.log ++ n ∷ []) m h)
       → Sides s.ends (s.parcels ++ bytes ∷ []) (s.log ++ n ∷ [])
@@ -256,7 +256,7 @@ module _ (s : Scene) (f : FactsAt s) (t : SidesAt s) where
         parcels_say = say_more s.parcels bytes s.log (n ∷ []) m f.count marks here t.parcels_say;
       }
 
-  -- an end gives a packet
+  -- an end sends a packet
   gives_sides : (laws : LawsBelow) (who now : ℕ) (segment : _) (bytes : List ℕ) (s' : Scene) (does : DoesGive who now segment bytes s s')
       → Sides (set s.ends who (linked does.stand (poll_link does.link now).1)) (s.parcels ++ bytes ∷ []) (s.log ++ note_of does.given.what who (length s.parcels) ∷ [])
   gives_sides laws who now segment bytes s' does =
@@ -293,7 +293,7 @@ module _ (s : Scene) (f : FactsAt s) (t : SidesAt s) where
             t.parcels_say;
       }
 
--- nothing is noted, and one end's link changes in what is not spoken of here
+-- there is no entry, and one end's link changes in parts that do not matter here
 silent_sides : (s s' : Scene) (who : ℕ) (w : Stand) (l k : LinkView) → FactsAt s → SidesAt s → Stands s who w l → s'.ends ≡ set s.ends who (linked w k) → s'.parcels ≡ s.parcels → s'.log ≡ s.log
     → SameReceived l k → (k.state ≢ S.Lost → l.state ≢ S.Lost) → SidesAt s'
 silent_sides s s' who w l k f t stands ends parcels log same open' =

@@ -1,4 +1,4 @@
--- The premises of two ends stand for every log that came before, and follow from those of the whole log.
+-- The premises of two ends hold for every earlier log, and follow from those of the whole log.
 use Rattle.std.proofs.Common.{◌≡◌, ◌≤◌, ◌<◌, ℕ, true, false, List, [], ◌∷◌, ◌++◌, length, take, drop, set, Some, refl, sym, ◌∙◌, inl, inr, ap, subst, arith, length-append}
 use Rattle.std.specs.Prelude.{slice_get}
 use Rattle.std.proofs.lemmas.List.{append-nil, append_assoc, take-append-le}
@@ -11,7 +11,7 @@ use Rattle.spx_theory.proofs.Lists.{get_last, get_before, get_set, read_there, s
 use Rattle.spx_theory.proofs.Folding.{seen_all-append}
 use Rattle.spx_theory.proofs.Held.{set_other, set_here}
 
--- a role only settles
+-- a role changes only by being joined
 pub record RoleLater (old new : Role) : Type 0 where
   pub buffers : new.buffers ≡ old.buffers
   pub called : new.called ≡ old.called
@@ -20,7 +20,7 @@ pub record RoleLater (old new : Role) : Type 0 where
 abbrev pub RolesLater : List Role → List Role → Type 0
 RolesLater old new = (j : ℕ) (r : Role) → slice_get old j ≡ Some r → (r' : Role) × (slice_get new j ≡ Some r') × RoleLater r r'
 
--- an end that did not call is joined
+-- an end that did not dial is joined
 abbrev pub CalleesJoined : List Role → Type 0
 CalleesJoined roles = Each (λ (r : Role). r.called ≡ false → r.joined ≡ true) roles
 
@@ -45,7 +45,7 @@ same_roles rs j r at = (r, at, same_role r)
 more_roles : (rs more : List Role) → RolesLater rs (rs ++ more)
 more_roles rs more j r at = (r, get_before rs more r j at, same_role r)
 
--- nothing of this
+-- nothing of this changes
 still : (s t : Scan) → t.sent ≡ s.sent → t.readings ≡ s.readings → t.roles ≡ s.roles → Grew s t
 still s t sent readings roles =
     record {
@@ -183,7 +183,7 @@ callees_joined log = (all_grew unread log).joined (λ k r at. absurd (cc at))
 pub readings_within : (log : List Note) → ReadingsWithin (scan log)
 readings_within log = (all_grew unread log).within (λ k r at. absurd (cc at))
 
--- ---- the premises stood before
+-- ---- the premises held before
 reads_before : (c d : ℕ) (s t : Scan) → Grew s t → ReadingsWithin s → Each (ReadsOf c d t.sent) t.readings → Each (ReadsOf c d s.sent) s.readings
 reads_before c d s t g within later k r at =
     let then' : ReadsOf c d t.sent r = later k r (ap (λ rs. slice_get rs k) g.readings_is ∙ get_before s.readings g.readings r k at) in

@@ -1,4 +1,4 @@
--- In every scene that is reached each entry by which an end makes a parcel names the next one.
+-- In every scene that can be reached, each entry by which an end makes a parcel names the next one.
 use Rattle.std.proofs.Common.{◌≡◌, ◌<◌, List, [], ◌∷◌, length}
 use Rattle.spx_theory.specs.Below.{LawsBelow}
 use Rattle.spx_theory.specs.Note.{Note, SendsUnit, SendsAgain, SendsSystem}

@@ -1,4 +1,4 @@
--- What is read off a log is what its entries say.
+-- The index of a log says what its entries say.
 use Rattle.std.proofs.Common.{◌≡◌, ◌<◌, ℕ, List, ◌∷◌, ◌++◌, length, Some, refl, sym, ◌∙◌, ap, subst, arith, inl, inr, append_assoc}
 use Rattle.std.specs.Prelude.{Bool, true, false, Contains, slice_get}
 use Rattle.std.proofs.lemmas.List.Elements.{Contains-append_left}
@@ -85,7 +85,7 @@ between_is_read laws s reached before between after making who parcel origin pas
 -- ---- the premises
 
 module _ (log : List Note) (all : AllNumbered unread log) (once : AllOnce unread log) where
-  -- the mark of what is read is that of the parcel at last
+  -- the mark of a packet that is read is that of the parcel at the end
   read_mark : (front after : List Note) (who parcel : ℕ) → log ≡ front ++ Got who parcel ∷ after → (mark_at (scan log).marks parcel ≡ mark_at (scan front).marks parcel) × (parcel < length (scan log).marks)
   read_mark front after who parcel is = mark_later log front after (Got who parcel) parcel is (numbered_in log front after (Got who parcel) all is).1
 
@@ -109,7 +109,7 @@ module _ (log : List Note) (all : AllNumbered unread log) (once : AllOnce unread
       none (length (scan g.0).readings) (reading_at (scan g.0) who parcel) (reading_there log g.0 g.1 who parcel g.2)
       (ap (λ (x : Mark). x.maker) (sym m.0) ∙ mark_maker log all i.0 i.1 (Injected origin) origin parcel passed comes i.2 refl)
 
-  -- the end that made what is read
+  -- the end that made a packet that is read
   made_by_end : (front after : List Note) (who parcel origin passed peer : ℕ) → log ≡ front ++ Got who parcel ∷ after → ComesFrom log origin parcel passed
       → (making : Note) → Contains log making → IsMadeBy making peer origin → end_of (mark_at (scan front).marks parcel).maker ≡ Some peer
   made_by_end front after who parcel origin passed peer is comes making has made =

@@ -1,4 +1,4 @@
--- A parcel that an end reads is a packet that its machine gets.
+-- A parcel that an end reads is a packet that its machine receives.
 use Rattle.std.proofs.Common.{◌≡◌, ◌≢◌, ◌-◌, ◌<◌, ℕ, Bool, List, [], drop, set, Option, Some, None, refl, sym, ◌∙◌, subst, arith}
 use Rattle.std.specs.Prelude.{slice_get}
 use Rattle.std.proofs.lemmas.Bool.{cond_both}
@@ -25,7 +25,7 @@ use Rattle.spx_theory.proofs.Tied.{mark_at, Letter, Whole}
 use Rattle.spx_theory.proofs.Moving.{moves, sees_same, other_end, this_link}
 use Rattle.spx_theory.specs.Below.{LawsBelow}
 
--- what stays of an end that gets a packet
+-- what a received packet does not change
 pub got_same : {A : Type 0} (f : End → A) (q : Packet) (c : End)
     → ((b l : ℕ) (e : End) → f (record e { base = b; limit = l }) ≡ f e) → ((r : ℕ) (ks : List Bool) (e : End) → f (record e { read = r; kept = ks }) ≡ f e)
     → f (got q c) ≡ f c
@@ -54,7 +54,7 @@ got_later_back c d q =
     record { read = omega arith; taken = omega arith; buffers = refl; peer_buffers = sym buffers; sent = omega arith; peer_sent = omega arith }
 
 module _ (laws : LawsBelow) (c d : ℕ) (differ : c ≢ d) (ends : List Stand) (parcels : List (List ℕ)) (marks : List Mark) (sent : List ℕ) (x y : Half) where
-  -- the end c reads the parcel k, whose origin d sent, and which is fresh
+  -- the end c reads the parcel k, which is recent, and whose origin d sent
   pub reads_whole : Whole c d ends parcels marks sent x y
       → (e : Stand) (l : LinkView) (k : ℕ) (bytes : List ℕ) (p : PacketView) (h : SpxHeader) (body : List ℕ)
       → slice_get ends c ≡ Some e → e.link ≡ Some l → slice_get parcels k ≡ Some bytes → IsConnectionPacket p h body bytes

@@ -1,4 +1,4 @@
--- The machine of two peers came by steps from two new ends with their buffers.
+-- Steps from two new ends with their buffers reach the machine of two peers.
 use Rattle.std.proofs.Common.{ℕ, ◌≡◌, Bool, List, [], ◌∷◌, Option, None, Some, refl, sym, ◌∙◌, subst, cond}
 use Rattle.std.proofs.lemmas.Bool.{cond_both}
 use Rattle.spx_link.specs.Machine.{End, IsRun, Machine, Packet, Step, start}

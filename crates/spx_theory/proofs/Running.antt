@@ -1,4 +1,5 @@
--- A machine that came by steps from two new ends goes on by steps, and may be seen from its other end.
+-- A machine that steps reach from two new ends still does after more steps, and can be seen from its other
+-- end.
 use Rattle.std.proofs.Common.{ℕ, ◌+◌, ◌<◌, ◌≤◌, List, [], ◌∷◌, ◌++◌, Some, None, length, refl, ap, subst, arith, suc}
 use Rattle.std.specs.Prelude.{Contains}
 use Rattle.spx_link.specs.declared.unit.Unit.{Unit}

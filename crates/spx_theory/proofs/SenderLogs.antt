@@ -1,4 +1,5 @@
--- What entries do to the units of an end, to the number of those sent, and to what was said of the parcels before.
+-- How entries change the units of an end and the number of those sent, and that what was said of earlier
+-- parcels still holds.
 use Rattle.std.proofs.Common.{◌≡◌, ◌⊎◌, ◌<◌, ◌||◌, ℕ, Bool, true, false, List, [], ◌∷◌, ◌++◌, Some, refl, sym, ◌∙◌, inl, inr, ap, subst}
 use Rattle.std.specs.Prelude.{slice_get, slice_index_or}
 use Rattle.std.proofs.lemmas.List.{append-nil}
@@ -74,7 +75,7 @@ all_unsent : (s : Scan) (ns : List Note) → any_sending ns ≡ false → (seen_
 all_unsent s [] none = refl
 all_unsent s (n ∷ ns) none = all_unsent (seen s n) ns (or_right (is_sending n) (any_sending ns) none) ∙ one_unsent s n (or_left (is_sending n) (any_sending ns) none)
 
--- where no entry is of a unit, an end sent no more
+-- if no entry is of a unit, an end sent no more units
 pub sent_same : (who : ℕ) (log ns : List Note) → any_sending ns ≡ false → sent_by who (log ++ ns) ≡ sent_by who log
 sent_same who log ns none = ap (λ (t : Scan). times who t.sent) (seen_all-append unread log ns) ∙ ap (times who) (all_unsent (scan log) ns none)
 
@@ -110,7 +111,7 @@ units_more who log ns = gathered-append (units_by who) log ns
 pub units_same : (who : ℕ) (log ns : List Note) → units_of who ns ≡ [] → units_of who (log ++ ns) ≡ units_of who log
 units_same who log ns none = units_more who log ns ∙ ap (λ us. units_of who log ++ us) none ∙ append-nil (units_of who log)
 
--- ---- where an entry stands
+-- ---- the index of an entry
 
 pub record InFront (xs ys before after : List Note) (n : Note) : Type 0 where
   pub rest : List Note
@@ -139,7 +140,7 @@ only_note n m [] after e = (refl, cc e)
 only_note n m (b ∷ []) after e = let tails : [] ≡ m ∷ after = cc e in absurd (cc tails)
 only_note n m (b ∷ c ∷ before) after e = let tails : [] ≡ c ∷ (before ++ m ∷ after) = cc e in absurd (cc tails)
 
--- ---- what was said stays
+-- ---- what was said still holds
 
 pub carries_later : (s s' : Scene) (ns : List Note) (more : List (List ℕ)) (who n parcel : ℕ) → s'.log ≡ s.log ++ ns → s'.parcels ≡ s.parcels ++ more
     → CarriesUnit s who n parcel → CarriesUnit s' who n parcel
@@ -151,7 +152,7 @@ carries_later s s' ns more who n parcel log parcels (u, bytes, at, there, is) = 
   is,
 )
 
--- of a unit that was sent again, beside the number of those that were sent then
+-- of a unit that was sent again, with the number of those that were sent before it
 abbrev pub CarriesAgain : Scene → ℕ → ℕ → ℕ → Type 0
 CarriesAgain s who sent parcel =
     let n : ℕ = position_of sent (sequence_in (slice_index_or s.parcels parcel [])) in (n < sent) × CarriesUnit s who n parcel

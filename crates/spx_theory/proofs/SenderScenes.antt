@@ -1,4 +1,4 @@
--- In every scene that is reached, whatever was read, ends sent their units in order.
+-- In every scene that can be reached, whatever was read, ends sent their units in order.
 use Rattle.std.proofs.Common.{◌≡◌, ◌≢◌, ◌+◌, ◌-◌, ◌≤◌, ◌<◌, ◌==◌, ℕ, false, cond, List, [], ◌∷◌, ◌++◌, length, set, Some, refl, sym, ◌∙◌, inl, inr, ap, subst, arith, length-append, length-set, ne_eqb, eqb-true}
 use Rattle.std.specs.Prelude.{slice_get, slice_index_or}
 use Rattle.std.proofs.lemmas.List.{append-nil}
@@ -40,7 +40,7 @@ pub record Senders (s : Scene) : Type 0 where
   pub past : (who : ℕ) → length s.ends ≤ who → (units_of who s.log ≡ []) × (sent_by who s.log ≡ 0)
   pub told : UnitsAreSentInOrder s
 
--- entries change nothing of an end
+-- entries that change nothing of an end
 pub record SameFor (j : ℕ) (log ns : List Note) : Type 0 where
   pub units : units_of j (log ++ ns) ≡ units_of j log
   pub sent : sent_by j (log ++ ns) ≡ sent_by j log
@@ -54,7 +54,7 @@ queues_at l us vs m n units sent q = subst (λ xs. Queues l xs n) (sym units) (s
 queues_same : (l : LinkView) (j : ℕ) (log ns : List Note) → SameFor j log ns → Queues l (units_of j log) (sent_by j log) → Queues l (units_of j (log ++ ns)) (sent_by j (log ++ ns))
 queues_same l j log ns f q = queues_at l (units_of j log) (units_of j (log ++ ns)) (sent_by j log) (sent_by j (log ++ ns)) f.units f.sent q
 
--- one end becomes another
+-- one end is replaced
 pub record Writes (s s' : Scene) (who : ℕ) (old w : Stand) (ns : List Note) (more : List (List ℕ)) : Type 0 where
   pub at : slice_get s.ends who ≡ Some old
   pub ends : s'.ends ≡ set s.ends who w
@@ -88,7 +88,7 @@ writes s s' who old w ns more c f =
       told = told_later s s' ns more c.log c.parcels c.news f.told;
     }
 
--- one end becomes another by a call that changes nothing of its units
+-- one end is replaced, by a call that does not change its units
 quietly : (s s' : Scene) (who : ℕ) (old w : Stand) (ns : List Note) → slice_get s.ends who ≡ Some old → s'.ends ≡ set s.ends who w → s'.parcels ≡ s.parcels → s'.log ≡ s.log ++ ns
     → any_sending ns ≡ false → ((j : ℕ) → units_of j ns ≡ []) → ((l : LinkView) → w.link ≡ Some l → QueuesAt l who s.log) → Senders s → Senders s'
 quietly s s' who old w ns at ends parcels log none units own f =
@@ -108,7 +108,7 @@ silently : (s s' : Scene) (who : ℕ) (old w : Stand) → slice_get s.ends who �
 silently s s' who old w at ends parcels log own f =
     quietly s s' who old w [] at ends parcels (log ∙ sym (append-nil s.log)) refl (λ j. refl) own f
 
--- an end comes
+-- an end is added
 arrives : (s s' : Scene) (w : Stand) (ns : List Note) → s'.ends ≡ s.ends ++ w ∷ [] → s'.parcels ≡ s.parcels → s'.log ≡ s.log ++ ns
     → any_sending ns ≡ false → ((j : ℕ) → units_of j ns ≡ []) → ((l : LinkView) → w.link ≡ Some l → Queues l [] 0) → Senders s → Senders s'
 arrives s s' w ns ends parcels log none units own f =
@@ -130,7 +130,7 @@ arrives s s' w ns ends parcels log none units own f =
       told = told_later s s' ns [] log (parcels ∙ sym (append-nil s.parcels)) (no_news s' s.log ns none) f.told;
     }
 
--- a parcel comes that no end made
+-- a parcel is added that no end made
 passes : (s s' : Scene) (bytes : List ℕ) (n : Note) → s'.ends ≡ s.ends → s'.parcels ≡ s.parcels ++ bytes ∷ [] → s'.log ≡ s.log ++ n ∷ []
     → any_sending (n ∷ []) ≡ false → ((j : ℕ) → units_of j (n ∷ []) ≡ []) → Senders s → Senders s'
 passes s s' bytes n ends parcels log none units f =
@@ -175,7 +175,7 @@ carries_unit laws s s' n home l g bytes who k log parcels none w has = (
   unit_packet laws home l g bytes (units_of who s.log) k w has,
 )
 
--- the position that a number of 16 bits stands for
+-- the position of a 16-bit number
 place_of : (n k seq : ℕ) → seq ≡ mark k → k < n → n ≤ k + 8192 → position_of n seq ≡ k
 place_of n k seq is below near =
     let back : distance (mark n) seq + k ≡ n = omega (arith, is, below, near) in
@@ -195,7 +195,7 @@ positions_are_greatest sent n below =
     let some : distance (mark sent) (mark n) ≢ 0 = eqb-false _ _ no in
     (omega (arith, below, near, some), omega (arith, near), omega (arith, near)))
 
--- one unit more was sent, by this end
+-- one more unit was sent, by this end
 sent_one : (who j parcel : ℕ) (log : List Note) → sent_by j (log ++ SendsUnit who parcel ∷ []) ≡ sent_by j log + cond (who == j) 1 0
 sent_one who j parcel log =
     ap (λ t. times j t.sent) (seen_all-append unread log (SendsUnit who parcel ∷ [])) ∙ omega (arith, times-append j (scan log).sent (who ∷ []))
@@ -307,9 +307,9 @@ module _ (laws : LawsBelow) (s s' : Scene) (who now : ℕ) (segment : Network) (
       gives_by does.given.what (subst (λ o. PolledFrom o after units n) does.gives p.to) (λ m from. record { from = from; formed = p.formed; open' = p.open' })
       (ap (λ (z : Scene). z.log) does.after) (ap (λ (z : Scene). z.parcels) does.after) (ap (λ (z : Scene). z.ends) does.after)
 
--- ---- every deed
+-- ---- each deed
 
--- the link of an end that was written
+-- the link of an end that was replaced
 link_is : (P : LinkView → Type 0) (e : Stand) (k : LinkView) → P k → (l : LinkView) → (linked e k).link ≡ Some l → P l
 link_is P e k p l is = let same : k ≡ l = cc is in subst P same p
 

@@ -29,7 +29,7 @@ use Rattle.spx_theory.specs.Below.{LawsBelow}
 pub eqb_same : (n : ℕ) → (n == n) ≡ true
 eqb_same n = grind (arith, nat_tests)
 
--- both halves after an entry, tied to the ends and parcels that there are then
+-- both halves after an entry, tied to the ends and parcels after it
 abbrev pub WholeAfter : (c d : ℕ) (ends : List Stand) (parcels : List (List ℕ)) (s : Scan) (x y : Half) → Note → Type 0
 WholeAfter c d ends parcels s x y n =
     Whole c d ends parcels (seen s n).marks (seen s n).sent (half_after parcels c x y n) (half_after parcels d y x n)
@@ -135,7 +135,7 @@ module _ (laws : LawsBelow) (c d : ℕ) (differ : c ≢ d) (ends : List Stand) (
       (cond-false _ _ _ other_no)
       (subst (λ (ns : List ℕ). Whole c d (set ends c (linked w l)) (parcels ++ bytes ∷ []) (s.marks ++ m ∷ []) ns (posted (Some n) x y) (not_mine y)) e done)
 
-  -- whatever is given
+  -- any packet that is given
   pub speaks_whole : Whole c d ends parcels s.marks s.sent x y → (what : Sent) (w : Stand) (l : LinkView) (g : OutgoingView) (bytes : List ℕ)
       → SaysOnly g.header g.body bytes → sequence_in bytes ≡ g.header.seq → IsOpen l → Spoke what (core l) g x.end y.end
       → WholeAfter c d (set ends c (linked w l)) (parcels ++ bytes ∷ []) s x y (note_of what c (length parcels))

@@ -1,4 +1,4 @@
--- The steps of the machine, one effect at a time.
+-- The steps of the machine, one effect after another.
 use Rattle.std.proofs.Common.{ℕ, ◌+◌, ◌<◌, ◌≤◌, ◌≡◌, List, ◌++◌, Some, None, length, arith, refl}
 use Rattle.spx_link.specs.declared.unit.Unit.{Unit}
 use Rattle.spx_link.specs.Machine.{Packet, End, WasSent, AreSound, mailed, sent_next}
@@ -17,7 +17,7 @@ swapped c d s =
       peer_bag = s.bag;
     }
 
--- the numbers of two ends that a packet of the first speaks of only grew
+-- the numbers of two ends that a packet of the first carries have only grown
 pub record Later (c d c' d' : End) : Type 0 where
   pub read : c.read ≤ c'.read
   pub taken : c.taken ≤ c'.taken
@@ -26,7 +26,7 @@ pub record Later (c d c' d' : End) : Type 0 where
   pub sent : c.sent ≤ c'.sent
   pub peer_sent : d.sent ≤ d'.sent
 
--- so it says what was so as it was sent
+-- so what it said when it was sent still holds
 pub was_later : (c d c' d' : End) → Later c d c' d' → (p : Packet) → WasSent c d p → WasSent c' d' p
 was_later c d c' d' l p was = record {
   read = omega arith;

@@ -1,4 +1,4 @@
--- What is taken, queued, or changed without an entry.
+-- A unit is taken, units are queued, or a link changes without an entry.
 use Rattle.std.proofs.Common.{◌≡◌, ◌≢◌, ◌+◌, ◌≤◌, ◌<◌, ℕ, false, List, [], ◌++◌, length, drop, set, Some, refl, sym, ◌∙◌, ap, subst, arith}
 use Rattle.std.proofs.lemmas.List.{append-nil, take-append-le}
 use Rattle.spx_link.specs.declared.unit.Unit.{Unit}
@@ -16,7 +16,7 @@ use Rattle.spx_theory.proofs.Tied.{Whole}
 use Rattle.spx_theory.proofs.Moving.{moves, sees_same, other_end, this_end}
 use Rattle.spx_theory.specs.Below.{LawsBelow}
 
--- the peer's link sees more units behind, where the end was not asked for before
+-- the peer's link sees more units after the others, if the end was not asked for before
 pub sees_more : (l : LinkView) (c d : End) (us : List Unit) → c.read ≤ length d.units → Formed d.units false → Follows l c d → Follows l c (record d { units = d.units ++ us })
 sees_more l c d us within shut f =
     let t = f.tracks in
@@ -38,7 +38,7 @@ sees_more l c d us within shut f =
     }
 
 module _ (c d : ℕ) (differ : c ≢ d) (ends : List Stand) (parcels : List (List ℕ)) (marks : List Mark) (sent : List ℕ) (x y : Half) where
-  -- the stand of c becomes w', whose link, if it has one, is l
+  -- c is replaced by w', whose link, if it has one, is l
   pub takes_whole : (laws : LawsBelow) → Whole c d ends parcels marks sent x y → (w : Stand) (l : LinkView) → ((m : LinkView) → w.link ≡ Some m → m ≡ l)
       → x.end.taken < x.end.read → Follows l (one_taken x).end y.end
       → Whole c d (set ends c w) parcels marks sent (one_taken x) y
@@ -112,7 +112,7 @@ module _ (c d : ℕ) (differ : c ≢ d) (ends : List Stand) (parcels : List (Lis
         count = whole.count;
       }
 
-  -- the link changes in what the machine does not speak of
+  -- the link changes in parts that the machine does not have
   pub rests_whole : Whole c d ends parcels marks sent x y → (w : Stand) (l : LinkView) → ((m : LinkView) → w.link ≡ Some m → m ≡ l)
       → (Follows l x.end y.end) → Whole c d (set ends c w) parcels marks sent x y
   rests_whole whole w l is follows =

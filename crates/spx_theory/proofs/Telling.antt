@@ -1,4 +1,4 @@
--- What two ends took and handed out, beside what their peer sent and handed in.
+-- What two ends took and handed out, compared with what their peers sent and handed in.
 use Rattle.std.proofs.Common.{◌≡◌, ◌≢◌, ◌⊎◌, ◌≤◌, ◌==◌, ℕ, zero, suc, Bool, true, false, cond, List, [], ◌∷◌, ◌++◌, length, take, drop, set, Some, None, refl, sym, ◌∙◌, inl, inr, ap, subst, arith, ne_eqb}
 use Rattle.std.specs.Prelude.{slice_get}
 use Rattle.std.proofs.Math.Seq.{take-append_seam}
@@ -107,7 +107,7 @@ said_grows c d s ends parcels segments ns none none' keeps said =
 pub linked' : (e : Stand) (l : LinkView) → e.link ≡ Some l → e.link ≢ None
 linked' e l is none = cc (sym is ∙ none)
 
--- an end is written with its rest
+-- an end is replaced that has the same rest
 keeps_set : (ends : List Stand) (log : List Note) (who : ℕ) (e w : Stand) (c : ℕ) → slice_get ends who ≡ Some e → (w.link ≢ None → (w.rest ≡ e.rest) × (e.link ≢ None)) → w.overlong ≡ e.overlong → KeepsRest ends (set ends who w) log c
 keeps_set ends log who e w c at rest over f there =
     elim (get_set ends who c w f there) [
@@ -152,7 +152,7 @@ outs_ok : (who : ℕ) (ms : List MessageView) → AreOk (out_notes who ms)
 outs_ok who [] = tt
 outs_ok who (m ∷ ms) = (tt, outs_ok who ms)
 
--- what joins to messages already there
+-- joining does not change the messages that are there already
 pub join_more : (j : Joining) (u : Unit) → join_unit j u ≡ record { messages = j.messages ++ (join_unit (record { messages = []; rest = j.rest }) u).messages; rest = (join_unit (record { messages = []; rest = j.rest }) u).rest }
 join_more j u = cases (is_end u) u.last
   where
@@ -170,7 +170,7 @@ join_one_more [] j u = refl
 join_one_more (v ∷ us) j u = join_one_more us (join_unit j v) u
 
 module _ (laws : LawsBelow) (c d a b : ℕ) (differ : c ≢ d) where
-  -- of both, and of all that was handed in
+  -- of both ends, and of everything that was handed in
   pub record Tells' (s : Scene) : Type 0 where
     pub ok : AreOk s.log
     pub one : Said c d s
@@ -182,7 +182,7 @@ module _ (laws : LawsBelow) (c d a b : ℕ) (differ : c ≢ d) where
       let both = both_counted s.parcels c d (record { one = new_half a; two = new_half b }) s.log in
       (omega (arith, both.0.taken), omega (arith, both.1.taken), both.0.units, both.1.units)
 
-  -- ends that are not there took nothing
+  -- an end that does not exist took nothing
   nothing_one : (s : Scene) → FactsAt s → HeldAt c d a b s → c ≡ length s.ends → taken_of c s.log ≡ []
   nothing_one s f h at =
       let new = h.early (λ r there. absurd (omega (arith, at, f.roles, slice_get_within (scan s.log).roles c r there))) in
@@ -220,7 +220,7 @@ module _ (laws : LawsBelow) (c d a b : ℕ) (differ : c ≢ d) where
   silent_next s ends parcels segments ns silent keeps keeps' t =
       record { ok = ok-append s.log ns t.ok silent.ok; one = said_grows c d s ends parcels segments ns (silent.taken c) (silent.out c) keeps t.one; two = said_grows d c s ends parcels segments ns (silent.taken d) (silent.out d) keeps' t.two }
 
-  -- nothing is noted
+  -- there is no entry
   quiet_next : (s : Scene) (ends : List Stand) → KeepsRest s.ends ends s.log c → KeepsRest s.ends ends s.log d → Tells' s → Tells' (record s { ends = ends })
   quiet_next s ends keeps keeps' t =
       record { ok = t.ok; one = quiet c d keeps t.one; two = quiet d c keeps' t.two }
@@ -301,7 +301,7 @@ module _ (laws : LawsBelow) (c d a b : ℕ) (differ : c ≢ d) where
         ];
       }
 
-  -- ---- every deed
+  -- ---- each deed
   pub next_tells : (s s' : Scene) (deed : Deed) → DoesDeed deed s s' → FactsAt s → HeldAt c d a b s → Tells' s → Tells' s'
   next_tells s s' (Dials host id socket to buffers now) does f h t =
       subst Tells' (sym does.after)

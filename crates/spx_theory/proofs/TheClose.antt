@@ -1,4 +1,4 @@
--- The close: an end that is confirmed was read to its end, and one that took its peer's end took everything.
+-- The close: a confirmed end was read to its end, and one that took its peer's end took everything.
 use Rattle.std.proofs.Common.{ℕ, zero, suc, ◌+◌, ◌<◌, ◌≡◌, ◌⊎◌, Bool, List, [], ◌∷◌, ◌++◌, length, take, drop, Some, refl, sym, ap, ◌∙◌, subst, inl, inr, arith, length-append, length-drop}
 use Rattle.std.specs.Prelude.{slice_get, slice_index_or}
 use Rattle.std.proofs.Math.Seq.{take-length}
@@ -33,7 +33,7 @@ use Rattle.spx_theory.proofs.WholeUnits.{whole_joined, joined_on, taken_there}
 use Rattle.spx_theory.proofs.Heard.{HasRead, heard_along}
 use Rattle.spx_theory.specs.Below.{LawsBelow}
 
--- an end c with its end x of the machine, beside its peer d with y
+-- an end c with its end x of the machine, and its peer d with y
 pub record Beside (s : Scene) (c d : ℕ) (x y : End) : Type 0 where
   pub link : (e : Stand) (l : LinkView) → Stands s c e l → Follows l x y
   pub line : AreSound x y
@@ -84,7 +84,7 @@ peers_follow laws s reached premises c d j =
     let p = joined_peering laws s reached premises c d j in
     record { first = p.one.link; second = p.two.link; line = p.one.line; units = p.one.units; units_back = p.two.units; taken = p.one.taken; taken_back = p.two.taken }
 
--- the ends of the machine of an end and its peer, whichever called
+-- the ends of the machine of an end and its peer, whichever dialled
 pub record Met (s : Scene) (c d : ℕ) : Type 0 where
   pub one : End
   pub two : End
@@ -102,7 +102,7 @@ met laws s reached premises c d (inr j) =
       peering = turned_peering s d c (pair_in s d c).one.end (pair_in s d c).two.end (joined_peering laws s reached premises d c j);
     }
 
--- an end that read more than what made or joined it has a peer
+-- an end that read more than the packet that made or joined it has a peer
 pub record HasPeer (s : Scene) (c : ℕ) : Type 0 where
   pub other : ℕ
   pub peers : ArePeersIn (scan s.log) c other
@@ -112,7 +112,7 @@ reader_peer s own c h =
     let found = own h.place h.reading h.there h.later in
     record { other = found.0; peers = subst (λ k. ArePeersIn (scan s.log) k found.0) h.own found.1 }
 
--- ---- what is taken and held is all, where all is read
+-- ---- if everything is read, what is taken and held is everything
 holds_all : (s : Scene) (c d : ℕ) (x y : End) → Peering s c d x y → y.read ≡ length x.units → HoldsAll s c d
 holds_all s c d x y p all e l stands =
     let f = p.two.link e l stands in
@@ -132,14 +132,14 @@ holds_all s c d x y p all e l stands =
     behind_first : (xs zs vs : List Unit) → xs ++ zs ≡ vs → xs ++ drop (length xs) vs ≡ vs
     behind_first xs zs vs is = ap (λ ws. xs ++ drop (length xs) ws) (sym is) ∙ (ap (λ ws. xs ++ ws) (past_front xs zs) ∙ is)
 
--- the queue is empty: all was acknowledged, so all was read
+-- the queue is empty: everything was acknowledged, so everything was read
 all_read : (l : LinkView) (x y : End) → Follows l x y → AreSound x y → HasAllAcknowledged l → y.read ≡ length x.units
 all_read l x y f line done =
     let none : length (queued_units l) ≡ 0 = length-map l.queue unit_of ∙ done.1 in
     let left : length (drop x.base x.units) ≡ 0 = ap length (sym f.tracks.queue) ∙ none in
     omega (arith, left, length-drop x.base x.units, line.there.base, line.there.read, line.within.sent)
 
--- an end that is queued, with an empty queue, was read to its end by a peer
+-- if an end is queued and its queue is empty, a peer read it to its end
 pub acknowledged_end_is_read : (laws : LawsBelow) (s : Scene) → Reached s → AcknowledgedIsRead s
 acknowledged_end_is_read laws s reached premises c e l stands queued empty =
     let ok = (heard_along laws reached).links c e l stands in
@@ -174,7 +174,7 @@ none_behind : (xs zs : List Unit) (j : ℕ) → length (xs ++ zs) ≡ j + 1 → 
 none_behind xs [] j all within = refl
 none_behind xs (z ∷ zs) j all within = absurd (omega (arith, length-append xs (z ∷ zs), all, within))
 
--- whoever took the end of its peer took all, which comes out whole
+-- an end that took the end of its peer took everything, and all messages are complete
 takes_whole : (s : Scene) (d c : ℕ) (x y : End) → Peering s d c x y → (j : ℕ) (u : Unit) → slice_get (taken_of d s.log) j ≡ Some u → u.stream ≡ end_stream → handed_out d s.log ≡ handed_in c s.log
 takes_whole s d c x y p j u there is =
     let ts : List Unit = taken_of d s.log in

@@ -1,4 +1,4 @@
--- How the link of an end c and the parcels that it sent are tied to its half of the machine, beside that of d.
+-- How the link of an end c and the parcels that it sent are tied to its half of the machine, with that of d.
 use Rattle.std.specs.Prelude.{ℕ, ◌≡◌, ◌<◌, ◌≤◌, Bool, List, length, take, Some, slice_get, slice_index_or}
 use Rattle.ipx_wire.specs.declared.spx.packet.SpxHeader.{SpxHeader}
 use Rattle.ipx_wire.specs.Ipx.{PacketView}
@@ -26,7 +26,7 @@ pub record Letter (c d : ℕ) (parcels : List (List ℕ)) (marks : List Mark) (s
   pub own : q.sender_sent ≡ times c (take (mark_at marks k).units sent)
   pub other : q.receiver_sent ≡ times d (take (mark_at marks k).units sent)
   pub within : (mark_at marks k).units ≤ length sent
-  -- whatever packet of a connection its bytes are, it spells the numbers and carries the unit
+  -- any SPX packet that its bytes are has these numbers and carries the unit
   pub says : (bytes : List ℕ) → slice_get parcels k ≡ Some bytes → (p : PacketView) (h : SpxHeader) (body : List ℕ) → IsConnectionPacket p h body bytes
       → Spells q h × Carries q.position x.end.units h body
 
@@ -39,7 +39,7 @@ pub record Tied (c d : ℕ) (ends : List Stand) (parcels : List (List ℕ)) (mar
   pub formed : (closed : Bool) × Formed x.end.units closed
   pub small : x.end.buffers ≤ most_units
 
--- the pair: its machine's numbers are in line, and both halves are tied
+-- the pair: its machine is sound, and both halves are tied
 pub record Whole (c d : ℕ) (ends : List Stand) (parcels : List (List ℕ)) (marks : List Mark) (sent : List ℕ) (x y : Half) : Type 0 where
   pub sound : AreSound x.end y.end
   pub run : Runs x.end y.end

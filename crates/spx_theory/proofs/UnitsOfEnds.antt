@@ -1,4 +1,5 @@
--- In every scene that is reached the units of an end are its messages, cut, and then its end where it was asked for.
+-- In every scene that can be reached, the units of an end are its messages, split, followed by its end if
+-- that was asked for.
 use Rattle.std.proofs.Common.{ℕ, ◌≡◌, ◌==◌, ◌⊎◌, ◌++◌, Bool, true, false, cond, List, [], ◌∷◌, length, Some, None, refl, sym, ap, ◌∙◌, subst, inl, inr, append_assoc, eqb-true}
 use Rattle.std.specs.Prelude.{slice_get}
 use Rattle.std.specs.List.{flat_map}
@@ -30,7 +31,7 @@ use Rattle.spx_link.specs.declared.outgoing.Sent.TheVariants as Sents
 use Rattle.spx_link.specs.declared.received.Received.TheVariants as R
 use Rattle.spx_link.specs.declared.state.State.TheVariants as S
 
--- ---- entries by which an end gains no unit
+-- ---- entries by which an end gets no new unit
 pub record IsIdle (e : ℕ) (ns : List Note) : Type 0 where
   pub units : units_of e ns ≡ []
   pub messages : handed_in e ns ≡ []
@@ -123,7 +124,7 @@ module _ (e : ℕ) (log : List Note) (c : AreCuts e log) where
         once = subst (λ us. (us ≡ []) ⊎ (us ≡ the_end ∷ [])) (sym asked) (once_more (who == e) (ends_asked e log) c.once none);
       }
 
--- ---- a link that takes more has not ended
+-- ---- a link that accepts more units has not ended
 live_ends : (s : State) → refusal s ≡ None → may_end s ≡ true
 live_ends S.Opening is = absurd (cc is)
 live_ends S.Live is = refl

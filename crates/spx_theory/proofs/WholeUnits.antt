@@ -13,7 +13,7 @@ use Rattle.spx_theory.specs.Handed.{in_by, units_by, taken_by, handed_in, units_
 use Rattle.spx_theory.proofs.Joining.{cut_join, join_all-append}
 use Rattle.spx_theory.proofs.Telling.{NoteOk, AreOk}
 
--- nothing in part
+-- no partial message
 abbrev pub with_none : List MessageView → Joining
 with_none ms = record { messages = ms; rest = None }
 
@@ -52,7 +52,7 @@ all_joined e (n ∷ ns) ms ok =
 pub whole_joined : (e : ℕ) (log : List Note) → AreOk log → (joined (units_of e log)).messages ≡ handed_in e log
 whole_joined e log ok = ap (λ (j : Joining). j.messages) (all_joined e log [] ok)
 
--- ---- messages that are there stay in front
+-- ---- messages that are there stay first
 abbrev pub behind : List MessageView → Joining → Joining
 behind ms j = record { messages = ms ++ j.messages; rest = j.rest }
 
@@ -69,7 +69,7 @@ pub all_behind : (ms : List MessageView) (j : Joining) (us : List Unit) → join
 all_behind ms j [] = refl
 all_behind ms j (u ∷ us) = ap (λ k. join_all k us) (one_behind ms j u) ∙ all_behind ms (join_unit j u) us
 
--- units that were joined, and then those that come
+-- units that were joined, followed by those that come after
 pub joined_on : (us vs : List Unit) (o : Option MessageView) → o ≡ (joined us).rest
     → (joined (us ++ vs)).messages ≡ (joined us).messages ++ (join_all (record { messages = []; rest = o }) vs).messages
 joined_on us vs o is =
@@ -79,7 +79,7 @@ joined_on us vs o is =
     join_all-append (with_none []) us vs ∙ (ap (λ k. join_all k vs) (sym start) ∙ all_behind j.messages (record { messages = []; rest = j.rest }) vs) in
     ap (λ (k : Joining). k.messages) both ∙ ap (λ r. j.messages ++ (join_all (record { messages = []; rest = r }) vs).messages) (sym is)
 
--- ---- a unit that was taken stands among those taken
+-- ---- a unit that was taken is one of those taken
 in_front : {A : Type 0} (xs ys : List A) (k : ℕ) (z : A) → slice_get ys k ≡ Some z → slice_get (xs ++ ys) (length xs + k) ≡ Some z
 in_front [] ys k z at = ap (slice_get ys) (omega arith) ∙ at
 in_front (x ∷ xs) ys k z at =

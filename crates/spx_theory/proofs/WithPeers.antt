@@ -24,7 +24,7 @@ use Rattle.spx_theory.proofs.GivenUnits.{GaveUnit}
 use Rattle.spx_theory.specs.Below.{LawsBelow}
 use Rattle.spx_link.specs.declared.outgoing.Sent.TheVariants as Sents
 
--- the half of an end that gives a unit
+-- the half of an end that sends a unit
 gives_within : (laws : LawsBelow) (c d b : ℕ) (log before : List Note) (g : GaveUnit log before c) (x y : Half)
     → Whole c d g.old.ends g.old.parcels (scan g.old.log).marks (scan g.old.log).sent x y → LimitsAllowed c d b g.old.log x → IsAllowing c d b (sent_by c g.old.log) g.old.log
 gives_within laws c d b log before g x y w allowed =
@@ -34,7 +34,7 @@ gives_within laws c d b log before g x y w allowed =
     let unit : Spoke Sents.Unit (core (poll_link l g.now).1) g.does.given x.end y.end = subst (λ k. Spoke k (core (poll_link l g.now).1) g.does.given x.end y.end) g.what spoke in
     allowed (sent_by c g.old.log) (omega (arith, unit.0, w.one.count))
 
--- what a link and its machine are in the scene where a unit was given
+-- the link and its machine in the scene in which a unit was sent
 record AtGift (c d a b : ℕ) (s : Scene) : Type 0 where
   premises : PairPremises c d a b s.log
   whole : Whole c d s.ends s.parcels (scan s.log).marks (scan s.log).sent (pair_between c d a b s.parcels s.log).one (pair_between c d a b s.parcels s.log).two

@@ -1,4 +1,5 @@
--- An end that reads nothing but the packet that made or joined it: it gets nothing, and sends within what that packet allowed.
+-- An end that reads only the packet that made or joined it: it reads no unit, and sends within what that
+-- packet allowed.
 use Rattle.std.proofs.Common.{◌≡◌, ◌≢◌, ◌+◌, ◌≤◌, ◌<◌, ◌==◌, ◌&&◌, ℕ, true, false, nat_lt, nat_le, List, [], ◌∷◌, ◌++◌, length, set, Some, None, refl, sym, ◌∙◌, inl, inr, ap, subst, arith, length-append, length-set, ne_eqb}
 use Rattle.std.specs.Prelude.{slice_get}
 use Rattle.std.proofs.lemmas.List.{append-nil, append_assoc}
@@ -66,7 +67,7 @@ last_reading who log ns r is a =
     let at : slice_get (scan (log ++ ns)).readings (length (scan log).readings) ≡ Some r = ap (λ rs. slice_get rs (length (scan log).readings)) all ∙ get_here (scan log).readings r in
     (a.only (length (scan log).readings) r at, a.inside (length (scan log).readings) r at)
 
--- a packet that was read allows the position, of an end that is there
+-- a packet that was read allows the position, for an end that exists
 pub record AllowedHere (who n : ℕ) (log : List Note) : Type 0 where
   pub sender : ℕ
   pub allowing : IsAllowing who sender (role_of (scan log) sender).buffers n log
@@ -103,7 +104,7 @@ SameSent who log ns = times who (seen_all (scan log) ns).sent ≡ times who (sca
 sent_then : (who : ℕ) (log ns : List Note) → sent_by who (log ++ ns) ≡ times who (seen_all (scan log) ns).sent
 sent_then who log ns = ap (λ (t : Scan). times who t.sent) (seen_all-append unread log ns)
 
--- a link that changed in what is not spoken of here
+-- a link that changed in parts that do not matter here
 alone_same : (who : ℕ) (log ns : List Note) (l k : LinkView) → k.expected ≡ l.expected → k.held ≡ l.held → (k.state ≡ S.Opening → (k.next ≡ l.next) × (k.room ≡ l.room) × (l.state ≡ S.Opening) × SameSent who log ns)
     → times who (seen_all (scan log) ns).sent + k.room ≡ times who (scan log).sent + l.room → AloneLink who l log → AloneLink who k (log ++ ns)
 alone_same who log ns l k expected held opening room a =
@@ -141,7 +142,7 @@ module _ (who : ℕ) (s : Scene) (f : FactsAt s) (t : SidesAt s) (a : AloneAt wh
         unmade = λ past. sent_then who s.log ns ∙ same ∙ a.unmade past;
       }
 
-  -- one is written
+  -- one end is replaced
   writes : (ns : List Note) (e : ℕ) (w v : Stand) → slice_get s.ends e ≡ Some w → IsSilent who ns → (e ≢ who → SameSent who s.log ns)
       → (e ≡ who → (m : LinkView) → v.link ≡ Some m → AloneLink who m (s.log ++ ns)) → Alone who (set s.ends e v) (s.log ++ ns)
   writes ns e w v at q same new =
@@ -157,7 +158,7 @@ module _ (who : ℕ) (s : Scene) (f : FactsAt s) (t : SidesAt s) (a : AloneAt wh
             sent_then who s.log ns ∙ same (λ z. absurd (omega (arith, z, before, slice_get_within s.ends e w at))) ∙ a.unmade before;
       }
 
-  -- one comes
+  -- one end is added
   comes : (ns : List Note) (v : Stand) → IsSilent who ns → SameSent who s.log ns → (length s.ends ≡ who → (m : LinkView) → v.link ≡ Some m → AloneLink who m (s.log ++ ns)) → Alone who (s.ends ++ v ∷ []) (s.log ++ ns)
   comes ns v q same new =
       record {
@@ -196,7 +197,7 @@ module _ (who : ℕ) (s : Scene) (f : FactsAt s) (t : SidesAt s) (a : AloneAt wh
             }
       ]
 
--- what is sent and what may yet be sent, when an end gives
+-- the number of sent units and of those that may still be sent, when an end sends
 own_gives : (what : Sent) (who k : ℕ) (s : Scan) (l m : LinkView) → SendsAs what l m → times who (seen s (note_of what who k)).sent + m.room ≡ times who s.sent + l.room
 own_gives Sents.Unit who k s l m by = omega (arith, by, times-append who s.sent (who ∷ []), cond-true {A = ℕ} (who == who) 1 0 (eqb_same who))
 own_gives Sents.Request who k s l m by = omega (arith, by.0)
@@ -224,7 +225,7 @@ outs_silent who e (m ∷ ms) ne =
 calm_silent : (who : ℕ) → IsSilent who []
 calm_silent who = record { taken = refl; out = refl }
 
--- one's own link is another one with the same of these
+-- the end's link is replaced by one with the same parts that matter here
 own_same : (who : ℕ) (s : Scene) (ns : List Note) (e : ℕ) (w : Stand) (l k : LinkView) → AloneAt who s → Stands s e w l → k.expected ≡ l.expected → k.held ≡ l.held → k.room ≡ l.room → k.next ≡ l.next → (k.state ≡ S.Opening → l.state ≡ S.Opening)
     → SameSent who s.log ns → e ≡ who → (m : LinkView) → (linked w k).link ≡ Some m → AloneLink who m (s.log ++ ns)
 own_same who s ns e w l k a stands expected held room next opens same own m is =

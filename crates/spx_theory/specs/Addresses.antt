@@ -1,5 +1,5 @@
--- Where no id is given twice at one network and node, addresses and ids tell peers (Novell IPX and
--- SPX). So it is where no two hosts share network and node, and no end was released.
+-- If no id is given twice at one network and node, addresses and ids identify peers (Novell IPX and SPX).
+-- That holds if no two hosts share network and node, and no end was released.
 use Rattle.std.specs.Prelude.{ℕ, ◌≡◌, ◌≢◌, List, Some, slice_get, Contains}
 use Rattle.spx_theory.specs.Note.{Note, Released}
 use Rattle.spx_theory.specs.Peers.{NothingInjected, FromOwnPeer}
@@ -14,14 +14,14 @@ AddressesDiffer s =
 abbrev pub NothingReleased : List Note → Type 0
 NothingReleased log = (who : ℕ) → ¬ Contains log (Released who)
 
--- no two ends have one id at one network and node, also where one of them is gone
+-- no two ends have one id at one network and node, even if one of them was released
 abbrev pub IdsDiffer : Scene → Type 0
 IdsDiffer s =
     (j k : ℕ) (e f : Stand) (h : Home)
     → slice_get s.ends j ≡ Some e → slice_get s.ends k ≡ Some f
     → slice_get s.homes e.host ≡ Some h → slice_get s.homes f.host ≡ Some h → e.own ≡ f.own → j ≡ k
 
--- then each end reads its own peer alone
+-- then each end reads only its own peer
 abbrev pub IdsTellPeers : Scene → Type 0
 IdsTellPeers s = IdsDiffer s → NothingInjected s.log → FromOwnPeer s.log
 

@@ -1,5 +1,4 @@
--- No unit exceeds an allocation (Novell SPX: the allocation number), and an end without a peer
--- reads no unit.
+-- No unit exceeds an allocation (Novell SPX: the allocation number), and an end without a peer reads no unit.
 use Rattle.std.specs.Prelude.{ℕ, ◌≡◌, ◌<◌, ◌+◌, List, [], ◌∷◌, ◌++◌, length}
 use Rattle.spx_theory.specs.LogPremises.{IsMadeBy}
 use Rattle.spx_theory.specs.Note.{Note, Got, SendsUnit}
@@ -10,8 +9,8 @@ use Rattle.spx_theory.specs.Scene.{Scene}
 use Rattle.spx_theory.specs.InStep.{IfStands}
 use Rattle.spx_theory.specs.SentUnits.{sent_by}
 
--- before this the end read a packet whose sender had, before its origin's entry, taken so many
--- units that with its buffers they are more than n
+-- before this, the end read a packet whose sender had, before the entry of its origin, taken so many units
+-- that with its buffers they are more than n
 pub record IsAllowed (before : List Note) (who n : ℕ) : Type 0 where
   pub parcel : ℕ
   pub sender : ℕ

@@ -1,5 +1,5 @@
--- What is proved below of bytes, of the machine and of one link, as the proofs here are given it:
--- each field is a clause of a public function of `ipx_wire`, `spx_link` or `theory_pairs`.
+-- The laws of lower crates that the proofs here use: of bytes, of the machine and of one link. Each field is
+-- a clause of a public function of `ipx_wire`, `spx_link` or `theory_pairs`.
 use Rattle.std.specs.Prelude.{ℕ, ◌≡◌, List}
 use Rattle.ipx_wire.specs.Connection.{IsConnectionPacket, sequence_in}
 use Rattle.ipx_wire.specs.Ipx.{PacketView, IsIpx}
@@ -15,14 +15,14 @@ use Rattle.theory_pairs.specs.States.{StateLaws}
 use Rattle.theory_pairs.specs.PairSteps.{StepLaws}
 
 pub record LawsBelow : Type 0 where
-  -- bytes are one packet at most
+  -- bytes are at most one packet
   pub one_packet : (p q : PacketView) (bytes s t : List ℕ)
       → IsIpx p bytes s → IsIpx q bytes t → (p ≡ q) × (s ≡ t)
   pub one_spx : (h k : SpxHeader) (body other bytes : List ℕ)
       → IsSpx h body bytes → IsSpx k other bytes → (h ≡ k) × (body ≡ other)
   pub sequence : (p : PacketView) (h : SpxHeader) (body bytes : List ℕ)
       → IsConnectionPacket p h body bytes → sequence_in bytes ≡ h.seq
-  -- the machine, a step at a time
+  -- the machine, one step at a time
   pub start : (a b : ℕ) → AreSound (new_end a) (new_end b)
   pub step : (s : Step) (m n : Machine)
       → IsStep s m n → AreSound m.one m.two → AreSound n.one n.two

@@ -1,5 +1,5 @@
--- The close of a connection (Novell SPX: end of connection and its confirmation): who is confirmed
--- was read to the end, and who took the end took everything.
+-- The close of a connection (Novell SPX: end of connection and its confirmation): the units of a confirmed
+-- end were all read, and an end that took its peer's end took everything.
 use Rattle.std.specs.Prelude.{ℕ, ◌≡◌, ◌⊎◌, true, [], ◌++◌, length, Contains}
 use Rattle.spx_link.specs.declared.unit.Unit.{Unit}
 use Rattle.spx_link.specs.declared.state.State.TheVariants.{Confirmed}
@@ -14,21 +14,21 @@ use Rattle.spx_theory.specs.Handed.{handed_in, handed_out, units_of}
 use Rattle.spx_theory.specs.Scene.{Scene, Stand, Stands}
 use Rattle.spx_theory.specs.InStep.{pair_in}
 
--- every message of c was handed out at d, or stands whole in what d has in part and holds
+-- every message of c was handed out at d, or is complete in what d has as partial message and holds
 abbrev pub HoldsAll : Scene → ℕ → ℕ → Type 0
 HoldsAll s c d = (e : Stand) (l : LinkView) → Stands s d e l
     → (handed_in c s.log
     ≡ handed_out d s.log ++ (join_all (record { messages = []; rest = e.rest }) l.held).messages)
 
--- c has the peer d, whose end of the machine is `two`: c's end was asked for, d read all units of c
--- and has all its messages
+-- c has the peer d, whose end of the machine is `two`: c's end was asked for, d read all units of c and has
+-- all its messages
 pub record IsClosed (s : Scene) (c d : ℕ) (two : End) : Type 0 where
   pub peers : ArePeers s.log c d
   pub asked : Contains s.log (AsksEnd c)
   pub all : two.read ≡ length (units_of c s.log)
   pub holds : HoldsAll s c d
 
--- d's end in the machine of the two, whichever called
+-- d's end in the machine of the two, whichever dialled
 abbrev pub IsEndInMachine : Scene → ℕ → ℕ → End → Type 0
 IsEndInMachine s d c two =
     (AreJoined (scan s.log) c d × (two ≡ (pair_in s c d).two.end))
@@ -39,7 +39,7 @@ ConfirmedIsRead s =
     Premises s.log → (c : ℕ) (e : Stand) (l : LinkView) → Stands s c e l → l.state ≡ Confirmed
     → (d : ℕ) × (two : End) × IsEndInMachine s d c two × IsClosed s c d two
 
--- also where no confirmation came: the end was queued, and nothing is left in the queue
+-- even if no confirmation arrived: the end was queued, and the queue is empty
 abbrev pub AcknowledgedIsRead : Scene → Type 0
 AcknowledgedIsRead s =
     Premises s.log → (c : ℕ) (e : Stand) (l : LinkView) → Stands s c e l

@@ -1,5 +1,4 @@
--- Everything that can happen to ends and parcels, one thing at a time, and the scenes that it leads
--- to.
+-- Deeds: everything that can happen to ends and parcels, one at a time, and the scenes that they reach.
 use Rattle.std.specs.Prelude.{ℕ, ◌≡◌, ◌≢◌, ◌<◌, ◌≤◌, Bool, true, false, List, [], ◌∷◌, ◌++◌, length, Some, None, slice_get}
 use Rattle.ipx_wire.specs.declared.address.Network.{Network}
 use Rattle.ipx_wire.specs.declared.address.Socket.{Socket}
@@ -28,12 +27,12 @@ pub data Deed : Type 0 where
   Accepts : (host id : ℕ) → Socket → (parcel buffers now : ℕ) → Deed
   -- a link reads a parcel
   Reads : (who parcel : ℕ) → Deed
-  -- a request comes again
+  -- a request is repeated
   OwesReply : (who : ℕ) → Deed
-  -- a link gets a window, by the clock or by hand, or a place is asked for again
+  -- a link gets a window and retransmits by time or manually, or is asked to retransmit at an index
   Paces : (who window : ℕ) → (manual : Bool) → Deed
   AsksAgain : (who place : ℕ) → Deed
-  -- a link is asked, and gives a packet, or nothing
+  -- a link is polled, and gives a packet or nothing
   Gives : (who now : ℕ) → (segment : Network) → List ℕ → Deed
   Rests : (who now : ℕ) → Deed
   -- the calls on an end
@@ -47,7 +46,7 @@ pub data Deed : Type 0 where
   Tells : (router : ℕ) → (segment : Network) → List ℕ → Deed
   Injects : (segment : Network) → List ℕ → Deed
 
--- an end is opened: its id is no other's of its host
+-- an end is opened: no other of its host has its id
 pub record DoesDial (host id : ℕ) (socket : Socket) (to : Address) (buffers now : ℕ)
     (s s' : Scene) : Type 0 where
   pub there : (h : Home) × (slice_get s.homes host ≡ Some h)
@@ -94,7 +93,7 @@ pub record DoesAccept (host id : ℕ) (socket : Socket) (parcel buffers now : �
         ++ Accepted (length s.ends) parcel buffers ∷ Got (length s.ends) parcel ∷ [];
   }
 
--- a link reads a parcel that is for its host and its socket, from its far address
+-- a link reads a parcel that is for its host and its socket, from its remote address
 pub record DoesRead (who parcel : ℕ) (s s' : Scene) : Type 0 where
   pub stand : Stand
   pub link : LinkView
@@ -111,14 +110,14 @@ pub record DoesRead (who parcel : ℕ) (s s' : Scene) : Type 0 where
   pub after : s' ≡ with_entries (put_end s who (linked stand (receive_link link header body).1))
       (notes_of (receive_link link header body).0 who parcel)
 
--- a link changes by one of its functions, and nothing is noted
+-- a link changes by one of its functions, without an entry
 pub record DoesSilently (f : LinkView → LinkView) (who : ℕ) (s s' : Scene) : Type 0 where
   pub stand : Stand
   pub link : LinkView
   pub stands : Stands s who stand link
   pub after : s' ≡ put_end s who (linked stand (f link))
 
--- a link is asked, and gives a packet, which is written
+-- a link is polled, and gives a packet, which is written
 pub record DoesGive (who now : ℕ) (segment : Network) (bytes : List ℕ) (s s' : Scene) : Type 0 where
   pub stand : Stand
   pub link : LinkView
@@ -132,7 +131,7 @@ pub record DoesGive (who now : ℕ) (segment : Network) (bytes : List ℕ) (s s'
   pub after : s' ≡ sent_off (put_end s who (linked stand (poll_link link now).1)) segment bytes
       (note_of given.what who (length s.parcels))
 
--- it gives nothing, and may become another (lost, for one)
+-- a link is polled and gives nothing, and may change (for example, it becomes lost)
 pub record DoesRest (who now : ℕ) (s s' : Scene) : Type 0 where
   pub stand : Stand
   pub link : LinkView
@@ -159,7 +158,7 @@ pub record DoesClose (who : ℕ) (s s' : Scene) : Type 0 where
   pub live : refusal link.state ≡ None
   pub after : s' ≡ with_entries (put_end s who (linked stand (end_link link))) (AsksEnd who ∷ [])
 
--- a unit is taken and joined to what is there
+-- a unit is taken and joined to the partial message
 pub record DoesTake (who : ℕ) (u : Unit) (s s' : Scene) : Type 0 where
   pub stand : Stand
   pub link : LinkView
@@ -172,8 +171,7 @@ pub record DoesTake (who : ℕ) (u : Unit) (s s' : Scene) : Type 0 where
       (put_end s who (record (linked stand (take_link link).1) { rest = joins.rest }))
       (TakesUnit who u ∷ out_notes who joins.messages)
 
--- more than 65,535 bytes came: the unit is gone, the message too, and so is the link. Nothing is
--- noted
+-- a message has more than 65,535 bytes: the unit, the message and the link are lost. There is no entry
 pub record DoesOverrun (who : ℕ) (u : Unit) (s s' : Scene) : Type 0 where
   pub stand : Stand
   pub link : LinkView
@@ -189,14 +187,14 @@ pub record DoesOverrun (who : ℕ) (u : Unit) (s s' : Scene) : Type 0 where
     overlong = true;
   })
 
--- the end's link is gone, and what it had in part
+-- the end's link and its partial message are removed
 pub record DoesRelease (who : ℕ) (s s' : Scene) : Type 0 where
   pub stand : Stand
   pub link : LinkView
   pub stands : Stands s who stand link
   pub after : s' ≡ with_entries (put_end s who (record stand { link = None; rest = None })) (Released who ∷ [])
 
--- a router carries a parcel one hop further
+-- a router forwards a parcel by one hop
 pub record DoesCarry (from : ℕ) (network segment : Network) (bytes : List ℕ)
     (s s' : Scene) : Type 0 where
   pub old : List ℕ
@@ -205,14 +203,14 @@ pub record DoesCarry (from : ℕ) (network segment : Network) (bytes : List ℕ)
   pub on : IsOneOn network old bytes
   pub after : s' ≡ sent_off s segment bytes (Carried from (length s.parcels))
 
--- a router sends a packet of its own, which is of another type than 5
+-- a router sends a packet that it made itself, of another type than 5
 pub record DoesTell (router : ℕ) (segment : Network) (bytes : List ℕ) (s s' : Scene) : Type 0 where
   pub packet : PacketView
   pub is : IsIpx packet bytes []
   pub kind : packet.header.kind ≢ 5
   pub after : s' ≡ sent_off s segment bytes (Told router (length s.parcels))
 
--- a deed makes one scene of another
+-- a deed changes one scene into another
 abbrev pub DoesDeed : Deed → Scene → Scene → Type 0
 DoesDeed (Dials host id socket to buffers now) s s' = DoesDial host id socket to buffers now s s'
 DoesDeed (Accepts host id socket parcel buffers now) s s' =
@@ -240,7 +238,7 @@ pub record IsBegun (s : Scene) : Type 0 where
   pub segments : s.segments ≡ []
   pub log : s.log ≡ []
 
--- what every theorem speaks of: a scene to which some list of deeds leads
+-- the scenes of every theorem: those that some list of deeds reaches
 pub data Reached : Scene → Type 0 where
   begun : {s : Scene} → IsBegun s → Reached s
   happened : {new : Scene} (old : Scene) (deed : Deed)

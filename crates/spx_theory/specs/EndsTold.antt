@@ -1,5 +1,5 @@
--- What is told of the ends of a network while it goes on: how many there are, their next numbers,
--- and their peers.
+-- What the summaries of ends say while a network goes on: how many ends there are, their next numbers, and
+-- their peers.
 use Rattle.std.specs.Prelude.{ℕ, ◌≡◌, ◌≤◌, Bool, true, false, not, ◌&&◌, List, length, Option, Some, None, slice_get, if◌then◌else◌}
 use Rattle.spx_link.specs.LinkView.{LinkView}
 use Rattle.spx_link.specs.SequenceMarks.{mark}
@@ -10,8 +10,8 @@ use Rattle.spx_theory.specs.Scene.{Scene, Stand, Stands}
 use Rattle.spx_theory.specs.Deeds.{Deed, DoesDeed}
 use Rattle.spx_theory.specs.SentUnits.{sent_by}
 
--- ends are numbered as their roles are, the next number of each is that of the unit after those
--- that it sent, and it has the buffers that it was made with
+-- ends are numbered like their roles, the next number of each is that of the unit after those that it sent,
+-- and it has the buffers that it was made with
 pub record EndsAreTold (s : Scene) : Type 0 where
   pub count : length (scan s.log).roles ≡ length s.ends
   pub next : (who : ℕ) (e : Stand) (l : LinkView)
@@ -20,14 +20,14 @@ pub record EndsAreTold (s : Scene) : Type 0 where
       → Stands s who e l → slice_get (scan s.log).roles who ≡ Some r → l.buffers ≡ r.buffers
   pub unmade : (who : ℕ) → length s.ends ≤ who → sent_by who s.log ≡ 0
 
--- where an end has no link after a deed, that deed sent no unit of it: so its last number stands
+-- if an end has no link after a deed, that deed sent no unit of it: so its last number is final
 abbrev pub GoneSendsNothing : Type 0
 GoneSendsNothing =
     (s s' : Scene) (deed : Deed) → DoesDeed deed s s' → (who : ℕ) (e : Stand)
     → slice_get s'.ends who ≡ Some e → e.link ≡ None
     → sent_by who s'.log ≡ sent_by who s.log
 
--- an end stays at its host and keeps its id, and one without a link stays as it is
+-- an end stays at its host and keeps its id, and one without a link does not change
 pub record StaysAtHost (e f : Stand) : Type 0 where
   pub host : f.host ≡ e.host
   pub own : f.own ≡ e.own
@@ -45,7 +45,7 @@ abbrev pub is_other : Bool → Bool → Bool
 is_other true b = not b
 is_other false b = b
 
--- d was made or joined by c, and one of them called
+-- d was made or joined by c, and one of them dialled
 abbrev pub peer_back : ℕ → Role → ℕ → Option Role → Option ℕ
 peer_back c r d None = None
 peer_back c r d (Some q) = if is_now q.partner c && is_other r.called q.called then Some d else None

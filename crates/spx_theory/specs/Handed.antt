@@ -1,5 +1,5 @@
--- What ends hand in and out, and the units of an end: those of its messages, cut, and the end of
--- the connection where it was asked for.
+-- The messages that ends hand in and out, and the units of an end: those of its messages, split, and the end
+-- of the connection if that was asked for.
 use Rattle.std.specs.Prelude.{ℕ, ◌≡◌, ◌==◌, List, [], ◌∷◌, ◌++◌, if◌then◌else◌}
 use Rattle.spx_link.specs.declared.unit.Unit.{Unit}
 use Rattle.spx_link.specs.Offer.{the_end}
@@ -7,8 +7,8 @@ use Rattle.spx_units.specs.Message.{MessageView}
 use Rattle.spx_units.specs.Cut.{cut_of}
 use Rattle.spx_theory.specs.Note.{Note, HandsIn, HandsOut, TakesUnit, AsksEnd}
 
--- what a note adds to the messages that an end handed in, to those handed out, to its units, and to
--- the units that it took
+-- what an entry adds to the messages handed in at an end, to those handed out, to its units, and to the units
+-- that it took
 abbrev pub in_by : ℕ → Note → List MessageView
 in_by e (HandsIn who m) = if who == e then m ∷ [] else []
 in_by e n = []
@@ -44,6 +44,6 @@ units_of e log = gathered (units_by e) log
 abbrev pub taken_of : ℕ → List Note → List Unit
 taken_of e log = gathered (taken_by e) log
 
--- the first list is the beginning of the second
+-- the first list is a prefix of the second
 abbrev pub IsBeginning : {A : Type 0} → List A → List A → Type 0
 IsBeginning {A} xs ys = (rest : List A) × (xs ++ rest ≡ ys)

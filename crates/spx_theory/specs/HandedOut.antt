@@ -9,12 +9,12 @@ abbrev pub HandsOutWhatItTook : Scene → Type 0
 HandsOutWhatItTook s = (who : ℕ) (e : Stand) → slice_get s.ends who ≡ Some e → e.overlong ≡ false
     → handed_out who s.log ≡ (joined (taken_of who s.log)).messages
 
--- and what it has in part is what is left after them
+-- and its partial message is what is left after them
 abbrev pub HoldsWhatIsLeft : Scene → Type 0
 HoldsWhatIsLeft s = (who : ℕ) (e : Stand) → slice_get s.ends who ≡ Some e → e.overlong ≡ false
     → e.link ≢ None → e.rest ≡ (joined (taken_of who s.log)).rest
 
--- an end that is not there took nothing and handed out nothing
+-- an end that does not exist took nothing and handed out nothing
 abbrev pub AbsentHandsOutNothing : Scene → Type 0
 AbsentHandsOutNothing s = (who : ℕ) → length s.ends ≤ who
     → (taken_of who s.log ≡ []) × (handed_out who s.log ≡ [])

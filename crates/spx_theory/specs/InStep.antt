@@ -1,5 +1,5 @@
--- The links of two peers are the machine of the log, in 16 bits, and what each handed out begins
--- what the other handed in (Novell SPX: sequence, acknowledge and allocation numbers).
+-- The links of two peers are the machine of the log, in 16 bits, and what each handed out is a prefix of what
+-- was handed in at the other (Novell SPX: sequence, acknowledge and allocation numbers).
 use Rattle.std.specs.Prelude.{ℕ, ◌≡◌, ◌≤◌, ◌+◌, ◌++◌, false, length, take, Some, slice_get}
 use Rattle.spx_link.specs.LinkView.{LinkView}
 use Rattle.spx_link.specs.SequenceMarks.{mark}
@@ -11,8 +11,8 @@ use Rattle.spx_theory.specs.Handed.{handed_in, handed_out, units_of, taken_of, I
 use Rattle.spx_theory.specs.PairLog.{Pair, pair_between}
 use Rattle.spx_theory.specs.Scene.{Scene, Stand, Stands}
 
--- the machine of the ends c, which called, and d, which was called, with the buffers that they were
--- made with
+-- the machine of the ends c, which dialled, and d, which was dialled, with the buffers that they were made
+-- with
 abbrev pub pair_in : Scene → ℕ → ℕ → Pair
 pair_in s c d =
     let t : Scan = scan s.log in
@@ -30,10 +30,10 @@ pub record Mirrors (l : LinkView) (c : End) : Type 0 where
 abbrev pub IfStands : Scene → ℕ → (LinkView → Type 0) → Type 0
 IfStands s who P = (e : Stand) (l : LinkView) → Stands s who e l → P l
 
--- of an end c, whose peer is d, and their ends of the machine: while c has a link it is its end;
--- the units that c took are the first ones of d, and with those that it holds they are as many as
--- it read; what c handed out begins what d handed in; no take of c answered that a message grew too
--- long; and only what d read counts as acknowledged
+-- for an end c, whose peer is d, and their ends of the machine: until c is released, its link is its end. The
+-- units that c took are the first ones of d, and with those that it holds they are as many as it read. What c
+-- handed out is a prefix of what was handed in at d. No take of c answered that a message grew too long. And
+-- only what d read counts as acknowledged
 pub record IsInStep (s : Scene) (c d : ℕ) (one two : End) : Type 0 where
   pub machine : IfStands s c (λ l. Mirrors l one)
   pub units : taken_of c s.log ≡ take one.taken (units_of d s.log)
@@ -47,8 +47,8 @@ PeersAreInStep s = Premises s.log → (c d : ℕ) → AreJoined (scan s.log) c d
     → let p : Pair = pair_in s c d in
     IsInStep s c d p.one.end p.two.end × IsInStep s d c p.two.end p.one.end
 
--- the same, of all that a link is: while the two have links these follow their ends, which are sound
--- and have their units
+-- the same for everything in a link: while the two have links, these follow their ends, which are sound and
+-- have their units
 pub record AreFollowed (s : Scene) (c d : ℕ) (one two : End) : Type 0 where
   pub first : IfStands s c (λ l. Follows l one two)
   pub second : IfStands s d (λ l. Follows l two one)

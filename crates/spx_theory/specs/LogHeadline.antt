@@ -1,10 +1,10 @@
--- The headline over the entries of a log (Novell SPX: sequence, acknowledge and allocation numbers).
+-- The headline in terms of the entries of a log (Novell SPX: sequence, acknowledge and allocation numbers).
 use Rattle.std.specs.Prelude.{ℕ, ◌≡◌, ◌<◌, ◌+◌, List, [], ◌∷◌, ◌++◌, length}
 use Rattle.spx_theory.specs.Handed.{IsBeginning, handed_in, handed_out, taken_of}
 use Rattle.spx_theory.specs.LogPremises.{ComesFrom, HavePeer, IsMadeWith, IsMadeBy, LogPremises, units_sent}
 use Rattle.spx_theory.specs.Note.{Got, Note, SendsUnit}
 
--- what an end handed out begins what its peer handed in
+-- what an end handed out is a prefix of what was handed in at its peer
 abbrev pub PeersHandOn : List Note → Type 0
 PeersHandOn log = LogPremises log → (c d : ℕ) → HavePeer log c d
     → IsBeginning (handed_out c log) (handed_in d log)
@@ -14,8 +14,8 @@ abbrev pub AloneHandsOutNothing : List Note → Type 0
 AloneHandsOutNothing log = LogPremises log → (who : ℕ) → ((peer : ℕ) → ¬ HavePeer log who peer)
     → (taken_of who log ≡ []) × (handed_out who log ≡ [])
 
--- before this the end read a packet whose sender had, before the entry of its origin, taken so many
--- units that with its buffers they are more than n
+-- before this, the end read a packet whose sender had, before the entry of its origin, taken so many units
+-- that with its buffers they are more than n
 pub record AllowsUnit (before : List Note) (who n : ℕ) : Type 0 where
   pub parcel : ℕ
   pub origin : ℕ

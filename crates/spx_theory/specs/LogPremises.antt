@@ -1,5 +1,5 @@
--- The premises of the headline, and what they rest on, as the entries of a log say them: where a
--- packet comes from, which ends are peers (Novell SPX: request and reply), and what ends read.
+-- The premises of the headline, and what they depend on, in terms of the entries of a log: the origin of a
+-- packet, which ends are peers (Novell SPX: request and reply), and what ends read.
 use Rattle.std.specs.Prelude.{ℕ, ◌≡◌, ◌<◌, ◌+◌, ◌==◌, ◌⊎◌, List, [], ◌∷◌, ◌++◌, Option, Some, None, Contains, if◌then◌else◌}
 use Rattle.spx_theory.specs.Note.{Note, Opened, Accepted, Joined, Got, SendsUnit, SendsAgain, SendsSystem, Told, Carried, Injected}
 
@@ -19,7 +19,7 @@ pub record IsMadeWith (log : List Note) (who buffers : ℕ) : Type 0 where
 abbrev pub IsEnd : List Note → ℕ → Type 0
 IsEnd log who = (buffers : ℕ) × IsMadeWith log who buffers
 
--- the parcel that an entry makes anew: sent by an end, told by a router, or injected
+-- the new parcel of an entry: sent by an end, advertised by a router, or injected
 abbrev pub makes_new : Note → Option ℕ
 makes_new (SendsUnit who parcel) = Some parcel
 makes_new (SendsAgain who parcel) = Some parcel
@@ -28,8 +28,8 @@ makes_new (Told router parcel) = Some parcel
 makes_new (Injected parcel) = Some parcel
 makes_new n = None
 
--- the origin of a parcel, and how many routers carried it since: a parcel made anew is its own
--- origin, and one that a router made of another has the origin of that one
+-- the origin of a parcel, and how many routers forwarded it since. A new parcel is its own origin, and one
+-- that a router made of another has the origin of that one
 pub data ComesFrom (log : List Note) (origin : ℕ) : ℕ → ℕ → Type 0 where
   itself : (making : Note) → Contains log making → makes_new making ≡ Some origin
       → ComesFrom log origin origin 0
@@ -50,14 +50,14 @@ pub record IsSentBy (log : List Note) (who parcel : ℕ) : Type 0 where
   pub stands : Contains log making
   pub made : IsMadeBy making who origin
 
--- it made it as a packet without a unit
+-- an end made the origin as a packet without a unit
 pub record IsSystemOf (log : List Note) (who parcel : ℕ) : Type 0 where
   pub origin : ℕ
   pub passed : ℕ
   pub comes : ComesFrom log origin parcel passed
   pub stands : Contains log (SendsSystem who origin)
 
--- a packet without a unit of the caller made the callee, and one of the callee joined the caller
+-- a packet without a unit, sent by the caller, made the callee, and one of the callee joined the caller
 pub record AreConnected (log : List Note) (caller callee : ℕ) : Type 0 where
   pub request : ℕ
   pub buffers : ℕ
@@ -90,19 +90,19 @@ abbrev pub MakesOrJoins : Note → ℕ → Type 0
 MakesOrJoins n who = (parcel : ℕ)
     × (((buffers : ℕ) × (n ≡ Accepted who parcel buffers)) ⊎ (n ≡ Joined who parcel))
 
--- the last entry does so
+-- the last entry makes or joins the end
 abbrev pub JustMadeOrJoined : List Note → ℕ → Type 0
 JustMadeOrJoined log who =
     (before : List Note) × (n : Note) × (log ≡ before ++ n ∷ []) × MakesOrJoins n who
 
--- what an end reads, but for what made or joined it just before, its peer made
+-- what an end reads was made by its peer, except for the packet that made or joined it just before
 abbrev pub ReadsOwnPeer : List Note → Type 0
 ReadsOwnPeer log =
     (before after : List Note) (who parcel : ℕ) → log ≡ before ++ Got who parcel ∷ after
     → ¬ JustMadeOrJoined before who
     → (peer : ℕ) × HavePeer log who peer × IsSentBy log peer parcel
 
--- strictly between the making of what an end reads of its peer and the reading, each of the two
+-- strictly between the making of a packet that an end reads from its peer and the reading, each of the two
 -- sends fewer than 32,768 units
 abbrev pub ReadsRecent : List Note → Type 0
 ReadsRecent log =

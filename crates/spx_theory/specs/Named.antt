@@ -1,4 +1,4 @@
--- What the links of two peers are called by (ids of Novell SPX), and where they are.
+-- The ids by which the links of two peers address each other (ids of Novell SPX), and their hosts.
 use Rattle.std.specs.Prelude.{ℕ, ◌≡◌, Some, slice_get}
 use Rattle.spx_link.specs.LinkView.{LinkView}
 use Rattle.spx_units.specs.WrittenPackets.{Home}
@@ -7,7 +7,7 @@ use Rattle.spx_theory.specs.Peers.{AreJoined, ArePeers, NothingInjected}
 use Rattle.spx_theory.specs.Scan.{scan}
 use Rattle.spx_theory.specs.Scene.{Scene, Stand, Stands}
 
--- each is called what the other calls its peer
+-- each has the id by which the other addresses its peer
 pub record AreNamed (a b : LinkView) : Type 0 where
   pub peer : a.peer ≡ b.own
   pub peer_back : b.peer ≡ a.own
@@ -23,8 +23,8 @@ pub record GoesTo (l : LinkView) (f : Stand) (h : Home) : Type 0 where
   pub node : l.remote.node ≡ h.node
   pub peer : l.peer ≡ f.own
 
--- where no id is given twice at one network and node, and nothing injected is read, so does the link of
--- an end that has a peer, also where that one was released
+-- if no id is given twice at one network and node, and nothing injected is read, this holds for the link of
+-- an end that has a peer, even if the peer was released
 abbrev pub PeersAreThere : Scene → Type 0
 PeersAreThere s = IdsDiffer s → NothingInjected s.log
     → (c d : ℕ) → ArePeers s.log c d → (e f : Stand) (l : LinkView)

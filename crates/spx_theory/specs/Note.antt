@@ -1,11 +1,10 @@
--- The entries of the log of a network, without where they lie in memory.
+-- The entries of the log of a network, without their place in memory.
 use Rattle.std.specs.Prelude.{ℕ}
 use Rattle.spx_link.specs.declared.unit.Unit.{Unit}
 use Rattle.spx_units.specs.Message.{MessageView}
 
--- ends, parcels, hosts and routers by their numbers. The last six make a parcel: an end sends a
--- unit, one again, or a packet without a unit; a router sends a packet of its own or carries one;
--- somebody injects one
+-- ends, parcels, hosts and routers by their numbers. The last six make a parcel: an end sends a unit, a unit
+-- again, or a packet without a unit; a router sends a packet of its own or forwards one; or one is injected
 pub data Note : Type 0 where
   Opened : (who host buffers : ℕ) → Note
   Accepted : (who parcel buffers : ℕ) → Note

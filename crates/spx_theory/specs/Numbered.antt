@@ -1,11 +1,11 @@
--- Ends and parcels are numbered in the order of the entries that make them, and each entry of the
--- log names those that are there.
+-- Ends and parcels are numbered in the order of the entries that make them, and each entry of the log names
+-- those that exist.
 use Rattle.std.specs.Prelude.{◌≡◌, ◌<◌, List, ◌∷◌, ◌++◌, length}
 use Rattle.spx_theory.specs.Note.{Note, Opened, Accepted, Joined, HandsIn, HandsOut, TakesUnit, AsksEnd, Got, Released, SendsUnit, SendsAgain, SendsSystem, Told, Carried, Injected}
 use Rattle.spx_theory.specs.Scan.{Scan, scan}
 use Rattle.spx_theory.specs.Scene.{Scene}
 
--- an entry, after those that this was read off
+-- an entry is numbered right, after the entries of this index
 abbrev pub IsNumbered : Scan → Note → Type 0
 IsNumbered s (Opened who host buffers) = who ≡ length s.roles
 IsNumbered s (Accepted who parcel buffers) = (who ≡ length s.roles) × (parcel < length s.marks)

@@ -1,5 +1,5 @@
--- Packets of connections on their way (Novell IPX and SPX): which are for a host, what an end
--- writes, what a router makes of one; and the entries that tell of them.
+-- SPX packets on their way (Novell IPX and SPX): which are for a host, what an end writes, what a router
+-- makes of one, and their entries.
 use Rattle.std.specs.Prelude.{ℕ, ◌≡◌, ◌≢◌, ◌+◌, ◌<◌, ◌==◌, ◌⊎◌, List, [], ◌∷◌, if◌then◌else◌}
 use Rattle.ipx_wire.specs.declared.address.Network.{Network}
 use Rattle.ipx_wire.specs.declared.address.Socket.{Socket}
@@ -21,7 +21,7 @@ pub record IsFor (home : Home) (local : Socket) (remote : Address) (p : PacketVi
   pub to_socket : p.header.to.socket ≡ local
   pub from_address : p.header.from ≡ remote
 
--- the entry of a packet that an end gives: whether it carries a unit, for the first time or again
+-- the entry of a packet that an end sends: whether it carries a unit, for the first time or again
 abbrev pub note_of : Sent → ℕ → ℕ → Note
 note_of Sents.Request who parcel = SendsSystem who parcel
 note_of Sents.Reply who parcel = SendsSystem who parcel
@@ -31,7 +31,7 @@ note_of Sents.Again who parcel = SendsAgain who parcel
 note_of Sents.Ack who parcel = SendsSystem who parcel
 note_of Sents.Probe who parcel = SendsSystem who parcel
 
--- the entries of a packet that a link reads; a stranger's is not read
+-- the entries of a packet that a link reads; one of an unknown sender is not read
 abbrev pub notes_of : Received → ℕ → ℕ → List Note
 notes_of Receiveds.Joined who parcel = Joined who parcel ∷ Got who parcel ∷ []
 notes_of Receiveds.Kept who parcel = Got who parcel ∷ []
@@ -43,7 +43,7 @@ notes_of Receiveds.PeerEnded who parcel = Got who parcel ∷ []
 notes_of Receiveds.Confirmed who parcel = Got who parcel ∷ []
 notes_of Receiveds.Stranger who parcel = []
 
--- a packet one router further: its hops are one more, and a source network of 0 is this one
+-- a packet after one more router: it has one hop more, and a source network of 0 is replaced by this one
 abbrev pub one_on : Network → PacketView → PacketView
 one_on network p = record p {
   header = record p.header {
@@ -54,8 +54,7 @@ one_on network p = record p {
   };
 }
 
--- a router that got the old bytes on this network sends the new ones, without what followed the
--- packet
+-- a router that got the old bytes on this network sends the new ones, without what follows the packet
 pub record IsOneOn (network : Network) (old new : List ℕ) : Type 0 where
   pub packet : PacketView
   pub tail : List ℕ

@@ -1,5 +1,5 @@
--- The machine of a log: two ends whose numbers never wrap, which take a step at each entry of
--- theirs. It is a fold over the entries, written for one end beside the other.
+-- The machine of a log: two ends whose numbers never wrap, which take a step at each entry of theirs. It is a
+-- fold over the entries, defined for one end together with the other.
 use Rattle.std.specs.Prelude.{ℕ, ◌+◌, ◌-◌, ◌==◌, List, [], ◌∷◌, ◌++◌, Option, Some, None, slice_index_or, if◌then◌else◌}
 use Rattle.spx_link.specs.SequenceMarks.{mark, distance}
 use Rattle.spx_link.specs.Machine.{End, Packet, packet_now, mailed, sent_next, one_more_sent, got, new_end}
@@ -23,11 +23,11 @@ position_of sent seq =
 abbrev pub mail_of : Half → ℕ → Option Packet
 mail_of x parcel = slice_index_or x.mail parcel None
 
--- a parcel whose origin another one sent
+-- a parcel whose origin this end did not send
 abbrev pub not_mine : Half → Half
 not_mine x = record x { mail = x.mail ++ None ∷ [] }
 
--- a packet is sent: of this position, which was sent before, or of none
+-- a packet is sent: with the unit of a position that was sent before, or without a unit
 abbrev pub posted : Option ℕ → Half → Half → Half
 posted position x y =
     record {
@@ -43,19 +43,19 @@ posted_next x y =
       mail = x.mail ++ Some (packet_now (Some x.end.sent) (one_more_sent x.end) y.end) ∷ [];
     }
 
--- a packet of the peer is got; one that the peer did not send is not
+-- a packet of the peer is received; one that the peer did not send is not
 abbrev pub got_mail : Option Packet → Half → Half
 got_mail None x = x
 got_mail (Some p) x = record x { end = got p x.end }
 
--- one more is taken, and more units stand behind the others
+-- one more unit is taken, and more units are added after the others
 abbrev pub one_taken : Half → Half
 one_taken x = record x { end = record x.end { taken = x.end.taken + 1 } }
 
 abbrev pub gained : List Unit → Half → Half
 gained us x = record x { end = record x.end { units = x.end.units ++ us } }
 
--- what the half x of the end c becomes at an entry, beside the half y of its peer
+-- the half x of the end c after an entry, with the half y of its peer
 abbrev pub half_after : List (List ℕ) → ℕ → Half → Half → Note → Half
 half_after parcels c x y (Opened who host buffers) = x
 half_after parcels c x y (Accepted who parcel buffers) = x
@@ -94,7 +94,7 @@ pair_from parcels c d p (n ∷ ns) = pair_from parcels c d (pair_after parcels c
 abbrev pub new_half : ℕ → Half
 new_half buffers = record { end = new_end buffers; mail = [] }
 
--- of the ends c and d with a and b buffers
+-- for the ends c and d with a and b buffers
 abbrev pub pair_between : ℕ → ℕ → ℕ → ℕ → List (List ℕ) → List Note → Pair
 pair_between c d a b parcels log =
     pair_from parcels c d (record { one = new_half a; two = new_half b }) log

@@ -1,36 +1,36 @@
--- What is read off a log from its beginning: where each parcel comes from, who sent units, what was
--- read, and the ends.
+-- The index of a log, read from its start: the origin of each parcel, who sent units, what was read, and the
+-- ends.
 use Rattle.std.specs.Prelude.{ℕ, ◌≡◌, ◌+◌, ◌==◌, Bool, true, false, List, [], ◌∷◌, ◌++◌, length, Option, Some, None, set, slice_get, slice_index_or, if◌then◌else◌}
 use Rattle.spx_theory.specs.Note.{Note, Opened, Accepted, Joined, HandsIn, HandsOut, TakesUnit, AsksEnd, Got, Released, SendsUnit, SendsAgain, SendsSystem, Told, Carried, Injected}
 
--- of each element
+-- the fact holds of each element
 abbrev pub Each : {A : Type 0} → (A → Type 0) → List A → Type 0
 Each {A} P xs = (k : ℕ) (x : A) → slice_get xs k ≡ Some x → P x
 
--- how often a number stands in a list
+-- how many times a number is in a list
 abbrev pub times : ℕ → List ℕ → ℕ
 times e [] = 0
 times e (n ∷ ns) = (if n == e then 1 else 0) + times e ns
 
--- who made a parcel that no router carried: an end by a packet with a unit or without, a router, or
--- nobody
+-- the maker of a parcel that no router forwarded: an end, by a packet with a unit or without, a router, or
+-- nobody here
 pub data Maker : Type 0 where
   ByUnit : (who : ℕ) → Maker
   BySystem : (who : ℕ) → Maker
   ByRouter : (router : ℕ) → Maker
   FromOutside : Maker
 
--- of a parcel: its origin, who made that, how many routers it passed, and how many units all ends
--- had sent for the first time when its origin was made, it among them
+-- of a parcel: its origin, the origin's maker, the number of routers that it passed, and the number of units
+-- that all ends had sent for the first time when the origin was made, including its own
 pub record Mark : Type 0 where
   pub origin : ℕ
   pub maker : Maker
   pub passed : ℕ
   pub units : ℕ
 
--- of a packet that an end read: who made its origin, and the units that all ends sent since then,
--- as a range of `sent`.
--- `first` says that it made or joined the end: its entry follows the one that says so at once
+-- of a packet that an end read: the maker of its origin, and the units that all ends sent since then, as a
+-- range of `sent`. `first` says that it made or joined the end: its entry comes directly after the one that
+-- says so
 pub record Reading : Type 0 where
   pub who : ℕ
   pub maker : Maker
@@ -38,16 +38,15 @@ pub record Reading : Type 0 where
   pub to : ℕ
   pub first : Bool
 
--- of an end: its buffers, whether it called, whether it was made by a request or joined, and the
--- end whose packet without a unit did that
+-- of an end: its buffers, whether it dialled, whether a request made it or a reply joined it, and the end
+-- whose packet without a unit did that
 pub record Role : Type 0 where
   pub buffers : ℕ
   pub called : Bool
   pub joined : Bool
   pub partner : Option ℕ
 
--- of each parcel, of each unit in order (the end that sent it for the first time), of each packet
--- read, and of each end
+-- of each parcel, of each unit in order (the end that first sent it), of each packet read, and of each end
 pub record Scan : Type 0 where
   pub marks : List Mark
   pub sent : List ℕ
@@ -56,14 +55,14 @@ pub record Scan : Type 0 where
   -- the end that the last entry made or joined
   pub newest : Option ℕ
 
--- of no parcel
+-- the mark of no parcel
 abbrev pub nowhere : Mark
 nowhere = record { origin = 0; maker = FromOutside; passed = 0; units = 0 }
 
 abbrev pub mark_of : Scan → ℕ → Mark
 mark_of s parcel = slice_index_or s.marks parcel nowhere
 
--- a parcel is made that no router carried
+-- a parcel is made that no router forwarded
 abbrev pub marked : Maker → Scan → Scan
 marked maker s =
     record s {
@@ -76,7 +75,7 @@ marked maker s =
       newest = None;
     }
 
--- a router carried it
+-- a router forwarded it
 abbrev pub one_further : Mark → Mark
 one_further m = record m { passed = m.passed + 1 }
 
@@ -97,11 +96,11 @@ no_role = record { buffers = 0; called = false; joined = false; partner = None }
 abbrev pub role_of : Scan → ℕ → Role
 role_of s who = slice_index_or s.roles who no_role
 
--- an end joins once
+-- an end joins only once
 abbrev pub joined_by : Maker → Role → Role
 joined_by maker r = if r.joined then r else record r { joined = true; partner = asker maker }
 
--- what is read off with one entry more
+-- the index after one more entry
 abbrev pub seen : Scan → Note → Scan
 seen s (Opened who host buffers) =
     record s {

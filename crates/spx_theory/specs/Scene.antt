@@ -1,4 +1,4 @@
--- The ends of a network of hosts, and what lies between them, as the theorems over its log see it.
+-- A scene: the ends of a network of hosts and the parcels between them, for the theorems over its log.
 use Rattle.std.specs.Prelude.{ℕ, ◌≡◌, ◌≢◌, Bool, List, [], ◌∷◌, ◌++◌, set, Option, Some, slice_get}
 use Rattle.ipx_wire.specs.declared.address.Network.{Network}
 use Rattle.spx_link.specs.LinkView.{LinkView}
@@ -6,8 +6,8 @@ use Rattle.spx_units.specs.Message.{MessageView}
 use Rattle.spx_units.specs.WrittenPackets.{Home}
 use Rattle.spx_theory.specs.Note.{Note}
 
--- an end: its host, its id there, its link until it is released, the message that it has in part, and
--- whether a take of it answered that the message grew too long. The id stays when the link is gone
+-- an end: its host, its id there, its link until it is released, its partial message, and whether a take of
+-- it answered that the message grew too long. The id stays after the link is released
 pub record Stand : Type 0 where
   pub host : ℕ
   pub own : ℕ
@@ -20,11 +20,11 @@ pub record Scene : Type 0 where
   pub homes : List Home
   pub ends : List Stand
   pub parcels : List (List ℕ)
-  -- the network on which each parcel lies
+  -- the network on which each parcel was sent
   pub segments : List Network
   pub log : List Note
 
--- an end that stands, with its link
+-- an end that is not released, with its link
 pub record Stands (s : Scene) (who : ℕ) (e : Stand) (l : LinkView) : Type 0 where
   pub there : slice_get s.ends who ≡ Some e
   pub link : e.link ≡ Some l
@@ -32,15 +32,15 @@ pub record Stands (s : Scene) (who : ℕ) (e : Stand) (l : LinkView) : Type 0 wh
 abbrev pub linked : Stand → LinkView → Stand
 linked e l = record e { link = Some l }
 
--- the end becomes this one
+-- the end is replaced by this one
 abbrev pub put_end : Scene → ℕ → Stand → Scene
 put_end s who e = record s { ends = set s.ends who e }
 
--- entries come to the log
+-- entries are appended to the log
 abbrev pub with_entries : Scene → List Note → Scene
 with_entries s ns = record s { log = s.log ++ ns }
 
--- a parcel comes, with its entry
+-- a parcel is added, with its entry
 abbrev pub sent_off : Scene → Network → List ℕ → Note → Scene
 sent_off s segment bytes n =
     record s {
@@ -49,7 +49,7 @@ sent_off s segment bytes n =
       log = s.log ++ n ∷ [];
     }
 
--- no end of the host that stands has the id
+-- no end of the host that is not released has the id
 abbrev pub IsFreeId : Scene → ℕ → ℕ → Type 0
 IsFreeId s host id =
     (who : ℕ) (e : Stand) (l : LinkView) → Stands s who e l → e.host ≡ host → l.own ≢ id

@@ -1,4 +1,4 @@
--- The packets of units: each carries the unit of its position under the mark of that (Novell SPX:
+-- The packets of units: each carries the unit of its position with the number of that position (Novell SPX:
 -- the sequence number).
 use Rattle.std.specs.Prelude.{ℕ, ◌≡◌, ◌<◌, ◌≤◌, false, List, [], ◌∷◌, ◌++◌, Some, slice_get, slice_index_or}
 use Rattle.ipx_wire.specs.declared.spx.packet.SpxHeader.{SpxHeader}
@@ -20,13 +20,13 @@ use Rattle.spx_theory.specs.Scene.{Scene, Stand, Stands}
 abbrev pub sent_by : ℕ → List Note → ℕ
 sent_by e log = times e (scan log).sent
 
--- whatever packet of a connection the bytes are, it has this header and body
+-- any SPX packet that the bytes are has this header and body
 abbrev pub SaysOnly : SpxHeader → List ℕ → List ℕ → Type 0
 SaysOnly h body bytes =
     (p : PacketView) (k : SpxHeader) (other : List ℕ)
     → IsConnectionPacket p k other bytes → (k ≡ h) × (other ≡ body)
 
--- the bytes are a packet with this unit under this number, and no other
+-- the bytes are a packet with this unit and this number, and no other packet
 pub record IsUnitPacket (u : Unit) (number : ℕ) (bytes : List ℕ) : Type 0 where
   pub packet : PacketView
   pub header : SpxHeader
@@ -46,26 +46,26 @@ CarriesUnit s who n parcel =
     × IsUnitPacket u (mark n) bytes
 
 pub record UnitsAreSentInOrder (s : Scene) : Type 0 where
-  -- for the first time the next unit, in order
+  -- a unit that is sent for the first time is the next one, in order
   pub first : (before after : List Note) (who parcel : ℕ)
       → s.log ≡ before ++ SendsUnit who parcel ∷ after
       → CarriesUnit s who (sent_by who before) parcel
-  -- again the unit at the greatest position of those sent whose mark is the sequence number of the
-  -- bytes
+  -- a unit that is sent again is the one at the greatest position, of those sent, that has the sequence
+  -- number of the bytes
   pub again : (before after : List Note) (who parcel : ℕ)
       → s.log ≡ before ++ SendsAgain who parcel ∷ after
       → let n : ℕ = position_of (sent_by who before)
       (sequence_in (slice_index_or s.parcels parcel [])) in
       (n < sent_by who before) × CarriesUnit s who n parcel
 
--- the next number of every end is that of the first unit that it did not send, and its queue is the
--- rest of its units
+-- the next number of every end is that of the first unit that it has not sent, and its queue is the rest of
+-- its units
 abbrev pub LinksSendInOrder : Scene → Type 0
 LinksSendInOrder s =
     (who : ℕ) (e : Stand) (l : LinkView) → Stands s who e l
     → SendsFrom l (units_of who s.log) (sent_by who s.log)
 
--- where a position below `sent` has this mark, `position_of` is the greatest one
+-- if a position below `sent` has this number, `position_of` is the greatest one
 abbrev pub PositionsAreGreatest : Type 0
 PositionsAreGreatest =
     (sent n : ℕ) → n < sent

@@ -1,6 +1,5 @@
--- The units of an end are those of its messages, cut, one after another, and then one end of the
--- connection (Novell SPX:
--- end of connection) where it was asked for.
+-- The units of an end are those of its messages, split, one after another, followed by one end of the
+-- connection (Novell SPX: end of connection) if that was asked for.
 use Rattle.std.specs.Prelude.{ℕ, ◌≡◌, ◌==◌, ◌⊎◌, List, [], ◌∷◌, ◌++◌, if◌then◌else◌}
 use Rattle.std.specs.List.{flat_map}
 use Rattle.spx_link.specs.declared.unit.Unit.{Unit}
@@ -18,7 +17,7 @@ end_by e n = []
 abbrev pub ends_asked : ℕ → List Note → List Unit
 ends_asked e log = gathered (end_by e) log
 
--- that is at most once
+-- it was asked for at most once
 pub record AreCuts (e : ℕ) (log : List Note) : Type 0 where
   pub units : units_of e log ≡ flat_map cut_of (handed_in e log) ++ ends_asked e log
   pub once : (ends_asked e log ≡ []) ⊎ (ends_asked e log ≡ the_end ∷ [])

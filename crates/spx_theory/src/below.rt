@@ -1,4 +1,4 @@
-//! What is proved in the crates below, at once.
+//! The laws of lower crates, in one record.
 
 ghost use Rattle.spx_theory.specs.Below.{LawsBelow};
 
@@ -11,7 +11,7 @@ use theory_pairs::{
     links_send_their_queue, packets_allow_what_was_taken, states_go_on,
 };
 
-/// The laws of bytes, of the machine and of one link, on which the theorems stand.
+/// The laws of bytes, of the machine and of one link, on which the theorems depend.
 pub fn laws_below()
     ensures { LawsBelow }
 {

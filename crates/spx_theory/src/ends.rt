@@ -1,4 +1,4 @@
-//! Laws of the ends of a network and of the numbers in its log, for what is told of them.
+//! Laws of the ends of a network and of the numbers in its log, for the summaries of ends.
 
 ghost use Rattle.std.specs.Prelude.{ℕ};
 ghost use Rattle.spx_theory.specs.Deeds.{Reached};
@@ -12,20 +12,20 @@ ghost use Rattle.spx_theory.specs.UnitsOfEnds.{UnitsAreCuts};
 
 use crate::below::laws_below;
 
-/// Ends are numbered as their roles in the log are; the next number of a link is that of the unit
-/// after those that its end sent, and it has the buffers that its end was made with.
+/// Ends are numbered like their roles in the log. The next number of a link is that of the unit
+/// after those that its end sent. The link has the buffers that its end was made with.
 pub fn ends_are_told()
     ensures { (s : Scene) → Reached s → EndsAreTold s }
 {
     laws_below();
 }
 
-/// An end that has no link after a deed sent no unit by it.
+/// If an end has no link after a deed, that deed sent no unit of it.
 pub fn gone_sends_nothing()
     ensures { GoneSendsNothing }
 {}
 
-/// An end stays at its host, and one that is released stays as it is.
+/// An end stays at its host, and a released end does not change.
 pub fn ends_stay()
     ensures { EndsStay }
 {}
@@ -36,31 +36,31 @@ pub fn peer_is_found()
 {}
 
 /// Ends and parcels are numbered in the order of the entries that make them, and each entry names
-/// ends and parcels that are there.
+/// ends and parcels that exist.
 pub fn numbers_are_in_order()
     ensures { (s : Scene) → Reached s → NumbersAreInOrder s }
 {
     laws_below();
 }
 
-/// Where no parcel was injected, none that an end read was.
+/// If no parcel was injected, no end read an injected one.
 pub fn outside_was_injected()
     ensures { (s : Scene) → Reached s → OutsideWasInjected s }
 {
     numbers_are_in_order();
 }
 
-/// The units of an end are those of its messages, cut, one after another, and then one end of the
-/// connection where it was asked for.
+/// The units of an end are those of its messages, split, one after another, followed by one end of
+/// the connection if that was asked for.
 pub fn units_are_cuts()
     ensures { (s : Scene) → Reached s → UnitsAreCuts s }
 {
     laws_below();
 }
 
-/// An end is at the host of the entry that opened it. It has no link just where an entry says that
-/// it was released; and while it stands, its end of the connection is queued just where an entry
-/// asks for that.
+/// An end is at the host of the entry that opened it. It has no link exactly if an entry says that
+/// it was released. Before that, its end of the connection is queued exactly if an entry asks for
+/// it.
 pub fn entries_tell_ends()
     ensures { (s : Scene) → Reached s → EntriesTellEnds s }
 {

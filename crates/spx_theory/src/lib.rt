@@ -1,12 +1,18 @@
-//! What is so of every network of ends and routers, whatever is delivered to it and in whatever
-//! order: theory over its log, without code.
+//! Theorems about every network of ends and routers, whatever is delivered in it and in whatever
+//! order. They speak of its log, and there is no code.
 //!
-//! `specs/` has the definitions: the entries of a log (`Note`), the premises and peers by its entries
-//! (`LogPremises`), the headline (`LogHeadline`), what is read off a log (`Scan`), peers and the
-//! premises by that (`Peers`), what ends hand in, take and hand out (`Handed`), the machine of two
-//! peers (`PairLog`), the ends with what lies between them (`Scene`, `Packets`), everything that
-//! can happen to them (`Deeds`), and a file for each theorem. Each function here is a law over
-//! every scene that some list of deeds reaches.
+//! `specs/` has the definitions:
+//!
+//! - the entries of a log (`Note`), and its index (`Scan`)
+//! - the premises and peers, by the entries (`LogPremises`) and by the index (`Peers`)
+//! - the headline (`LogHeadline`)
+//! - the messages that ends hand in and out, and the units that they take (`Handed`)
+//! - the machine of two peers (`PairLog`)
+//! - the ends and the parcels between them (`Scene`, `Packets`)
+//! - everything that can happen to them (`Deeds`)
+//! - a file for each theorem
+//!
+//! Each function here is a law of every scene that some list of deeds reaches.
 #![tactic(auto)]
 
 mod below;

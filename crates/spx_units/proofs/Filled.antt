@@ -1,4 +1,4 @@
--- A unit filled where it stands, at the end of a list.
+-- A unit built in place, at the end of a list.
 use Rattle.std.proofs.Common.{◌≡◌, ◌∙◌, ℕ, Bool, List, [], ◌∷◌, ◌++◌, ◌≤◌, length, take, slice_set, get_or, ap, refl, sym}
 use Rattle.std.proofs.lemmas.List.{take_all}
 use Rattle.ipx_wire.specs.Assigned.{spx_max_data_size}
@@ -6,7 +6,7 @@ use Rattle.std.proofs.Math.Seq.{set-append_seam}
 use Rattle.spx_link.specs.declared.unit.Unit.{Unit}
 use Rattle.spx_units.specs.Cut.{unit_with}
 
--- what stands at the end
+-- the last item
 end_of : (before : List Unit) (last other : Unit) → get_or (before ++ last ∷ []) (length before) other ≡ last
 end_of [] last other = refl
 end_of (u ∷ us) last other = end_of us last other
@@ -25,6 +25,6 @@ set_at_end before all empty full place at is =
     ∙ ap (λ n. slice_set (before ++ empty ∷ []) n full) at
     ∙ set-append_seam before empty [] full
 
--- all the bytes that there may be are the first so many of them
+-- if the bytes fit in a unit, their first 534 are all of them
 pub whole_is : (bytes whole : List ℕ) → whole ≡ take 534 bytes → length bytes ≤ spx_max_data_size → whole ≡ bytes
 whole_is bytes whole is fits = is ∙ take_all 534 bytes fits

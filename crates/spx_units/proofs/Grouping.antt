@@ -1,4 +1,4 @@
--- Units joined one after another, and what they are joined to as a whole list.
+-- Units joined one after another, and joined as a whole list.
 use Rattle.std.proofs.Common.{◌≡◌, Bool, true, false, cond, not, filter, map, List, [], ◌∷◌, ◌++◌, Option, Some, None, refl, sym, ◌∙◌, ap, subst}
 use Rattle.std.specs.Prelude.{All, fold}
 use Rattle.std.specs.List.{flat_map}
@@ -21,7 +21,7 @@ is_data u = not (is_end u)
 abbrev all_of : List (List Unit) → List Unit
 all_of = flat_map (λ g. g)
 
--- a unit that is no end of a connection
+-- a unit that is not the end of a connection
 abbrev join_data : Joining → Unit → Joining
 join_data j u = cond u.last (so_far (j.messages ++ added j.rest u ∷ []) None) (so_far j.messages (Some (added j.rest u)))
 
@@ -51,16 +51,16 @@ join_datas-append : (j : Joining) (us vs : List Unit) → join_datas j (us ++ vs
 join_datas-append j [] vs = refl
 join_datas-append j (u ∷ us) vs = join_datas-append (join_data j u) us vs
 
--- ---- what units are as one
+-- ---- units as one message
 
--- one more behind them
+-- one more after them
 as_one-snoc : (us : List Unit) (u : Unit) → as_one (us ++ u ∷ []) ≡ Some (added (as_one us) u)
 as_one-snoc [] u = ap (λ bs. Some (record { stream = u.stream; body = bs })) (append-nil (unit_bytes u))
 as_one-snoc (v ∷ us) u =
     ap (λ bs. Some (record { stream = v.stream; body = bs }))
     (flat_map-append unit_bytes (v ∷ us) (u ∷ []) ∙ ap (λ bs. flat_map unit_bytes (v ∷ us) ++ bs) (append-nil (unit_bytes u)))
 
--- units without a mark, behind others
+-- units without an end of message, after others
 join_unmarked : (ms : List MessageView) (before us : List Unit) → HasNoMark us → join_datas (so_far ms (as_one before)) us ≡ so_far ms (as_one (before ++ us))
 join_unmarked ms before [] none = ap (λ vs. so_far ms (as_one vs)) (sym (append-nil before))
 join_unmarked ms before (u ∷ us) none =
@@ -92,7 +92,7 @@ join_groups before (g ∷ gs) (m ∷ ms) all each =
     ∙ join_groups (before ++ m ∷ []) gs ms (All-tail IsGroup g gs all) later
     ∙ ap (λ ms'. so_far ms' None) (append_assoc before (m ∷ []) ms)
 
--- what they are joined to is what the whole list says
+-- the result of joining one by one is that of the whole list
 pub only_one : (us : List Unit) (ms : List MessageView) (rest : Option MessageView) → UnitsJoinTo us ms rest → joined us ≡ so_far ms rest
 only_one us ms rest to =
     ends_left_out (so_far [] None) us
@@ -137,7 +137,7 @@ one_group_more us u j goes_on ends to =
       begun = refl;
     }
 
--- the unit ends none
+-- the unit ends no message
 one_unit_more : (us : List Unit) (u : Unit) (j : Joining) → is_end u ≡ false → u.last ≡ false → JoinsTo us j → JoinsTo (us ++ u ∷ []) (so_far j.messages (Some (added j.rest u)))
 one_unit_more us u j goes_on not_yet to = record {
   groups = to.groups;

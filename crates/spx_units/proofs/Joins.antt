@@ -38,7 +38,7 @@ last_comes : (ms : List MessageView) (m : MessageView) (stream : ℕ) (bytes : L
     → join_all (so_far ms (Some m)) (unit_with stream true bytes ∷ []) ≡ so_far (ms ++ with_more m bytes ∷ []) None
 last_comes ms m stream bytes low = join_last ms (Some m) stream bytes low
 
--- the rest of a message comes
+-- the rest of a message arrives
 pieces_join : (ms : List MessageView) (m : MessageView) (more stream : ℕ) (bytes : List ℕ) → stream < 254
     → join_all (so_far ms (Some m)) (pieces more stream bytes) ≡ so_far (ms ++ with_more m bytes ∷ []) None
 pieces_join ms m zero stream bytes low = last_comes ms m stream bytes low
@@ -152,7 +152,7 @@ pieces_fit ms o (suc more) stream bytes k low =
     cases (inr short) later =
         subst (λ us. Fits ms o us k (length_of o + length bytes)) (sym (one_piece (suc more) stream bytes short)) (one_fits ms o (unit_with stream true bytes) k (length_of o + length bytes) (omega arith))
 
--- reading and taking at the front, and behind it
+-- reading and taking at the front, and after it
 get_front : {A : Type 0} (xs ys : List A) (k : ℕ) → k < length xs → slice_get (xs ++ ys) k ≡ slice_get xs k
 get_front [] ys k within = absurd (omega (arith, within))
 get_front (x ∷ xs) ys zero within = refl

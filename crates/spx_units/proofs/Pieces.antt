@@ -1,4 +1,4 @@
--- The units that a message is cut into: a message has just one list of them.
+-- The units that a message is split into: a message has exactly one list of them.
 use Rattle.std.proofs.Common.{◌≡◌, ◌⊎◌, ◌≤◌, ◌<◌, ℕ, zero, suc, true, false, nat_le, List, [], ◌∷◌, ◌++◌, length, take, drop, refl, sym, ◌∙◌, inl, inr, ap, subst, arith, length-append, length-drop}
 use Rattle.std.specs.Prelude.{All, IfOk, Result, Ok, Err}
 use Rattle.std.specs.List.{flat_map}
@@ -31,7 +31,7 @@ pub more_pieces : (more stream : ℕ) (bytes : List ℕ) → 534 < length bytes
     → pieces (suc more) stream bytes ≡ unit_with stream false (take 534 bytes) ∷ pieces more stream (drop 534 bytes)
 more_pieces more stream bytes long = cond-false (nat_le (length bytes) 534) _ _ (lt-leb (length bytes) 534 long)
 
--- how many pieces there may be makes no difference, where it is enough
+-- the limit of the number of pieces makes no difference if it is high enough
 pub enough : (a b stream : ℕ) (bytes : List ℕ) → length bytes ≤ a → length bytes ≤ b → pieces a stream bytes ≡ pieces b stream bytes
 enough zero b stream bytes x y = sym (one_piece b stream bytes (omega (arith, x)))
 enough (suc a) zero stream bytes x y = one_piece (suc a) stream bytes (omega (arith, y))
@@ -46,7 +46,7 @@ enough (suc a) (suc b) stream bytes x y =
         ∙ sym (more_pieces b stream bytes long)
     cases (inr short) fewer = one_piece (suc a) stream bytes short ∙ sym (one_piece (suc b) stream bytes short)
 
--- a message over 534 bytes: its first unit, and the units of what is left
+-- a message over 534 bytes: its first unit, and the units of the rest
 pub cut_more : (stream : ℕ) (bytes : List ℕ) → 534 < length bytes
     → cut_of (record { stream = stream; body = bytes }) ≡ unit_with stream false (take 534 bytes) ∷ cut_of (record { stream = stream; body = drop 534 bytes })
 cut_more stream bytes long = fuel (length bytes) refl
@@ -137,7 +137,7 @@ pieces_cut (suc more) stream bytes within =
 pub cut_is : (m : MessageView) (units : List Unit) → units ≡ cut_of m → IsCut m units
 cut_is m units is = subst (IsCut m) (sym is) (pieces_cut (length m.body) m.stream m.body (omega arith))
 
--- ---- cutting piece by piece
+-- ---- splitting piece by piece
 
 pub cut_step : (stream : ℕ) (bytes rest : List ℕ) (units : List Unit) (u : Unit) → u ≡ unit_with stream false (take 534 rest) → 534 < length rest
     → units ++ cut_of (record { stream = stream; body = rest }) ≡ cut_of (record { stream = stream; body = bytes })
@@ -158,7 +158,7 @@ cut_done stream bytes rest units u is short so_far =
 pub cut_streams : (m : MessageView) → All (λ u. u.stream ≡ m.stream) (cut_of m)
 cut_streams m = (cut_is m (cut_of m) refl).streams
 
--- what holds of a list that is a message's units holds of the list of a call
+-- what holds of any list that is a message's units holds of the list that a call gives
 pub if_ok : {A E : Type 0} {P Q : A → Type 0} (r : Result A E) → ((v : A) → P v → Q v) → IfOk r P → IfOk r Q
 if_ok (Ok v) more is = more v is
 if_ok (Err e) more is = tt

@@ -1,4 +1,4 @@
--- How a message is cut into units.
+-- How a message is split into units.
 use Rattle.std.specs.Prelude.{ℕ, zero, suc, ◌≡◌, ◌<◌, ◌≤◌, nat_le, Bool, true, false, All, List, [], ◌∷◌, ◌++◌, length, take, drop, if◌then◌else◌}
 use Rattle.std.specs.List.{flat_map}
 use Rattle.ipx_wire.specs.Assigned.{spx_max_data_size}
@@ -13,8 +13,8 @@ pub record IsFull (u : Unit) : Type 0 where
   pub bytes : length (unit_bytes u) ≡ spx_max_data_size
   pub last : u.last ≡ false
 
--- the units of a message: together they are its body, and each has its stream; the last one alone
--- ends it, and is empty only where the body is; all others have 534 bytes
+-- the units of a message: together they are its body, and each has its stream; only the last one ends it, and
+-- that is empty only if the body is; all others have 534 bytes
 pub record IsCut (m : MessageView) (units : List Unit) : Type 0 where
   pub before : List Unit
   pub final : Unit

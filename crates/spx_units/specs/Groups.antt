@@ -1,5 +1,5 @@
--- What units are joined to, said of whole lists: which messages, and the beginning of one that has
--- not ended (Novell SPX: the end of message bit).
+-- The messages that a whole list of units is joined to, and the beginning of one that is not complete (Novell
+-- SPX: the end of message bit).
 use Rattle.std.specs.Prelude.{◌≡◌, true, false, not, All, List, [], ◌∷◌, ◌++◌, filter, map, Option, Some, None}
 use Rattle.std.specs.List.{flat_map}
 use Rattle.spx_link.specs.declared.unit.Unit.{Unit}
@@ -11,7 +11,7 @@ use Rattle.spx_units.specs.Cut.{unit_bytes}
 abbrev pub HasNoMark : List Unit → Type 0
 HasNoMark = All (λ u. u.last ≡ false)
 
--- units of which the last one ends a message, and no other
+-- units of which the last one ends a message, and no other does
 pub record IsGroup (units : List Unit) : Type 0 where
   pub before : List Unit
   pub final : Unit
@@ -24,8 +24,8 @@ abbrev pub as_one : List Unit → Option MessageView
 as_one [] = None
 as_one (u ∷ us) = Some (record { stream = u.stream; body = flat_map unit_bytes (u ∷ us) })
 
--- without the ends of connections the units are groups, and then others without a mark. Each group
--- is one message, and the others are the beginning of one
+-- without the ends of connections, the units are groups, followed by others without an end of message. Each
+-- group is one message, and the others are the beginning of one
 pub record UnitsJoinTo (units : List Unit) (messages : List MessageView)
     (rest : Option MessageView) : Type 0 where
   pub groups : List (List Unit)

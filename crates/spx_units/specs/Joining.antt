@@ -1,4 +1,4 @@
--- How units are joined to messages: those up to one that ends a message are one, and ends of
+-- How units are joined to messages: those up to one that ends a message are one message, and ends of
 -- connections are left out.
 use Rattle.std.specs.Prelude.{ℕ, ◌≡◌, ◌<◌, ◌≤◌, nat_lt, Bool, All, List, [], ◌∷◌, ◌++◌, length, map, Option, Some, None, fold, if◌then◌else◌}
 use Rattle.std.specs.List.{flat_map}
@@ -8,12 +8,12 @@ use Rattle.spx_link.specs.LinkView.{is_end}
 use Rattle.spx_units.specs.Message.{MessageView, most_bytes}
 use Rattle.spx_units.specs.Cut.{unit_bytes, cut_of}
 
--- the messages that units came to, and the beginning of one that has not ended
+-- the complete messages of the units, and the beginning of one that is not complete
 pub record Joining : Type 0 where
   pub messages : List MessageView
   pub rest : Option MessageView
 
--- a unit's bytes behind what there is of its message, whose stream is that of its first unit
+-- a unit's bytes, added to those of its message, whose stream is that of its first unit
 abbrev pub added : Option MessageView → Unit → MessageView
 added None u = record { stream = u.stream; body = unit_bytes u }
 added (Some m) u = record m { body = m.body ++ unit_bytes u }
@@ -30,7 +30,7 @@ join_all = fold join_unit
 abbrev pub joined : List Unit → Joining
 joined = join_all (record { messages = []; rest = None })
 
--- with this unit more than 65,535 bytes came of a message
+-- with this unit a message has more than 65,535 bytes
 abbrev pub is_overlong : Option MessageView → Unit → Bool
 is_overlong rest u = nat_lt most_bytes (length (added rest u).body)
 

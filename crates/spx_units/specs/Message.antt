@@ -1,11 +1,11 @@
--- Messages (what a user of Novell SPX sends and gets), and which of them can be sent.
+-- Messages (what a user of Novell SPX sends and receives), and which of them can be sent.
 use Rattle.std.specs.Prelude.{ℕ, nat_lt, nat_le, List, length, Option, Some, None, if◌then◌else◌}
 use Rattle.spx_link.specs.Limits.{end_stream}
 use Rattle.spx_units.specs.declared.message.Message.{Message}
 use Rattle.spx_units.specs.declared.fault.MessageFault.{MessageFault}
 use Rattle.spx_units.specs.declared.fault.MessageFault.TheVariants.{OutOfMemory, TooLong, BadStream, Overlong}
 
--- a message without where it lies in memory
+-- a message without its place in memory
 pub record MessageView : Type 0 where
   pub stream : ℕ
   pub body : List ℕ
@@ -13,7 +13,7 @@ pub record MessageView : Type 0 where
 abbrev pub message_view : Message → MessageView
 message_view m = record { stream = m.stream; body = m.body.items }
 
--- how many bytes there are of a message
+-- the number of bytes of a partial message
 abbrev pub length_of : Option MessageView → ℕ
 length_of None = 0
 length_of (Some m) = length m.body
@@ -22,7 +22,7 @@ length_of (Some m) = length m.body
 abbrev pub most_bytes : ℕ
 most_bytes = 65535
 
--- why a message is not cut: it is too long, or its stream is the end of a connection or its
+-- why a message is not split: it is too long, or its stream is that of the end of a connection or of its
 -- confirmation
 abbrev pub cut_fault : MessageView → Option MessageFault
 cut_fault m =

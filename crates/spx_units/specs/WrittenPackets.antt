@@ -1,5 +1,5 @@
--- Packets of connections as hosts write them (Novell IPX and SPX): which asks for a connection, and
--- what a link's packet is in bytes.
+-- SPX packets as hosts write them (Novell IPX and SPX): which ask for a connection, and the bytes of a link's
+-- packet.
 use Rattle.std.specs.Prelude.{ℕ, ◌≡◌, ◌<◌, true, List, []}
 use Rattle.ipx_wire.specs.Assigned.{spx_type}
 use Rattle.ipx_wire.specs.Ipx.{IsIpx, PacketView}
@@ -24,7 +24,7 @@ pub record IsRequestFor (h : SpxHeader) : Type 0 where
   pub above : 0 < h.from_id
   pub below : h.from_id < no_id
 
--- the bytes are what a link gave, as an IPX packet from its host and socket to the far address
+-- the bytes are what a link gave, as an IPX packet from its host and socket to the remote address
 pub record IsWrittenPacket (home : Home) (l : LinkView) (g : OutgoingView) (bytes : List ℕ) : Type 0 where
   pub packet : PacketView
   pub is : IsIpx packet bytes []

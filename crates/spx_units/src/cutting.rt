@@ -1,4 +1,4 @@
-//! A message, cut into units.
+//! A message, split into units.
 
 ghost use Rattle.std.specs.Prelude.{◌≡◌, ◌≤◌, ◌++◌, [], ◌∷◌, All, Err, IfOk, IsOkUnless, None, OnOk, Some, length};
 ghost use Rattle.ipx_wire.specs.Assigned.{spx_max_data_size};
@@ -13,11 +13,11 @@ use ipx_wire::{Fragment, SPX_MAX_DATA_SIZE};
 use spx_link::Unit;
 use std::alloc::{AllocError, Global};
 
-/// The least datastream type that no message has: that of the end of a connection.
+/// The lowest datastream type that no message has: that of the end of a connection.
 const END_STREAM: u8 = 0xfe;
 
-/// Adds a unit with these bytes, built where it stands: they are copied once. The room for fewer
-/// than 534 is zeroed before.
+/// Adds a unit with these bytes, built in place: they are copied once. For fewer than 534 bytes,
+/// the buffer is zeroed first.
 fn push_shorter(
     units: &mut Vec<Unit>,
     stream: u8,
@@ -40,7 +40,7 @@ fn push_shorter(
     Ok(())
 }
 
-/// Adds a unit with these bytes. All 534 that there may be are copied over nothing.
+/// Adds a unit with these bytes. If they are all of 534, no buffer is zeroed first.
 fn push_unit(units: &mut Vec<Unit>, stream: u8, last: bool, bytes: &[u8]) -> Result<(), AllocError>
     requires { length bytes.now ≤ spx_max_data_size }
     ensures { OnOk result
@@ -58,11 +58,11 @@ fn push_unit(units: &mut Vec<Unit>, stream: u8, last: bool, bytes: &[u8]) -> Res
     Ok(())
 }
 
-/// Cuts a message into the units that carry it, in order.
+/// Splits a message into the units that carry it, in order.
 ///
-/// All units but the last have 534 bytes, the last has 0 to 534 and the end of the message. It is
-/// refused as `TooLong` over 65,535 bytes, else as `BadStream` for the types FE and FF, else where
-/// memory is.
+/// All units but the last have 534 bytes. The last has 0 to 534 bytes and the end of the message.
+/// It is refused as `TooLong` if it has over 65,535 bytes, and then as `BadStream` for the types FE
+/// and FF. Otherwise it fails only if out of memory.
 pub fn cut(alloc: Global, message: &Message) -> Result<Vec<Unit>, MessageFault>
     ensures ok { IfOk result (λ v. v.items ≡ cut_of (message_view message.now)) }
     ensures units { IfOk result (λ v. IsCut (message_view message.now) v.items) }

@@ -1,4 +1,4 @@
-//! Why a message was not cut, or not joined.
+//! Why a message was not split, or units were not joined.
 
 ghost use Rattle.std.specs.Prelude.{◌≡◌};
 ghost use Rattle.spx_units.specs.Message.{message_fault_number};
@@ -7,24 +7,24 @@ ghost use Rattle.spx_units.specs.declared.fault.MessageFault.TheVariants as Mess
 use std::alloc::{AllocError, AllocFailed};
 use thiserror::Error;
 
-/// Why a message was not cut into units, or units were not joined to one.
+/// Why a message was not split into units, or units were not joined to a message.
 #[derive(Clone, Copy, Debug, PartialEq, Eq, Error)]
 pub enum MessageFault {
     #[error("out of memory")]
     OutOfMemory,
-    /// How many bytes the message has.
+    /// The number of bytes of the message.
     #[error("{0} bytes, a message has at most 65535")]
     TooLong(usize),
-    /// The datastream type is FE or FF, which stand for the end of a connection.
+    /// The datastream type is FE or FF, which belong to the end of a connection.
     #[error("datastream type {0:02x}, a message has at most fd")]
     BadStream(u8),
-    /// More bytes came without an end of message than a message may have.
+    /// More bytes arrived without an end of message than a message may have.
     #[error("a message of over 65535 bytes came")]
     Overlong,
 }
 
 impl MessageFault {
-    /// The fault's number, 27 or 29 to 31: what programs print and compare.
+    /// The fault's number, 27 or 29 to 31. Programs print and compare it.
     pub fn number(&self) -> u8
         ensures { result ≡ message_fault_number self.now }
     {

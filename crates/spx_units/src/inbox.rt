@@ -1,4 +1,4 @@
-//! Units on their way to a message.
+//! A partial message.
 
 ghost use Rattle.std.specs.Prelude.{◌≡◌, ◌≢◌, ◌≤◌, ◌+◌, Err, IfOk, IsOkUnless, None, Ok, OnErr, OnOk, Some, [], false, true, length, option_map, option_to_list};
 ghost use Rattle.spx_link.specs.Limits.{end_stream};
@@ -16,9 +16,9 @@ use std::marker::Model;
 /// The datastream type of the end of a connection.
 const END_STREAM: u8 = 0xfe;
 
-/// The units of a message that has not ended yet, joined.
+/// The joined units of a message that is not complete yet.
 ///
-/// It is empty at first, and again behind each message.
+/// It is empty at first, and again after each message.
 #[derive(Drop)]
 pub struct Inbox {
     rest: Option<Message>,
@@ -36,20 +36,19 @@ impl Model for Inbox {
 }
 
 impl Inbox {
-    /// An empty inbox. It takes no memory.
+    /// An empty inbox. It allocates nothing.
     pub fn new(_alloc: Global) -> Inbox
         ensures { result ≡ None }
     {
         Inbox { rest: None }
     }
 
-    /// Adds a unit, and hands out the message that it ends. A unit of stream FE is the end of a
-    /// connection and of no message: it leaves the inbox as it is.
+    /// Adds a unit, and gives the message that it completes, if any. A unit of stream FE is the end
+    /// of a connection, and part of no message: it leaves the inbox unchanged.
     ///
-    /// The message has the stream of its first unit. Where more than 65,535 bytes came of it, it is
-    /// refused as `Overlong` and the inbox is empty. Where memory is refused, the inbox is as it
-    /// was.
-    #[inline(always)] // what it answers would else pass through memory for each unit
+    /// The message has the stream of its first unit. If it grows over 65,535 bytes, it is refused
+    /// as `Overlong` and the inbox becomes empty. If memory is refused, the inbox is as it was.
+    #[inline(always)] // otherwise its result passes through memory for each unit
     pub fn push(&mut self, alloc: Global, unit: &Unit) -> Result<Option<Message>, MessageFault>
         ensures step { IfOk result (λ m.
             join_unit (record { messages = []; rest = self.old }) unit.now
@@ -82,7 +81,7 @@ impl Inbox {
         }
     }
 
-    /// How many bytes it holds.
+    /// The number of bytes that it holds.
     fn len(&self) -> usize
         ensures value { result ≡ length_of self.now }
         ensures most { result ≤ 65535 }

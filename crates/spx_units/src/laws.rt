@@ -1,4 +1,4 @@
-//! Laws of cutting and joining, which follow from their definitions.
+//! Laws of splitting and joining, which follow from their definitions.
 
 ghost use Rattle.std.specs.Prelude.{◌≡◌, ◌↔◌, ◌++◌, ℕ, List, [], ◌∷◌, Option, None, Some, false, slice_get, take};
 ghost use Rattle.spx_link.specs.Offer.{the_end};
@@ -8,12 +8,12 @@ ghost use Rattle.spx_units.specs.Groups.{UnitsJoinTo};
 ghost use Rattle.spx_units.specs.Joining.{AreSendable, is_overlong, joined, units_of_messages};
 ghost use Rattle.spx_units.specs.Message.{MessageView};
 
-/// A message is cut in one way.
+/// A message is split in exactly one way.
 pub fn one_cut()
     ensures { (m : MessageView) (units : List Unit) → IsCut m units ↔ (units ≡ cut_of m) }
 {}
 
-/// What units are joined to is what the whole list of them says, and nothing else meets that.
+/// The result of joining meets the relation on the whole list of units, and no other result does.
 pub fn joined_is_the_one_value()
     ensures meets { (units : List Unit)
         → UnitsJoinTo units (joined units).messages (joined units).rest }
@@ -22,8 +22,8 @@ pub fn joined_is_the_one_value()
         → joined units ≡ record { messages = messages; rest = rest } }
 {}
 
-/// All units of messages, joined, are these messages and nothing else, with the end of the
-/// connection behind them too.
+/// All units of messages, joined, are exactly these messages, also if the end of the connection
+/// follows.
 pub fn units_join_to_their_messages()
     ensures all { (ms : List MessageView) → AreSendable ms
         → joined (units_of_messages ms) ≡ record { messages = ms; rest = None } }
@@ -31,8 +31,8 @@ pub fn units_join_to_their_messages()
         → joined (units_of_messages ms ++ the_end ∷ []) ≡ record { messages = ms; rest = None } }
 {}
 
-/// The first units of messages, however many, are joined to a beginning of these messages, with the
-/// end of the connection behind them too.
+/// If the first units of messages are joined, however many, the result is a prefix of these
+/// messages. That also holds if the end of the connection follows.
 pub fn first_units_join_to_first_messages()
     ensures units { (ms : List MessageView) (count : ℕ) → AreSendable ms
         → (later : List MessageView)

@@ -1,7 +1,7 @@
-//! Messages, how they are cut into units of a connection, and how units are joined to messages
+//! Messages, how they are split into units of a connection, and how units are joined to messages
 //! again (Novell SPX: the end of message bit).
 //!
-//! [`cut`] makes the units that a link is to send, and an [`Inbox`] joins those that it gives.
+//! [`cut`] makes the units that a link sends, and an [`Inbox`] joins those that it receives.
 #![tactic(auto)]
 
 mod cutting;

@@ -1,11 +1,11 @@
-//! What a user of a connection sends and gets.
+//! What a user of a connection sends and receives.
 
 /// The most bytes that a message may have.
 pub const MAX_BYTES: usize = 65_535;
 
-/// A message: bytes with a datastream type, which is under FE.
+/// A message: bytes with a datastream type under FE.
 ///
-/// A message of no bytes is one, too.
+/// A message may have no bytes.
 #[derive(Drop)]
 pub struct Message {
     pub stream: u8,

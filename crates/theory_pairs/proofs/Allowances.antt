@@ -1,4 +1,4 @@
--- What a call leaves of a link: of what it received, of what it may send, and what its packets allow.
+-- How calls change what a link received and what it may send, and what its packets allow.
 use Rattle.std.proofs.Common.{ℕ, zero, suc, ◌+◌, ◌<◌, ◌≤◌, ◌≡◌, ◌≢◌, ◌==◌, ◌&&◌, ◌||◌, max, Bool, true, false, cond, nat_le, nat_lt, List, [], ◌∷◌, ◌++◌, length, Option, Some, None, slice_get, refl, ap, ◌∙◌, arith, ltb-true, length-append, length-drop}
 use Rattle.std.proofs.lemmas.Bool.{cond_both, and_parts}
 use Rattle.ipx_wire.specs.declared.spx.packet.SpxHeader.{SpxHeader}

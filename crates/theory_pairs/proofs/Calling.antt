@@ -67,7 +67,7 @@ pub units_queued : (us : List Unit) → map unit_of (map queued us) ≡ us
 units_queued [] = refl
 units_queued (u ∷ us) = ap (λ vs. u ∷ vs) (units_queued us)
 
--- more units, of which none is an end, or which are the end alone
+-- more units, of which none is an end, or which are only the end
 pub formed_more : (xs us : List Unit) → Formed xs false → ((k : ℕ) (u : Unit) → slice_get us k ≡ Some u → u.stream < 254) → Formed (xs ++ us) false
 formed_more xs us f low =
     record {

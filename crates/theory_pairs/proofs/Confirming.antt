@@ -1,5 +1,5 @@
--- What the calls of a link leave of its end, of its queue and of what it holds: a link that is confirmed has queued its end,
--- and nothing is left in its queue.
+-- How the calls of a link change its end, its queue and what it holds: a confirmed link has queued its end,
+-- and its queue is empty.
 use Rattle.std.proofs.Common.{ℕ, ◌≡◌, ◌≢◌, ◌==◌, ◌&&◌, ◌||◌, not, Bool, true, false, cond, nat_le, nat_lt, List, [], ◌∷◌, length, drop, Option, Some, None, slice_get, refl, ◌∙◌, inl, inr, arith, eqb-true, length-drop, length-set}
 use Rattle.std.proofs.lemmas.Bool.{cond_both, and_parts}
 use Rattle.ipx_wire.specs.declared.spx.packet.SpxHeader.{SpxHeader}
@@ -18,7 +18,7 @@ use Rattle.spx_link.specs.declared.state.State.TheVariants as S
 use Rattle.spx_link.specs.declared.received.Received.TheVariants as R
 use Rattle.theory_pairs.specs.Confirmed.{PollLeaves, ReadLeaves, TakeLeaves, CloseLaws}
 
--- ---- what a poll leaves
+-- ---- the link after a poll
 
 abbrev pub StaysAfter : LinkView → Option OutgoingView × LinkView → Type 0
 StaysAfter l r = PollLeaves l r.1
@@ -80,7 +80,7 @@ stays_at S.Lost l now = record { held = refl; queued = refl; queue = refl; state
 pub poll_stays : (l : LinkView) (now : ℕ) → PollLeaves l (poll_link l now).1
 poll_stays l now = stays_at l.state l now
 
--- ---- what a read leaves
+-- ---- the link after a read
 
 goes : (l k : LinkView) (r : Received) → r ≢ R.Joined → k.end_queued ≡ l.end_queued → (length l.queue ≡ 0 → length k.queue ≡ 0) → (k.state ≡ S.Confirmed → l.state ≡ S.Confirmed) → ReadLeaves l (r, k)
 goes l k r other queued queue state =
@@ -135,7 +135,7 @@ system_goes l h =
     record { queued = refl; right = λ was is. (queue.0, eqb-true _ _ none.0); joins = λ e. absurd (cc e) })
     (λ no. goes l _ R.System (λ e. cc) refl (λ e. e) (λ e. e))
 
--- fewer stay queued
+-- fewer remain queued
 none_left : (k : ℕ) (xs : List Queued) → length xs ≡ 0 → length (drop k xs) ≡ 0
 none_left k xs e = omega (arith, length-drop k xs, e)
 
@@ -169,13 +169,13 @@ goes_at S.Lost l h body = goes l l R.Stranger (λ e. cc) refl (λ e. e) (λ e. e
 pub receive_goes : (l : LinkView) (h : SpxHeader) (body : List ℕ) → ReadLeaves l (receive_link l h body)
 receive_goes l h body = goes_at l.state l h body
 
--- ---- what a take leaves
+-- ---- the link after a take
 
 pub take_leaves : (l : LinkView) (us : List Unit) → TakeLeaves l (take_held l us)
 take_leaves l [] = record { queued = refl; queue = refl; state = refl }
 take_leaves l (u ∷ us) = record { queued = refl; queue = refl; state = refl }
 
--- what holds nothing gives nothing
+-- a link that holds nothing gives nothing
 pub take_none : (l : LinkView) (us : List Unit) (u : Unit) → (take_held l us).0 ≡ Some u → us ≢ []
 take_none l [] u gives e = absurd (cc gives)
 take_none l (v ∷ us) u gives e = absurd (cc e)

@@ -1,4 +1,4 @@
--- What no call changes of a link, and what polls make of its next number.
+-- What no call of a link changes, and how polls change its next number.
 use Rattle.std.proofs.Common.{ℕ, ◌≡◌, ◌==◌, true, ◌&&◌, ◌||◌, nat_le, nat_lt, List, [], ◌∷◌, Option, Some, None, slice_get, refl}
 use Rattle.std.proofs.lemmas.Bool.{cond_both}
 use Rattle.ipx_wire.specs.declared.spx.packet.SpxHeader.{SpxHeader}
@@ -16,7 +16,7 @@ use Rattle.spx_link.specs.declared.received.Received.TheVariants as R
 use Rattle.spx_link.specs.declared.state.State.TheVariants as S
 use Rattle.theory_pairs.specs.Lasting.{lasting, NextOf, LastingLaws}
 
--- ---- receiving leaves all of it
+-- ---- receiving changes nothing of it
 
 abbrev Lasts : LinkView → Received × LinkView → Type 0
 Lasts l r = lasting r.1 ≡ lasting l
@@ -70,7 +70,7 @@ receive_at_lasts S.Lost l h body = refl
 pub receive_lasts : (l : LinkView) (h : SpxHeader) (body : List ℕ) → lasting (receive_link l h body).1 ≡ lasting l
 receive_lasts l h body = receive_at_lasts l.state l h body
 
--- ---- a poll that gives a unit makes the next number one more, and leaves the rest
+-- ---- a poll that gives a unit adds one to the next number, and changes nothing else here
 
 abbrev Gives' : LinkView → Option OutgoingView × LinkView → Type 0
 Gives' l r = NextOf r.0 l r.1
@@ -123,7 +123,7 @@ poll_at_next S.Lost l now = refl
 pub poll_next : (l : LinkView) (now : ℕ) → NextOf (poll_link l now).0 l (poll_link l now).1
 poll_next l now = poll_at_next l.state l now
 
--- ---- taking leaves all of it
+-- ---- taking changes nothing of it
 
 take_held_lasts : (l : LinkView) (us : List Unit) → lasting (take_held l us).1 ≡ lasting l
 take_held_lasts l [] = refl

@@ -1,4 +1,4 @@
--- Lists with more elements behind.
+-- Lists with more elements at the end.
 use Rattle.std.proofs.Common.{◌≡◌, ◌⊎◌, ℕ, zero, suc, List, [], ◌∷◌, ◌++◌, length, Some, refl, inl, inr, ap}
 use Rattle.std.specs.Prelude.{slice_get}
 

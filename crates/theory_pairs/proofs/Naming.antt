@@ -1,4 +1,4 @@
--- What a link is called, that its calls keep it, and what its packets say of it.
+-- The names of a link: its calls keep them, and its packets carry them.
 use Rattle.std.proofs.Common.{ℕ, ◌+◌, ◌≡◌, ◌≢◌, ◌<◌, ◌==◌, ◌&&◌, ◌||◌, Bool, true, false, cond, nat_le, nat_lt, List, [], ◌∷◌, Option, Some, None, refl, subst, inl, inr, arith}
 use Rattle.std.proofs.lemmas.Bool.{cond_both}
 use Rattle.std.proofs.lemmas.Bool.Decides.{nat_tests}
@@ -22,7 +22,7 @@ use Rattle.spx_link.specs.declared.state.State.TheVariants as S
 use Rattle.spx_link.specs.declared.received.Received.TheVariants as R
 use Rattle.theory_pairs.specs.Names.{names, IsForLink, IsReply, ReadNames, is_plain, GaveNames, PollNames, NameLaws}
 
--- ---- what a test of a header says
+-- ---- the tests of a header
 pub and_left : (a b : Bool) → (a && b) ≡ true → a ≡ true
 and_left true b e = refl
 and_left false b e = absurd (cc e)
@@ -112,7 +112,7 @@ names_at S.Lost l h body = record { joins = λ e. absurd (cc e); reads = λ not_
 pub read_names : (l : LinkView) (h : SpxHeader) (body : List ℕ) → ReadNames l h (receive_link l h body)
 read_names l h body = names_at l.state l h body
 
--- ---- being asked
+-- ---- polling
 
 none_names : (st : State) (l k : LinkView) → names k ≡ names l → PollNames st l (None, k)
 none_names st l k keeps = record { keeps = keeps; gave = λ g is. absurd (cc is) }

@@ -22,7 +22,7 @@ use Rattle.theory_pairs.specs.PairSteps.{Polled}
 use Rattle.spx_link.specs.declared.outgoing.Sent.TheVariants as Sents
 use Rattle.spx_link.specs.declared.state.State.TheVariants as S
 
--- what a poll may do to the state
+-- how a poll may change the state
 pub record Speaking (l : LinkView) (r : Option OutgoingView × LinkView) (c d : End) : Type 0 where
   pub to : PolledTo r.0 (core r.1) c d
   pub queued : r.1.end_queued ≡ l.end_queued

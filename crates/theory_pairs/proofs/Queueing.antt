@@ -1,4 +1,4 @@
--- What each call of a link does to the units that it has to send.
+-- How each call of a link changes the units that it has to send.
 use Rattle.std.proofs.Common.{ℕ, ◌+◌, ◌<◌, ◌≤◌, ◌≡◌, ◌⊎◌, ◌==◌, Bool, true, false, cond, not, ◌&&◌, ◌||◌, nat_le, nat_lt, List, [], ◌∷◌, ◌++◌, Option, Some, None, slice_get, length, map, drop, option_map, arith, refl, sym, ap, ◌∙◌, subst, ltb-true, eqb-true, ne_eqb, length-append, inl, inr}
 use Rattle.std.proofs.lemmas.Bool.{cond_both, and_parts}
 use Rattle.std.proofs.lemmas.List.{map-append, drop-append-le, drop-drop, drop-map}
@@ -172,7 +172,7 @@ module _ (units : List Unit) (n : ℕ) where
 
 -- ---- receive
 
--- what is not in a packet's two numbers leaves the units alone
+-- the parts of a packet other than its two numbers do not change the units
 pub record Aside (l k : LinkView) : Type 0 where
   pub next : k.next ≡ l.next
   pub out : k.out ≡ l.out
@@ -229,7 +229,7 @@ numbers_from l h units n f =
       window = omega (arith, f.window);
     }
 
--- what a packet that is read does, and one that is not
+-- the link after a packet, whether it was read or not
 pub record Heard (l k : LinkView) (units : List Unit) (n : ℕ) : Type 0 where
   pub from : SendsFrom k units n
   pub queued : k.end_queued ≡ l.end_queued

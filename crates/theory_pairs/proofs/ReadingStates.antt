@@ -1,4 +1,4 @@
--- What receiving does to the state.
+-- How receiving changes the state.
 use Rattle.std.proofs.Common.{ℕ, ◌≡◌, ◌≢◌, Bool, true, false, cond, List, Option, refl, sym, ◌∙◌, ap}
 use Rattle.std.proofs.lemmas.Bool.{cond_both}
 use Rattle.ipx_wire.specs.declared.spx.packet.SpxHeader.{SpxHeader}

@@ -1,4 +1,4 @@
--- One call of receive with a fresh packet of the peer is one `get` of the machine.
+-- A call of receive with a recent packet of the peer is one `get` of the machine.
 use Rattle.std.proofs.Common.{ℕ, ◌+◌, ◌-◌, ◌<◌, ◌≤◌, ◌≡◌, ◌≢◌, ◌==◌, Bool, true, false, cond, not, ◌&&◌, nat_le, nat_lt, max, List, [], ◌++◌, Option, Some, None, is_some, slice_get, length, map, drop, take, arith, refl, sym, ap, ◌∙◌, subst, leb-true, leb-false, ltb-true, ltb-false, lt-ltb, le-ltb, length-append, inl, inr, ⊎_elim, eqb-true, length-take}
 use Rattle.std.proofs.lemmas.Bool.{not-true, cond_both, and_parts, and_cases, lt-leb, cond-true, cond-false, false_from_ne_true, cases_lt, cases_Bool, and_left, and_right}
 use Rattle.std.proofs.lemmas.Bool.Decides.{nat_tests}

@@ -80,7 +80,7 @@ leading_units (Some u ∷ xs) units read f =
 abbrev pub FormedUnits : List Unit → Bool → Type 0
 FormedUnits units closed = (k : ℕ) (u : Unit) → slice_get units k ≡ Some u → (u.stream ≤ 254) × (u.stream ≡ 254 → (closed ≡ true) × (length units ≡ k + 1) × (u ≡ the_end))
 
--- an end among the leading units is the last unit of all
+-- if an end is among the leading units, it is the last of all units
 pub leading_end : (slots : List (Option Unit)) (units : List Unit) (closed : Bool) (read : ℕ) → Fill slots units read → FormedUnits units closed
     → any_end (leading slots) ≡ true → (closed ≡ true) × (length units ≡ read + length (leading slots))
 leading_end [] units closed read f form = λ is. absurd (cc is)
@@ -95,7 +95,7 @@ leading_end (Some u ∷ xs) units closed read f form =
     let rest = leading_end xs units closed (read + 1) (fill_tail (Some u) xs units read f) form (ap (λ b. b || any_end (leading xs)) (sym other) ∙ is) in
     (rest.0, omega (arith, rest.1)))
 
--- as many marks lead as units
+-- there are as many leading marks as units
 pub lead_leading : (slots : List (Option Unit)) (units : List Unit) (closed : Bool) (read : ℕ) → Fill slots units read → FormedUnits units closed
     → read + length slots ≤ length units → lead (map is_some slots) ≡ length (leading slots)
 lead_leading [] units closed read f form fits = refl

@@ -1,5 +1,5 @@
--- What the calls of a link leave of what it received, of what it may send, and what its packets
--- allow (Novell SPX: the allocation number).
+-- How the calls of a link change what it received and what it may send, and what its packets allow (Novell
+-- SPX: the allocation number).
 use Rattle.std.specs.Prelude.{ℕ, ◌+◌, ◌≤◌, ◌≡◌, ◌≢◌, List, ◌∷◌, length, Option, Some, None}
 use Rattle.ipx_wire.specs.declared.spx.packet.SpxHeader.{SpxHeader}
 use Rattle.spx_link.specs.declared.unit.Unit.{Unit}
@@ -20,7 +20,7 @@ pub record SameReceived (l k : LinkView) : Type 0 where
   pub ahead : k.ahead ≡ l.ahead
   pub buffers : k.buffers ≡ l.buffers
 
--- a unit that is sent for the first time uses one that may be sent
+-- a unit that is sent for the first time uses up one that may be sent
 abbrev pub SendsAs : Sent → LinkView → LinkView → Type 0
 SendsAs Sents.Unit l k = k.room + 1 ≡ l.room
 SendsAs Sents.Request l k = (k.room ≡ l.room) × (k.next ≡ l.next)
@@ -34,17 +34,17 @@ abbrev pub GivesAs : LinkView → Option OutgoingView → LinkView → Type 0
 GivesAs l None k = (k.room ≡ l.room) × (k.next ≡ l.next)
 GivesAs l (Some g) k = (g.header.limit ≡ allocation l) × SendsAs g.what l k
 
--- what a poll leaves
+-- the link after a poll
 pub record AfterPoll (l : LinkView) (r : Option OutgoingView × LinkView) : Type 0 where
   pub same : SameReceived l r.1
   pub gives : GivesAs l r.0 r.1
 
--- so many units were taken: the next one that is expected stands behind those and the ones held
+-- so many units were taken: the expected number is the one after those and the held ones
 pub record HasTakenAndFits (taken : ℕ) (l : LinkView) : Type 0 where
   pub expected : l.expected ≡ mark (taken + length l.held)
   pub fits : length l.held + length l.ahead ≤ l.buffers
 
--- what a link reads that is opening: it joins
+-- the link after an opening one reads a packet: it joins
 pub record JoinsBy (l : LinkView) (h : SpxHeader) (k : LinkView) : Type 0 where
   pub same : SameReceived l k
   pub room : k.room ≡ room_after l.next l.room h.limit
@@ -69,7 +69,7 @@ pub record AllowanceLaws : Type 0 where
       → l.state ≡ Opening → (receive_link l h body).0 ≢ Stranger
       → JoinsBy l h (receive_link l h body).1
   pub takes : (l : LinkView) (u : Unit) → (take_link l).0 ≡ Some u → Took l u (take_link l).1
-  -- one that is lost gives nothing, changes nothing and reads nothing
+  -- a lost link gives nothing, changes nothing and reads nothing
   pub lost_polls : (l : LinkView) (now : ℕ) → l.state ≡ Lost → poll_link l now ≡ (None, l)
   pub lost_reads : (l : LinkView) (h : SpxHeader) (body : List ℕ)
       → l.state ≡ Lost → (receive_link l h body).0 ≡ Stranger

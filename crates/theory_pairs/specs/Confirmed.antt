@@ -1,6 +1,5 @@
--- A link that is confirmed (Novell SPX: the end of a connection and its confirmation) has queued
--- its end, and nothing is left in its queue: what the calls of a link leave of that, and of what it
--- holds.
+-- A confirmed link (Novell SPX: the end of a connection and its confirmation) has queued its end, and its
+-- queue is empty: how the calls of a link change that, and what it holds.
 use Rattle.std.specs.Prelude.{ℕ, ◌≡◌, ◌≢◌, ◌⊎◌, true, List, [], length, Option, Some}
 use Rattle.ipx_wire.specs.declared.spx.packet.SpxHeader.{SpxHeader}
 use Rattle.spx_link.specs.declared.unit.Unit.{Unit}
@@ -12,28 +11,28 @@ use Rattle.spx_link.specs.Offer.{take_link}
 use Rattle.spx_link.specs.Poll.{poll_link}
 use Rattle.spx_link.specs.Receive.{receive_link}
 
--- its end is queued, and all that it sent is acknowledged
+-- its end is queued, and everything that it sent is acknowledged
 abbrev pub HasAllAcknowledged : LinkView → Type 0
 HasAllAcknowledged l = (l.end_queued ≡ true) × (length l.queue ≡ 0)
 
--- confirmed, it is done
+-- if it is confirmed, it is done
 abbrev pub ConfirmedIsDone : LinkView → Type 0
 ConfirmedIsDone l = l.state ≡ States.Confirmed → HasAllAcknowledged l
 
--- what a poll leaves
+-- the link after a poll
 pub record PollLeaves (l k : LinkView) : Type 0 where
   pub held : k.held ≡ l.held
   pub queued : k.end_queued ≡ l.end_queued
   pub queue : length k.queue ≡ length l.queue
   pub state : (k.state ≡ l.state) ⊎ (k.state ≡ States.Lost)
 
--- what a read leaves: a reply that joins brings no unit
+-- the link after a read: a reply that joins carries no unit
 pub record ReadLeaves (l : LinkView) (r : Received × LinkView) : Type 0 where
   pub queued : r.1.end_queued ≡ l.end_queued
   pub right : ConfirmedIsDone l → ConfirmedIsDone r.1
   pub joins : r.0 ≡ Joined → (r.1.held ≡ l.held) × (r.1.state ≡ States.Live)
 
--- what a take leaves
+-- the link after a take
 pub record TakeLeaves (l : LinkView) (r : Option Unit × LinkView) : Type 0 where
   pub queued : r.1.end_queued ≡ l.end_queued
   pub queue : r.1.queue ≡ l.queue

@@ -1,5 +1,4 @@
--- What no call changes of a link, and what polls make of its next number (Novell SPX: the sequence
--- number).
+-- What no call of a link changes, and how polls change its next number (Novell SPX: the sequence number).
 use Rattle.std.specs.Prelude.{ℕ, ◌≡◌, ◌+◌, Bool, List, Option, Some, None}
 use Rattle.ipx_wire.specs.declared.address.Socket.{Socket}
 use Rattle.ipx_wire.specs.declared.address.Address.{Address}
@@ -32,7 +31,7 @@ lasting l =
       next = l.next;
     }
 
--- a poll that gives a unit for the first time makes the next number one more, and leaves the rest
+-- a poll that gives a unit for the first time adds one to the next number, and changes nothing else here
 abbrev pub NextBy : Sent → LinkView → LinkView → Type 0
 NextBy Sents.Request l k = lasting k ≡ lasting l
 NextBy Sents.Reply l k = lasting k ≡ lasting l

@@ -1,5 +1,5 @@
--- What a link is called by (ids of Novell SPX, socket, far address): its calls keep it, and its
--- packets say it.
+-- The names of a link (ids of Novell SPX, socket, remote address): its calls keep them, and its packets carry
+-- them.
 use Rattle.std.specs.Prelude.{ℕ, ◌≡◌, ◌≢◌, ◌⊎◌, ◌<◌, Bool, true, false, List, Option, Some}
 use Rattle.ipx_wire.specs.declared.address.Socket.{Socket}
 use Rattle.ipx_wire.specs.declared.address.Address.{Address}
@@ -16,7 +16,7 @@ use Rattle.spx_link.specs.Poll.{OutgoingView, poll_link}
 use Rattle.spx_link.specs.Receive.{receive_link}
 use Rattle.spx_link.specs.Offer.{take_link}
 
--- its id, its peer's, its socket and the far address
+-- its id, its peer's, its socket and the remote address
 pub record Names : Type 0 where
   pub own : ℕ
   pub peer : ℕ
@@ -37,7 +37,7 @@ pub record IsReply (n : Names) (h : SpxHeader) : Type 0 where
   pub to : h.to_id ≡ n.own
   pub from : h.from_id < no_id
 
--- a link that joins gets its peer's id, any other one that reads keeps all
+-- a link that joins gets its peer's id, and any other link that reads keeps all names
 pub record ReadNames (l : LinkView) (h : SpxHeader) (r : Received × LinkView) : Type 0 where
   pub joins : r.0 ≡ Joined
       → IsReply (names l) h × (names r.1 ≡ record (names l) { peer = h.from_id })

@@ -1,5 +1,5 @@
--- A window, and a place that is asked for again: what the machine, the names and the units speak of
--- stays under both calls.
+-- A change of the window, and a request to retransmit: both calls keep what the machine, the names and the
+-- units speak of.
 use Rattle.std.specs.Prelude.{ℕ, ◌≡◌, Bool}
 use Rattle.spx_link.specs.LinkView.{LinkView}
 use Rattle.spx_link.specs.Units.{queued_units}

@@ -1,5 +1,5 @@
--- What the calls of a link do to the units that it has to send, beside how many of them it sent.
--- (No premise: whatever was read.)
+-- How the calls of a link change the units that it has to send, and how many of them it sent. (There is no
+-- premise: whatever was read.)
 use Rattle.std.specs.Prelude.{ℕ, ◌≡◌, ◌<◌, ◌≤◌, ◌+◌, ◌++◌, Bool, false, List, [], ◌∷◌, length, drop, Option, None, Some, slice_get}
 use Rattle.ipx_wire.specs.declared.address.Socket.{Socket}
 use Rattle.ipx_wire.specs.declared.address.Address.{Address}
@@ -26,13 +26,13 @@ pub record SendsFrom (l : LinkView) (units : List Unit) (n : ℕ) : Type 0 where
   pub some : n ≤ length units
   pub window : l.out ≤ most_units
 
--- the link of an end with these units, n of which it sent
+-- the link of an end with these units, n of which were sent
 pub record Queues (l : LinkView) (units : List Unit) (n : ℕ) : Type 0 where
   pub from : SendsFrom l units n
   pub formed : Formed units l.end_queued
   pub open' : IsOpen l
 
--- the packet carries the unit of this position, and is read as nothing else
+-- the packet carries the unit of this position, and cannot be read as another one
 pub record GivesUnit (g : OutgoingView) (units : List Unit) (k : ℕ) : Type 0 where
   pub u : Unit
   pub there : slice_get units k ≡ Some u
@@ -41,7 +41,7 @@ pub record GivesUnit (g : OutgoingView) (units : List Unit) (k : ℕ) : Type 0 w
   pub reads : is_system g.header ≡ false
   pub number : g.header.seq ≡ mark k
 
--- what is given as the link becomes m
+-- what is given when the link becomes m
 abbrev pub IsGivenOut : Sent → OutgoingView → LinkView → List Unit → ℕ → Type 0
 IsGivenOut Sents.Request g m units n = SendsFrom m units n
 IsGivenOut Sents.Reply g m units n = SendsFrom m units n

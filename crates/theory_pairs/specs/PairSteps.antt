@@ -1,5 +1,4 @@
--- Each call of a link is a step of the machine: receive of a fresh packet, poll, take, offer and
--- end.
+-- Each call of a link is a step of the machine: receive of a recent packet, poll, take, offer and end.
 use Rattle.std.specs.Prelude.{ℕ, ◌≡◌, ◌≢◌, ◌<◌, ◌≤◌, ◌+◌, ◌++◌, Bool, List, [], ◌∷◌, None, Some, slice_get}
 use Rattle.ipx_wire.specs.declared.spx.packet.SpxHeader.{SpxHeader}
 use Rattle.spx_link.specs.declared.unit.Unit.{Unit}
@@ -14,7 +13,7 @@ use Rattle.spx_link.specs.Fresh.{IsRecentPacket}
 use Rattle.theory_pairs.specs.Tracks.{Formed, Follows, IsOpen, core}
 use Rattle.theory_pairs.specs.Spelling.{Spells, Carries, PolledTo}
 
--- the packet q of d, which c reads now: it is fresh, and the header and body say what it says
+-- the packet q of d, which c reads now: it is recent, and the header and body spell it
 pub record IsReadNow (l : LinkView) (h : SpxHeader) (body : List ℕ) (q : Packet)
     (c d : End) : Type 0 where
   pub follows : Follows l c d
@@ -35,7 +34,7 @@ pub record TakesTo (l : LinkView) (u : Unit) (c d : End) : Type 0 where
   pub is : slice_get d.units c.taken ≡ Some u
   pub follows : Follows (take_link l).1 (record c { taken = c.taken + 1 }) d
 
--- the link that follows its end goes on to follow it
+-- a link that follows its end still follows it after each call
 pub record StepLaws : Type 0 where
   pub receives : (l : LinkView) (h : SpxHeader) (body : List ℕ) (q : Packet) (c d : End)
       → IsReadNow l h body q c d → (receive_link l h body).0 ≢ Stranger

@@ -1,5 +1,5 @@
--- What the fields of an SPX packet say, as positions of the machine: those of a packet that is
--- read, and those of a packet that a link gives.
+-- The fields of an SPX packet as positions of the machine: of a packet that is read, and of a packet that a
+-- link gives.
 use Rattle.std.specs.Prelude.{ℕ, ◌+◌, ◌<◌, ◌≤◌, ◌≡◌, true, false, List, length, Option, None, Some, slice_get}
 use Rattle.ipx_wire.specs.declared.spx.packet.SpxHeader.{SpxHeader}
 use Rattle.spx_link.specs.declared.unit.Unit.{Unit}
@@ -11,7 +11,7 @@ use Rattle.spx_link.specs.Receive.{is_system}
 use Rattle.spx_link.specs.Machine.{End, Packet, packet_now, one_more_sent}
 use Rattle.theory_pairs.specs.Tracks.{Core, Tracks}
 
--- a header spells a packet's two numbers
+-- a header has a packet's two numbers
 pub record Spells (p : Packet) (h : SpxHeader) : Type 0 where
   pub ack : h.ack ≡ mark p.read
   pub limit : h.limit ≡ mark (p.allows + 65535)
@@ -24,13 +24,13 @@ Carries (Some n) units h body =
     × (slice_get units n
     ≡ Some (record { stream = h.stream; last = h.last; body = record { items = body } }))
 
--- what was given is the packet of this position, and the link is the end as it is then
+-- the given packet is that of this position, and the link is its end after that
 pub record Says (l : Core) (g : OutgoingView) (position : Option ℕ) (c d : End) : Type 0 where
   pub tracks : Tracks l c d
   pub spells : Spells (packet_now position c d) g.header
   pub carries : Carries position c.units g.header g.body
 
--- what a poll gave is a packet without a unit, with the next one, or with one that is outstanding
+-- a poll gave a packet without a unit, with the next unit, or with one that is outstanding
 abbrev pub Spoke : Sent → Core → OutgoingView → End → End → Type 0
 Spoke Sents.Request l g c d = Says l g None c d
 Spoke Sents.Reply l g c d = Says l g None c d

@@ -1,5 +1,5 @@
--- What the calls of a link do to its state, as far as the stages of a connection need it (Novell
--- SPX: opening, live, lost).
+-- How the calls of a link change its state, as far as the theorems of connections need it (Novell SPX:
+-- opening, live, lost).
 use Rattle.std.specs.Prelude.{ℕ, ◌≡◌, ◌≢◌, Bool, true, false, List, None, Some}
 use Rattle.ipx_wire.specs.declared.spx.packet.SpxHeader.{SpxHeader}
 use Rattle.spx_link.specs.declared.state.State.{State}
@@ -21,7 +21,7 @@ is_quiet Confirmed = false
 is_quiet Lost = true
 
 pub record StateLaws : Type 0 where
-  -- no call makes a link open
+  -- no call puts a link into the opening state
   pub polls_open : (l : LinkView) (now : ℕ)
       → (poll_link l now).1.state ≡ Opening → l.state ≡ Opening
   pub reads_open : (l : LinkView) (h : SpxHeader) (body : List ℕ)
@@ -29,8 +29,7 @@ pub record StateLaws : Type 0 where
   pub joins : (l : LinkView) (h : SpxHeader) (body : List ℕ)
       → (receive_link l h body).0 ≡ Joined → l.state ≡ Opening
   pub takes_open : (l : LinkView) → (take_link l).1.state ≡ l.state
-  -- one that is opening or lost gives requests alone, reads nothing but a reply, and is offered
-  -- nothing
+  -- a link that is opening or lost gives only requests, reads only a reply, and is offered nothing
   pub quiet_asks : (l : LinkView) (now : ℕ) (g : OutgoingView)
       → is_quiet l.state ≡ true → (poll_link l now).0 ≡ Some g → g.what ≡ Request
   pub quiet_stays : (l : LinkView) (now : ℕ)

@@ -1,4 +1,4 @@
--- What ties a link of 16-bit numbers (Novell SPX) to its end of the machine, whose numbers never
+-- The relation of a link with 16-bit numbers (Novell SPX) to its end of the machine, whose numbers never
 -- wrap.
 use Rattle.std.specs.Prelude.{ℕ, ◌+◌, ◌≤◌, ◌≡◌, Bool, true, false, List, length, take, drop, map, Option, Some, slice_get, is_some}
 use Rattle.spx_link.specs.declared.unit.Unit.{Unit}
@@ -11,7 +11,7 @@ use Rattle.spx_link.specs.Units.{queued_units}
 use Rattle.spx_link.specs.Machine.{End, lead}
 use Rattle.spx_link.specs.Offer.{the_end}
 
--- what of a link the machine speaks of: no moment, no count, no owed mark, no state
+-- the part of a link that the machine speaks of: without times, counts, owed packets and state
 pub record Core : Type 0 where
   pub queue : List Unit
   pub out : ℕ
@@ -50,16 +50,16 @@ pub record AgreesWith (l : Core) (c : End) : Type 0 where
   pub window : l.out ≤ most_units
   pub small : c.buffers ≤ most_units
 
--- the units of an end: none of stream FF; one of stream FE stands last, is the end of the
--- connection that was asked for, and is there where `closed`
+-- the units of an end: none is of stream FF; one of stream FE is the last one, is the end of the connection
+-- that was asked for, and is there if `closed`
 pub record Formed (units : List Unit) (closed : Bool) : Type 0 where
   pub stream : (k : ℕ) (u : Unit) → slice_get units k ≡ Some u → u.stream ≤ end_stream
   pub end : (k : ℕ) (u : Unit) → slice_get units k ≡ Some u → u.stream ≡ end_stream
       → (closed ≡ true) × (length units ≡ k + 1) × (u ≡ the_end)
   pub there : closed ≡ true → (k : ℕ) × (slice_get units k ≡ Some the_end)
 
--- the link is the end c, whose peer is d: it queues c's units from the base on, holds those of d
--- that are read and not taken, and keeps those of d that the machine keeps
+-- the link is the end c, whose peer is d: it queues c's units from the base on, holds those of d that are
+-- read and not taken, and keeps those of d that the machine keeps
 pub record Tracks (l : Core) (c d : End) : Type 0 where
   pub counts : AgreesWith l c
   pub queue : l.queue ≡ drop c.base c.units
@@ -71,7 +71,7 @@ pub record Tracks (l : Core) (c d : End) : Type 0 where
   pub ended : l.peer_ended ≡ true → Formed d.units true × (length d.units ≤ c.read)
   pub formed : Formed c.units l.end_queued
 
--- the states before an end is asked for
+-- the states before the end of the connection is asked for
 abbrev pub may_end : State → Bool
 may_end Opening = true
 may_end Live = true
@@ -80,7 +80,7 @@ may_end PeerEnded = false
 may_end Confirmed = false
 may_end Lost = false
 
--- in them none is queued
+-- in these states no end is queued
 abbrev pub IsOpen : LinkView → Type 0
 IsOpen l = may_end l.state ≡ true → l.end_queued ≡ false
 

@@ -1,7 +1,7 @@
-//! A link and its end of the machine whose numbers never wrap: theory, without code.
+//! A link and its end of the machine whose numbers never wrap. This crate is theory, without code.
 //!
 //! `spx_link` has the functions of a link, in 16-bit numbers, and the machine. Each law here says
-//! what one call of a link does beside the machine, whatever packet it reads. Each stands in
+//! what one call of a link does in the machine, whatever packet it reads. Each is defined in
 //! `specs/`, in the file that its function names.
 #![tactic(auto)]
 

@@ -1,4 +1,4 @@
--- A world in which nothing happened yet, and all that come of it.
+-- A world in which nothing happened yet, and all worlds that steps reach from it.
 use Rattle.std.proofs.Common.{◌≡◌, ◌≢◌, ℕ, [], map, Some, sym, ◌∙◌, ap, subst}
 use Rattle.std.specs.Prelude.{slice_get}
 use Rattle.spx_units.specs.WrittenPackets.{Home}

@@ -1,4 +1,4 @@
--- The calls on ends are a deed each, and leave a world in order.
+-- Each call on an end is a deed, and leaves a world in order.
 use Rattle.std.proofs.Common.{◌≡◌, ℕ, Bool, false, List, [], ◌∷◌, ◌++◌, length, map, set, Some, None, refl, sym, ◌∙◌, ap, subst, arith}
 use Rattle.std.specs.Prelude.{slice_get}
 use Rattle.std.proofs.lemmas.List.{append-nil}
@@ -108,7 +108,7 @@ closes_deeds old new who o c =
 pub closes_kept : (old new : World) (who : ℕ) → InOrder old → Closes old who new → InOrder new
 closes_kept old new who o c = changed_kept old new who end_link (Notes.AsksEnd who) o c
 
--- ---- a window, and a place that is asked for again
+-- ---- a change of the window, and a request to retransmit
 
 quiet_scene : (old new : World) (who : ℕ) (f : LinkView → LinkView) → InOrder old → (c : ChangesQuietly old who f new)
     → scene_of new ≡ put_end (scene_of old) who (linked (stand_with c.end' (Some c.held)) (f c.held.link))
@@ -140,7 +140,7 @@ asks_deeds old new who place o c =
     one_deed (Scenes.AsksAgain who place) (scene_of old) (scene_of new)
     (record { stand = stand_with c.end' (Some c.held); link = c.held.link; stands = quiet_stands old new who f c; after = quiet_scene old new who f o c })
 
--- ---- a packet from outside, and the moment
+-- ---- a packet from outside, and a clock tick
 
 pub injects_deeds : (old new : World) (segment : Network) (next : Node) (bytes : List ℕ) → InjectsInto old segment next bytes new → Deeds (scene_of old) (scene_of new)
 injects_deeds old new segment next bytes d =

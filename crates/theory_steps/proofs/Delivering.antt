@@ -1,4 +1,4 @@
--- A parcel that is delivered to a host is one deed at most.
+-- The delivery of a parcel to a host is at most one deed.
 use Rattle.std.proofs.Common.{◌≡◌, ℕ, false, List, [], ◌∷◌, ◌++◌, length, map, set, Some, None, refl, sym, ◌∙◌, inl, inr, ap, subst, arith}
 use Rattle.std.specs.Prelude.{slice_get}
 use Rattle.std.proofs.lemmas.List.{append-nil}

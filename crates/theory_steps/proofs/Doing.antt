@@ -1,4 +1,4 @@
--- Deeds one after another; and where each of many ends rests, or stays as it is, that is a list of deeds.
+-- Deeds one after another; and polls that give nothing at many ends are a list of deeds.
 use Rattle.std.proofs.Common.{◌≡◌, ◌⊎◌, ℕ, zero, suc, List, [], ◌∷◌, ◌++◌, length, Some, None, refl, sym, ◌∙◌, inl, inr, ap, subst, arith, append_assoc}
 use Rattle.std.specs.Prelude.{slice_get}
 use Rattle.spx_link.specs.LinkView.{LinkView}
@@ -21,7 +21,7 @@ does_more (d ∷ ds) es a b c one two = (one.0, one.1, does_more ds es one.0 b c
 pub then : (a b c : Scene) → Deeds a b → Deeds b c → Deeds a c
 then a b c one two = (one.0 ++ two.0, does_more one.0 two.0 a b c one.1 two.1)
 
--- what was reached is reached after deeds
+-- a scene that can be reached still can after deeds
 reached_all : (ds : List Deed) (old new : Scene) → Reached old → DoesAll ds old new → Reached new
 reached_all [] old new r does = subst Reached (sym does) r
 reached_all (d ∷ ds) old new r does = reached_all ds does.0 new (happened old d r does.1) does.2
@@ -29,7 +29,7 @@ reached_all (d ∷ ds) old new r does = reached_all ds does.0 new (happened old 
 pub reached_after : (old new : Scene) → Reached old → Deeds old new → Reached new
 reached_after old new r deeds = reached_all deeds.0 old new r deeds.1
 
--- ---- many rests
+-- ---- many polls that give nothing
 
 abbrev pub RestsOr : ℕ → Stand → Stand → Type 0
 RestsOr now x y = (y ≡ x) ⊎ ((l : LinkView) × (x.link ≡ Some l) × ((poll_link l now).0 ≡ None) × (y ≡ linked x (poll_link l now).1))
@@ -63,7 +63,7 @@ rest_on s now done (x ∷ xs) (y ∷ ys) same each =
     subst (λ es. Deeds (with_ends s (done ++ y ∷ xs)) (with_ends s es)) (append_assoc done (y ∷ []) ys) from in
     then (with_ends s (done ++ x ∷ xs)) (with_ends s (done ++ y ∷ xs)) (with_ends s (done ++ y ∷ ys)) (step_on s now done x y xs (each zero x y refl refl)) to
 
--- each end rests or stays as it is
+-- each end is polled and gives nothing, or stays as it is
 pub all_rest : (s : Scene) (now : ℕ) (ys : List Stand) → length s.ends ≡ length ys
     → ((j : ℕ) (x y : Stand) → slice_get s.ends j ≡ Some x → slice_get ys j ≡ Some y → RestsOr now x y) → Deeds s (with_ends s ys)
 all_rest s now ys same each = rest_on s now [] s.ends ys same each

@@ -1,4 +1,4 @@
--- A world stays in order where a host changes and its ids stay, and where one comes.
+-- A world stays in order if a host changes and its ids stay, and if an id is added.
 use Rattle.std.proofs.Common.{◌≡◌, ◌≢◌, ◌⊎◌, ◌==◌, ℕ, Bool, true, false, cond, List, [], ◌∷◌, ◌++◌, length, set, Option, Some, None, refl, sym, ◌∙◌, inl, inr, ap, subst}
 use Rattle.std.specs.Prelude.{slice_get}
 use Rattle.std.proofs.lemmas.Bool.{cases_eq, cases_Bool, cond-true, cond-false}
@@ -26,7 +26,7 @@ same_ends olds news same =
       on = λ j e at. (e, ap (λ xs. slice_get xs j) same ∙ at, record { host = refl; id = refl; released = refl });
     }
 
--- an end is written that its host knows as before
+-- an end is replaced by one that its host knows in the same way
 pub set_ends : (olds : List EndNow) (who : ℕ) (e e' : EndNow) → slice_get olds who ≡ Some e → IsSameEnd e e' → SameEnds olds (set olds who e')
 set_ends olds who e e' at same =
     record {
@@ -45,7 +45,7 @@ moved_end olds news k id who same it =
     let to : (e' : EndNow) × (slice_get news who ≡ Some e') × IsSameEnd it.end' e' = same.on who it.end' it.at in
     record { end' = to.0; at = to.1; host_is = to.2.host ∙ it.host_is; id_is = to.2.id ∙ it.id_is; stands = to.2.released ∙ it.stands }
 
--- what a host holds an id for, it still does, and for no other
+-- a host holds something for the same ids as before
 pub record SameIds (s s' : EndpointView) : Type 0 where
   pub on : (q : ℕ) (h : Held) → held_at s q ≡ Some h → (h' : Held) × (held_at s' q ≡ Some h')
   pub back : (q : ℕ) (h' : Held) → held_at s' q ≡ Some h' → (h : Held) × (held_at s q ≡ Some h)
@@ -96,7 +96,7 @@ module _ (old new : World) (o : InOrder old) (k : ℕ) (s s' : HostState) (there
         ];
       }
 
--- ---- an id comes
+-- ---- an id is added
 
 pub cases_option : {A : Type 0} (o : Option A) → (o ≡ None) ⊎ ((x : A) × (o ≡ Some x))
 cases_option None = inl refl
@@ -106,7 +106,7 @@ found_on : (b : Bool) (x : ℕ) (o o' : Option ℕ) (y : ℕ) → cond b (Some x
 found_on true x o o' y is on = is
 found_on false x o o' y is on = on is
 
--- what was known stays known
+-- an id that was known is still known
 end_at_more : (xs ys : List (ℕ × ℕ)) (q who : ℕ) → end_at xs q ≡ Some who → end_at (xs ++ ys) q ≡ Some who
 end_at_more [] ys q who is = cc
 end_at_more (x ∷ xs) ys q who is = found_on (x.0 == q) x.1 (end_at xs q) (end_at (xs ++ ys) q) who is (λ e. end_at_more xs ys q who e)
@@ -115,7 +115,7 @@ none_on : (b : Bool) (x : ℕ) (o o' p : Option ℕ) → cond b (Some x) o ≡ N
 none_on true x o o' p is on = cc
 none_on false x o o' p is on = on is
 
--- what was not is looked for in what came
+-- an id that was not known is looked up among the new ones
 end_at_past : (xs ys : List (ℕ × ℕ)) (q : ℕ) → end_at xs q ≡ None → end_at (xs ++ ys) q ≡ end_at ys q
 end_at_past [] ys q is = refl
 end_at_past (x ∷ xs) ys q is = none_on (x.0 == q) x.1 (end_at xs q) (end_at (xs ++ ys) q) (end_at ys q) is (λ e. end_at_past xs ys q e)
@@ -136,7 +136,7 @@ module _ (old new : World) (o : InOrder old) (k : ℕ) (s s' : HostState) (there
     (id : ℕ) (e : EndNow) (on_host : e.host ≡ k) (has_id : e.id ≡ id) (is_live : e.released ≡ false)
     (free : held_at s.endpoint id ≡ None) (h : Held) (holds : held_at s'.endpoint id ≡ Some h) (others : (q : ℕ) → q ≢ id → held_at s'.endpoint q ≡ held_at s.endpoint q)
     (here : s'.here ≡ s.here ++ (id, length old.ends) ∷ []) (ends : new.ends ≡ old.ends ++ e ∷ []) where
-  -- the host knew no end by it
+  -- the host knew no end by this id
   unknown : end_at s.here id ≡ None
   unknown = elim (cases_option (end_at s.here id)) [
     | inl none ↦ none

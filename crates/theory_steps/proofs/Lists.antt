@@ -1,4 +1,4 @@
--- Lists with one element more, or another one.
+-- Lists with one more element, or a different one.
 use Rattle.std.proofs.Common.{◌≡◌, ◌≢◌, ◌⊎◌, ℕ, zero, suc, List, [], ◌∷◌, ◌++◌, length, set, Some, refl, inl, inr, ap, arith}
 use Rattle.std.specs.Prelude.{slice_get}
 
@@ -13,7 +13,7 @@ get_before [] ys z k e = cc
 get_before (x ∷ xs) ys z zero e = e
 get_before (x ∷ xs) ys z (suc k) e = get_before xs ys z k e
 
--- what stands at a place of a list in which one place was written
+-- the element at an index of a list in which one element was replaced
 pub get_set : {A : Type 0} (xs : List A) (j k : ℕ) (x y : A) → slice_get (set xs j x) k ≡ Some y → ((j ≡ k) × (x ≡ y)) ⊎ ((j ≢ k) × (slice_get xs k ≡ Some y))
 get_set [] j k x y e = cc
 get_set (z ∷ zs) zero zero x y e = inl (refl, cc)

@@ -1,4 +1,5 @@
--- A poll of a host is a rest of each of its ends below the one that gives, and one that gives at most.
+-- A poll of a host is a poll without a packet of each of its ends below the one that gives a packet, and at
+-- most one that gives.
 use Rattle.std.proofs.Common.{◌≡◌, ◌⊎◌, ℕ, false, List, [], ◌∷◌, ◌++◌, length, map, set, take, Option, Some, None, refl, sym, ◌∙◌, inl, inr, ap, subst, arith, length-set}
 use Rattle.std.specs.Prelude.{slice_get}
 use Rattle.std.proofs.lemmas.List.{append-nil}
@@ -20,7 +21,7 @@ use Rattle.theory_steps.proofs.Finding.{Found, found}
 use Rattle.theory_steps.proofs.Lists.{get_set}
 use Rattle.spx_messages.specs.Polls as Polled
 
--- the end rests if its id did, where it is of this host; and stays as it is elsewhere
+-- if the end is of this host and its id gave nothing, the end gives nothing; other ends stay as they are
 rests_or : (w : World) → InOrder w → (k : ℕ) (s s' : HostState) → slice_get w.hosts k ≡ Some s → (j : ℕ) (x : EndNow) → slice_get w.ends j ≡ Some x
     → (x.released ≡ false → x.host ≡ k → RestsAt s.endpoint s'.endpoint w.moment x.id ⊎ (held_at s'.endpoint x.id ≡ held_at s.endpoint x.id))
     → RestsOr w.moment (stand_of w.hosts x) (stand_of (set w.hosts k s') x)
@@ -44,7 +45,7 @@ rests_or w o k s s' there j x at each = elim (cases_Bool x.released) [
 same_length : (hosts hosts' : List HostState) (ends : List EndNow) → length (map (stand_of hosts) ends) ≡ length (map (stand_of hosts') ends)
 same_length hosts hosts' ends = map_length (stand_of hosts) ends ∙ sym (map_length (stand_of hosts') ends)
 
--- each of the host's ends rests
+-- each of the host's ends gives nothing
 gives_nothing : (old new : World) (host : ℕ) (o : InOrder old) (d : PollsHost old host None new) → Deeds (scene_of old) (scene_of new)
 gives_nothing old new host o d =
     let g : GivesNothing d.before.endpoint old.moment d.room d.written d.after.endpoint = d.polls.gives in
@@ -65,7 +66,7 @@ gives_nothing old new host o d =
     ∙ ap (made (map home_at old.hosts) ends (map bytes_of old.parcels) (map segment_of old.parcels)) (append-nil old.log) in
     subst (Deeds (scene_of old)) (sym is) rests
 
--- those below the one that gives rest, and then it gives
+-- the ends below the one that gives give nothing, and then it gives
 gives_one : (old new : World) (host : ℕ) (r : Node × ℕ) (o : InOrder old) (d : PollsHost old host (Some r) new) → Deeds (scene_of old) (scene_of new)
 gives_one old new host r o d =
     let g : Polled.FirstLinkGives d.before.endpoint old.moment r.0 r.1 d.room d.written d.after.endpoint = d.polls.gives in

@@ -43,7 +43,7 @@ module _ (old new : World) (who : ℕ) (o : InOrder old) (d : ReleasesOf old who
         after = scene_after old new d.end'.host d.before d.after (set (map (stand_of old.hosts) old.ends) who (stand_with e' None)) (Notes.Released who ∷ []) d.there d.hosts d.releases.self ends d.parcels d.log;
       })
 
-  -- another end is where it was
+  -- another end is where it was before
   still_end : (k id j : ℕ) (it : IsEndOf old.ends k id j) → j ≢ who → IsEndOf (set old.ends who e') k id j
   still_end k id j it apart =
       record { end' = it.end'; at = get_set_other old.ends who j e' apart ∙ it.at; host_is = it.host_is; id_is = it.id_is; stands = it.stands }

@@ -1,4 +1,4 @@
--- The ends of a world in its scene, and what becomes of them where one host changes.
+-- The ends of a world in its scene, and how they change if one host changes.
 use Rattle.std.proofs.Common.{◌≡◌, ◌≢◌, ℕ, false, cond, List, ◌++◌, map, set, Option, Some, None, sym, ◌∙◌, inl, inr, ap}
 use Rattle.std.specs.Prelude.{slice_get}
 use Rattle.std.proofs.lemmas.Bool.{cases_eq, cases_Bool, cond-true, cond-false}
@@ -32,7 +32,7 @@ none_held e id none = ap (λ o. held_with o (rest_in e.parts id)) none
 pub held_stands : (hosts : List HostState) (e : EndNow) (s : HostState) → e.released ≡ false → slice_get hosts e.host ≡ Some s → held_of hosts e ≡ held_at s.endpoint e.id
 held_stands hosts e s stands there = cond-false e.released None (held_in (slice_get hosts e.host) e.id) stands ∙ ap (λ o. held_in o e.id) there
 
--- one host changes, but not what it holds for this end
+-- one host changes, but not in what it holds for this end
 pub held_same : (hosts : List HostState) (k : ℕ) (s s' : HostState) (e : EndNow) → slice_get hosts k ≡ Some s
     → (e.released ≡ false → e.host ≡ k → held_at s'.endpoint e.id ≡ held_at s.endpoint e.id) → held_of (set hosts k s') e ≡ held_of hosts e
 held_same hosts k s s' e there same = elim (cases_Bool e.released) [
@@ -56,7 +56,7 @@ the_only w o j who x e at stands at' stands' host id =
     let known : end_at b.station.here e.id ≡ Some j = ap (end_at b.station.here) (sym id) ∙ ap (λ (s : HostState). end_at s.here x.id) (sym same) ∙ a.known in
     one_of_it (end_at b.station.here e.id) j who known b.known
 
--- the station that an end stands at
+-- the host of an end
 pub held_there : (w : World) → InOrder w → (who : ℕ) (e : EndNow) (s : HostState) (k : ℕ) → slice_get w.ends who ≡ Some e → e.released ≡ false → e.host ≡ k → slice_get w.hosts k ≡ Some s
     → (h : Held) × (held_at s.endpoint e.id ≡ Some h)
 held_there w o who e s k at stands host there =
@@ -64,7 +64,7 @@ held_there w o who e s k at stands host there =
     let same : a.station ≡ s = one_of_it (slice_get w.hosts e.host) a.station s a.there (ap (slice_get w.hosts) host ∙ there) in
     (a.held, ap (λ (z : HostState). held_at z.endpoint e.id) (sym same) ∙ a.live)
 
--- an end as it stands in the scene
+-- an end as it is in the scene
 pub stands_there : (hosts : List HostState) (ends : List EndNow) (who : ℕ) (e : EndNow) (s : HostState) (h : Held) → slice_get ends who ≡ Some e → e.released ≡ false
     → slice_get hosts e.host ≡ Some s → held_at s.endpoint e.id ≡ Some h → slice_get (map (stand_of hosts) ends) who ≡ Some (stand_with e (Some h))
 stands_there hosts ends who e s h at stands there holds =
@@ -72,7 +72,7 @@ stands_there hosts ends who e s h at stands there holds =
 
 -- ---- what changes
 
--- a host holds what it held
+-- a host holds what it held before
 pub ends_same : (hosts : List HostState) (ends : List EndNow) (k : ℕ) (s s' : HostState) → slice_get hosts k ≡ Some s → ((q : ℕ) → held_at s'.endpoint q ≡ held_at s.endpoint q)
     → map (stand_of (set hosts k s')) ends ≡ map (stand_of hosts) ends
 ends_same hosts ends k s s' there same =

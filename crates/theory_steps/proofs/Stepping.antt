@@ -46,6 +46,6 @@ step_kept old new o (Ticked now d) = order_of_same old new d.hosts d.ends o
 step_kept old new o (Told router letters d) = order_of_same old new d.hosts d.ends o
 step_kept old new o (Carried parcel router port segment next bytes d) = order_of_same old new d.hosts d.ends o
 
--- so the scene of a world stays one that is reached
+-- so deeds still reach the scene of the world
 pub step_reaches : (old new : World) → InOrder old → Reached (scene_of old) → WorldStep old new → Reached (scene_of new)
 step_reaches old new o r d = reached_after (scene_of old) (scene_of new) r (step_deeds old new o d)

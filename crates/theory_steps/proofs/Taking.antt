@@ -1,4 +1,4 @@
--- A take of an end is one deed at most.
+-- A take from an end is at most one deed.
 use Rattle.std.proofs.Common.{◌≡◌, ◌≢◌, ◌≤◌, ℕ, zero, suc, true, false, cond, List, [], ◌∷◌, ◌++◌, length, map, set, Option, Some, None, Ok, Err, refl, sym, ◌∙◌, inl, inr, ap, arith, append_assoc}
 use Rattle.std.specs.Prelude.{Result, slice_get}
 use Rattle.std.proofs.lemmas.List.{append-nil, map-set}
@@ -59,7 +59,7 @@ module _ (old new : World) (who : ℕ) (answer : Result TakenView EndFault) (o :
   abbrev scene_taken_as : Result TakenView EndFault → Held → List Note → Scene
   scene_taken_as a after ns = with_entries (put_end (scene_of old) who (stand_with (marked_over a t.end') (Some after))) ns
 
-  -- the scene, once it is known what the take came to
+  -- the scene, by the result of the take
   scene_taken : (a : Result TakenView EndFault) (after : Held) (u : Option Unit) → take_end t.held ≡ (a, after) → first_of t.held.link.held ≡ u → scene_of new ≡ scene_taken_as a after (notes_for a u who)
   scene_taken a after u is first =
       let e' : EndNow = marked_over a t.end' in

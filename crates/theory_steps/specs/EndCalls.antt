@@ -1,4 +1,4 @@
--- What the calls on ends do to a world, exactly, where they are not refused.
+-- What the calls on ends do to a world, exactly, if they are not refused.
 use Rattle.std.specs.Prelude.{ℕ, ◌≡◌, ◌≢◌, ◌<◌, ◌≤◌, Bool, true, false, List, [], ◌∷◌, ◌++◌, length, set, Some, None, slice_get}
 use Rattle.ipx_wire.specs.declared.address.Network.{Network}
 use Rattle.ipx_wire.specs.declared.address.Node.{Node}
@@ -34,7 +34,7 @@ pub record DialsFrom (old : World) (host : ℕ) (socket : Socket) (to : Address)
   pub log : new.log ≡ old.log ++ Notes.Opened (length old.ends) host buffers ∷ []
   pub moment : new.moment ≡ old.moment
 
--- the link of an end becomes another one, and this is noted
+-- the link of an end changes, with this entry
 pub record ChangesLink (old : World) (who : ℕ) (f : LinkView → LinkView) (note : Note)
     (new : World) : Type 0 where
   pub end' : EndNow
@@ -63,7 +63,7 @@ pub record SendsTo (old : World) (who : ℕ) (m : MessageView) (new : World) : T
 abbrev pub Closes : World → ℕ → World → Type 0
 Closes old who new = ChangesLink old who end_link (Notes.AsksEnd who) new
 
--- the link of an end becomes another one, whatever its state, and nothing is noted
+-- the link of an end changes, whatever its state, without an entry
 pub record ChangesQuietly (old : World) (who : ℕ) (f : LinkView → LinkView)
     (new : World) : Type 0 where
   pub end' : EndNow

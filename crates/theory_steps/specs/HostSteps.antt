@@ -28,12 +28,12 @@ abbrev pub read_notes : Option ℕ → Received → ℕ → List Note
 read_notes None r parcel = []
 read_notes (Some who) r parcel = notes_of r who parcel
 
--- only what a link read is noted, not a request that came again
+-- only a packet that a link read makes an entry, and not a repeated request
 abbrev pub heard_notes : List (ℕ × ℕ) → Option ℕ → Received → ℕ → List Note
 heard_notes here None r parcel = []
 heard_notes here (Some id) r parcel = read_notes (end_at here id) r parcel
 
--- an answer, the host after it, and how many ends there were
+-- the entries of an answer, with the host after it and the number of ends before it
 abbrev pub arrival_notes : Arrived → HostState → ℕ → ℕ → List Note
 arrival_notes (Arriveds.Bad f) s count parcel = []
 arrival_notes Arriveds.NotOurs s count parcel = []
@@ -45,7 +45,7 @@ arrival_notes (Arriveds.Accepted id) s count parcel =
     Notes.Accepted count parcel (buffers_of (held_at s.endpoint id)) ∷ Notes.Got count parcel ∷ []
 arrival_notes (Arriveds.Link id r) s count parcel = heard_notes s.here s.endpoint.heard r parcel
 
--- the ends after it, and how the host knows them
+-- the ends after it, and the host's ids for them
 abbrev pub ends_after : Arrived → ℕ → List EndNow → List EndNow
 ends_after (Arriveds.Bad f) host ends = ends
 ends_after Arriveds.NotOurs host ends = ends
@@ -117,7 +117,7 @@ pub record PollsHost (old : World) (host : ℕ) (result : Option (Node × ℕ))
   pub log : new.log ≡ old.log ++ said_notes before.here after.endpoint.said (length old.parcels)
   pub moment : new.moment ≡ old.moment
 
--- ---- an end is taken from
+-- ---- a unit is taken from an end
 
 abbrev pub whole_notes : Result TakenView EndFault → ℕ → List Note
 whole_notes (Ok Nothing) who = []
@@ -126,13 +126,13 @@ whole_notes (Ok (Whole m)) who = Notes.HandsOut who m ∷ []
 whole_notes (Ok PeerEnd) who = []
 whole_notes (Err f) who = []
 
--- a take that is refused leaves none: that the message grew too long is no entry
+-- a take that is refused makes no entry, even if the message grew too long
 abbrev pub unit_notes : Result TakenView EndFault → Option Unit → ℕ → List Note
 unit_notes (Ok t) None who = []
 unit_notes (Ok t) (Some u) who = Notes.TakesUnit who u ∷ []
 unit_notes (Err f) u who = []
 
--- where memory suffices, a take is refused for this alone
+-- if there is enough memory, a take is refused only for this
 abbrev pub marked_over : Result TakenView EndFault → EndNow → EndNow
 marked_over (Ok t) e = e
 marked_over (Err f) e = record e { overlong = true }

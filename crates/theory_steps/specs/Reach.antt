@@ -1,4 +1,4 @@
--- Worlds that steps come to, from one in which nothing happened yet.
+-- Worlds that steps reach from one in which nothing happened yet.
 use Rattle.std.specs.Prelude.{ℕ, ◌≡◌, ◌≢◌, ◌<◌, ◌≤◌, [], Some, None, slice_get}
 use Rattle.ipx_wire.specs.declared.address.Socket.{Socket}
 use Rattle.spx_link.specs.Limits.{most_units}
@@ -6,7 +6,7 @@ use Rattle.spx_messages.specs.EndpointView.{held_at, buffers_at}
 use Rattle.theory_steps.specs.World.{World, HostState}
 use Rattle.theory_steps.specs.WorldStep.{WorldStep}
 
--- a host with no link; its network is not 0, and what listens has buffers in range
+-- a host without links; its network is not 0, and its listening sockets have buffers in range
 pub record HasNoLinks (s : HostState) : Type 0 where
   pub network : s.endpoint.network.0 ≢ 0
   pub none : (q : ℕ) → held_at s.endpoint q ≡ None

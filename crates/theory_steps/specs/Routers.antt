@@ -1,5 +1,5 @@
--- What a router does to a world: it carries a parcel on, or tells (Novell router specification).
--- What it holds itself is no part of a world here.
+-- What a router does to a world: it forwards a parcel, or sends its own packets (Novell router
+-- specification). What it holds itself is not part of a world here.
 use Rattle.std.specs.Prelude.{ℕ, ◌≡◌, ◌≢◌, ◌+◌, List, [], ◌∷◌, ◌++◌, length, Some, slice_get}
 use Rattle.ipx_wire.specs.declared.address.Network.{Network}
 use Rattle.ipx_wire.specs.declared.address.Node.{Node}
@@ -10,7 +10,7 @@ use Rattle.spx_theory.specs.PacketsOnWay.{IsOneOn}
 use Rattle.theory_steps.specs.World.{World, ParcelView, AtPort}
 use Rattle.spx_theory.specs.Note as Notes
 
--- a packet of a router's own, which is of no connection
+-- a packet that a router made itself, which is of no connection
 pub record IsOwnLetter (l : ParcelView) : Type 0 where
   pub packet : PacketView
   pub is : IsIpx packet l.bytes []
@@ -20,7 +20,7 @@ abbrev pub told_notes : ℕ → ℕ → List ParcelView → List Note
 told_notes router count [] = []
 told_notes router count (l ∷ ls) = Notes.Told router count ∷ told_notes router (count + 1) ls
 
--- it gives packets of its own: replies to a parcel, or what it tells when it is polled
+-- it sends packets that it made itself: replies to a parcel, or what it advertises when it is polled
 pub record GivesOwnLetters (old : World) (router : ℕ) (letters : List ParcelView)
     (new : World) : Type 0 where
   pub own : Each IsOwnLetter letters
@@ -30,7 +30,7 @@ pub record GivesOwnLetters (old : World) (router : ℕ) (letters : List ParcelVi
   pub log : new.log ≡ old.log ++ told_notes router (length old.parcels) letters
   pub moment : new.moment ≡ old.moment
 
--- a parcel goes on, from the port on whose network it lies
+-- a parcel is forwarded, from the port on whose network it was sent
 pub record CarriesOn (old : World) (parcel router port : ℕ) (segment : Network) (next : Node)
     (bytes : List ℕ) (new : World) : Type 0 where
   pub letter : ParcelView

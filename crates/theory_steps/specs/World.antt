@@ -1,4 +1,4 @@
--- What a network in memory holds, the scene that it is, and what is always so of it.
+-- What a network in memory holds, its scene, and its invariants.
 use Rattle.std.specs.Prelude.{ℕ, ◌≡◌, ◌<◌, ◌≤◌, ◌==◌, Bool, false, List, [], ◌∷◌, map, Option, Some, None, slice_get, if◌then◌else◌}
 use Rattle.ipx_wire.specs.declared.address.Network.{Network}
 use Rattle.ipx_wire.specs.declared.address.Node.{Node}
@@ -10,25 +10,24 @@ use Rattle.spx_units.specs.WrittenPackets.{Home}
 use Rattle.spx_messages.specs.EndpointView.{Held, EndpointView, held_at, buffers_at}
 use Rattle.spx_messages.specs.Polls.{home_of}
 
--- a host: what it holds, and which end each of its ids is
+-- a host: its endpoint, and the end of each of its ids
 pub record HostState : Type 0 where
   pub endpoint : EndpointView
   pub here : List (ℕ × ℕ)
 
--- an end by its host and id. An id is given again once its end is released
+-- an end by its host and id. An id may be given again after its end is released
 pub record EndNow : Type 0 where
   pub host : ℕ
   pub id : ℕ
   pub released : Bool
   pub overlong : Bool
 
--- where a packet was sent: a host, or a router's port
+-- the sender of a packet: a host, or a router's port
 pub data Place : Type 0 where
   AtHost : (host : ℕ) → Place
   AtPort : (router port : ℕ) → Place
 
--- a parcel without where its bytes lie in memory: the network on which it lies, and the node that
--- it goes to next
+-- a parcel without the place of its bytes in memory: the network that it was sent on, and its next node
 pub record ParcelView : Type 0 where
   pub segment : Network
   pub next : Node
@@ -52,7 +51,7 @@ abbrev pub held_in : Option HostState → ℕ → Option Held
 held_in None id = None
 held_in (Some s) id = held_at s.endpoint id
 
--- what an end has: nothing once it is released
+-- what an end has: nothing after it is released
 abbrev pub held_of : List HostState → EndNow → Option Held
 held_of hosts e = if e.released then None else held_in (slice_get hosts e.host) e.id
 
@@ -83,9 +82,9 @@ scene_of w =
       log = w.log;
     }
 
--- ---- what is always so
+-- ---- invariants
 
--- an end that is not released: its host knows it by its id, and holds a link of that id
+-- an end that is not released: its host knows it by its id, and holds a link with that id
 pub record StandsAt (hosts : List HostState) (who : ℕ) (e : EndNow) : Type 0 where
   pub station : HostState
   pub there : slice_get hosts e.host ≡ Some station
@@ -93,7 +92,7 @@ pub record StandsAt (hosts : List HostState) (who : ℕ) (e : EndNow) : Type 0 w
   pub held : Held
   pub live : held_at station.endpoint e.id ≡ Some held
 
--- the end that a host has under an id
+-- the end of an id of a host
 pub record IsEndOf (ends : List EndNow) (host id who : ℕ) : Type 0 where
   pub end' : EndNow
   pub at : slice_get ends who ≡ Some end'
@@ -101,7 +100,7 @@ pub record IsEndOf (ends : List EndNow) (host id who : ℕ) : Type 0 where
   pub id_is : end'.id ≡ id
   pub stands : end'.released ≡ false
 
--- of one host: what it knows by an id is an end of its own, and each of its links has an end
+-- of one host: each of its ids is that of one of its own ends, and each of its links has an end
 pub record IsHostInOrder (ends : List EndNow) (host : ℕ) (s : HostState) : Type 0 where
   pub names : (id who : ℕ) → end_at s.here id ≡ Some who → IsEndOf ends host id who
   pub named : (id : ℕ) (h : Held) → held_at s.endpoint id ≡ Some h

@@ -1,4 +1,4 @@
--- One event that a network takes.
+-- One event of a network.
 use Rattle.std.specs.Prelude.{ℕ, Bool, List, Option, Result}
 use Rattle.ipx_wire.specs.declared.address.Network.{Network}
 use Rattle.ipx_wire.specs.declared.address.Node.{Node}

@@ -1,4 +1,4 @@
-//! What an event does to a world, it does to its scene by deeds, and leaves the world in order.
+//! What an event does to a world is a list of deeds of its scene, and it leaves the world in order.
 
 ghost use Rattle.spx_theory.specs.Deeds.{Reached};
 ghost use Rattle.theory_steps.specs.World.{World, InOrder, scene_of};
@@ -9,8 +9,8 @@ ghost use Rattle.spx_theory.specs.InStep.{PeersAreInStep};
 
 use spx_theory::peers_are_in_step;
 
-/// Each step of a network makes of its scene another one by deeds, and leaves the world in order;
-/// so its scene stays one that is reached.
+/// Each step of a network changes its scene by deeds, and leaves the world in order. So its scene
+/// is still one that deeds reach.
 pub fn steps_are_deeds()
     ensures deeds { (old new : World) → InOrder old → WorldStep old new
         → Deeds (scene_of old) (scene_of new) }

@@ -1,4 +1,4 @@
-//! Entries of a RIP packet, in the bytes that they came in.
+//! Entries of a RIP packet, read from its bytes.
 
 ghost use Rattle.std.specs.Prelude.{◌≡◌, ◌≤◌, ◌<◌, ◌∷◌, [], List, ℕ, length, IfSome, IfNone};
 ghost use Rattle.ipx_control.specs.Entries.{AreEntries};
@@ -10,7 +10,8 @@ use byteorder::{BigEndian, ByteOrder};
 use ipx_wire::Network;
 use std::marker::Model;
 
-/// Entries of a RIP packet, each read where it stands, one after another. They take no memory.
+/// An iterator over the entries of a RIP packet. Each is read from the bytes, and nothing is
+/// allocated.
 #[derive(Drop)]
 pub struct RipEntries<'a> {
     bytes: &'a [u8],
@@ -27,7 +28,7 @@ impl<'a> Model for RipEntries<'a> {
 }
 
 impl<'a> RipEntries<'a> {
-    /// How many there are left.
+    /// The number of entries that are left.
     pub fn len(&self) -> usize
         ensures { result ≡ length self.now }
     {
@@ -51,7 +52,7 @@ impl<'a> Iterator for RipEntries<'a> {
     }
 }
 
-/// The entries that fit into the bytes.
+/// The whole entries in the bytes.
 pub(crate) fn rip_entries_of(bytes: &[u8]) -> RipEntries<'_>
     ensures { (tail : List ℕ) × AreEntries IsRipEntry rip_entry_size result bytes.now tail
         × (length tail < rip_entry_size) }
@@ -70,7 +71,7 @@ fn rip_entry_at(bytes: &[u8]) -> RipEntry
     }
 }
 
-/// The first entry, and the bytes behind it.
+/// The first entry, and the bytes after it.
 fn first_rip_entry(bytes: &[u8]) -> Option<(RipEntry, &[u8])>
     ensures some { IfSome result (λ r. rip_entries_in bytes.now ≡ r.0 ∷ rip_entries_in r.1.now) }
     ensures none { IfNone result (rip_entries_in bytes.now ≡ []) }

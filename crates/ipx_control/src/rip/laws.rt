@@ -1,4 +1,4 @@
-//! Laws of RIP packets and their bytes, which follow from what a packet is.
+//! Laws of RIP packets and their bytes.
 
 ghost use Rattle.std.specs.Prelude.{◌≡◌, ◌<◌, ◌++◌, ℕ, List, [], length, None};
 ghost use Rattle.ipx_wire.specs.Ipx.{IsBytes};
@@ -6,13 +6,13 @@ ghost use Rattle.ipx_control.specs.Rip.{IsRip, IsRipInRange, RipView, rip_entry_
 
 use ipx_wire::field_laws;
 
-/// No bytes are two RIP packets.
+/// Bytes are at most one RIP packet.
 pub fn bytes_are_one_rip()
     ensures { (m n : RipView) (bytes s t : List ℕ) → IsRip m bytes s → IsRip n bytes t
         → (m ≡ n) × (s ≡ t) }
 {}
 
-/// Each RIP packet in range has bytes, which are read as it with any short tail behind them.
+/// Each RIP packet in range has bytes. They are read as that packet, with any short tail after it.
 pub fn rip_has_bytes()
     ensures { (m : RipView) → IsRipInRange m → (bytes : List ℕ)
         × ((tail : List ℕ) → length tail < rip_entry_size → IsRip m (bytes ++ tail) tail)
@@ -21,8 +21,7 @@ pub fn rip_has_bytes()
     field_laws();
 }
 
-/// Bytes that are a RIP packet with nothing behind it are that packet with any short tail behind
-/// it.
+/// Bytes that are a RIP packet with nothing after it are that packet with any short tail after it.
 pub fn rip_before_any_tail()
     ensures { (m : RipView) (bytes tail : List ℕ) → length tail < rip_entry_size
         → IsRip m bytes [] → IsRip m (bytes ++ tail) tail }
@@ -30,7 +29,7 @@ pub fn rip_before_any_tail()
     field_laws();
 }
 
-/// A RIP packet and what follows it have one list of bytes.
+/// A RIP packet and its tail determine all bytes.
 pub fn rip_is_one_list_of_bytes()
     ensures { (m : RipView) (a b tail : List ℕ) → IsBytes a → IsBytes b
         → IsRip m a tail → IsRip m b tail → a ≡ b }
@@ -38,7 +37,7 @@ pub fn rip_is_one_list_of_bytes()
     field_laws();
 }
 
-/// Bytes have no RIP fault just where they are a RIP packet.
+/// Bytes have no RIP fault exactly if they are a RIP packet.
 pub fn rip_fault_is_of_no_rip()
     ensures packet { (bytes : List ℕ) → rip_fault bytes ≡ None
         → (m : RipView) × (tail : List ℕ) × IsRip m bytes tail }

@@ -1,39 +1,39 @@
-//! RIP packets: which networks are asked for, and which are reached at what cost.
+//! RIP packets: requests for networks, and reachable networks with their metrics.
 
 use crate::rip::entries::RipEntries;
 use ipx_wire::Network;
 
-/// The bytes of an entry of a RIP packet.
+/// The size of an entry of a RIP packet, in bytes.
 pub(crate) const RIP_ENTRY_SIZE: usize = 8;
 
 /// The most entries of a RIP packet.
 pub const RIP_MAX_ENTRIES: usize = 50;
 
-/// A network of a RIP packet (Novell IPX Router Specification, RIP packet structure).
+/// An entry of a RIP packet (Novell IPX Router Specification, RIP packet structure).
 #[derive(Clone, Copy, Debug, PartialEq, Eq)]
 pub struct RipEntry {
-    /// The network: in a request FFFFFFFF asks for all.
+    /// The network. In a request, FFFFFFFF asks for all networks.
     pub network: Network,
-    /// How many routers lie on the way: 16 or more say that it is not reached.
+    /// The number of routers on the way: 16 or more mean that it is unreachable.
     pub hops: u16,
-    /// How long the way takes, in eighteenths of a second.
+    /// The delay of the way, in ticks of 1/18 second.
     pub ticks: u16,
 }
 
-/// What a RIP packet says. At most 50 entries are read and written.
+/// A RIP packet. At most 50 entries are read and written.
 #[derive(Debug, Drop)]
 pub enum Rip {
-    /// Operation 1: which networks are asked for.
+    /// Operation 1: the networks that are asked for.
     Request(Vec<RipEntry>),
-    /// Operation 2: which networks are reached, and at what cost.
+    /// Operation 2: the networks that are advertised, with their metrics.
     Response(Vec<RipEntry>),
 }
 
-/// What a RIP packet says, with its entries in the bytes that they came in.
+/// A RIP packet whose entries are borrowed from its bytes.
 #[derive(Drop)]
 pub enum RipBody<'a> {
-    /// Operation 1: which networks are asked for.
+    /// Operation 1: the networks that are asked for.
     Request(RipEntries<'a>),
-    /// Operation 2: which networks are reached, and at what cost.
+    /// Operation 2: the networks that are advertised, with their metrics.
     Response(RipEntries<'a>),
 }

@@ -1,4 +1,4 @@
-//! RIP packets out of bytes.
+//! Decoding of RIP packets.
 
 ghost use Rattle.std.specs.Prelude.{◌≡◌, ◌⊎◌, List, [], ℕ, IfOk, IfErr, IsOk, IsOkAnd, Some, None};
 ghost use Rattle.ipx_control.specs.Rip.{IsRip, RipView, rip_body_view, rip_entries, rip_fault, rip_view};
@@ -10,16 +10,16 @@ use byteorder::{BigEndian, ByteOrder};
 use ipx_wire::OutOfMemory;
 use std::alloc::Global;
 
-/// The RIP packet that bytes are: the body of an IPX packet to socket 0453. Its entries stay where
-/// they stand, and no memory is taken. Bytes behind the last whole entry are ignored. The error is
-/// the first fault that holds.
+/// Reads a RIP packet: the body of an IPX packet to socket 0453. Its entries are borrowed, and
+/// nothing is allocated. Bytes after the last whole entry are ignored. The error is the first fault
+/// that applies.
 pub fn read_rip(bytes: &[u8]) -> Result<RipBody<'_>, ControlFault>
     // What is read is what the bytes are.
     ensures found { IfOk result (λ v. (tail : List ℕ) × IsRip (rip_body_view v) bytes.now tail) }
-    // Each packet is read.
+    // For any packet that the bytes are, that packet is read.
     ensures only { (m : RipView) (tail : List ℕ) → IsRip m bytes.now tail
         → IsOkAnd result (λ v. rip_body_view v ≡ m) }
-    // Which fault it is, and that there is none.
+    // The error is the fault of the bytes, and there is no error if they have none.
     ensures fault { IfErr result (λ f. rip_fault bytes.now ≡ Some f) }
     ensures whole { IfOk result (λ _. rip_fault bytes.now ≡ None) }
 {
@@ -41,7 +41,7 @@ pub fn read_rip(bytes: &[u8]) -> Result<RipBody<'_>, ControlFault>
     Ok(RipBody::Response(entries))
 }
 
-/// The entries in a list.
+/// The entries as a list.
 fn rip_entries_listed(alloc: Global, entries: RipEntries<'_>) -> Result<Vec<RipEntry>, OutOfMemory>
     ensures found { IfOk result (λ v. v.items ≡ entries.entry) }
     ensures no_memory { entries.entry ≡ [] → IsOk result }
@@ -53,20 +53,21 @@ fn rip_entries_listed(alloc: Global, entries: RipEntries<'_>) -> Result<Vec<RipE
     Ok(listed)
 }
 
-/// The RIP packet that bytes are, as `read_rip` reads it, with its entries in a list. The error is
-/// the first fault that holds, or want of memory.
+/// Reads a RIP packet as `read_rip` does, with its entries in a list. The error is the first fault
+/// that applies, or out of memory.
 pub fn decode_rip(alloc: Global, bytes: &[u8]) -> Result<Rip, ControlFault>
     // What is read is what the bytes are.
     ensures found { IfOk result (λ v. (tail : List ℕ) × IsRip (rip_view v) bytes.now tail) }
-    // Each packet is read, unless memory ran out.
+    // For any packet that the bytes are, that packet is read, unless memory ran out.
     ensures only { (m : RipView) (tail : List ℕ) → IsRip m bytes.now tail
         → IsOkAnd result (λ v. rip_view v ≡ m) ⊎ (result ≡ Err ControlFault.OutOfMemory) }
-    // Which fault it is, and that there is none. Want of memory is no answer to bytes of no packet.
+    // The error is the fault of the bytes, and there is no error if they have none. Bytes that are
+    // no packet never give `OutOfMemory`.
     ensures fault { IfErr result (λ f.
         ((f ≡ ControlFault.OutOfMemory) × (rip_fault bytes.now ≡ None))
         ⊎ (rip_fault bytes.now ≡ Some f)) }
     ensures whole { IfOk result (λ _. rip_fault bytes.now ≡ None) }
-    // Only entries take memory.
+    // Only entries need memory.
     ensures no_memory { (m : RipView) (tail : List ℕ) → IsRip m bytes.now tail
         → rip_entries m ≡ [] → IsOk result }
 {

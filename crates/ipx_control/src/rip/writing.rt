@@ -1,4 +1,4 @@
-//! RIP packets into bytes.
+//! Encoding of RIP packets.
 
 ghost use Rattle.std.specs.Prelude.{◌≡◌, ◌≤◌, ◌+◌, ◌*◌, ◌++◌, [], length, take, drop, All};
 ghost use Rattle.std.specs.List.{flat_map};
@@ -41,8 +41,8 @@ fn put_rip(out: &mut [u8], operation: u16, entries: &[RipEntry])
     put_rip_entries(&mut out[2..], entries);
 }
 
-/// Writes a RIP packet to the front of the buffer, and answers how many bytes it takes: 2, and 8
-/// for each entry. The caller owes at most 50 entries, and room for the packet.
+/// Writes a RIP packet to the front of the buffer. It gives the number of bytes: 2, and 8 for each
+/// entry. The caller owes at most 50 entries, and space for the packet.
 pub fn encode_rip_into(rip: &Rip, out: &mut [u8]) -> usize
     requires limit { length (rip_entries (rip_view rip.now)) ≤ rip_max_entries }
     requires room { rip_size (rip_view rip.now) ≤ length out.old }
@@ -62,9 +62,9 @@ pub fn encode_rip_into(rip: &Rip, out: &mut [u8]) -> usize
     }
 }
 
-/// Writes a RIP response of these routes to the front of the buffer, and answers how many bytes it
-/// takes: 2, and 8 for each route. It is what `encode_rip_into` writes, out of routes that stand in
-/// a longer list. The caller owes at most 50 routes, and room for the packet.
+/// Writes a RIP response with these routes to the front of the buffer. It gives the number of
+/// bytes: 2, and 8 for each route. It writes the same as `encode_rip_into`, but from a slice. The
+/// caller owes at most 50 routes, and space for the packet.
 pub fn encode_routes_into(routes: &[RipEntry], out: &mut [u8]) -> usize
     requires limit { length routes.now ≤ rip_max_entries }
     requires room { rip_size (response_of routes.now) ≤ length out.old }

@@ -1,4 +1,4 @@
-//! Services of a SAP packet, in the bytes that they came in.
+//! Services of a SAP packet, read from its bytes.
 
 ghost use Rattle.std.specs.Prelude.{◌≡◌, ◌≤◌, ◌<◌, ◌∷◌, [], List, ℕ, length, take, IfSome, IfNone};
 ghost use Rattle.ipx_control.specs.Entries.{AreEntries};
@@ -10,7 +10,8 @@ use byteorder::{BigEndian, ByteOrder};
 use ipx_wire::{address_at, field_laws};
 use std::marker::Model;
 
-/// Services of a SAP packet, each read where it stands, one after another. They take no memory.
+/// An iterator over the services of a SAP packet. Each is read from the bytes, and nothing is
+/// allocated.
 #[derive(Drop)]
 pub struct ServiceEntries<'a> {
     bytes: &'a [u8],
@@ -27,7 +28,7 @@ impl<'a> Model for ServiceEntries<'a> {
 }
 
 impl<'a> ServiceEntries<'a> {
-    /// How many there are left.
+    /// The number of services that are left.
     pub fn len(&self) -> usize
         ensures { result ≡ length self.now }
     {
@@ -51,7 +52,7 @@ impl<'a> Iterator for ServiceEntries<'a> {
     }
 }
 
-/// The services that fit into the bytes.
+/// The whole services in the bytes.
 pub(crate) fn services_of(bytes: &[u8]) -> ServiceEntries<'_>
     ensures { (tail : List ℕ) × AreEntries IsServiceEntry service_size result bytes.now tail
         × (length tail < service_size) }
@@ -80,12 +81,12 @@ fn service_at(bytes: &[u8]) -> ServiceEntry
     }
 }
 
-/// The first service, and the bytes behind it.
+/// The first service, and the bytes after it.
 fn first_service(bytes: &[u8]) -> Option<(ServiceEntry, &[u8])>
     ensures some { IfSome result (λ r. service_entries_in bytes.now ≡ r.0 ∷ service_entries_in r.1.now) }
     ensures none { IfNone result (service_entries_in bytes.now ≡ []) }
 {
-    // Laws for the proof of `some`: they do nothing.
+    // Laws for the proof of `some`. They do nothing at run time.
     field_laws();
     if bytes.len() < SERVICE_SIZE {
         return None;

@@ -1,4 +1,4 @@
-//! Laws of SAP packets and their bytes, which follow from what a packet is.
+//! Laws of SAP packets and their bytes.
 
 ghost use Rattle.std.specs.Prelude.{◌≡◌, ◌++◌, ℕ, List, [], None, All};
 ghost use Rattle.ipx_wire.specs.Ipx.{IsBytes};
@@ -6,7 +6,7 @@ ghost use Rattle.ipx_control.specs.Sap.{ServiceHoldsBytes, IsSap, IsSapInRange, 
 
 use ipx_wire::field_laws;
 
-/// No bytes are two SAP packets.
+/// Bytes are at most one SAP packet.
 pub fn bytes_are_one_sap()
     ensures { (m n : SapView) (bytes s t : List ℕ) → IsSap m bytes s → IsSap n bytes t
         → (m ≡ n) × (s ≡ t) }
@@ -14,7 +14,8 @@ pub fn bytes_are_one_sap()
     field_laws();
 }
 
-/// Each SAP packet in range has bytes, which are read as it with any tail that may stand behind it.
+/// Each SAP packet in range has bytes. They are read as that packet, with any tail that may follow
+/// it.
 pub fn sap_has_bytes()
     ensures { (m : SapView) → IsSapInRange m → (bytes : List ℕ)
         × ((tail : List ℕ) → IsSapTail m tail → IsSap m (bytes ++ tail) tail)
@@ -23,8 +24,8 @@ pub fn sap_has_bytes()
     field_laws();
 }
 
-/// Bytes that are a SAP packet with nothing behind it are that packet with any tail that may stand
-/// behind it.
+/// Bytes that are a SAP packet with nothing after it are that packet with any tail that may follow
+/// it.
 pub fn sap_before_any_tail()
     ensures { (m : SapView) (bytes tail : List ℕ) → IsSapTail m tail → IsSap m bytes []
         → IsSap m (bytes ++ tail) tail }
@@ -32,7 +33,7 @@ pub fn sap_before_any_tail()
     field_laws();
 }
 
-/// A SAP packet and what follows it have one list of bytes.
+/// A SAP packet and its tail determine all bytes.
 pub fn sap_is_one_list_of_bytes()
     ensures { (m : SapView) (a b tail : List ℕ) → IsBytes a → IsBytes b
         → IsSap m a tail → IsSap m b tail → a ≡ b }
@@ -40,7 +41,7 @@ pub fn sap_is_one_list_of_bytes()
     field_laws();
 }
 
-/// Bytes have no SAP fault just where they are a SAP packet.
+/// Bytes have no SAP fault exactly if they are a SAP packet.
 pub fn sap_fault_is_of_no_sap()
     ensures packet { (bytes : List ℕ) → sap_fault bytes ≡ None
         → (m : SapView) × (tail : List ℕ) × IsSap m bytes tail }

@@ -1,9 +1,9 @@
-//! SAP packets: which services are asked for, and where they are.
+//! SAP packets: queries for services, and services with their addresses.
 
 use crate::sap::entries::ServiceEntries;
 use ipx_wire::Address;
 
-/// The bytes of a service of a SAP packet.
+/// The size of a service of a SAP packet, in bytes.
 pub(crate) const SERVICE_SIZE: usize = 64;
 
 /// The most services of a SAP response.
@@ -12,43 +12,42 @@ pub const SAP_MAX_SERVICES: usize = 7;
 /// A service of a SAP packet (Novell IPX Router Specification, SAP packet structure).
 #[derive(Clone, Copy, Debug, PartialEq, Eq)]
 pub struct ServiceEntry {
-    /// Service type, as 4 for a file server.
+    /// Service type, for example 4 for a file server.
     pub kind: u16,
-    /// The name: all 48 bytes of it in every comparison, though its text ends before the first zero
-    /// byte.
+    /// The name. Comparisons use all 48 bytes, though the text ends before the first zero byte.
     pub name: [u8; 48],
-    /// Where the service is asked.
+    /// The address of the service.
     pub at: Address,
-    /// How many routers lie on the way: 16 or more say that the service is down.
+    /// The number of routers on the way: 16 or more mean that the service is down.
     pub hops: u16,
 }
 
-/// What a SAP packet says. At most 7 services are read and written.
+/// A SAP packet. At most 7 services are read and written.
 #[derive(Debug, Drop)]
 pub enum Sap {
-    /// Operation 1 asks for services, operation 3 for the nearest: of a type, or of every type by
+    /// Operation 1 asks for services, operation 3 for the nearest: of a type, or of every type if
     /// FFFF.
     Query {
         nearest: bool,
         kind: u16,
     },
-    /// Operation 2 tells services, operation 4 the nearest.
+    /// Operation 2 advertises services, operation 4 the nearest one.
     Response {
         nearest: bool,
         services: Vec<ServiceEntry>,
     },
 }
 
-/// What a SAP packet says, with its services in the bytes that they came in.
+/// A SAP packet whose services are borrowed from its bytes.
 #[derive(Drop)]
 pub enum SapBody<'a> {
-    /// Operation 1 asks for services, operation 3 for the nearest: of a type, or of every type by
+    /// Operation 1 asks for services, operation 3 for the nearest: of a type, or of every type if
     /// FFFF.
     Query {
         nearest: bool,
         kind: u16,
     },
-    /// Operation 2 tells services, operation 4 the nearest.
+    /// Operation 2 advertises services, operation 4 the nearest one.
     Response {
         nearest: bool,
         services: ServiceEntries<'a>,

@@ -1,4 +1,4 @@
-//! SAP packets out of bytes.
+//! Decoding of SAP packets.
 
 ghost use Rattle.std.specs.Prelude.{◌≡◌, ◌⊎◌, List, [], ℕ, IfOk, IfErr, IsOk, IsOkAnd, Some, None};
 ghost use Rattle.ipx_control.specs.Sap.{IsSap, SapView, sap_body_view, sap_fault, sap_services, sap_view};
@@ -11,16 +11,16 @@ use byteorder::{BigEndian, ByteOrder};
 use ipx_wire::OutOfMemory;
 use std::alloc::Global;
 
-/// The SAP packet that bytes are: the body of an IPX packet to socket 0452. Its services stay where
-/// they stand, and no memory is taken. Bytes behind a query, or behind the last whole service of a
-/// response, are ignored. The error is the first fault that holds.
+/// Reads a SAP packet: the body of an IPX packet to socket 0452. Its services are borrowed, and
+/// nothing is allocated. Bytes after a query, or after the last whole service of a response, are
+/// ignored. The error is the first fault that applies.
 pub fn read_sap(bytes: &[u8]) -> Result<SapBody<'_>, ControlFault>
     // What is read is what the bytes are.
     ensures found { IfOk result (λ v. (tail : List ℕ) × IsSap (sap_body_view v) bytes.now tail) }
-    // Each packet is read.
+    // For any packet that the bytes are, that packet is read.
     ensures only { (m : SapView) (tail : List ℕ) → IsSap m bytes.now tail
         → IsOkAnd result (λ v. sap_body_view v ≡ m) }
-    // Which fault it is, and that there is none.
+    // The error is the fault of the bytes, and there is no error if they have none.
     ensures fault { IfErr result (λ f. sap_fault bytes.now ≡ Some f) }
     ensures whole { IfOk result (λ _. sap_fault bytes.now ≡ None) }
 {
@@ -45,7 +45,7 @@ pub fn read_sap(bytes: &[u8]) -> Result<SapBody<'_>, ControlFault>
         return Err(ControlFault::TooManyEntries(count));
     }
     let services = services_of(&bytes[2..]);
-    // A law for the proof of `only`: it does nothing.
+    // A law for the proof of `only`. It does nothing at run time.
     bytes_are_one_sap();
     Ok(SapBody::Response {
         nearest: operation == 4,
@@ -53,7 +53,7 @@ pub fn read_sap(bytes: &[u8]) -> Result<SapBody<'_>, ControlFault>
     })
 }
 
-/// The services in a list.
+/// The services as a list.
 fn services_listed(
     alloc: Global,
     services: ServiceEntries<'_>,
@@ -68,20 +68,21 @@ fn services_listed(
     Ok(listed)
 }
 
-/// The SAP packet that bytes are, as `read_sap` reads it, with its services in a list. The error is
-/// the first fault that holds, or want of memory.
+/// Reads a SAP packet as `read_sap` does, with its services in a list. The error is the first fault
+/// that applies, or out of memory.
 pub fn decode_sap(alloc: Global, bytes: &[u8]) -> Result<Sap, ControlFault>
     // What is read is what the bytes are.
     ensures found { IfOk result (λ v. (tail : List ℕ) × IsSap (sap_view v) bytes.now tail) }
-    // Each packet is read, unless memory ran out.
+    // For any packet that the bytes are, that packet is read, unless memory ran out.
     ensures only { (m : SapView) (tail : List ℕ) → IsSap m bytes.now tail
         → IsOkAnd result (λ v. sap_view v ≡ m) ⊎ (result ≡ Err ControlFault.OutOfMemory) }
-    // Which fault it is, and that there is none. Want of memory is no answer to bytes of no packet.
+    // The error is the fault of the bytes, and there is no error if they have none. Bytes that are
+    // no packet never give `OutOfMemory`.
     ensures fault { IfErr result (λ f.
         ((f ≡ ControlFault.OutOfMemory) × (sap_fault bytes.now ≡ None))
         ⊎ (sap_fault bytes.now ≡ Some f)) }
     ensures whole { IfOk result (λ _. sap_fault bytes.now ≡ None) }
-    // Only services take memory.
+    // Only services need memory.
     ensures no_memory { (m : SapView) (tail : List ℕ) → IsSap m bytes.now tail
         → sap_services m ≡ [] → IsOk result }
 {

@@ -1,4 +1,4 @@
-//! SAP packets into bytes.
+//! Encoding of SAP packets.
 
 ghost use Rattle.std.specs.Prelude.{◌≡◌, ◌≤◌, ◌<◌, ◌^◌, ◌+◌, ◌*◌, ◌++◌, [], length, take, drop, All};
 ghost use Rattle.std.specs.List.{flat_map};
@@ -53,9 +53,9 @@ fn put_response(out: &mut [u8], nearest: bool, services: &[ServiceEntry])
     put_services(&mut out[2..], services);
 }
 
-/// Writes a SAP packet to the front of the buffer, and answers how many bytes it takes: 4 for a
-/// query, 2 and 64 for each service for a response. The caller owes at most 7 services, and room
-/// for the packet.
+/// Writes a SAP packet to the front of the buffer. It gives the number of bytes: 4 for a query, and
+/// 2 and 64 for each service for a response. The caller owes at most 7 services, and space for the
+/// packet.
 pub fn encode_sap_into(sap: &Sap, out: &mut [u8]) -> usize
     requires limit { IsSapWithinLimit (sap_view sap.now) }
     requires room { sap_size (sap_view sap.now) ≤ length out.old }
@@ -69,7 +69,7 @@ pub fn encode_sap_into(sap: &Sap, out: &mut [u8]) -> usize
             return 4;
         }
         Sap::Response { nearest, services } => {
-            // Laws for the proof of `written`: they do nothing.
+            // Laws for the proof of `written`. They do nothing at run time.
             field_laws();
             put_response(out, *nearest, services);
             return 2 + SERVICE_SIZE * services.len();
@@ -77,9 +77,9 @@ pub fn encode_sap_into(sap: &Sap, out: &mut [u8]) -> usize
     }
 }
 
-/// Writes a SAP response of these services to the front of the buffer, and answers how many bytes
-/// it takes: 2, and 64 for each service. It is what `encode_sap_into` writes, out of services that
-/// stand in a longer list. The caller owes at most 7 services, and room for the packet.
+/// Writes a SAP response with these services to the front of the buffer. It gives the number of
+/// bytes: 2, and 64 for each service. It writes the same as `encode_sap_into`, but from a slice.
+/// The caller owes at most 7 services, and space for the packet.
 pub fn encode_services_into(nearest: bool, services: &[ServiceEntry], out: &mut [u8]) -> usize
     requires limit { length services.now ≤ sap_max_services }
     requires room { sap_size (response_of nearest services.now) ≤ length out.old }
@@ -87,7 +87,7 @@ pub fn encode_services_into(nearest: bool, services: &[ServiceEntry], out: &mut 
     ensures written { IsSap (response_of nearest services.now) (take result out.new) [] }
     ensures rest { drop result out.new ≡ drop result out.old }
 {
-    // Laws for the proof of `written`: they do nothing.
+    // Laws for the proof of `written`. They do nothing at run time.
     field_laws();
     put_response(out, nearest, services);
     2 + SERVICE_SIZE * services.len()

@@ -1,4 +1,4 @@
-//! Addresses out of bytes and into bytes.
+//! Addresses as bytes.
 
 ghost use Rattle.std.specs.Prelude.{◌≡◌, ◌≤◌, ◌++◌, length, take, drop};
 ghost use Rattle.ipx_wire.specs.Ipx.{IsAddress, IsAddressInRange, address_bytes};
@@ -15,8 +15,8 @@ fn node_at(bytes: &[u8]) -> Node
     Node(node)
 }
 
-/// The address that bytes begin with: network 4 bytes, node 6, socket 2. The caller owes these
-/// twelve. One calls it where an address stands in a body, as in a service of SAP.
+/// Reads the address at the front of the bytes: network 4 bytes, node 6, socket 2. The caller owes
+/// these twelve bytes. It serves addresses inside a body, as in a SAP service.
 pub fn address_at(bytes: &[u8]) -> Address
     requires { 12 ≤ length bytes.now }
     ensures { IsAddress result bytes.now }
@@ -31,8 +31,8 @@ pub fn address_at(bytes: &[u8]) -> Address
     }
 }
 
-/// Writes an address to the first twelve bytes of the buffer, which the caller owes. One calls it
-/// where an address stands in a body, as in a service of SAP.
+/// Writes an address to the first twelve bytes of the buffer, which the caller owes. It serves
+/// addresses inside a body, as in a SAP service.
 pub fn put_address(out: &mut [u8], address: Address)
     requires { 12 ≤ length out.old }
     ensures written { out.new ≡ address_bytes address ++ drop 12 out.old }

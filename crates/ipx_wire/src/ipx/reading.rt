@@ -1,4 +1,4 @@
-//! Packets out of bytes.
+//! Decoding of packets.
 
 ghost use Rattle.std.specs.Prelude.{◌≡◌, List, ℕ, IfOk, IfErr, IsOkAnd, Some, None};
 ghost use Rattle.ipx_wire.specs.Ipx.{BeginsWith, PacketView, IsIpx, IsPartOf, ipx_fault, packet_view};
@@ -9,20 +9,19 @@ use crate::ipx::packet::{IpxHeader, NO_CHECKSUM, Packet};
 use crate::size::{IPX_HEADER_SIZE, IPX_MAX_PACKET_SIZE};
 use byteorder::{BigEndian, ByteOrder};
 
-/// The packet that a datagram begins with (Novell IPX). Its body is lent, and bytes behind it are
-/// ignored. It takes no memory.
+/// Reads the packet at the front of a datagram (Novell IPX). Its body is borrowed, and bytes after
+/// it are ignored. Nothing is allocated.
 ///
-/// One calls it first with whatever a network handed over. The error is the first `IpxFault` that
-/// holds.
+/// Call it first for each received datagram. The error is the first `IpxFault` that applies.
 pub fn decode(bytes: &[u8]) -> Result<Packet<'_>, IpxFault>
     // What is read is a packet of the datagram.
     ensures found { IfOk result (λ p. BeginsWith bytes.now (packet_view p)) }
-    // The body is lent: it is the datagram's own bytes.
+    // The body is borrowed: it is a part of the datagram.
     ensures lent { IfOk result (λ p. IsPartOf bytes.entry 30 p.body) }
-    // Each packet of the datagram is read.
+    // For any packet at the front of the datagram, that packet is read.
     ensures only { (d : PacketView) (tail : List ℕ) → IsIpx d bytes.now tail
         → IsOkAnd result (λ p. packet_view p ≡ d) }
-    // Which fault it is, and that there is none.
+    // The error is the fault of the datagram, and there is no error if it has none.
     ensures fault { IfErr result (λ f. ipx_fault bytes.now ≡ Some f) }
     ensures whole { IfOk result (λ _. ipx_fault bytes.now ≡ None) }
 {

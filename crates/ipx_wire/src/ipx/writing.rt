@@ -1,4 +1,4 @@
-//! Packets into bytes.
+//! Encoding of packets.
 
 ghost use Rattle.std.specs.Prelude.{◌≡◌, ◌≤◌, ◌+◌, ◌++◌, [], length, take, drop};
 ghost use Rattle.ipx_wire.specs.Assigned.{ipx_header_size, ipx_max_body_size};
@@ -34,10 +34,10 @@ fn put_packet(out: &mut [u8], packet: &Packet<'_>)
     out[IPX_HEADER_SIZE..end].copy_from_slice(packet.body);
 }
 
-/// Writes a packet to the front of the buffer, and answers how many bytes it takes: 30 and the
-/// body's. The caller owes a body of at most 1,470 bytes, and room for the packet.
+/// Writes a packet to the front of the buffer. It gives the number of bytes: 30 and the body's. The
+/// caller owes a body of at most 1,470 bytes, and space for the packet.
 ///
-/// One calls it where the body lies elsewhere, and `encapsulate` where it was built in its place.
+/// It copies the body. If the body is already in place, call `encapsulate`.
 pub fn encode_into(packet: &Packet<'_>, out: &mut [u8]) -> usize
     requires limit { length packet.now.body.now ≤ ipx_max_body_size }
     requires room { ipx_header_size + length packet.now.body.now ≤ length out.old }
@@ -49,11 +49,11 @@ pub fn encode_into(packet: &Packet<'_>, out: &mut [u8]) -> usize
     IPX_HEADER_SIZE + packet.body.len()
 }
 
-/// Writes a header in front of a body that stands at place 30 of the buffer already, and answers
-/// how many bytes the packet takes. Nothing but the header's 30 bytes is written. The caller owes a
-/// body of at most 1,470 bytes, and that it is there.
+/// Writes a header in front of a body that is already at offset 30 of the buffer. It gives the
+/// number of bytes of the packet. Only the 30 bytes of the header are written. The caller owes a
+/// body of at most 1,470 bytes at that offset.
 ///
-/// One calls it where a body was built in its place, and `encode_into` where it lies elsewhere.
+/// If the body is elsewhere, call `encode_into`.
 pub fn encapsulate(header: &IpxHeader, body_length: usize, out: &mut [u8]) -> usize
     requires limit { body_length ≤ ipx_max_body_size }
     requires room { ipx_header_size + body_length ≤ length out.old }

@@ -1,4 +1,4 @@
-//! A turn over the links of a host, which asks them in the order of their ids.
+//! A turn over the links of a host, in the order of their ids.
 
 ghost use Rattle.std.specs.Prelude.{◌≡◌, ◌≤◌, IfNone, IfSome, None, drop, length, take};
 ghost use Rattle.ipx_wire.specs.Assigned.{spx_max_packet_size};
@@ -10,8 +10,8 @@ use crate::poll::writing::{HostAddress, write_packet};
 use ipx_wire::Node;
 use spx_link::{Links, Sent};
 
-/// What a link gave: its id, what the packet is for, the node that it goes to next, and how many
-/// bytes it takes.
+/// The packet that a link gave: the link's id, what the packet is for, its next node, and its
+/// length in bytes.
 #[derive(Clone, Copy)]
 pub struct Given {
     pub id: u16,
@@ -20,7 +20,7 @@ pub struct Given {
     pub count: usize,
 }
 
-/// Asks the link of a live id, and writes the packet that it gives.
+/// Polls the link of a live id, and writes the packet that it gives.
 fn poll_one(
     place: HostAddress,
     links: &mut Links,
@@ -52,7 +52,8 @@ fn poll_one(
     })
 }
 
-/// Asks the links in the order of their ids, up to the first that gives a packet, and writes that.
+/// Polls the links in the order of their ids, up to the first that gives a packet, and writes that
+/// packet.
 pub fn poll_links(place: HostAddress, links: &mut Links, now: u64, room: &mut [u8]) -> Option<Given>
     requires room { spx_max_packet_size ≤ length room.old }
     ensures rests { IfNone result (AllRest links.old links.new now × (room.new ≡ room.old)) }

@@ -1,4 +1,4 @@
-//! A packet of a link in bytes, and where it goes first.
+//! A packet of a link as bytes, and its next node.
 
 ghost use Rattle.std.specs.Prelude.{◌≡◌, ◌≤◌, drop, length, take};
 ghost use Rattle.ipx_wire.specs.Assigned.{spx_max_data_size, spx_max_packet_size};
@@ -12,7 +12,7 @@ use ipx_wire::{
 };
 use spx_link::Outgoing;
 
-/// Where a host is, and the node that its packets for other networks go to.
+/// The address of a host, and the node of its router for packets to other networks.
 #[derive(Clone, Copy)]
 pub struct HostAddress {
     pub network: Network,
@@ -21,7 +21,7 @@ pub struct HostAddress {
 }
 
 impl HostAddress {
-    /// A socket of this host.
+    /// The address of a socket of this host.
     pub fn at(self, socket: Socket) -> Address
         ensures { result ≡ spec.address_at self socket }
     {
@@ -32,7 +32,7 @@ impl HostAddress {
         }
     }
 
-    /// The node that a packet goes to first.
+    /// The next node of a packet to this address: the destination, or the router.
     pub fn next_node(self, to: Address) -> Node
         ensures { result ≡ spec.node_towards self to }
     {
@@ -44,8 +44,8 @@ impl HostAddress {
     }
 }
 
-/// Writes a packet between two addresses to the front of the room, and answers how many bytes it
-/// takes. Its body is copied once.
+/// Writes a packet between two addresses to the front of the buffer, and gives its length in bytes.
+/// Its body is copied once.
 pub fn write_packet(from: Address, to: Address, packet: &Outgoing<'_>, room: &mut [u8]) -> usize
     requires room { spx_max_packet_size ≤ length room.old }
     requires fits { length packet.now.body.now ≤ spx_max_data_size }

@@ -1,4 +1,4 @@
-//! What a host answers to a request for a connection.
+//! The answer to a connection request.
 
 ghost use Rattle.std.specs.Prelude.{◌≡◌, ◌↔◌, IfOk, IsTrue, OnErr};
 ghost use Rattle.spx_units.specs.WrittenPackets.{IsRequestFor};
@@ -12,13 +12,13 @@ use ipx_wire::{OutOfMemory, SpxHeader};
 use spx_link::{Links, LinksFault, Received};
 use std::alloc::Global;
 
-/// The connection id that stands for none.
+/// The connection id that means none.
 const NO_ID: u16 = 0xffff;
 
 /// The datastream type of the end of a connection.
 const END_STREAM: u8 = 0xfe;
 
-/// Whether a packet asks for a connection.
+/// Whether a packet is a connection request.
 pub fn is_request(header: &SpxHeader) -> bool
     ensures { IsTrue result ↔ IsRequestFor header.now }
 {
@@ -29,8 +29,8 @@ pub fn is_request(header: &SpxHeader) -> bool
         && header.from_id < NO_ID
 }
 
-/// The answer to a request: one that came again makes its link owe the reply once more, and any
-/// other one is accepted where its socket listens and there is room for a link.
+/// The answer to a request. If it came before, its link owes another reply. Any other request is
+/// accepted if its socket listens and there is space for a link.
 pub fn ask(
     listening: &[Listener],
     links: &mut Links,
@@ -52,7 +52,7 @@ pub fn ask(
     accept(listening, links, parts, alloc, reading, now)
 }
 
-/// Makes a link of a request that none was made of.
+/// Makes a link for a new request.
 fn accept(
     listening: &[Listener],
     links: &mut Links,
@@ -71,7 +71,8 @@ fn accept(
     let Some(buffers) = buffers_of(listening, reading.to) else {
         return Ok(Arrived::NoListener);
     };
-    // At most 16 links are held, as `after` tells: so there is room wherever it is not refused.
+    // At most 16 links are held, as the contract of `after` says. So if it is not refused, there is
+    // space for another link.
     let _next_link = links.after(0);
     match links.accept(
         alloc,

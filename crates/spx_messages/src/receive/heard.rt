@@ -1,4 +1,4 @@
-//! What a link hears.
+//! How a link reads a packet.
 
 ghost use Rattle.std.specs.Prelude.{◌≤◌, IfNone, IfSome, length};
 ghost use Rattle.ipx_wire.specs.Assigned.{spx_max_data_size};
@@ -7,8 +7,8 @@ ghost use Rattle.spx_messages.specs.Readings.{IsReadBy, IsOfNobody, SameLinks};
 use crate::receive::reading::ConnectionPacket;
 use spx_link::{Links, Received, receive_reads_its_own};
 
-/// The link that a packet is for reads it. None where no link is there, or where that one takes it
-/// for a stranger's. The caller owes a body of at most 534 bytes.
+/// Passes a packet to its link, which reads it. `None` if there is no such link, or if the link
+/// does not know the sender. The caller owes a body of at most 534 bytes.
 pub fn hear(links: &mut Links, reading: &ConnectionPacket<'_>, now: u64) -> Option<(u16, Received)>
     requires { length reading.now.body.now ≤ spx_max_data_size }
     ensures heard { IfSome result (λ p. IsReadBy links.old links.new reading.now p.0 p.1) }

@@ -1,4 +1,4 @@
-//! What a host reads in a datagram.
+//! How a host reads a datagram.
 
 ghost use Rattle.std.specs.Prelude.{◌≡◌, ◌↔◌, IfErr, IfOk, IsTrue};
 ghost use Rattle.spx_messages.specs.Readings.{IsRead, IsTo, IsUnread};
@@ -8,7 +8,7 @@ use ipx_wire::{
     Address, IpxHeader, Network, Node, Socket, SpxHeader, decode, decode_spx, packet_type,
 };
 
-/// A packet of a connection, as a host reads it. Its body is lent from the datagram.
+/// An SPX packet as a host reads it. Its body is borrowed from the datagram.
 #[derive(Clone, Copy)]
 pub struct ConnectionPacket<'a> {
     pub to: Socket,
@@ -17,7 +17,7 @@ pub struct ConnectionPacket<'a> {
     pub body: &'a [u8],
 }
 
-/// Whether a packet is one of a connection, to the host at this network and node.
+/// Whether a packet is an SPX packet to the host with this network and node.
 fn is_to(header: &IpxHeader, network: Network, node: Node) -> bool
     ensures { IsTrue result ↔ IsTo (record { network = network; node = node }) header.now }
 {
@@ -27,8 +27,8 @@ fn is_to(header: &IpxHeader, network: Network, node: Node) -> bool
         && (to.network == network || to.network == Network::LOCAL)
 }
 
-/// The packet of a connection that a datagram is, to the host at this network and node. The error
-/// is the answer where it is none.
+/// Reads a datagram as an SPX packet to the host with this network and node. The error is the
+/// answer to a datagram that is none.
 pub fn read(network: Network, node: Node, bytes: &[u8]) -> Result<ConnectionPacket<'_>, Arrived>
     ensures read { IfOk result (IsRead (record { network = network; node = node }) bytes.now) }
     ensures unread { IfErr result (IsUnread (record { network = network; node = node }) bytes.now) }

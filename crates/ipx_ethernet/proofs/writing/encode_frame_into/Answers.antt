@@ -9,7 +9,7 @@ pub returns-clause-written : goal.returns-clause-written
 returns-clause-written c =
     subst (λ (t : List ℕ). IsSentFrame c.args.encapsulation (frame_of c.args.to c.args.from t) (take c.put_frame.result c.put_frame.new.out)) c.in_ok-packet.ensures.cut c.put_frame.ensures.written
 
--- room for the frame of a packet, by what its own length says
+-- a buffer for the frame of a packet, by the packet's own length
 enough : (e : Encapsulation) (n m size room : ℕ) → n ≡ m → size ≡ sent_size e n → size ≤ room → sent_size e m ≤ room
 enough e n m size room same is le = subst (λ (i : ℕ). sent_size e i ≤ room) same (subst (λ (i : ℕ). i ≤ room) is le)
 

@@ -4,7 +4,7 @@ use Rattle.ipx_router.specs.Told.{IsToldRoute}
 use Rattle.ipx_router.specs.Replying.{AreToldOf, asks_all}
 use Rattle.ipx_router.proofs.replying.named_routes.Given as goal
 
--- the entries so far each name a network, and what is told of those was found
+-- the entries so far each name a network, and what is advertised of those was found
 abbrev pub invariant-loop-entry : goal.invariant-loop-entry
 invariant-loop-entry l = record {
   all : l.yielded ++ l.entry-iterator ≡ l.fn.asked;

@@ -5,7 +5,7 @@ use Rattle.ipx_router.specs.Adding.{ArePacked}
 use Rattle.ipx_router.proofs.AllServices.{AreLeft, asked_items}
 use Rattle.ipx_router.proofs.replying.service_replies.Given as goal
 
--- the entries that were put in, with those that the walk has left, are all
+-- the entries that were added, with those that the walk has left, are all
 abbrev pub invariant-loop-item : goal.invariant-loop-item
 invariant-loop-item l = record {
   all : l.yielded ++ l.item-iterator ≡ l.initial.item-iterator;

@@ -7,7 +7,7 @@ use Rattle.ipx_router.specs.RouterPackets.{SendingView, sendings}
 use Rattle.ipx_router.specs.Telling.{AreTellings}
 use Rattle.ipx_router.proofs.telling.tell_heard.Given as goal
 
--- with whatever is told on the ports from here on, what was told so far is what is told on all
+-- the packets so far, with any packets of the ports from here on, are the packets of all ports
 abbrev pub invariant-loop-i : goal.invariant-loop-i
 invariant-loop-i l = (routes : Routes) (services : Services) → IsListing network_cmp route_before routes l.now l.heard_routes
     → IsListing service_key_cmp service_before services l.now l.heard_services → (later : List SendingView)

@@ -3,7 +3,7 @@ use Rattle.std.specs.Io.KnownBytes.{Appends}
 use Rattle.ipx_shown_frames.specs.ShownFrame.{ShowsTexts}
 use Rattle.ipx_shown_frames.proofs.show_frames.show_texts.Given as goal
 
--- what was written so far is that of the lines so far
+-- what was written so far is the output for the lines so far
 abbrev pub invariant-loop-text : goal.invariant-loop-text
 invariant-loop-text g l = record {
   place : l.place ≡ l.text-index;

@@ -9,7 +9,7 @@ use Rattle.ipx_sim.specs.declared.stop.LineFault.{LineFault}
 use Rattle.ipx_sim.proofs.Deeds.{each_number, each_stop_number}
 use Rattle.ipx_sim.proofs.delivering.deliver_all.Goals as goal
 
--- a delivery looks at the marks alone
+-- a delivery depends only on the marks
 by_marks : (d e : DeliveredView) (spots : List ScriptTarget) (parcel : ℕ) (a : NetView) (r : Result Bool LineFault) (b : NetView) → d.marks ≡ e.marks → DeliversNew d spots parcel a r b → DeliversNew e spots parcel a r b
 by_marks d e spots parcel a r b same did =
     subst (λ (m : List Bool). MatchBool (slice_index_or m parcel false) (DoesNothing a r b) (DoesEach (DeliversParcelTo parcel) spots a r b)) same did

@@ -5,7 +5,7 @@ use Rattle.ipx_site.specs.Values.{AreEach}
 use Rattle.ipx_site.specs.declared.allowed_peer.AllowedPeer.{AllowedPeer}
 use Rattle.ipx_site.proofs.allowed_peer.origins_in.Given as goal
 
--- what is left to read joins what was read, and if all can be read then so can what is left
+-- the remaining values join those read so far; if all can be read, so can the remaining ones
 abbrev pub invariant-loop-value : goal.invariant-loop-value
 invariant-loop-value l =
     ((rest : List AllowedPeer) → AreEach IsOrigin (items_view (drop l.value-index l.values)) rest

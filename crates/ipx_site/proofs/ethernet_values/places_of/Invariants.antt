@@ -5,7 +5,7 @@ use Rattle.ipx_site.specs.Values.{AreEach}
 use Rattle.ipx_ethernet_ports.specs.declared.sockets.Place.{Place}
 use Rattle.ipx_site.proofs.ethernet_values.places_of.Given as goal
 
--- what is left to read joins what was read, and if all can be read then so can what is left
+-- the remaining values join those read so far; if all can be read, so can the remaining ones
 abbrev pub invariant-loop-value : goal.invariant-loop-value
 invariant-loop-value l =
     ((rest : List Place) → AreEach IsEthernetEnd (items_view (drop l.value-index l.values)) rest

@@ -2,7 +2,7 @@ use Rattle.std.proofs.Common.{◌≡◌}
 use Rattle.ipx_site.proofs.Found.{first_unknown_name}
 use Rattle.ipx_site.proofs.fields.unknown_in.Given as goal
 
--- the first unknown name is among those that are left
+-- the first unknown name is among the remaining ones
 abbrev pub invariant-loop-name : goal.invariant-loop-name
 invariant-loop-name l =
     (goal.iterator-loop-name).can_next l.name-iterator

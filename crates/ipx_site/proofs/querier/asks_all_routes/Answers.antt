@@ -6,7 +6,7 @@ use Rattle.ipx_router.specs.Replying.{asks_all}
 use Rattle.ipx_site.specs.RateLimiter.{AsksAllRoutes}
 use Rattle.ipx_site.proofs.querier.asks_all_routes.Goals as goal
 
--- the packet that a body is asks for all just where its entries do
+-- the packet of a body asks for all exactly if its entries do
 asks_so : (body : List ℕ) (m : RipView) (asked : List RipEntry) (r : Bool) → ((tail : List ℕ) × IsRip m body tail)
     → ((n : RipView) (tail : List ℕ) → IsRip n body tail → m ≡ n) → m ≡ rip.Request asked → r ≡ asks_all asked
     → (r ≡ true → AsksAllRoutes body) × (AsksAllRoutes body → r ≡ true)

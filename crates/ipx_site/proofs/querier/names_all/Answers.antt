@@ -6,7 +6,7 @@ use Rattle.ipx_control.specs.declared.rip.packet.RipEntry.{RipEntry}
 use Rattle.ipx_router.specs.Replying.{asks_all}
 use Rattle.ipx_site.proofs.querier.names_all.Goals as goal
 
--- one more entry that names a network, or every network
+-- one more entry with one network, or with all networks
 one_named : (ys : List RipEntry) (e : RipEntry) → asks_all ys ≡ false → (e.network.0 == all_networks) ≡ false → asks_all (ys ++ e ∷ []) ≡ false
 one_named ys e before other =
     list_any-append (λ (x : RipEntry). x.network.0 == all_networks) ys (e ∷ []) ∙ rw (before, other) refl

@@ -3,7 +3,7 @@ use Rattle.ipx_site.specs.IdleTime.{counts_of}
 use Rattle.ipx_site.specs.Moments.{IsToldIfDue, untold}
 use Rattle.ipx_site.proofs.warnings.tell_each.Given as goal
 
--- those before this place are told where they are due, and the others are as they were
+-- the causes before this index are logged if they are due, and the others are unchanged
 abbrev pub invariant-loop-place : goal.invariant-loop-place
 invariant-loop-place g l =
     ((k : ℕ) → k < l.place → IsToldIfDue (get_or (counts_of l.warnings) k 0) l.now (get_or l.fn.causes k untold) (get_or l.causes k untold))

@@ -4,7 +4,7 @@ use Rattle.ipx_tables.specs.declared.offer.Offer.{Offer}
 use Rattle.ipx_tables.specs.OfferScan.{best_from, is_candidate, offer_beats}
 use Rattle.ipx_tables.proofs.finding.best_in.Given as goal
 
--- from the best so far, what is left gives the best of all; what was read is of the key
+-- the best so far, with what is left, gives the best of all; each offer that was read is of the key
 abbrev pub invariant-loop-at : goal.invariant-loop-at
 invariant-loop-at g l =
     let best = best_from (is_candidate g.K.Ord.cmp l.key l.now) (offer_beats g.M.Metric.before) in

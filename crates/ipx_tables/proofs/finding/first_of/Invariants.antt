@@ -3,7 +3,7 @@ use Rattle.std.specs.Ordering.{is_lt}
 use Rattle.ipx_tables.specs.declared.offer.Offer.{Offer}
 use Rattle.ipx_tables.proofs.finding.first_of.Given as goal
 
--- what lies before is below the key, and what lies behind is not; each reading used up a digit
+-- all before the range is below the key, all after it is not, and each offer that was read used up a digit
 abbrev pub invariant-loop-low : goal.invariant-loop-low
 invariant-loop-low g l = record {
   ordered : l.low ≤ l.high;

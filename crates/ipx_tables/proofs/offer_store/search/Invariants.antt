@@ -4,7 +4,7 @@ use Rattle.ipx_tables.specs.declared.offer.Offer.{Offer}
 use Rattle.ipx_tables.specs.Content.{pair_cmp, pair_of}
 use Rattle.ipx_tables.proofs.offer_store.search.Given as goal
 
--- what lies before is below the key and source, and what lies behind is above
+-- all before the range is below the key and source, and all after it is above
 abbrev pub invariant-loop-low : goal.invariant-loop-low
 invariant-loop-low g l = record {
   ordered : l.low ≤ l.high;

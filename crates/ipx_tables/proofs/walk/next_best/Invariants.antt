@@ -3,7 +3,7 @@ use Rattle.ipx_tables.specs.Walk.{bests_of}
 use Rattle.ipx_tables.proofs.Walks.{IsLow, put_held}
 use Rattle.ipx_tables.proofs.walk.next_best.Given as goal
 
--- with the one that is held, what is left gives what was left at first
+-- the held offer and the offers that are left give the same bests as all offers that there were at first
 abbrev pub invariant-loop-at : goal.invariant-loop-at
 invariant-loop-at g l =
     let bests = bests_of g.K.Ord.cmp g.M.Metric.before l.now in

@@ -2,7 +2,7 @@ use Rattle.std.proofs.Common.{◌≡◌, ◌≤◌, ◌+◌, length}
 use Rattle.ipx_carrier.specs.Counting.{counted}
 use Rattle.ipx_ipxnet_ports.proofs.sockets.ServerSocketsPlaceSockets.receive.Given as goal
 
--- tries that brought nothing leave all but the count of faults
+-- tries that brought nothing change only the count of faults
 abbrev pub invariant-loop-try : goal.invariant-loop-try
 invariant-loop-try l = (l.self.sockets ≡ l.fn.self.sockets) × (l.self.failures ≡ l.fn.self.failures)
     × (l.self.nowhere ≡ l.fn.self.nowhere) × (l.self.sent ≡ l.fn.self.sent)

@@ -4,7 +4,7 @@ use Rattle.ipx_router.specs.RouterPackets.{AreRoutePackets}
 use Rattle.ipx_router.specs.Adding.{ArePacked}
 use Rattle.ipx_router.proofs.packing.RoutePackets.put_all.Given as goal
 
--- the routes so far were put in
+-- the routes so far were added
 abbrev pub invariant-loop-route : goal.invariant-loop-route
 invariant-loop-route l = record {
   to : l.self.to ≡ l.fn.self.to;

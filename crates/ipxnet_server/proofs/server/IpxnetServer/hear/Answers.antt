@@ -13,7 +13,7 @@ pub keep-requires-clause-joined : goal.keep-requires-clause-joined
 keep-requires-clause-joined c =
     λ told takers e. told_joined (is_joined_place c.args.from c.age.new.self.routers) c.judge-heard.result told takers c.judge-heard.ensures.sound.member e
 
--- the lobby has the routers that it had
+-- the server has the routers that it had
 routers : (c : goal.After-keep) → is_joined_place c.args.from c.age.new.self.routers ≡ is_joined_place c.args.from c.args.self.now.routers
 routers c = ap (λ (v : ServerView). is_joined_place c.args.from v.routers) c.age.ensures.aged
 
