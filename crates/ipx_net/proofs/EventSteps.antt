@@ -1,12 +1,14 @@
 -- The contracts of the calls on hosts, as what events at hosts do.
-use Rattle.std.proofs.Common.{ℕ, zero, suc, ◌≡◌, ◌≢◌, inl, inr, List, [], ◌∷◌, ◌++◌, length, take, set, Option, Some, None, Result, Ok, Err, refl, sym, ◌∙◌, ap, subst}
+use Rattle.std.proofs.Common.{ℕ, zero, suc, ◌≡◌, ◌≢◌, ◌≤◌, inl, inr, List, [], ◌∷◌, ◌++◌, length, take, set, Option, Some, None, Result, Ok, Err, refl, sym, ◌∙◌, ap, subst}
 use Rattle.std.specs.Prelude.{IfOk, IfSome, option_map, slice_get}
 use Rattle.std.proofs.lemmas.List.{append-nil}
+use Rattle.ipx_wire.specs.Assigned.{spx_max_packet_size}
 use Rattle.ipx_wire.specs.declared.address.Network.{Network}
 use Rattle.ipx_wire.specs.declared.address.Node.{Node}
 use Rattle.spx_link.specs.declared.outgoing.Sent.{Sent}
 use Rattle.spx_link.specs.declared.unit.Unit.{Unit}
 use Rattle.spx_messages.specs.declared.fault.EndFault.{EndFault}
+use Rattle.spx_messages.specs.OneValue.{IsRoomStill}
 use Rattle.spx_messages.specs.Taking.{TakenView, overlong}
 use Rattle.spx_theory.specs.Note.{Note}
 use Rattle.theory_steps.specs.HostSteps.{TakesOf, said_notes, given_notes, unit_notes, whole_notes}
@@ -88,6 +90,7 @@ get_here (z ∷ xs) (suc k) x y = λ at. get_here xs k x y at
 
 pub polling_some : (old new : HostsView) (host first now : ℕ) (r : Node × ℕ) (room written : List ℕ) (segment : Network) (spoke : Option (ℕ × Sent))
     (ps : List ParcelView) (ns : List Note) (numbers : List ℕ)
+    → spx_max_packet_size ≤ length room → IsRoomStill room written
     → PolledAt old host now (Some r) room written new
     → option_map (λ s. s.endpoint.network) (slice_get old.stations host) ≡ Some segment
     → IfSome (slice_get new.stations host) (λ s. spoke ≡ speaker s.here s.endpoint.said)
@@ -96,7 +99,7 @@ pub polling_some : (old new : HostsView) (host first now : ℕ) (r : Node × ℕ
     → numbers ≡ first ∷ []
     → (parcels : List ParcelView) (log : List Note) → length parcels ≡ first
     → PollingHost host (Parcels numbers) (world_of old parcels log now) (world_of new (parcels ++ ps) (log ++ ns) now)
-polling_some old new host first now r room written segment spoke ps ns numbers p networks speaks letters notes named parcels log count =
+polling_some old new host first now r room written segment spoke ps ns numbers long still p networks speaks letters notes named parcels log count =
     let here : slice_get new.stations host ≡ Some p.after = ap (λ xs. slice_get xs host) p.stations ∙ get_here old.stations host p.before p.after p.there in
     let spoken : spoke ≡ speaker p.after.here p.after.endpoint.said = subst (λ o. IfSome o (λ s. spoke ≡ speaker s.here s.endpoint.said)) here speaks in
     let both : Some p.before.endpoint.network ≡ Some segment = sym (ap (option_map (λ (s : HostState). s.endpoint.network)) p.there) ∙ networks in
@@ -118,6 +121,8 @@ polling_some old new host first now r room written segment spoke ps ns numbers p
         moment = refl;
       },
       ap Parcels (named ∙ ap (λ k. k ∷ []) (sym count)),
+      long,
+      still,
     )
 
 -- ---- a datagram is delivered
@@ -140,8 +145,37 @@ delivering old new host parcel count bytes now arrived r x who notes ps d counte
       answers = ap (λ w. ArrivedAt w arrived) (both.0 ∙ ap (end_for arrived d.after) counted);
     }
 
+pub polling_none : (old new : HostsView) (host first now : ℕ) (room written : List ℕ) (g : StepResultView)
+    → spx_max_packet_size ≤ length room → IsRoomStill room written
+    → PolledAt old host now None room written new
+    → g ≡ record { parcels = []; notes = []; answer = Parcels [] }
+    → GrowsWorld old new first now g (PollingHost host)
+polling_none old new host first now room written g long still p same =
+    subst (λ x. GrowsWorld old new first now x (PollingHost host)) (sym same)
+    (λ parcels log count. (
+      None,
+      record {
+        before = p.before;
+        there = p.there;
+        after = p.after;
+        room = room;
+        written = written;
+        polls = p.polls;
+        here = p.here;
+        hosts = p.stations;
+        ends = p.ends;
+        parcels = refl;
+        log = ap (λ o. log ++ said_notes p.before.here o (length parcels)) (sym p.polls.gives.said);
+        moment = refl;
+      },
+      refl,
+      long,
+      still,
+    ))
+
 pub polling_grows : (old new : HostsView) (host first now : ℕ) (r : Node × ℕ) (room written : List ℕ) (segment : Network) (spoke : Option (ℕ × Sent))
     (p : ParcelView) (ns : List Note) (g : StepResultView)
+    → spx_max_packet_size ≤ length room → IsRoomStill room written
     → PolledAt old host now (Some r) room written new
     → option_map (λ s. s.endpoint.network) (slice_get old.stations host) ≡ Some segment
     → IfSome (slice_get new.stations host) (λ s. spoke ≡ speaker s.here s.endpoint.said)
@@ -149,6 +183,6 @@ pub polling_grows : (old new : HostsView) (host first now : ℕ) (r : Node × �
     → ns ≡ spoken_notes spoke first
     → g ≡ record { parcels = p ∷ []; notes = ns; answer = Parcels (first ∷ []) }
     → GrowsWorld old new first now g (PollingHost host)
-polling_grows old new host first now r room written segment spoke p ns g polled networks speaks letter notes same =
+polling_grows old new host first now r room written segment spoke p ns g long still polled networks speaks letter notes same =
     subst (λ x. GrowsWorld old new first now x (PollingHost host)) (sym same)
-    (λ parcels log count. polling_some old new host first now r room written segment spoke (p ∷ []) ns (first ∷ []) polled networks speaks (ap (λ q. q ∷ []) letter) notes refl parcels log count)
+    (λ parcels log count. polling_some old new host first now r room written segment spoke (p ∷ []) ns (first ∷ []) long still polled networks speaks (ap (λ q. q ∷ []) letter) notes refl parcels log count)

@@ -22,4 +22,5 @@ pub mod NetTells
 pub mod Beginnings
 pub mod Wanting
 pub mod OneOutcome
+pub mod PollOutcome
 pub mod MemberOutcomes

@@ -1,4 +1,4 @@
--- A poll of a router, and a delivery to a host or a router, has one outcome.
+-- A poll and a delivery have one outcome, and so has each event.
 use Rattle.std.proofs.Common.{ℕ, ◌≡◌, ◌++◌, ◌∷◌, [], List, Bool, true, false, length, length-set, set, MatchBool, Option, refl, sym, ◌∙◌, ap, subst}
 use Rattle.ipx_router.specs.Answer.{Receives}
 use Rattle.ipx_router.specs.Knowledge.{HoldsRoutes, HoldsServices, Known, known_at, routes_in, services_in, tables}
@@ -12,6 +12,7 @@ use Rattle.ipx_router.specs.declared.port.Port.{Port}
 use Rattle.spx_messages.specs.Arrives.{Arrives}
 use Rattle.spx_messages.specs.Changes.{SameBut}
 use Rattle.spx_messages.specs.EndpointView.{EndpointView, Held, held_at}
+use Rattle.spx_messages.specs.OneValue.{IsOnePoll}
 use Rattle.spx_messages.specs.declared.arrived.Arrived.{Arrived}
 use Rattle.spx_messages.specs.declared.arrived.Arrived.TheVariants as Arriveds
 use Rattle.spx_theory.specs.Note as Notes
@@ -29,6 +30,7 @@ use Rattle.ipx_net.specs.declared.event.Member.TheVariants as Members
 use Rattle.ipx_net.specs.declared.place.Place.TheVariants as Places
 use Rattle.ipx_net.specs.declared.routers.RouterNow.{RouterNow}
 use Rattle.ipx_net.proofs.OneOutcome.{AreSameWorlds, calls_have_one_outcome, count_both, hosts_both, hosts_same, routers_both, same_nets, same_read}
+use Rattle.ipx_net.proofs.PollOutcome.{polls_host_both}
 
 -- what is one of endpoints and routers
 pub record MemberLaws : Type 0 where
@@ -38,6 +40,7 @@ pub record MemberLaws : Type 0 where
   pub outcome : (old new other : RouterView) (port : ℕ) (bytes : List ℕ) (now : ℕ) (a b : OutcomeView) → Receives old port bytes now a new → Receives old port bytes now b other → a ≡ b
   pub offers : (old new other : RouterView) (port : ℕ) (bytes : List ℕ) (now : ℕ) (a b : OutcomeView) → Receives old port bytes now a new → Receives old port bytes now b other
       → HoldsRoutes new.routes (routes_in other.routes) × HoldsServices new.services (services_in other.services)
+  pub poll : IsOnePoll
   pub telling : IsOneTelling
   pub holding : IsOneHolding
   pub start : IsOneStart
@@ -223,17 +226,18 @@ module _ (laws : MemberLaws) (old x y : NetNow) where
       )
 
 pub events_have_one_outcome : MemberLaws → EventsHaveOneOutcome
-events_have_one_outcome laws (Events.Poll (Members.Host host)) a b old x y allowed one two na nb = absurd allowed
-events_have_one_outcome laws (Events.Poll (Members.Router router)) a b old x y allowed one two na nb = polls_router_both laws old x y router a b one two
-events_have_one_outcome laws (Events.Deliver parcel (Places.Host host)) a b old x y allowed one two na nb =
+events_have_one_outcome laws (Events.Poll (Members.Host host)) a b old x y one two na nb =
+    let r = polls_host_both laws.poll old.world x.world y.world host a b one.0 two.0 in (r.0, same_nets old x y r.1 one.1 two.1)
+events_have_one_outcome laws (Events.Poll (Members.Router router)) a b old x y one two na nb = polls_router_both laws old x y router a b one two
+events_have_one_outcome laws (Events.Deliver parcel (Places.Host host)) a b old x y one two na nb =
     let r = delivers_host_both laws old.world x.world y.world parcel host a b one.0 two.0 in (r.0, same_nets old x y r.1 one.1 two.1)
-events_have_one_outcome laws (Events.Deliver parcel (Places.Port router port)) a b old x y allowed one two na nb = delivers_router_both laws old x y parcel router port a b one two
-events_have_one_outcome laws (Events.Dial host socket to buffers) a b old x y allowed one two na nb = calls_have_one_outcome (Events.Dial host socket to buffers) a b old x y tt one two na nb
-events_have_one_outcome laws (Events.Send who message) a b old x y allowed one two na nb = calls_have_one_outcome (Events.Send who message) a b old x y tt one two na nb
-events_have_one_outcome laws (Events.Take who) a b old x y allowed one two na nb = calls_have_one_outcome (Events.Take who) a b old x y tt one two na nb
-events_have_one_outcome laws (Events.Close who) a b old x y allowed one two na nb = calls_have_one_outcome (Events.Close who) a b old x y tt one two na nb
-events_have_one_outcome laws (Events.Pace who window manual) a b old x y allowed one two na nb = calls_have_one_outcome (Events.Pace who window manual) a b old x y tt one two na nb
-events_have_one_outcome laws (Events.Again who place) a b old x y allowed one two na nb = calls_have_one_outcome (Events.Again who place) a b old x y tt one two na nb
-events_have_one_outcome laws (Events.Release who) a b old x y allowed one two na nb = calls_have_one_outcome (Events.Release who) a b old x y tt one two na nb
-events_have_one_outcome laws (Events.Tick now) a b old x y allowed one two na nb = calls_have_one_outcome (Events.Tick now) a b old x y tt one two na nb
-events_have_one_outcome laws (Events.Inject segment next bytes) a b old x y allowed one two na nb = calls_have_one_outcome (Events.Inject segment next bytes) a b old x y tt one two na nb
+events_have_one_outcome laws (Events.Deliver parcel (Places.Port router port)) a b old x y one two na nb = delivers_router_both laws old x y parcel router port a b one two
+events_have_one_outcome laws (Events.Dial host socket to buffers) a b old x y one two na nb = calls_have_one_outcome (Events.Dial host socket to buffers) a b old x y tt one two na nb
+events_have_one_outcome laws (Events.Send who message) a b old x y one two na nb = calls_have_one_outcome (Events.Send who message) a b old x y tt one two na nb
+events_have_one_outcome laws (Events.Take who) a b old x y one two na nb = calls_have_one_outcome (Events.Take who) a b old x y tt one two na nb
+events_have_one_outcome laws (Events.Close who) a b old x y one two na nb = calls_have_one_outcome (Events.Close who) a b old x y tt one two na nb
+events_have_one_outcome laws (Events.Pace who window manual) a b old x y one two na nb = calls_have_one_outcome (Events.Pace who window manual) a b old x y tt one two na nb
+events_have_one_outcome laws (Events.Again who place) a b old x y one two na nb = calls_have_one_outcome (Events.Again who place) a b old x y tt one two na nb
+events_have_one_outcome laws (Events.Release who) a b old x y one two na nb = calls_have_one_outcome (Events.Release who) a b old x y tt one two na nb
+events_have_one_outcome laws (Events.Tick now) a b old x y one two na nb = calls_have_one_outcome (Events.Tick now) a b old x y tt one two na nb
+events_have_one_outcome laws (Events.Inject segment next bytes) a b old x y one two na nb = calls_have_one_outcome (Events.Inject segment next bytes) a b old x y tt one two na nb

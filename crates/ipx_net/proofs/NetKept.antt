@@ -1,24 +1,26 @@
 -- A network that takes an event goes on.
-use Rattle.std.proofs.Common.{ℕ, ◌≡◌, ◌<◌, ◌+◌, ◌++◌, ◌∙◌, ap, arith, length, map, List, [], ◌∷◌, Bool, true, false, cond, Option, None, Some, Result, Ok, Err, OnErr, OnOk, refl, sym, subst}
+use Rattle.std.proofs.Common.{ℕ, ◌≡◌, ◌<◌, ◌+◌, ◌++◌, ◌∙◌, ap, arith, length, map, List, [], ◌∷◌, Bool, true, false, cond, Option, None, Some, Result, Ok, Err, OnErr, OnOk, inl, refl, sym, subst}
 use Rattle.std.specs.Result.{is_err}
 use Rattle.std.proofs.lemmas.List.{length-map}
 use Rattle.spx_theory.specs.Deeds.{Reached}
 use Rattle.theory_steps.specs.WorldStep.{WorldStep}
 use Rattle.spx_theory.specs.Scene.{Stand}
 use Rattle.theory_steps.specs.World.{EndNow, InOrder, World, bytes_of, held_of, scene_of, segment_of, stand_of}
-use Rattle.ipx_net_hosts.specs.Hosts.{FollowsMarks, HostsView, KeepsMarks, SameHomes, marks_of, world_of}
+use Rattle.ipx_net_hosts.specs.Hosts.{FollowsMarks, HostsView, SameHomes, marks_of, world_of}
 use Rattle.ipx_net.specs.EventWants.{IsMade}
 use Rattle.ipx_net.specs.LogEntries.{entry_note}
 use Rattle.ipx_net.specs.Parcels.{parcel_view}
 use Rattle.ipx_net.specs.IndexedLogView.{IndexedLogView, written_on}
 use Rattle.ipx_net.specs.StepResultView.{StepResultView}
-use Rattle.ipx_net.specs.NetEvents.{Happens}
+use Rattle.ipx_net.specs.NetEvents.{Happens, LeavesMarks}
 use Rattle.ipx_net.specs.NetFaults.{first_fault}
 use Rattle.ipx_net.specs.NetReach.{GoesOn, IsKept, StandsStill}
 use Rattle.ipx_net.specs.NetView.{NetView, net_of}
 use Rattle.ipx_net.specs.declared.event.Event.{Event}
+use Rattle.ipx_net.specs.declared.event.Event.TheVariants as Events
 use Rattle.ipx_net.specs.declared.fault.NetFault.{NetFault}
 use Rattle.ipx_net.specs.declared.fault.NetFault.TheVariants.{Spent}
+use Rattle.ipx_net.specs.declared.place.Place.TheVariants as Places
 use Rattle.ipx_net.specs.declared.routers.RouterNow.{RouterNow}
 use Rattle.ipx_net.specs.declared.step_result.StepResult.{StepResult}
 use Rattle.ipx_net.proofs.Holding.{overlong_of_stand}
@@ -74,12 +76,27 @@ scene_marks w = of w.ends
     of [] = refl
     of (e ∷ es) = ap (λ b. b ∷ map (λ (x : Stand). x.overlong) (map (stand_of w.hosts) es)) (overlong_of_stand e (held_of w.hosts e)) ∙ ap (λ bs. e.overlong ∷ bs) (of es)
 
+-- whatever the event, one end at most is new
+follows_marks : (event : Event) (old new : List EndNow) → LeavesMarks event old new → FollowsMarks (marks_of old) (marks_of new)
+follows_marks (Events.Dial host socket to buffers) old new leaves = leaves
+follows_marks (Events.Send who message) old new leaves = inl leaves
+follows_marks (Events.Take who) old new leaves = inl leaves
+follows_marks (Events.Close who) old new leaves = inl leaves
+follows_marks (Events.Pace who window manual) old new leaves = inl leaves
+follows_marks (Events.Again who place) old new leaves = inl leaves
+follows_marks (Events.Release who) old new leaves = inl leaves
+follows_marks (Events.Tick now) old new leaves = inl leaves
+follows_marks (Events.Poll member) old new leaves = inl leaves
+follows_marks (Events.Deliver parcel (Places.Host host)) old new leaves = leaves
+follows_marks (Events.Deliver parcel (Places.Port router port)) old new leaves = inl leaves
+follows_marks (Events.Inject segment next bytes) old new leaves = inl leaves
+
 -- it stands still, with its log and its parcels, and its hosts have the same addresses
-pub stands_still : (hosts hosts' : HostsView) (b b' : IndexedLogView) (now now' : ℕ) (spent : Bool)
+pub stands_still : (event : Event) (hosts hosts' : HostsView) (b b' : IndexedLogView) (now now' : ℕ) (spent : Bool)
     → spent ≡ false → IsKept (world_of hosts b.parcels b.log now) spent
-    → SameHomes hosts hosts' → KeepsMarks hosts hosts' → b'.log ≡ b.log → b'.parcels ≡ b.parcels
+    → SameHomes hosts hosts' → LeavesMarks event hosts.ends hosts'.ends → b'.log ≡ b.log → b'.parcels ≡ b.parcels
     → StandsStill (world_of hosts' b'.parcels b'.log now')
-stands_still hosts hosts' b b' now now' spent going kept homes marks log parcels =
+stands_still event hosts hosts' b b' now now' spent going kept homes marks log parcels =
     let old : World = world_of hosts b.parcels b.log now in
     let was : GoesOn old = kept_going old spent going kept in
     record {
@@ -89,5 +106,5 @@ stands_still hosts hosts' b b' now now' spent going kept homes marks log parcels
       log = sym log;
       parcels = ap (map bytes_of) (sym parcels);
       segments = ap (map segment_of) (sym parcels);
-      marks = subst (λ ms. FollowsMarks ms (marks_of hosts'.ends)) (sym (scene_marks old)) marks;
+      marks = subst (λ ms. FollowsMarks ms (marks_of hosts'.ends)) (sym (scene_marks old)) (follows_marks event hosts.ends hosts'.ends marks);
     }

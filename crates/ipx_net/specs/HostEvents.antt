@@ -1,5 +1,6 @@
 -- What events at hosts do to a world, with their answers.
-use Rattle.std.specs.Prelude.{ℕ, Bool, ◌≡◌, ◌⊎◌, List, [], ◌∷◌, length, Option, Some, None, Ok, Err, slice_get}
+use Rattle.std.specs.Prelude.{ℕ, Bool, ◌≡◌, ◌⊎◌, ◌≤◌, List, [], ◌∷◌, length, Option, Some, None, Ok, Err, slice_get}
+use Rattle.ipx_wire.specs.Assigned.{spx_max_packet_size}
 use Rattle.ipx_wire.specs.declared.address.Address.{Address}
 use Rattle.ipx_wire.specs.declared.address.Node.{Node}
 use Rattle.ipx_wire.specs.declared.address.Socket.{Socket}
@@ -7,6 +8,7 @@ use Rattle.spx_messages.specs.declared.arrived.Arrived.{Arrived}
 use Rattle.spx_messages.specs.declared.arrived.Arrived.TheVariants as Arriveds
 use Rattle.spx_messages.specs.declared.fault.EndFault.{EndFault}
 use Rattle.spx_messages.specs.EndpointView.{Held}
+use Rattle.spx_messages.specs.OneValue.{IsRoomStill}
 use Rattle.spx_messages.specs.Taking.{TakenView, overlong}
 use Rattle.spx_units.specs.Message.{MessageView}
 use Rattle.ipx_net_hosts.specs.Hosts.{DeliveredAt, HostsView}
@@ -76,9 +78,11 @@ abbrev pub made_by : Option (Node × ℕ) → ℕ → List ℕ
 made_by None first = []
 made_by (Some r) first = first ∷ []
 
+-- it writes into a room that is large enough, and as long after it: so one packet is given
 abbrev pub PollingHost : ℕ → AnswerView → World → World → Type 0
-PollingHost host a old new = (result : Option (Node × ℕ)) × PollsHost old host result new
+PollingHost host a old new = (result : Option (Node × ℕ)) × (p : PollsHost old host result new)
     × (a ≡ Parcels (made_by result (length old.parcels)))
+    × (spx_max_packet_size ≤ length p.room) × IsRoomStill p.room p.written
 
 -- the end that a datagram was for: the one that it made, or the end of the link that it is for
 abbrev pub end_for : Arrived → HostState → ℕ → Option ℕ

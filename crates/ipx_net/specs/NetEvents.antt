@@ -3,7 +3,8 @@ use Rattle.std.specs.Prelude.{ℕ, ◌≡◌, ◌<◌, ◌≤◌, List, [], ◌�
 use Rattle.spx_link.specs.Limits.{most_units}
 use Rattle.spx_units.specs.Message.{message_view}
 use Rattle.theory_steps.specs.EndCalls.{InjectsInto, Ticks}
-use Rattle.theory_steps.specs.World.{World}
+use Rattle.theory_steps.specs.World.{EndNow, World}
+use Rattle.ipx_net_hosts.specs.Hosts.{FollowsMarks, marks_of}
 use Rattle.ipx_net.specs.AnswerView.{AnswerView, Done, Parcels}
 use Rattle.ipx_wire.specs.declared.address.Network.{Network}
 use Rattle.ipx_wire.specs.declared.address.Node.{Node}
@@ -45,6 +46,15 @@ Happens (Events.Poll member) = PollsOf member
 Happens (Events.Deliver parcel place) = DeliversTo parcel place
 Happens (Events.Inject segment next bytes) = BesideRouters (λ a old new.
     (a ≡ Parcels (length old.parcels ∷ [])) × InjectsInto old segment next bytes.items new)
+
+-- where an event ran out of memory, each end is there, and of each is known whether a message of it
+-- grew too long. Only a dial and a delivery to a host may have made one end more
+abbrev pub LeavesMarks : Event → List EndNow → List EndNow → Type 0
+LeavesMarks (Events.Dial host socket to buffers) old new =
+    FollowsMarks (marks_of old) (marks_of new)
+LeavesMarks (Events.Deliver parcel (Places.Host host)) old new =
+    FollowsMarks (marks_of old) (marks_of new)
+LeavesMarks event old new = marks_of new ≡ marks_of old
 
 -- what the caller owes: buffers in range
 abbrev pub IsOwed : Event → Type 0

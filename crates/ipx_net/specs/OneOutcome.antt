@@ -1,4 +1,4 @@
--- An event that is no poll of a host has one outcome, unless memory ran out.
+-- An event has one outcome, unless memory ran out.
 use Rattle.std.specs.Prelude.{ℕ, ◌≡◌, ◌⊎◌, length, Some, slice_get}
 use Rattle.ipx_router.specs.Knowledge.{HoldsRoutes, HoldsServices, KeepsAllButOffers, routes_in, services_in}
 use Rattle.ipx_net_hosts.specs.Refusing.{want, want_of_link, want_of_queue}
@@ -8,18 +8,11 @@ use Rattle.ipx_net.specs.AnswerView.{AnswerView, Refused}
 use Rattle.ipx_net.specs.NetEvents.{Happens}
 use Rattle.ipx_net.specs.NetView.{NetNow}
 use Rattle.ipx_net.specs.declared.event.Event.{Event}
-use Rattle.ipx_net.specs.declared.event.Event.TheVariants as Events
-use Rattle.ipx_net.specs.declared.event.Member.TheVariants as Members
 use Rattle.ipx_net.specs.declared.routers.RouterNow.{RouterNow}
 
 -- an end refused because memory ran out
 abbrev pub IsForMemory : AnswerView → Type 0
 IsForMemory a = (a ≡ Refused want) ⊎ (a ≡ Refused want_of_link) ⊎ (a ≡ Refused want_of_queue)
-
--- every event but a poll of a host
-abbrev pub IsNoHostPoll : Event → Type 0
-IsNoHostPoll (Events.Poll (Members.Host host)) = ⊥
-IsNoHostPoll event = Unit {0}
 
 -- two hosts with the same address and listeners, the same links under each id, and the same ends
 pub record AreAlike (x y : HostState) : Type 0 where
@@ -50,6 +43,6 @@ pub record AreSameNets (x y : NetNow) : Type 0 where
 
 abbrev pub EventsHaveOneOutcome : Type 0
 EventsHaveOneOutcome =
-    (event : Event) (a b : AnswerView) (old x y : NetNow) → IsNoHostPoll event
+    (event : Event) (a b : AnswerView) (old x y : NetNow)
     → Happens event a old x → Happens event b old y → ¬ IsForMemory a → ¬ IsForMemory b
     → (b ≡ a) × AreSameNets x y

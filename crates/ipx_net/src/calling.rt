@@ -4,7 +4,7 @@ ghost use Rattle.std.specs.Prelude.{◌≡◌, ◌<◌, ◌≤◌, ◌++◌, [],
 ghost use Rattle.spx_link.specs.Limits.{most_units};
 ghost use Rattle.spx_messages.specs.Taking.{taken_view};
 ghost use Rattle.spx_units.specs.Message.{message_view};
-ghost use Rattle.ipx_net_hosts.specs.Hosts.{FitTogether, KeepsMarks, SameHomes, stands};
+ghost use Rattle.ipx_net_hosts.specs.Hosts.{FitTogether, KeepsMarks, MayAddEnd, SameHomes, stands};
 ghost use Rattle.ipx_net_hosts.specs.Refusing.{close_fault, dial_fault, end_held, send_fault};
 ghost use Rattle.theory_steps.specs.HostSteps.{unit_notes, whole_notes};
 ghost use Rattle.ipx_net.specs.AnswerView as views;
@@ -39,7 +39,7 @@ pub fn dial(
         (Dialling host socket to buffers)) }
     ensures memory { IsMade result → dial_fault (slice_get hosts.old.stations host) ≡ None }
     ensures homes { SameHomes hosts.old hosts.new }
-    ensures marks { KeepsMarks hosts.old hosts.new }
+    ensures marks { MayAddEnd hosts.old hosts.new }
 {
     match hosts.dial(alloc, host, socket, to, buffers, now) {
         Ok(who) => noted(

@@ -4,7 +4,7 @@ ghost use Rattle.std.specs.Prelude.{◌≡◌, ◌<◌, ◌≤◌, ◌∷◌, []
 ghost use Rattle.spx_theory.specs.Note as Notes;
 ghost use Rattle.spx_theory.specs.PacketsOnWay.{notes_of};
 ghost use Rattle.theory_steps.specs.HostSteps.{arrival_notes, read_notes};
-ghost use Rattle.ipx_net_hosts.specs.Hosts.{KeepsMarks, SameHomes};
+ghost use Rattle.ipx_net_hosts.specs.Hosts.{MayAddEnd, SameHomes};
 ghost use Rattle.ipx_net.specs.LogEntries.{entry_notes};
 ghost use Rattle.ipx_net.specs.StepResultView.{step_result_view};
 ghost use Rattle.ipx_net.specs.HostEvents.{DeliversSo, end_for};
@@ -126,7 +126,7 @@ pub fn deliver_host(
         DeliversSo hosts.old host parcel bytes.now now (step_result_view g) hosts.new) }
     ensures memory { IsMade result → HostWantsMemory hosts.old host parcel bytes.now now }
     ensures homes { SameHomes hosts.old hosts.new }
-    ensures marks { KeepsMarks hosts.old hosts.new }
+    ensures marks { MayAddEnd hosts.old hosts.new }
 {
     let count = hosts.ends();
     let arrived = hosts.deliver(alloc, host, bytes, now)?;

@@ -3,7 +3,7 @@
 ghost use Rattle.std.specs.Prelude.{◌≡◌, ◌++◌, None, IfOk, slice_get};
 ghost use Rattle.ipx_net_hosts.specs.Hosts.{FitTogether, KeepsMarks, SameHomes};
 ghost use Rattle.ipx_net.specs.StepResultView.{step_result_view};
-ghost use Rattle.ipx_net.specs.NetEvents.{DeliversTo, Happens, IsOwed, PollsOf, injected};
+ghost use Rattle.ipx_net.specs.NetEvents.{DeliversTo, Happens, IsOwed, LeavesMarks, PollsOf, injected};
 ghost use Rattle.ipx_net.specs.NetFaults.{fault_before, network_at, place_fault, poll_fault};
 ghost use Rattle.ipx_net.specs.NetView.{net_of};
 ghost use Rattle.ipx_net.specs.EventWants.{EventWantsMemory, IsMade, PollWantsMemory};
@@ -100,7 +100,7 @@ fn deliver(
         (net_of hosts.old routers.old indexed_log.now.parcels indexed_log.now.log now)
         (Events.Deliver parcel place) }
     ensures homes { SameHomes hosts.old hosts.new }
-    ensures marks { KeepsMarks hosts.old hosts.new }
+    ensures marks { LeavesMarks (Events.Deliver parcel place) hosts.old.ends hosts.new.ends }
 {
     let parcels = indexed_log.parcels();
     let bytes = &parcels[parcel].bytes;
@@ -141,7 +141,7 @@ pub fn happen(
     ensures memory { IsMade result → EventWantsMemory
         (net_of hosts.old routers.old indexed_log.now.parcels indexed_log.now.log moment.old) event }
     ensures homes { SameHomes hosts.old hosts.new }
-    ensures marks { IsMade result → KeepsMarks hosts.old hosts.new }
+    ensures marks { IsMade result → LeavesMarks event hosts.old.ends hosts.new.ends }
 {
     let now = *moment;
     let first = indexed_log.parcels().len();

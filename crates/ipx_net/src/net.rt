@@ -2,14 +2,13 @@
 
 ghost use Rattle.std.specs.Prelude.{◌≡◌, ◌≢◌, ◌<◌, ◌↔◌, All, Err, IfErr, IfOk, IsTrue, None, OnOk, Some, false, length, true, unwrap_or};
 ghost use Rattle.spx_theory.specs.LogPremises.{IsEnd, LogPremises, ReadsRecent};
-ghost use Rattle.ipx_net_hosts.specs.Hosts.{FollowsMarks, marks_of};
 ghost use Rattle.ipx_router.specs.declared.fault.NewFault.TheVariants as NewFaults;
 ghost use Rattle.ipx_net.specs.AnswerView.{answer_view};
 ghost use Rattle.ipx_net.specs.NetBeginnings.{ArePortsOwed, IsHostOwed, IsNewNet, first_refusal};
 ghost use Rattle.ipx_net.specs.Begins.{Begins};
 ghost use Rattle.ipx_net.specs.Ends.{TellsClosed, TellsEnded, TellsEnds, TellsNext, TellsOpened, TellsReleased};
 ghost use Rattle.ipx_net.specs.LogEntries.{entry_notes};
-ghost use Rattle.ipx_net.specs.NetEvents.{Happens, IsOwed};
+ghost use Rattle.ipx_net.specs.NetEvents.{Happens, IsOwed, LeavesMarks};
 ghost use Rattle.ipx_net.specs.NetFaults.{first_fault};
 ghost use Rattle.ipx_net.specs.Parcels.{parcel_views};
 ghost use Rattle.ipx_net.specs.EventWants.{EventWantsMemory};
@@ -65,8 +64,8 @@ fn go_on(
     ensures log { IfErr result (λ f. course.new.now.world.log ≡ course.old.now.world.log) }
     ensures parcels { IfErr result
         (λ f. course.new.now.world.parcels ≡ course.old.now.world.parcels) }
-    ensures marks { IfErr result (λ f. FollowsMarks (marks_of course.old.now.world.ends)
-        (marks_of course.new.now.world.ends)) }
+    ensures marks { IfErr result
+        (λ f. LeavesMarks event course.old.now.world.ends course.new.now.world.ends) }
     ensures spent { IfErr result (λ f. course.new.spent ≡ true) }
     ensures memory { IfErr result (λ f. EventWantsMemory course.old.now event) }
     ensures tells { TellsEnds course.new told.new.infos.items }
@@ -108,7 +107,7 @@ fn take_in(
     ensures parcels { result ≡ Err NetFaults.OutOfMemory
         → course.new.now.world.parcels ≡ course.old.now.world.parcels }
     ensures marks { result ≡ Err NetFaults.OutOfMemory
-        → FollowsMarks (marks_of course.old.now.world.ends) (marks_of course.new.now.world.ends) }
+        → LeavesMarks event course.old.now.world.ends course.new.now.world.ends }
     ensures tells { TellsEnds course.new told.new.infos.items }
 {
     if let Some(fault) = course.first_fault(&event) {
@@ -150,8 +149,9 @@ impl Net {
     /// The caller owes 1 to 8,192 buffers of what is dialled. It is refused as `Spent` where memory
     /// was refused before, else as `Full` where the log holds 1,000,000 entries, else where it
     /// names what is not there, else for want of memory. Then the log and the parcels stay, and the
-    /// ends with what is known of messages that grew too long, but that one end may be new; and no
-    /// further step is taken. Any other refusal leaves all as it was.
+    /// ends with what is known of messages that grew too long, but that one end may be new after a
+    /// dial or a delivery to a host; and no further step is taken. Any other refusal leaves all as
+    /// it was.
     pub fn step(&mut self, alloc: Global, event: Event) -> Result<Answer, NetFault>
         requires { IsOwed event }
         ensures ok { IfOk result (λ a. Happens event (answer_view a) self.old.now self.new.now) }
@@ -170,7 +170,7 @@ impl Net {
             → self.new.now.world.parcels ≡ self.old.now.world.parcels }
         // Each end is still there, and of each is known whether a message of it grew too long.
         ensures marks { result ≡ Err NetFaults.OutOfMemory
-            → FollowsMarks (marks_of self.old.now.world.ends) (marks_of self.new.now.world.ends) }
+            → LeavesMarks event self.old.now.world.ends self.new.now.world.ends }
         ensures theorems { Theorems self.new }
     {
         let result = take_in(&mut self.course, &mut self.told, alloc, event);

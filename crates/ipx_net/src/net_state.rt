@@ -2,14 +2,13 @@
 
 ghost use Rattle.std.specs.Prelude.{◌≡◌, ◌≤◌, ◌+◌, ◌-◌, ◌↔◌, All, IfErr, IfOk, IsTrue, None, OnOk, false, length, take, true, unwrap_or, vec_capacity, vec_len};
 ghost use Rattle.spx_theory.specs.Peers.{IsFresh};
-ghost use Rattle.ipx_net_hosts.specs.Hosts.{FollowsMarks, marks_of};
 ghost use Rattle.ipx_router.specs.declared.fault.NewFault.TheVariants as NewFaults;
 ghost use Rattle.ipx_net.specs.AnswerView.{answer_view};
 ghost use Rattle.ipx_net.specs.NetBeginnings.{ArePortsOwed, IsHostOwed, IsNewNet, first_refusal};
 ghost use Rattle.ipx_net.specs.Begins.{BeginsAsRead};
 ghost use Rattle.ipx_net.specs.Ends.{TellsLog};
 ghost use Rattle.ipx_net.specs.LogEntries.{entry_notes};
-ghost use Rattle.ipx_net.specs.NetEvents.{Happens, IsOwed};
+ghost use Rattle.ipx_net.specs.NetEvents.{Happens, IsOwed, LeavesMarks};
 ghost use Rattle.ipx_net.specs.NetFaults.{first_fault};
 ghost use Rattle.ipx_net.specs.Parcels.{parcel_views};
 ghost use Rattle.ipx_net.specs.Theorems.{Theorems};
@@ -155,8 +154,8 @@ impl NetState {
         ensures log { IfErr result (λ f. self.new.now.world.log ≡ self.old.now.world.log) }
         ensures parcels { IfErr result
             (λ f. self.new.now.world.parcels ≡ self.old.now.world.parcels) }
-        ensures marks { IfErr result (λ f. FollowsMarks (marks_of self.old.now.world.ends)
-            (marks_of self.new.now.world.ends)) }
+        ensures marks { IfErr result
+            (λ f. LeavesMarks event self.old.now.world.ends self.new.now.world.ends) }
         ensures spent { IfErr result (λ f. self.new.spent ≡ true) }
         ensures memory { IfErr result (λ f. EventWantsMemory self.old.now event) }
         ensures behind { OnOk result (take (length self.old.now.world.log) self.new.now.world.log

@@ -51,10 +51,14 @@ marks_of ends = map (λ e. e.overlong) ends
 abbrev pub FollowsMarks : List Bool → List Bool → Type 0
 FollowsMarks old new = (new ≡ old) ⊎ (new ≡ old ++ false ∷ [])
 
--- each end that was there is there, with its mark, and one end at most is new. So it is whatever is
--- called and whatever is refused, but for a take that answers that a message grew too long
+-- each end is there, with its mark, and none is new. So it is whatever is called and whatever is
+-- refused, but for a dial and a delivery, and a take that answers that a message grew too long
 abbrev pub KeepsMarks : HostsView → HostsView → Type 0
-KeepsMarks old new = FollowsMarks (marks_of old.ends) (marks_of new.ends)
+KeepsMarks old new = marks_of new.ends ≡ marks_of old.ends
+
+-- the same, but that one end may be new: so it is of a dial and a delivery, whatever is refused
+abbrev pub MayAddEnd : HostsView → HostsView → Type 0
+MayAddEnd old new = FollowsMarks (marks_of old.ends) (marks_of new.ends)
 
 -- there is such an end, and it is not released
 abbrev pub stands : HostsView → ℕ → Bool

@@ -11,10 +11,11 @@ ghost use Rattle.theory_steps.specs.World.{end_at};
 ghost use Rattle.spx_messages.specs.EndpointView.{held_at};
 ghost use Rattle.ipx_net_hosts.specs.HostBeginnings.{AddsHost};
 ghost use Rattle.spx_messages.specs.Arrives.{IsAcceptable};
+ghost use Rattle.spx_messages.specs.OneValue.{IsRoomStill};
 ghost use Rattle.spx_messages.specs.Taking.{overlong, result_view};
 ghost use Rattle.ipx_net_hosts.specs.HostStates.{reader_of, speaker};
 ghost use Rattle.ipx_net_hosts.specs.EndTelling.{here_at, state_on_host};
-ghost use Rattle.ipx_net_hosts.specs.Hosts.{DeliveredAt, FitTogether, KeepsMarks, LeftAs, LeftBy, Noting, PolledAt, SameHomes, Standing, is_lost, stands};
+ghost use Rattle.ipx_net_hosts.specs.Hosts.{DeliveredAt, FitTogether, KeepsMarks, LeftAs, LeftBy, MayAddEnd, Noting, PolledAt, SameHomes, Standing, is_lost, stands};
 ghost use Rattle.ipx_net_hosts.specs.Refusing.{CloseIsRefused, DialIsLeft, Overruns, PushesTo, SendIsRefused, TakeIsRefused, close_fault, dial_fault, end_held, send_fault, want};
 
 use crate::end::EndNow;
@@ -113,7 +114,7 @@ impl Hosts {
         ensures fault { IfErr result (DialIsLeft (slice_get self.old.stations host)) }
         ensures refused { IfErr result (λ f. LeftBy f host self.old self.new now) }
         ensures homes { SameHomes self.old self.new }
-        ensures marks { KeepsMarks self.old self.new }
+        ensures marks { MayAddEnd self.old self.new }
     {
         let who = self.ends.len();
         let id = match self.stations[host].dial(alloc, who, socket, to, buffers, now) {
@@ -258,6 +259,7 @@ impl Hosts {
         requires there { host < length self.old.stations }
         requires room { spx_max_packet_size ≤ length room.old }
         ensures polled { PolledAt self.old host now result room.old room.new self.new }
+        ensures still { IsRoomStill room.old room.new }
         ensures homes { SameHomes self.old self.new }
         ensures marks { KeepsMarks self.old self.new }
     {
@@ -278,7 +280,7 @@ impl Hosts {
         ensures memory { OnErr result (IfSome (slice_get self.old.stations host)
             (λ s. IsAcceptable s.endpoint bytes.now)) }
         ensures homes { SameHomes self.old self.new }
-        ensures marks { KeepsMarks self.old self.new }
+        ensures marks { MayAddEnd self.old self.new }
     {
         let who = self.ends.len();
         let arrived = self.stations[host].deliver(alloc, bytes, now, who)?;

@@ -9,6 +9,7 @@ returns c =
       heard = c.datagram_does_one_thing.ensures.heard;
       outcome = c.answer_is_one.ensures;
       offers = c.offers_are_one.ensures;
+      poll = c.poll_is_one.ensures;
       telling = c.telling_is_one.ensures.packets;
       holding = c.telling_is_one.ensures.holds;
       start = c.start_is_one.ensures;

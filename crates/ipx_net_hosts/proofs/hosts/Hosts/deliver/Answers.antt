@@ -1,4 +1,4 @@
-use Rattle.std.proofs.Common.{arith, refl}
+use Rattle.std.proofs.Common.{arith, inl, refl}
 use Rattle.ipx_net_hosts.proofs.Placing.{delivered, homes_set, host_there}
 use Rattle.ipx_net_hosts.proofs.Marks.{marks_pushed, marks_same}
 use Rattle.ipx_net_hosts.proofs.hosts.Hosts.deliver.Goals as goal
@@ -27,14 +27,14 @@ returns-in_default c =
           c.in_default.not-Accepted c.in_ok-arrived.ensures.arrives c.in_ok-arrived.ensures.here;
       memory = tt;
       homes = homes_set v ss es c.args.host x y c.self.view_is c.index_mut.ensures.value c.in_ok-arrived.ensures.home;
-      marks = marks_same v ss es es c.self.view_is refl;
+      marks = inl (marks_same v ss es es c.self.view_is refl);
     }
 
 pub returns-in_err-arrived-clause-marks : goal.returns-in_err-arrived-clause-marks
-returns-in_err-arrived-clause-marks c = marks_same c.args.self.now c.self.inside.stations.items c.self.inside.ends.items c.self.inside.ends.items c.self.view_is refl
+returns-in_err-arrived-clause-marks c = inl (marks_same c.args.self.now c.self.inside.stations.items c.self.inside.ends.items c.self.inside.ends.items c.self.view_is refl)
 
 pub returns-in_err-push-clause-marks : goal.returns-in_err-push-clause-marks
-returns-in_err-push-clause-marks c = marks_same c.args.self.now c.self.inside.stations.items c.self.inside.ends.items c.push.new.self.items c.self.view_is c.in_err-push.ensures.items
+returns-in_err-push-clause-marks c = inl (marks_same c.args.self.now c.self.inside.stations.items c.self.inside.ends.items c.push.new.self.items c.self.view_is c.in_err-push.ensures.items)
 
 pub returns-in_ok-push-clause-marks : goal.returns-in_ok-push-clause-marks
 returns-in_ok-push-clause-marks c = marks_pushed c.args.self.now c.self.inside.stations.items c.self.inside.ends.items c.push.new.self.items _ c.self.view_is c.in_ok-push.ensures.items refl

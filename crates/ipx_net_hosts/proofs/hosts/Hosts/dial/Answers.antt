@@ -1,4 +1,4 @@
-use Rattle.std.proofs.Common.{◌≡◌, None, arith, subst, refl}
+use Rattle.std.proofs.Common.{◌≡◌, None, arith, inl, subst, refl}
 use Rattle.ipx_net_hosts.specs.Refusing.{DialIsLeft, dial_fault}
 use Rattle.ipx_net_hosts.proofs.Placing.{dialled, homes_set, host_there, left_so, station_there}
 use Rattle.ipx_net_hosts.proofs.Marks.{marks_pushed, marks_same}
@@ -37,7 +37,7 @@ pub returns-clause-marks : goal.returns-clause-marks
 returns-clause-marks c = marks_pushed c.args.self.now c.self.inside.stations.items c.self.inside.ends.items c.push.new.self.items _ c.self.view_is c.in_ok-push.ensures.items refl
 
 pub returns-in-Err-clause-marks : goal.returns-in-Err-clause-marks
-returns-in-Err-clause-marks c = marks_same c.args.self.now c.self.inside.stations.items c.self.inside.ends.items c.self.inside.ends.items c.self.view_is refl
+returns-in-Err-clause-marks c = inl (marks_same c.args.self.now c.self.inside.stations.items c.self.inside.ends.items c.self.inside.ends.items c.self.view_is refl)
 
 pub returns-in_err-push-clause-marks : goal.returns-in_err-push-clause-marks
-returns-in_err-push-clause-marks c = marks_same c.args.self.now c.self.inside.stations.items c.self.inside.ends.items c.push.new.self.items c.self.view_is c.in_err-push.ensures.items
+returns-in_err-push-clause-marks c = inl (marks_same c.args.self.now c.self.inside.stations.items c.self.inside.ends.items c.push.new.self.items c.self.view_is c.in_err-push.ensures.items)
