@@ -1,20 +1,20 @@
 -- How a host that sends paces its connection: what its link may do at the next poll. All of it is own.
-use Rattle.std.specs.Prelude.{◌≡◌, ◌≢◌, ◌<◌, ◌⊎◌, ℕ, List, IfSome, IsTrue, Option, Some, None, option_map, true}
+use Rattle.std.specs.Prelude.{◌≡◌, ◌≢◌, ◌<◌, ◌⊎◌, ◌&&◌, ℕ, Bool, List, IfSome, IsTrue, Option, Some, None, option_map, true, false}
 use Rattle.ipx_carrier.specs.HostCore.{HostGives}
 use Rattle.ipx_carrier.specs.Turns.{Given}
-use Rattle.spx_link.specs.LinkView.{LinkView, numbers_of}
+use Rattle.spx_link.specs.LinkView.{LinkView, is_working, numbers_of}
 use Rattle.spx_link.specs.Offer.{again_link, pace_link}
 use Rattle.spx_link.specs.declared.numbers.Numbers.{Numbers}
 use Rattle.spx_link.specs.declared.outgoing.Sent.{Sent}
 use Rattle.spx_link.specs.declared.received.Received.{Received}
 use Rattle.spx_link.specs.declared.received.Received.TheVariants.{Stranger}
 use Rattle.spx_messages.specs.Arrives.{Arrives}
-use Rattle.spx_messages.specs.Changes.{ChangesEnd}
+use Rattle.spx_messages.specs.Changes.{ChangesEnd, ReleasesEnd}
 use Rattle.spx_messages.specs.EndpointView.{EndpointView, Held, held_at}
 use Rattle.spx_messages.specs.declared.arrived.Arrived.{Arrived}
 use Rattle.spx_messages.specs.declared.arrived.Arrived.TheVariants.{Link}
 use Rattle.spx_congestion.specs.Giving.{gave_of}
-use Rattle.spx_congestion.specs.Pacing.{PacerView, credit_after, wakes_at, holds_back, plan_of}
+use Rattle.spx_congestion.specs.Pacing.{PacerView, credit_after, has_given_up, wakes_at, holds_back, plan_of}
 use Rattle.spx_congestion.specs.declared.plan.Plan.{Plan}
 use Rattle.ipx_host.specs.declared.paced_host_core.PacedHostCore.{PacedHostCore}
 use Rattle.ipx_host.specs.declared.pacing.Paced.{Paced}
@@ -33,11 +33,20 @@ pub record IsPlanOf (plan : Plan) (pacer : PacerView) (l : LinkView) : Type 0 wh
   pub counts : pacer.out ≡ l.out
   pub value : plan ≡ plan_of pacer
 
--- the link of an id, where it is there, becomes as its pacer plans, and nothing else changes
+-- a link that sends units is given up where its pacer has given up: after ten timeouts in a row
+abbrev pub is_given_up : PacerView → LinkView → Bool
+is_given_up pacer l = is_working l.state && has_given_up pacer
+
+-- a link that is given up goes, and any other becomes as it is planned; and nothing else changes
+abbrev pub FollowsPlan : Bool → ℕ → Plan → Held → EndpointView → EndpointView → Type 0
+FollowsPlan true id plan held old new = ReleasesEnd old new id
+FollowsPlan false id plan held old new = ChangesEnd old new id (record held { link = planned plan held.link })
+
+-- the link of an id, where it is there, becomes as its pacer plans, or goes where it is given up
 abbrev pub PlansLink : ℕ → PacerView → PacerView → Option Held → EndpointView → EndpointView → Type 0
 PlansLink id pacer pacer' None old new = (pacer' ≡ pacer) × (new ≡ old)
 PlansLink id pacer pacer' (Some held) old new = (plan : Plan) × IsPlanOf plan pacer' held.link
-    × ChangesEnd old new id (record held { link = planned plan held.link })
+    × FollowsPlan (is_given_up pacer' held.link) id plan held old new
     × (new.said ≡ old.said) × (new.heard ≡ old.heard)
 
 -- that of the connection that is paced does, and where none is, nothing changes

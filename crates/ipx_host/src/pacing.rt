@@ -2,12 +2,14 @@
 
 ghost use Rattle.std.specs.Prelude.{◌≡◌, ◌≤◌, ◌+◌, IfOk, IfSome, IsNone, Some};
 ghost use Rattle.spx_congestion.specs.Pacing.{made_pacer};
-ghost use Rattle.ipx_host.specs.Paced.{HoldsBack, IsAwake, NotesDatagram, NotesPoll, Plans};
-ghost use Rattle.ipx_host.specs.Paced.{paced_due, paced_numbers};
+ghost use Rattle.spx_messages.specs.EndpointView.{held_at};
+ghost use Rattle.ipx_host.specs.Paced.{FollowsPlan, HoldsBack, IsAwake, NotesDatagram, NotesPoll};
+ghost use Rattle.ipx_host.specs.Paced.{Plans, is_given_up as is_given_up_by, paced_due};
+ghost use Rattle.ipx_host.specs.Paced.{paced_numbers};
 
 use ipx_wire::{OutOfMemory, decode, decode_spx};
-use spx_congestion::{Pacer, SentKind};
-use spx_link::{Numbers, Received};
+use spx_congestion::{Pacer, Plan, SentKind};
+use spx_link::{Numbers, Received, State};
 use spx_messages::{Arrived, Endpoint};
 use std::alloc::Global;
 
@@ -16,6 +18,24 @@ use std::alloc::Global;
 pub struct Paced {
     id: u16,
     pacer: Pacer,
+}
+
+/// The link of an id may do at the next poll what is planned, and goes by hand. If it is given up,
+/// it is released.
+fn follow(endpoint: &mut Endpoint, id: u16, plan: Plan, given_up: bool)
+    ensures follows { IfSome (held_at endpoint.old id)
+        (λ h. FollowsPlan given_up id plan h endpoint.old endpoint.new) }
+    ensures said { endpoint.new.said ≡ endpoint.old.said }
+    ensures heard { endpoint.new.heard ≡ endpoint.old.heard }
+{
+    if given_up {
+        let _ = endpoint.release(id);
+        return;
+    }
+    let _ = endpoint.pace(id, plan.window, true);
+    if let Some(place) = plan.again {
+        let _ = endpoint.again(id, place);
+    }
 }
 
 /// The datastream type of a packet of a connection.
@@ -34,7 +54,19 @@ impl Paced {
         Ok(Paced { id, pacer })
     }
 
+    /// Whether the connection is given up: ten timeouts in a row came while it sends units.
+    fn is_given_up(&self, endpoint: &Endpoint) -> bool
+        ensures { IfSome (held_at endpoint.now self.now.id)
+            (λ h. result ≡ is_given_up_by self.now.pacer h.link) }
+    {
+        match endpoint.state(self.id) {
+            Ok(State::Live | State::Ending) => self.pacer.has_given_up(),
+            _ => false,
+        }
+    }
+
     /// The link of the connection may do what its pacer plans, at the next poll. It goes by hand.
+    /// Where the connection is given up, its link is released.
     fn plan(&mut self, endpoint: &mut Endpoint, now: u64)
         ensures { Plans (Some self.old) (Some self.new) endpoint.old endpoint.new }
     {
@@ -42,10 +74,8 @@ impl Paced {
             return;
         };
         let plan = self.pacer.plan(numbers, now);
-        let _ = endpoint.pace(self.id, plan.window, true);
-        if let Some(place) = plan.again {
-            let _ = endpoint.again(self.id, place);
-        }
+        let given_up = self.is_given_up(endpoint);
+        follow(endpoint, self.id, plan, given_up);
     }
 
     /// The endpoint was polled, and has written a packet at the front of these bytes, if it gave

@@ -4,7 +4,7 @@ use Rattle.std.proofs.Common.{ℕ, ◌+◌, ◌-◌, ◌<◌, ◌≤◌, ◌≡�
 use Rattle.std.proofs.lemmas.Bool.{cases_lt, lt-ltb, leb-true, cond-true, cond-false}
 use Rattle.std.proofs.lemmas.Option.{slice_get-get_or}
 use Rattle.spx_link.specs.declared.queue.Queued.{Queued}
-use Rattle.spx_link.specs.Limits.{most_sends}
+use Rattle.spx_link.specs.Limits.{most_sends, most_manual_probes}
 use Rattle.spx_link.specs.LinkView.{LinkView, due, is_working}
 use Rattle.spx_link.specs.Machine.{End, got, packet_now}
 use Rattle.spx_link.specs.LinkTurns.{is_joined}
@@ -18,7 +18,7 @@ use Rattle.theory_pairs.specs.Tracks.{core}
 use Rattle.theory_pairs.specs.PairSteps.{Polled}
 use Rattle.spx_link.specs.Limits.{most_units}
 use Rattle.spx_link.specs.Offer.{the_end, queued}
-use Rattle.spx_link.specs.Poll.{late, asked_again, wanted, late_if_working, is_waiting}
+use Rattle.spx_link.specs.Poll.{late, asked_again, wanted, late_if_working, most_probes, is_waiting}
 use Rattle.ipx_recovery.proofs.Having.{Has, has_all}
 use Rattle.ipx_recovery.proofs.Speaking.{Spoken, spoken}
 use Rattle.ipx_recovery.proofs.Hearing.{Owes}
@@ -43,7 +43,7 @@ never_gives_up now a0 b0 c0 d0 a b c d mid g =
         | inr now' ↦ absurd (cc (sym (ap (λ t. due t now) now'.0 ∙ not_yet now) ∙ late'.due' mid.pace.manual))
       ]
       | inr probe ↦ elim (mid.probes works) [
-        | inl few ↦ absurd (omega (arith, few, leb-true most_sends a.probes probe.often))
+        | inl few ↦ absurd (omega (arith, few, leb-true (most_probes a) a.probes probe.often, cond-false a.manual most_manual_probes most_sends mid.pace.manual))
         | inr now' ↦ absurd (cc (sym (ap (λ t. due t now) now'.0 ∙ not_yet now) ∙ probe.due'))
       ]
     ]

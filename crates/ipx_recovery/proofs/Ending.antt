@@ -11,7 +11,7 @@ use Rattle.spx_link.specs.declared.state.State.{State}
 use Rattle.spx_link.specs.Limits.{most_sends}
 use Rattle.spx_link.specs.LinkView.{LinkView, due, is_working}
 use Rattle.spx_link.specs.Receive.{receive_link}
-use Rattle.spx_link.specs.Poll.{OutgoingView, lost, requests, requests_or_lost, poll_request, late, place_below, asked_again, wanted, late_if_working, sends_again, poll_reply, poll_at, poll_link}
+use Rattle.spx_link.specs.Poll.{OutgoingView, lost, requests, requests_or_lost, poll_request, late, place_below, asked_again, wanted, late_if_working, count_again, sends_again, poll_reply, poll_at, poll_link}
 use Rattle.spx_link.specs.declared.state.State.TheVariants as S
 use Rattle.ipx_recovery.proofs.PollCases.{probing, reply_by}
 use Rattle.ipx_recovery.specs.LosslessRounds.{Conveys, stops, goes}
@@ -96,7 +96,7 @@ late_due l now k q clock late' is =
 again_fewer : (l : LinkView) (now k : ℕ) (q : Queued) → late_if_working l now ≡ Some k → slice_get l.queue k ≡ Some q → left (sends_again l now k q).1 now < left l now
 again_fewer l now k q late' is =
     let spoke : one_if (due now now) ≡ 0 = ap one_if (not_yet now) in
-    let y : Queued = record { unit = q.unit; at = now; count = q.count + 1 } in
+    let y : Queued = record { unit = q.unit; at = now; count = count_again l q.count } in
     ⊎_elim
     (λ (hand : l.manual ≡ true).
     let found : asked_again l ≡ Some k = sym (cond-true l.manual (asked_again l) (late l now) hand) ∙ (wanted_working l now k late').1 in

@@ -13,7 +13,7 @@ use Rattle.spx_link.specs.SequenceMarks.{mark}
 use Rattle.spx_link.specs.Offer.{the_end, queued}
 use Rattle.spx_link.specs.Receive.{is_system}
 use Rattle.spx_link.specs.LinkTurns.{is_joined}
-use Rattle.spx_link.specs.Poll.{OutgoingView, base, late, asked_again, wanted, late_if_working, poll_link, replies, confirms, sends, sends_again, acknowledges, probes_once}
+use Rattle.spx_link.specs.Poll.{OutgoingView, base, late, asked_again, wanted, late_if_working, poll_link, replies, confirms, sends, sends_again, acknowledges, most_probes, probes_once}
 use Rattle.ipx_recovery.proofs.PollCases.{IsResting, probing, poll_by}
 use Rattle.ipx_recovery.proofs.Ending.{late_due, place_under, wanted_working}
 
@@ -92,7 +92,7 @@ pub record LateTooOften (l : LinkView) (now : ℕ) : Type 0 where
 
 pub record ProbedTooOften (l : LinkView) (now : ℕ) : Type 0 where
   pub due' : due l.spoke now ≡ true
-  pub often : nat_le most_sends l.probes ≡ true
+  pub often : nat_le (most_probes l) l.probes ≡ true
 
 pub record GivesUp (l : LinkView) (now : ℕ) : Type 0 where
   pub working : is_working l.state ≡ true

@@ -3,7 +3,7 @@ use Rattle.std.proofs.Common.{◌≡◌, ◌+◌, ◌-◌, ◌*◌, ◌/◌, ◌
 use Rattle.std.proofs.Math.Nat.{mul-le-mul_right}
 use Rattle.std.proofs.lemmas.Bool.{lt-ltb}
 use Rattle.std.specs.Prelude.{◌&&◌, if◌then◌else◌, nat_lt}
-use Rattle.spx_congestion.specs.Pacing.{PacerView, Tends, behind, grown_credit, has_credit, is_over, missing_at, open_to, place_again, plan_of, with_outstanding}
+use Rattle.spx_congestion.specs.Pacing.{PacerView, Tends, behind, grown_credit, has_credit, is_over, missing_at, open_to, place_again, plan_of, spare, with_outstanding}
 
 -- the credit of a quarter of a second is enough for a unit, at any rate
 enough : (rate credit gone : ℕ) → 1 ≤ rate → 256 ≤ gone → 256 ≤ min (credit + rate * gone) (max (rate * 4) 2560)
@@ -49,6 +49,16 @@ none_again p e =
 some_open : (out left in_flight window credit : ℕ) → out ≡ 0 → in_flight ≡ 0 → 256 ≤ credit → 1024 ≤ window
     → 0 < min (out + min (window / 256 - ((out - left) + in_flight)) (credit / 256)) 8192
 some_open out left in_flight window credit is_out is_sent credits wide = omega (arith, is_out, is_sent, credits, wide)
+
+some_spare : (out left in_flight window : ℕ) → out ≡ 0 → in_flight ≡ 0 → 1024 ≤ window → 0 < window / 256 - ((out - left) + in_flight)
+some_spare out left in_flight window is_out is_sent wide = omega (arith, is_out, is_sent, wide)
+
+-- with none outstanding, and so none counted, the window allows some
+pub spares : (old new : PacerView) (out now : ℕ) → Tends old out now new → out ≡ 0 → (0 < spare new) × (new.out ≡ 0)
+spares old new out now tends none =
+    let tends' : Tends old 0 now new = subst (λ n. Tends old n now new) none tends in
+    let idle = idle_of old new now tends' in
+    (some_spare new.out new.left new.in_flight new.window idle.0 idle.1 tends'.wide.0, idle.0)
 
 opens : (p : PacerView) → has_credit p ≡ true → place_again p ≡ None → (plan_of p).window ≡ open_to p
 opens p has none = rw has (rw none refl)

@@ -1,3 +1,4 @@
 pub mod Giving
 pub mod Measured
 pub mod Pacing
+pub mod Timeouts

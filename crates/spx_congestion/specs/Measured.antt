@@ -23,7 +23,8 @@ trip_of t = record { wait = t.wait; doubled = t.doubled; smoothed = smoothed_of 
 abbrev pub doubled_wait : TripView → ℕ
 doubled_wait t = max (min (t.wait * 2 ^ t.doubled) 4000) t.wait
 
--- the wait for the acknowledgement of the end of a connection, which alone is outstanding: half a second to a second
+-- the wait for the acknowledgement of the end of a connection, which alone is outstanding, before it goes again: half a
+-- second to a second
 abbrev pub end_wait : TripView → ℕ
 end_wait t = min (max t.wait 500) 1000
 

@@ -116,17 +116,26 @@ plan_of p =
 abbrev pub holds_back : PacerView → Bool
 holds_back p = is_some (place_again p) || (nat_lt p.credit 256 && nat_lt 0 (spare p))
 
--- till when an acknowledgement is waited for: that of the end, where it alone is outstanding, as long as such a one
+-- the end of the connection was sent, and it alone is outstanding, or a wait was over since anything was acknowledged:
+-- whether all came is asked often, since a listener keeps a connection some seconds after its end, and no longer
+abbrev pub asks_often : PacerView → Bool
+asks_often p = p.ended && ((p.out == 1) || nat_lt 0 p.trip.doubled)
+
+-- till when an acknowledgement is waited for: no shorter than till the first outstanding unit goes again by that
 abbrev pub waits_till : PacerView → Option ℕ
 waits_till p =
-    option_map (λ since. behind since (if p.ended && (p.out == 1) then end_wait p.trip else doubled_wait p.trip)) p.timer
+    option_map (λ since. behind since (if asks_often p then max (doubled_wait p.trip) (end_wait p.trip) else doubled_wait p.trip)) p.timer
 
 -- when the first outstanding unit, which went again, is missing again: behind a round trip and its slack, which each
--- time doubles, up to 64 times. None where nothing is mended, or others are to go first
+-- time doubles, up to 64 times. None where nothing is mended, or others are to go first. Where it is asked often, each
+-- half second to second since it went
 abbrev pub missing_at : PacerView → Option ℕ
 missing_at p =
-    if p.mends && nat_le p.to (max p.from p.base)
-    then Some (behind p.fixed_at (slack p.trip * 2 ^ min p.tries 6)) else None
+    if nat_le p.to (max p.from p.base)
+    then (if asks_often p
+    then Some (behind (max p.fixed_at (unwrap_or p.timer 0)) (end_wait p.trip))
+    else (if p.mends then Some (behind p.fixed_at (slack p.trip * 2 ^ min p.tries 6)) else None))
+    else None
 
 -- when it has waited long enough for an acknowledgement, or for a unit that went again
 abbrev pub wakes : PacerView → Option ℕ
@@ -139,6 +148,14 @@ wakes_at p now =
     if holds_back p
     then Some (min (behind now 1) (unwrap_or (wakes p) (behind now 1)))
     else (if nat_lt 0 p.out then Some (min (unwrap_or (wakes p) now) (behind now 60000)) else None)
+
+-- after ten waits in a row that were over, with no acknowledgement of anything new since the first began, the connection
+-- is given up
+abbrev pub most_timeouts : ℕ
+most_timeouts = 10
+
+abbrev pub has_given_up : PacerView → Bool
+has_given_up p = nat_le most_timeouts p.trip.doubled
 
 -- whether there is such a moment, and it came
 abbrev pub is_over : Option ℕ → ℕ → Bool

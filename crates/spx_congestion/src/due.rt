@@ -1,12 +1,16 @@
 //! When something is due by itself.
 
 ghost use Rattle.std.specs.Prelude.{◌≡◌, ◌+◌, ◌≤◌, IfSome, IsNone, IsTrue, false};
-ghost use Rattle.spx_congestion.specs.Pacing.{holds_back, missing_at, waits_till, wakes_at};
+ghost use Rattle.spx_congestion.specs.Pacing.{asks_often, has_given_up, holds_back, missing_at};
+ghost use Rattle.spx_congestion.specs.Pacing.{waits_till, wakes_at};
 
 use crate::pacer::Pacer;
 
 /// The longest time till a plan is asked for again, in milliseconds, where something is outstanding.
 const MAX_SLEEP: u64 = 60_000;
+
+/// After so many timeouts in a row a connection is given up.
+const MAX_TIMEOUTS: u32 = 10;
 
 impl Pacer {
     /// The moment at which a plan may differ from the last one, where nothing is heard before.
@@ -31,6 +35,16 @@ impl Pacer {
         Some(self.wakes().unwrap_or(now).min(latest))
     }
 
+    /// Whether the connection is to be given up: ten timeouts in a row came, and no acknowledgement of
+    /// anything new since the first of these waits began.
+    ///
+    /// Whoever sends by the plans asks this after each.
+    pub fn has_given_up(&self) -> bool
+        ensures { result ≡ has_given_up self.now }
+    {
+        self.trip.timeouts() >= MAX_TIMEOUTS
+    }
+
     /// When it has waited long enough for an acknowledgement, or for a unit that went again. None
     /// where it does not wait.
     fn wakes(&self) -> Option<u64>
@@ -53,18 +67,32 @@ impl Pacer {
     pub(crate) fn waits_till(&self) -> Option<u64>
         ensures { result ≡ waits_till self.now }
     {
-        let wait = if self.ended && self.out == 1 {
-            self.trip.end_wait()
+        let wait = if self.asks_often() {
+            self.trip.wait().max(self.trip.end_wait())
         } else {
             self.trip.wait()
         };
         Some(self.timer?.saturating_add(wait))
     }
 
-    /// When the first outstanding unit goes again, which went again before.
+    /// Whether the end of the connection was sent, and it alone is outstanding, or a wait was over
+    /// since anything was acknowledged.
+    fn asks_often(&self) -> bool
+        ensures { result ≡ asks_often self.now }
+    {
+        self.ended && (self.out == 1 || self.trip.timeouts() > 0)
+    }
+
+    /// When the first outstanding unit goes again, which went again before. Once the end was sent, a
+    /// short time after it went, so that it is asked often whether all came: a listener keeps a
+    /// connection some seconds after its end. No timeout comes sooner for it.
     pub(crate) fn repair_due(&self) -> Option<u64>
         ensures { result ≡ missing_at self.now }
     {
+        if self.asks_often() && self.repair.is_idle(self.base) {
+            let went = self.repair.fixed_at.max(self.timer.unwrap_or(0));
+            return Some(went.saturating_add(self.trip.end_wait()));
+        }
         self.repair.missing_at(self.base, self.trip.with_slack())
     }
 

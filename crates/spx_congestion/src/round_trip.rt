@@ -16,12 +16,11 @@ const MAX_WAIT: u64 = 60_000;
 /// The longest wait that comes of doubling.
 const MAX_DOUBLED: u64 = 4000;
 
-/// How long the end of a connection is waited for at most: a listener keeps a connection some
-/// seconds behind its end, and no longer.
+/// How long the end of a connection is waited for at most, before it goes again: a listener keeps a
+/// connection some seconds behind its end, and no longer.
 const MAX_END_WAIT: u64 = 1000;
 
-/// The shortest time that the end of a connection is waited for, which alone is outstanding: ten of
-/// these outlast a router that is started again.
+/// The shortest time that the end of a connection is waited for, which alone is outstanding.
 const LEAST_END_WAIT: u64 = 500;
 
 /// How many samples tell whether a queue stands.
@@ -176,7 +175,8 @@ impl RoundTrip {
             .max(self.wait)
     }
 
-    /// How long that of the end of a connection is waited for, which alone is outstanding.
+    /// How long that of the end of a connection is waited for, which alone is outstanding, before it
+    /// goes again.
     pub fn end_wait(&self) -> u64
         ensures { result ≡ Rattle.spx_congestion.specs.Measured.end_wait (trip_of self.now) }
     {
@@ -186,6 +186,13 @@ impl RoundTrip {
     /// Whether the wait was not over since the last acknowledgement.
     pub fn is_first_wait(&self) -> bool {
         self.doubled == 0
+    }
+
+    /// How often in a row the wait was over.
+    pub fn timeouts(&self) -> u32
+        ensures { result ≡ (trip_of self.now).doubled }
+    {
+        self.doubled
     }
 
     /// The wait was over.

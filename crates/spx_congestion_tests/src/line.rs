@@ -116,11 +116,10 @@ pub struct Course {
     /// The unit that the listener waits for, and which of the next it has.
     expected: u64,
     came: Vec<bool>,
-    /// How often each unit was sent, and how often any.
-    sends: Vec<u8>,
+    /// How often any unit was sent.
     sent: u64,
     now: u64,
-    /// Whether a unit was to be sent for the eleventh time, at which a link is lost.
+    /// Whether the connection was given up.
     pub lost: bool,
 }
 
@@ -135,7 +134,6 @@ impl Course {
             next: 0,
             expected: 0,
             came: vec![in alloc; false; 8192]?,
-            sends: vec![in alloc; 0; 8192]?,
             sent: 0,
             now: terms.trip * MS,
             lost: false,
@@ -190,8 +188,11 @@ impl Course {
     fn poll_once(&mut self) -> Result<bool, Fail> {
         let numbers = self.numbers();
         let plan = self.pacer.plan(numbers, self.now / MS);
+        if self.pacer.has_given_up() {
+            self.lost = true;
+            return Ok(false);
+        }
         if numbers.out < plan.window && numbers.room > 0 {
-            self.sends[(self.next % 8192) as usize] = 1;
             self.there.put(self.now, UNIT, self.next)?;
             self.next += 1;
             self.sent += 1;
@@ -203,12 +204,6 @@ impl Course {
             return Ok(false);
         };
         let position = self.base + u64::from(place);
-        let count = &mut self.sends[(position % 8192) as usize];
-        if *count == 10 {
-            self.lost = true;
-            return Ok(false);
-        }
-        *count += 1;
         self.there.put(self.now, UNIT, position)?;
         self.sent += 1;
         self.pacer.gave(SentKind::Again, numbers, self.now / MS);

@@ -56,6 +56,27 @@ fn a_wait_that_is_over(rt: HostRuntime) -> Result<(), Fail> {
     Ok(())
 }
 
+/// After ten in a row the connection is given up, and not if one before acknowledges anything new.
+#[test]
+fn ten_waits_that_are_over(rt: HostRuntime) -> Result<(), Fail> {
+    let mut paced = Paced::joined(rt.alloc(), 100)?;
+    paced.plan(100);
+    paced.send(10, 100);
+    let mut now = 100;
+    for wait in [300, 600, 1200, 2400, 4000, 4000, 4000, 4000, 4000] {
+        now += wait;
+        assert_eq!(rt; paced.plan(now), again(0));
+        paced.send_again(now);
+    }
+    assert_eq!(rt; paced.plan(now + 3999).again, None);
+    assert!(rt; !paced.pacer.has_given_up());
+    paced.plan(now + 4000);
+    assert!(rt; paced.pacer.has_given_up());
+    paced.acknowledge(1, now + 4001);
+    assert!(rt; !paced.pacer.has_given_up());
+    Ok(())
+}
+
 /// After it what is outstanding goes again in order: 1, then 2, 4 more at each acknowledgement.
 #[test]
 fn all_goes_again_in_order(rt: HostRuntime) -> Result<(), Fail> {
@@ -79,7 +100,7 @@ fn all_goes_again_in_order(rt: HostRuntime) -> Result<(), Fail> {
     Ok(())
 }
 
-/// The end alone is waited for half a second at least and a second at most, and never longer.
+/// The end alone goes again half a second at least and a second at most after it went, and never later.
 #[test]
 fn the_end_alone(rt: HostRuntime) -> Result<(), Fail> {
     for (trip, wait) in [(100, 500), (250, 750), (2000, 1000)] {
@@ -94,6 +115,24 @@ fn the_end_alone(rt: HostRuntime) -> Result<(), Fail> {
             paced.send_again(now);
         }
     }
+    Ok(())
+}
+
+/// It goes again each half second, but only these waits are timeouts: 0.5, 0.6, 1.2 and 2.4 seconds,
+/// and six times 4. Then it is given up.
+#[test]
+fn the_end_is_given_up(rt: HostRuntime) -> Result<(), Fail> {
+    let mut paced = Paced::joined(rt.alloc(), 100)?;
+    paced.plan(5000);
+    paced.send_end(5000);
+    let mut now = 5000;
+    while !paced.pacer.has_given_up() {
+        now += 1;
+        if paced.plan(now).again.is_some() {
+            paced.send_again(now);
+        }
+    }
+    assert_eq!(rt; now, 33_700);
     Ok(())
 }
 

@@ -112,7 +112,7 @@ again_says l now place q at out working =
           working = working;
         };
       };
-      units = record { queued = stamped l place q (record { unit = q.unit; at = now; count = q.count + 1 }) at refl; held = refl; ahead = refl };
+      units = record { queued = stamped l place q (record { unit = q.unit; at = now; count = P.count_again l q.count }) at refl; held = refl; ahead = refl };
       endings = record { end_queued = refl; peer_ended = refl };
       state = inl refl;
     }
@@ -149,7 +149,7 @@ wanted_out l now place q e = by_bool l.manual refl e
 probe_says : (l : LinkView) (now : ℕ) → PollSays l (P.poll_probe l now)
 probe_says l now =
     by_test (PollSays l) (P.may_probe l now) (P.probes_or_lost l now) (None, l)
-    (λ _. by_test (PollSays l) (nat_le most_sends l.probes) (None, P.lost l) (P.probes_once l now)
+    (λ _. by_test (PollSays l) (nat_le (P.most_probes l) l.probes) (None, P.lost l) (P.probes_once l now)
     (λ _. lost_says l)
     (λ _. other_says l (record l { probes = l.probes + 1; spoke = now }) (P.plain l Sents.Probe true 0 l.peer)
     (record { from = refl; read = refl; allows = refl; kind = record { to = refl; unit = refl; number = refl; body = refl } }) refl refl refl refl refl refl))

@@ -52,7 +52,7 @@ request_keeps l now =
 probe_keeps : (l : LinkView) (now : ℕ) → PollKeeps l (P.poll_probe l now)
 probe_keeps l now =
     either (PollKeeps l) (P.may_probe l now) (P.probes_or_lost l now) (None, l)
-    (either (PollKeeps l) (nat_le most_sends l.probes) (None, P.lost l) (P.probes_once l now) (lost_keeps l) (record { numbers = refl; same = record { ends = record { own = refl; local = refl; remote = refl; accepted = refl }; peer = refl }; pace = refl }))
+    (either (PollKeeps l) (nat_le (P.most_probes l) l.probes) (None, P.lost l) (P.probes_once l now) (lost_keeps l) (record { numbers = refl; same = record { ends = record { own = refl; local = refl; remote = refl; accepted = refl }; peer = refl }; pace = refl }))
     (none_keeps l)
 
 ack_keeps : (l : LinkView) (now : ℕ) → PollKeeps l (P.poll_ack l now)

@@ -244,7 +244,7 @@ probe_acts l now live owes late may =
     (λ _. let R : Option ℕ → Type 0 = λ o. Acts l (P.poll_late l now o) in
     subst R (sym late) (by_test (Acts l) l.owes_ack (P.acknowledges l now) (P.poll_probe l now) (λ yes. absurd (unlike l.owes_ack parts.3 yes))
     (λ _. by_test (Acts l) (P.may_probe l now) (P.probes_or_lost l now) (None, l)
-    (λ _. by_test (Acts l) (nat_le most_sends l.probes) (None, P.lost l) (P.probes_once l now) (λ _. ends l live) (λ _. gives l (P.probes_once l now).1 (P.plain l Sents.Probe true 0 l.peer)))
+    (λ _. by_test (Acts l) (nat_le (P.most_probes l) l.probes) (None, P.lost l) (P.probes_once l now) (λ _. ends l live) (λ _. gives l (P.probes_once l now).1 (P.plain l Sents.Probe true 0 l.peer)))
     (λ no. absurd (unlike (P.may_probe l now) no may)))))))
 
 asks : (l : LinkView) (now : ℕ) → (l.state ≡ States.Lost → ⊥) → Acts l (P.requests_or_lost l now)

@@ -9,6 +9,9 @@ pub const MAX_LINKS: usize = 16;
 /// How often a unit, a request or a probe is sent.
 pub const MAX_SENDS: u8 = 10;
 
+/// How often a probe is sent by a link whose units go again by hand: for half a minute.
+pub const MAX_MANUAL_PROBES: u8 = 60;
+
 /// After how many milliseconds it is sent again.
 pub const RESEND_AFTER: u64 = 500;
 

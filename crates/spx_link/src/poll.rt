@@ -8,7 +8,7 @@ ghost use Rattle.spx_link.specs.Lending.{LoanEndsAs};
 ghost use Rattle.spx_link.specs.Poll as spec;
 ghost use Rattle.spx_link.specs.Chosen.{carried};
 
-use crate::limits::{CONFIRM_STREAM, END_STREAM, MAX_SENDS, MAX_UNITS, NO_ID};
+use crate::limits::{CONFIRM_STREAM, END_STREAM, MAX_MANUAL_PROBES, MAX_SENDS, MAX_UNITS, NO_ID};
 use crate::link::Link;
 use crate::outgoing::{Chosen, Outgoing, Sent};
 use crate::queue::due;
@@ -19,7 +19,8 @@ use ipx_wire::SpxHeader;
 impl Link {
     /// The packet to send at a moment, if there is one.
     ///
-    /// It takes no memory. A link whose request, unit or probe was sent ten times in vain is lost.
+    /// It takes no memory. A link whose request, unit or probe was sent ten times in vain is lost. By
+    /// hand only what is sent by itself counts: a request, and a probe sixty times.
     pub fn poll(&mut self, now: u64) -> Option<Outgoing<'_>>
         ensures* leaves { sem 𝓛 (LoanEndsAs self.entry (spec.poll_link self.old now).1) }
         ensures gives { option_map spec.outgoing_view result ≡ (spec.poll_link self.old now).0 }
@@ -152,11 +153,20 @@ impl Link {
         }
         let seq = self.base().wrapping_add(place);
         let packet = self.with_unit(Sent::Again, unit, at, seq);
-        self.queue.mark_sent(at, now, count + 1);
+        let sent = self.count_again(count);
+        self.queue.mark_sent(at, now, sent);
         self.again = None;
         self.owes_ack = false;
         self.spoke = now;
         Some(packet)
+    }
+
+    /// How often a unit was sent that is sent again now. What is asked for is not counted.
+    fn count_again(&self, count: u8) -> u8
+        requires { count < 10 }
+        ensures { result ≡ spec.count_again self.now count }
+    {
+        if !self.manual { count + 1 } else { count }
     }
 
     fn poll_ack(&mut self, now: u64) -> Option<Chosen>
@@ -179,7 +189,7 @@ impl Link {
         if !self.may_probe(now) {
             return None;
         }
-        if self.probes >= MAX_SENDS {
+        if self.probes >= self.most_probes() {
             self.state = State::Lost;
             return None;
         }
@@ -187,6 +197,17 @@ impl Link {
         self.probes += 1;
         self.spoke = now;
         Some(probe)
+    }
+
+    /// How often it probes in vain.
+    fn most_probes(&self) -> u8
+        ensures { result ≡ spec.most_probes self.now }
+    {
+        if !self.manual {
+            MAX_SENDS
+        } else {
+            MAX_MANUAL_PROBES
+        }
     }
 
     pub(crate) fn is_waiting(&self) -> bool

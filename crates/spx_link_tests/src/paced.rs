@@ -105,17 +105,40 @@ fn acknowledged_between(rt: HostRuntime) -> Result<(), Fail> {
     Ok(())
 }
 
-/// Ten sends of one unit by hand, and where the eleventh is asked for the link is lost.
+/// A unit goes by hand as often as it is asked for. Back to the clock its nine times more are counted.
 #[test]
-fn ten_manual(rt: HostRuntime) -> Result<(), Fail> {
+fn three_hundred_manual(rt: HostRuntime) -> Result<(), Fail> {
     let mut end = manual(&rt, rt.alloc(), 1)?;
-    for now in 1..10 {
+    for now in 1..300 {
         end.again(0);
         assert_eq!(rt; numbered(&mut end, now), Some((Sent::Again, 0)));
     }
     assert_eq!(rt; end.state(), Some(State::Live));
-    end.again(0);
-    assert_eq!(rt; end.sent(10), None);
+    end.pace(8192, false);
+    for time in 2..11 {
+        assert_eq!(rt; numbered(&mut end, time * 500), Some((Sent::Again, 0)));
+    }
+    assert_eq!(rt; end.sent(5500), None);
+    assert_eq!(rt; end.state(), Some(State::Lost));
+    Ok(())
+}
+
+/// Where its peer allows nothing, a link by hand probes sixty times, and then it is lost.
+#[test]
+fn sixty_probes(rt: HostRuntime) -> Result<(), Fail> {
+    let mut end = joined(&rt, rt.alloc(), 0)?;
+    end.pace(8192, true);
+    for byte in 0..2 {
+        end.offer(one_unit(rt.alloc(), byte)?)?;
+    }
+    assert_eq!(rt; numbered(&mut end, 0), Some((Sent::Unit, 0)));
+    end.receive(&system(1, 0), &[], 0)?;
+    for time in 1..61 {
+        assert_eq!(rt; end.sent(time * 500 - 1), None);
+        assert_eq!(rt; end.sent(time * 500), Some(Sent::Probe));
+    }
+    assert_eq!(rt; end.state(), Some(State::Live));
+    assert_eq!(rt; end.sent(30_500), None);
     assert_eq!(rt; end.state(), Some(State::Lost));
     Ok(())
 }

@@ -13,7 +13,7 @@ use Rattle.spx_link.specs.Units.{unit_in}
 use Rattle.spx_link.specs.SequenceMarks.{acknowledged}
 use Rattle.spx_link.specs.Offer.{take_held}
 use Rattle.spx_link.specs.Receive.{read_numbers, read_system, read_unit, read_packet, is_system, is_own, is_reply, joined_link, receive_at, receive_link, beyond_expected, put, is_taken, leading, any_end, keep_end, keep_units, settle, keep, in_turn, not_behind, repeated, may_confirm, with_ack_owed, after_end}
-use Rattle.spx_link.specs.Poll.{OutgoingView, lost, requests, requests_or_lost, poll_request, may_probe, probes_once, probes_or_lost, poll_probe, acknowledges, poll_ack, late_if_working, sends_again, sends_again_or_lost, poll_late, poll_again, may_send, sends, poll_unit, confirms, poll_confirm, replies, poll_reply, poll_at, poll_link}
+use Rattle.spx_link.specs.Poll.{OutgoingView, lost, requests, requests_or_lost, poll_request, may_probe, most_probes, probes_once, probes_or_lost, poll_probe, acknowledges, poll_ack, late_if_working, sends_again, sends_again_or_lost, poll_late, poll_again, may_send, sends, poll_unit, confirms, poll_confirm, replies, poll_reply, poll_at, poll_link}
 use Rattle.spx_link.specs.declared.state.State.TheVariants as S
 use Rattle.spx_link.specs.declared.received.Received.TheVariants as R
 use Rattle.theory_pairs.specs.Confirmed.{PollLeaves, ReadLeaves, TakeLeaves, CloseLaws}
@@ -37,7 +37,7 @@ sends_stays l now (Some q) = record { held = refl; queued = refl; queue = length
 probe_stays : (l : LinkView) (now : ℕ) → StaysAfter l (poll_probe l now)
 probe_stays l now =
     cond_both {A = Option OutgoingView × LinkView} (may_probe l now) (probes_or_lost l now) (None, l) (StaysAfter l)
-    (λ y. cond_both {A = Option OutgoingView × LinkView} (nat_le most_sends l.probes) (None, lost l) (probes_once l now) (StaysAfter l)
+    (λ y. cond_both {A = Option OutgoingView × LinkView} (nat_le (most_probes l) l.probes) (None, lost l) (probes_once l now) (StaysAfter l)
     (λ t. record { held = refl; queued = refl; queue = refl; state = inr refl }) (λ f. record { held = refl; queued = refl; queue = refl; state = inl refl }))
     (λ n. record { held = refl; queued = refl; queue = refl; state = inl refl })
 

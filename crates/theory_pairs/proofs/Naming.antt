@@ -15,7 +15,7 @@ use Rattle.spx_link.specs.Units.{unit_in}
 use Rattle.spx_link.specs.SequenceMarks.{mark}
 use Rattle.spx_link.specs.Offer.{take_held}
 use Rattle.spx_link.specs.Receive.{read_numbers, read_system, read_unit, read_packet, is_system, is_own, is_reply, joined_link, receive_at, receive_link, beyond_expected, put, is_taken, leading, any_end, keep_end, keep_units, settle, keep, in_turn, not_behind, repeated, may_confirm, with_ack_owed}
-use Rattle.spx_link.specs.Poll.{OutgoingView, plain, with_unit, base, lost, requests, requests_or_lost, poll_request, may_probe, probes_once, probes_or_lost, poll_probe, acknowledges, poll_ack, late_if_working, sends_again, sends_again_or_lost, poll_late, poll_again, may_send, sends, poll_unit, confirms, poll_confirm, replies, poll_reply, poll_at, poll_link}
+use Rattle.spx_link.specs.Poll.{OutgoingView, plain, with_unit, base, lost, requests, requests_or_lost, poll_request, may_probe, most_probes, probes_once, probes_or_lost, poll_probe, acknowledges, poll_ack, late_if_working, sends_again, sends_again_or_lost, poll_late, poll_again, may_send, sends, poll_unit, confirms, poll_confirm, replies, poll_reply, poll_at, poll_link}
 use Rattle.theory_pairs.proofs.ReadingStates.{reading_at}
 use Rattle.spx_link.specs.declared.outgoing.Sent.TheVariants as Sents
 use Rattle.spx_link.specs.declared.state.State.TheVariants as S
@@ -139,7 +139,7 @@ sends_names st l now (Some q) = unit_names st l _ Sents.Unit q.unit l.next refl
 probe_names : (st : State) (l : LinkView) (now : ℕ) → PollNames st l (poll_probe l now)
 probe_names st l now =
     cond_both {A = Option OutgoingView × LinkView} (may_probe l now) (probes_or_lost l now) (None, l) (PollNames st l)
-    (λ y. cond_both {A = Option OutgoingView × LinkView} (nat_le most_sends l.probes) (None, lost l) (probes_once l now) (PollNames st l)
+    (λ y. cond_both {A = Option OutgoingView × LinkView} (nat_le (most_probes l) l.probes) (None, lost l) (probes_once l now) (PollNames st l)
     (λ t. none_names st l (lost l) refl) (λ f. plain_names st l _ Sents.Probe true 0 refl refl))
     (λ n. none_names st l l refl)
 

@@ -14,7 +14,7 @@ use Rattle.spx_link.specs.LinkView.{LinkView, due, is_end, is_working}
 use Rattle.spx_link.specs.Units.{unit_of}
 use Rattle.spx_link.specs.Offer.{the_end}
 use Rattle.spx_link.specs.Receive.{is_system}
-use Rattle.spx_link.specs.Poll.{OutgoingView, plain, with_unit, lost, requests, requests_or_lost, poll_request, may_probe, probes_once, probes_or_lost, poll_probe, acknowledges, poll_ack, late, place_below, asked_again, wanted, late_if_working, sends_again, sends_again_or_lost, poll_late, poll_again, may_send, sends, poll_unit, confirms, poll_confirm, replies, poll_reply, poll_at, poll_link}
+use Rattle.spx_link.specs.Poll.{OutgoingView, plain, with_unit, lost, requests, requests_or_lost, poll_request, may_probe, most_probes, probes_once, probes_or_lost, poll_probe, acknowledges, poll_ack, late, place_below, asked_again, wanted, late_if_working, count_again, sends_again, sends_again_or_lost, poll_late, poll_again, may_send, sends, poll_unit, confirms, poll_confirm, replies, poll_reply, poll_at, poll_link}
 use Rattle.spx_link.specs.Machine.{End, IsWithin, one_more_sent, AreSound}
 use Rattle.theory_pairs.specs.Tracks.{Tracks, core, Follows, may_end}
 use Rattle.theory_pairs.specs.Spelling.{Says, PolledTo}
@@ -92,7 +92,7 @@ again_speaks l now k None c d s below is = none_speaks l c d s
 again_speaks l now k (Some q) c d s below is =
     let m : LinkView = (sends_again l now k q).1 in
     let t : Tracks (core l) c d = s.tracks in
-    let after : Tracks (core m) c d = record { counts = record { next = t.counts.next; expected = t.counts.expected; out = t.counts.out; room = t.counts.room; held = t.counts.held; buffers = t.counts.buffers; window = t.counts.window; small = t.counts.small }; queue = stamped l k now (q.count + 1) q is ∙ t.queue; held = t.held; kept = t.kept; open' = t.open'; ahead = t.ahead; ended = t.ended; formed = t.formed } in
+    let after : Tracks (core m) c d = record { counts = record { next = t.counts.next; expected = t.counts.expected; out = t.counts.out; room = t.counts.room; held = t.counts.held; buffers = t.counts.buffers; window = t.counts.window; small = t.counts.small }; queue = stamped l k now (count_again l q.count) q is ∙ t.queue; held = t.held; kept = t.kept; open' = t.open'; ahead = t.ahead; ended = t.ended; formed = t.formed } in
     let number : mark (distance l.next l.out + k) ≡ mark (c.base + k) = omega (arith, t.counts) in
     cond_both {A = Option OutgoingView × LinkView} (nat_le most_sends q.count) (None, lost l) (sends_again l now k q) (λ r. Speaking l r c d)
     (λ yes. lost_speaks l c d s)
@@ -119,7 +119,7 @@ unit_speaks l now (Some q) c d s room window is =
 probe_speaks : (l : LinkView) (now : ℕ) (c d : End) → Stand' l c d → Speaking l (poll_probe l now) c d
 probe_speaks l now c d s =
     cond_both {A = Option OutgoingView × LinkView} (may_probe l now) (probes_or_lost l now) (None, l) (λ r. Speaking l r c d)
-    (λ yes. cond_both {A = Option OutgoingView × LinkView} (nat_le most_sends l.probes) (None, lost l) (probes_once l now) (λ r. Speaking l r c d)
+    (λ yes. cond_both {A = Option OutgoingView × LinkView} (nat_le (most_probes l) l.probes) (None, lost l) (probes_once l now) (λ r. Speaking l r c d)
     (λ ten. lost_speaks l c d s) (λ fewer. record { to = says_plain l (probes_once l now).1 c d Sents.Probe true 0 l.peer s refl (λ e. omega (arith, e)); queued = refl; state = inl refl }))
     (λ no. none_speaks l c d s)
 

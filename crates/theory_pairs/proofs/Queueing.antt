@@ -17,7 +17,7 @@ use Rattle.spx_link.specs.LinkView.{LinkView, due, is_end, is_working, free}
 use Rattle.spx_link.specs.Units.{unit_in, unit_of, queued_units}
 use Rattle.spx_link.specs.Offer.{refusal, queued, offer_link, end_link, take_held, take_link, owe_reply_link, lose_link, pace_link, again_link, dialed, accepted_from, the_end}
 use Rattle.spx_link.specs.Receive.{read_numbers, read_system, read_unit, read_packet, is_system, is_own, is_reply, joined_link, receive_at, receive_link, beyond_expected, put, is_taken, leading, any_end, keep_end, keep_units, settle, keep, in_turn, not_behind, repeated, may_confirm, with_ack_owed}
-use Rattle.spx_link.specs.Poll.{OutgoingView, with_unit, lost, requests, requests_or_lost, poll_request, is_waiting, may_probe, probes_once, probes_or_lost, poll_probe, acknowledges, poll_ack, late_if_working, sends_again, sends_again_or_lost, poll_late, poll_again, may_send, sends, poll_unit, confirms, poll_confirm, replies, poll_reply, poll_at, poll_link}
+use Rattle.spx_link.specs.Poll.{OutgoingView, with_unit, lost, requests, requests_or_lost, poll_request, is_waiting, may_probe, most_probes, probes_once, probes_or_lost, poll_probe, acknowledges, poll_ack, late_if_working, count_again, sends_again, sends_again_or_lost, poll_late, poll_again, may_send, sends, poll_unit, confirms, poll_confirm, replies, poll_reply, poll_at, poll_link}
 use Rattle.theory_pairs.specs.Tracks.{Formed, may_end}
 use Rattle.theory_pairs.specs.PairQueues.{SendsFrom, Queues, GivesUnit, PolledFrom, PollsFrom, QueueLaws}
 use Rattle.theory_pairs.proofs.Polling.{slice_get-drop, stamped, last_as, late_below}
@@ -84,7 +84,7 @@ module _ (units : List Unit) (n : ℕ) where
       (λ yes. lost_asked l s)
       (λ no. record {
         to = (
-          from_same l m units n refl refl (stamped l k now (q.count + 1) q is) f,
+          from_same l m units n refl refl (stamped l k now (count_again l q.count) q is) f,
           (f.base + k, omega (arith, f.out, below), omega (arith, f.out, f.window), gives_unit l units l.end_queued Sents.Again q.unit (f.base + k) (mark (distance l.next l.out + k)) s.formed number (unit_there l units n k q f is)),
         );
         queued = refl;
@@ -110,7 +110,7 @@ module _ (units : List Unit) (n : ℕ) where
   probe_asked : (l : LinkView) (now : ℕ) → Queues l units n → Asked l (poll_probe l now) units n
   probe_asked l now s =
       cond_both {A = Option OutgoingView × LinkView} (may_probe l now) (probes_or_lost l now) (None, l) (λ r. Asked l r units n)
-      (λ yes. cond_both {A = Option OutgoingView × LinkView} (nat_le most_sends l.probes) (None, lost l) (probes_once l now) (λ r. Asked l r units n)
+      (λ yes. cond_both {A = Option OutgoingView × LinkView} (nat_le (most_probes l) l.probes) (None, lost l) (probes_once l now) (λ r. Asked l r units n)
       (λ ten. lost_asked l s) (λ fewer. record { to = from_same l (probes_once l now).1 units n refl refl refl s.from; queued = refl; state = inl refl }))
       (λ no. none_asked l s)
 

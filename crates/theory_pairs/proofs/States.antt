@@ -6,7 +6,7 @@ use Rattle.spx_link.specs.declared.state.State.{State}
 use Rattle.spx_link.specs.Limits.{most_sends}
 use Rattle.spx_link.specs.LinkView.{LinkView, due}
 use Rattle.spx_link.specs.Offer.{refusal}
-use Rattle.spx_link.specs.Poll.{OutgoingView, lost, requests, requests_or_lost, poll_request, may_probe, probes_once, probes_or_lost, poll_probe, acknowledges, poll_ack, late_if_working, sends_again, sends_again_or_lost, poll_late, poll_again, may_send, sends, poll_unit, confirms, poll_confirm, replies, poll_reply, poll_at, poll_link}
+use Rattle.spx_link.specs.Poll.{OutgoingView, lost, requests, requests_or_lost, poll_request, may_probe, most_probes, probes_once, probes_or_lost, poll_probe, acknowledges, poll_ack, late_if_working, sends_again, sends_again_or_lost, poll_late, poll_again, may_send, sends, poll_unit, confirms, poll_confirm, replies, poll_reply, poll_at, poll_link}
 use Rattle.theory_pairs.specs.States.{StateLaws, is_quiet}
 use Rattle.theory_pairs.proofs.ReadingStates.{reading}
 use Rattle.theory_pairs.proofs.Calling.{take_state}
@@ -28,7 +28,7 @@ sends_state l now (Some q) = inl refl
 probe_state : (l : LinkView) (now : ℕ) → StaysOrLost l (poll_probe l now)
 probe_state l now =
     cond_both {A = Option OutgoingView × LinkView} (may_probe l now) (probes_or_lost l now) (None, l) (StaysOrLost l)
-    (λ y. cond_both {A = Option OutgoingView × LinkView} (nat_le most_sends l.probes) (None, lost l) (probes_once l now) (StaysOrLost l) (λ t. inr refl) (λ f. inl refl)) (λ n. inl refl)
+    (λ y. cond_both {A = Option OutgoingView × LinkView} (nat_le (most_probes l) l.probes) (None, lost l) (probes_once l now) (StaysOrLost l) (λ t. inr refl) (λ f. inl refl)) (λ n. inl refl)
 
 ack_state : (l : LinkView) (now : ℕ) → StaysOrLost l (poll_ack l now)
 ack_state l now = cond_both {A = Option OutgoingView × LinkView} l.owes_ack (acknowledges l now) (poll_probe l now) (StaysOrLost l) (λ y. inl refl) (λ n. probe_state l now)

@@ -1,7 +1,8 @@
-use Rattle.std.proofs.Common.{◌≡◌, ◌∙◌, ◌+◌, ◌-◌, ◌*◌, ℕ, ap, arith, max, min, rules}
+use Rattle.std.proofs.Common.{◌≡◌, ◌∙◌, ◌+◌, ◌-◌, ◌*◌, ◌<◌, ◌≤◌, ℕ, ap, arith, max, min, rules}
 use Rattle.std.proofs.lemmas.Grind.{common_steps}
 use Rattle.std.specs.Prelude.{if◌then◌else◌, nat_lt}
 use Rattle.spx_congestion.specs.Pacing.{PacerView}
+use Rattle.spx_congestion.proofs.Progress.{spares}
 use Rattle.spx_congestion.proofs.Tended.{tended_credit, tended_tick}
 use Rattle.spx_congestion.proofs.pacer.Pacer.plan.Goals as goal
 
@@ -33,3 +34,8 @@ returns-clause-tends c =
       };
       wide = first_of (search rules, grind (arith, common_steps));
     }
+
+pub returns-clause-moves : goal.returns-clause-moves
+returns-clause-moves c none empty =
+    let open_window = spares c.args.self.now _ c.args.numbers.out c.args.now (returns-clause-tends c) none in
+    c.choose.ensures.held (omega (arith, empty)) open_window.0 (omega (arith, open_window.1))
