@@ -1,9 +1,9 @@
-# What bash completes behind `ipx`: commands, their options, and files in TOML. ./install puts it where bash-completion
-# looks for it; else `. contrib/ipx.bash` takes it into a shell.
+# Bash completion for `ipx`: commands, their options, and TOML files. ./install puts it where bash-completion looks for it.
+# Without installing, load it by `. contrib/ipx.bash`.
 
 _ipx_commands='hop show check sim udp route listen send networks services ping help'
 
-# _ipx_options COMMAND: its options. It knows as many as `ipx COMMAND --help` tells, which a test compares.
+# _ipx_options COMMAND: its options, the same as in `ipx COMMAND --help`, which a test checks.
 _ipx_options() {
   case $1 in
     show) echo '--frame --help' ;;
@@ -17,10 +17,10 @@ _ipx_options() {
   esac
 }
 
-# _ipx_files WORD: the files in TOML, and the folders, that the word begins.
+# _ipx_files WORD: the TOML files and folders whose names begin with the word.
 _ipx_files() {
   local found
-  # (bash writes names of files as its words, and a slash behind a folder)
+  # (so that bash quotes file names, and writes a slash after a folder)
   compopt -o filenames 2> /dev/null || true
   while IFS= read -r found; do
     if [ -d "$found" ] || [[ $found == *.toml ]]; then COMPREPLY+=("$found"); fi
@@ -38,7 +38,7 @@ _ipx() {
   case $command in
     '' | help) mapfile -t COMPREPLY < <(compgen -W "$_ipx_commands" -- "$word") ;;
     route | listen | send | networks | services | ping)
-      # (the file is the first word that is no option)
+      # (the file is the first argument that is not an option)
       for ((place = 2; place < COMP_CWORD; place++)); do
         [[ ${COMP_WORDS[place]} == -* ]] || return
       done

@@ -21,7 +21,7 @@ CALLING = [address for pair in [*FROM.values(), ONCE] for address in pair] + [SE
 # One that asks each half second is in within so many seconds, where all places are taken by some who never speak; without
 # those for which the machine denied the listener a processor.
 SOON = 2
-BARRED = r"\[WARN  ipx\] \d+ requests came from nobody who may connect \(\d+ since the start\)"
+BARRED = r"\[WARN  ipx\] \d+ requests from nodes not in allow \(\d+ since the start\)"
 
 
 def start_from(sites):
@@ -43,7 +43,7 @@ def check_from(sites, ends):
     for name, (listener, sender, data) in ends.items():
         sites.check_transfer(f"a sender that may connect {name.replace('-', ' ')}", listener, sender, data)
     status, said = turned_away.status(20), turned_away.said()
-    line = f"nobody answers at {NETWORK} {node(FROM['by-nobody'][0])} 4002"
+    line = f"no answer from {NETWORK} {node(FROM['by-nobody'][0])} 4002"
     sites.check("a sender that may not connect gets no answer", status == 1 and said == [line], f"{status}, {said}")
     told = [line for line in barred.said() if re.fullmatch(BARRED, line)]
     sites.check("and is counted", len(told) == 1 and not barred.out, str(barred.said()[-2:]))
@@ -117,7 +117,7 @@ def check_silent(sites, data, ends, once, crowded):
     sites.check(f"where sixteen call who never speak, one that asks again is in within {SOON} seconds", took < SOON,
                 f"after {took:.2f} s")
     sites.check("and all of a true sender comes", true.status(20) == 0 and until(lambda: listener.out == data, 5))
-    told = [line for line in listener.said() if "callers never spoke" in line]
+    told = [line for line in listener.said() if "connections never sent data" in line]
     sites.check("those who never spoke are counted", bool(told), str(listener.said()[-2:]))
     listener.end()
     for one, _ in ends:

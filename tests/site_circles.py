@@ -15,7 +15,7 @@ PEER, STRANGER, SENDERS = "127.0.1.163", "127.0.1.164", ["127.0.1.165", "127.0.1
 CIRCLES = [NAMES, NOBODY, ANY, PEER, STRANGER, *SENDERS]
 WAITING, CALLS = 100, 100
 TOLD = r"\[WARN  ipx\] (\d+) datagrams {} \((\d+) since the start\), the last from {}"
-STRANGERS, FORGED, NO_ROUTER = "came from nobody who is heard", "with a spoofed source node", "routed or RIP/SAP from a host not listed in routers"
+STRANGERS, FORGED, NO_ROUTER = "from unknown senders", "with a spoofed source node", "routed or RIP/SAP from a host not listed in routers"
 
 
 def start_circles(sites):
@@ -75,7 +75,7 @@ def check_circles(sites, ends):
                 str(listener.said()[:1]))
     listener, sender, _ = ends["nobody"]
     status, said = sender.status(20), sender.said()
-    line = f"nobody answers at {NETWORK} {node(NOBODY)} 4002"
+    line = f"no answer from {NETWORK} {node(NOBODY)} 4002"
     sites.check("a sender that a listener does not name gets no answer", status == 1 and said == [line], f"{status}, {said}")
     sites.check("and the listener tells who it was", bool(told(listener, STRANGERS, SENDERS[1])), str(listener.said()))
     listener.end()

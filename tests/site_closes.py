@@ -110,7 +110,7 @@ def check_closes(sites, closes):
         said, ends = close.sender.said(), close.peer.ends
         good = close.peer.out == close.data
         if way == "silent":
-            lost = f"the connection is lost: {BYTES} of {BYTES} bytes acknowledged"
+            lost = f"connection lost: {BYTES} of {BYTES} bytes acknowledged"
             good = good and status == 1 and said == [lost] and 4 < seconds < 10 and ends == 10
         else:
             good = good and status == 0 and not said and seconds < 1 and ends == (2 if way == "late" else 1)

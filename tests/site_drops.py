@@ -57,7 +57,7 @@ def line_of(place, reason, count, whole):
     words, has_sender = REASONS[reason]
     network, _, peer = PORTS[place]
     sender = f" from {network} {node(peer)} 4003" if has_sender else ""
-    return f"[WARN  ipx] dropped {count} ({whole} since the start): {words}, the last{sender} by port {place + 1}"
+    return f"[WARN  ipx] dropped {count} ({whole} since the start): {words}, the last{sender} on port {place + 1}"
 
 
 def lines_of(place, count, whole):
@@ -115,7 +115,7 @@ def check_drops(sites, sent):
                 f"{len(got)} lines" if got == wanted else str(got))
     (network, _, peer), usual = USUAL_PORT, told(sites, USUAL)
     wanted = ["[INFO  ipx] dropped 1 (1 since the start): not ours, "
-              f"the last from {network} {node(peer)} 4003 by port 1"]
+              f"the last from {network} {node(peer)} 4003 on port 1"]
     sites.check("what is for all nodes of a network is told without a warning", usual == wanted, str(usual))
     sites.routers[USUAL].end()
 

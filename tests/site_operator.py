@@ -258,7 +258,7 @@ def check_operator(sites, ends, has_room):
                 f"{status}, {process.said()}")
     status, process = ask(sites, "far-asker", "services", "004")
     sites.check("a type that is not four hex digits", (status, process.said(), process.out)
-                == (2, ["TYPE is to be four hex digits, as 0004"], b""), f"{status}, {process.said()}")
+                == (2, ["TYPE must be four hex digits, such as 0004"], b""), f"{status}, {process.said()}")
     sites.host("two-asker", "00000071", NEAR_HOST, NEAR, "4003", listed("peers", [SILENT]) + listed("routers", [SILENT]))
     status, process = ask(sites, "two-asker", "networks", "--json")
     sites.check("of two routers one does not answer: what the other tells, and status 1",

@@ -35,7 +35,7 @@ def check_pairs(sites, pair, lost, shut):
     """What became of them."""
     status, said = shut.status(10), shut.said()
     sites.check("a listener whose standard output is closed says so",
-                status == 1 and said[-1:] == ["standard output can't be written"], f"status {status}, {said}")
+                status == 1 and said[-1:] == ["cannot write standard output"], f"status {status}, {said}")
     slow, sender, data = pair
     sites.check("a sender waits while its listener is not read", not sender.is_over(), str(sender.said()))
     slow.reading.set()
@@ -43,6 +43,6 @@ def check_pairs(sites, pair, lost, shut):
     # Some thirty seconds after the last word of its listener.
     status, said = lost.status(50), lost.said()
     found = len(said) == 1 and re.fullmatch(
-        r"the connection is lost: (\d+) of (\d+) bytes acknowledged", said[0])
+        r"connection lost: (\d+) of (\d+) bytes acknowledged", said[0])
     good = status == 1 and found and sites.size // 20 <= int(found[1]) < int(found[2])
     sites.check("a sender whose listener is gone says how much was acknowledged", good, f"status {status}, {said}")

@@ -31,7 +31,7 @@ MANY, PLACES, RUNS = 100, 16, 6
 LATE = 5
 # A place of one that never speaks goes after some six seconds.
 SECONDS_OF_A_PLACE = 5
-NEVER_SPOKE = r"\[WARN  ipx\] \d+ callers never spoke \((\d+) since the start\).*"
+NEVER_SPOKE = r"\[WARN  ipx\] \d+ connections never sent data \((\d+) since the start\).*"
 TIME = r"\d+\.\d ms"
 
 
@@ -74,7 +74,7 @@ def numbers_of(out, to, routers):
     *lines, last = out.splitlines() or [""]
     answers = [bool(re.fullmatch(rf"{to}: answer {number} in {TIME}, {routers}", line)) for number, line in enumerate(lines, 1)]
     silent = [line == f"{to}: no answer {number}" for number, line in enumerate(lines, 1)]
-    whole = rf"{len(lines)} sent, {sum(answers)} answered, least {TIME}, mean {TIME}, most {TIME}"
+    whole = rf"{len(lines)} sent, {sum(answers)} answered, min {TIME}, avg {TIME}, max {TIME}"
     good = all(map(any, zip(answers, silent))) and re.fullmatch(whole, last)
     return (sum(answers), len(lines)) if good else None
 
@@ -159,7 +159,7 @@ def check_places(sites):
 def check_nowhere(sites):
     """What no IP address has, nothing can be sent to on the host's own network, which 0 is too."""
     file = sites.world.path("pinger.toml")
-    wanted = [f"{file}: node 020000000022 has no IP address, and is none of its network"]
+    wanted = [f"{file}: node 020000000022 has no IP address, so it is not on this network"]
     for command, network in ((command, network) for command in ("ping", "send") for network in (NEAR, "00000000")):
         process = sites.world.start(f"nowhere-{command}", command, file, network, "020000000022", "4002")
         status = process.status(3)

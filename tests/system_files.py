@@ -10,7 +10,7 @@ from site_world import TOP, bound, free_port, node, port_table
 from system_world import Pair, wait
 
 FULL, FULL_PEER, READ, READ_PEER = "127.96.0.1", "127.96.0.2", "127.96.0.3", "127.96.0.4"
-UNWRITTEN = re.compile(r"\[WARN +ipx\] \d+ times a file could not be written \(\d+ since the start\)(, .*)?")
+UNWRITTEN = re.compile(r"\[WARN +ipx\] \d+ failed writes of metrics_file or tables_file \(\d+ since the start\)(, .*)?")
 UNIT = "ipx-route@.service"
 METRICS_FILE = 'ipx_errors_total{kind="metrics_file"}'
 NOBODY = 65534
@@ -167,19 +167,19 @@ def unit(system):
     early = machine.run(pair.near, "unit-early")
     yield from wait(early.is_over, 10)
     system.check("ExecStart, where the addresses are not there yet: status 1, so that it is started again", early.status(0) == 1
-                 and early.said() == ["/etc/ipx/hq.toml: port 1: address is to be an IP address of this machine"], str(early.said()))
+                 and early.said() == ["/etc/ipx/hq.toml: port 1: bind 192.0.2.10:213: Cannot assign requested address (os error 99)"], str(early.said()))
     system.world.write(file, example().replace("00000011", "00000001"))
     wrong = machine.run(pair.near, "unit-wrong")
     yield from wait(wrong.is_over, 10)
     system.check("ExecStart, where the file is wrong: status 2, so that it is not", wrong.status(0) == 2
-                 and wrong.said() == ["/etc/ipx/hq.toml: port 2: network 00000001 is already that of port 1"], str(wrong.said()))
+                 and wrong.said() == ["/etc/ipx/hq.toml: port 2: network 00000001 is already used by port 1"], str(wrong.said()))
     system.world.write(file, example())
     for address in ("192.0.2.10/24", "10.1.0.1/24"):
         subprocess.run(["ip", "-n", pair.near, "addr", "add", address, "dev", "card"], check=True)
     router = machine.run(pair.near, "unit")
     root = f"/proc/{router.popen.pid}/root"
     yield from wait(lambda: os.path.exists(f"{root}/run/ipx/hq/hq.prom") or router.is_over(), 10)
-    lines = [re.sub(r" room \d+$", "", line.removeprefix("[INFO  ipx] ")) for line in router.said() if "room" in line]
+    lines = [re.sub(r" rcvbuf \d+$", "", line.removeprefix("[INFO  ipx] ")) for line in router.said() if "rcvbuf" in line]
     wanted = ["port 1 network 00000001 node 0000c000020a udp 192.0.2.10:213 cost 6 peers 1",
               "port 2 network 00000011 node 00000a010001 udp 10.1.0.1:213 cost 1 peers 1"]
     system.check("ExecStart, as nobody with the right to bind port 213: the ports of docs/INSTALL.md", lines == wanted, str(router.said()))

@@ -11,7 +11,7 @@ from system_world import came, wait
 SIGNALS = [signal.SIGINT, signal.SIGTERM, signal.SIGHUP]
 # For each signal, and its number: the addresses of what it ends.
 NETWORK, NOWHERE = "00000044", "127.97.0.9"
-LOST = re.compile(r"the connection is lost: (\d+) of (\d+) bytes acknowledged")
+LOST = re.compile(r"connection lost: (\d+) of (\d+) bytes acknowledged")
 SIZE = 400_000
 
 

@@ -49,8 +49,8 @@ class WirePort:
         return text if self.joined else text + "switch = false\n"
 
     def line(self):
-        return (f"network {self.network} node {self.node} frames {self.kind} udp {text_of(self.place)} cost {self.cost} "
-                f"ends {' '.join(map(text_of, self.places))}{'' if self.joined else ' apart'}")
+        return (f"network {self.network} node {self.node} ethernet {self.kind} udp {text_of(self.place)} cost {self.cost} "
+                f"remotes {' '.join(map(text_of, self.places))}{'' if self.joined else ' switch false'}")
 
     def sends(self, to, packet):
         return frame(self.kind, to, self.node, packet)

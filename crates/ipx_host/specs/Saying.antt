@@ -24,7 +24,7 @@ listener_text h =
 -- its router is another machine
 abbrev pub router_remark : HostConfig → List ℕ
 router_remark h =
-    if pointwise nat_eq h.router h.address then codes "the router is its own address\n" else []
+    if pointwise nat_eq h.router h.address then codes "the router is the local address\n" else []
 
 -- its own address is none of its peers, and none of these stands twice
 abbrev pub peers_remarks : HostConfig → List ℕ

@@ -43,7 +43,7 @@ pub fn is_nowhere(file: &HostConfig, to: Address) -> bool
 pub fn tell_nowhere<R: Eprint>(rt: &R, path: &str, node: Node) -> u8
     ensures { result ≡ 2 }
 {
-    let _ = eprintln!(rt; "{path}: node {node} has no IP address, and is none of its network");
+    let _ = eprintln!(rt; "{path}: node {node} has no IP address, so it is not on this network");
     2
 }
 

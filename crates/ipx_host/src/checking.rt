@@ -40,7 +40,7 @@ fn remark_on_router(file: &HostConfig) -> &'static str
     ensures { result.now ≡ router_remark file.now }
 {
     if file.router == file.address {
-        "the router is its own address\n"
+        "the router is the local address\n"
     } else {
         ""
     }

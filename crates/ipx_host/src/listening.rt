@@ -275,8 +275,8 @@ fn tell_stop<R: Eprint>(rt: &R, stopped: ListenOutcome) -> u8
     let _ = match stopped {
         ListenOutcome::Ended => return 0,
         ListenOutcome::Lost => return 1,
-        ListenOutcome::Unwritten => eprintln!(rt; "standard output can't be written"),
-        ListenOutcome::Unwaited => eprintln!(rt; "the system can't wait for the socket"),
+        ListenOutcome::Unwritten => eprintln!(rt; "cannot write standard output"),
+        ListenOutcome::Unwaited => eprintln!(rt; "cannot wait for the socket"),
     };
     1
 }

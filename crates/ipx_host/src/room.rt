@@ -21,7 +21,7 @@ pub fn tell_room<R: Log>(rt: &R, sockets: &UdpSockets, buffers: u16) {
     let room = sockets.room(0).unwrap_or(0);
     if is_short(buffers, room) {
         warn!(rt; target: "ipx",
-            "its socket holds {room} bytes: \
-             net.core.rmem_max = {RCVBUF_SIZE} gives it what it asks for");
+            "the socket's receive buffer has only {room} bytes: \
+             set net.core.rmem_max = {RCVBUF_SIZE}");
     }
 }

@@ -299,11 +299,11 @@ impl<'a, R: Net + Log + Clock + Eprint> SendingHost<'a, R> {
         let what = match verdict {
             SendOutcome::Done => return,
             SendOutcome::Unanswered => return tell_nobody(rt, to),
-            SendOutcome::GivenUp => "the connection is lost",
-            SendOutcome::PeerLeft => "the other end ended the connection",
-            SendOutcome::Unread => "standard input can't be read",
+            SendOutcome::GivenUp => "connection lost",
+            SendOutcome::PeerLeft => "the remote end closed the connection",
+            SendOutcome::Unread => "cannot read standard input",
             SendOutcome::OutOfMemory => "out of memory",
-            SendOutcome::Unwaited => "the system can't wait for the socket",
+            SendOutcome::Unwaited => "cannot wait for the socket",
         };
         let _ = eprintln!(rt; "{what}: {acknowledged} of {given} bytes acknowledged");
     }
@@ -329,10 +329,10 @@ impl<'a, R: Net + Log + Clock + Eprint> SendingHost<'a, R> {
     }
 }
 
-/// Prints that nobody answers at an address.
+/// Prints that no answer came from an address.
 fn tell_nobody<R: Eprint>(rt: &R, to: Address) {
     let network = to.network;
     let node = to.node;
     let socket = to.socket;
-    let _ = eprintln!(rt; "nobody answers at {network} {node} {socket}");
+    let _ = eprintln!(rt; "no answer from {network} {node} {socket}");
 }

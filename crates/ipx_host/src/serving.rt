@@ -37,7 +37,7 @@ fn tell_parted<R: Log>(rt: &R, session: &Session, fate: SessionAction) {
     let ended = fate == SessionAction::Over && session.phase == Phase::Ended;
     if session.is_heard() && !ended {
         let from = session.from;
-        warn!(rt; target: "ipx", "{from}: the connection is lost");
+        warn!(rt; target: "ipx", "{from}: connection lost");
     }
 }
 
@@ -241,7 +241,7 @@ impl Sessions {
     {
         let count = self.never_spoke;
         if let Some(more) = self.of_never_spoke.tell(count, moment) {
-            warn!(rt; target: "ipx", "{more} callers never spoke ({count} since the start)");
+            warn!(rt; target: "ipx", "{more} connections never sent data ({count} since the start)");
         }
     }
 

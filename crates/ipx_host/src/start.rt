@@ -2,7 +2,7 @@
 
 ghost use Rattle.std.specs.Prelude.{◌≡◌};
 
-use ipx_site::{BindErrorKind, BindFault, ClockFault, WaitFault};
+use ipx_site::{BindError, BindFault, ClockFault, WaitFault};
 use ipx_wire::OutOfMemory;
 use mio::Poll;
 use std::alloc::{AllocError, AllocFailed};
@@ -17,7 +17,7 @@ const STDERR: RawFd = 2;
 pub enum StartFault {
     OutOfMemory,
     /// Its socket can't be had.
-    Bind(BindErrorKind),
+    Bind(BindError),
     /// The system has no way to wait.
     Wait,
     /// The system does not tell the time.
@@ -85,8 +85,8 @@ pub fn tell_start<R: Eprint>(rt: &R, path: &str, fault: StartFault) -> u8
     let _ = match fault {
         StartFault::OutOfMemory => eprintln!(rt; "{path}: out of memory"),
         StartFault::Bind(obstacle) => eprintln!(rt; "{path}: {obstacle}"),
-        StartFault::Wait => eprintln!(rt; "{path}: the system can't wait for the socket"),
-        StartFault::Clock => eprintln!(rt; "{path}: the system's clock can't be read"),
+        StartFault::Wait => eprintln!(rt; "{path}: cannot wait for the socket"),
+        StartFault::Clock => eprintln!(rt; "{path}: cannot read the system's clock"),
         StartFault::Closed => eprintln!(rt; "standard input, output or error is closed"),
     };
     1

@@ -26,9 +26,9 @@ pub enum TargetFault {
 impl fmt::Display for TargetFault {
     fn fmt<W: fmt::Write>(&self, f: &mut fmt::Formatter<W>) -> fmt::Result {
         f.write_str(match self {
-            TargetFault::Network => "NET is to be eight hex digits, as 00000033",
-            TargetFault::Node => "NODE is to be twelve hex digits, as 00007f000104",
-            TargetFault::Socket => "SOCKET is to be four hex digits, as 4002",
+            TargetFault::Network => "NET must be eight hex digits, such as 00000033",
+            TargetFault::Node => "NODE must be twelve hex digits, such as 00007f000104",
+            TargetFault::Socket => "SOCKET must be four hex digits, such as 4002",
         })
     }
 }

@@ -36,18 +36,15 @@ fn warnings_in(counts: Counts) -> [Warning; CAUSES]
 {
     let kept = counts.kept;
     [
-        Warning::from(
-            kept.unknown_senders,
-            "datagrams came from nobody who is heard",
-        ),
+        Warning::from(kept.unknown_senders, "datagrams from unknown senders"),
         Warning::from(kept.spoofed, "datagrams with a spoofed source node"),
         Warning::from(
             kept.not_a_router,
             "datagrams routed or RIP/SAP from a host not listed in routers",
         ),
-        Warning::of_nobody(counts.rejected, "requests came from nobody who may connect"),
-        Warning::of_nobody(counts.system, "datagrams the system refused"),
-        Warning::of_nobody(counts.memory, "times memory was refused"),
+        Warning::of_nobody(counts.rejected, "requests from nodes not in allow"),
+        Warning::of_nobody(counts.system, "datagrams refused by the system"),
+        Warning::of_nobody(counts.memory, "times out of memory"),
     ]
 }
 

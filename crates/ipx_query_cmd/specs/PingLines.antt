@@ -74,8 +74,8 @@ whole_time (t ∷ ts) = t + whole_time ts
 -- the mean is rounded down to a tenth
 abbrev pub times_text : List ℕ → List ℕ
 times_text times = if length times == 0 then [] else
-    codes ", least " ++ (tenths_text (least_time times) ++ (codes ", mean "
-    ++ (tenths_text (whole_time times / length times) ++ (codes ", most "
+    codes ", min " ++ (tenths_text (least_time times) ++ (codes ", avg "
+    ++ (tenths_text (whole_time times / length times) ++ (codes ", max "
     ++ tenths_text (most_time times)))))
 
 abbrev pub totals_line : ℕ → ℕ → List ℕ → List ℕ

@@ -29,6 +29,8 @@ pub fn tell_old<R: Files + Clock + Eprint>(rt: &R, place: &str) {
         return;
     };
     if are_old(seconds) {
-        let _ = eprintln!(rt; "{place}: tables are {seconds} seconds old: does the router run?");
+        let _ = eprintln!(rt;
+            "{place}: tables_file is {seconds} seconds old: is the router running?"
+        );
     }
 }

@@ -2,7 +2,7 @@
 
 ghost use Rattle.std.specs.Prelude.{◌≡◌, ◌⊎◌};
 
-use ipx_site::{BindErrorKind, BindFault, ClockFault, WaitFault};
+use ipx_site::{BindError, BindFault, ClockFault, WaitFault};
 use ipx_wire::OutOfMemory;
 use std::alloc::{AllocError, AllocFailed};
 
@@ -11,7 +11,7 @@ use std::alloc::{AllocError, AllocFailed};
 pub enum AskFault {
     OutOfMemory,
     /// Its socket could not be bound.
-    Bind(BindErrorKind),
+    Bind(BindError),
     /// The system cannot wait for the socket.
     Wait,
     /// The system does not tell the time.
@@ -69,9 +69,9 @@ pub fn tell_fault<R: Eprint>(rt: &R, path: &str, fault: AskFault) -> u8
     let _ = match fault {
         AskFault::OutOfMemory => eprintln!(rt; "{path}: out of memory"),
         AskFault::Bind(obstacle) => eprintln!(rt; "{path}: {obstacle}"),
-        AskFault::Wait => eprintln!(rt; "{path}: the system can't wait for the socket"),
-        AskFault::Clock => eprintln!(rt; "{path}: the system's clock can't be read"),
-        AskFault::Unwritten => eprintln!(rt; "standard output can't be written"),
+        AskFault::Wait => eprintln!(rt; "{path}: cannot wait for the socket"),
+        AskFault::Clock => eprintln!(rt; "{path}: cannot read the system's clock"),
+        AskFault::Unwritten => eprintln!(rt; "cannot write standard output"),
     };
     1
 }
@@ -101,7 +101,7 @@ pub fn tell_known_fault<R: Eprint>(rt: &R, place: &str, fault: KnownFault) -> u8
             1
         }
         KnownFault::NoText => {
-            let _ = eprintln!(rt; "{place}: the file is to be text in UTF-8");
+            let _ = eprintln!(rt; "{place}: the file is not UTF-8 text");
             2
         }
     }

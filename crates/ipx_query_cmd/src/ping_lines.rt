@@ -94,7 +94,7 @@ fn times_to_text(alloc: Global, times: &[u64]) -> Result<String, AllocError>
     let least = tenths_to_text(alloc, u128::from(least_time(times)))?;
     let mean = tenths_to_text(alloc, mean)?;
     let most = tenths_to_text(alloc, u128::from(most_time(times)))?;
-    format!(in alloc; ", least {least}, mean {mean}, most {most}")
+    format!(in alloc; ", min {least}, avg {mean}, max {most}")
 }
 
 /// The last line: how many requests were sent and answered, and their times.

@@ -157,7 +157,7 @@ impl<'a, R: Net + Clock> QueryHost<'a, R> {
             }
         }
         if self.core.is_truncated() {
-            let _ = eprintln!(rt; "more was told than there is room for");
+            let _ = eprintln!(rt; "more entries were received than fit");
         }
     }
 }

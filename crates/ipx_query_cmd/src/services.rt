@@ -161,7 +161,7 @@ pub fn do_services<R: Net + Files + Clock + Eprint, W: Write>(
     match type_of(word) {
         Some(kind) => list_services(rt, alloc, path, kind, json, writer),
         None => {
-            let _ = eprintln!(rt; "TYPE is to be four hex digits, as 0004");
+            let _ = eprintln!(rt; "TYPE must be four hex digits, such as 0004");
             2
         }
     }

@@ -42,14 +42,14 @@ fn lines_of_a_ping(rt: HostRuntime) -> Result<(), Fail> {
 fn the_line_behind_all(rt: HostRuntime) -> Result<(), Fail> {
     let alloc = rt.alloc();
     let text = totals_to_line(alloc, 4, 3, &[312, 309, 310])?;
-    let wanted = "4 sent, 3 answered, least 30.9 ms, mean 31.0 ms, most 31.2 ms\n";
+    let wanted = "4 sent, 3 answered, min 30.9 ms, avg 31.0 ms, max 31.2 ms\n";
     assert_eq!(rt; text.as_str(), wanted);
     let text = totals_to_line(alloc, 2, 2, &[10, 13])?;
-    let wanted = "2 sent, 2 answered, least 1.0 ms, mean 1.1 ms, most 1.3 ms\n";
+    let wanted = "2 sent, 2 answered, min 1.0 ms, avg 1.1 ms, max 1.3 ms\n";
     assert_eq!(rt; text.as_str(), wanted);
     let text = totals_to_line(alloc, 2, 2, &[u64::MAX, u64::MAX])?;
-    let wanted = "2 sent, 2 answered, least 1844674407370955161.5 ms, \
-        mean 1844674407370955161.5 ms, most 1844674407370955161.5 ms\n";
+    let wanted = "2 sent, 2 answered, min 1844674407370955161.5 ms, \
+        avg 1844674407370955161.5 ms, max 1844674407370955161.5 ms\n";
     assert_eq!(rt; text.as_str(), wanted);
     let text = totals_to_line(alloc, 4, 0, &[])?;
     assert_eq!(rt; text.as_str(), "4 sent, 0 answered\n");
@@ -72,7 +72,7 @@ fn refused_ping_lines(rt: HostRuntime) -> Result<(), Fail> {
         Ok(text) => text,
         Err(_) => totals_to_line(alloc, 4, 1, &[312])?,
     };
-    let wanted = "4 sent, 1 answered, least 31.2 ms, mean 31.2 ms, most 31.2 ms\n";
+    let wanted = "4 sent, 1 answered, min 31.2 ms, avg 31.2 ms, max 31.2 ms\n";
     assert_eq!(rt; text.as_str(), wanted);
     Ok(())
 }

@@ -53,13 +53,13 @@ is_any_guarded port_indices kept = list_any (λ s. is_some (kept_at_port_index k
 abbrev pub unknown_senders_text : List PortIndex → List PortFilterDrops → List ℕ
 unknown_senders_text port_indices kept =
     family_text (codes "ipx_port_unknown_senders_total")
-    (codes "Datagrams that came from no peer, by the port that they came by") (codes "counter")
+    (codes "Datagrams from unknown senders, by port") (codes "counter")
     ++ access_list_metrics (codes "ipx_port_unknown_senders_total") UnknownSenders port_indices kept
 
 abbrev pub refused_text : List PortIndex → List PortFilterDrops → List ℕ
 refused_text port_indices kept =
     family_text (codes "ipx_port_egress_filtered_total")
-    (codes "Datagrams that were to go to no peer, by the port that was to send them") (codes "counter")
+    (codes "Datagrams not sent because the destination is not a peer, by port") (codes "counter")
     ++ access_list_metrics (codes "ipx_port_egress_filtered_total") Refused port_indices kept
 
 -- both; empty if no port has an access list

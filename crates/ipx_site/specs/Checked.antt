@@ -92,20 +92,20 @@ ethernet_end_text end = codes " " ++ reached_text end.ip end.udp_port
 
 -- the word for a port that does not switch frames between its remotes
 abbrev pub joined_text : Bool → List ℕ
-joined_text joined = if joined then [] else codes " apart"
+joined_text joined = if joined then [] else codes " switch false"
 
 -- its cost, the places of its remotes, whether it switches frames between them, and which directed broadcasts
 -- leave by it
 abbrev pub ethernet_text : EthernetPortConfig → List ℕ
 ethernet_text p =
-    codes "cost " ++ (decimal p.cost ++ (codes " ends" ++ (flat_map ethernet_end_text p.ends.items
+    codes "cost " ++ (decimal p.cost ++ (codes " remotes" ++ (flat_map ethernet_end_text p.ends.items
     ++ (joined_text p.joined ++ directed_text p.directed))))
 
 -- an Ethernet port with its number
 abbrev pub frames_text : ℕ → EthernetPortConfig → List ℕ
 frames_text number p =
     codes "port " ++ (decimal number ++ (codes " " ++ (place_text p.network p.node
-    ++ (codes " frames " ++ (frame_word p.encapsulation ++ (codes " udp "
+    ++ (codes " ethernet " ++ (frame_word p.encapsulation ++ (codes " udp "
     ++ (reached_text p.address p.udp_port ++ (codes " " ++ ethernet_text p))))))))
 
 -- the places of the routers that a port is joined to, if any
@@ -159,27 +159,27 @@ is_of_no_machine (first ∷ rest) = (first == 0) || nat_le 224 first
 abbrev pub peer_remark : List ℕ → List ℕ → List (List ℕ) → List ℕ → List ℕ
 peer_remark whose address earlier peer =
     if pointwise nat_eq peer address
-    then whose ++ (codes "peer " ++ (dotted_text peer ++ codes " is its own address\n"))
+    then whose ++ (codes "peer " ++ (dotted_text peer ++ codes " is the local address\n"))
     else (if is_peer earlier peer
-    then whose ++ (codes "peer " ++ (dotted_text peer ++ codes " stands twice\n"))
+    then whose ++ (codes "peer " ++ (dotted_text peer ++ codes " is listed twice\n"))
     else (if is_of_no_machine peer
-    then whose ++ (codes "peer " ++ (dotted_text peer ++ codes " is no address of a machine\n"))
+    then whose ++ (codes "peer " ++ (dotted_text peer ++ codes " is not a usable unicast address\n"))
     else []))
 
 -- the remark about a remote that is the port's own place or repeats an earlier remote; empty for any other
 abbrev pub ethernet_end_remark : List ℕ → Place → List Place → Place → List ℕ
 ethernet_end_remark whose own earlier end =
     if is_same_place own end
-    then whose ++ (ethernet_end_text end ++ codes " is its own place\n")
+    then whose ++ (ethernet_end_text end ++ codes " is the port's own address\n")
     else (if list_any (is_same_place end) earlier
-    then whose ++ (ethernet_end_text end ++ codes " stands twice\n")
+    then whose ++ (ethernet_end_text end ++ codes " is listed twice\n")
     else [])
 
 -- the remark about a joined router at the port's own place; empty for any other
 abbrev pub joined_remark : List ℕ → Place → Place → List ℕ
 joined_remark whose own router =
     if is_same_place own router
-    then whose ++ (codes "joined" ++ (ethernet_end_text router ++ codes " is its own place\n"))
+    then whose ++ (codes "joined" ++ (ethernet_end_text router ++ codes " is the port's own address\n"))
     else []
 
 -- two ports are bound to the same place
@@ -190,7 +190,7 @@ is_one_place p other = is_same_place (place_of_kind p) (place_of_kind other)
 abbrev pub sharing_text : ℕ → Option ℕ → List ℕ
 sharing_text number None = []
 sharing_text number (Some k) =
-    remark number (codes "address and udp_port are those of port " ++ decimal (k + 1))
+    remark number (codes "same address and udp_port as port " ++ decimal (k + 1))
 
 abbrev pub place_remark : ℕ → List PortConfig → PortConfig → List ℕ
 place_remark number earlier p = sharing_text number (position (is_one_place p) earlier)
@@ -208,7 +208,7 @@ each_behind printed earlier (x ∷ xs) =
 abbrev pub reached_remarks : List ℕ → PortConfig → List ℕ
 reached_remarks whose (Rfc1234 p) = each_behind (peer_remark whose p.address) [] p.peers.items
 reached_remarks whose (Frames p) =
-    each_behind (ethernet_end_remark (whose ++ codes "end") (place_of_kind (Frames p))) [] p.ends.items
+    each_behind (ethernet_end_remark (whose ++ codes "remote") (place_of_kind (Frames p))) [] p.ends.items
 reached_remarks whose (Ipxnet p) = flat_map (joined_remark whose (place_of_kind (Ipxnet p))) p.join.items
 
 -- the line of a port that follows earlier ones, and the remarks about it
@@ -222,13 +222,13 @@ abbrev pub count_text : ℕ → List ℕ
 count_text count = if count == 1 then codes "1 port" else (decimal count ++ codes " ports")
 
 abbrev pub status_text : Option (String Global) → List ℕ
-status_text None = codes "no status file"
-status_text (Some text) = codes "status " ++ shown_text (string_bytes text)
+status_text None = codes "no metrics_file"
+status_text (Some text) = codes "metrics_file " ++ shown_text (string_bytes text)
 
 -- the path of the table file, if the file gives one
 abbrev pub tables_place_text : Option (String Global) → List ℕ
 tables_place_text None = []
-tables_place_text (Some text) = codes ", tables " ++ shown_text (string_bytes text)
+tables_place_text (Some text) = codes ", tables_file " ++ shown_text (string_bytes text)
 
 -- the line of the file itself
 abbrev pub file_line : List ℕ → RouterConfig → List ℕ

@@ -10,13 +10,13 @@ use std::alloc::{AllocError, Global};
 
 const UNKNOWN_SENDERS: Family = Family {
     name: "ipx_port_unknown_senders_total",
-    help: "Datagrams that came from no peer, by the port that they came by",
+    help: "Datagrams from unknown senders, by port",
     kind: "counter",
 };
 
 const REFUSED: Family = Family {
     name: "ipx_port_egress_filtered_total",
-    help: "Datagrams that were to go to no peer, by the port that was to send them",
+    help: "Datagrams not sent because the destination is not a peer, by port",
     kind: "counter",
 };
 

@@ -1,19 +1,17 @@
 //! Why sockets were not bound.
 
-use std::fmt;
 use std::io::ErrorKind;
+use std::{fmt, io};
 use thiserror::Error;
 
-/// Why a socket could not be bound.
+/// Why a socket could not be bound to an IP address and a UDP port: the system's error.
 #[derive(Clone, Copy, Debug, PartialEq, Eq)]
-pub enum BindErrorKind {
-    /// Another socket uses the address and the port.
-    InUse,
-    /// The address is not one of this machine.
-    NotHere,
-    /// The port needs a privilege.
-    NotAllowed,
-    Other,
+pub struct BindError {
+    pub ip: [u8; 4],
+    pub udp_port: u16,
+    pub kind: ErrorKind,
+    /// The number of the system's error, if it is one of the system.
+    pub code: Option<i32>,
 }
 
 /// Why sockets were not bound.
@@ -23,28 +21,27 @@ pub enum BindFault {
     OutOfMemory,
     /// The number of the port whose socket could not be bound, starting at 1, and the reason.
     #[error("port {0}: {1}")]
-    Port(usize, BindErrorKind),
+    Port(usize, BindError),
 }
 
-/// The kind of the error that the system reports.
-pub fn bind_error_kind(kind: ErrorKind) -> BindErrorKind {
-    match kind {
-        ErrorKind::AddrInUse => BindErrorKind::InUse,
-        ErrorKind::AddrNotAvailable => BindErrorKind::NotHere,
-        ErrorKind::PermissionDenied => BindErrorKind::NotAllowed,
-        _ => BindErrorKind::Other,
+/// The error that the system reports for a socket at this address.
+pub fn bind_error(ip: [u8; 4], udp_port: u16, error: &io::Error) -> BindError {
+    BindError {
+        ip,
+        udp_port,
+        kind: error.kind(),
+        code: error.raw_os_error(),
     }
 }
 
-impl fmt::Display for BindErrorKind {
+/// As `bind 192.0.2.10:213: Address already in use (os error 98)`.
+impl fmt::Display for BindError {
     fn fmt<W: fmt::Write>(&self, f: &mut fmt::Formatter<W>) -> fmt::Result {
-        f.write_str(match self {
-            BindErrorKind::InUse =>
-                "address and udp_port are in use: end what has them, or take others",
-            BindErrorKind::NotHere => "address is to be an IP address of this machine",
-            BindErrorKind::NotAllowed =>
-                "udp_port wants a right (below 1024: CAP_NET_BIND_SERVICE)",
-            BindErrorKind::Other => "address and udp_port can't be had from the system",
-        })
+        let [a, b, c, d] = self.ip;
+        write!(f, "bind {a}.{b}.{c}.{d}:{}: ", self.udp_port)?;
+        match self.code {
+            Some(code) => write!(f, "{}", io::Error::from_raw_os_error(code)),
+            None => write!(f, "{}", self.kind),
+        }
     }
 }

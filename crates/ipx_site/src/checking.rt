@@ -45,13 +45,13 @@ fn peer_to_remark(
 {
     let ip = dotted(alloc, peer)?;
     if peer == address {
-        return format!(in alloc; "{whose}peer {ip} is its own address\n");
+        return format!(in alloc; "{whose}peer {ip} is the local address\n");
     }
     if earlier.contains(&peer) {
-        return format!(in alloc; "{whose}peer {ip} stands twice\n");
+        return format!(in alloc; "{whose}peer {ip} is listed twice\n");
     }
     if is_of_no_machine(peer) {
-        return format!(in alloc; "{whose}peer {ip} is no address of a machine\n");
+        return format!(in alloc; "{whose}peer {ip} is not a usable unicast address\n");
     }
     Ok(String::new(alloc))
 }
@@ -87,10 +87,10 @@ fn end_to_remark(
 {
     let reached = end_to_text(alloc, end)?;
     if end == own {
-        return format!(in alloc; "{whose}{reached} is its own place\n");
+        return format!(in alloc; "{whose}{reached} is the port's own address\n");
     }
     if earlier.contains(&end) {
-        return format!(in alloc; "{whose}{reached} stands twice\n");
+        return format!(in alloc; "{whose}{reached} is listed twice\n");
     }
     Ok(String::new(alloc))
 }
@@ -125,7 +125,7 @@ fn joined_to_remark(
 {
     let reached = end_to_text(alloc, router)?;
     if router == own {
-        return format!(in alloc; "{whose}joined{reached} is its own place\n");
+        return format!(in alloc; "{whose}joined{reached} is the port's own address\n");
     }
     Ok(String::new(alloc))
 }
@@ -156,7 +156,7 @@ fn reached_to_remarks(alloc: Global, whose: &str, port: &PortConfig) -> Result<S
     match port {
         PortConfig::Rfc1234(port) => peers_to_remarks(alloc, whose, port.address, &port.peers),
         PortConfig::Frames(port) => {
-            let end = format!(in alloc; "{whose}end")?;
+            let end = format!(in alloc; "{whose}remote")?;
             ends_to_remarks(alloc, &end, own, &port.ends)
         }
         PortConfig::Ipxnet(port) => join_to_remarks(alloc, whose, own, &port.join),
@@ -184,7 +184,7 @@ fn place_to_remark(
     match place_of_same(earlier, port) {
         Some(place) => {
             let other = place + 1;
-            let text = format!(in alloc; "address and udp_port are those of port {other}")?;
+            let text = format!(in alloc; "same address and udp_port as port {other}")?;
             remark_on(alloc, number, &text)
         }
         None => Ok(String::new(alloc)),
@@ -233,9 +233,9 @@ fn status_to_text(alloc: Global, status: &Option<String>) -> Result<String, Allo
     match status {
         Some(path) => {
             let path = Escaped(path.as_bytes());
-            format!(in alloc; "status {path}")
+            format!(in alloc; "metrics_file {path}")
         }
-        None => String::from_str(alloc, "no status file"),
+        None => String::from_str(alloc, "no metrics_file"),
     }
 }
 
@@ -245,7 +245,7 @@ fn tables_to_text(alloc: Global, tables: &Option<String>) -> Result<String, Allo
     match tables {
         Some(path) => {
             let path = Escaped(path.as_bytes());
-            format!(in alloc; ", tables {path}")
+            format!(in alloc; ", tables_file {path}")
         }
         None => Ok(String::new(alloc)),
     }
@@ -289,7 +289,7 @@ pub fn write_checked<R: Eprint, W: Write>(
     match writer.write_all(lines.as_bytes()) {
         Ok(()) => 0,
         Err(_) => {
-            let _ = eprintln!(rt; "standard output can't be written");
+            let _ = eprintln!(rt; "cannot write standard output");
             1
         }
     }

@@ -11,7 +11,7 @@ use thiserror::Error;
 /// The system could not tell the time when it was asked for the first time.
 #[derive(Clone, Copy, Debug, PartialEq, Eq, Error)]
 pub enum ClockFault {
-    #[error("the system's clock can't be read")]
+    #[error("cannot read the system's clock")]
     Unread,
 }
 

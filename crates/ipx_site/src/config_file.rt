@@ -89,11 +89,7 @@ fn refuse_half<R: Eprint>(rt: &R, alloc: Global, path: &str, bytes: &[u8]) -> Re
 {
     match has_all_titles(alloc, bytes) {
         Ok(true) => Ok(()),
-        Ok(false) => Err(tell(
-            rt,
-            path,
-            "the file is not all that a router writes of its tables",
-        )),
+        Ok(false) => Err(tell(rt, path, "not a complete tables file of a router")),
         Err(_) => Err(tell_no_memory(rt, path)),
     }
 }

@@ -71,7 +71,7 @@ fn write_last<W: fmt::Write>(f: &mut fmt::Formatter<W>, last: LastDrop) -> fmt::
     if let Some(from) = last.from {
         write!(f, " from {} {} {}", from.network, from.node, from.socket)?;
     }
-    write!(f, " by port {}", last.port.saturating_add(1))
+    write!(f, " on port {}", last.port.saturating_add(1))
 }
 
 /// Whether an address is for all nodes of a network, with a socket other than those of RIP and SAP.

@@ -4,7 +4,7 @@ ghost use Rattle.std.specs.Prelude.{◌≡◌, ◌++◌, ◌∷◌, [], IfOk, On
 ghost use Rattle.ipx_site.specs.KindPorts.{end_places, switch_of, ethernet_port_of, ethernet_ports};
 ghost use Rattle.ipx_ethernet_ports.specs.EthernetAddresses.{places_behind};
 
-use crate::bind_fault::{BindFault, bind_error_kind};
+use crate::bind_fault::{BindFault, bind_error};
 use crate::site::{EthernetPortConfig, PortConfig};
 use ipx_ethernet::EthernetPort;
 use ipx_ethernet_ports::{EthernetPorts, EthernetSockets, Place};
@@ -59,7 +59,7 @@ fn bind_ethernet_port<R: Net>(
     match sockets.bind(rt, at, ends) {
         Ok(()) => Ok(()),
         Err(error) if error.kind() == ErrorKind::OutOfMemory => Err(BindFault::OutOfMemory),
-        Err(error) => Err(BindFault::Port(number, bind_error_kind(error.kind()))),
+        Err(error) => Err(BindFault::Port(number, bind_error(at.ip, at.udp_port, &error))),
     }
 }
 

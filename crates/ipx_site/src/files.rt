@@ -48,14 +48,15 @@ fn tell_fault<R: Eprint>(rt: &R, path: &str, fault: &ConfigError) -> u8
 }
 
 /// Reports why a file could not be read, and returns the exit status.
-fn tell_unread<R: Eprint>(rt: &R, path: &str, kind: io::ErrorKind) -> u8
+fn tell_unread<R: Eprint>(rt: &R, path: &str, error: &io::Error) -> u8
     ensures { (result ≡ 1) ⊎ (result ≡ 2) }
 {
-    match kind {
+    match error.kind() {
         io::ErrorKind::OutOfMemory => tell_no_memory(rt, path),
-        io::ErrorKind::NotFound => tell(rt, path, "there is no such file"),
-        io::ErrorKind::PermissionDenied => tell(rt, path, "the file is to be readable"),
-        _ => tell(rt, path, "the file can't be read"),
+        _ => {
+            let _ = eprintln!(rt; "{path}: {error}");
+            2
+        }
     }
 }
 
@@ -70,12 +71,12 @@ pub(crate) fn read_bytes<R: Files + Eprint>(
 {
     let mut file = match File::open(rt, path) {
         Ok(file) => file,
-        Err(error) => return Err(tell_unread(rt, path, error.kind())),
+        Err(error) => return Err(tell_unread(rt, path, &error)),
     };
     match read_up_to(alloc, &mut file, most) {
         Ok(bytes) => Ok(bytes),
         Err(InputFault::Memory) => Err(tell_no_memory(rt, path)),
-        Err(InputFault::Read) => Err(tell(rt, path, "the file can't be read")),
+        Err(InputFault::Read) => Err(tell(rt, path, "the file cannot be read")),
     }
 }
 
@@ -85,11 +86,11 @@ fn text_of<'a, R: Eprint>(rt: &R, path: &str, bytes: &'a [u8]) -> Result<&'a str
     ensures fault { IfErr result (λ status. (status ≡ 2) × (IsFileText bytes.now → ⊥)) }
 {
     if bytes.len() > MAX {
-        return Err(tell(rt, path, "the file is to have 65536 bytes at most"));
+        return Err(tell(rt, path, "the file has more than 65536 bytes"));
     }
     match str::from_utf8(bytes) {
         Ok(text) => Ok(text),
-        Err(_) => Err(tell(rt, path, "the file is to be text in UTF-8")),
+        Err(_) => Err(tell(rt, path, "the file is not UTF-8 text")),
     }
 }
 

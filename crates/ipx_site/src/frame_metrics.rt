@@ -21,31 +21,31 @@ const ALL: [Encapsulation; 4] = [
 
 const FRAMES: Family = Family {
     name: "ipx_frames_total",
-    help: "Frames that came on a wire, by what became of them at the port",
+    help: "Frames received on an Ethernet port, by outcome",
     kind: "counter",
 };
 
 const PASSED: Family = Family {
     name: "ipx_frames_forwarded_total",
-    help: "Frames that were to go on from one end to others",
+    help: "Frames to forward from one remote to others",
     kind: "counter",
 };
 
 const REFUSED: Family = Family {
     name: "ipx_frames_refused_total",
-    help: "Packets that no frame could carry",
+    help: "Packets that do not fit into a frame",
     kind: "counter",
 };
 
 const UNKNOWN_SENDERS: Family = Family {
     name: "ipx_frames_unknown_senders_total",
-    help: "Datagrams that came from no end of a wire",
+    help: "Datagrams to an Ethernet port from unknown senders",
     kind: "counter",
 };
 
 const SENT: Family = Family {
     name: "ipx_transmit_frames_total",
-    help: "Frames that the system took to be sent",
+    help: "Frames that the system accepted for sending",
     kind: "counter",
 };
 

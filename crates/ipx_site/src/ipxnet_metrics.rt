@@ -10,25 +10,25 @@ use std::alloc::{AllocError, Global};
 
 const CLIENTS: Family = Family {
     name: "ipx_ipxnet_clients",
-    help: "Clients that are known",
+    help: "Registered clients",
     kind: "gauge",
 };
 
 const DROPPED: Family = Family {
     name: "ipx_ipxnet_dropped_total",
-    help: "Datagrams of clients and packets for them that were dropped, by reason",
+    help: "Datagrams from clients and packets to clients that were dropped, by reason",
     kind: "counter",
 };
 
 const UNKNOWN_SENDERS: Family = Family {
     name: "ipx_ipxnet_unknown_senders_total",
-    help: "Datagrams that came from nobody who may register",
+    help: "Datagrams from senders that may not register",
     kind: "counter",
 };
 
 const SENT: Family = Family {
     name: "ipx_ipxnet_transmit_packets_total",
-    help: "Datagrams for clients that the system took to be sent",
+    help: "Datagrams to clients that the system accepted for sending",
     kind: "counter",
 };
 

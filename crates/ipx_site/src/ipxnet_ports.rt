@@ -4,7 +4,7 @@ ghost use Rattle.std.specs.Prelude.{◌≡◌, ◌++◌, ◌∷◌, [], IfOk, On
 ghost use Rattle.ipx_ipxnet_ports.specs.ServerAddresses.{ips_heard, listed_ips};
 ghost use Rattle.ipx_site.specs.KindPorts.{client_port_of, ipxnet_ports, server_of_port, server_place, registering_at};
 
-use crate::bind_fault::{BindFault, bind_error_kind};
+use crate::bind_fault::{BindFault, bind_error};
 use crate::ipxnet_port::IpxnetPortConfig;
 use crate::site::{Accept, PortConfig};
 use ipx_ethernet_ports::Place as EndPlace;
@@ -102,7 +102,7 @@ fn bind_server<R: Net>(
     match sockets.bind(rt, at, hears) {
         Ok(()) => Ok(()),
         Err(error) if error.kind() == ErrorKind::OutOfMemory => Err(BindFault::OutOfMemory),
-        Err(error) => Err(BindFault::Port(number, bind_error_kind(error.kind()))),
+        Err(error) => Err(BindFault::Port(number, bind_error(at.ip, at.udp_port, &error))),
     }
 }
 

@@ -82,45 +82,46 @@ impl Key {
     /// A description of its valid values, with an example, for the line of a fault.
     pub(crate) fn right(&self) -> &'static str {
         match self {
-            Key::Status => "the name of a file, as \"/run/ipx/hq/hq.prom\"",
+            Key::Status => "a file name, such as \"/run/ipx/hq/hq.prom\"",
             Key::Tables => {
-                "the name of a file, not that of metrics_file with or without .new, as \
+                "a file name, different from metrics_file with or without .new, such as \
                  \"/run/ipx/hq/hq.tables\""
             }
-            Key::Port => "one to sixteen tables, each begun by [[port]]",
-            Key::Network => "eight hex digits, neither all 0 nor all f, as \"00000011\"",
-            Key::Address => "an IP address of this machine, as \"192.0.2.10\"",
-            Key::UdpPort => "a number from 1 to 65535, as 213",
-            Key::Cost => "a number of ticks from 1 to 65535, as 6",
-            Key::Peers => "a list of IP addresses, as [\"198.51.100.7\", \"203.0.113.9\"]",
-            Key::Routers => "a list of IP addresses among peers",
+            Key::Port => "1 to 16 tables [[port]]",
+            Key::Network => "eight hex digits, neither all 0 nor all f, such as \"00000011\"",
+            Key::Address => "an IP address of this machine, such as \"192.0.2.10\"",
+            Key::UdpPort => "a number from 1 to 65535, such as 213",
+            Key::Cost => "a number of ticks from 1 to 65535, such as 6",
+            Key::Peers => "a list of IP addresses, such as [\"198.51.100.7\", \"203.0.113.9\"]",
+            Key::Routers => "a list of IP addresses that are also in peers",
             Key::Accept => "\"peers\" or \"any\"",
-            Key::Router => "the IP address of a router, as \"10.1.0.1\"",
-            Key::Socket => "four hex digits, not all 0, as \"4002\"",
-            Key::Buffers => "a number from 1 to 8192, as 64",
+            Key::Router => "the IP address of a router, such as \"10.1.0.1\"",
+            Key::Socket => "four hex digits, not all 0, such as \"4002\"",
+            Key::Buffers => "a number from 1 to 8192, such as 64",
             Key::From => {
-                "a list of at most 256 networks, each alone or with a node behind it, as \
+                "a list of at most 256 networks, each with or without a node after it, such as \
                  [\"00000022 00000a02001e\", \"00000033\"]"
             }
             Key::Kind => "\"rfc1234\", \"ethernet\" or \"ipxnet\"",
             Key::Frame => "\"802.3\", \"802.2\", \"snap\" or \"ethernet-ii\"",
-            Key::Ends => "a list of 1 to 256 places, as [\"127.0.0.1:24001\"]",
-            Key::Node => "the address of one station, as \"02:00:00:00:00:22\"",
+            Key::Ends => "a list of 1 to 256 address:port, such as [\"127.0.0.1:24001\"]",
+            Key::Node => "the MAC address of one station, such as \"02:00:00:00:00:22\"",
             Key::Switch => "true or false",
-            Key::Clients => "a number from 1 to 150, as 64",
-            Key::Join => "a list of 1 to 256 places, each once, as [\"198.51.100.7:2130\"]",
+            Key::Clients => "a number from 1 to 150, such as 64",
+            Key::Join =>
+                "a list of 1 to 256 address:port, each listed once, such as [\"198.51.100.7:2130\"]",
             Key::Directed => "\"none\", \"few\" or \"all\"",
-            Key::Route => "at most 256 tables, each begun by [[route]]",
-            Key::Service => "at most 256 tables, each begun by [[service]]",
+            Key::Route => "at most 256 tables [[route]]",
+            Key::Service => "at most 256 tables [[service]]",
             Key::Next => {
-                "another node of the port's network: an IP address among its peers, as \
-                 \"198.51.100.7\", or on a wire a station, as \"02:00:00:00:00:33\""
+                "another node of the port's network: one of its peers, such as \
+                 \"198.51.100.7\", or on an Ethernet port a MAC address, such as \"02:00:00:00:00:33\""
             }
-            Key::Hops => "a number from 1 to 14, as 1",
-            Key::Ticks => "a number of ticks from 1 to 65535, as 6",
-            Key::ServiceType => "four hex digits, neither all 0 nor all f, as \"0640\"",
-            Key::Name => "1 to 47 characters of ASCII that print, without blanks, as \"BACKUP\"",
-            Key::At => "a network, a node and a socket, as \"00000011 00000a010014 4002\"",
+            Key::Hops => "a number from 1 to 14, such as 1",
+            Key::Ticks => "a number of ticks from 1 to 65535, such as 6",
+            Key::ServiceType => "four hex digits, neither all 0 nor all f, such as \"0640\"",
+            Key::Name => "1 to 47 printable ASCII characters without spaces, such as \"BACKUP\"",
+            Key::At => "a network, a node and a socket, such as \"00000011 00000a010014 4002\"",
         }
     }
 }

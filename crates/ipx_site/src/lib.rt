@@ -86,7 +86,7 @@ mod warnings;
 
 pub use access_list_metrics::put_access_list_metrics;
 pub use allowed_peer::AllowedPeer;
-pub use bind_fault::{BindErrorKind, BindFault};
+pub use bind_fault::{BindError, BindFault};
 pub use checking::{check_site, peers_to_remarks, write_checked};
 pub use client_log::{ClientChanges, ClientLog, PortClient};
 pub use clock::{ClockFault, SteadyClock};

@@ -50,67 +50,67 @@ pub struct Metrics {
 
 const HEARD: Family = Family {
     name: "ipx_receive_packets_total",
-    help: "Datagrams that were heard",
+    help: "Datagrams received",
     kind: "counter",
 };
 
 const SENT: Family = Family {
     name: "ipx_transmit_packets_total",
-    help: "Datagrams that the system took to be sent",
+    help: "Datagrams that the system accepted for sending",
     kind: "counter",
 };
 
 const OUTCOMES: Family = Family {
     name: "ipx_outcomes_total",
-    help: "What became of the datagrams that were heard, and were not dropped",
+    help: "Datagrams received and not dropped, by outcome",
     kind: "counter",
 };
 
 const DROPPED: Family = Family {
     name: "ipx_dropped_total",
-    help: "Packets that were dropped, by reason",
+    help: "Packets dropped, by reason",
     kind: "counter",
 };
 
 const UNKNOWN_SENDERS: Family = Family {
     name: "ipx_unknown_senders_total",
-    help: "Datagrams that came from no peer, and were not heard",
+    help: "Datagrams from unknown senders, not accepted",
     kind: "counter",
 };
 
 const FILTERED: Family = Family {
     name: "ipx_filtered_total",
-    help: "Other datagrams that were not heard, by reason",
+    help: "Other datagrams filtered, by reason",
     kind: "counter",
 };
 
 const REFUSED: Family = Family {
     name: "ipx_egress_filtered_total",
-    help: "Datagrams that were to go to no peer, and were not sent",
+    help: "Datagrams not sent because the destination is not a peer",
     kind: "counter",
 };
 
 const FAULTS: Family = Family {
     name: "ipx_errors_total",
-    help: "How often the system refused",
+    help: "Errors of the system, by kind",
     kind: "counter",
 };
 
 const QUEUE: Family = Family {
     name: "ipx_send_queue_packets",
-    help: "Packets that wait to be sent",
+    help: "Packets in the send queue",
     kind: "gauge",
 };
 
 const ROUTES: Family = Family {
     name: "ipx_routes",
-    help: "Networks of others that are known",
+    help: "Known networks that are not at a port",
     kind: "gauge",
 };
 
 const SERVICES: Family = Family {
     name: "ipx_services",
-    help: "Services that are known",
+    help: "Known services",
     kind: "gauge",
 };
 

@@ -8,19 +8,19 @@ use std::alloc::{AllocError, Global};
 
 const NETWORKS: Family = Family {
     name: "ipx_neighbour_networks",
-    help: "Networks that a neighbour offers, as far as they count",
+    help: "Networks learned from a neighbour that are still valid",
     kind: "gauge",
 };
 
 const SERVICES: Family = Family {
     name: "ipx_neighbour_services",
-    help: "Services that a neighbour offers, as far as they count",
+    help: "Services learned from a neighbour that are still valid",
     kind: "gauge",
 };
 
 const HEARD: Family = Family {
     name: "ipx_neighbour_last_heard_seconds",
-    help: "Seconds since the last of these was heard",
+    help: "Seconds since the neighbour last advertised one of these",
     kind: "gauge",
 };
 

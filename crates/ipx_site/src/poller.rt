@@ -20,7 +20,7 @@ use thiserror::Error;
 pub enum WaitFault {
     #[error("out of memory")]
     OutOfMemory,
-    #[error("the system can't wait for the sockets")]
+    #[error("cannot wait for the sockets")]
     System,
 }
 

@@ -8,7 +8,7 @@ use std::alloc::AllocError;
 
 const HEARD: Family = Family {
     name: "ipx_port_receive_packets_total",
-    help: "Datagrams that were heard, by the port that they came by",
+    help: "Datagrams received, by port",
     kind: "counter",
 };
 
@@ -20,7 +20,7 @@ const HEARD_BYTES: Family = Family {
 
 const SENT: Family = Family {
     name: "ipx_port_transmit_packets_total",
-    help: "Packets that were handed to a port to be sent",
+    help: "Packets handed to a port for sending",
     kind: "counter",
 };
 
@@ -32,7 +32,7 @@ const SENT_BYTES: Family = Family {
 
 const DROPPED: Family = Family {
     name: "ipx_port_dropped_total",
-    help: "Datagrams that were dropped, by the port that they came by and by reason",
+    help: "Datagrams dropped, by port of arrival and reason",
     kind: "counter",
 };
 

@@ -50,7 +50,7 @@ impl Told for Network {
 
     fn tell_lost<R: Log>(&self, rt: &R) {
         let network = *self;
-        info!(rt; target: "ipx", "network {network} lost");
+        info!(rt; target: "ipx", "route lost: network {network}");
     }
 }
 
@@ -72,7 +72,7 @@ impl Told for ServiceKey {
     fn tell_lost<R: Log>(&self, rt: &R) {
         let kind = self.kind;
         let name = Escaped(&self.name);
-        info!(rt; target: "ipx", "service {kind:04x} {name} lost");
+        info!(rt; target: "ipx", "service lost: {kind:04x} {name}");
     }
 }
 
@@ -95,7 +95,7 @@ fn tell_new<R: Log, K: Told>(rt: &R, known: &[K], held: &[(K, Source, K::Offered
             count = count.saturating_add(1);
         }
     }
-    tell_rest(rt, K::MANY, "known", count);
+    tell_rest(rt, K::MANY, "added", count);
 }
 
 /// Logs the keys that are no longer known.

@@ -235,11 +235,11 @@ fn port_indices_of(alloc: Global, ports: &[PortConfig]) -> Result<Vec<PortIndex>
 
 /// Logs the line of a port at the start, with the size of its socket's receive buffer.
 fn tell_port<R: Log>(rt: &R, number: usize, line: &str, room: u32) {
-    info!(rt; target: "ipx", "{line} room {room}");
+    info!(rt; target: "ipx", "{line} rcvbuf {room}");
     if room < RCVBUF_SIZE {
         warn!(rt; target: "ipx",
-            "port {number}: its socket holds {room} bytes: \
-             net.core.rmem_max = {RCVBUF_SIZE} gives it what it asks for");
+            "port {number}: the socket's receive buffer has only {room} bytes: \
+             set net.core.rmem_max = {RCVBUF_SIZE}");
     }
 }
 

@@ -7,7 +7,7 @@ ghost use Rattle.ipx_site.specs.Senders.{ipv4_of_place};
 ghost use Rattle.ipx_site.specs.KindPorts.{datagram_ports};
 ghost use Rattle.ipx_site.specs.SitePorts.{udp_ports};
 
-use crate::bind_fault::{BindFault, bind_error_kind};
+use crate::bind_fault::{BindFault, bind_error};
 use crate::last_sender::Senders;
 use crate::rcvbuf::set_rcvbuf;
 use crate::site::PortConfig;
@@ -87,7 +87,7 @@ fn bound_port<R: Net>(
 {
     match port_socket(rt, ip, udp_port) {
         Ok(socket) => Ok(socket),
-        Err(error) => Err(BindFault::Port(number, bind_error_kind(error.kind()))),
+        Err(error) => Err(BindFault::Port(number, bind_error(ip, udp_port, &error))),
     }
 }
 

@@ -119,7 +119,7 @@ fn ends_to_text(alloc: Global, ends: &[Place]) -> Result<String, AllocError>
 fn apart(joined: bool) -> &'static str
     ensures { result.now ≡ joined_text joined }
 {
-    if joined { "" } else { " apart" }
+    if joined { "" } else { " switch false" }
 }
 
 fn ethernet_to_text(alloc: Global, port: &EthernetPortConfig) -> Result<String, AllocError>
@@ -129,10 +129,10 @@ fn ethernet_to_text(alloc: Global, port: &EthernetPortConfig) -> Result<String, 
     let ends = ends_to_text(alloc, &port.ends)?;
     let apart = apart(port.joined);
     let directed = directed(port.directed);
-    format!(in alloc; "cost {cost} ends{ends}{apart}{directed}")
+    format!(in alloc; "cost {cost} remotes{ends}{apart}{directed}")
 }
 
-/// An Ethernet port with its number: `port 2 network .. node .. frames .. udp .. cost .. ends ..`.
+/// An Ethernet port with its number: `port 2 network .. node .. ethernet .. udp .. cost .. remotes ..`.
 fn frames_to_text(
     alloc: Global,
     number: usize,
@@ -144,7 +144,7 @@ fn frames_to_text(
     let word = word_of(port.encapsulation);
     let reached = reached_to_text(alloc, port.address, port.udp_port)?;
     let wire = ethernet_to_text(alloc, port)?;
-    format!(in alloc; "port {number} {place} frames {word} udp {reached} {wire}")
+    format!(in alloc; "port {number} {place} ethernet {word} udp {reached} {wire}")
 }
 
 /// The places of joined routers, if there are any.

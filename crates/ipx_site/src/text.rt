@@ -15,9 +15,9 @@ const LAST_ROUTE: usize = 272;
 /// The keys of a table, by its number.
 fn keys_of(table: usize) -> &'static str {
     if table == 0 {
-        return "a router has metrics_file, tables_file, port, route and service, \
-            a host network, address, router, udp_port, socket, buffers, peers, routers, allow and \
-            accept";
+        return "the keys of a router are metrics_file, tables_file, port, route and service; those of a \
+            host are network, address, router, udp_port, socket, buffers, peers, routers, allow \
+            and accept";
     }
     if table > LAST_ROUTE {
         return "the keys are port, next_hop, type, name, ipx_address and hops";
@@ -70,8 +70,8 @@ fn new_name(name: &str) -> Option<Key> {
 /// router itself.
 fn valid_statics(key: Key) -> &'static str {
     match key {
-        Key::Port => "the number of a port here of kind \"rfc1234\" or \"ethernet\", as 1",
-        Key::Network => "eight hex digits from 00000001 to fffffffd, as \"000000aa\"",
+        Key::Port => "the number of a port of kind \"rfc1234\" or \"ethernet\", such as 1",
+        Key::Network => "eight hex digits from 00000001 to fffffffd, such as \"000000aa\"",
         _ => key.right(),
     }
 }
@@ -83,9 +83,9 @@ fn right_in(table: usize, key: Key) -> &'static str {
     }
     match (table, key) {
         (0, Key::Peers) => {
-            "a list of at most 256 IP addresses, as [\"198.51.100.7\", \"203.0.113.9\"]"
+            "a list of at most 256 IP addresses, such as [\"198.51.100.7\", \"203.0.113.9\"]"
         }
-        (0, Key::Routers) => "a list of at most 256 IP addresses among peers",
+        (0, Key::Routers) => "a list of at most 256 IP addresses that are also in peers",
         _ => key.right(),
     }
 }
@@ -139,29 +139,32 @@ impl fmt::Display for ConfigError {
                     return write!(f, "`{name}` is now `{key}`");
                 }
                 let name = Escaped(name.as_bytes());
-                write!(f, "{name} is no key here: {}", keys_of(*table))
+                write!(f, "unknown key {name}: {}", keys_of(*table))
             }
             ConfigError::OtherKind(table, key, kind) => {
                 write_place(f, *table)?;
                 let (word, keys) = (word_of_kind(*kind), keys_of_port(*kind));
-                write!(f, "{key} is no key of kind \"{word}\": its keys are {keys}")
+                write!(
+                    f,
+                    "{key} is not a key of kind \"{word}\": its keys are {keys}"
+                )
             }
             ConfigError::Missing(table, key) => {
                 write_place(f, *table)?;
                 let right = right_in(*table, *key);
-                write!(f, "{key} is missing: it is to be {right}")
+                write!(f, "{key} is missing: expected {right}")
             }
             ConfigError::Wrong(table, key) => {
                 write_place(f, *table)?;
-                write!(f, "{key} is to be {}", right_in(*table, *key))
+                write!(f, "{key}: expected {}", right_in(*table, *key))
             }
             ConfigError::Twin(table, network, earlier) => {
                 write_place(f, *table)?;
-                write!(f, "network {network} is already that of port {earlier}")
+                write!(f, "network {network} is already used by port {earlier}")
             }
             ConfigError::Again(table, earlier) => {
                 write_place(f, *table)?;
-                write!(f, "{} are those of ", alike(*table))?;
+                write!(f, "same {} as ", alike(*table))?;
                 write_table(f, *earlier)
             }
         }

@@ -26,12 +26,12 @@ const KEPT: [PortFilterDrops; 2] = [
 ];
 
 const TEXT: &str = "\
-# HELP ipx_port_unknown_senders_total Datagrams that came from no peer, by the port that they came by.
+# HELP ipx_port_unknown_senders_total Datagrams from unknown senders, by port.
 # TYPE ipx_port_unknown_senders_total counter
 ipx_port_unknown_senders_total{port=\"2\"} 3
 ipx_port_unknown_senders_total{port=\"4\"} 7
-# HELP ipx_port_egress_filtered_total Datagrams that were to go to no peer, by the port that \
-was to send them.
+# HELP ipx_port_egress_filtered_total Datagrams not sent because the destination is not a peer, by \
+port.
 # TYPE ipx_port_egress_filtered_total counter
 ipx_port_egress_filtered_total{port=\"2\"} 5
 ipx_port_egress_filtered_total{port=\"4\"} 11

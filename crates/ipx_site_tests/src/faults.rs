@@ -17,82 +17,76 @@ peers = []
 
 /// Files of routers with what is printed of them.
 const SITES: [(&str, &str); 20] = [
-    (TWIN, "port 2: network 00000001 is already that of port 1"),
-    (
-        "",
-        "port is missing: it is to be one to sixteen tables, each begun by [[port]]",
-    ),
-    (
-        "port = []",
-        "port is to be one to sixteen tables, each begun by [[port]]",
-    ),
+    (TWIN, "port 2: network 00000001 is already used by port 1"),
+    ("", "port is missing: expected 1 to 16 tables [[port]]"),
+    ("port = []", "port: expected 1 to 16 tables [[port]]"),
     (
         "port = [1]",
-        "port 1: port is to be one to sixteen tables, each begun by [[port]]",
+        "port 1: port: expected 1 to 16 tables [[port]]",
     ),
     (
         "Status = \"a\"",
-        "Status is no key here: a router has metrics_file, tables_file, port, route and service, a host network, address, router, udp_port, socket, buffers, peers, routers, allow and accept",
+        "unknown key Status: the keys of a router are metrics_file, tables_file, port, route and service; those of a host are network, address, router, udp_port, socket, buffers, peers, routers, allow and accept",
     ),
     (
         "metrics_file = 1",
-        "metrics_file is to be the name of a file, as \"/run/ipx/hq/hq.prom\"",
+        "metrics_file: expected a file name, such as \"/run/ipx/hq/hq.prom\"",
     ),
     (
         "metrics_file = \"\"",
-        "metrics_file is to be the name of a file, as \"/run/ipx/hq/hq.prom\"",
+        "metrics_file: expected a file name, such as \"/run/ipx/hq/hq.prom\"",
     ),
     (
         "metrics_file = \"/run/ipx/h\\u0000q\"",
-        "metrics_file is to be the name of a file, as \"/run/ipx/hq/hq.prom\"",
+        "metrics_file: expected a file name, such as \"/run/ipx/hq/hq.prom\"",
     ),
     (
         "tables_file = 1\nport = 1",
-        "tables_file is to be the name of a file, not that of metrics_file with or without .new, as \"/run/ipx/hq/hq.tables\"",
+        "tables_file: expected a file name, different from metrics_file with or without .new, such as \"/run/ipx/hq/hq.tables\"",
     ),
     (
         "tables_file = \"\"\nport = 1",
-        "tables_file is to be the name of a file, not that of metrics_file with or without .new, as \"/run/ipx/hq/hq.tables\"",
+        "tables_file: expected a file name, different from metrics_file with or without .new, such as \"/run/ipx/hq/hq.tables\"",
     ),
     (
         "metrics_file = \"/run/ipx/hq\"\ntables_file = \"/run/ipx/hq\"\nport = 1",
-        "tables_file is to be the name of a file, not that of metrics_file with or without .new, as \"/run/ipx/hq/hq.tables\"",
+        "tables_file: expected a file name, different from metrics_file with or without .new, such as \"/run/ipx/hq/hq.tables\"",
     ),
     (
         "metrics_file = \"/run/ipx/hq\"\ntables_file = \"/run/ipx/hq.new\"\nport = 1",
-        "tables_file is to be the name of a file, not that of metrics_file with or without .new, as \"/run/ipx/hq/hq.tables\"",
+        "tables_file: expected a file name, different from metrics_file with or without .new, such as \"/run/ipx/hq/hq.tables\"",
     ),
     (
         "metrics_file = \"/run/ipx/hq.new\"\ntables_file = \"/run/ipx/hq\"\nport = 1",
-        "tables_file is to be the name of a file, not that of metrics_file with or without .new, as \"/run/ipx/hq/hq.tables\"",
+        "tables_file: expected a file name, different from metrics_file with or without .new, such as \"/run/ipx/hq/hq.tables\"",
     ),
     (
         "metrics_file = \"/run/ipx/hq\"\ntables_file = \"/run/ipx/hq.new.new\"\nport = 1",
-        "port is to be one to sixteen tables, each begun by [[port]]",
+        "port: expected 1 to 16 tables [[port]]",
     ),
     (
         "metrics_file = \"/run/ipx/hq\"\ntables_file = \"/run/ipx/hqxnew\"\nport = 1",
-        "port is to be one to sixteen tables, each begun by [[port]]",
+        "port: expected 1 to 16 tables [[port]]",
     ),
     (
         "metrics_file = \"/run/ipx/hq\"\ntables_file = \"/run/ipx/q.new\"\nport = 1",
-        "port is to be one to sixteen tables, each begun by [[port]]",
+        "port: expected 1 to 16 tables [[port]]",
     ),
     (
         "metrics_file = \"/run/ipx/hq\"\ntables_file = \"/run/ipx/hq.\"\nport = 1",
-        "port is to be one to sixteen tables, each begun by [[port]]",
+        "port: expected 1 to 16 tables [[port]]",
     ),
     (
         "[[port]]\npeer = []",
-        "port 1: peer is no key here: the keys are kind, network, address, udp_port, cost, directed, for kind = \"rfc1234\" also peers, routers and accept, for kind = \"ethernet\" encapsulation, remotes, node and switch, for kind = \"ipxnet\" node, clients, accept, peers and join",
+        "port 1: unknown key peer: the keys are kind, network, address, udp_port, cost, directed, for kind = \"rfc1234\" also peers, routers and accept, for kind = \"ethernet\" encapsulation, remotes, node and switch, for kind = \"ipxnet\" node, clients, accept, peers and join",
     ),
     (
         "[[port]]\nnetwork = \"ffffffff\"",
-        "port 1: network is to be eight hex digits, neither all 0 nor all f, as \"00000011\"",
+        "port 1: network: expected eight hex digits, neither all 0 nor all f, such as \"00000011\"",
     ),
     (
         "[[port]]\nnetwork = \"00000001\"",
-        "port 1: address is missing: it is to be an IP address of this machine, as \"192.0.2.10\"",
+        "port 1: address is missing: expected an IP address of this machine, such as \"192.0.2.10\"",
     ),
 ];
 
@@ -102,35 +96,35 @@ const START: &str = "[[port]]\nnetwork = \"00000001\"\naddress = \"192.0.2.10\"\
 const PORTS: [(&str, &str); 13] = [
     (
         "udp_port = 0",
-        "port 1: udp_port is to be a number from 1 to 65535, as 213",
+        "port 1: udp_port: expected a number from 1 to 65535, such as 213",
     ),
     (
         "cost = 65536",
-        "port 1: cost is to be a number of ticks from 1 to 65535, as 6",
+        "port 1: cost: expected a number of ticks from 1 to 65535, such as 6",
     ),
     (
         "",
-        "port 1: peers is missing: it is to be a list of IP addresses, as [\"198.51.100.7\", \"203.0.113.9\"]",
+        "port 1: peers is missing: expected a list of IP addresses, such as [\"198.51.100.7\", \"203.0.113.9\"]",
     ),
     (
         "peers = [\"10.1.0\"]",
-        "port 1: peers is to be a list of IP addresses, as [\"198.51.100.7\", \"203.0.113.9\"]",
+        "port 1: peers: expected a list of IP addresses, such as [\"198.51.100.7\", \"203.0.113.9\"]",
     ),
     (
         "peers = []\naccept = \"all\"",
-        "port 1: accept is to be \"peers\" or \"any\"",
+        "port 1: accept: expected \"peers\" or \"any\"",
     ),
     (
         "peers = [\"10.1.0.20\"]\nrouters = [\"10.1.0.21\"]",
-        "port 1: routers is to be a list of IP addresses among peers",
+        "port 1: routers: expected a list of IP addresses that are also in peers",
     ),
     (
         "peers = [\"10.1.0.20\"]\nrouters = \"10.1.0.20\"\naccept = \"all\"",
-        "port 1: routers is to be a list of IP addresses among peers",
+        "port 1: routers: expected a list of IP addresses that are also in peers",
     ),
     (
         "peers = []\ndirected = \"some\"",
-        "port 1: directed is to be \"none\", \"few\" or \"all\"",
+        "port 1: directed: expected \"none\", \"few\" or \"all\"",
     ),
     ("peers = []\ndirected = \"all\"", "none"),
     ("peers = []\ndirected = \"none\"", "none"),
@@ -146,15 +140,15 @@ const PORTS: [(&str, &str); 13] = [
 const HOSTS: [(&str, &str); 3] = [
     (
         "network = 11",
-        "network is to be eight hex digits, neither all 0 nor all f, as \"00000011\"",
+        "network: expected eight hex digits, neither all 0 nor all f, such as \"00000011\"",
     ),
     (
         "network = \"+0000011\"",
-        "network is to be eight hex digits, neither all 0 nor all f, as \"00000011\"",
+        "network: expected eight hex digits, neither all 0 nor all f, such as \"00000011\"",
     ),
     (
         "port = 1",
-        "port is no key here: a router has metrics_file, tables_file, port, route and service, a host network, address, router, udp_port, socket, buffers, peers, routers, allow and accept",
+        "unknown key port: the keys of a router are metrics_file, tables_file, port, route and service; those of a host are network, address, router, udp_port, socket, buffers, peers, routers, allow and accept",
     ),
 ];
 
@@ -169,29 +163,29 @@ socket = \"4002\"
 const CIRCLES: [(&str, &str); 8] = [
     (
         "peers = \"10.1.0.21\"",
-        "peers is to be a list of at most 256 IP addresses, as [\"198.51.100.7\", \"203.0.113.9\"]",
+        "peers: expected a list of at most 256 IP addresses, such as [\"198.51.100.7\", \"203.0.113.9\"]",
     ),
     (
         "peers = [\"10.1.0.21\", 4]",
-        "peers is to be a list of at most 256 IP addresses, as [\"198.51.100.7\", \"203.0.113.9\"]",
+        "peers: expected a list of at most 256 IP addresses, such as [\"198.51.100.7\", \"203.0.113.9\"]",
     ),
     (
         "routers = [\"10.1.0.1\"]",
-        "routers is to be a list of at most 256 IP addresses among peers",
+        "routers: expected a list of at most 256 IP addresses that are also in peers",
     ),
     (
         "peers = [\"10.1.0.21\"]\nrouters = [\"10.1.0.21\", \"10.1.0.22\"]",
-        "routers is to be a list of at most 256 IP addresses among peers",
+        "routers: expected a list of at most 256 IP addresses that are also in peers",
     ),
     (
         "routers = 1\nallow = []\npeers = 1",
-        "peers is to be a list of at most 256 IP addresses, as [\"198.51.100.7\", \"203.0.113.9\"]",
+        "peers: expected a list of at most 256 IP addresses, such as [\"198.51.100.7\", \"203.0.113.9\"]",
     ),
     (
         "allow = 1\naccept = 1\nrouters = 1",
-        "routers is to be a list of at most 256 IP addresses among peers",
+        "routers: expected a list of at most 256 IP addresses that are also in peers",
     ),
-    ("accept = \"all\"", "accept is to be \"peers\" or \"any\""),
+    ("accept = \"all\"", "accept: expected \"peers\" or \"any\""),
     ("peers = []\nrouters = []\naccept = \"any\"", "none"),
 ];
 

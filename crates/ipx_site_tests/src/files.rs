@@ -121,7 +121,7 @@ fn reads_both_files(rt: HostRuntime) {
         panic!(rt; "the file has a fault");
     };
     let Some(status) = &site.status else {
-        panic!(rt; "it has no status file");
+        panic!(rt; "it has no metrics_file");
     };
     assert_eq!(rt; status.as_str(), "/run/ipx/hq/hq.prom");
     let Some(tables) = &site.tables else {

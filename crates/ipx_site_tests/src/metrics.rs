@@ -102,7 +102,7 @@ const LINES: [&str; 29] = [
 ];
 
 const START: &str = "\
-# HELP ipx_receive_packets_total Datagrams that were heard.
+# HELP ipx_receive_packets_total Datagrams received.
 # TYPE ipx_receive_packets_total counter
 ipx_receive_packets_total 1
 ";

@@ -156,18 +156,18 @@ fn ipxnet(alloc: Global) -> Result<IpxnetMetrics, AllocError> {
 }
 
 const TEXT: &str = "\
-# HELP ipx_receive_packets_total Datagrams that were heard.
+# HELP ipx_receive_packets_total Datagrams received.
 # TYPE ipx_receive_packets_total counter
 ipx_receive_packets_total 1
-# HELP ipx_transmit_packets_total Datagrams that the system took to be sent.
+# HELP ipx_transmit_packets_total Datagrams that the system accepted for sending.
 # TYPE ipx_transmit_packets_total counter
 ipx_transmit_packets_total 2
-# HELP ipx_outcomes_total What became of the datagrams that were heard, and were not dropped.
+# HELP ipx_outcomes_total Datagrams received and not dropped, by outcome.
 # TYPE ipx_outcomes_total counter
 ipx_outcomes_total{outcome=\"forwarded\"} 3
 ipx_outcomes_total{outcome=\"answered\"} 4
 ipx_outcomes_total{outcome=\"heard\"} 5
-# HELP ipx_dropped_total Packets that were dropped, by reason.
+# HELP ipx_dropped_total Packets dropped, by reason.
 # TYPE ipx_dropped_total counter
 ipx_dropped_total{reason=\"bad\"} 6
 ipx_dropped_total{reason=\"propagated\"} 7
@@ -178,10 +178,10 @@ ipx_dropped_total{reason=\"bad_control\"} 11
 ipx_dropped_total{reason=\"table_full\"} 12
 ipx_dropped_total{reason=\"queue_full\"} 13
 ipx_dropped_total{reason=\"unmapped\"} 14
-# HELP ipx_unknown_senders_total Datagrams that came from no peer, and were not heard.
+# HELP ipx_unknown_senders_total Datagrams from unknown senders, not accepted.
 # TYPE ipx_unknown_senders_total counter
 ipx_unknown_senders_total 15
-# HELP ipx_filtered_total Other datagrams that were not heard, by reason.
+# HELP ipx_filtered_total Other datagrams filtered, by reason.
 # TYPE ipx_filtered_total counter
 ipx_filtered_total{reason=\"spoofed_source\"} 23
 ipx_filtered_total{reason=\"not_a_router\"} 24
@@ -189,27 +189,27 @@ ipx_filtered_total{reason=\"rate_limited\"} 25
 ipx_filtered_total{reason=\"directed_broadcast\"} 32
 ipx_filtered_total{reason=\"forwarded_control\"} 33
 ipx_filtered_total{reason=\"looped_source\"} 34
-# HELP ipx_egress_filtered_total Datagrams that were to go to no peer, and were not sent.
+# HELP ipx_egress_filtered_total Datagrams not sent because the destination is not a peer.
 # TYPE ipx_egress_filtered_total counter
 ipx_egress_filtered_total 16
-# HELP ipx_errors_total How often the system refused.
+# HELP ipx_errors_total Errors of the system, by kind.
 # TYPE ipx_errors_total counter
 ipx_errors_total{kind=\"device\"} 17
 ipx_errors_total{kind=\"memory\"} 18
 ipx_errors_total{kind=\"metrics_file\"} 19
-# HELP ipx_send_queue_packets Packets that wait to be sent.
+# HELP ipx_send_queue_packets Packets in the send queue.
 # TYPE ipx_send_queue_packets gauge
 ipx_send_queue_packets 29
-# HELP ipx_routes Networks of others that are known.
+# HELP ipx_routes Known networks that are not at a port.
 # TYPE ipx_routes gauge
 ipx_routes 20
-# HELP ipx_services Services that are known.
+# HELP ipx_services Known services.
 # TYPE ipx_services gauge
 ipx_services 21
 # HELP ipx_uptime_seconds Seconds since the start.
 # TYPE ipx_uptime_seconds gauge
 ipx_uptime_seconds 22
-# HELP ipx_port_receive_packets_total Datagrams that were heard, by the port that they came by.
+# HELP ipx_port_receive_packets_total Datagrams received, by port.
 # TYPE ipx_port_receive_packets_total counter
 ipx_port_receive_packets_total{port=\"1\",network=\"00000011\"} 1055
 ipx_port_receive_packets_total{port=\"2\",network=\"00000022\"} 2055
@@ -219,7 +219,7 @@ ipx_port_receive_packets_total{port=\"3\",network=\"00000033\"} 3055
 ipx_port_receive_bytes_total{port=\"1\",network=\"00000011\"} 111
 ipx_port_receive_bytes_total{port=\"2\",network=\"00000022\"} 211
 ipx_port_receive_bytes_total{port=\"3\",network=\"00000033\"} 311
-# HELP ipx_port_transmit_packets_total Packets that were handed to a port to be sent.
+# HELP ipx_port_transmit_packets_total Packets handed to a port for sending.
 # TYPE ipx_port_transmit_packets_total counter
 ipx_port_transmit_packets_total{port=\"1\",network=\"00000011\"} 112
 ipx_port_transmit_packets_total{port=\"2\",network=\"00000022\"} 212
@@ -229,8 +229,7 @@ ipx_port_transmit_packets_total{port=\"3\",network=\"00000033\"} 312
 ipx_port_transmit_bytes_total{port=\"1\",network=\"00000011\"} 113
 ipx_port_transmit_bytes_total{port=\"2\",network=\"00000022\"} 213
 ipx_port_transmit_bytes_total{port=\"3\",network=\"00000033\"} 313
-# HELP ipx_port_dropped_total Datagrams that were dropped, by the port that they came by and by \
-reason.
+# HELP ipx_port_dropped_total Datagrams dropped, by port of arrival and reason.
 # TYPE ipx_port_dropped_total counter
 ipx_port_dropped_total{port=\"1\",reason=\"bad\"} 104
 ipx_port_dropped_total{port=\"1\",reason=\"propagated\"} 105
@@ -253,24 +252,23 @@ ipx_port_dropped_total{port=\"3\",reason=\"no_route\"} 307
 ipx_port_dropped_total{port=\"3\",reason=\"hop_limit\"} 308
 ipx_port_dropped_total{port=\"3\",reason=\"bad_control\"} 309
 ipx_port_dropped_total{port=\"3\",reason=\"table_full\"} 310
-# HELP ipx_port_unknown_senders_total Datagrams that came from no peer, by the port that they \
-came by.
+# HELP ipx_port_unknown_senders_total Datagrams from unknown senders, by port.
 # TYPE ipx_port_unknown_senders_total counter
 ipx_port_unknown_senders_total{port=\"1\"} 401
-# HELP ipx_port_egress_filtered_total Datagrams that were to go to no peer, by the port that was \
-to send them.
+# HELP ipx_port_egress_filtered_total Datagrams not sent because the destination is not a peer, by \
+port.
 # TYPE ipx_port_egress_filtered_total counter
 ipx_port_egress_filtered_total{port=\"1\"} 402
-# HELP ipx_neighbour_networks Networks that a neighbour offers, as far as they count.
+# HELP ipx_neighbour_networks Networks learned from a neighbour that are still valid.
 # TYPE ipx_neighbour_networks gauge
 ipx_neighbour_networks{port=\"1\",node=\"00000a010003\"} 31
-# HELP ipx_neighbour_services Services that a neighbour offers, as far as they count.
+# HELP ipx_neighbour_services Services learned from a neighbour that are still valid.
 # TYPE ipx_neighbour_services gauge
 ipx_neighbour_services{port=\"1\",node=\"00000a010003\"} 30
-# HELP ipx_neighbour_last_heard_seconds Seconds since the last of these was heard.
+# HELP ipx_neighbour_last_heard_seconds Seconds since the neighbour last advertised one of these.
 # TYPE ipx_neighbour_last_heard_seconds gauge
 ipx_neighbour_last_heard_seconds{port=\"1\",node=\"00000a010003\"} 40
-# HELP ipx_frames_total Frames that came on a wire, by what became of them at the port.
+# HELP ipx_frames_total Frames received on an Ethernet port, by outcome.
 # TYPE ipx_frames_total counter
 ipx_frames_total{port=\"2\",outcome=\"handed_on\"} 501
 ipx_frames_total{port=\"2\",outcome=\"broken\"} 507
@@ -285,22 +283,22 @@ ipx_frames_total{port=\"2\",outcome=\"in_802.3\"} 510
 ipx_frames_total{port=\"2\",outcome=\"in_802.2\"} 511
 ipx_frames_total{port=\"2\",outcome=\"in_snap\"} 512
 ipx_frames_total{port=\"2\",outcome=\"in_ethernet-ii\"} 513
-# HELP ipx_frames_forwarded_total Frames that were to go on from one end to others.
+# HELP ipx_frames_forwarded_total Frames to forward from one remote to others.
 # TYPE ipx_frames_forwarded_total counter
 ipx_frames_forwarded_total{port=\"2\"} 514
-# HELP ipx_frames_refused_total Packets that no frame could carry.
+# HELP ipx_frames_refused_total Packets that do not fit into a frame.
 # TYPE ipx_frames_refused_total counter
 ipx_frames_refused_total{port=\"2\"} 515
-# HELP ipx_frames_unknown_senders_total Datagrams that came from no end of a wire.
+# HELP ipx_frames_unknown_senders_total Datagrams to an Ethernet port from unknown senders.
 # TYPE ipx_frames_unknown_senders_total counter
 ipx_frames_unknown_senders_total 516
-# HELP ipx_transmit_frames_total Frames that the system took to be sent.
+# HELP ipx_transmit_frames_total Frames that the system accepted for sending.
 # TYPE ipx_transmit_frames_total counter
 ipx_transmit_frames_total 517
-# HELP ipx_ipxnet_clients Clients that are known.
+# HELP ipx_ipxnet_clients Registered clients.
 # TYPE ipx_ipxnet_clients gauge
 ipx_ipxnet_clients{port=\"3\"} 601
-# HELP ipx_ipxnet_dropped_total Datagrams of clients and packets for them that were dropped, by \
+# HELP ipx_ipxnet_dropped_total Datagrams from clients and packets to clients that were dropped, by \
 reason.
 # TYPE ipx_ipxnet_dropped_total counter
 ipx_ipxnet_dropped_total{port=\"3\",reason=\"malformed\"} 602
@@ -318,10 +316,10 @@ ipx_ipxnet_dropped_total{port=\"3\",reason=\"from_elsewhere\"} 610
 ipx_ipxnet_dropped_total{port=\"3\",reason=\"response\"} 611
 ipx_ipxnet_dropped_total{port=\"3\",reason=\"not_behind\"} 612
 ipx_ipxnet_dropped_total{port=\"3\",reason=\"for_elsewhere\"} 613
-# HELP ipx_ipxnet_unknown_senders_total Datagrams that came from nobody who may register.
+# HELP ipx_ipxnet_unknown_senders_total Datagrams from senders that may not register.
 # TYPE ipx_ipxnet_unknown_senders_total counter
 ipx_ipxnet_unknown_senders_total 617
-# HELP ipx_ipxnet_transmit_packets_total Datagrams for clients that the system took to be sent.
+# HELP ipx_ipxnet_transmit_packets_total Datagrams to clients that the system accepted for sending.
 # TYPE ipx_ipxnet_transmit_packets_total counter
 ipx_ipxnet_transmit_packets_total 618
 ";

@@ -109,43 +109,43 @@ const PLAYERS: [(&str, &str); 21] = [
     ),
     (
         "",
-        "port 1: peers is missing: it is to be a list of IP addresses, as [\"198.51.100.7\", \"203.0.113.9\"]",
+        "port 1: peers is missing: expected a list of IP addresses, such as [\"198.51.100.7\", \"203.0.113.9\"]",
     ),
     (
         "accept = \"peers\"",
-        "port 1: peers is missing: it is to be a list of IP addresses, as [\"198.51.100.7\", \"203.0.113.9\"]",
+        "port 1: peers is missing: expected a list of IP addresses, such as [\"198.51.100.7\", \"203.0.113.9\"]",
     ),
     (
         "accept = \"any\"\npeers = 1",
-        "port 1: peers is to be a list of IP addresses, as [\"198.51.100.7\", \"203.0.113.9\"]",
+        "port 1: peers: expected a list of IP addresses, such as [\"198.51.100.7\", \"203.0.113.9\"]",
     ),
     (
         "peers = [\"198.51.100.7:2130\"]",
-        "port 1: peers is to be a list of IP addresses, as [\"198.51.100.7\", \"203.0.113.9\"]",
+        "port 1: peers: expected a list of IP addresses, such as [\"198.51.100.7\", \"203.0.113.9\"]",
     ),
     (
         "accept = \"all\"",
-        "port 1: accept is to be \"peers\" or \"any\"",
+        "port 1: accept: expected \"peers\" or \"any\"",
     ),
     (
         "accept = \"any\"\nclients = 0",
-        "port 1: clients is to be a number from 1 to 150, as 64",
+        "port 1: clients: expected a number from 1 to 150, such as 64",
     ),
     (
         "accept = \"all\"\nclients = 151",
-        "port 1: clients is to be a number from 1 to 150, as 64",
+        "port 1: clients: expected a number from 1 to 150, such as 64",
     ),
     (
         "clients = 0\nnode = \"ff:ff:ff:ff:ff:ff\"",
-        "port 1: node is to be the address of one station, as \"02:00:00:00:00:22\"",
+        "port 1: node: expected the MAC address of one station, such as \"02:00:00:00:00:22\"",
     ),
     (
         "node = 1\ncost = 0",
-        "port 1: cost is to be a number of ticks from 1 to 65535, as 6",
+        "port 1: cost: expected a number of ticks from 1 to 65535, such as 6",
     ),
     (
         "accept = \"any\"\nrouters = []",
-        "port 1: routers is no key of kind \"ipxnet\": its keys are kind, network, address, udp_port, cost, node, clients, accept, peers, join, directed",
+        "port 1: routers is not a key of kind \"ipxnet\": its keys are kind, network, address, udp_port, cost, node, clients, accept, peers, join, directed",
     ),
     ("accept = \"any\"\njoin = [\"198.51.100.7:2130\"]", "none"),
     (
@@ -154,15 +154,15 @@ const PLAYERS: [(&str, &str); 21] = [
     ),
     (
         "accept = \"any\"\njoin = []",
-        "port 1: join is to be a list of 1 to 256 places, each once, as [\"198.51.100.7:2130\"]",
+        "port 1: join: expected a list of 1 to 256 address:port, each listed once, such as [\"198.51.100.7:2130\"]",
     ),
     (
         "accept = \"any\"\njoin = [\"198.51.100.7\"]",
-        "port 1: join is to be a list of 1 to 256 places, each once, as [\"198.51.100.7:2130\"]",
+        "port 1: join: expected a list of 1 to 256 address:port, each listed once, such as [\"198.51.100.7:2130\"]",
     ),
     (
         "accept = \"any\"\njoin = [\"198.51.100.7:2130\", \"203.0.113.5:2130\", \"198.51.100.7:2130\"]",
-        "port 1: join is to be a list of 1 to 256 places, each once, as [\"198.51.100.7:2130\"]",
+        "port 1: join: expected a list of 1 to 256 address:port, each listed once, such as [\"198.51.100.7:2130\"]",
     ),
     (
         "accept = \"any\"\njoin = [\"198.51.100.7:2130\", \"198.51.100.7:2131\", \"198.51.100.8:2130\"]",
@@ -170,11 +170,11 @@ const PLAYERS: [(&str, &str); 21] = [
     ),
     (
         "peers = 1\njoin = 1",
-        "port 1: peers is to be a list of IP addresses, as [\"198.51.100.7\", \"203.0.113.9\"]",
+        "port 1: peers: expected a list of IP addresses, such as [\"198.51.100.7\", \"203.0.113.9\"]",
     ),
     (
         "accept = \"any\"\nplayers = 4",
-        "port 1: players is no key here: the keys are kind, network, address, udp_port, cost, directed, for kind = \"rfc1234\" also peers, routers and accept, for kind = \"ethernet\" encapsulation, remotes, node and switch, for kind = \"ipxnet\" node, clients, accept, peers and join",
+        "port 1: unknown key players: the keys are kind, network, address, udp_port, cost, directed, for kind = \"rfc1234\" also peers, routers and accept, for kind = \"ethernet\" encapsulation, remotes, node and switch, for kind = \"ipxnet\" node, clients, accept, peers and join",
     ),
 ];
 
@@ -191,19 +191,19 @@ fn lines_of_ports_for_clients(rt: HostRuntime) -> Result<(), AllocError> {
 const KINDS: [(&str, &str); 4] = [
     (
         "clients = 4",
-        "port 1: clients is no key of kind \"rfc1234\": its keys are kind, network, address, udp_port, cost, peers, routers, accept, directed",
+        "port 1: clients is not a key of kind \"rfc1234\": its keys are kind, network, address, udp_port, cost, peers, routers, accept, directed",
     ),
     (
         "join = [\"198.51.100.7:2130\"]",
-        "port 1: join is no key of kind \"rfc1234\": its keys are kind, network, address, udp_port, cost, peers, routers, accept, directed",
+        "port 1: join is not a key of kind \"rfc1234\": its keys are kind, network, address, udp_port, cost, peers, routers, accept, directed",
     ),
     (
         "kind = \"ethernet\"\nclients = 4",
-        "port 1: clients is no key of kind \"ethernet\": its keys are kind, network, encapsulation, address, udp_port, cost, remotes, node, switch, directed",
+        "port 1: clients is not a key of kind \"ethernet\": its keys are kind, network, encapsulation, address, udp_port, cost, remotes, node, switch, directed",
     ),
     (
         "kind = \"ipxnet\"\nnetwork = \"0000d05b\"\naddress = \"192.0.2.10\"",
-        "port 1: udp_port is missing: it is to be a number from 1 to 65535, as 213",
+        "port 1: udp_port is missing: expected a number from 1 to 65535, such as 213",
     ),
 ];
 

@@ -123,37 +123,37 @@ fn lines_of_what_was_dropped(rt: HostRuntime) -> Result<(), Fail> {
     hear_all(alloc, &mut core)?;
     let last = core.last();
     let bad = said(alloc, DropReason::Bad, last.bad)?;
-    assert_eq!(rt; bad.as_str(), "bad, the last by port 1");
+    assert_eq!(rt; bad.as_str(), "bad, the last on port 1");
     let not_ours = said(alloc, DropReason::NotOurs, last.not_ours)?;
     assert_eq!(rt;
         not_ours.as_str(),
-        "not ours, the last from 00000011 00000a010014 4003 by port 1"
+        "not ours, the last from 00000011 00000a010014 4003 on port 1"
     );
     let no_route = said(alloc, DropReason::NoRoute, last.no_route)?;
     assert_eq!(rt;
         no_route.as_str(),
-        "no route 00000044, the last from 00000022 00000a010014 4003 by port 2"
+        "no route 00000044, the last from 00000022 00000a010014 4003 on port 2"
     );
     let hop_limit = said(alloc, DropReason::HopLimit, last.hop_limit)?;
     assert_eq!(rt;
         hop_limit.as_str(),
-        "hop limit, the last from 00000011 00000a010014 4003 by port 1"
+        "hop limit, the last from 00000011 00000a010014 4003 on port 1"
     );
     let control = said(alloc, DropReason::BadControl, last.bad_control)?;
     assert_eq!(rt;
         control.as_str(),
-        "bad control, the last from 00000011 00000a010014 4003 by port 1"
+        "bad control, the last from 00000011 00000a010014 4003 on port 1"
     );
     assert_eq!(rt; said(alloc, DropReason::Bad, None)?.as_str(), "bad");
     let forwarded = said(alloc, DropReason::ForwardedControl, last.not_ours)?;
     assert_eq!(rt;
         forwarded.as_str(),
-        "forwarded control, the last from 00000011 00000a010014 4003 by port 1"
+        "forwarded control, the last from 00000011 00000a010014 4003 on port 1"
     );
     let looped = said(alloc, DropReason::LoopedSource, last.no_route)?;
     assert_eq!(rt;
         looped.as_str(),
-        "looped source, the last from 00000022 00000a010014 4003 by port 2"
+        "looped source, the last from 00000022 00000a010014 4003 on port 2"
     );
     Ok(())
 }

@@ -2,7 +2,7 @@
 
 use crate::fixture::site;
 use ipx_carrier::{Datagrams, DeviceFault};
-use ipx_site::{BindErrorKind, BindFault, Senders, UdpSockets};
+use ipx_site::{BindFault, Senders, UdpSockets};
 use std::test::Fail;
 
 const HERE: &str = "\
@@ -117,11 +117,13 @@ fn a_port_without_a_mark_is_not_asked(rt: HostRuntime) -> Result<(), Fail> {
 }
 
 #[test]
-fn names_the_port_that_is_in_use(rt: HostRuntime) {
+fn names_the_port_that_is_in_use(rt: HostRuntime) -> Result<(), Fail> {
+    let Err(fault) = bound(&rt, IN_USE) else {
+        panic!(rt; "both are bound");
+    };
+    let text = format!(in rt.alloc(); "{fault}")?;
     assert!(rt;
-        matches!(
-            bound(&rt, IN_USE),
-            Err(BindFault::Port(2, BindErrorKind::InUse))
-        )
+        text.as_str() == "port 2: bind 127.0.91.3:21391: Address already in use (os error 98)"
     );
+    Ok(())
 }

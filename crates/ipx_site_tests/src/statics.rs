@@ -194,7 +194,7 @@ fn reads_256_routes(rt: HostRuntime) -> Result<(), AllocError> {
     let more = routes(rt.alloc(), 257)?;
     assert_eq!(rt;
         line(rt.alloc(), &more)?.as_str(),
-        "route is to be at most 256 tables, each begun by [[route]]"
+        "route: expected at most 256 tables [[route]]"
     );
     Ok(())
 }
@@ -206,35 +206,35 @@ const ROUTES: [(&str, &str); 11] = [
     ("network = \"000000aa\"", "none"),
     (
         "",
-        "route 1: network is missing: it is to be eight hex digits from 00000001 to fffffffd, as \"000000aa\"",
+        "route 1: network is missing: expected eight hex digits from 00000001 to fffffffd, such as \"000000aa\"",
     ),
     (
         "network = \"00000000\"",
-        "route 1: network is to be eight hex digits from 00000001 to fffffffd, as \"000000aa\"",
+        "route 1: network: expected eight hex digits from 00000001 to fffffffd, such as \"000000aa\"",
     ),
     (
         "network = \"ffffffff\"",
-        "route 1: network is to be eight hex digits from 00000001 to fffffffd, as \"000000aa\"",
+        "route 1: network: expected eight hex digits from 00000001 to fffffffd, such as \"000000aa\"",
     ),
     (
         "network = \"fffffffe\"",
-        "route 1: network is to be eight hex digits from 00000001 to fffffffd, as \"000000aa\"",
+        "route 1: network: expected eight hex digits from 00000001 to fffffffd, such as \"000000aa\"",
     ),
     (
         "network = \"0000d05b\"",
-        "route 1: network 0000d05b is already that of port 3",
+        "route 1: network 0000d05b is already used by port 3",
     ),
     (
         "network = \"000000aa\"\nhops = 15",
-        "route 1: hops is to be a number from 1 to 14, as 1",
+        "route 1: hops: expected a number from 1 to 14, such as 1",
     ),
     (
         "network = \"000000aa\"\nticks = 0",
-        "route 1: ticks is to be a number of ticks from 1 to 65535, as 6",
+        "route 1: ticks: expected a number of ticks from 1 to 65535, such as 6",
     ),
     (
         "network = \"000000aa\"\nname = \"A\"",
-        "route 1: name is no key here: the keys are port, next_hop, network, hops and ticks",
+        "route 1: unknown key name: the keys are port, next_hop, network, hops and ticks",
     ),
     (
         "network = \"000000aa\"\n[[route]]\nport = 1\nnext_hop = \"203.0.113.9\"\nnetwork = \"000000aa\"",
@@ -242,7 +242,7 @@ const ROUTES: [(&str, &str); 11] = [
     ),
     (
         "network = \"000000aa\"\n[[route]]\nport = 1\nnext_hop = \"198.51.100.7\"\nnetwork = \"000000aa\"",
-        "route 2: port, next_hop and network are those of route 1",
+        "route 2: same port, next_hop and network as route 1",
     ),
 ];
 
@@ -251,31 +251,31 @@ const NEXT: [(&str, &str); 8] = [
     ("port = 2\nnext_hop = \"02:00:00:00:00:33\"", "none"),
     (
         "port = 4\nnext_hop = \"198.51.100.7\"",
-        "route 1: port is to be the number of a port here of kind \"rfc1234\" or \"ethernet\", as 1",
+        "route 1: port: expected the number of a port of kind \"rfc1234\" or \"ethernet\", such as 1",
     ),
     (
         "port = 3\nnext_hop = \"198.51.100.7\"",
-        "route 1: port is to be the number of a port here of kind \"rfc1234\" or \"ethernet\", as 1",
+        "route 1: port: expected the number of a port of kind \"rfc1234\" or \"ethernet\", such as 1",
     ),
     (
         "next_hop = \"198.51.100.7\"",
-        "route 1: port is missing: it is to be the number of a port here of kind \"rfc1234\" or \"ethernet\", as 1",
+        "route 1: port is missing: expected the number of a port of kind \"rfc1234\" or \"ethernet\", such as 1",
     ),
     (
         "port = 1",
-        "route 1: next_hop is missing: it is to be another node of the port's network: an IP address among its peers, as \"198.51.100.7\", or on a wire a station, as \"02:00:00:00:00:33\"",
+        "route 1: next_hop is missing: expected another node of the port's network: one of its peers, such as \"198.51.100.7\", or on an Ethernet port a MAC address, such as \"02:00:00:00:00:33\"",
     ),
     (
         "port = 1\nnext_hop = \"198.51.100.8\"",
-        "route 1: next_hop is to be another node of the port's network: an IP address among its peers, as \"198.51.100.7\", or on a wire a station, as \"02:00:00:00:00:33\"",
+        "route 1: next_hop: expected another node of the port's network: one of its peers, such as \"198.51.100.7\", or on an Ethernet port a MAC address, such as \"02:00:00:00:00:33\"",
     ),
     (
         "port = 1\nnext_hop = \"192.0.2.10\"",
-        "route 1: next_hop is to be another node of the port's network: an IP address among its peers, as \"198.51.100.7\", or on a wire a station, as \"02:00:00:00:00:33\"",
+        "route 1: next_hop: expected another node of the port's network: one of its peers, such as \"198.51.100.7\", or on an Ethernet port a MAC address, such as \"02:00:00:00:00:33\"",
     ),
     (
         "port = 2\nnext_hop = \"02:00:00:00:00:22\"",
-        "route 1: next_hop is to be another node of the port's network: an IP address among its peers, as \"198.51.100.7\", or on a wire a station, as \"02:00:00:00:00:33\"",
+        "route 1: next_hop: expected another node of the port's network: one of its peers, such as \"198.51.100.7\", or on an Ethernet port a MAC address, such as \"02:00:00:00:00:33\"",
     ),
 ];
 
@@ -285,39 +285,39 @@ const SERVICE: &str = "[[service]]\nport = 1\nnext_hop = \"198.51.100.7\"\n";
 const SERVICES: [(&str, &str); 9] = [
     (
         "type = \"ffff\"",
-        "service 1: type is to be four hex digits, neither all 0 nor all f, as \"0640\"",
+        "service 1: type: expected four hex digits, neither all 0 nor all f, such as \"0640\"",
     ),
     (
         "type = \"0000\"",
-        "service 1: type is to be four hex digits, neither all 0 nor all f, as \"0640\"",
+        "service 1: type: expected four hex digits, neither all 0 nor all f, such as \"0640\"",
     ),
     (
         "type = \"0640\"",
-        "service 1: name is missing: it is to be 1 to 47 characters of ASCII that print, without blanks, as \"BACKUP\"",
+        "service 1: name is missing: expected 1 to 47 printable ASCII characters without spaces, such as \"BACKUP\"",
     ),
     (
         "type = \"0640\"\nname = \"A B\"",
-        "service 1: name is to be 1 to 47 characters of ASCII that print, without blanks, as \"BACKUP\"",
+        "service 1: name: expected 1 to 47 printable ASCII characters without spaces, such as \"BACKUP\"",
     ),
     (
         "type = \"0640\"\nname = \"\"",
-        "service 1: name is to be 1 to 47 characters of ASCII that print, without blanks, as \"BACKUP\"",
+        "service 1: name: expected 1 to 47 printable ASCII characters without spaces, such as \"BACKUP\"",
     ),
     (
         "type = \"0640\"\nname = \"A\"\nipx_address = \"00000011 00000a010014\"",
-        "service 1: ipx_address is to be a network, a node and a socket, as \"00000011 00000a010014 4002\"",
+        "service 1: ipx_address: expected a network, a node and a socket, such as \"00000011 00000a010014 4002\"",
     ),
     (
         "type = \"0640\"\nname = \"A\"\nipx_address = \"00000011 01000a010014 4002\"",
-        "service 1: ipx_address is to be a network, a node and a socket, as \"00000011 00000a010014 4002\"",
+        "service 1: ipx_address: expected a network, a node and a socket, such as \"00000011 00000a010014 4002\"",
     ),
     (
         "type = \"0640\"\nname = \"A\"\nipx_address = \"00000011 00000a010014 4002\"\nhops = 0",
-        "service 1: hops is to be a number from 1 to 14, as 1",
+        "service 1: hops: expected a number from 1 to 14, such as 1",
     ),
     (
         "type = \"0640\"\nname = \"A\"\nipx_address = \"00000011 00000a010014 4002\"\nticks = 1",
-        "service 1: ticks is no key here: the keys are port, next_hop, type, name, ipx_address and hops",
+        "service 1: unknown key ticks: the keys are port, next_hop, type, name, ipx_address and hops",
     ),
 ];
 
@@ -357,7 +357,7 @@ fn line_of_a_service_again(rt: HostRuntime) -> Result<(), AllocError> {
     )?;
     assert_eq!(rt;
         line(rt.alloc(), &entries)?.as_str(),
-        "service 2: port, next_hop, type and name are those of service 1"
+        "service 2: same port, next_hop, type and name as service 1"
     );
     Ok(())
 }

@@ -121,63 +121,63 @@ const ETHERNET: [(&str, &str); 17] = [
     ("remotes = [\"127.0.0.1:24001\"]", "none"),
     (
         "",
-        "port 1: remotes is missing: it is to be a list of 1 to 256 places, as [\"127.0.0.1:24001\"]",
+        "port 1: remotes is missing: expected a list of 1 to 256 address:port, such as [\"127.0.0.1:24001\"]",
     ),
     (
         "remotes = []",
-        "port 1: remotes is to be a list of 1 to 256 places, as [\"127.0.0.1:24001\"]",
+        "port 1: remotes: expected a list of 1 to 256 address:port, such as [\"127.0.0.1:24001\"]",
     ),
     (
         "remotes = \"127.0.0.1:24001\"",
-        "port 1: remotes is to be a list of 1 to 256 places, as [\"127.0.0.1:24001\"]",
+        "port 1: remotes: expected a list of 1 to 256 address:port, such as [\"127.0.0.1:24001\"]",
     ),
     (
         "remotes = [\"127.0.0.1\"]",
-        "port 1: remotes is to be a list of 1 to 256 places, as [\"127.0.0.1:24001\"]",
+        "port 1: remotes: expected a list of 1 to 256 address:port, such as [\"127.0.0.1:24001\"]",
     ),
     (
         "remotes = [\"127.0.0.1:24001\", \"0.0.0.0:24001\"]",
-        "port 1: remotes is to be a list of 1 to 256 places, as [\"127.0.0.1:24001\"]",
+        "port 1: remotes: expected a list of 1 to 256 address:port, such as [\"127.0.0.1:24001\"]",
     ),
     (
         "remotes = [\"127.0.0.1:0\"]",
-        "port 1: remotes is to be a list of 1 to 256 places, as [\"127.0.0.1:24001\"]",
+        "port 1: remotes: expected a list of 1 to 256 address:port, such as [\"127.0.0.1:24001\"]",
     ),
     (
         "remotes = [\"127.0.0.1:65536\"]",
-        "port 1: remotes is to be a list of 1 to 256 places, as [\"127.0.0.1:24001\"]",
+        "port 1: remotes: expected a list of 1 to 256 address:port, such as [\"127.0.0.1:24001\"]",
     ),
     (
         "remotes = [\"127.0.0.1:24001\"]\nnode = \"020000000022\"",
-        "port 1: node is to be the address of one station, as \"02:00:00:00:00:22\"",
+        "port 1: node: expected the MAC address of one station, such as \"02:00:00:00:00:22\"",
     ),
     (
         "remotes = [\"127.0.0.1:24001\"]\nnode = \"02-00-00-00-00-22\"",
-        "port 1: node is to be the address of one station, as \"02:00:00:00:00:22\"",
+        "port 1: node: expected the MAC address of one station, such as \"02:00:00:00:00:22\"",
     ),
     (
         "remotes = [\"127.0.0.1:24001\"]\nnode = \"01:00:00:00:00:22\"",
-        "port 1: node is to be the address of one station, as \"02:00:00:00:00:22\"",
+        "port 1: node: expected the MAC address of one station, such as \"02:00:00:00:00:22\"",
     ),
     (
         "remotes = [\"127.0.0.1:24001\"]\nnode = \"00:00:00:00:00:00\"",
-        "port 1: node is to be the address of one station, as \"02:00:00:00:00:22\"",
+        "port 1: node: expected the MAC address of one station, such as \"02:00:00:00:00:22\"",
     ),
     (
         "remotes = [\"127.0.0.1:24001\"]\nswitch = 1",
-        "port 1: switch is to be true or false",
+        "port 1: switch: expected true or false",
     ),
     (
         "switch = 1\nnode = 1\nremotes = [\"127.0.0.1:24001\"]",
-        "port 1: node is to be the address of one station, as \"02:00:00:00:00:22\"",
+        "port 1: node: expected the MAC address of one station, such as \"02:00:00:00:00:22\"",
     ),
     (
         "remotes = 1\nwire = 1\npeers = []",
-        "port 1: peers is no key of kind \"ethernet\": its keys are kind, network, encapsulation, address, udp_port, cost, remotes, node, switch, directed",
+        "port 1: peers is not a key of kind \"ethernet\": its keys are kind, network, encapsulation, address, udp_port, cost, remotes, node, switch, directed",
     ),
     (
         "remotes = 1\npeers = []\nend = []",
-        "port 1: end is no key here: the keys are kind, network, address, udp_port, cost, directed, for kind = \"rfc1234\" also peers, routers and accept, for kind = \"ethernet\" encapsulation, remotes, node and switch, for kind = \"ipxnet\" node, clients, accept, peers and join",
+        "port 1: unknown key end: the keys are kind, network, address, udp_port, cost, directed, for kind = \"rfc1234\" also peers, routers and accept, for kind = \"ethernet\" encapsulation, remotes, node and switch, for kind = \"ipxnet\" node, clients, accept, peers and join",
     ),
     (
         "remotes = [\"127.0.0.1:24001\"]\nswitch = true\nnode = \"02:00:00:00:00:22\"",
@@ -198,31 +198,31 @@ fn lines_of_ethernet(rt: HostRuntime) -> Result<(), AllocError> {
 const KINDS: [(&str, &str); 7] = [
     (
         "peer = 1\nkind = \"frames\"",
-        "port 1: kind is to be \"rfc1234\", \"ethernet\" or \"ipxnet\"",
+        "port 1: kind: expected \"rfc1234\", \"ethernet\" or \"ipxnet\"",
     ),
     (
         "kind = 1",
-        "port 1: kind is to be \"rfc1234\", \"ethernet\" or \"ipxnet\"",
+        "port 1: kind: expected \"rfc1234\", \"ethernet\" or \"ipxnet\"",
     ),
     (
         "kind = \"rfc1234\"\nnode = 1",
-        "port 1: node is no key of kind \"rfc1234\": its keys are kind, network, address, udp_port, cost, peers, routers, accept, directed",
+        "port 1: node is not a key of kind \"rfc1234\": its keys are kind, network, address, udp_port, cost, peers, routers, accept, directed",
     ),
     (
         "encapsulation = \"802.3\"",
-        "port 1: encapsulation is no key of kind \"rfc1234\": its keys are kind, network, address, udp_port, cost, peers, routers, accept, directed",
+        "port 1: encapsulation is not a key of kind \"rfc1234\": its keys are kind, network, address, udp_port, cost, peers, routers, accept, directed",
     ),
     (
         "kind = \"ethernet\"\nnetwork = \"00000022\"",
-        "port 1: encapsulation is missing: it is to be \"802.3\", \"802.2\", \"snap\" or \"ethernet-ii\"",
+        "port 1: encapsulation is missing: expected \"802.3\", \"802.2\", \"snap\" or \"ethernet-ii\"",
     ),
     (
         "kind = \"ethernet\"\nnetwork = \"00000022\"\nencapsulation = \"raw\"",
-        "port 1: encapsulation is to be \"802.3\", \"802.2\", \"snap\" or \"ethernet-ii\"",
+        "port 1: encapsulation: expected \"802.3\", \"802.2\", \"snap\" or \"ethernet-ii\"",
     ),
     (
         "kind = \"ethernet\"\nnetwork = \"00000022\"\nencapsulation = \"802.3\"\naddress = \"127.0.0.1\"",
-        "port 1: udp_port is missing: it is to be a number from 1 to 65535, as 213",
+        "port 1: udp_port is missing: expected a number from 1 to 65535, such as 213",
     ),
 ];
 
@@ -264,7 +264,7 @@ fn lines_of_twins_of_two_kinds(rt: HostRuntime) -> Result<(), AllocError> {
     let text = format!(in rt.alloc(); "{first}{START}remotes = [\"127.0.0.1:24001\"]\n")?;
     assert_eq!(rt;
         site_line(rt.alloc(), text.as_str())?.as_str(),
-        "port 2: network 00000022 is already that of port 1"
+        "port 2: network 00000022 is already used by port 1"
     );
     Ok(())
 }

@@ -83,35 +83,35 @@ pub const COUNT_OPTION: &str = "-c";
 
 const HOST_FILE: WordShape = WordShape {
     name: "HOST",
-    help: "The file of the host",
+    help: "The configuration file of the host",
     unless: None,
     wanted: true,
 };
 
 const KNOWING_FILE: WordShape = WordShape {
     name: "HOST",
-    help: "The file of the host, or of a router",
+    help: "The configuration file of the host, or of a router",
     unless: None,
     wanted: true,
 };
 
 const NET: WordShape = WordShape {
     name: "NET",
-    help: "The network to dial, eight hex digits",
+    help: "The destination network, eight hex digits",
     unless: None,
     wanted: true,
 };
 
 const NODE: WordShape = WordShape {
     name: "NODE",
-    help: "The node there, twelve hex digits",
+    help: "The destination node, twelve hex digits",
     unless: None,
     wanted: true,
 };
 
 const SOCKET: WordShape = WordShape {
     name: "SOCKET",
-    help: "Its socket, four hex digits",
+    help: "The destination socket, four hex digits",
     unless: None,
     wanted: true,
 };
@@ -119,13 +119,13 @@ const SOCKET: WordShape = WordShape {
 const CHECKS_FILE: OptionShape = OptionShape {
     name: "check",
     value: OptionValue::Nothing,
-    help: "Says what stands in the file, and binds nothing",
+    help: "Checks the file and prints a summary, without opening a socket",
 };
 
 const PRINTS_JSON: OptionShape = OptionShape {
     name: "json",
     value: OptionValue::Nothing,
-    help: "Prints a line of JSON for each, and nothing else",
+    help: "Prints one line of JSON for each, and nothing else",
 };
 
 const HOP_SHAPE: &CommandShape = &CommandShape {
@@ -144,20 +144,20 @@ const SHOW_SHAPE: &CommandShape = &CommandShape {
     statuses: texts::SHOW_STATUSES,
     words: &[WordShape {
         name: "HEX",
-        help: "The packet, two hex digits a byte",
+        help: "The packet, two hex digits per byte",
         unless: Some("frame"),
         wanted: true,
     }],
     options: &[OptionShape {
         name: "frame",
         value: OptionValue::Node,
-        help: "Reads frames from standard input, as the station NODE hears them",
+        help: "Reads Ethernet frames from standard input, as the station NODE receives them",
     }],
 };
 
 const CHECK_SHAPE: &CommandShape = &CommandShape {
     name: CHECK,
-    about: "Whether packets have the outcomes that they are to have",
+    about: "Checks that packets are accepted or refused as expected",
     long_about: texts::CHECK,
     statuses: texts::CHECK_STATUSES,
     words: &[],
@@ -166,7 +166,7 @@ const CHECK_SHAPE: &CommandShape = &CommandShape {
 
 const SIM_SHAPE: &CommandShape = &CommandShape {
     name: SIM,
-    about: "A network in memory, run by a script",
+    about: "Simulates a network in memory, driven by a script",
     long_about: texts::SIM,
     statuses: texts::SIM_STATUSES,
     words: &[],
@@ -175,25 +175,25 @@ const SIM_SHAPE: &CommandShape = &CommandShape {
 
 const UDP_SHAPE: &CommandShape = &CommandShape {
     name: UDP,
-    about: "A script over UDP sockets of the loopback",
+    about: "Runs a script over UDP sockets on the loopback",
     long_about: texts::UDP,
     statuses: texts::UDP_STATUSES,
     words: &[],
     options: &[OptionShape {
         name: "port",
         value: OptionValue::Port,
-        help: "The UDP port of every socket, 1 to 65535; 213 where none is given",
+        help: "The UDP port of every socket, 1 to 65535; default 213",
     }],
 };
 
 const ROUTE_SHAPE: &CommandShape = &CommandShape {
     name: ROUTE,
-    about: "A router of one site, over UDP",
+    about: "An IPX router for one site, over UDP",
     long_about: texts::ROUTE,
     statuses: texts::ROUTE_STATUSES,
     words: &[WordShape {
         name: "SITE",
-        help: "The file of the site",
+        help: "The configuration file of the router",
         unless: None,
         wanted: true,
     }],
@@ -202,7 +202,7 @@ const ROUTE_SHAPE: &CommandShape = &CommandShape {
 
 const LISTEN_SHAPE: &CommandShape = &CommandShape {
     name: LISTEN,
-    about: "A host that takes connections, and writes the messages that come",
+    about: "Accepts SPX connections, and writes the messages that it receives",
     long_about: texts::LISTEN,
     statuses: texts::LISTEN_STATUSES,
     words: &[HOST_FILE],
@@ -210,7 +210,7 @@ const LISTEN_SHAPE: &CommandShape = &CommandShape {
         OptionShape {
             name: "once",
             value: OptionValue::Nothing,
-            help: "Ends behind the first connection that is heard",
+            help: "Ends after the first connection from which anything arrives",
         },
         CHECKS_FILE,
     ],
@@ -218,7 +218,7 @@ const LISTEN_SHAPE: &CommandShape = &CommandShape {
 
 const SEND_SHAPE: &CommandShape = &CommandShape {
     name: SEND,
-    about: "A host that asks for a connection, and sends its input",
+    about: "Opens an SPX connection, and sends standard input",
     long_about: texts::SEND,
     statuses: texts::SEND_STATUSES,
     words: &[HOST_FILE, NET, NODE, SOCKET],
@@ -227,7 +227,7 @@ const SEND_SHAPE: &CommandShape = &CommandShape {
 
 const NETWORKS_SHAPE: &CommandShape = &CommandShape {
     name: NETWORKS,
-    about: "The networks that a router knows, or the routers of a host",
+    about: "Lists the networks that a router, or the routers of a host, know",
     long_about: texts::NETWORKS,
     statuses: texts::NETWORKS_STATUSES,
     words: &[KNOWING_FILE],
@@ -236,14 +236,14 @@ const NETWORKS_SHAPE: &CommandShape = &CommandShape {
 
 const SERVICES_SHAPE: &CommandShape = &CommandShape {
     name: SERVICES,
-    about: "The services that a router knows, or the routers of a host",
+    about: "Lists the services that a router, or the routers of a host, know",
     long_about: texts::SERVICES,
     statuses: texts::SERVICES_STATUSES,
     words: &[
         KNOWING_FILE,
         WordShape {
             name: "TYPE",
-            help: "The type of the services, four hex digits; all where it is left out",
+            help: "The type of the services, four hex digits; default: all types",
             unless: None,
             wanted: false,
         },
@@ -253,14 +253,14 @@ const SERVICES_SHAPE: &CommandShape = &CommandShape {
 
 const PING_SHAPE: &CommandShape = &CommandShape {
     name: PING,
-    about: "Whether a listener is there, and how far",
+    about: "Whether an SPX listener answers, and how far away it is",
     long_about: texts::PING,
     statuses: texts::PING_STATUSES,
     words: &[HOST_FILE, NET, NODE, SOCKET],
     options: &[OptionShape {
         name: "c",
         value: OptionValue::Count,
-        help: "How many requests, 1 to 65535; 4 where it is left out",
+        help: "The number of requests, 1 to 65535; default 4",
     }],
 };
 

@@ -366,24 +366,18 @@ fn usage_of(alloc: Global, words: &[String]) -> Result<Error, Error> {
     let mut command = whole_command(alloc)?;
     command.try_get_matches_from_mut(words)?;
     let error = if words.iter().any(|word| word.as_str() == "--") {
-        command.error(
-            ErrorKind::UnknownArgument,
-            "a word too many: '--' has no place here",
-        )?
+        command.error(ErrorKind::UnknownArgument, "unexpected argument '--' found")?
     } else if words
         .iter()
         .any(|word| word.as_bytes().starts_with(b"--frame"))
     {
-        command.error(
-            ErrorKind::ValueValidation,
-            "NODE is to be twelve hex digits",
-        )?
+        command.error(ErrorKind::ValueValidation, "NODE must be twelve hex digits")?
     } else if words.iter().any(|word| word.as_str() == "-") {
-        command.error(ErrorKind::UnknownArgument, "'-' has no place here")?
+        command.error(ErrorKind::UnknownArgument, "unexpected argument '-' found")?
     } else if words.iter().any(|word| word.as_bytes().starts_with(b"-c")) {
-        command.error(ErrorKind::ValueValidation, "-c and N are to be two words")?
+        command.error(ErrorKind::ValueValidation, "-c and N must be two arguments")?
     } else {
-        command.error(ErrorKind::UnknownArgument, "these words ask for no command")?
+        command.error(ErrorKind::UnknownArgument, "the arguments name no command")?
     };
     Ok(error)
 }

@@ -12,23 +12,23 @@ pub enum ServerDrop {
     /// It is a registration whose node is taken. It is the router's or the broadcast node, or, if
     /// servers are joined, that of another client here or at a joined router. The value is the
     /// node.
-    #[error("a client's node is taken: {0}")]
+    #[error("the client's node is already in use: {0}")]
     NodeTaken(Node),
     /// It is a registration, and ten clients registered less than a second ago.
     #[error("too many registrations in a second")]
     TooManyNew,
     /// It is a registration, and there are as many clients as allowed, all heard within the last
     /// hour.
-    #[error("the lobby is full")]
+    #[error("the server is full")]
     Full,
     /// No client is known at its source address.
-    #[error("from no client")]
+    #[error("from an unregistered sender")]
     Unregistered,
     /// Its source node, which is the value, is not the one that its client was given.
     #[error("a client sent from a node that is not its own: {0}")]
     OtherSource(Node),
     /// It has more bytes than a client accepts. The value is how many.
-    #[error("{0} bytes, over the 1424 that a client takes")]
+    #[error("{0} bytes, a client accepts at most 1424")]
     TooLong(usize),
     /// No client here has its destination node, which is the value.
     #[error("no client has the node {0}")]
@@ -48,13 +48,13 @@ pub enum ServerDrop {
     FromElsewhere(Network),
     /// It is only for the core, and is a response of RIP or SAP, which advertises routes or
     /// services.
-    #[error("a client told routes or services")]
+    #[error("a client advertised routes or services")]
     Response,
     /// It is from a joined router, and from a node of this network that no client there can have.
     /// That is 0, the router's here, the broadcast node or a client's here. The value is the node.
-    #[error("a joined router sent from a node that is not behind it: {0}")]
+    #[error("a joined server sent from a node that is none of its clients: {0}")]
     NotBehind(Node),
     /// It is from a joined router, and for another network, which is the value.
-    #[error("a joined router sent for network {0}")]
+    #[error("a joined server sent to network {0}")]
     ForElsewhere(Network),
 }

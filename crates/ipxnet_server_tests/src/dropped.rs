@@ -105,18 +105,18 @@ fn texts(rt: HostRuntime) -> Result<(), Fail> {
         ),
         (
             ServerDrop::NodeTaken(FIRST_NODE),
-            "a client's node is taken: 7f000001bc47",
+            "the client's node is already in use: 7f000001bc47",
         ),
         (ServerDrop::TooManyNew, "too many registrations in a second"),
-        (ServerDrop::Full, "the lobby is full"),
-        (ServerDrop::Unregistered, "from no client"),
+        (ServerDrop::Full, "the server is full"),
+        (ServerDrop::Unregistered, "from an unregistered sender"),
         (
             ServerDrop::OtherSource(FIRST_NODE),
             "a client sent from a node that is not its own: 7f000001bc47",
         ),
         (
             ServerDrop::TooLong(1425),
-            "1425 bytes, over the 1424 that a client takes",
+            "1425 bytes, a client accepts at most 1424",
         ),
         (
             ServerDrop::NoSuchNode(FIRST_NODE),
@@ -135,7 +135,10 @@ fn texts(rt: HostRuntime) -> Result<(), Fail> {
             ServerDrop::FromElsewhere(Network(0x99)),
             "a client sent from network 00000099",
         ),
-        (ServerDrop::Response, "a client told routes or services"),
+        (
+            ServerDrop::Response,
+            "a client advertised routes or services",
+        ),
     ];
     for (drop, wanted) in rows {
         let text = format!(in rt.alloc(); "{drop}")?;
