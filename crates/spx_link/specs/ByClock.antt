@@ -1,5 +1,5 @@
--- A link that nobody paces: its poll, with a new unit wherever the allocation has room and with units
--- that go again by the clock alone. The rules that `Poll` has besides are the same.
+-- A link that is never paced: it sends a new unit if the allocation has room, and retransmits by the clock
+-- alone. The other rules are those of `Poll`.
 use Rattle.std.specs.Prelude.{◌≡◌, ℕ, Bool, false, ◌&&◌, nat_lt, Option, None, slice_get}
 use Rattle.std.specs.Prelude.{if◌then◌else◌}
 use Rattle.spx_link.specs.declared.state.State.{State}
@@ -10,11 +10,11 @@ use Rattle.spx_link.specs.LinkView.{LinkView, is_working}
 use Rattle.spx_link.specs.Poll.{OutgoingView, confirms, is_waiting, late, poll_late, poll_request}
 use Rattle.spx_link.specs.Poll.{replies, sends}
 
--- the window, and whether units go again by hand
+-- the window, and whether the link is manual
 abbrev pub pace_of : LinkView → ℕ × Bool
 pace_of l = (l.window, l.manual)
 
--- both are those of a new link
+-- both as in a new link
 pub record IsUnpaced (l : LinkView) : Type 0 where
   pub window : l.window ≡ most_units
   pub manual : l.manual ≡ false
@@ -23,7 +23,7 @@ pub record IsUnpaced (l : LinkView) : Type 0 where
 abbrev pub late_by_clock : LinkView → ℕ → Option ℕ
 late_by_clock l now = if is_working l.state then late l now else None
 
--- before that, the next unit, where the allocation has room
+-- before that, the next unit, if the allocation has room
 abbrev pub may_send_by_clock : LinkView → Bool
 may_send_by_clock l =
     is_working l.state && (is_waiting l && (nat_lt 0 l.room && nat_lt l.out most_units))

@@ -1,4 +1,4 @@
--- Words of private functions: a packet whose body is still in the queue.
+-- For private functions: a packet whose body is still in the queue.
 use Rattle.std.specs.Prelude.{ℕ, List, [], Option, None, Some, slice_get}
 use Rattle.spx_link.specs.declared.queue.Queued.{Queued}
 use Rattle.spx_link.specs.declared.outgoing.Chosen.{Chosen}

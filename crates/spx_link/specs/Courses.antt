@@ -1,4 +1,4 @@
--- How far a connection comes: what is true of a link in its states, and kept by each of its calls.
+-- What is true of a link in each of its states, and kept by each of its calls.
 use Rattle.std.specs.Prelude.{◌≡◌, ℕ, ◌+◌, Bool, true, false, [], length}
 use Rattle.spx_link.specs.declared.state.State.{State}
 use Rattle.spx_link.specs.declared.state.State.TheVariants.{Opening, Live, Ending, PeerEnded}
@@ -6,7 +6,7 @@ use Rattle.spx_link.specs.declared.state.State.TheVariants.{Confirmed, Lost}
 use Rattle.spx_link.specs.LinkView.{LinkView}
 use Rattle.spx_link.specs.SequenceMarks.{mark}
 
--- the states before an end is queued here or came from the peer
+-- the states in which no end was queued here and none was received from the peer
 abbrev pub is_open : State → Bool
 is_open Opening = true
 is_open Live = true
@@ -15,7 +15,7 @@ is_open PeerEnded = false
 is_open Confirmed = false
 is_open Lost = false
 
--- the states that read no packet but one that joins
+-- the states that read no packet except one that joins
 abbrev pub is_apart : State → Bool
 is_apart Opening = true
 is_apart Live = false
@@ -36,6 +36,6 @@ pub record IsWhole (l : LinkView) : Type 0 where
 abbrev pub IsWholeOnceConfirmed : LinkView → Type 0
 IsWholeOnceConfirmed l = l.state ≡ Confirmed → IsWhole l
 
--- so many units were taken: with those held they are the units before the one that is expected
+-- so many units were taken. With the units held they are all units before the expected one
 abbrev pub HasTaken : ℕ → LinkView → Type 0
 HasTaken taken l = mark (taken + length l.held) ≡ l.expected

@@ -1,4 +1,4 @@
--- When a link acts by itself, and till when it waits for a packet or a call.
+-- When a link next acts by itself. Until then it waits for a packet or a call.
 use Rattle.std.specs.Prelude.{◌≡◌, ℕ, ◌+◌, ◌^◌, ◌<◌, ◌≤◌, ◌==◌, ◌&&◌, ◌||◌, min, nat_lt, Bool, List}
 use Rattle.std.specs.Prelude.{[], ◌∷◌, take, Option, None, Some, if◌then◌else◌}
 use Rattle.spx_link.specs.declared.queue.Queued.{Queued}
@@ -10,18 +10,18 @@ use Rattle.spx_link.specs.LinkView.{LinkView, is_working}
 use Rattle.spx_link.specs.Links.{LinksView, link_at}
 use Rattle.spx_link.specs.Poll.{is_waiting, may_send, asked_again, poll_link}
 
--- a poll at a moment gives nothing, and leaves the link as it was
+-- a poll at this time gives nothing, and leaves the link unchanged
 abbrev pub IsQuiet : LinkView → ℕ → Type 0
 IsQuiet l now = poll_link l now ≡ (None, l)
 
--- before this moment every poll is quiet, and from it on none is. Where there is none, every poll
--- is quiet at every moment that a clock can show
+-- before this time every poll is quiet, and from then on none is. If there is no such time, every poll is
+-- quiet at every time that a clock can show
 abbrev pub IsNextDue : LinkView → Option ℕ → Type 0
 IsNextDue l None = (now : ℕ) → now < 2 ^ 64 → IsQuiet l now
 IsNextDue l (Some t) =
     ((now : ℕ) → now < t → IsQuiet l now) × ((now : ℕ) → t ≤ now → IsQuiet l now → ⊥)
 
--- before this moment every poll of every link is quiet, and from it on that of some link is not
+-- before this time every poll of every link is quiet, and from then on the poll of some link is not
 abbrev pub IsNextDueOfAll : LinksView → Option ℕ → Type 0
 IsNextDueOfAll s None =
     (id now : ℕ) (l : LinkView) → link_at s id ≡ Some l → now < 2 ^ 64 → IsQuiet l now
@@ -30,32 +30,32 @@ IsNextDueOfAll s (Some t) =
     × ((id : ℕ) × (l : LinkView) × (link_at s id ≡ Some l)
     × ((now : ℕ) → t ≤ now → IsQuiet l now → ⊥))
 
--- ---- words of the private functions
+-- ---- for private functions
 
--- the least of a moment and another, where there is one
+-- the earlier of a time and another, if there is one
 abbrev pub earlier : ℕ → Option ℕ → ℕ
 earlier at None = at
 earlier at (Some t) = min at t
 
--- the least moment at which one of these units was last sent
+-- the earliest time at which one of these units was last sent
 abbrev pub earliest : List Queued → Option ℕ
 earliest [] = None
 earliest (q ∷ qs) = Some (earlier q.at (earliest qs))
 
--- when what was sent at a moment is sent again, where a clock can show it
+-- when a packet that was sent at a given time is retransmitted, if a clock can show that time
 abbrev pub again_at : ℕ → Option ℕ
 again_at at = if nat_lt (at + resend_after) (2 ^ 64) then Some (at + resend_after) else None
 
--- the earlier of two, where there are
+-- the earlier of two times, if there are any
 abbrev pub sooner : Option ℕ → Option ℕ → Option ℕ
 sooner None b = b
 sooner (Some a) b = Some (earlier a b)
 
--- something is sent at any moment
+-- something can be sent at any time
 abbrev pub owes_now : LinkView → Bool
 owes_now l = l.owes_reply || (l.owes_confirm || (may_send l || l.owes_ack))
 
--- where nothing is outstanding, the probe
+-- the next probe, if nothing is outstanding
 abbrev pub probe_due : LinkView → Option ℕ
 probe_due l = if is_waiting l && (l.room == 0) then again_at l.spoke else None
 
@@ -63,7 +63,7 @@ abbrev pub sent_due : LinkView → Option ℕ → Option ℕ
 sent_due l None = probe_due l
 sent_due l (Some at) = again_at at
 
--- by hand, what was asked for goes at once, and of what is outstanding nothing goes by itself
+-- on a manual link, the unit asked for is due at once, and no other outstanding unit is due by itself
 abbrev pub asked_due : LinkView → Option ℕ → Option ℕ
 asked_due l (Some place) = Some 0
 asked_due l None = if l.out == 0 then probe_due l else None
@@ -94,7 +94,7 @@ due_at Lost l = None
 abbrev pub due_link : LinkView → Option ℕ
 due_link l = due_at l.state l
 
--- of links, the one that is due first
+-- the earliest due time of some links
 abbrev pub soonest : List LinkView → Option ℕ
 soonest [] = None
 soonest (l ∷ ls) = sooner (due_link l) (soonest ls)

@@ -1,5 +1,5 @@
--- What the calls of a link do to its numbers and to the ends of its connection, apart from moments
--- and marks.
+-- What the calls of a link do to its numbers, and to the ids and addresses of its two ends. Times and
+-- retransmission counts are left out.
 use Rattle.std.specs.Prelude.{◌≡◌, ⊤, ℕ, Bool, true, ◌+◌, ◌-◌, ◌<◌, [], Option, Some, None}
 use Rattle.ipx_wire.specs.declared.spx.packet.SpxHeader.{SpxHeader}
 use Rattle.ipx_wire.specs.declared.address.Socket.{Socket}
@@ -20,8 +20,7 @@ use Rattle.spx_link.specs.Receive.{is_system}
 
 -- ---- a poll
 
--- a unit that is sent for the first time takes a number and its room, and is outstanding from then
--- on
+-- a unit that is sent for the first time takes a number and one unit of room, and becomes outstanding
 abbrev pub numbers_after_sent : Sent → Numbers → Numbers
 numbers_after_sent Sents.Request n = n
 numbers_after_sent Sents.Reply n = n
@@ -46,7 +45,7 @@ numbers_read h n =
 abbrev pub more_held : ℕ → Numbers → Numbers
 more_held count n = record n { expected = mark (n.expected + count); held = n.held + count }
 
--- after an answer to a packet, where with a unit that is kept so many units become held
+-- after an answer to a packet. If its unit is kept, `count` units become held
 abbrev pub numbers_after_received : Received → ℕ → SpxHeader → Numbers → Numbers
 numbers_after_received Joined count h n = numbers_read h n
 numbers_after_received Kept count h n = more_held count (numbers_read h n)
@@ -60,13 +59,13 @@ numbers_after_received Stranger count h n = n
 
 -- ---- a take
 
--- where a unit is held it goes
+-- if a unit is held, one fewer is
 abbrev pub numbers_after_take : Numbers → Numbers
 numbers_after_take n = record n { held = n.held - 1 }
 
--- ---- the ends
+-- ---- the ids and addresses
 
--- the id here, the socket here and the address there never change, nor does which side asked
+-- the link's own id, local socket and remote address never change, nor does which side asked
 pub record SameEnds (old new : LinkView) : Type 0 where
   pub own : new.own ≡ old.own
   pub local : new.local ≡ old.local
@@ -78,7 +77,7 @@ pub record SamePeer (old new : LinkView) : Type 0 where
   pub ends : SameEnds old new
   pub peer : new.peer ≡ old.peer
 
--- the ends of a new link, and whether the other side asked for it
+-- the ids and addresses of a new link, and whether the other side requested it
 pub record HasEnds (l : LinkView) (id : ℕ) (socket : Socket) (address : Address) (peer_id : ℕ)
     (was_asked : Bool) : Type 0 where
   pub own : l.own ≡ id
@@ -87,8 +86,8 @@ pub record HasEnds (l : LinkView) (id : ℕ) (socket : Socket) (address : Addres
   pub peer : l.peer ≡ peer_id
   pub accepted : l.accepted ≡ was_asked
 
--- a link that joined was opening before, and is live with the id that the reply came from. The
--- reply was to its own id, and carries no unit
+-- a link that joins was opening, and becomes live with the id that the reply came from. The reply was to the
+-- link's own id, and carries no unit
 pub record Joins (old new : LinkView) (h : SpxHeader) : Type 0 where
   pub before : old.state ≡ Opening
   pub after : new.state ≡ Live
@@ -98,7 +97,7 @@ pub record Joins (old new : LinkView) (h : SpxHeader) : Type 0 where
   pub below : h.from_id < no_id
   pub unit : is_system h ≡ true
 
--- a request, which names no id of a peer
+-- a request, which names no peer id
 pub record IsRequest (o : OutgoingView) : Type 0 where
   pub what : o.what ≡ Sents.Request
   pub to : o.header.to_id ≡ no_id

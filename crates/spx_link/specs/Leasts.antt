@@ -1,4 +1,4 @@
--- Words of private functions: the least id of the links of which a fact holds.
+-- For private functions: the least id of the links that satisfy a condition.
 use Rattle.std.specs.Prelude.{◌≡◌, ℕ, ◌<◌, ◌≤◌, min, Bool, true, false, List, Option, Some, None}
 use Rattle.std.specs.Prelude.{All, Any}
 use Rattle.ipx_wire.specs.declared.address.Address.{Address}
@@ -16,7 +16,7 @@ pub record IsFrom (address : Address) (peer_id : ℕ) (l : LinkView) : Type 0 wh
   pub remote : l.remote ≡ address
   pub peer : l.peer ≡ peer_id
 
--- the least so far, and one more that may count
+-- the least id so far, after one more that may count
 abbrev pub lesser_of : ℕ → Bool → Option ℕ → Option ℕ
 lesser_of id false r = r
 lesser_of id true None = Some id

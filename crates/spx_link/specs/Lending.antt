@@ -1,4 +1,4 @@
--- What a link is once the packet that it lent is given back.
+-- The state of a link after the packet that it lent is given back.
 use Rattle.std.specs.Prelude.{◌≡◌, ⊤}
 use mathlib.Core.Option.{none}
 use Rattle.std.specs.Borrow.{follows_so, MutBor, Fml}

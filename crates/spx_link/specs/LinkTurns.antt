@@ -1,5 +1,4 @@
--- Which unit a link keeps, and what a packet does to its units and to how far its connection has
--- come.
+-- Which unit a link keeps, and what a packet does to its units and its state.
 use Rattle.std.specs.Prelude.{◌≡◌, ℕ, ◌<◌, Bool, true, false, List, [], ◌++◌, map, Option, Some}
 use Rattle.ipx_wire.specs.declared.spx.packet.SpxHeader.{SpxHeader}
 use Rattle.spx_link.specs.declared.received.Received.{Received}
@@ -33,15 +32,15 @@ pub record IsInTurn (l : LinkView) (h : SpxHeader) : Type 0 where
   pub room : distance h.seq l.expected < free l
   pub new : is_taken (distance h.seq l.expected) l.ahead ≡ false
 
--- what is kept from `expected` on, once the packet's unit is at its place
+-- what is kept from `expected` on, after the packet's unit is stored at its place
 abbrev pub kept_with : LinkView → SpxHeader → List ℕ → List (Option Unit)
 kept_with l h body = put (distance h.seq l.expected) (unit_in h body) l.ahead
 
--- the units that are held from then on: those that stand in order
+-- the units that become held: those that are in order
 abbrev pub newly_held : LinkView → SpxHeader → List ℕ → List Unit
 newly_held l h body = leading (kept_with l h body)
 
--- what is kept, from the first unit held on
+-- what is kept, from the first held unit on
 abbrev pub kept : LinkView → List (Option Unit)
 kept l = map Some l.held ++ l.ahead
 
@@ -69,7 +68,7 @@ ended_after PeerEnded ended = true
 ended_after Confirmed ended = ended
 ended_after Stranger ended = ended
 
--- a link that is confirmed had queued its end, and nothing of its own is left to acknowledge
+-- a link that becomes confirmed had queued its end, and everything it sent is acknowledged
 pub record ConfirmsWhole (old new : LinkView) : Type 0 where
   pub end_queued : old.end_queued ≡ true
   pub queue : new.queue ≡ []

@@ -1,4 +1,4 @@
--- What a link holds, as its contracts see it (one end of a connection of Novell SPX).
+-- The state of a link, as its contracts see it (one end of a connection of Novell SPX).
 use Rattle.std.specs.Prelude.{ℕ, ◌+◌, ◌-◌, ◌==◌, Bool, true, false, List, [], length, nat_le}
 use Rattle.std.specs.Prelude.{Option, None}
 use Rattle.ipx_wire.specs.declared.address.Socket.{Socket}
@@ -11,9 +11,8 @@ use Rattle.spx_link.specs.declared.state.State.TheVariants.{Confirmed, Lost}
 use Rattle.spx_link.specs.declared.numbers.Numbers.{Numbers}
 use Rattle.spx_link.specs.Limits.{resend_after, end_stream, most_units}
 
--- the first `out` units of the queue are sent and not acknowledged. Held units are received in
--- order and not taken. Those ahead came before one that is missing: they stand from `expected` on,
--- None at a gap
+-- the first `out` units of the queue are sent and not acknowledged. Held units were received in order and not
+-- taken. Units ahead were received before a missing one. They lie from `expected` on, with None at a gap
 pub record LinkView : Type 0 where
   pub state : State
   pub own : ℕ
@@ -38,8 +37,8 @@ pub record LinkView : Type 0 where
   pub accepted : Bool
   pub end_queued : Bool
   pub peer_ended : Bool
-  -- how many units may be outstanding; whether units go again by the clock or where they are asked
-  -- for; and the place that was asked for, counted from the first outstanding unit
+  -- how many units may be outstanding; whether units are retransmitted only when asked for, or by the clock;
+  -- and the place that was asked for, counted from the first outstanding unit
   pub window : ℕ
   pub manual : Bool
   pub again : Option ℕ
@@ -48,7 +47,7 @@ pub record LinkView : Type 0 where
 abbrev pub free : LinkView → ℕ
 free l = l.buffers - length l.held
 
--- 500 ms or more have passed since a moment; none where it lies ahead
+-- 500 ms or more have passed since a time; false if it is in the future
 abbrev pub due : ℕ → ℕ → Bool
 due at now = nat_le (at + resend_after) now
 
@@ -84,7 +83,7 @@ numbers_of l =
       buffers = l.buffers;
     }
 
--- a link as it is made, between an id of its own and a peer's
+-- a new link, between its own id and the peer's
 abbrev pub made_link : State → ℕ → ℕ → Socket → Address → ℕ → ℕ → Bool → LinkView
 made_link state own peer local remote buffers now accepted =
     record {

@@ -1,4 +1,4 @@
--- What the links are once the packet that one of them lent is given back: a fact holds of them.
+-- The state of the links after the packet that one of them lent is given back: it satisfies a condition.
 use Rattle.std.specs.Prelude.{⊤}
 use mathlib.Core.Option.{none}
 use Rattle.std.specs.Borrow.{follows_so, MutBor, Fml}

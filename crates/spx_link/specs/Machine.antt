@@ -1,14 +1,13 @@
--- A connection whose numbers never wrap: its two ends, and every packet that either ever sent.
--- Where the 16 bits of Novell SPX stand for one position only, they stand for those of this
--- machine.
+-- A connection whose numbers never wrap: its two ends, and every packet that either ever sent. As long as the
+-- 16-bit numbers of Novell SPX are unambiguous, they identify the positions of this machine.
 use Rattle.std.specs.Prelude.{ℕ, zero, suc, ◌+◌, ◌-◌, ◌<◌, ◌≤◌, ◌≡◌, ◌&&◌, not, Bool, true, false}
 use Rattle.std.specs.Prelude.{drop, nat_lt, nat_le, max, List, [], ◌∷◌, ◌++◌, length, Option, None}
 use Rattle.std.specs.Prelude.{Some, Contains, All, if◌then◌else◌}
 use Rattle.spx_link.specs.declared.unit.Unit.{Unit}
 
--- a packet that was sent: the position of its unit or none, and what its sender had read and
--- allowed as it was sent. Beside them, which no step reads: how many units its sender and its
--- receiver had sent then, its own among them.
+-- a packet that was sent: the position of its unit or none, and what its sender had read and allowed when it
+-- was sent. No step reads the last two: how many units its sender and its receiver had sent then, with this
+-- unit
 pub record Packet : Type 0 where
   pub position : Option ℕ
   pub read : ℕ
@@ -16,10 +15,10 @@ pub record Packet : Type 0 where
   pub sender_sent : ℕ
   pub receiver_sent : ℕ
 
--- an end: the positions below `base` are acknowledged, those below `sent` sent, those below `limit`
--- may be sent; of its peer's, those below `read` are read and those below `taken` taken, and `kept`
--- says of the positions from `read` on which are kept ahead of those that are missing. Its units,
--- from position 0 on, and its bag: every packet that it ever sent
+-- an end: the positions below `base` are acknowledged, those below `sent` are sent, and those below `limit`
+-- may be sent. Of the peer's positions, those below `read` are read and those below `taken` taken. `kept`
+-- says which positions from `read` on are kept ahead of missing ones. Its units count from position 0. Its
+-- bag is every packet that it ever sent
 pub record End : Type 0 where
   pub base : ℕ
   pub sent : ℕ
@@ -52,7 +51,7 @@ new_end buffers =
 abbrev pub start : ℕ → ℕ → Machine
 start a b = record { one = new_end a; two = new_end b }
 
--- ---- what an end c becomes, whose peer is d
+-- ---- how an end c changes, whose peer is d
 
 -- the packet of this position, or of none, that it sends now
 abbrev pub packet_now : Option ℕ → End → End → Packet
@@ -81,7 +80,7 @@ sent_next c d = mailed (Some c.sent) (one_more_sent c) d
 abbrev pub learned : Packet → End → End
 learned p c = record c { base = max c.base p.read; limit = max c.limit p.allows }
 
--- a mark at a place, before which the list grows where it is too short
+-- a mark at a place. If the list is too short, it grows up to there
 abbrev pub put_mark : ℕ → List Bool → List Bool
 put_mark zero [] = true ∷ []
 put_mark zero (x ∷ xs) = true ∷ xs
@@ -93,7 +92,7 @@ is_marked k [] = false
 is_marked zero (x ∷ xs) = x
 is_marked (suc k) (x ∷ xs) = is_marked k xs
 
--- how many positions stand before the first gap
+-- how many positions come before the first gap
 abbrev pub lead : List Bool → ℕ
 lead [] = 0
 lead (false ∷ xs) = 0
@@ -108,7 +107,7 @@ is_wanted c n =
 abbrev pub risen : List Bool → End → End
 risen kept c = record c { read = c.read + lead kept; kept = drop (lead kept) kept }
 
--- it kept the unit of this position, once, where there is a buffer for it
+-- it kept the unit of this position, unless it was kept before or no buffer is free
 abbrev pub read_unit : Option ℕ → End → End
 read_unit None c = c
 read_unit (Some n) c = if is_wanted c n then risen (put_mark (n - c.read) c.kept) c else c
@@ -119,7 +118,7 @@ got p c = read_unit p.position (learned p c)
 
 -- ---- steps
 
--- an end sends its next unit, sends one again, sends a packet without a unit, gets a packet of its
+-- an end sends its next unit, retransmits one, or sends a packet without a unit. Or it gets a packet of its
 -- peer (which stays in the bag), takes a unit that it read, or gains units to send
 pub data Act : Type 0 where
   Sends : Act
@@ -129,7 +128,7 @@ pub data Act : Type 0 where
   Takes : Act
   Gains : List Unit → Act
 
--- the end c, whose peer is d, becomes c' by this act: where it may, and what it does
+-- the end c, whose peer is d, becomes c' by this act: when it is allowed, and what it does
 abbrev pub Moves : Act → End → End → End → Type 0
 Moves Sends c d c' = (c.sent < c.limit) × (c.sent < length c.units) × (c' ≡ sent_next c d)
 Moves (SendsAgain n) c d c' = (c.base ≤ n) × (n < c.sent) × (c' ≡ mailed (Some n) c d)
@@ -152,18 +151,18 @@ abbrev pub IsRun : List Step → Machine → Machine → Type 0
 IsRun [] m n = n ≡ m
 IsRun (s ∷ steps) m n = (next : Machine) × IsStep s m next × IsRun steps next n
 
--- ---- what is so after every list of steps
+-- ---- what is true after every list of steps
 
--- c's numbers in line with those of the end d that reads it
+-- c's numbers compared with those of the end d that reads it
 pub record IsChain (c d : End) : Type 0 where
   pub base : c.base ≤ d.read
   pub read : d.read ≤ c.sent
   pub sent : c.sent ≤ c.limit
   pub limit : c.limit ≤ d.taken + d.buffers
 
--- what c has outstanding and may still send fits the buffers of its peer d, and what it holds fits
--- its own; it sent no more units than it has, read no more than its peer has, and kept no position
--- that its peer did not send
+-- what c has outstanding and may still send fits the buffers of its peer d, and what it holds fits its own.
+-- It sent no more units than it has, read no more than its peer has, and kept no position that its peer did
+-- not send
 pub record IsWithin (c d : End) : Type 0 where
   pub limit : c.limit ≤ c.base + d.buffers
   pub taken : c.taken ≤ c.read
@@ -174,12 +173,12 @@ pub record IsWithin (c d : End) : Type 0 where
 
 -- what a packet of the end c, sent to d, says
 pub record WasSent (c d : End) (p : Packet) : Type 0 where
-  -- no more than is so now
+  -- no more than is true now
   pub read : p.read ≤ c.read
   pub allows : p.allows ≤ c.taken + c.buffers
   pub sender_sent : p.sender_sent ≤ c.sent
   pub receiver_sent : p.receiver_sent ≤ d.sent
-  -- what was so in line as it was sent
+  -- how these compared when it was sent
   pub reads_sent : p.read ≤ p.receiver_sent
   pub allows_sent : p.receiver_sent ≤ p.allows
   pub spread : p.allows ≤ p.read + c.buffers
@@ -196,8 +195,7 @@ pub record AreSound (c d : End) : Type 0 where
   pub bag : All (WasSent c d) c.bag
   pub peer_bag : All (WasSent d c) d.bag
 
--- an end after more steps: its numbers only grow, its units only gain, and its bag keeps every
--- packet
+-- an end after more steps: its numbers only grow, units are only added, and its bag keeps every packet
 pub record Grows (old new : End) : Type 0 where
   pub base : old.base ≤ new.base
   pub sent : old.sent ≤ new.sent

@@ -1,5 +1,4 @@
--- Words of private functions: a packet whose body is still in the queue of one of the
--- links.
+-- For private functions: a packet whose body is still in the queue of one of the links.
 use Rattle.std.specs.Prelude.{ℕ, List, [], Option, None, Some, slice_get}
 use Rattle.spx_link.specs.Chosen.{body_at}
 use Rattle.spx_link.specs.LinkView.{LinkView}

@@ -1,4 +1,4 @@
--- What the packet that a poll gives says of the link that gives it.
+-- What the packet that a poll gives says about its link.
 use Rattle.std.specs.Prelude.{◌≡◌, ℕ, ◌+◌, ◌<◌, ◌⊎◌, ◌==◌, true, [], Option, None, Some, slice_get}
 use Rattle.spx_link.specs.declared.unit.Unit.{Unit}
 use Rattle.spx_link.specs.declared.outgoing.Sent.{Sent}
@@ -12,7 +12,7 @@ use Rattle.spx_link.specs.Poll.{OutgoingView, allocation, base}
 use Rattle.spx_link.specs.Receive.{is_system}
 use Rattle.spx_link.specs.Units.{queued_units, as_sent, unit_in}
 
--- it goes to an id, without a unit, and has the number of the next one
+-- it is sent to an id, has no unit, and has the number of the next unit
 pub record IsWithoutUnit (l : LinkView) (id : ℕ) (o : OutgoingView) : Type 0 where
   pub to : o.header.to_id ≡ id
   pub unit : is_system o.header ≡ true
@@ -26,8 +26,7 @@ pub record CarriesToPeer (l : LinkView) (u : Unit) (o : OutgoingView) : Type 0 w
   pub body : o.body ≡ u.body.items
   pub system : is_system o.header ≡ (u.stream == confirm_stream)
 
--- the next unit of the queue, under the next number, where the peer allows one more and fewer than
--- may be are outstanding
+-- the next unit of the queue, under the next number, if the peer allows one more and the window is not full
 pub record IsNextUnit (l : LinkView) (o : OutgoingView) : Type 0 where
   pub unit : Unit
   pub queued : slice_get (queued_units l) l.out ≡ Some unit
@@ -38,7 +37,7 @@ pub record IsNextUnit (l : LinkView) (o : OutgoingView) : Type 0 where
   pub paced : l.out < l.window
   pub working : is_working l.state ≡ true
 
--- a unit that is outstanding, under its own number
+-- an outstanding unit, under its own number
 pub record IsOutstandingUnit (l : LinkView) (o : OutgoingView) : Type 0 where
   pub unit : Unit
   pub place : ℕ
@@ -48,7 +47,7 @@ pub record IsOutstandingUnit (l : LinkView) (o : OutgoingView) : Type 0 where
   pub number : o.header.seq ≡ mark (base l + place)
   pub working : is_working l.state ≡ true
 
--- a request is given while opening alone
+-- a request is given only while opening
 abbrev pub IsOfKind : Sent → LinkView → OutgoingView → Type 0
 IsOfKind Sents.Request l o = IsWithoutUnit l no_id o × (l.state ≡ Opening)
 IsOfKind Sents.Reply l o = IsWithoutUnit l l.peer o
@@ -58,14 +57,13 @@ IsOfKind Sents.Again l o = IsOutstandingUnit l o
 IsOfKind Sents.Ack l o = IsWithoutUnit l l.peer o
 IsOfKind Sents.Probe l o = IsWithoutUnit l l.peer o
 
--- whatever it is sent for, it is from the link's own id, and has the number that the link expects
--- and what it allows
+-- every packet is from the link's own id, and has the number that the link expects and its allocation
 pub record IsGiven (l : LinkView) (o : OutgoingView) : Type 0 where
   pub from : o.header.from_id ≡ l.own
   pub read : o.header.ack ≡ l.expected
   pub allows : o.header.limit ≡ allocation l
   pub kind : IsOfKind o.what l o
 
--- the state stays, or nothing is given and the link is lost
+-- the state is unchanged, or nothing is given and the link is lost
 abbrev pub StaysOrIsLost : State → State → Option OutgoingView → Type 0
 StaysOrIsLost before after given = (after ≡ before) ⊎ ((after ≡ Lost) × (given ≡ None))

@@ -1,4 +1,4 @@
--- What a link answers to a packet and what it becomes (Novell SPX, and this project's profile): one
+-- How a link answers a packet and the state that it leaves (Novell SPX, and this project's profile), with one
 -- function for each rule.
 use Rattle.std.specs.Prelude.{ℕ, ◌+◌, ◌==◌, nat_lt, nat_le, Bool, true, false, ◌&&◌, ◌||◌, not}
 use Rattle.std.specs.Prelude.{List, [], ◌∷◌, ◌++◌, length, drop, zero, suc, Option, Some, None}
@@ -48,7 +48,7 @@ read_numbers l h = record (read_limit h.limit (read_ack h.ack l)) { probes = 0 }
 abbrev pub is_system : SpxHeader → Bool
 is_system h = (h.system && not (h.stream == end_stream)) || (h.stream == confirm_stream)
 
--- its end was asked for, all that it sent is acknowledged, and it was not confirmed before
+-- the link's end was queued, all that it sent is acknowledged, and it was not confirmed before
 abbrev pub may_confirm : LinkView → SpxHeader → Bool
 may_confirm l h =
     (h.stream == confirm_stream)
@@ -65,12 +65,12 @@ read_system l h =
 
 -- ---- a unit
 
--- how far it stands above the next one that is expected
+-- how far it is ahead of the next expected unit
 abbrev pub beyond_expected : LinkView → SpxHeader → ℕ
 beyond_expected l h = distance h.seq l.expected
 
--- it stands behind: an acknowledgement is owed, or for the end of a peer that has ended a
--- confirmation in its place
+-- it was received before, so an acknowledgement is owed. For the end of a peer that has ended, a confirmation
+-- is owed instead
 abbrev pub repeated : LinkView → SpxHeader → LinkView
 repeated l h =
     if (h.stream == end_stream) && l.peer_ended
@@ -85,7 +85,7 @@ after_end States.PeerEnded = States.PeerEnded
 after_end States.Confirmed = States.Confirmed
 after_end States.Lost = States.Lost
 
--- a unit at a place of those ahead; where these are too few, gaps lead up to it
+-- a unit at a place of those ahead. If the list is too short, gaps lead up to the place
 abbrev pub put : ℕ → Unit → List (Option Unit) → List (Option Unit)
 put zero u [] = Some u ∷ []
 put zero u (x ∷ xs) = Some u ∷ xs
@@ -108,8 +108,7 @@ abbrev pub any_end : List Unit → Bool
 any_end [] = false
 any_end (u ∷ us) = is_end u || any_end us
 
--- these units stand in order now, and the last of them is the peer's end: what is kept behind it is
--- dropped
+-- these units are now in order, and the last of them is the peer's end. What is kept after it is dropped
 abbrev pub keep_end : LinkView → List Unit → LinkView
 keep_end l us =
     record l {
@@ -121,7 +120,7 @@ keep_end l us =
       state = after_end l.state;
     }
 
--- these units stand in order now, and the peer goes on
+-- these units are now in order, and the peer has not ended
 abbrev pub keep_units : LinkView → List Unit → List (Option Unit) → LinkView
 keep_units l us ahead =
     record l {
@@ -131,7 +130,7 @@ keep_units l us ahead =
       owes_ack = true;
     }
 
--- of what is kept from `expected` on, the units that stand in order are held
+-- of what is kept from `expected` on, the units in order are held
 abbrev pub settle : LinkView → List (Option Unit) → Received × LinkView
 settle l ahead =
     if any_end (leading ahead) then (PeerEnded, keep_end l (leading ahead))
@@ -144,7 +143,7 @@ keep l h body =
     then (Repeat, record l { owes_ack = true })
     else settle l (put (beyond_expected l h) (unit_in h body) l.ahead)
 
--- a unit past the free buffers is not kept
+-- a unit beyond the free buffers is not kept
 abbrev pub in_turn : LinkView → SpxHeader → List ℕ → Received × LinkView
 in_turn l h body =
     if nat_lt (beyond_expected l h) (free l) then keep l h body
@@ -163,7 +162,7 @@ abbrev pub read_packet : LinkView → SpxHeader → List ℕ → Received × Lin
 read_packet l h body =
     if is_system h then read_system (read_numbers l h) h else read_unit (read_numbers l h) h body
 
--- a packet that is to the link and from its peer is read, any other one changes nothing
+-- a packet to the link and from its peer is read, any other changes nothing
 abbrev pub is_own : LinkView → SpxHeader → Bool
 is_own l h = (h.to_id == l.own) && (h.from_id == l.peer)
 

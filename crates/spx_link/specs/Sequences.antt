@@ -1,4 +1,4 @@
--- Units and their stamps as one list: words of private functions.
+-- For private functions: units and their stamps as one list.
 use Rattle.std.specs.Prelude.{List, [], ◌∷◌}
 use Rattle.spx_link.specs.declared.unit.Unit.{Unit}
 use Rattle.spx_link.specs.declared.stamped.Stamp.{Stamp}

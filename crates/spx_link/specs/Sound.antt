@@ -1,5 +1,4 @@
--- What is true of the ids of the links that a host holds: they are from 0001 to FFFE, and no two
--- are equal.
+-- What is true of the ids of a host's links: they are from 0001 to FFFE, and no two are equal.
 use Rattle.std.specs.Prelude.{◌≡◌, ℕ, ◌<◌, ◌≤◌, ◌==◌, ◌&&◌, nat_lt, Bool, true, false, List, []}
 use Rattle.std.specs.Prelude.{◌∷◌, map, length, ⊤}
 use Rattle.std.specs.List.{list_all, list_any}
@@ -22,7 +21,7 @@ AreIdsApart (n ∷ ns) = (is_among ns n ≡ false) × AreIdsApart ns
 abbrev pub is_id : ℕ → Bool
 is_id n = nat_lt 0 n && nat_lt n no_id
 
--- the id last given, and the live ids
+-- the id assigned last, and the live ids
 pub record AreIdsSound (given : ℕ) (ids : List ℕ) : Type 0 where
   pub apart : AreIdsApart ids
   pub in_range : list_all is_id ids ≡ true

@@ -1,4 +1,4 @@
--- The units of a link: those queued, and the one that a packet carries.
+-- The units of a link: those queued, and the unit that a packet carries.
 use Rattle.std.specs.Prelude.{◌≡◌, ℕ, ◌==◌, ◌&&◌, not, false, List, [], map, if◌then◌else◌}
 use Rattle.ipx_wire.specs.declared.spx.packet.SpxHeader.{SpxHeader}
 use Rattle.spx_link.specs.declared.unit.Unit.{Unit}
@@ -9,7 +9,7 @@ use Rattle.spx_link.specs.LinkView.{LinkView, is_end, numbers_of}
 abbrev pub unit_of : Queued → Unit
 unit_of q = q.unit
 
--- the units queued, of which the first `out` are outstanding
+-- the units queued. The first `out` of them are outstanding
 abbrev pub queued_units : LinkView → List Unit
 queued_units l = map unit_of l.queue
 
@@ -31,18 +31,18 @@ unit_in h body =
       body = record { items = if h.stream == end_stream then [] else body };
     }
 
--- the units queued, those held and those ahead stay the same
+-- the units queued, held and kept ahead are unchanged
 pub record SameUnits (old new : LinkView) : Type 0 where
   pub queued : queued_units new ≡ queued_units old
   pub held : new.held ≡ old.held
   pub ahead : new.ahead ≡ old.ahead
 
--- whether the end was queued, and whether the peer's came, stays the same
+-- whether the end was queued, and whether the peer's was received, is unchanged
 pub record SameEndings (old new : LinkView) : Type 0 where
   pub end_queued : new.end_queued ≡ old.end_queued
   pub peer_ended : new.peer_ended ≡ old.peer_ended
 
--- a link without units, of which the peer allows so many
+-- a link without units, whose peer allows so many
 pub record IsEmpty (l : LinkView) (buffers room : ℕ) : Type 0 where
   pub queued : queued_units l ≡ []
   pub held : l.held ≡ []

@@ -1,4 +1,4 @@
-//! The buffers of a link: the units that came and were not taken.
+//! The receive buffers of a link: the units that were received and not taken.
 
 ghost use Rattle.std.specs.Prelude.{◌≡◌, ◌+◌, ◌++◌, ◌≤◌, ◌<◌, [], ◌∷◌, drop, length, option_copied, slice_get};
 ghost use Rattle.std.specs.Prelude.{take, IfOk, Some};
@@ -17,10 +17,10 @@ use ipx_wire::{Fragment, SPX_MAX_DATA_SIZE, SpxHeader};
 use std::alloc::{AllocError, Global};
 use std::marker::Model;
 
-/// The units that came and were not taken, in one ring that is made with its link.
+/// The units that were received and not taken, in one ring that is allocated with the link.
 ///
-/// The first `count` places are the units in order. Behind them stand those that came before one
-/// that is missing, with None at a gap.
+/// The first `count` places hold the units in order. After them come the units that were received
+/// ahead of a missing one, with None at a gap.
 #[derive(Drop)]
 pub struct Buffers {
     ring: HeapCircularBuffer<Place>,
@@ -48,7 +48,7 @@ pub struct Risen {
 }
 
 impl Buffers {
-    /// So many buffers, none of them taken.
+    /// A ring of `size` buffers, all of them empty.
     pub fn new(alloc: Global, size: u16) -> Result<Buffers, AllocError>
         ensures { IfOk result (λ b. b ≡ record { held = []; ahead = []; size = size }) }
     {
@@ -60,14 +60,14 @@ impl Buffers {
         })
     }
 
-    /// How many there are.
+    /// The number of buffers.
     pub fn size(&self) -> u16
         ensures { result ≡ self.now.size }
     {
         self.size
     }
 
-    /// How many units are held.
+    /// The number of units held.
     pub fn held(&self) -> u16
         ensures value { result ≡ length self.now.held }
         ensures within { length self.now.held + length self.now.ahead ≤ self.now.size }
@@ -82,14 +82,14 @@ impl Buffers {
         self.size - self.count
     }
 
-    /// How many units were kept ahead of one that is missing.
+    /// The number of units that are kept ahead of a missing one.
     pub fn ahead(&self) -> usize
         ensures { result ≡ length (there self.now.ahead) }
     {
         count_from(&self.ring, usize::from(self.count))
     }
 
-    /// Whether a unit was kept at a place of those ahead.
+    /// Whether the place has a unit, counted from the expected one.
     pub fn is_taken(&self, place: u16) -> bool
         ensures { result ≡ R.is_taken place self.now.ahead }
     {
@@ -97,7 +97,7 @@ impl Buffers {
         unit_at(&self.ring, place).is_some()
     }
 
-    /// Keeps the unit of a packet at a place of those ahead.
+    /// Stores the unit of a packet at a place, counted from the expected one.
     pub fn put(&mut self, place: u16, header: &SpxHeader, body: &[u8])
         requires room { place < spec.left self.old }
         requires fits { length body.now ≤ 534 }
@@ -108,7 +108,7 @@ impl Buffers {
         put_packet(&mut self.ring, place, header, body);
     }
 
-    /// Holds the units ahead that stand in order now.
+    /// Holds the units that are now in order.
     pub fn settle(&mut self) -> Risen
         ensures count { result.count ≡ length (R.leading self.old.ahead) }
         ensures ended { result.ended ≡ R.any_end (R.leading self.old.ahead) }
@@ -132,7 +132,7 @@ impl Buffers {
         }
     }
 
-    /// Takes it.
+    /// Takes the first unit held.
     pub fn take(&mut self) -> Option<Unit>
         ensures gives { result ≡ first_of self.old.held }
         ensures leaves { self.new ≡ record self.old { held = drop 1 self.old.held } }
@@ -147,7 +147,7 @@ impl Buffers {
         }
     }
 
-    /// Drops it, without a copy of it.
+    /// Drops the first unit held, without a copy.
     pub fn drop_first(&mut self)
         ensures { self.new ≡ record self.old { held = drop 1 self.old.held } }
     {
@@ -169,7 +169,7 @@ fn unit_at(ring: &HeapCircularBuffer<Place>, place: usize) -> Option<&Unit>
     }
 }
 
-/// How many units there are from a place on.
+/// The number of units from a place on.
 fn count_from(ring: &HeapCircularBuffer<Place>, from: usize) -> usize
     ensures { result ≡ length (there (drop from ring.now.items)) }
 {
@@ -207,7 +207,7 @@ fn leading(ring: &HeapCircularBuffer<Place>, from: usize) -> Risen
     }
 }
 
-/// Puts the unit of a packet behind all others: zeroes, and its body over them.
+/// Appends the unit of a packet: zeroes, then its body over them.
 fn push_shorter(ring: &mut HeapCircularBuffer<Place>, header: &SpxHeader, body: &[u8])
     requires room { length ring.old.items < ring.old.capacity }
     requires fits { length body.now ≤ 534 }
@@ -221,8 +221,8 @@ fn push_shorter(ring: &mut HeapCircularBuffer<Place>, header: &SpxHeader, body: 
     }
 }
 
-/// Puts the unit of a packet behind all others. All 534 bytes that there may be are copied over
-/// nothing.
+/// Appends the unit of a packet. A body of the longest size, 534 bytes, is written once, with no
+/// zeroes first.
 fn push_packet(ring: &mut HeapCircularBuffer<Place>, header: &SpxHeader, body: &[u8])
     requires room { length ring.old.items < ring.old.capacity }
     requires fits { length body.now ≤ 534 }
@@ -241,7 +241,7 @@ fn push_packet(ring: &mut HeapCircularBuffer<Place>, header: &SpxHeader, body: &
     }
 }
 
-/// Puts the unit of a packet at a place, with gaps before it where the ring is too short.
+/// Stores the unit of a packet at a place. If the ring is too short, gaps lead up to it.
 fn put_packet(ring: &mut HeapCircularBuffer<Place>, place: usize, header: &SpxHeader, body: &[u8])
     requires place { place < ring.old.capacity }
     requires fits { length body.now ≤ 534 }
@@ -255,7 +255,7 @@ fn put_packet(ring: &mut HeapCircularBuffer<Place>, place: usize, header: &SpxHe
     }
 }
 
-/// Puts the unit of a packet at a place that is there, or behind gaps.
+/// Stores the unit of a packet at an existing place, or appends it after gaps.
 fn put_elsewhere(
     ring: &mut HeapCircularBuffer<Place>,
     place: usize,

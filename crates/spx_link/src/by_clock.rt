@@ -1,4 +1,4 @@
-//! A link that nobody paces goes by the clock: a law of the functions of its calls.
+//! A link that is never paced retransmits by the clock: theorems about the functions of its calls.
 
 ghost use Rattle.std.specs.Prelude.{◌≡◌, ◌≤◌, ℕ, false, List, None};
 ghost use Rattle.ipx_wire.specs.declared.spx.packet.SpxHeader.{SpxHeader};
@@ -12,8 +12,8 @@ ghost use Rattle.spx_link.specs.Offer.{offer_link, owe_reply_link, take_link};
 ghost use Rattle.spx_link.specs.Poll.{asked_again, poll_link, wanted};
 ghost use Rattle.spx_link.specs.Receive.{receive_link};
 
-/// Where the window is 8,192 and units do not go by hand, a poll is the one by the clock. So a link
-/// is made, and no call but `pace` changes the two.
+/// If the window is 8,192 and the link is not manual, a poll follows the clock alone. A new link is
+/// so, and only `pace` changes these two settings.
 pub fn unpaced_links_go_by_the_clock()
     ensures poll { (l : LinkView) (now : ℕ) → IsUnpaced l → poll_link l now ≡ poll_by_clock l now }
     ensures dialed { (own : ℕ) (s : Socket) (a : Address) (buffers now : ℕ)
@@ -31,8 +31,8 @@ pub fn unpaced_links_go_by_the_clock()
     ensures again { (l : LinkView) (place : ℕ) → pace_of (again_link l place) ≡ pace_of l }
 {}
 
-/// A place that is asked for is nothing to a link that goes by the clock, and where no unit is
-/// outstanding at it none is asked for.
+/// A place that `again` asks for has no effect on a link that goes by the clock. If no unit is
+/// outstanding at the place, nothing is asked for.
 pub fn places_are_manual_only()
     ensures by_clock { (l : LinkView) (place now : ℕ) → l.manual ≡ false
         → wanted (again_link l place) now ≡ wanted l now }

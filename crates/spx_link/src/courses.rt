@@ -1,5 +1,5 @@
-//! How far a connection comes: what each call of a link keeps, and what it does to the state. Laws
-//! of their functions.
+//! What each call of a link keeps, and what it does to the state: theorems about the functions of
+//! the calls.
 
 ghost use Rattle.std.specs.Prelude.{◌≡◌, ◌≢◌, ◌+◌, ◌⊎◌, ℕ, Bool, true, List, None, Some};
 ghost use Rattle.ipx_wire.specs.declared.spx.packet.SpxHeader.{SpxHeader};
@@ -17,7 +17,7 @@ ghost use Rattle.spx_link.specs.Offer.{offer_link, owe_reply_link, pace_link, re
 ghost use Rattle.spx_link.specs.Poll.{poll_link};
 ghost use Rattle.spx_link.specs.Receive.{receive_link};
 
-/// In Opening and Live no end is queued: so a link is made, and each call keeps it.
+/// In Opening and Live no end is queued. A new link is so, and each call keeps it.
 pub fn open_links_queue_no_end()
     ensures dialed { (own : ℕ) (s : Socket) (a : Address) (buffers now : ℕ)
         → HasNoEndWhileOpen (dialed own s a buffers now) }
@@ -40,8 +40,8 @@ pub fn open_links_queue_no_end()
         → HasNoEndWhileOpen (again_link l place) }
 {}
 
-/// In Confirmed the end is queued, and all that was queued is acknowledged: so a link is made, and
-/// each call keeps it.
+/// In Confirmed the end was queued, and everything that was queued is acknowledged. A new link is
+/// so, and each call keeps it.
 pub fn confirmed_links_are_whole()
     ensures dialed { (own : ℕ) (s : Socket) (a : Address) (buffers now : ℕ)
         → IsWholeOnceConfirmed (dialed own s a buffers now) }
@@ -64,8 +64,8 @@ pub fn confirmed_links_are_whole()
         → IsWholeOnceConfirmed (again_link l place) }
 {}
 
-/// The units taken and those held are the units before the one that is expected: so a link is made,
-/// and each call keeps it. A take that gives a unit makes the units taken one more.
+/// The units taken and the units held are all those before the expected one. A new link is so, and
+/// each call keeps it. A take that gives a unit adds one to the units taken.
 pub fn taken_and_held_are_expected()
     ensures dialed { (own : ℕ) (s : Socket) (a : Address) (buffers now : ℕ)
         → HasTaken 0 (dialed own s a buffers now) }
@@ -90,7 +90,7 @@ pub fn taken_and_held_are_expected()
         → HasTaken taken (again_link l place) }
 {}
 
-/// No call makes a link Opening, and an Opening link joins or stays as it is.
+/// No call makes a link Opening. A packet joins an Opening link, or leaves it unchanged.
 pub fn opening_links_join_or_stay()
     ensures poll { (l : LinkView) (now : ℕ) → (poll_link l now).1.state ≡ Opening
         → l.state ≡ Opening }
@@ -103,8 +103,8 @@ pub fn opening_links_join_or_stay()
     ensures take { (l : LinkView) → (take_link l).1.state ≡ l.state }
 {}
 
-/// A link that is Opening or Lost gives nothing but requests, stays so under `poll`, reads nothing
-/// but what joins, and is given nothing to send.
+/// A link that is Opening or Lost sends only requests. A poll keeps it Opening or Lost, it reads
+/// only a packet that joins it, and units cannot be offered to it.
 pub fn links_apart_send_nothing()
     ensures asks { (l : LinkView) (now : ℕ) → is_apart l.state ≡ true
         → IfRequest (poll_link l now).0 }

@@ -1,4 +1,4 @@
-//! When a link acts by itself: till then its carrier may sleep.
+//! When a link next acts by itself. Until then its caller may sleep.
 
 ghost use Rattle.std.specs.Prelude.{◌≡◌};
 ghost use Rattle.spx_link.specs.Due as spec;
@@ -11,17 +11,18 @@ use crate::queue::earlier;
 use crate::state::State;
 
 impl Link {
-    /// The moment, in milliseconds, before which a poll at any moment gives nothing. From it on a
-    /// poll sends something or gives the link up. None where that takes a packet or a call first.
+    /// The time, in milliseconds, before which every poll gives nothing. From then on a poll sends
+    /// something or gives the link up. None if that needs a packet or a call first.
     ///
-    /// A carrier that has polled till nothing came may sleep until then, or until a packet comes.
+    /// A caller that has polled until nothing was given may sleep until then, or until a packet
+    /// arrives.
     pub fn next_due(&self) -> Option<u64>
         ensures { IsNextDue self.now result }
     {
         self.due()
     }
 
-    /// That moment, by the rules of `poll`.
+    /// The same time, by the rules of `poll`.
     pub(crate) fn due(&self) -> Option<u64>
         ensures { result ≡ spec.due_link self.now }
     {
@@ -89,7 +90,7 @@ impl Link {
     }
 }
 
-/// When what was sent at a moment is sent again.
+/// When a packet that was sent at a given time is retransmitted.
 fn again_at(at: u64) -> Option<u64>
     ensures { result ≡ spec.again_at at }
 {
@@ -107,7 +108,7 @@ pub fn soonest(links: &[Link]) -> Option<u64>
     soonest
 }
 
-/// The earlier of two moments, where there are.
+/// The earlier of two times, if there are any.
 fn sooner(due: Option<u64>, other: Option<u64>) -> Option<u64>
     ensures { result ≡ spec.sooner due other }
 {

@@ -1,5 +1,5 @@
-//! What the calls of a link do to its numbers, its units, its state and the ends of its connection:
-//! laws of their functions.
+//! What the calls of a link do to its numbers, its units, its state, and the ids and addresses of
+//! its two ends: theorems about the functions of the calls.
 
 ghost use Rattle.std.specs.Prelude.{◌≡◌, ◌≢◌, ◌↔◌, ◌<◌, ◌+◌, ◌++◌, ℕ, [], ◌∷◌, Bool, true, false};
 ghost use Rattle.std.specs.Prelude.{drop, length, slice_get, IfSome, List, None, Some};
@@ -28,20 +28,21 @@ ghost use Rattle.spx_link.specs.LinkTurns.{newly_held, state_after};
 ghost use Rattle.spx_link.specs.Units.{IsEmpty, SameEndings, SameUnits, as_sent, queued_units};
 ghost use Rattle.spx_link.specs.Units.{unit_in};
 
-/// A poll changes the numbers just where it sends a unit for the first time, and no end.
+/// A poll changes the numbers only if it sends a unit for the first time. It never changes the ids
+/// or addresses.
 pub fn poll_changes()
     ensures numbers { (l : LinkView) (now : ℕ)
         → numbers_of (poll_link l now).1 ≡ numbers_after_poll (poll_link l now).0 (numbers_of l) }
     ensures ends { (l : LinkView) (now : ℕ) → SamePeer l (poll_link l now).1 }
 {}
 
-/// What the packet that a poll gives says of its link, by what it is sent for.
+/// What a polled packet says of its link, for each kind of packet.
 pub fn poll_gives()
     ensures { (l : LinkView) (now : ℕ) → IfSome (poll_link l now).0 (IsGiven l) }
 {}
 
-/// A poll leaves the units that are queued and held, and the state, but where it gives nothing and
-/// the link is lost.
+/// A poll keeps the units that are queued and held. It also keeps the state, unless it gives
+/// nothing and the link becomes lost.
 pub fn poll_keeps_units()
     ensures units { (l : LinkView) (now : ℕ) → SameUnits l (poll_link l now).1 }
     ensures endings { (l : LinkView) (now : ℕ) → SameEndings l (poll_link l now).1 }
@@ -49,25 +50,24 @@ pub fn poll_keeps_units()
         → StaysOrIsLost l.state (poll_link l now).1.state (poll_link l now).0 }
 {}
 
-/// The end, and each unit that may be offered, is sent as it is.
+/// The end, and each unit that may be offered, is sent unchanged.
 pub fn units_are_sent_as_they_are()
     ensures offered { (u : units.Unit) → u.stream < end_stream → as_sent u ≡ u }
     ensures end { as_sent the_end ≡ the_end }
 {}
 
-/// In Opening a poll gives nothing but requests.
+/// In Opening a poll gives only requests.
 pub fn opening_gives_requests()
     ensures { (l : LinkView) (now : ℕ) → l.state ≡ Opening → IfRequest (poll_link l now).0 }
 {}
 
-/// A link that was given up sends nothing more.
+/// A link that is lost sends nothing more.
 pub fn lost_gives_nothing()
     ensures { (l : LinkView) (now : ℕ) → l.state ≡ Lost → (poll_link l now).0 ≡ None }
 {}
 
-/// A packet that is read changes the numbers by its acknowledge number and its allocation, and by
-/// the unit that is kept. The peer's id changes where a link joins alone, and it joins from Opening
-/// alone.
+/// A packet that is read changes the numbers by its acknowledge number, its allocation, and the
+/// unit that is kept. The peer's id changes only if the link joins, and it joins only from Opening.
 pub fn receive_changes()
     ensures numbers { (l : LinkView) (h : SpxHeader) (body : List ℕ)
         → numbers_of (receive_link l h body).1
@@ -81,9 +81,9 @@ pub fn receive_changes()
         → (receive_link l h body).0 ≡ Joined → Joins l (receive_link l h body).1 h }
 {}
 
-/// The unit of a packet is kept just where it is in turn. Kept, it stands at its place, and the
-/// units that stand in order then are held behind the others. The answer tells whether the peer's
-/// end is among them, and behind that end nothing is kept.
+/// The unit of a packet is kept exactly if `IsInTurn` holds. It is then kept at its place, and the
+/// units that are now in order are held after the others. The answer says whether the peer's end is
+/// among them. Nothing is kept after that end.
 pub fn receive_keeps_units()
     ensures kept { (l : LinkView) (h : SpxHeader) (body : List ℕ)
         → (is_kept (receive_link l h body).0 ≡ true) ↔ IsInTurn l h }
@@ -115,7 +115,8 @@ pub fn receive_drops_units()
         ≡ drop (acknowledged l.next l.out h.ack) (queued_units l) }
 {}
 
-/// What is read, unless it joins, is a packet of the link's own peer. A stranger's changes nothing.
+/// A packet that is read, unless it joins, is from the link's own peer. A packet of an unknown
+/// sender changes nothing.
 pub fn receive_reads_its_own()
     ensures own { (l : LinkView) (h : SpxHeader) (body : List ℕ)
         → (receive_link l h body).0 ≢ Stranger → (receive_link l h body).0 ≢ Joined
@@ -124,8 +125,8 @@ pub fn receive_reads_its_own()
         → (receive_link l h body).0 ≡ Stranger → (receive_link l h body).1 ≡ l }
 {}
 
-/// What a packet makes of the state, and of which ends were queued and came. A link is confirmed
-/// once its end is queued and all its units are acknowledged.
+/// What a packet does to the state, and to whether each end was queued or received. A link is
+/// confirmed only once its end is queued and all its units are acknowledged.
 pub fn receive_changes_states()
     ensures state { (l : LinkView) (h : SpxHeader) (body : List ℕ)
         → (receive_link l h body).1.state ≡ state_after (receive_link l h body).0 l.state }
@@ -138,14 +139,14 @@ pub fn receive_changes_states()
         → (receive_link l h body).0 ≡ Confirmed → ConfirmsWhole l (receive_link l h body).1 }
 {}
 
-/// A take changes how many units are held, and no end.
+/// A take changes how many units are held. It never changes the ids or addresses.
 pub fn take_changes()
     ensures numbers { (l : LinkView)
         → numbers_of (take_link l).1 ≡ numbers_after_take (numbers_of l) }
     ensures ends { (l : LinkView) → SamePeer l (take_link l).1 }
 {}
 
-/// A take gives the first unit held, and the others stay.
+/// A take gives the first unit held, and the others remain.
 pub fn take_gives_the_first()
     ensures gives { (l : LinkView) → (take_link l).0 ≡ first_of l.held }
     ensures held { (l : LinkView) → (take_link l).1.held ≡ drop 1 l.held }
@@ -155,7 +156,7 @@ pub fn take_gives_the_first()
     ensures state { (l : LinkView) → (take_link l).1.state ≡ l.state }
 {}
 
-/// Units, and the end, are queued behind the others. With the end the state is Ending.
+/// Units, and the end, are queued after the others. With the end the state becomes Ending.
 pub fn units_queue_in_order()
     ensures offered { (l : LinkView) (us : List units.Unit)
         → queued_units (offer_link l us) ≡ queued_units l ++ us }
@@ -170,8 +171,8 @@ pub fn units_queue_in_order()
         × ((end_link l).peer_ended ≡ l.peer_ended) }
 {}
 
-/// A reply that is owed again leaves the units and the state, and so do a window and a place that is
-/// asked for, and what gives a link up, but for the state.
+/// `owe_reply`, `pace` and `again` change neither the units nor the state. `lose` changes only the
+/// state.
 pub fn others_keep_units()
     ensures owe_reply { (l : LinkView)
         → SameUnits l (owe_reply_link l) × SameEndings l (owe_reply_link l)
@@ -186,8 +187,8 @@ pub fn others_keep_units()
         × ((again_link l place).state ≡ l.state) }
 {}
 
-/// A link is made without units, and its numbers are 0 but for its buffers and the room that a
-/// request allows.
+/// A new link has no units. Its numbers are 0, except for its buffers and the room that a request
+/// allows.
 pub fn new_links_are_empty()
     ensures dialed { (own : ℕ) (s : Socket) (a : Address) (buffers now : ℕ)
         → IsEmpty (dialed own s a buffers now) buffers 0 }
@@ -195,9 +196,9 @@ pub fn new_links_are_empty()
         → IsEmpty (accepted_from own s a h buffers now) buffers (room_after 0 0 h.limit) }
 {}
 
-/// A link has the id, the socket and the address that it is given. One that asks is opening and
-/// knows no id of the peer. One that was asked has the id that the request came from, and is marked
-/// as accepted.
+/// A new link has the id, the socket and the address that it was given. A link that dialed is
+/// Opening and knows no id of the peer. An accepted link has the peer's id from the request, and is
+/// marked as accepted.
 pub fn new_links_have_their_ends()
     ensures dialed { (own : ℕ) (s : Socket) (a : Address) (buffers now : ℕ)
         → HasEnds (dialed own s a buffers now) own s a no_id false }
@@ -207,7 +208,7 @@ pub fn new_links_have_their_ends()
         → (dialed own s a buffers now).state ≡ Opening }
 {}
 
-/// The other calls change neither a number nor an end.
+/// The other calls change no number, id or address.
 pub fn others_change_no_number()
     ensures offer { (l : LinkView) (us : List units.Unit)
         → (numbers_of (offer_link l us) ≡ numbers_of l) × SamePeer l (offer_link l us) }
@@ -224,7 +225,7 @@ pub fn others_change_no_number()
         → (numbers_of (again_link l place) ≡ numbers_of l) × SamePeer l (again_link l place) }
 {}
 
-/// An accepted link starts Live with a reply owed.
+/// An accepted link starts as Live and owes a reply.
 pub fn accepted_owes_its_reply()
     ensures state { (own : ℕ) (s : Socket) (a : Address) (h : SpxHeader) (buffers now : ℕ)
         → (accepted_from own s a h buffers now).state ≡ Live }
@@ -232,7 +233,7 @@ pub fn accepted_owes_its_reply()
         → (accepted_from own s a h buffers now).owes_reply ≡ true }
 {}
 
-/// A link stands under its own id.
+/// A link is stored under its own id.
 pub fn links_stand_under_their_ids()
     ensures { (s : LinksView) (id : ℕ) (l : LinkView) → link_at s id ≡ Some l → l.own ≡ id }
 {}

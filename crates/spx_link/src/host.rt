@@ -1,4 +1,4 @@
-//! What a host does with a link: it makes it, has it reply again, and gives it up.
+//! What a host does with a link: it makes it, makes it reply again, paces it and gives it up.
 
 ghost use Rattle.std.specs.Prelude.{◌≡◌, IfOk};
 ghost use Rattle.spx_link.specs.Offer as spec;
@@ -12,11 +12,11 @@ use ipx_wire::{Address, Socket, SpxHeader};
 use std::alloc::{AllocError, Global};
 
 impl Link {
-    /// A link that asks for a connection from a socket here to an address, with its buffers taken
-    /// from memory. `now` is in milliseconds.
+    /// A link that requests a connection from a local socket to a remote address. Its buffers are
+    /// allocated here. `now` is in milliseconds.
     ///
     /// The caller owes an id from 0001 to FFFE that no other link of its host has, and 1 to 8,192
-    /// buffers. A host calls `Links::dial`, which gives the id.
+    /// buffers. A host calls `Links::dial`, which assigns the id.
     pub fn dial(
         alloc: Global,
         own: u16,
@@ -56,9 +56,10 @@ impl Link {
         })
     }
 
-    /// A link that a request from an address to a socket here asked for. It owes its reply.
+    /// A link for a request that was received from a remote address at a local socket. It owes its
+    /// reply.
     ///
-    /// The caller owes what it owes `dial`. A host calls `Links::accept`.
+    /// The caller owes the same as for `dial`. A host calls `Links::accept`.
     pub fn accept(
         alloc: Global,
         own: u16,
@@ -80,16 +81,16 @@ impl Link {
         Ok(link)
     }
 
-    /// It owes its reply again. A host calls this where the request that made the link comes once
-    /// more: the reply to it was lost.
+    /// The link owes its reply again. A host calls this if the request that made the link arrives
+    /// again, since the reply to it was lost.
     pub fn owe_reply(&mut self)
         ensures { self.new ≡ spec.owe_reply_link self.old }
     {
         self.owes_reply = true;
     }
 
-    /// So many units may be outstanding from now on, at most, and at most 8,192. By hand, units
-    /// go again where `again` asks for them, and not 500 milliseconds after they were sent.
+    /// Sets how many units may be outstanding, at most 8,192. A manual link retransmits a unit when
+    /// `again` asks for it, and not 500 milliseconds after it was sent.
     pub fn pace(&mut self, window: u16, manual: bool)
         ensures { self.new ≡ spec.pace_link self.old window manual }
     {
@@ -98,15 +99,16 @@ impl Link {
         self.again = None;
     }
 
-    /// By hand, the outstanding unit at this place is to go again, counted from the first one.
+    /// Asks a manual link to retransmit the outstanding unit at this place, counted from the first
+    /// one.
     pub fn again(&mut self, place: u16)
         ensures { self.new ≡ spec.again_link self.old place }
     {
         self.again = Some(place);
     }
 
-    /// It is given up: it sends and reads nothing from then on, and what it holds may still be
-    /// taken. A host calls this where the units of its peer make no message.
+    /// Gives the link up. It then sends and reads nothing, but what it holds may still be taken. A
+    /// host calls this if the units of the peer make no message.
     pub fn lose(&mut self)
         ensures { self.new ≡ spec.lose_link self.old }
     {

@@ -1,21 +1,21 @@
 //! The numbers of a link: those of Novell SPX, and the limits of this project.
 
-/// How many units may be outstanding, and how many buffers an end may have.
+/// The most units that may be outstanding, and the most buffers that an end may have.
 pub const MAX_UNITS: u16 = 8192;
 
-/// How many links a host may hold.
+/// The most links that a host may hold.
 pub const MAX_LINKS: usize = 16;
 
 /// How often a unit, a request or a probe is sent.
 pub const MAX_SENDS: u8 = 10;
 
-/// How often a probe is sent by a link whose units go again by hand: for half a minute.
+/// How often a manual link sends a probe, which lasts half a minute.
 pub const MAX_MANUAL_PROBES: u8 = 60;
 
-/// After how many milliseconds it is sent again.
+/// The number of milliseconds before a retransmission.
 pub const RESEND_AFTER: u64 = 500;
 
-/// How far ahead of the next unit an allocation may lie.
+/// How far ahead of the next unit an allocation may be.
 pub const MAX_WINDOW: u16 = 16383;
 
 /// The datastream type of the end of a connection.
@@ -24,5 +24,5 @@ pub const END_STREAM: u8 = 0xfe;
 /// The datastream type of its confirmation.
 pub const CONFIRM_STREAM: u8 = 0xff;
 
-/// The connection id that stands for none.
+/// The connection id that means none.
 pub const NO_ID: u16 = 0xffff;

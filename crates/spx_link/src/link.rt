@@ -1,4 +1,4 @@
-//! One end of a connection: what it holds, and what it shows.
+//! One end of a connection: its fields, and what it shows.
 
 ghost use Rattle.std.specs.Prelude.{◌≡◌, ◌+◌, ◌≤◌, ◌↔◌, IsTrue, length};
 ghost use Rattle.spx_link.specs.Courses.{IsWhole};
@@ -14,8 +14,8 @@ use std::marker::Model;
 
 /// One end of a connection.
 ///
-/// The first `out` units of the queue are sent and not acknowledged. Moments are in milliseconds
-/// and are handed in. It gives its packets by `poll` and reads those of its peer by `receive`.
+/// The first `out` units of the queue are sent and not acknowledged. Times are in milliseconds, and
+/// the caller passes them. `poll` gives the packets to send, and `receive` reads those of the peer.
 #[derive(Drop)]
 pub struct Link {
     pub(crate) state: State,
@@ -78,14 +78,12 @@ impl Model for Link {
 }
 
 impl Link {
-    /// Its state.
     pub fn state(&self) -> State
         ensures { result ≡ self.now.state }
     {
         self.state
     }
 
-    /// Its numbers.
     pub fn numbers(&self) -> Numbers
         ensures value { result ≡ numbers_of self.now }
         ensures within { length self.now.held + length self.now.ahead ≤ self.now.buffers }
@@ -100,21 +98,22 @@ impl Link {
         }
     }
 
-    /// Whether its end is queued and the peer has acknowledged all that was queued, the end too.
+    /// Whether its end is queued and the peer has acknowledged everything that was queued, the end
+    /// too.
     pub fn is_all_acked(&self) -> bool
         ensures { IsTrue result ↔ IsWhole self.now }
     {
         self.end_queued && self.queue.is_empty()
     }
 
-    /// The socket on this side.
+    /// The local socket.
     pub fn local(&self) -> Socket
         ensures { result ≡ self.now.local }
     {
         self.local
     }
 
-    /// The address of the other side.
+    /// The remote address.
     pub fn remote(&self) -> Address
         ensures { result ≡ self.now.remote }
     {

@@ -39,7 +39,7 @@ impl Model for Links {
 }
 
 impl Links {
-    /// No links.
+    /// An empty set of links.
     pub fn new(alloc: Global) -> Links
         ensures none { (id : ℕ) → link_at result id ≡ None }
         ensures count { count_of result ≡ 0 }
@@ -51,10 +51,10 @@ impl Links {
         }
     }
 
-    /// A new link, which asks for a connection between a socket here and an address. The caller
+    /// A new link, which requests a connection from a local socket to a remote address. The caller
     /// owes 1 to 8,192 buffers.
     ///
-    /// It is refused as `TooMany` where 16 links are held, else only for want of memory.
+    /// It is refused as `TooMany` if 16 links are held, otherwise only if out of memory.
     pub fn dial(
         &mut self,
         alloc: Global,
@@ -79,7 +79,7 @@ impl Links {
         Ok(id)
     }
 
-    /// A new link, which a request to a socket here asked for. The caller owes 1 to 8,192 buffers.
+    /// A new link for a request to a local socket. The caller owes 1 to 8,192 buffers.
     ///
     /// It is refused as `dial` is.
     pub fn accept(
@@ -129,7 +129,8 @@ impl Links {
         }
     }
 
-    /// The link that was accepted from an address and an id there, the least id where several were.
+    /// The link that was accepted from this address and peer id. If there are several, the least
+    /// id.
     pub fn accepted(&self, from: Address, peer_id: u16) -> Option<u16>
         ensures { MatchOption result ((q : ℕ) → ¬ IsAcceptedFrom self.now from peer_id q)
             (IsLeast (IsAcceptedFrom self.now from peer_id)) }
@@ -137,7 +138,7 @@ impl Links {
         least_accepted(&self.links, from, peer_id)
     }
 
-    /// The least live id above another. Live ids are from 0001 to FFFE, and at most 16.
+    /// The least live id above another. Live ids are from 0001 to FFFE, and there are at most 16.
     pub fn after(&self, id: u16) -> Option<u16>
         ensures next { MatchOption result ((q : ℕ) → ¬ IsAbove self.now id q)
             (IsLeast (IsAbove self.now id)) }
@@ -147,8 +148,8 @@ impl Links {
         least_above(&self.links, id)
     }
 
-    /// The moment, in milliseconds, before which a poll of any link gives nothing. From it on a
-    /// poll of some link sends something or gives that link up. None where that takes a packet or a
+    /// The time, in milliseconds, before which a poll of any link gives nothing. From then on a
+    /// poll of some link sends something or gives that link up. None if that needs a packet or a
     /// call first.
     pub fn next_due_of_all(&self) -> Option<u64>
         ensures { IsNextDueOfAll self.now result }
@@ -156,7 +157,7 @@ impl Links {
         soonest(&self.links)
     }
 
-    /// The link of an id goes. The answer is false where the id is not live.
+    /// Removes the link of an id. Returns false if the id is not live.
     pub fn release(&mut self, id: u16) -> bool
         ensures live { IsTrue result ↔ IsLive self.old id }
         ensures released { OnTrue result (Releases self.old self.new id) }

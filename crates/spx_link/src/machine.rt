@@ -1,5 +1,6 @@
-//! Laws of a connection whose numbers never wrap, after every list of steps from its start, with
-//! whatever buffers the two ends have. Packets may be read late, often, in any order or never.
+//! Theorems about a connection whose numbers never wrap, after every list of steps from its start,
+//! with any number of buffers at the two ends. Packets may be read late, more than once, in any
+//! order or never.
 
 ghost use Rattle.std.specs.Prelude.{ℕ, ◌<◌, ◌≤◌, List, All, Contains};
 ghost use Rattle.spx_link.specs.Limits.{most_room};
@@ -9,7 +10,7 @@ ghost use Rattle.spx_link.specs.Machine.Act.{Gets};
 ghost use Rattle.spx_link.specs.Machine.Step.{One, Two};
 ghost use Rattle.spx_link.specs.Fresh.{IsRecentPacket, TellsPositions};
 
-/// What an end takes as acknowledged was read by its peer, what was read was sent, and what was
+/// What an end counts as acknowledged was read by its peer, what was read was sent, and what was
 /// sent was allowed.
 pub fn chain()
     ensures one { (steps : List Step) (a b : ℕ) (m : Machine) → IsRun steps (start a b) m
@@ -18,8 +19,8 @@ pub fn chain()
         → IsChain m.two m.one }
 {}
 
-/// What is outstanding fits the peer's buffers, what is held fits one's own, and what is sent or
-/// read are units.
+/// What is outstanding fits the peer's buffers, and what is held fits one's own. No more is sent or
+/// read than there are units.
 pub fn within()
     ensures one { (steps : List Step) (a b : ℕ) (m : Machine) → IsRun steps (start a b) m
         → IsWithin m.one m.two }
@@ -27,7 +28,7 @@ pub fn within()
         → IsWithin m.two m.one }
 {}
 
-/// Every packet says what was so as it was sent.
+/// Every packet says what was true when it was sent.
 pub fn packets()
     ensures one { (steps : List Step) (a b : ℕ) (m : Machine) → IsRun steps (start a b) m
         → All (WasSent m.one m.two) m.one.bag }
@@ -35,13 +36,13 @@ pub fn packets()
         → All (WasSent m.two m.one) m.two.bag }
 {}
 
-/// All of this at once is so of two new ends, and each step keeps it: for those who go a step at a
-/// time, or whose machine has other entries between its steps.
+/// All of this holds for two new ends, and each step keeps it. Use it to go one step at a time, or
+/// if the machine has other steps between.
 pub fn soundness()
     ensures start { (a b : ℕ) → AreSound (new_end a) (new_end b) }
     ensures step { (s : Step) (m n : Machine) → IsStep s m n → AreSound m.one m.two
         → AreSound n.one n.two }
-    // An end may get any packet that says what was so, whether a bag holds it or not.
+    // An end may get any packet that says what was true, whether a bag holds it or not.
     ensures gets { (c d : End) (p : Packet) → AreSound c d → WasSent d c p → AreSound (got p c) d }
 {}
 
@@ -61,8 +62,8 @@ pub fn allowances()
         → (p : Packet) × Contains steps (Two (Gets p)) × Contains m.one.bag p × (n < p.allows) }
 {}
 
-/// The 16-bit numbers of a fresh packet say what its positions are, where neither end has more than
-/// 16,383 buffers.
+/// The 16-bit numbers of a fresh packet identify its positions, if neither end has more than 16,383
+/// buffers.
 pub fn fresh_packets()
     ensures one { (steps : List Step) (a b : ℕ) (m : Machine) (p : Packet) → a ≤ most_room
         → b ≤ most_room → IsRun steps (start a b) m → Contains m.two.bag p → IsRecentPacket m.one m.two p

@@ -1,4 +1,4 @@
-//! What an application gives a link to send, and takes from it.
+//! What an application gives a link to send, and what it takes from it.
 
 ghost use Rattle.std.specs.Prelude.{◌≡◌, ◌<◌, [], All, Err, IsOk, IsOkUnless, None, OnErr, OnOk};
 ghost use Rattle.std.specs.Prelude.{Some, option_copied};
@@ -15,7 +15,7 @@ use crate::unit::Unit;
 use ipx_wire::Fragment;
 use std::alloc::Global;
 
-/// Why units are not queued in a state.
+/// Why a state refuses units.
 fn refusal(state: State) -> Option<OfferFault>
     ensures { result ≡ spec.refusal state }
 {
@@ -26,7 +26,7 @@ fn refusal(state: State) -> Option<OfferFault>
     }
 }
 
-/// The end of a connection.
+/// The unit that ends the connection.
 fn the_end() -> Unit
     ensures { result ≡ spec.the_end }
 {
@@ -41,7 +41,7 @@ impl Link {
     /// Queues the units, all or none. The caller owes streams under FE.
     ///
     /// It is refused as `NotLive` while the link is opening, as `Ended` in any other state but
-    /// Live, and where memory is.
+    /// Live, and if out of memory.
     pub fn offer(&mut self, _alloc: Global, units: Vec<Unit>) -> Result<(), OfferFault>
         requires { All (λ u. u.stream < end_stream) units.items }
         ensures ok { OnOk result (self.new ≡ spec.offer_link self.old units.items) }
@@ -75,14 +75,14 @@ impl Link {
         Ok(())
     }
 
-    /// The first unit that was received and not taken. It takes no memory.
+    /// The first unit that was received and not taken. It needs no memory.
     pub fn peek(&self) -> Option<&Unit>
         ensures { option_copied result ≡ spec.peek_link self.now }
     {
         self.buffers.first()
     }
 
-    /// Takes that unit. It takes no memory.
+    /// Takes that unit. It needs no memory.
     pub fn take(&mut self) -> Option<Unit>
         ensures gives { result ≡ (spec.take_link self.old).0 }
         ensures leaves { self.new ≡ (spec.take_link self.old).1 }
@@ -93,8 +93,8 @@ impl Link {
         self.buffers.take()
     }
 
-    /// Drops that unit, where there is one: `take` for whoever peeked at it, without a copy of it.
-    /// It takes no memory.
+    /// Drops that unit, if there is one: use it instead of `take` after `peek`, to avoid a copy. It
+    /// needs no memory.
     pub fn discard(&mut self)
         ensures { self.new ≡ (spec.take_link self.old).1 }
     {

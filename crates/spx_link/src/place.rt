@@ -1,4 +1,4 @@
-//! A place of the ring of a link's buffers.
+//! One place of the ring of a link's buffers.
 
 ghost use Rattle.std.specs.Prelude.{◌≡◌, ◌≤◌, [], None, Some, length, option_copied};
 ghost use Rattle.spx_link.specs.Units.{unit_in};
@@ -10,8 +10,8 @@ use std::marker::Model;
 
 /// A unit, or a gap.
 ///
-/// That the unit is there stands behind it. In front, as in an `Option`, it would be written before
-/// the unit, which is then copied twice.
+/// The flag that says whether the unit is there follows the unit. If it came first, as in an
+/// `Option`, it would be written before the unit, which is then copied twice.
 #[derive(Drop)]
 pub struct Place {
     unit: Unit,
@@ -28,7 +28,7 @@ impl Model for Place {
 }
 
 impl Place {
-    /// A place with a unit.
+    /// A place that holds a unit.
     #[inline]
     pub fn of(unit: Unit) -> Place
         ensures { result ≡ Some unit }
@@ -68,7 +68,7 @@ impl Place {
         }
     }
 
-    /// Its unit.
+    /// The unit of the place.
     #[inline]
     pub fn get(&self) -> Option<&Unit>
         ensures { option_copied result ≡ self.now }
@@ -76,7 +76,7 @@ impl Place {
         if self.present { Some(&self.unit) } else { None }
     }
 
-    /// The unit that it held.
+    /// The unit that the place held.
     #[inline]
     pub fn into_unit(self) -> Option<Unit>
         ensures { result ≡ self }
@@ -85,7 +85,7 @@ impl Place {
         if present { Some(unit) } else { None }
     }
 
-    /// Copies the body of a packet to its unit. That of an end is left out.
+    /// Copies the body of a packet to its unit. The body of an end is left out.
     #[inline]
     pub fn copy_body(&mut self, header: &SpxHeader, body: &[u8])
         requires fits { length body.now ≤ 534 }
@@ -98,8 +98,8 @@ impl Place {
         self.unit.body.try_extend_from_slice(body).unwrap();
     }
 
-    /// Holds the unit of a packet from now on, built where it stands: its body is copied once, and
-    /// that of an end not at all.
+    /// Stores the unit of a packet, built in place. Its body is copied once, and the body of an end
+    /// not at all.
     pub fn fill(&mut self, header: &SpxHeader, body: &[u8])
         requires { length body.now ≤ 534 }
         ensures { self.new ≡ Some (unit_in header.now body.now) }

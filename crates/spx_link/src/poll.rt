@@ -17,10 +17,11 @@ use crate::unit::Unit;
 use ipx_wire::SpxHeader;
 
 impl Link {
-    /// The packet to send at a moment, if there is one.
+    /// The packet to send at this time, if there is one.
     ///
-    /// It takes no memory. A link whose request, unit or probe was sent ten times in vain is lost. By
-    /// hand only what is sent by itself counts: a request, and a probe sixty times.
+    /// It needs no memory. A link is lost if a request, unit or probe was sent ten times without an
+    /// answer. On a manual link retransmitted units are not counted, only requests and probes, and
+    /// probes are sent up to sixty times.
     pub fn poll(&mut self, now: u64) -> Option<Outgoing<'_>>
         ensures* leaves { sem 𝓛 (LoanEndsAs self.entry (spec.poll_link self.old now).1) }
         ensures gives { option_map spec.outgoing_view result ≡ (spec.poll_link self.old now).0 }
@@ -161,7 +162,8 @@ impl Link {
         Some(packet)
     }
 
-    /// How often a unit was sent that is sent again now. What is asked for is not counted.
+    /// How often a unit was sent, counting this retransmission. One that `again` asks for is not
+    /// counted.
     fn count_again(&self, count: u8) -> u8
         requires { count < 10 }
         ensures { result ≡ spec.count_again self.now count }
@@ -199,7 +201,7 @@ impl Link {
         Some(probe)
     }
 
-    /// How often it probes in vain.
+    /// How many probes are sent without an answer before the link is lost.
     fn most_probes(&self) -> u8
         ensures { result ≡ spec.most_probes self.now }
     {
@@ -252,7 +254,7 @@ impl Link {
         Some(place as u16)
     }
 
-    /// The place that was asked for, where a unit is outstanding there.
+    /// The place that `again` asked for, if a unit is outstanding there.
     pub(crate) fn asked_again(&self) -> Option<u16>
         ensures value { result ≡ spec.asked_again self.now }
         ensures sent { IfSome result (λ place. place < self.now.out) }

@@ -16,8 +16,8 @@ use crate::unit::Unit;
 use std::alloc::{AllocError, Global};
 use std::marker::Model;
 
-/// A unit to send. Where it was sent, `at` is the moment of the last time and `count` says how
-/// often.
+/// A unit to send. Once it was sent, `at` is the time of the last sending and `count` is how often
+/// it was sent.
 #[derive(Drop)]
 pub struct Queued {
     pub unit: Unit,
@@ -25,7 +25,7 @@ pub struct Queued {
     pub count: u8,
 }
 
-/// Whether what was sent at a moment is to be sent again.
+/// Whether what was sent at a given time is to be sent again.
 pub fn due(at: u64, now: u64) -> bool
     ensures { result ≡ view.due at now }
 {
@@ -34,8 +34,8 @@ pub fn due(at: u64, now: u64) -> bool
 
 /// Units to send, in order.
 ///
-/// The first `searched` of them were each sent at `since` or later, so none of those is due before
-/// `since` is: the search for what is due goes on behind them.
+/// The first `searched` of them were each sent at `since` or later, so none of these is due before
+/// `since` is. The search for a due unit continues after them.
 #[derive(Drop)]
 pub struct Queue {
     units: Sequence,
@@ -52,7 +52,7 @@ impl Model for Queue {
 }
 
 impl Queue {
-    /// No units.
+    /// An empty queue.
     pub fn new(alloc: Global) -> Queue
         ensures { result ≡ [] }
     {
@@ -63,14 +63,14 @@ impl Queue {
         }
     }
 
-    /// How many there are.
+    /// The number of units.
     pub fn len(&self) -> usize
         ensures { result ≡ length self.now }
     {
         self.units.len()
     }
 
-    /// Whether there are none.
+    /// Whether there are no units.
     pub fn is_empty(&self) -> bool
         ensures { result ≡ (length self.now == 0) }
     {
@@ -85,7 +85,7 @@ impl Queue {
         self.units.get(place)
     }
 
-    /// The place of the first of the sent units that is to be sent again.
+    /// The place of the first sent unit that is to be sent again.
     pub fn first_due(&mut self, sent: usize, now: u64) -> Option<usize>
         ensures place { result ≡ position (λ q. view.due q.at now) (take sent self.old) }
         ensures same { self.new ≡ self.old }
@@ -102,14 +102,14 @@ impl Queue {
         }
     }
 
-    /// The least moment at which one of the sent units was last sent.
+    /// The earliest time at which one of the sent units was last sent.
     pub fn first_sent(&self, sent: usize) -> Option<u64>
         ensures { result ≡ D.earliest (take sent self.now) }
     {
         earliest(&self.units, sent)
     }
 
-    /// The first `count` units leave the queue.
+    /// Removes the first `count` units.
     pub fn drop_first(&mut self, count: u16)
         ensures { self.new ≡ drop count self.old }
     {
@@ -117,7 +117,7 @@ impl Queue {
         self.searched = self.searched.saturating_sub(usize::from(count));
     }
 
-    /// The unit at a place was sent at a moment, so often by then.
+    /// Records that the unit at a place was sent at this time, `count` times in all.
     pub fn mark_sent(&mut self, place: usize, now: u64, count: u8)
         requires { place < length self.old }
         ensures { IfSome (slice_get self.old place)
@@ -146,15 +146,16 @@ impl Queue {
     }
 }
 
-/// How far a search came: to the first unit that is due, or behind the last one. Those before were
-/// sent at `since` or later.
+/// How far a search came: to the first unit that is due, or past the last one. The units before
+/// were sent at `since` or later.
 #[derive(Clone, Copy)]
 struct Found {
     place: usize,
     since: u64,
 }
 
-/// Where a search goes on: behind what is known, or at the first unit once one of those may be due.
+/// Where a search continues: after the searched units, or from the first unit once one of them may
+/// be due.
 fn go_on(units: &Sequence, searched: usize, since: u64, end: usize, now: u64) -> Found
     requires { IsSearched units.now searched since }
     ensures { IsFound units.now end now result.place result.since }
@@ -171,7 +172,7 @@ fn go_on(units: &Sequence, searched: usize, since: u64, end: usize, now: u64) ->
     }
 }
 
-/// Searches on, to the first unit that is due or to an end.
+/// Continues a search, to the first unit that is due or to the end of the range.
 fn search(units: &Sequence, from: Found, end: usize, now: u64) -> Found
     requires within { end ≤ length units.now }
     requires from { IsFound units.now end now from.place from.since }
@@ -190,7 +191,7 @@ fn search(units: &Sequence, from: Found, end: usize, now: u64) -> Found
     Found { place: end, since }
 }
 
-/// The least moment at which one of the sent units was last sent.
+/// The earliest time at which one of the sent units was last sent.
 fn earliest(units: &Sequence, sent: usize) -> Option<u64>
     ensures { result ≡ D.earliest (take sent units.now) }
 {
@@ -201,7 +202,7 @@ fn earliest(units: &Sequence, sent: usize) -> Option<u64>
     least
 }
 
-/// The least of a moment and another.
+/// The earlier of a time and another, if there is one.
 pub fn earlier(at: u64, least: Option<u64>) -> u64
     ensures { result ≡ D.earlier at least }
 {

@@ -1,4 +1,4 @@
-//! What a link makes of a packet.
+//! How a link handles a packet.
 
 ghost use Rattle.std.specs.Prelude.{◌≡◌, ◌≤◌, ◌<◌, length};
 ghost use Rattle.spx_link.specs.LinkView as view;
@@ -11,15 +11,15 @@ use crate::received::Received;
 use crate::state::State;
 use ipx_wire::SpxHeader;
 
-/// Whether a packet carries no unit: its system bit says so, but an end is a unit, and its
-/// confirmation is none.
+/// Whether a packet carries no unit. The system bit says so, with two exceptions: an end is a unit,
+/// and its confirmation is none.
 fn is_system(header: &SpxHeader) -> bool
     ensures { result ≡ spec.is_system header.now }
 {
     header.system && header.stream != END_STREAM || header.stream == CONFIRM_STREAM
 }
 
-/// The state once the peer's end came.
+/// The state after the peer's end was received.
 fn after_end(state: State) -> State
     ensures { result ≡ spec.after_end state }
 {
@@ -32,7 +32,7 @@ fn after_end(state: State) -> State
 impl Link {
     /// Reads a packet from the peer. The caller owes a body of at most 534 bytes.
     ///
-    /// It takes no memory. The body of a unit that is kept is copied once, to where it stays.
+    /// It needs no memory. The body of a unit that is kept is copied once, into its buffer.
     pub fn receive(&mut self, header: &SpxHeader, body: &[u8], _now: u64) -> Received
         requires { length body.now ≤ 534 }
         ensures gives { result ≡ (spec.receive_link self.old header.now body.now).0 }
@@ -85,7 +85,7 @@ impl Link {
         }
     }
 
-    /// Reads the numbers that every packet carries.
+    /// Reads the acknowledge number and the allocation, which every packet carries.
     fn read_numbers(&mut self, header: &SpxHeader)
         ensures { self.new ≡ spec.read_numbers self.old header.now }
     {
@@ -156,7 +156,7 @@ impl Link {
         self.in_turn(header, body)
     }
 
-    /// A unit that stands behind.
+    /// Handles a unit that was received before.
     fn repeat(&mut self, header: &SpxHeader)
         ensures { self.new ≡ spec.repeated self.old header.now }
     {
@@ -195,7 +195,7 @@ impl Link {
         self.settle()
     }
 
-    /// Holds the units that stand in order now.
+    /// Holds the units that are now in order.
     fn settle(&mut self) -> Received
         ensures gives { result ≡ (spec.settle self.old self.old.ahead).0 }
         ensures leaves { self.new ≡ (spec.settle self.old self.old.ahead).1 }
@@ -212,7 +212,7 @@ impl Link {
         Received::PeerEnded
     }
 
-    /// How far a unit stands above the one that is expected.
+    /// How far a unit is ahead of the expected one.
     fn beyond_expected(&self, header: &SpxHeader) -> u16
         ensures { result ≡ spec.beyond_expected self.now header.now }
     {

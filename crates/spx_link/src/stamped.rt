@@ -1,4 +1,4 @@
-//! Units to send, and beside them when each of them was sent.
+//! Units to send, and when each of them was sent.
 
 ghost use Rattle.std.specs.Prelude.{◌≡◌, ◌+◌, ◌++◌, ◌≤◌, ◌<◌, ◌==◌, [], ◌∷◌, drop, length, map};
 ghost use Rattle.std.specs.Prelude.{replicate, set, slice_get, List, IfSome, OnErr, OnOk, IsOk, Some};
@@ -13,16 +13,16 @@ use std::alloc::{AllocError, Global};
 use std::collections::VecDeque;
 use std::marker::Model;
 
-/// The moment at which a unit was sent the last time, and how often it was sent by then. Both are
-/// 0 before that.
+/// The time at which a unit was last sent, and how often it was sent. Both are 0 if it was not sent
+/// yet.
 #[derive(Clone, Copy)]
 pub struct Stamp {
     pub at: u64,
     pub count: u8,
 }
 
-/// Units to send, in order, and in a second sequence a stamp for each: what seeks a moment or
-/// writes one goes over 16 bytes a unit, and never over the data.
+/// Units to send, in order, with a stamp for each in a second sequence. So a search for a time
+/// reads only 16 bytes for each unit, and not the data.
 #[derive(Drop)]
 pub struct Sequence {
     units: VecDeque<Unit>,
@@ -38,7 +38,7 @@ impl Model for Sequence {
 }
 
 impl Sequence {
-    /// No units.
+    /// An empty sequence.
     pub fn new(alloc: Global) -> Sequence
         ensures { result ≡ [] }
     {
@@ -48,7 +48,7 @@ impl Sequence {
         }
     }
 
-    /// How many there are.
+    /// The number of units.
     pub fn len(&self) -> usize
         ensures { result ≡ length self.now }
     {
@@ -63,7 +63,7 @@ impl Sequence {
         (&self.units[place], self.stamps[place])
     }
 
-    /// The first `count` units leave.
+    /// Removes the first `count` units.
     pub fn drop_first(&mut self, count: u16)
         ensures { self.new ≡ drop count self.old }
     {
@@ -71,7 +71,7 @@ impl Sequence {
         drop_front(&mut self.stamps, count);
     }
 
-    /// The unit at a place gets a stamp.
+    /// Sets the stamp of the unit at a place.
     pub fn stamp(&mut self, place: usize, stamp: Stamp)
         requires { place < length self.old }
         ensures { IfSome (slice_get self.old place)
@@ -80,7 +80,7 @@ impl Sequence {
         write(&mut self.stamps, place, stamp);
     }
 
-    /// A unit comes behind the others.
+    /// Appends a unit.
     pub fn push(&mut self, queued: Queued) -> Result<(), AllocError>
         ensures ok { OnOk result (self.new ≡ self.old ++ queued ∷ []) }
         ensures err { OnErr result (self.new ≡ self.old) }
@@ -95,7 +95,7 @@ impl Sequence {
         Ok(())
     }
 
-    /// Units that were not sent yet come behind the others, in order, or none of them.
+    /// Appends units that were not sent yet, in order, or none of them.
     pub fn push_all(&mut self, units: Vec<Unit>) -> Result<(), AllocError>
         ensures ok { OnOk result (self.new ≡ self.old ++ map spec.queued units.items) }
         ensures err { OnErr result (self.new ≡ self.old) }
@@ -112,7 +112,7 @@ impl Sequence {
     }
 }
 
-/// The first `count` items leave a queue.
+/// Removes the first `count` items of a queue.
 fn drop_front<T: Drop>(queue: &mut VecDeque<T>, count: u16)
     ensures { queue.new.items ≡ drop count queue.old.items }
 {
@@ -121,7 +121,7 @@ fn drop_front<T: Drop>(queue: &mut VecDeque<T>, count: u16)
     }
 }
 
-/// A stamp in place of the one at a place.
+/// Replaces the stamp at a place.
 fn write(stamps: &mut VecDeque<Stamp>, place: usize, stamp: Stamp)
     requires { place < length stamps.old.items }
     ensures { stamps.new.items ≡ set stamps.old.items place stamp }
@@ -129,7 +129,7 @@ fn write(stamps: &mut VecDeque<Stamp>, place: usize, stamp: Stamp)
     stamps[place] = stamp;
 }
 
-/// Units come behind the others. Where there are no others, they stay where they lie.
+/// Appends units. If the queue is empty, it takes over their allocation and copies nothing.
 fn append(queue: &mut VecDeque<Unit>, units: Vec<Unit>) -> Result<(), AllocError>
     ensures ok { OnOk result (queue.new.items ≡ queue.old.items ++ units.items) }
     ensures err { OnErr result (queue.new.items ≡ queue.old.items) }
@@ -141,7 +141,7 @@ fn append(queue: &mut VecDeque<Unit>, units: Vec<Unit>) -> Result<(), AllocError
     queue.append(&mut VecDeque::from_vec(units))
 }
 
-/// So many stamps of units that were not sent yet, for which there is room.
+/// Appends `count` stamps of units that were not sent yet, for which there is room.
 fn add_unsent(stamps: &mut VecDeque<Stamp>, count: usize)
     requires { deque_len stamps.old + count ≤ deque_capacity stamps.old }
     ensures { stamps.new.items ≡ stamps.old.items ++ replicate count unsent }

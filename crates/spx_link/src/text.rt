@@ -1,9 +1,9 @@
-//! A link as a person reads it.
+//! The debug text of a link.
 
 use crate::link::Link;
 use std::fmt;
 
-/// An id of a connection, in hex.
+/// A connection id, in hex.
 #[derive(Clone, Copy)]
 struct Id(u16);
 
@@ -13,8 +13,8 @@ impl fmt::Debug for Id {
     }
 }
 
-/// Its state, its ids and addresses in hex, its numbers, and how many units are queued, how many of
-/// these are outstanding, and how many are held and kept ahead. Of their data it shows nothing.
+/// The state, the ids and addresses in hex, and the numbers. It also prints how many units are
+/// queued, outstanding, held and kept ahead. It prints none of their data.
 impl fmt::Debug for Link {
     fn fmt<W: fmt::Write>(&self, f: &mut fmt::Formatter<W>) -> fmt::Result {
         f.debug_struct("Link")

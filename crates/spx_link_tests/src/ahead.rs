@@ -1,4 +1,4 @@
-//! Units that come before others which are missing.
+//! Units that are received ahead of missing ones.
 
 use crate::end::{End, joined, system, unit};
 use ipx_wire::SpxHeader;
@@ -6,7 +6,7 @@ use spx_link::{Received, Sent, State};
 use std::process::Abort;
 use std::test::Fail;
 
-/// Units 3, 2, 1 and 0, three times over: each is kept once, and all are handed out in order.
+/// Units 3, 2, 1 and 0, three times over: each is kept once, and all are taken in order.
 #[test]
 fn ahead_rows(rt: HostRuntime) -> Result<(), Fail> {
     let mut end = joined(&rt, rt.alloc(), 7)?;
@@ -22,7 +22,7 @@ fn ahead_rows(rt: HostRuntime) -> Result<(), Fail> {
     Ok(())
 }
 
-/// The unit of a number has that many bytes.
+/// The body of each unit has as many bytes as its number.
 fn comes_backwards(rt: &impl Abort, end: &mut End, answer: Received) -> Result<(), Fail> {
     for (seq, body) in [(3, b"abc"), (2, b"ab\0"), (1, b"a\0\0"), (0, b"\0\0\0")] {
         let length = usize::from(seq).min(3);
@@ -38,7 +38,7 @@ fn hands_out_in_order(rt: &impl Abort, end: &mut End) {
     assert_eq!(rt; end.take(), None);
 }
 
-/// Units ahead are neither shown nor handed out, and take no buffer of the allocation.
+/// Units ahead are neither shown nor taken, and take no buffer of the allocation.
 #[test]
 fn waits_for_the_missing(rt: HostRuntime) -> Result<(), Fail> {
     let mut end = joined(&rt, rt.alloc(), 7)?;
@@ -59,14 +59,14 @@ fn shows_nothing(rt: &impl Abort, end: &mut End) {
     assert_eq!(rt; end.take(), None);
 }
 
-/// The end of the peer behind one unit.
+/// The packet of the peer's end, after one unit.
 fn end_packet() -> SpxHeader {
     let mut end = unit(0xfe, 1);
     end.last = false;
     end
 }
 
-/// An end that comes before a missing unit ends nothing till that unit comes.
+/// An end that is received before a missing unit ends nothing until that unit is received.
 #[test]
 fn end_ahead(rt: HostRuntime) -> Result<(), Fail> {
     let mut end = joined(&rt, rt.alloc(), 7)?;

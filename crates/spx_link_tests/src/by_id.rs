@@ -1,4 +1,4 @@
-//! The links of a host, by their ids, and where memory is refused.
+//! The links of a host, by their ids, also when memory is refused.
 
 use crate::end::{HERE, one_unit, system, there, unit, unit_again};
 use ipx_wire::Socket;
@@ -7,12 +7,12 @@ use std::alloc::Global;
 use std::process::Abort;
 use std::test::Fail;
 
-/// A new link that asks for a connection.
+/// A new link that requests a connection.
 fn dial(alloc: Global, links: &mut Links) -> Result<u16, LinksFault> {
     links.dial(alloc, HERE, there(), 8, 0)
 }
 
-/// A new link that a request asked for.
+/// A new link for a request.
 fn accept(alloc: Global, links: &mut Links) -> Result<u16, LinksFault> {
     links.accept(alloc, HERE, there(), &system(0, 7), 8, 0)
 }
@@ -31,7 +31,7 @@ fn sixteen_links(rt: HostRuntime) -> Result<(), Fail> {
     Ok(())
 }
 
-/// One link that asked, with id 1, and one that was asked for, with id 2.
+/// One link that dialed, with id 1, and one that was accepted, with id 2.
 fn both_kinds(rt: &impl Abort, alloc: Global) -> Result<Links, Fail> {
     let mut links = Links::new(alloc);
     assert_eq!(rt; dial(alloc, &mut links)?, 1);
@@ -66,7 +66,7 @@ fn state(links: &Links, id: u16) -> Option<State> {
     Some(links.get(id)?.state())
 }
 
-/// The stream of the unit that a link hands out.
+/// The stream of the unit that a link gives.
 fn taken(links: &mut Links, id: u16) -> Option<u8> {
     links.get(id)?;
     Some(links.take(id)?.stream)
@@ -121,7 +121,7 @@ fn given_up_by_id(rt: HostRuntime) -> Result<(), Fail> {
     Ok(())
 }
 
-/// A new link that asks, once more where memory is refused; then none had come.
+/// A new link that dials, tried again if memory is refused. The refused call made no link.
 fn dial_at_last(rt: &impl Abort, alloc: Global, links: &mut Links, last: u16) -> Result<(), Fail> {
     if dial(alloc, links).is_err() {
         assert_eq!(rt; links.after(last), None);
@@ -131,7 +131,7 @@ fn dial_at_last(rt: &impl Abort, alloc: Global, links: &mut Links, last: u16) ->
     Ok(())
 }
 
-/// A new link that was asked for, once more where memory is refused; then none had come.
+/// A new link that is accepted, tried again if memory is refused. The refused call made no link.
 fn accept_at_last(
     rt: &impl Abort,
     alloc: Global,
@@ -146,8 +146,8 @@ fn accept_at_last(
     Ok(())
 }
 
-/// Links that are made: where memory is refused once, no link came, and the same call again
-/// succeeds. Run it with each request refused.
+/// If memory is refused once, no link is made, and the same call succeeds the next time. Run it
+/// with each allocation refused.
 #[test]
 fn refused_links(rt: HostRuntime) -> Result<(), Fail> {
     let alloc = rt.alloc();
@@ -159,8 +159,8 @@ fn refused_links(rt: HostRuntime) -> Result<(), Fail> {
     Ok(())
 }
 
-/// The calls by id that can want memory: where one is refused, its link and the other are as they
-/// were, and the same call again succeeds. Run it with each request refused.
+/// The calls by id that need memory. If one is refused, its link and the other are unchanged, and
+/// the same call succeeds the next time. Run it with each allocation refused.
 #[test]
 fn refused_memory_by_id(rt: HostRuntime) -> Result<(), Fail> {
     let alloc = rt.alloc();

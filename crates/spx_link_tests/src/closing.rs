@@ -1,4 +1,4 @@
-//! The end of a connection, confirmed, and not answered.
+//! The end of a connection, confirmed or unanswered.
 
 use crate::end::{End, joined, one_unit, system, unit};
 use ipx_wire::SpxHeader;
@@ -6,7 +6,7 @@ use spx_link::{OfferFault, Received, Sent, State};
 use std::process::Abort;
 use std::test::Fail;
 
-/// The packet of the end, and its confirmation.
+/// The packet of the end.
 fn end_packet() -> SpxHeader {
     let mut end = unit(0xfe, 0);
     end.last = false;
@@ -78,7 +78,7 @@ fn no_end_before_it_is_live(rt: HostRuntime) -> Result<(), Fail> {
     Ok(())
 }
 
-/// A unit behind the peer's end is not kept, and owes nothing.
+/// A unit after the peer's end is not kept, and owes nothing.
 #[test]
 fn behind_the_end(rt: HostRuntime) -> Result<(), Fail> {
     let mut b = joined(&rt, rt.alloc(), 7)?;

@@ -1,18 +1,18 @@
-//! Pairs of links that loss, doubling, delay and another order led to, drawn from a seed: so many
-//! rounds as are said to be enough are enough.
+//! Pairs of links after random loss, duplication, delay and reordering, drawn from a seed. The
+//! number of rounds that is claimed to be enough is enough.
 
 use crate::pair::{Parcel, Side, can_go_on, is_delivered, pair, round, rounds_for};
 use std::alloc::Global;
 use std::process::Abort;
 use std::test::Fail;
 
-/// The seed from which all is drawn: not 0.
+/// The seed of the random numbers: not 0.
 const SEED: u64 = 1;
 
 /// How many pairs are tried.
 const PAIRS: u16 = 10_000;
 
-/// Numbers drawn by shifts (Marsaglia's xorshift).
+/// A random number generator (Marsaglia's xorshift).
 #[derive(Drop)]
 struct Dice {
     state: u64,
@@ -27,7 +27,7 @@ impl Dice {
     }
 }
 
-/// Two links with what is on its way between them.
+/// Two links, and the packets on their way between them.
 #[derive(Drop)]
 struct Course {
     a: Side,
@@ -35,11 +35,11 @@ struct Course {
     to_a: Vec<Parcel>,
     to_b: Vec<Parcel>,
     now: u64,
-    /// Of a hundred packets so many are lost.
+    /// How many of a hundred packets are lost.
     loss: u64,
 }
 
-/// A packet of one end: lost, or on its way once or twice.
+/// A packet of one end is lost, or is on its way once or twice.
 fn give(dice: &mut Dice, course: &mut Course, first: bool) -> Result<(), Fail> {
     let (from, way) = if first {
         (&mut course.a, &mut course.to_b)
@@ -59,7 +59,7 @@ fn give(dice: &mut Dice, course: &mut Course, first: bool) -> Result<(), Fail> {
     Ok(())
 }
 
-/// Some packet that is on its way comes.
+/// Delivers some packet that is on its way.
 fn deliver(dice: &mut Dice, course: &mut Course, first: bool) {
     let (to, way) = if first {
         (&mut course.a, &mut course.to_a)
@@ -74,7 +74,7 @@ fn deliver(dice: &mut Dice, course: &mut Course, first: bool) {
     to.receive(&parcel);
 }
 
-/// One thing happens to one of the two.
+/// One random action of one of the two.
 fn happen(
     rt: &impl Abort,
     alloc: Global,
@@ -107,7 +107,7 @@ fn ask(rt: &impl Abort, alloc: Global, side: &mut Side, what: u64) -> Result<(),
     }
 }
 
-/// A pair to which up to 60 things happened. What is on its way then never comes.
+/// A pair after up to 60 random actions. What is still on its way never arrives.
 fn drawn(rt: &impl Abort, alloc: Global, dice: &mut Dice) -> Result<Course, Fail> {
     let sizes = [1, 1, 2, 3, 5, 8];
     let one = sizes[dice.below(6) as usize];
@@ -127,22 +127,22 @@ fn drawn(rt: &impl Abort, alloc: Global, dice: &mut Dice) -> Result<Course, Fail
     Ok(course)
 }
 
-/// What is counted of the pairs that were tried.
+/// Counts over the pairs that were tried.
 #[derive(Drop)]
 struct Tally {
     pairs: u16,
-    /// The most rounds that any needed.
+    /// The most rounds that any pair needed.
     most: u16,
-    /// How many needed as many as are said to be enough.
+    /// How many pairs needed all the rounds that are claimed to be enough.
     needed_all: u16,
 }
 
-/// Whether all is through that is to be: of the first, or of both.
+/// Whether everything is delivered that should be: of the first, or of both.
 fn is_through(a: &Side, b: &Side, both: bool) -> bool {
     is_delivered(a, b) && (!both || is_delivered(b, a))
 }
 
-/// As many rounds as are said to be enough, and one more: then all is through.
+/// One more round than is claimed to be enough: then everything is delivered.
 fn go_through(rt: &impl Abort, totals: &mut Tally, a: &mut Side, b: &mut Side, now: u64) {
     let both = can_go_on(b, a);
     let back = if both { rounds_for(b, a) } else { 0 };

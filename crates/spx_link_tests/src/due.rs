@@ -1,4 +1,4 @@
-//! Till when a carrier may sleep.
+//! How long a caller may sleep.
 
 use crate::end::{End, joined, one_unit, system};
 use spx_link::Sent;
@@ -17,7 +17,7 @@ fn due_request(rt: HostRuntime) -> Result<(), Fail> {
     Ok(())
 }
 
-/// A link that owes nothing waits for a packet or a call, and one with a unit outstanding 500 ms.
+/// A link that owes nothing waits for a packet or a call. One with a unit outstanding waits 500 ms.
 #[test]
 fn due_unit(rt: HostRuntime) -> Result<(), Fail> {
     let mut end = joined(&rt, rt.alloc(), 7)?;
@@ -31,7 +31,7 @@ fn due_unit(rt: HostRuntime) -> Result<(), Fail> {
     Ok(())
 }
 
-/// Where the peer has no buffer free, the next probe.
+/// If the peer has no free buffer, the next probe.
 #[test]
 fn due_probe(rt: HostRuntime) -> Result<(), Fail> {
     let mut end = joined(&rt, rt.alloc(), 0xffff)?;

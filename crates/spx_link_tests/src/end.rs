@@ -1,4 +1,4 @@
-//! One end of a connection, as the tests use it, and the packets that pass between two.
+//! One end of a connection, as the tests use it, and the packets between two ends.
 
 ghost use Rattle.std.specs.Prelude.{◌<◌, ◌≤◌, All, IfOk, length};
 ghost use Rattle.spx_link.specs.Limits.{end_stream};
@@ -22,7 +22,7 @@ pub const REQUEST: SpxHeader = SpxHeader {
     limit: 7,
 };
 
-/// A packet of the connection itself between ids 1 and 1.
+/// A system packet between ids 1 and 1.
 pub fn system(ack: u16, limit: u16) -> SpxHeader {
     SpxHeader {
         system: true,
@@ -37,7 +37,7 @@ pub fn system(ack: u16, limit: u16) -> SpxHeader {
     }
 }
 
-/// The packet of a unit with which a message ends.
+/// The packet of a unit that ends a message.
 pub fn unit(stream: u8, seq: u16) -> SpxHeader {
     SpxHeader {
         system: false,
@@ -77,7 +77,7 @@ pub fn one_unit(alloc: Global, byte: u8) -> Result<Vec<Unit>, AllocError>
     Ok(units)
 }
 
-/// A unit, asked for again where memory is refused once.
+/// A unit, tried again if memory is refused once.
 pub fn unit_again(alloc: Global) -> Result<Vec<Unit>, AllocError>
     ensures { IfOk result (λ v. All (λ u. u.stream < end_stream) v.items) }
 {
@@ -95,7 +95,7 @@ pub struct End {
 }
 
 impl End {
-    /// A link that asks for a connection, made once more where memory was refused.
+    /// A link that requests a connection, tried again if memory was refused.
     pub fn dial(alloc: Global, buffers: u16) -> Result<End, LinksFault> {
         let mut links = Links::new(alloc);
         if links.dial(alloc, HERE, there(), buffers, 0).is_err() {
@@ -104,26 +104,26 @@ impl End {
         Ok(End { links, alloc })
     }
 
-    /// A link that a request asked for.
+    /// A link for a request.
     pub fn accept(alloc: Global, request: &SpxHeader, buffers: u16) -> Result<End, LinksFault> {
         let mut links = Links::new(alloc);
         links.accept(alloc, HERE, there(), request, buffers, 0)?;
         Ok(End { links, alloc })
     }
 
-    /// What a poll sends.
+    /// The packet that a poll gives.
     pub fn poll(&mut self, now: u64) -> Option<(Sent, SpxHeader)> {
         self.links.get(1)?;
         let packet = self.links.poll(1, now)?;
         Some((packet.what, packet.header))
     }
 
-    /// What a poll is for.
+    /// What kind of packet a poll gives.
     pub fn sent(&mut self, now: u64) -> Option<Sent> {
         Some(self.poll(now)?.0)
     }
 
-    /// What it answers to a packet. A link that is gone is not live.
+    /// How it answers a packet. A link that is gone is not live.
     pub fn receive(
         &mut self,
         header: &SpxHeader,
@@ -156,14 +156,14 @@ impl End {
         self.links.end(self.alloc, 1)
     }
 
-    /// Sets the window, and whether units go by hand.
+    /// Sets the window, and whether the link is manual.
     pub fn pace(&mut self, window: u16, manual: bool) {
         if self.links.get(1).is_some() {
             self.links.pace(1, window, manual);
         }
     }
 
-    /// Asks for a place again.
+    /// Asks for the unit at a place again.
     pub fn again(&mut self, place: u16) {
         if self.links.get(1).is_some() {
             self.links.again(1, place);
@@ -176,14 +176,14 @@ impl End {
         link.next_due()
     }
 
-    /// The stream of the unit that it hands out next.
+    /// The stream of the unit that it gives next.
     pub fn peek(&self) -> Option<u8> {
         let link = self.links.get(1)?;
         let unit = link.peek()?;
         Some(unit.stream)
     }
 
-    /// The length of the unit that it hands out.
+    /// The length of the unit that it gives.
     pub fn take(&mut self) -> Option<usize> {
         self.links.get(1)?;
         let unit = self.links.take(1)?;
@@ -201,7 +201,7 @@ impl End {
     }
 }
 
-/// An end that asks, with 8 buffers, made again where memory is refused once.
+/// An end that dials, with 8 buffers, tried again if memory is refused once.
 fn dial_again(alloc: Global) -> Result<End, LinksFault> {
     match End::dial(alloc, 8) {
         Ok(end) => Ok(end),
@@ -209,7 +209,7 @@ fn dial_again(alloc: Global) -> Result<End, LinksFault> {
     }
 }
 
-/// An end that asked, with 8 buffers, and got a reply with an allocation.
+/// An end that dialed, with 8 buffers, and got a reply with an allocation.
 pub fn joined(rt: &impl Abort, alloc: Global, limit: u16) -> Result<End, Fail> {
     let mut end = dial_again(alloc)?;
     assert_eq!(rt; end.sent(0), Some(Sent::Request));

@@ -1,5 +1,5 @@
-//! IPX packets and their bytes: what is read, what is refused, and what is changed or written where
-//! it stands.
+//! IPX packets and their bytes: what is read, what is refused, and what is changed or written in
+//! place.
 
 use crate::end::REQUEST;
 use ipx_wire::{
@@ -73,7 +73,7 @@ fn refuses_a_checksum(rt: HostRuntime) {
     bytes[0] = 0;
     bytes[1] = 0;
     assert_eq!(rt; fault_of(&bytes), Some(IpxFault::Checksummed(0)));
-    // The checksum is looked at before the length.
+    // The checksum is checked before the length.
     bytes[3] = 0x1d;
     assert_eq!(rt; fault_of(&bytes), Some(IpxFault::Checksummed(0)));
 }
@@ -112,7 +112,7 @@ fn longest_body(rt: HostRuntime) -> Result<(), Fail> {
     Ok(())
 }
 
-/// The packet with a byte of padding behind it.
+/// The packet followed by a byte of padding.
 const PADDED: [u8; 31] = [
     0xff, 0xff, 0, 0x1e, 0, 0, 0, 0, 0, 0x22, 0, 0, 0x7f, 0, 0, 5, 0x40, 0, 0, 0, 0, 0x11, 0, 0,
     0x7f, 0, 0, 3, 0x40, 1, 0,

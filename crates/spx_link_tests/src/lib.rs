@@ -1,5 +1,5 @@
-//! Tests of SPX packets and of links, with literal values. They call what those crates make
-//! public, and no crate stands on this one.
+//! Tests of SPX packets and of links, with literal values. They call the public functions of those
+//! crates, and no crate depends on this one.
 #![tactic(auto)]
 
 #[cfg(test)]

@@ -1,11 +1,11 @@
-//! A message from its first packet to its last, and one where the peer has one buffer.
+//! A message from its first packet to its last, and one to a peer with one buffer.
 
 use crate::end::{End, REQUEST, joined, one_unit, system, unit};
 use spx_link::{Received, Sent};
 use std::process::Abort;
 use std::test::Fail;
 
-/// The request, its reply, a unit and its acknowledgement before it is taken.
+/// The request, its reply, a unit, and its acknowledgement before it is taken.
 #[test]
 fn one_message(rt: HostRuntime) -> Result<(), Fail> {
     let alloc = rt.alloc();

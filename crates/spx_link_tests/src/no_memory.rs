@@ -1,4 +1,4 @@
-//! A link that reads where every request for memory is refused.
+//! A link that receives while every allocation is refused.
 
 use crate::end::{End, joined, unit};
 use spx_link::Received;
@@ -6,15 +6,15 @@ use std::alloc::Global;
 use std::process::Abort;
 use std::test::Fail;
 
-/// Asks for so many bytes. Where requests are refused from one of 77,777 bytes on, until one of
-/// 77,778 bytes, this says from when to when.
+/// Requests so many bytes. The sizes 77,777 and 77,778 mark the start and the end of the allocations
+/// that may be refused.
 fn asks_for(alloc: Global, size: usize) -> bool {
     let block: Result<Vec<u8>, _> = Vec::with_capacity(alloc, size);
     block.is_ok()
 }
 
-/// Eight buffers, kept full, and one more unit once one was taken. Between the two requests nothing
-/// is asked of memory: run it with each request between them refused.
+/// Eight full buffers, and one more unit after one was taken. Nothing is allocated between the two
+/// requests. Run it with each request between them refused.
 #[test]
 fn no_memory_receive(rt: HostRuntime) -> Result<(), Fail> {
     let mut end = joined(&rt, rt.alloc(), 7)?;

@@ -1,4 +1,4 @@
-//! Links with a window, and units that go again by hand.
+//! Links with a window, and manual links.
 
 use crate::end::{End, joined, one_unit, system};
 use spx_link::{Sent, State};
@@ -6,7 +6,7 @@ use std::alloc::Global;
 use std::process::Abort;
 use std::test::Fail;
 
-/// An end by hand, of which so many units are outstanding, sent at 0, and none waits.
+/// A manual end with so many units outstanding, sent at time 0, and none waiting.
 fn manual(rt: &impl Abort, alloc: Global, count: u8) -> Result<End, Fail> {
     let mut end = joined(rt, alloc, 7)?;
     end.pace(8192, true);
@@ -18,13 +18,13 @@ fn manual(rt: &impl Abort, alloc: Global, count: u8) -> Result<End, Fail> {
     Ok(end)
 }
 
-/// What a poll sends, and its number.
+/// What kind of packet a poll gives, and its number.
 fn numbered(end: &mut End, now: u64) -> Option<(Sent, u16)> {
     let (what, header) = end.poll(now)?;
     Some((what, header.seq))
 }
 
-/// A window of 2 gives two of three units, and one of 3 the third.
+/// A window of 2 lets two of three units go, and a window of 3 the third.
 #[test]
 fn window_of_two(rt: HostRuntime) -> Result<(), Fail> {
     let mut end = joined(&rt, rt.alloc(), 7)?;
@@ -42,7 +42,7 @@ fn window_of_two(rt: HostRuntime) -> Result<(), Fail> {
     Ok(())
 }
 
-/// A window of 0 holds new units back.
+/// A window of 0 lets no new unit go.
 #[test]
 fn window_of_none(rt: HostRuntime) -> Result<(), Fail> {
     let mut end = joined(&rt, rt.alloc(), 7)?;
@@ -55,7 +55,7 @@ fn window_of_none(rt: HostRuntime) -> Result<(), Fail> {
     Ok(())
 }
 
-/// By hand nothing goes again by itself.
+/// A manual link retransmits nothing by itself.
 #[test]
 fn nothing_by_itself(rt: HostRuntime) -> Result<(), Fail> {
     let mut end = manual(&rt, rt.alloc(), 2)?;
@@ -65,7 +65,7 @@ fn nothing_by_itself(rt: HostRuntime) -> Result<(), Fail> {
     Ok(())
 }
 
-/// The unit that is asked for goes under its own number, once.
+/// The unit that is asked for is sent under its own number, once.
 #[test]
 fn the_second_again(rt: HostRuntime) -> Result<(), Fail> {
     let mut end = manual(&rt, rt.alloc(), 3)?;
@@ -77,7 +77,8 @@ fn the_second_again(rt: HostRuntime) -> Result<(), Fail> {
     Ok(())
 }
 
-/// A place at which no unit is outstanding gives nothing, nor does one before the window is set anew.
+/// A place without an outstanding unit gives nothing, nor does one that was asked for before
+/// `pace`.
 #[test]
 fn no_such_place(rt: HostRuntime) -> Result<(), Fail> {
     let mut end = manual(&rt, rt.alloc(), 3)?;
@@ -105,7 +106,8 @@ fn acknowledged_between(rt: HostRuntime) -> Result<(), Fail> {
     Ok(())
 }
 
-/// A unit goes by hand as often as it is asked for. Back to the clock its nine times more are counted.
+/// A manual link sends a unit as often as it is asked for. By the clock again, nine more sends
+/// count.
 #[test]
 fn three_hundred_manual(rt: HostRuntime) -> Result<(), Fail> {
     let mut end = manual(&rt, rt.alloc(), 1)?;
@@ -123,7 +125,7 @@ fn three_hundred_manual(rt: HostRuntime) -> Result<(), Fail> {
     Ok(())
 }
 
-/// Where its peer allows nothing, a link by hand probes sixty times, and then it is lost.
+/// If its peer allows nothing, a manual link probes sixty times, and is then lost.
 #[test]
 fn sixty_probes(rt: HostRuntime) -> Result<(), Fail> {
     let mut end = joined(&rt, rt.alloc(), 0)?;
@@ -143,7 +145,7 @@ fn sixty_probes(rt: HostRuntime) -> Result<(), Fail> {
     Ok(())
 }
 
-/// Back to the clock, a unit that was sent over 500 ms ago goes at once.
+/// By the clock again, a unit that was sent over 500 ms ago is sent at once.
 #[test]
 fn back_to_the_clock(rt: HostRuntime) -> Result<(), Fail> {
     let mut end = manual(&rt, rt.alloc(), 1)?;

@@ -1,5 +1,5 @@
-//! Two ends of a connection, and rounds of them: all that one gives at a moment is read by the
-//! other, whose user takes all that it holds, and the other way.
+//! Two ends of a connection, and rounds. In a round, each end reads everything that the other gives
+//! at that time, and its user takes all that it holds.
 
 use crate::end::{HERE, one_unit, there};
 use ipx_wire::SpxHeader;
@@ -11,7 +11,7 @@ use std::test::Fail;
 /// How often a link sends a unit or a probe before it gives up.
 const MAX_SENDS: u8 = 10;
 
-/// A packet on its way. A unit's body is one byte.
+/// A packet on its way. The body of a unit is one byte.
 #[derive(Clone, Copy)]
 pub struct Parcel {
     header: SpxHeader,
@@ -19,8 +19,8 @@ pub struct Parcel {
     size: usize,
 }
 
-/// One end, and what is kept of it: how many units were offered, its end among them, and how many
-/// taken; how often each was sent; and how many probes were, since a packet was read.
+/// One end with its counts: the units offered, its end among them, and the units taken; how often
+/// each unit was sent; and the probes sent since a packet was read.
 #[derive(Drop)]
 pub struct Side {
     link: Link,
@@ -46,7 +46,7 @@ impl Side {
         }
     }
 
-    /// What it gives.
+    /// The packet that it gives.
     pub fn poll(&mut self, now: u64) -> Option<Parcel> {
         let packet = self.link.poll(now)?;
         let mut parcel = Parcel {
@@ -72,7 +72,7 @@ impl Side {
         }
     }
 
-    /// Queues a unit, while it is live.
+    /// Queues a unit, if it is live.
     pub fn offer(&mut self, alloc: Global) -> Result<(), Fail> {
         if self.link.state() != State::Live {
             return Ok(());
@@ -84,7 +84,7 @@ impl Side {
         Ok(())
     }
 
-    /// Queues its end, while it is live.
+    /// Queues its end, if it is live.
     pub fn end(&mut self, alloc: Global) -> Result<(), Fail> {
         if self.link.state() != State::Live {
             return Ok(());
@@ -96,7 +96,7 @@ impl Side {
         Ok(())
     }
 
-    /// Takes a unit, which is to be the next one of its peer.
+    /// Takes a unit, which must be the next one of its peer.
     pub fn take(&mut self, rt: &impl Abort) -> bool {
         let Some(unit) = self.link.take() else {
             return false;
@@ -120,12 +120,12 @@ impl Side {
         self.taken
     }
 
-    /// How many units it queues and has not sent.
+    /// How many units it has queued and not sent.
     pub fn waiting(&self) -> u16 {
         self.offered - self.link.numbers().next
     }
 
-    /// Whether a unit outstanding, or probes, were sent ten times.
+    /// Whether an outstanding unit, or probes, were sent ten times.
     fn has_given_up(&self) -> bool {
         let numbers = self.link.numbers();
         let mut outstanding = numbers.next - numbers.out..numbers.next;
@@ -147,19 +147,19 @@ pub fn pair(rt: &impl Abort, alloc: Global, one: u16, two: u16) -> Result<(Side,
     Ok((a, b))
 }
 
-/// All that one end gives at a moment, read by the other.
+/// Everything that one end gives at this time is read by the other.
 pub fn convey(from: &mut Side, to: &mut Side, now: u64) {
     while let Some(parcel) = from.poll(now) {
         to.receive(&parcel);
     }
 }
 
-/// All that an end holds is taken.
+/// Takes all that an end holds.
 pub fn take_all(rt: &impl Abort, side: &mut Side) {
     while side.take(rt) {}
 }
 
-/// A round at a moment.
+/// A round at this time.
 pub fn round(rt: &impl Abort, a: &mut Side, b: &mut Side, now: u64) {
     convey(a, b, now);
     take_all(rt, b);
@@ -180,7 +180,7 @@ pub fn can_go_on(a: &Side, b: &Side) -> bool {
         && !b.has_given_up()
 }
 
-/// All units of the first are acknowledged and taken, and its end is confirmed where it was queued.
+/// All units of the first are acknowledged and taken. Its end is confirmed, if it was queued.
 pub fn is_delivered(a: &Side, b: &Side) -> bool {
     let states = if a.ended {
         (State::Confirmed, State::PeerEnded)

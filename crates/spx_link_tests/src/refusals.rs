@@ -1,4 +1,4 @@
-//! What links refuse: units and the end out of season, and a seventeenth link.
+//! What links refuse: units and the end in the wrong state, and a seventeenth link.
 
 use crate::end::{End, HERE, joined, one_unit, system, there};
 use spx_link::{Links, LinksFault, OfferFault, Sent, State};
@@ -15,7 +15,7 @@ fn nothing_is_queued_before_it_is_live(rt: HostRuntime) -> Result<(), Fail> {
     Ok(())
 }
 
-/// The end is sent, and nothing behind it.
+/// The end is sent, and nothing after it.
 #[test]
 fn nothing_is_queued_behind_the_end(rt: HostRuntime) -> Result<(), Fail> {
     let mut ending = joined(&rt, rt.alloc(), 7)?;

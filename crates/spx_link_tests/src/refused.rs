@@ -1,11 +1,11 @@
-//! A link where memory is refused. Run these with each request for memory refused.
+//! A link when memory is refused. Run these with each allocation refused.
 
 use crate::end::{joined, unit_again};
 use spx_link::{OfferFault, Sent, State};
 use std::test::Fail;
 
-/// Each call of a link that can want memory: where it is refused once, nothing changed, and the
-/// same call again succeeds.
+/// Each call of a link that needs memory. If it is refused once, nothing changed, and the same call
+/// succeeds the next time.
 #[test]
 fn refused_memory(rt: HostRuntime) -> Result<(), Fail> {
     let mut end = joined(&rt, rt.alloc(), 7)?;
@@ -19,7 +19,7 @@ fn refused_memory(rt: HostRuntime) -> Result<(), Fail> {
     Ok(())
 }
 
-/// The same of the end, behind no unit.
+/// The same for the end, with no unit before it.
 #[test]
 fn refused_end(rt: HostRuntime) -> Result<(), Fail> {
     let mut ending = joined(&rt, rt.alloc(), 7)?;

@@ -1,5 +1,5 @@
-//! Rounds without loss, worked: how many two links need, and what becomes of them where a round is
-//! less than it is to be.
+//! Worked examples of rounds without loss: how many two links need, and what happens if a round is
+//! incomplete.
 
 use crate::pair::{Side, can_go_on, convey, is_delivered, pair, round, rounds_for, take_all};
 use spx_link::State;
@@ -8,8 +8,9 @@ use std::process::Abort;
 use std::test::Fail;
 
 /// Two links, with 5 buffers and with 1. The first sends a unit, and another one waits. The second
-/// reads it, and sends one of its own, by which the first may send no more. The second's user takes
-/// the unit, and the packet that tells of the buffer is lost. The first holds the second's unit.
+/// reads it, and sends a unit of its own, which allows the first no more. The second's user takes
+/// the unit, and the packet that announces the free buffer is lost. The first holds the second's
+/// unit.
 fn without_room(rt: &impl Abort, alloc: Global) -> Result<(Side, Side), Fail> {
     let (mut a, mut b) = pair(rt, alloc, 5, 1)?;
     a.offer(alloc)?;
@@ -25,8 +26,8 @@ fn without_room(rt: &impl Abort, alloc: Global) -> Result<(Side, Side), Fail> {
     Ok((a, b))
 }
 
-/// The first acknowledges what it held, in two rounds; in the third it probes; in the fourth the
-/// unit comes.
+/// The first acknowledges what it held, in two rounds. In the third it probes, and in the fourth
+/// the unit arrives.
 #[test]
 fn needs_all_rounds(rt: HostRuntime) -> Result<(), Fail> {
     let (mut a, mut b) = without_room(&rt, rt.alloc())?;
@@ -40,7 +41,7 @@ fn needs_all_rounds(rt: HostRuntime) -> Result<(), Fail> {
     Ok(())
 }
 
-/// Rounds 499 ms apart are not enough for it: a probe is due after 500.
+/// Rounds 499 ms apart are not enough for this: a probe is due after 500.
 #[test]
 fn rounds_too_soon(rt: HostRuntime) -> Result<(), Fail> {
     let (mut a, mut b) = without_room(&rt, rt.alloc())?;
@@ -51,7 +52,7 @@ fn rounds_too_soon(rt: HostRuntime) -> Result<(), Fail> {
     Ok(())
 }
 
-/// Two links of which the first has a unit that waits: four rounds are enough.
+/// Two links, and the first has a unit that waits: four rounds are enough.
 fn with_a_unit(rt: &impl Abort, alloc: Global) -> Result<(Side, Side), Fail> {
     let (mut a, b) = pair(rt, alloc, 1, 1)?;
     a.offer(alloc)?;
@@ -60,7 +61,7 @@ fn with_a_unit(rt: &impl Abort, alloc: Global) -> Result<(Side, Side), Fail> {
     Ok((a, b))
 }
 
-/// All that one end gives at a moment, but for the last packet, read by the other.
+/// Everything that one end gives at this time, except the last packet, is read by the other.
 fn convey_all_but_one(from: &mut Side, to: &mut Side, now: u64) {
     let mut last = from.poll(now);
     while let Some(parcel) = last {
@@ -85,7 +86,7 @@ fn rounds_without_the_last_packet(rt: HostRuntime) -> Result<(), Fail> {
     Ok(())
 }
 
-/// Rounds in which the second user takes nothing: of two units that wait, one goes.
+/// Rounds in which the second user takes nothing: one of two waiting units is sent.
 #[test]
 fn rounds_without_a_take(rt: HostRuntime) -> Result<(), Fail> {
     let (mut a, mut b) = with_a_unit(&rt, rt.alloc())?;
@@ -100,7 +101,7 @@ fn rounds_without_a_take(rt: HostRuntime) -> Result<(), Fail> {
     Ok(())
 }
 
-/// A unit that was sent ten times: the link is lost in the first round.
+/// A unit was already sent ten times: the link is lost in the first round.
 #[test]
 fn rounds_after_ten_sends(rt: HostRuntime) -> Result<(), Fail> {
     let (mut a, mut b) = with_a_unit(&rt, rt.alloc())?;
@@ -114,7 +115,7 @@ fn rounds_after_ten_sends(rt: HostRuntime) -> Result<(), Fail> {
     Ok(())
 }
 
-/// Ten probes: likewise.
+/// Ten probes were already sent: the same.
 #[test]
 fn rounds_after_ten_probes(rt: HostRuntime) -> Result<(), Fail> {
     let (mut a, mut b) = without_room(&rt, rt.alloc())?;

@@ -1,4 +1,4 @@
-//! Worked rows of acknowledge numbers and allocations.
+//! Worked examples of acknowledge numbers and allocations.
 
 use crate::end::{End, joined, one_unit, system};
 use spx_link::{Numbers, Received, Sent};

@@ -1,4 +1,4 @@
-//! What a link says to a person who debugs.
+//! The debug text of a link.
 
 ghost use Rattle.std.specs.Prelude.{◌≤◌, length};
 
@@ -24,8 +24,8 @@ fn text_of_a_link_that_asks(rt: HostRuntime) -> Result<(), Fail> {
     Ok(())
 }
 
-/// Three units are queued, two of them sent. Of the peer's units 0 and 3 came, and 1 and 2 are
-/// missing.
+/// Three units are queued, and two of them are sent. Of the peer's units 0 and 3 were received, and
+/// 1 and 2 are missing.
 #[test]
 fn text_of_a_link_at_work(rt: HostRuntime) -> Result<(), Fail> {
     let alloc = rt.alloc();
@@ -48,7 +48,7 @@ fn text_of_a_link_at_work(rt: HostRuntime) -> Result<(), Fail> {
     Ok(())
 }
 
-/// A packet of the peer comes.
+/// A packet of the peer is received.
 fn reads(rt: &impl Abort, links: &mut Links, header: &SpxHeader, body: &[u8], answer: Received)
     requires { length body.now ≤ 534 }
 {

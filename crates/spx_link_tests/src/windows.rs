@@ -6,8 +6,8 @@ use std::alloc::Global;
 use std::process::Abort;
 use std::test::Fail;
 
-/// 9,000 units for a peer with 8,192 buffers: 8,192 go out and the next one waits. 500 ms later the
-/// first goes again.
+/// 9,000 units for a peer with 8,192 buffers: 8,192 are sent and the next one waits. 500 ms later
+/// the first is sent again.
 #[test]
 fn window_rows(rt: HostRuntime) -> Result<(), Fail> {
     let mut end = joined(&rt, rt.alloc(), 0x1fff)?;

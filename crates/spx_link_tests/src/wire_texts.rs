@@ -1,4 +1,4 @@
-//! What the faults of IPX and SPX packets, addresses and packets say to a person.
+//! The texts of the faults of IPX and SPX packets, and of addresses and packets.
 
 use ipx_wire::{Address, IpxFault, IpxHeader, Network, Node, Packet, Socket, SpxFault};
 use std::test::Fail;
@@ -56,7 +56,7 @@ fn texts_of_addresses(rt: HostRuntime) -> Result<(), Fail> {
     Ok(())
 }
 
-/// Texts that spell no network.
+/// Texts that are no network.
 const NO_NETWORKS: [&str; 7] = [
     "",
     "0000022",

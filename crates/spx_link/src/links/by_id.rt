@@ -26,8 +26,8 @@ use ipx_wire::SpxHeader;
 use std::alloc::Global;
 
 impl Links {
-    /// What `Link::poll` does, by a live id. It takes no memory.
-    #[inline(always)] // what it answers would else pass through memory for each packet
+    /// `Link::poll` of the link with a live id. It needs no memory.
+    #[inline(always)] // otherwise its result would pass through memory for each packet
     pub fn poll(&mut self, id: u16, now: u64) -> Option<Outgoing<'_>>
         requires { IsLive self.old id }
         ensures* leaves { sem 𝓛
@@ -42,7 +42,7 @@ impl Links {
         Some(self.carry(picked.0, chosen))
     }
 
-    /// Chooses the packet that the link of a live id sends, and tells the place of that link.
+    /// Chooses the packet that the link of a live id sends, and returns the place of that link.
     fn choose(&mut self, id: u16, now: u64) -> (usize, Option<Chosen>)
         requires { IsLive self.old id }
         ensures within { result.0 < length self.new.links }
@@ -65,7 +65,7 @@ impl Links {
         link_at_place(&self.links, place).carry(chosen)
     }
 
-    /// What `Link::next_due` answers, by a live id.
+    /// `Link::next_due` of the link with a live id.
     pub fn next_due(&self, id: u16) -> Option<u64>
         requires { IsLive self.now id }
         ensures { IfSome (link_at self.now id) (λ l. IsNextDue l result) }
@@ -74,7 +74,7 @@ impl Links {
         self.links[place].next_due()
     }
 
-    /// What `Link::is_all_acked` answers, by a live id.
+    /// `Link::is_all_acked` of the link with a live id.
     pub fn is_all_acked(&self, id: u16) -> bool
         requires { IsLive self.now id }
         ensures { IfSome (link_at self.now id) (λ l. IsTrue result ↔ IsWhole l) }
@@ -83,7 +83,7 @@ impl Links {
         self.links[place].is_all_acked()
     }
 
-    /// What `Link::receive` does, by a live id. It takes no memory. The caller owes a body of at
+    /// `Link::receive` of the link with a live id. It needs no memory. The caller owes a body of at
     /// most 534 bytes.
     pub fn receive(&mut self, id: u16, header: &SpxHeader, body: &[u8], now: u64) -> Received
         requires live { IsLive self.old id }
@@ -97,7 +97,7 @@ impl Links {
         self.links[place].receive(header, body, now)
     }
 
-    /// What `Link::offer` does, by a live id. The caller owes streams under FE.
+    /// `Link::offer` of the link with a live id. The caller owes streams under FE.
     pub fn offer(&mut self, alloc: Global, id: u16, units: Vec<Unit>) -> Result<(), OfferFault>
         requires live { IsLive self.old id }
         requires streams { All (λ u. u.stream < end_stream) units.items }
@@ -115,7 +115,7 @@ impl Links {
         self.links[place].offer(alloc, units)
     }
 
-    /// What `Link::end` does, by a live id.
+    /// `Link::end` of the link with a live id.
     pub fn end(&mut self, alloc: Global, id: u16) -> Result<(), OfferFault>
         requires { IsLive self.old id }
         ensures ok { IfSome (link_at self.old id)
@@ -130,7 +130,7 @@ impl Links {
         self.links[place].end(alloc)
     }
 
-    /// What `Link::take` does, by a live id. It takes no memory.
+    /// `Link::take` of the link with a live id. It needs no memory.
     pub fn take(&mut self, id: u16) -> Option<Unit>
         requires { IsLive self.old id }
         ensures gives { IfSome (link_at self.old id) (λ l. result ≡ (O.take_link l).0) }
@@ -141,7 +141,7 @@ impl Links {
         self.links[place].take()
     }
 
-    /// What `Link::discard` does, by a live id. It takes no memory.
+    /// `Link::discard` of the link with a live id. It needs no memory.
     pub fn discard(&mut self, id: u16)
         requires { IsLive self.old id }
         ensures { IfSome (link_at self.old id)
@@ -151,7 +151,7 @@ impl Links {
         self.links[place].discard();
     }
 
-    /// What `Link::owe_reply` does, by a live id.
+    /// `Link::owe_reply` of the link with a live id.
     pub fn owe_reply(&mut self, id: u16)
         requires { IsLive self.old id }
         ensures { IfSome (link_at self.old id)
@@ -161,7 +161,7 @@ impl Links {
         self.links[place].owe_reply();
     }
 
-    /// What `Link::pace` does, by a live id.
+    /// `Link::pace` of the link with a live id.
     pub fn pace(&mut self, id: u16, window: u16, manual: bool)
         requires { IsLive self.old id }
         ensures { IfSome (link_at self.old id)
@@ -171,7 +171,7 @@ impl Links {
         self.links[place].pace(window, manual);
     }
 
-    /// What `Link::again` does, by a live id.
+    /// `Link::again` of the link with a live id.
     pub fn again(&mut self, id: u16, place: u16)
         requires { IsLive self.old id }
         ensures { IfSome (link_at self.old id)
@@ -181,7 +181,7 @@ impl Links {
         self.links[at].again(place);
     }
 
-    /// What `Link::lose` does, by a live id.
+    /// `Link::lose` of the link with a live id.
     pub fn lose(&mut self, id: u16)
         requires { IsLive self.old id }
         ensures { IfSome (link_at self.old id)

@@ -1,4 +1,4 @@
-//! Links in a list, by their ids.
+//! Look-ups of links in a list, by their ids.
 
 ghost use Rattle.std.specs.Prelude.{◌≡◌, ◌<◌, ◌↔◌, ◌==◌, IsSome, IsTrue, Some, filter, is_some};
 ghost use Rattle.std.specs.Prelude.{length, not, option_copied, position, slice_get};
@@ -48,14 +48,14 @@ pub fn link_at_place(links: &[Link], place: usize) -> &Link
     &links[place]
 }
 
-/// The id that is some steps after another: 0001 to FFFE upwards, and 0001 after FFFE.
+/// The id that is `steps` after another: 0001 to FFFE upwards, then 0001 again.
 fn id_after(last: u16, steps: u16) -> u16
     ensures { result ≡ spec.id_after last steps }
 {
     ((u32::from(last) + u32::from(steps)) % 65534 + 1) as u16
 }
 
-/// The first id after the one last given that is free.
+/// The first free id after the one assigned last.
 pub fn next_free(links: &[Link], last: u16) -> u16
     requires { length links.now < most_links }
     ensures { IsNextFree (record { last = last; links = links.now }) result }
@@ -69,7 +69,7 @@ pub fn next_free(links: &[Link], last: u16) -> u16
     unreachable!()
 }
 
-/// The least id so far, once an id was seen that may count.
+/// The least id so far, after one more id that may count.
 fn lesser(id: u16, counts: bool, least: Option<u16>) -> Option<u16>
     ensures { result ≡ lesser_of id counts least }
 {
@@ -99,7 +99,7 @@ fn is_over(link: &Link, id: u16) -> bool
     id < link.own
 }
 
-/// The least id of the links that were accepted from an address and an id there.
+/// The least id of the links that were accepted from this address and peer id.
 pub fn least_accepted(links: &[Link], from: Address, peer_id: u16) -> Option<u16>
     ensures { IsLeastId (IsFrom from peer_id) links.now result }
 {
@@ -116,7 +116,7 @@ fn is_from(link: &Link, from: Address, peer_id: u16) -> bool
     link.accepted && link.remote == from && link.peer == peer_id
 }
 
-/// The links without that of an id.
+/// Removes the link of an id.
 pub fn remove_link(links: &mut Vec<Link>, id: u16)
     ensures { links.new.items ≡ filter (λ l. not (l.own == id)) links.old.items }
 {
