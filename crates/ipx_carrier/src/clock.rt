@@ -13,7 +13,7 @@ pub trait Clock {
 }
 
 /// A clock that advances by the same step at each read. It stays at the greatest u64.
-#[derive(Clone, Copy, Debug)]
+#[derive(Clone, Copy)]
 pub struct SteppedClock {
     moment: u64,
     step: u64,

@@ -12,7 +12,7 @@ use std::alloc::Global;
 use std::collections::VecDeque;
 
 /// A datagram that was sent.
-#[derive(Debug, Drop)]
+#[derive(Drop)]
 pub struct SentDatagram {
     /// The port of the device.
     pub port: usize,
@@ -22,7 +22,7 @@ pub struct SentDatagram {
 }
 
 /// What a port gave when it was asked for a datagram.
-#[derive(Debug, Drop)]
+#[derive(Drop)]
 pub struct KeptAnswer {
     port: usize,
     bytes: Option<Vec<u8>>,

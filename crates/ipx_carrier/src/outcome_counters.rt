@@ -9,7 +9,7 @@ use ipx_router::{Outcome, Reason};
 
 /// How many datagrams a router forwarded, answered, took in, or dropped for each reason. Each count
 /// stays at the greatest u64.
-#[derive(Clone, Copy, Debug, PartialEq, Eq)]
+#[derive(Clone, Copy, PartialEq, Eq)]
 pub struct OutcomeCounters {
     pub forwarded: u64,
     pub answered: u64,

@@ -7,7 +7,7 @@ ghost use Rattle.ipx_carrier.specs.Counting.{counted};
 use crate::fault::RunFault;
 
 /// The counts of a run.
-#[derive(Clone, Copy, Debug, PartialEq, Eq)]
+#[derive(Clone, Copy, PartialEq, Eq)]
 pub struct Report {
     /// The turns that it took.
     pub turns: u128,
@@ -20,14 +20,14 @@ pub struct Report {
 }
 
 /// The counts of the packets of one turn: datagrams that were sent, and packets that were not.
-#[derive(Clone, Copy, Debug)]
+#[derive(Clone, Copy)]
 pub struct SendCounts {
     pub sent: u128,
     pub unmapped: u128,
 }
 
 /// The counts of consecutive turns, and how they ended.
-#[derive(Clone, Copy, Debug, PartialEq, Eq)]
+#[derive(Clone, Copy, PartialEq, Eq)]
 pub struct Batch {
     /// The datagrams that the core received.
     pub heard: u64,

@@ -11,7 +11,7 @@ use crate::fault::DeviceFault;
 use ipx_wire::Node;
 
 /// What became of a packet that a port driver was given.
-#[derive(Clone, Copy, Debug, PartialEq, Eq)]
+#[derive(Clone, Copy, PartialEq, Eq)]
 pub enum PacketSent {
     /// It was not sent, because its node has no address there.
     Unmapped,

@@ -6,7 +6,7 @@ ghost use Rattle.ipx_ethernet_ports.specs.EndTraffic.{EndTraffic, EndsPass, came
 use ipx_carrier::DeviceFault;
 
 /// A frame that came to a port: from which remote, and how many bytes it has.
-#[derive(Clone, Copy, Debug, PartialEq, Eq)]
+#[derive(Clone, Copy, PartialEq, Eq)]
 pub struct FrameCame {
     pub end: usize,
     pub size: usize,

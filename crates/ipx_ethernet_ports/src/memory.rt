@@ -11,7 +11,7 @@ use ipx_wire::OutOfMemory;
 use std::alloc::Global;
 
 /// A frame that came from a remote, or that was sent to one.
-#[derive(Debug, Drop)]
+#[derive(Drop)]
 pub struct MemoryFrame {
     pub port: usize,
     pub end: usize,

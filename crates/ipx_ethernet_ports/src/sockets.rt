@@ -15,7 +15,7 @@ use std::net::{Net, SocketAddr, UdpSocket};
 use std::os::fd::{AsRawFd, RawFd};
 
 /// An address of a port or a remote: an IP address, and a UDP port there.
-#[derive(Clone, Copy, Debug, PartialEq, Eq)]
+#[derive(Clone, Copy, PartialEq, Eq)]
 pub struct Place {
     pub ip: [u8; 4],
     pub udp_port: u16,

@@ -36,7 +36,7 @@ use std::rt::Clock;
 const STDOUT: RawFd = 1;
 
 /// Why a listening host ends.
-#[derive(Clone, Copy, Debug)]
+#[derive(Clone, Copy)]
 pub enum ListenOutcome {
     /// The end of the first connection that was heard came.
     Ended,

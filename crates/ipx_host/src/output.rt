@@ -13,7 +13,7 @@ const PIECE: usize = 4096;
 const MAX_PIECES: u32 = 64;
 
 /// A writer could not write.
-#[derive(Clone, Copy, Debug)]
+#[derive(Clone, Copy)]
 pub struct WriteFault;
 
 /// The bytes of a message, of which the first are written. A slow reader behind the writer stops

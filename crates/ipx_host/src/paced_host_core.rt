@@ -20,14 +20,14 @@ use spx_messages::{Arrived, Endpoint};
 use std::alloc::{AllocError, Global};
 
 /// A connection that was accepted: its id, and the address that asked for it.
-#[derive(Clone, Copy, Debug)]
+#[derive(Clone, Copy)]
 pub struct Accepted {
     pub id: u16,
     pub from: Address,
 }
 
 /// What came with a datagram.
-#[derive(Clone, Copy, Debug)]
+#[derive(Clone, Copy)]
 pub enum Arrival {
     /// The link of this id read it.
     Heard(u16),

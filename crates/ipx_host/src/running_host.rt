@@ -33,7 +33,7 @@ use std::os::fd::RawFd;
 use std::rt::Clock;
 
 /// What a turn did.
-#[derive(Clone, Copy, Debug)]
+#[derive(Clone, Copy)]
 pub struct Activity {
     /// A datagram was heard.
     pub heard: bool,

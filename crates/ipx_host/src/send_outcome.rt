@@ -7,7 +7,7 @@ ghost use Rattle.ipx_host.specs.declared.send_outcome.SendOutcome.TheVariants as
 use spx_link::State;
 
 /// How a transfer ends.
-#[derive(Clone, Copy, Debug, PartialEq, Eq)]
+#[derive(Clone, Copy)]
 pub enum SendOutcome {
     /// The peer has acknowledged all that was sent, and the end behind it.
     Done,

@@ -23,7 +23,7 @@ pub const KEEPALIVE_AFTER: u64 = 60_000;
 pub const FIRST_DATA_TIMEOUT: u64 = 1000;
 
 /// How a connection that was accepted stands with this host.
-#[derive(Clone, Copy, Debug, PartialEq, Eq)]
+#[derive(Clone, Copy)]
 pub enum Phase {
     /// Nothing was heard of it since it was accepted.
     New,
@@ -69,7 +69,7 @@ fn home_of(own: Network, address: &Address) -> Network
 }
 
 /// A connection that was accepted.
-#[derive(Clone, Copy, Debug)]
+#[derive(Clone, Copy)]
 pub struct Session {
     pub id: u16,
     pub from: Address,
@@ -135,7 +135,7 @@ pub fn hear_one(sessions: &mut [Session], heard: u16, moment: u64)
 }
 
 /// What becomes of a connection.
-#[derive(Clone, Copy, Debug, PartialEq, Eq)]
+#[derive(Clone, Copy)]
 pub enum SessionAction {
     /// It is held on.
     Stays,

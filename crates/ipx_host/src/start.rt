@@ -13,7 +13,7 @@ use std::os::fd::{AsRawFd, RawFd};
 const STDERR: RawFd = 2;
 
 /// Why a host does not start.
-#[derive(Clone, Copy, Debug, PartialEq, Eq)]
+#[derive(Clone, Copy)]
 pub enum StartFault {
     OutOfMemory,
     /// Its socket can't be had.

@@ -7,7 +7,7 @@ use ipx_wire::{Address, Network, Node, Socket};
 use std::fmt;
 
 /// The words that name the address of a socket: its network, node and socket in hex.
-#[derive(Clone, Copy, Debug)]
+#[derive(Clone, Copy)]
 pub struct Target<'a> {
     pub network: &'a str,
     pub node: &'a str,
@@ -15,7 +15,7 @@ pub struct Target<'a> {
 }
 
 /// The word that is wrong, the first of those that are.
-#[derive(Clone, Copy, Debug, PartialEq, Eq)]
+#[derive(Clone, Copy)]
 pub enum TargetFault {
     Network,
     Node,

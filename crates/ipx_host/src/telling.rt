@@ -9,7 +9,7 @@ use ipx_site::{FilterDrops, ThrottledLog, Warning, tell_each};
 use log::Log;
 
 /// How often each of it happened.
-#[derive(Clone, Copy, Debug)]
+#[derive(Clone, Copy)]
 pub struct Counts {
     /// Datagrams that came and were not heard.
     pub kept: FilterDrops,
@@ -25,7 +25,7 @@ pub struct Counts {
 const CAUSES: usize = 6;
 
 /// What is told of it, each once a minute at most, in the order of the lines.
-#[derive(Clone, Copy, Debug)]
+#[derive(Clone, Copy)]
 pub struct Telling {
     causes: [ThrottledLog; CAUSES],
 }

@@ -6,7 +6,7 @@ use std::alloc::Global;
 use std::io::{ErrorKind, Read};
 
 /// Why nothing was read.
-#[derive(Clone, Copy, Debug, PartialEq, Eq)]
+#[derive(Clone, Copy)]
 pub enum InputFault {
     Memory,
     Read,

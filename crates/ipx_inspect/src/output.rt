@@ -8,7 +8,7 @@ use ipx_wire::OutOfMemory;
 use std::io::{ErrorKind, Write};
 
 /// A writer failed.
-#[derive(Clone, Copy, Debug)]
+#[derive(Clone, Copy)]
 struct WriteFault;
 
 /// Writes bytes, in as many calls as needed. If the writer fails, only the first of them were

@@ -12,7 +12,7 @@ use ipxnet_server::Place;
 use std::alloc::Global;
 
 /// A datagram that came from an address, or that was sent to one.
-#[derive(Debug, Drop)]
+#[derive(Drop)]
 pub struct MemoryDatagram {
     pub port: usize,
     pub place: Place,

@@ -7,7 +7,7 @@ use ipx_carrier::DeviceFault;
 use ipxnet_server::Place;
 
 /// A datagram that came to a port: its source address, and how many bytes it has.
-#[derive(Clone, Copy, Debug, PartialEq, Eq)]
+#[derive(Clone, Copy, PartialEq, Eq)]
 pub struct DatagramCame {
     pub from: Place,
     pub size: usize,

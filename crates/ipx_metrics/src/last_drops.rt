@@ -16,7 +16,7 @@ pub struct LastDrop {
 }
 
 /// The last datagram that a router dropped for each of five reasons; None if there was none.
-#[derive(Clone, Copy, Debug, PartialEq, Eq)]
+#[derive(Clone, Copy)]
 pub struct LastDrops {
     pub bad: Option<LastDrop>,
     pub not_ours: Option<LastDrop>,

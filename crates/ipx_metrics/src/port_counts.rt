@@ -9,7 +9,7 @@ use ipx_carrier::OutcomeCounters;
 
 /// What came to a router by one of its ports, the outcomes of that, and what the router gave to be
 /// sent there. Each count saturates at the greatest u64.
-#[derive(Clone, Copy, Debug, PartialEq, Eq)]
+#[derive(Clone, Copy, PartialEq, Eq)]
 pub struct PortCounts {
     /// The outcomes of the datagrams.
     pub outcomes: OutcomeCounters,

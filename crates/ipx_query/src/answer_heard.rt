@@ -1,7 +1,7 @@
 //! What became of a packet of an answer.
 
 /// What became of a packet of an answer.
-#[derive(Clone, Copy, Debug, PartialEq, Eq)]
+#[derive(Clone, Copy)]
 pub struct AnswerHeard {
     /// It is not full, so it is the last one of its answer.
     pub ended: bool,

@@ -28,7 +28,7 @@ const PING_TIMEOUT: u64 = 2000;
 ///
 /// The first answer since the latest request was sent counts, for that request. Pinging is over if
 /// all requests were sent, and the last one was answered or two seconds passed since.
-#[derive(Clone, Copy, Debug, PartialEq, Eq)]
+#[derive(Clone, Copy, PartialEq, Eq)]
 pub struct PingCore {
     own: Address,
     router: Node,

@@ -1,7 +1,7 @@
 //! What routers are asked.
 
 /// What routers are asked.
-#[derive(Clone, Copy, Debug, PartialEq, Eq)]
+#[derive(Clone, Copy, PartialEq, Eq)]
 pub enum TableQuery {
     /// Which networks they know: a RIP request for all networks.
     Networks,

@@ -10,7 +10,7 @@ use std::alloc::{AllocError, Global};
 use std::rt::Clock;
 
 /// A router that answered, and the time until then in tenths of a millisecond.
-#[derive(Clone, Copy, Debug, PartialEq, Eq)]
+#[derive(Clone, Copy, PartialEq, Eq)]
 pub struct AnswerTime {
     pub node: Node,
     pub tenths: u64,

@@ -7,7 +7,7 @@ use ipx_wire::OutOfMemory;
 use std::alloc::{AllocError, AllocFailed};
 
 /// Why a query fails.
-#[derive(Clone, Copy, Debug, PartialEq, Eq)]
+#[derive(Clone, Copy)]
 pub enum AskFault {
     OutOfMemory,
     /// Its socket could not be bound.
@@ -77,7 +77,7 @@ pub fn tell_fault<R: Eprint>(rt: &R, path: &str, fault: AskFault) -> u8
 }
 
 /// Why the lines of a table file could not be made.
-#[derive(Clone, Copy, Debug, PartialEq, Eq)]
+#[derive(Clone, Copy, PartialEq, Eq)]
 pub enum KnownFault {
     OutOfMemory,
     /// A word of it is not UTF-8 text.

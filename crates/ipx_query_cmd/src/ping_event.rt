@@ -8,7 +8,7 @@ use std::alloc::AllocFailed;
 
 /// An answer: the number of its request, the time in tenths of a millisecond, and how many routers
 /// it passed.
-#[derive(Clone, Copy, Debug, PartialEq, Eq)]
+#[derive(Clone, Copy, PartialEq, Eq)]
 pub struct PingAnswer {
     pub number: u32,
     pub tenths: u64,
@@ -16,7 +16,7 @@ pub struct PingAnswer {
 }
 
 /// The result of a request.
-#[derive(Clone, Copy, Debug, PartialEq, Eq)]
+#[derive(Clone, Copy, PartialEq, Eq)]
 pub enum PingEvent {
     Answered(PingAnswer),
     /// The number of the request.

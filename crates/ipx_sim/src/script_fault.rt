@@ -7,7 +7,7 @@ use ipx_wire::OutOfMemory;
 use std::alloc::{AllocError, AllocFailed};
 
 /// Why a script stops.
-#[derive(Clone, Copy, Debug, PartialEq, Eq)]
+#[derive(Clone, Copy)]
 pub enum ScriptFault {
     /// The current line is of no known form, or names what does not exist.
     Bad,

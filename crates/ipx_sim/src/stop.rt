@@ -8,7 +8,7 @@ use spx_messages::EndFault;
 use std::alloc::{AllocError, AllocFailed};
 
 /// What ends a line of a script before it is done.
-#[derive(Clone, Copy, Debug, PartialEq, Eq)]
+#[derive(Clone, Copy)]
 pub enum LineFault {
     /// The network refused an event.
     Fault(NetFault),

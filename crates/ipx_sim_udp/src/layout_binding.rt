@@ -17,7 +17,7 @@ use std::alloc::Global;
 use std::net::Net;
 
 /// An end of a connection: its host, its id there, and how many messages went in and out.
-#[derive(Clone, Copy, Debug)]
+#[derive(Clone, Copy)]
 pub struct End {
     pub host: usize,
     pub id: u16,

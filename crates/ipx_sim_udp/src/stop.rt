@@ -11,7 +11,7 @@ use spx_messages::EndFault;
 use std::alloc::{AllocError, AllocFailed};
 
 /// Why a line ends before it is done. After the first two the script continues.
-#[derive(Clone, Copy, Debug, PartialEq, Eq)]
+#[derive(Clone, Copy)]
 pub enum UdpScriptFault {
     /// An end refused a call.
     Refused(EndFault),

@@ -21,7 +21,7 @@ const REFUSED: Family = Family {
 };
 
 /// What the access list of a port counts.
-#[derive(Clone, Copy, Debug, PartialEq, Eq)]
+#[derive(Clone, Copy)]
 pub enum FilterDropKind {
     UnknownSenders,
     Refused,

@@ -17,7 +17,7 @@ const NETWORK_DIGITS: usize = 8;
 pub const MAX_ENTRIES: usize = 256;
 
 /// One node of a network, or every node of it.
-#[derive(Clone, Copy, Debug, PartialEq, Eq)]
+#[derive(Clone, Copy, PartialEq, Eq)]
 pub struct AllowedPeer {
     pub network: Network,
     /// None means every node.

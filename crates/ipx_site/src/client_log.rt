@@ -19,7 +19,7 @@ const MAX_LINES: usize = 10;
 const PERIOD: u64 = 1000;
 
 /// A client of a port, as it is logged.
-#[derive(Clone, Copy, Debug, PartialEq, Eq)]
+#[derive(Clone, Copy, PartialEq, Eq)]
 pub struct PortClient {
     /// The number of the port, starting at 1.
     pub port: usize,

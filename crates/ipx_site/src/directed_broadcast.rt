@@ -10,14 +10,14 @@ use ipx_wire::{Address, IpxHeader, Network, Node, decode, packet_type};
 
 /// A directed broadcast at the last router on its way: the port by which it leaves, starting at 0,
 /// and its sender.
-#[derive(Clone, Copy, Debug, PartialEq, Eq)]
+#[derive(Clone, Copy)]
 pub struct DirectedBroadcast {
     pub leaves_by: usize,
     pub from: Address,
 }
 
 /// The number of directed broadcasts that were dropped, and the sender of the last one.
-#[derive(Clone, Copy, Debug, PartialEq, Eq)]
+#[derive(Clone, Copy, PartialEq, Eq)]
 pub struct DirectedDrops {
     /// Saturates at the greatest u64.
     pub count: u64,

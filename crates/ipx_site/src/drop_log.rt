@@ -14,7 +14,7 @@ use log::{Log, info, warn};
 use std::fmt;
 
 /// Why datagrams were dropped, for the log.
-#[derive(Clone, Copy, Debug, PartialEq, Eq)]
+#[derive(Clone, Copy, PartialEq, Eq)]
 pub enum DropReason {
     Bad,
     NotOurs,
@@ -27,14 +27,14 @@ pub enum DropReason {
 
 /// What a log line says of a reason and its last datagram. For a missing route it names the
 /// network.
-#[derive(Clone, Copy, Debug, PartialEq, Eq)]
+#[derive(Clone, Copy, PartialEq, Eq)]
 pub struct DropSummary {
     pub reason: DropReason,
     pub last: Option<LastDrop>,
 }
 
 /// When a router last logged its drops, for each of seven reasons.
-#[derive(Clone, Copy, Debug, PartialEq, Eq)]
+#[derive(Clone, Copy)]
 pub struct DropLog {
     bad: ThrottledLog,
     not_ours: ThrottledLog,

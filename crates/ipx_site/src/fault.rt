@@ -11,7 +11,7 @@ use std::alloc::AllocFailed;
 ///
 /// Except in `NotToml`, the first field is the number of a table, or 0 for the file itself. The
 /// first `[[port]]` is 1, the first `[[route]]` 17, and the first `[[service]]` 273.
-#[derive(Debug, Drop)]
+#[derive(Drop)]
 pub enum ConfigError {
     OutOfMemory,
     /// The text is not TOML: the line from which on it is not, starting at 1, and the error.

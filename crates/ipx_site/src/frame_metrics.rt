@@ -50,7 +50,7 @@ const SENT: Family = Family {
 };
 
 /// What a router counts at an Ethernet port.
-#[derive(Clone, Copy, Debug, PartialEq, Eq)]
+#[derive(Clone, Copy, PartialEq, Eq)]
 pub struct EthernetPortMetrics {
     /// The number of the port. The first one is 1.
     pub number: usize,

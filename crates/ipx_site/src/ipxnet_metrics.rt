@@ -33,7 +33,7 @@ const SENT: Family = Family {
 };
 
 /// What a router counts at a port for ipxnet.
-#[derive(Clone, Copy, Debug, PartialEq, Eq)]
+#[derive(Clone, Copy, PartialEq, Eq)]
 pub struct IpxnetPortMetrics {
     /// The number of the port. The first one is 1.
     pub number: usize,

@@ -6,7 +6,7 @@ ghost use Rattle.ipx_site.specs.Keys.{is_key, is_text_of, key_text, keys_of_kind
 use crate::site::Kind;
 
 /// A key of the file of a router or a host.
-#[derive(Clone, Copy, Debug, PartialEq, Eq)]
+#[derive(Clone, Copy)]
 pub enum Key {
     Status,
     Tables,

@@ -8,7 +8,7 @@ use ipx_source_checks::SourceDrops;
 use std::alloc::{AllocError, Global};
 
 /// What a router counted since it started.
-#[derive(Clone, Copy, Debug, PartialEq, Eq)]
+#[derive(Clone, Copy, PartialEq, Eq)]
 pub struct Metrics {
     /// The datagrams that it processed, each of which has an outcome, and those that the system
     /// took to be sent.

@@ -25,7 +25,7 @@ const HEARD: Family = Family {
 };
 
 /// What is written of a neighbour.
-#[derive(Clone, Copy, Debug, PartialEq, Eq)]
+#[derive(Clone, Copy, PartialEq, Eq)]
 enum Told {
     Networks,
     Services,

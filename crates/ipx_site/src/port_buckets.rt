@@ -6,7 +6,7 @@ ghost use Rattle.ipx_site.specs.PortBuckets.{at_port, directed_has, directed_tak
 use crate::token_bucket::TokenBucket;
 
 /// What is limited at a port.
-#[derive(Clone, Copy, Debug, PartialEq, Eq)]
+#[derive(Clone, Copy, PartialEq, Eq)]
 pub struct PortBuckets {
     /// The general queries that come by it, of all nodes together.
     pub queries: TokenBucket,

@@ -37,7 +37,7 @@ const DROPPED: Family = Family {
 };
 
 /// What is counted of the traffic at a port.
-#[derive(Clone, Copy, Debug, PartialEq, Eq)]
+#[derive(Clone, Copy)]
 enum Passed {
     Heard,
     HeardBytes,

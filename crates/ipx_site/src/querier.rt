@@ -10,7 +10,7 @@ use ipx_router::Port;
 use ipx_wire::{IpxHeader, Network, Node, Socket, decode, packet_type};
 
 /// A node that asks, and the port where it is, starting at 0.
-#[derive(Clone, Copy, Debug, PartialEq, Eq)]
+#[derive(Clone, Copy, PartialEq, Eq)]
 pub struct Querier {
     pub port: usize,
     pub node: Node,

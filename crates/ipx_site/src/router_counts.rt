@@ -19,7 +19,7 @@ use ipx_source_checks::SourceChecked;
 use ipx_static::WithStatics;
 
 /// The counters that a running router keeps itself. Each saturates at the greatest u64.
-#[derive(Clone, Copy, Debug, PartialEq, Eq)]
+#[derive(Clone, Copy)]
 pub struct RouterCounts {
     pub unmapped: u64,
     pub device_faults: u64,

@@ -18,7 +18,7 @@ use ipx_ipxnet_ports::{PlaceSockets, ServerSockets, Servers};
 use ipx_wire::Node;
 
 /// The index of a port among those of its kind, starting at 0.
-#[derive(Clone, Copy, Debug, PartialEq, Eq)]
+#[derive(Clone, Copy, PartialEq, Eq)]
 pub enum PortIndex {
     /// An RFC 1234 port.
     Datagrams(usize),

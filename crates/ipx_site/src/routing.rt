@@ -44,7 +44,7 @@ use std::rt::{Clock as SystemClock, Files};
 use thiserror::Error;
 
 /// Why a router does not start, or stops.
-#[derive(Clone, Copy, Debug, PartialEq, Eq, Error)]
+#[derive(Clone, Copy, Debug, Error)]
 pub(crate) enum RouteFault {
     #[error("out of memory")]
     OutOfMemory(#[from] AllocError),

@@ -13,7 +13,7 @@ use ipx_router::Port;
 use ipx_wire::{Network, Node};
 
 /// The kind of a router's port.
-#[derive(Clone, Copy, Debug, PartialEq, Eq)]
+#[derive(Clone, Copy, PartialEq, Eq)]
 pub enum Kind {
     /// IPX in UDP datagrams, by RFC 1234.
     Rfc1234,
@@ -24,7 +24,7 @@ pub enum Kind {
 }
 
 /// Which senders are accepted at a port.
-#[derive(Clone, Copy, Debug, PartialEq, Eq)]
+#[derive(Clone, Copy, PartialEq, Eq)]
 pub enum Accept {
     /// Only the peers of the port.
     Peers,
@@ -33,7 +33,7 @@ pub enum Accept {
 }
 
 /// How many directed broadcasts from other networks may leave by a port.
-#[derive(Clone, Copy, Debug, PartialEq, Eq)]
+#[derive(Clone, Copy, PartialEq, Eq)]
 pub enum Directed {
     Never,
     /// As many as a token bucket lets pass.

@@ -36,7 +36,7 @@ pub struct AccessList {
 }
 
 /// The verdict of an access list on a datagram that came.
-#[derive(Clone, Copy, Debug, PartialEq, Eq)]
+#[derive(Clone, Copy)]
 pub enum Verdict {
     Heard,
     /// Its sender is not accepted.
@@ -58,7 +58,7 @@ pub struct DropCount {
 }
 
 /// The datagrams that were dropped on arrival, by reason.
-#[derive(Clone, Copy, Debug, PartialEq, Eq)]
+#[derive(Clone, Copy, PartialEq, Eq)]
 pub struct FilterDrops {
     /// Those from senders that are not accepted.
     pub unknown_senders: DropCount,

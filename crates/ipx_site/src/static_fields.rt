@@ -27,7 +27,7 @@ const DEFAULT_ROUTE: Network = Network(0xffff_fffe);
 const ANY_TYPE: u16 = 0xffff;
 
 /// A node on the network of a port, and the cost of sending there, in ticks.
-#[derive(Clone, Copy, Debug, PartialEq, Eq)]
+#[derive(Clone, Copy)]
 pub struct NextHop {
     pub by: Source,
     pub cost: u16,

@@ -9,14 +9,14 @@ use ipx_control::{RipEntry, ServiceEntry};
 use ipx_tables::Source;
 
 /// The kinds of static tables.
-#[derive(Clone, Copy, Debug, PartialEq, Eq)]
+#[derive(Clone, Copy)]
 pub enum StaticKind {
     Route,
     Service,
 }
 
 /// What a silent neighbour is to advertise.
-#[derive(Clone, Copy, Debug, PartialEq, Eq)]
+#[derive(Clone, Copy, PartialEq, Eq)]
 pub enum StaticItem {
     /// A network reached through it.
     Route(RipEntry),
@@ -25,7 +25,7 @@ pub enum StaticItem {
 }
 
 /// A static route or service.
-#[derive(Clone, Copy, Debug, PartialEq, Eq)]
+#[derive(Clone, Copy, PartialEq, Eq)]
 pub struct StaticEntry {
     /// The number of the port where it is heard, starting at 1, and the next hop.
     pub by: Source,

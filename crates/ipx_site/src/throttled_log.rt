@@ -7,7 +7,7 @@ ghost use Rattle.ipx_site.specs.Moments.{IsDue, IsReached};
 const PAUSE: u64 = 60_000;
 
 /// A cause that is logged: how often it had happened when it was logged last, and when that was.
-#[derive(Clone, Copy, Debug, PartialEq, Eq)]
+#[derive(Clone, Copy, PartialEq, Eq)]
 pub struct ThrottledLog {
     told: u64,
     at: Option<u64>,

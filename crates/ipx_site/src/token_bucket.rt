@@ -4,14 +4,14 @@ ghost use Rattle.std.specs.Prelude.{◌≡◌, ◌≤◌, ◌<◌, ◌+◌, ◌*
 ghost use Rattle.ipx_site.specs.TokenBucket.{back_after, bucket_clock, bucket_has, bucket_taken, full_bucket, has_token};
 
 /// A rate limit: how many at once, and how many more each second.
-#[derive(Clone, Copy, Debug, PartialEq, Eq)]
+#[derive(Clone, Copy, PartialEq, Eq)]
 pub struct RateLimit {
     pub burst: u16,
     pub per_second: u16,
 }
 
 /// The tokens of a limit. Each event takes one.
-#[derive(Clone, Copy, Debug, PartialEq, Eq)]
+#[derive(Clone, Copy, PartialEq, Eq)]
 pub struct TokenBucket {
     pub limit: RateLimit,
     /// When it is full again, by a clock that runs `per_second` times as fast as real time.

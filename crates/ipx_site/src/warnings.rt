@@ -14,7 +14,7 @@ use log::{Log, warn};
 
 /// A recurring problem: how often it occurred, who caused it last, by IP or IPX address if known,
 /// and the text of its line.
-#[derive(Clone, Copy, Debug, PartialEq, Eq)]
+#[derive(Clone, Copy)]
 pub struct Warning {
     pub kept: DropCount,
     pub from: Option<Address>,
@@ -69,7 +69,7 @@ const CAUSES: usize = 14;
 const ENCAPSULATIONS: usize = 12;
 
 /// When a router last logged its warnings, in the order of their lines.
-#[derive(Clone, Copy, Debug, PartialEq, Eq)]
+#[derive(Clone, Copy)]
 pub struct Warnings {
     causes: [ThrottledLog; CAUSES],
 }

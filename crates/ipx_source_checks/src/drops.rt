@@ -8,7 +8,7 @@ use ipx_carrier::saturating_increment;
 use ipx_metrics::LastDrop;
 
 /// The packets that failed one check.
-#[derive(Clone, Copy, Debug, PartialEq, Eq)]
+#[derive(Clone, Copy, PartialEq, Eq)]
 pub struct SourceDropCount {
     /// Saturates at the greatest u64.
     pub count: u64,
@@ -16,7 +16,7 @@ pub struct SourceDropCount {
 }
 
 /// The packets that failed a source check, by check.
-#[derive(Clone, Copy, Debug, PartialEq, Eq)]
+#[derive(Clone, Copy, PartialEq, Eq)]
 pub struct SourceDrops {
     /// RIP and SAP for the router that another router forwarded.
     pub forwarded_control: SourceDropCount,

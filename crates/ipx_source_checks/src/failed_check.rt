@@ -9,7 +9,7 @@ use ipx_router::Port;
 use ipx_wire::{IpxHeader, Network, Node, Socket, decode, packet_type};
 
 /// Which of the two checks a packet fails.
-#[derive(Clone, Copy, Debug, PartialEq, Eq)]
+#[derive(Clone, Copy)]
 pub enum SourceFault {
     /// It is RIP or SAP for the router, and another router forwarded it.
     ForwardedControl,
@@ -18,7 +18,7 @@ pub enum SourceFault {
 }
 
 /// A packet that fails a check.
-#[derive(Clone, Copy, Debug, PartialEq, Eq)]
+#[derive(Clone, Copy)]
 pub struct FailedCheck {
     pub fault: SourceFault,
     pub packet: LastDrop,

@@ -5,7 +5,7 @@ use ipx_wire::Node;
 
 /// A neighbour on the network of a port that advertises nothing itself, and what it would
 /// advertise.
-#[derive(Debug, Drop)]
+#[derive(Drop)]
 pub struct StaticNeighbour {
     /// The number of the port, from 1.
     pub port: u8,

@@ -7,7 +7,7 @@ use ipx_tables::{Offer, Source};
 use std::alloc::AllocError;
 
 /// An advertisement of a network or service by a neighbour, and when it was heard.
-#[derive(Clone, Copy, Debug)]
+#[derive(Clone, Copy)]
 pub struct Advertisement {
     pub source: Source,
     pub heard: u64,

@@ -13,7 +13,7 @@ use std::collections::BTreeMap;
 
 /// What a neighbour advertises: how many networks and services, and when the last of them was
 /// heard.
-#[derive(Clone, Copy, Debug, PartialEq, Eq)]
+#[derive(Clone, Copy)]
 pub struct Advertiser {
     pub networks: usize,
     pub services: usize,

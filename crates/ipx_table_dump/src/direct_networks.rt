@@ -9,7 +9,7 @@ use crate::reading::{is_word, lines_of, words_of};
 use std::alloc::{AllocError, Global};
 
 /// The network of a port, in the words of its line: hex digits, or decimal digits.
-#[derive(Clone, Copy, Debug)]
+#[derive(Clone, Copy)]
 pub struct OwnWords<'a> {
     pub network: &'a [u8],
     pub port: &'a [u8],

@@ -8,7 +8,7 @@ ghost use Rattle.ipx_table_dump.specs.TableRead.{lines_in, best_network_in, netw
 use std::alloc::{AllocError, Global};
 
 /// The best offer of a network, in the words of its line: hex digits, or decimal digits.
-#[derive(Clone, Copy, Debug)]
+#[derive(Clone, Copy)]
 pub struct NetworkWords<'a> {
     pub network: &'a [u8],
     /// The port where it was heard, and the neighbour.
@@ -19,7 +19,7 @@ pub struct NetworkWords<'a> {
 }
 
 /// The best offer of a service, in the same form. Its name is as `ipx show` prints it.
-#[derive(Clone, Copy, Debug)]
+#[derive(Clone, Copy)]
 pub struct ServiceWords<'a> {
     pub kind: &'a [u8],
     pub name: &'a [u8],
