@@ -4,7 +4,7 @@ ghost use Rattle.std.specs.Prelude.{◌≡◌, IfOk};
 
 use anyhow::Result;
 use spx_link::Unit;
-use spx_units::{Inbox, Message, cut};
+use spx_messages::{Inbox, Message, cut};
 use std::alloc::{AllocError, Global};
 
 /// A message of 535 bytes, one more than a unit holds.

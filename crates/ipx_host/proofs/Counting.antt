@@ -1,7 +1,7 @@
 -- How many units a message is cut into.
 use Rattle.std.proofs.Common.{◌≡◌, ℕ, zero, suc, ◌-◌, ◌<◌, ◌≤◌, Bool, true, false, leb, List, length, drop, length-drop, refl, sym, ap, ◌∙◌, arith}
 use Rattle.std.proofs.lemmas.Bool.{leb-true, leb-false}
-use Rattle.spx_units.specs.Cut.{pieces}
+use Rattle.spx_messages.specs.Cut.{pieces}
 use Rattle.ipx_host.specs.AckedBytes.{units_in}
 
 units_of_part : (n : ℕ) → n ≤ 534 → units_in n ≡ 1

@@ -4,7 +4,7 @@ use Rattle.std.specs.Prelude.{IfSome}
 use Rattle.spx_link.specs.declared.unit.Unit.{Unit as Piece}
 use Rattle.spx_link.specs.LinkView.{is_end}
 use Rattle.spx_link.specs.Offer.{first_of as first_held}
-use Rattle.spx_units.specs.Joining.{is_overlong}
+use Rattle.spx_messages.specs.Joining.{is_overlong}
 use Rattle.spx_messages.specs.Changes.{ChangesEnd, SameBut}
 use Rattle.spx_messages.specs.EndpointView.{EndpointView, Held, held_at}
 use Rattle.spx_messages.specs.Taking.{IsPushed, Nothing, Part, PeerEnd, TakenView, Whole, joins_on, overlong, overrun, result_view, take_end, taken_held, takes_data, takes_first}

@@ -8,8 +8,8 @@ use Rattle.spx_link.specs.declared.unit.Unit.{Unit as Piece}
 use Rattle.spx_link.specs.LinkView.{LinkView, is_end}
 use Rattle.spx_link.specs.Links.{IsNextFree, LinksView, count_of, link_of}
 use Rattle.spx_link.specs.Offer.{first_of as first_held, take_held}
-use Rattle.spx_units.specs.declared.fault.MessageFault.TheVariants as MessageFaults
-use Rattle.spx_units.specs.Joining.{is_overlong}
+use Rattle.spx_messages.specs.declared.message_fault.MessageFault.TheVariants as MessageFaults
+use Rattle.spx_messages.specs.Joining.{is_overlong}
 use Rattle.spx_messages.specs.Changes.{ChangesEnd, SameBut, SameSelf}
 use Rattle.spx_messages.specs.EndpointView.{EndpointView, Held, held_at}
 use Rattle.spx_messages.specs.Taking.{IsPushed, PeerEnd, TakenView, joins_on, overlong, overrun, result_view, take_end, taken_held, takes_data, takes_first}

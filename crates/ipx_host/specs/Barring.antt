@@ -4,7 +4,7 @@ use Rattle.ipx_wire.specs.Connection.{IsConnectionPacket}
 use Rattle.ipx_wire.specs.Ipx.{PacketView}
 use Rattle.ipx_wire.specs.declared.address.Address.{Address}
 use Rattle.ipx_wire.specs.declared.spx.packet.SpxHeader.{SpxHeader}
-use Rattle.spx_units.specs.WrittenPackets.{IsRequestFor}
+use Rattle.spx_messages.specs.WrittenPackets.{IsRequestFor}
 use Rattle.ipx_carrier.specs.Counting.{raised}
 use Rattle.ipx_site.specs.AllowedPeers.{may_ask, named_in}
 use Rattle.ipx_host.specs.Noting.{HearsAndNotes}

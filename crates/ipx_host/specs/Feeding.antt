@@ -5,7 +5,7 @@ use Rattle.std.specs.Io.KnownBytes.{Consumes, IsAtEnd}
 use Rattle.spx_link.specs.LinkView.{LinkView}
 use Rattle.spx_link.specs.Offer.{end_link, offer_link}
 use Rattle.spx_link.specs.declared.state.State.TheVariants as States
-use Rattle.spx_units.specs.Cut.{cut_of}
+use Rattle.spx_messages.specs.Cut.{cut_of}
 use Rattle.spx_messages.specs.Changes.{ChangesEnd}
 use Rattle.spx_messages.specs.EndpointView.{EndpointView, Held, held_at}
 use Rattle.ipx_host.specs.Books.{EntersRead}

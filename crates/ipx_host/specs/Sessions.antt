@@ -7,10 +7,10 @@ use Rattle.std.proofs.Props.{props}
 use Rattle.spx_link.specs.Offer.{offer_link}
 use Rattle.spx_link.specs.declared.fault.OfferFault.TheVariants as OfferFaults
 use Rattle.spx_link.specs.declared.state.State.TheVariants as States
-use Rattle.spx_units.specs.declared.fault.MessageFault.TheVariants as MessageFaults
+use Rattle.spx_messages.specs.declared.message_fault.MessageFault.TheVariants as MessageFaults
 use Rattle.spx_messages.specs.declared.fault.EndFault.{EndFault}
 use Rattle.spx_messages.specs.declared.fault.EndFault.TheVariants as EndFaults
-use Rattle.spx_units.specs.Cut.{cut_of}
+use Rattle.spx_messages.specs.Cut.{cut_of}
 use Rattle.spx_messages.specs.Changes.{ChangesEnd, ReleasesEnd, SameBut}
 use Rattle.spx_messages.specs.EndpointView.{EndpointView, Held, held_at}
 use Rattle.ipx_carrier.specs.Counting.{raised}

@@ -2,7 +2,7 @@
 
 ghost use Rattle.std.specs.Prelude.{◌≡◌, ◌<◌, ◌≤◌, ◌+◌, ◌-◌, ◌^◌, ℕ, List, [], ◌∷◌, ◌++◌, OnErr, OnOk, false, length, sum, true};
 ghost use Rattle.spx_link.specs.SequenceMarks.{distance};
-ghost use Rattle.spx_units.specs.Cut.{cut_of};
+ghost use Rattle.spx_messages.specs.Cut.{cut_of};
 ghost use Rattle.ipx_carrier.specs.Counting.{counted};
 ghost use Rattle.ipx_host.specs.AckedBytes.{CountsAcknowledged, IsFirstOpen, all_units, base_of, bytes_acknowledged, units_in};
 

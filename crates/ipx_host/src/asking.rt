@@ -1,7 +1,7 @@
 //! Which datagrams ask for a connection, and in whose name.
 
 ghost use Rattle.std.specs.Prelude.{◌≡◌, ◌↔◌, IfSome, IsTrue, Some};
-ghost use Rattle.spx_units.specs.WrittenPackets.{IsRequestFor};
+ghost use Rattle.spx_messages.specs.WrittenPackets.{IsRequestFor};
 ghost use Rattle.ipx_wire.specs.declared.address.Address.{Address as AnAddress};
 ghost use Rattle.std.specs.List.{list_any};
 ghost use Rattle.ipx_site.specs.AllowedPeers.{is_of};

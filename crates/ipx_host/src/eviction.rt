@@ -7,8 +7,7 @@ ghost use Rattle.ipx_host.specs.Sessions.{Admits, Asks, IsAskedUnless, HasNoPlac
 use crate::sessions::{Session, hear_one};
 use ipx_wire::{Address, Network};
 use spx_link::OfferFault;
-use spx_messages::{EndFault, Endpoint, Message};
-use spx_units::MessageFault;
+use spx_messages::{EndFault, Endpoint, Message, MessageFault};
 use std::alloc::Global;
 
 /// The most connections that a host holds.

@@ -4,8 +4,8 @@ use Rattle.std.specs.Prelude.{slice_get}
 use Rattle.std.proofs.lemmas.Bool.{cond-false}
 use Rattle.std.proofs.lemmas.List.{length-map}
 use Rattle.ipx_wire.specs.declared.address.Network.{Network}
-use Rattle.spx_units.specs.Joining.{joined}
-use Rattle.spx_units.specs.WrittenPackets.{Home}
+use Rattle.spx_messages.specs.Joining.{joined}
+use Rattle.spx_messages.specs.WrittenPackets.{Home}
 use Rattle.spx_messages.specs.EndpointView.{Held}
 use Rattle.spx_theory.specs.Addresses.{AddressesTellPeers}
 use Rattle.spx_theory.specs.Allocation.{AloneReadsNothing}

@@ -7,7 +7,7 @@ use Rattle.spx_messages.specs.declared.fault.EndFault.{EndFault}
 use Rattle.theory_steps.specs.WorldStep.{WorldStep, Delivered, Polled, Taken, Dialled, Sent, Closed, Released, Paced, AskedAgain, Refused, Injected, Ticked, Told, Carried}
 use Rattle.theory_steps.specs.World.{World}
 use Rattle.spx_messages.specs.Taking.{overlong}
-use Rattle.spx_units.specs.Message.{message_view}
+use Rattle.spx_messages.specs.Message.{message_view}
 use Rattle.ipx_net.specs.AnswerView.{AnswerView}
 use Rattle.ipx_net.specs.HostEvents.{RefusedOf}
 use Rattle.ipx_net.specs.NetEvents.{Happens}

@@ -6,7 +6,7 @@ use Rattle.ipx_wire.specs.Assigned.{spx_max_packet_size}
 use Rattle.ipx_wire.specs.Ipx.{IsBytes}
 use Rattle.ipx_wire.specs.Spx.{HasFreeBitsClear}
 use Rattle.ipx_wire.specs.declared.address.Node.{Node}
-use Rattle.spx_units.specs.WrittenPackets.{IsWrittenPacket}
+use Rattle.spx_messages.specs.WrittenPackets.{IsWrittenPacket}
 use Rattle.spx_messages.specs.EndpointView.{EndpointView}
 use Rattle.spx_messages.specs.OneValue.{IsOnePoll, IsRoomStill, IsSamePoll}
 use Rattle.spx_messages.specs.Polls.{FirstLinkGives, Polls, home_of}

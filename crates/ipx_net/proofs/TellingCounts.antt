@@ -3,7 +3,7 @@
 use Rattle.std.proofs.Common.{◌≡◌, ◌<◌, ◌≤◌, ◌+◌, ◌==◌, ℕ, zero, suc, List, [], ◌∷◌, ◌++◌, length, get_or, take, drop, Bool, true, false, cond, refl, sym, ◌∙◌, ap, arith, subst, eqb-true, length-append, length-set, length-take, ltb, ltb-true, ltb-false, None}
 use Rattle.std.proofs.lemmas.Bool.{eqb-false}
 use Rattle.std.proofs.lemmas.List.{map-append, get_or-set_same, get_or-set_other, take-append-drop, take_more, drop_more, set_past}
-use Rattle.spx_units.specs.Message.{MessageView}
+use Rattle.spx_messages.specs.Message.{MessageView}
 use Rattle.spx_link.specs.SequenceMarks.{mark}
 use Rattle.spx_theory.specs.Handed.{gathered, handed_in, handed_out, in_by, out_by}
 use Rattle.spx_theory.specs.Note.{Note, Opened, Accepted, Joined, HandsIn, HandsOut, TakesUnit, AsksEnd, Got, Released, SendsUnit, SendsAgain, SendsSystem, Told, Carried, Injected}

@@ -2,7 +2,7 @@
 use Rattle.std.proofs.Common.{◌≡◌, ◌<◌, ◌≤◌, ◌+◌, ◌↔◌, ℕ, List, [], ◌∷◌, ◌++◌, length, get_or, drop, refl, sym, ◌∙◌, ap}
 use Rattle.std.specs.Prelude.{IsTrue, false, true}
 use Rattle.std.proofs.lemmas.List.{drop_all, drop_more}
-use Rattle.spx_units.specs.Message.{MessageView}
+use Rattle.spx_messages.specs.Message.{MessageView}
 use Rattle.spx_theory.specs.Note.{Note}
 use Rattle.spx_theory.specs.Handed.{gathered, IsBeginning}
 use Rattle.ipx_net.specs.declared.entry.Entry.{Entry}

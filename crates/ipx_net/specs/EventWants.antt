@@ -4,7 +4,7 @@ use Rattle.std.specs.Prelude.{ℕ, ◌≡◌, ◌⊎◌, ◌<◌, ◌+◌, ◌++
 use Rattle.ipx_wire.specs.declared.address.Node.{Node}
 use Rattle.ipx_wire.specs.declared.memory.OutOfMemory.{OutOfMemory}
 use Rattle.spx_link.specs.Offer.{first_of}
-use Rattle.spx_units.specs.Message.{message_view}
+use Rattle.spx_messages.specs.Message.{message_view}
 use Rattle.spx_messages.specs.Arrives.{IsAcceptable}
 use Rattle.spx_messages.specs.EndpointView.{Held}
 use Rattle.spx_messages.specs.Taking.{take_end}

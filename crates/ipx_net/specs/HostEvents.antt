@@ -10,7 +10,7 @@ use Rattle.spx_messages.specs.declared.fault.EndFault.{EndFault}
 use Rattle.spx_messages.specs.EndpointView.{Held}
 use Rattle.spx_messages.specs.OneValue.{IsRoomStill}
 use Rattle.spx_messages.specs.Taking.{TakenView, overlong}
-use Rattle.spx_units.specs.Message.{MessageView}
+use Rattle.spx_messages.specs.Message.{MessageView}
 use Rattle.ipx_net_hosts.specs.Hosts.{DeliveredAt, HostsView}
 use Rattle.ipx_net_hosts.specs.Refusing.{CloseIsRefused, DialIsRefused, PushesTo, SendIsRefused, close_fault, dial_fault, end_held, send_fault, want}
 use Rattle.theory_steps.specs.EndCalls.{AsksAgainOf, Closes, DialsFrom, PacesOf, RefusesAt, ReleasesOf, SendsTo}

@@ -1,7 +1,7 @@
 -- The entries of a log, without their place in memory.
 use Rattle.std.specs.Prelude.{List, map}
 use Rattle.spx_link.specs.declared.unit.Unit.{Unit}
-use Rattle.spx_units.specs.Message.{message_view}
+use Rattle.spx_messages.specs.Message.{message_view}
 use Rattle.spx_theory.specs.Note.{Note}
 use Rattle.ipx_net.specs.declared.entry.Entry.{Entry}
 use Rattle.ipx_net.specs.declared.entry.Entry.TheVariants as Entries

@@ -1,7 +1,7 @@
 -- What each event does to a network, and its answer.
 use Rattle.std.specs.Prelude.{ℕ, ◌≡◌, ◌<◌, ◌≤◌, List, [], ◌∷◌, None, length}
 use Rattle.spx_link.specs.Limits.{most_units}
-use Rattle.spx_units.specs.Message.{message_view}
+use Rattle.spx_messages.specs.Message.{message_view}
 use Rattle.theory_steps.specs.EndCalls.{InjectsInto, Ticks}
 use Rattle.theory_steps.specs.World.{EndNow, World}
 use Rattle.ipx_net_hosts.specs.Hosts.{FollowsMarks, marks_of}

@@ -3,7 +3,7 @@
 ghost use Rattle.std.specs.Prelude.{◌≡◌, ◌<◌, ◌≤◌, ◌++◌, [], IfOk, None, Ok, OnErr, length, slice_get, true};
 ghost use Rattle.spx_link.specs.Limits.{most_units};
 ghost use Rattle.spx_messages.specs.Taking.{taken_view};
-ghost use Rattle.spx_units.specs.Message.{message_view};
+ghost use Rattle.spx_messages.specs.Message.{message_view};
 ghost use Rattle.ipx_net_hosts.specs.Hosts.{FitTogether, KeepsMarks, MayAddEnd, SameHomes, stands};
 ghost use Rattle.ipx_net_hosts.specs.Refusing.{close_fault, dial_fault, end_held, send_fault};
 ghost use Rattle.theory_steps.specs.HostSteps.{unit_notes, whole_notes};

@@ -1,6 +1,6 @@
 //! The entries of a log.
 
-use spx_units::Message;
+use spx_messages::Message;
 
 /// A unit that was taken: its datastream type, whether it ends a message, and its data, which take
 /// no more space than their bytes.

@@ -2,7 +2,7 @@
 
 use crate::place::Place;
 use ipx_wire::{Address, Network, Node, Socket};
-use spx_units::Message;
+use spx_messages::Message;
 
 /// Something that can be polled: a host or a router, by its number from 0.
 #[derive(Clone, Copy, Debug, PartialEq, Eq)]

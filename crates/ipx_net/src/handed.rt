@@ -3,10 +3,10 @@
 ghost use Rattle.std.specs.Prelude.{◌≡◌, ◌≤◌, ◌↔◌, [], ◌∷◌, IsTrue, MatchOption, drop, length};
 ghost use Rattle.spx_theory.specs.Handed.{IsBeginning, handed_in, handed_out, in_by, out_by};
 ghost use Rattle.ipx_net.specs.LogEntries.{entry_note, entry_notes};
-ghost use Rattle.spx_units.specs.Message.{message_view};
+ghost use Rattle.spx_messages.specs.Message.{message_view};
 
 use crate::entry::Entry;
-use spx_units::Message;
+use spx_messages::Message;
 
 /// Whether two messages are the same.
 fn is_same(one: &Message, other: &Message) -> bool

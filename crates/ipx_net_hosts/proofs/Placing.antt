@@ -19,7 +19,7 @@ use Rattle.spx_messages.specs.Taking.{TakenView, result_view, take_end}
 use Rattle.spx_messages.specs.declared.fault.EndFault.{EndFault}
 use Rattle.spx_messages.specs.declared.fault.EndFault.TheVariants as EndFaults
 use Rattle.spx_messages.specs.declared.taken.Taken.{Taken}
-use Rattle.spx_units.specs.declared.fault.MessageFault.TheVariants as MessageFaults
+use Rattle.spx_messages.specs.declared.message_fault.MessageFault.TheVariants as MessageFaults
 use Rattle.spx_theory.specs.Note.{Opened, Released}
 use Rattle.theory_steps.specs.EndCalls.{ChangesQuietly, DialsFrom, ReleasesOf}
 use Rattle.theory_steps.specs.HostSteps.{TakesOf, ends_after, here_after, marked_over, unit_notes, whole_notes}

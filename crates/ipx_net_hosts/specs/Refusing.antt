@@ -7,8 +7,8 @@ use Rattle.spx_link.specs.Links.{LinksView, count_of}
 use Rattle.spx_link.specs.Offer.{refusal}
 use Rattle.spx_link.specs.declared.fault.LinksFault.TheVariants as LinksFaults
 use Rattle.spx_link.specs.declared.fault.OfferFault.TheVariants as OfferFaults
-use Rattle.spx_units.specs.Message.{MessageView, cut_fault}
-use Rattle.spx_units.specs.declared.fault.MessageFault.TheVariants as MessageFaults
+use Rattle.spx_messages.specs.Message.{MessageView, cut_fault}
+use Rattle.spx_messages.specs.declared.message_fault.MessageFault.TheVariants as MessageFaults
 use Rattle.spx_messages.specs.EndpointView.{Held}
 use Rattle.spx_messages.specs.Taking.{IsPushed, overlong, take_end}
 use Rattle.spx_messages.specs.declared.fault.EndFault.{EndFault}

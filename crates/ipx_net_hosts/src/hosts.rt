@@ -3,7 +3,7 @@
 ghost use Rattle.std.specs.Prelude.{◌≡◌, ◌≢◌, ◌<◌, ◌≤◌, ◌↔◌, ◌++◌, ◌∷◌, ℕ, [], Err, IfErr, IfNone, IfOk, IfSome, IsOk, None, OnErr, OnOk, length, option_map, slice_get, true};
 ghost use Rattle.ipx_wire.specs.Assigned.{spx_max_packet_size};
 ghost use Rattle.spx_link.specs.Limits.{most_units};
-ghost use Rattle.spx_units.specs.Message.{message_view};
+ghost use Rattle.spx_messages.specs.Message.{message_view};
 ghost use Rattle.spx_theory.specs.Note.{AsksEnd, HandsIn, Opened, Released};
 ghost use Rattle.theory_steps.specs.EndCalls.{AsksAgainOf, Closes, DialsFrom, PacesOf, ReleasesOf, SendsTo};
 ghost use Rattle.theory_steps.specs.HostSteps.{TakesOf, buffers_of, unit_notes, whole_notes};

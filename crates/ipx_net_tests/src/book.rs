@@ -2,7 +2,7 @@
 
 use ipx_net::{Entry, IndexedLog, NetFault, Parcel};
 use ipx_wire::{Network, Node};
-use spx_units::Message;
+use spx_messages::Message;
 use std::alloc::{AllocError, Global};
 use std::test::Fail;
 

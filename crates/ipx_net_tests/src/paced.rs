@@ -2,8 +2,7 @@
 
 use crate::made::{dial, net_at_last};
 use ipx_net::{Answer, Event, Member, Net, NetFault, Place};
-use spx_messages::Taken;
-use spx_units::Message;
+use spx_messages::{Message, Taken};
 use std::alloc::Global;
 use std::process::Abort;
 use std::test::Fail;

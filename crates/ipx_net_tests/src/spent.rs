@@ -10,7 +10,7 @@ use crate::made::{node, ports_with};
 use ipx_net::{Answer, Entry, Event, Host, Member, Net, NetFault, Place};
 use ipx_router::NewFault;
 use ipx_wire::{Address, Network, Socket};
-use spx_units::Message;
+use spx_messages::Message;
 use std::alloc::{AllocError, Global};
 use std::process::Abort;
 use std::test::Fail;

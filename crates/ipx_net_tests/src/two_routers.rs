@@ -12,7 +12,7 @@ use crate::spent::{Told, is_spent, told};
 use ipx_net::{Answer, Event, Host, Member, Net, NetFault, Parcel, Place};
 use ipx_router::{NewFault, Port};
 use ipx_wire::{Address, Network, Socket};
-use spx_units::Message;
+use spx_messages::Message;
 use std::alloc::{AllocError, Global};
 use std::process::Abort;
 use std::test::Fail;

@@ -9,7 +9,7 @@ use Rattle.ipx_wire.specs.Spx.{HasFreeBitsClear}
 use Rattle.spx_link.specs.LinkView.{LinkView}
 use Rattle.spx_link.specs.Offer.{dialed}
 use Rattle.spx_link.specs.Poll.{OutgoingView, poll_link}
-use Rattle.spx_units.specs.WrittenPackets.{Home, IsWrittenPacket}
+use Rattle.spx_messages.specs.WrittenPackets.{Home, IsWrittenPacket}
 use Rattle.ipx_carrier.specs.Turns.{Given}
 use Rattle.ipx_query.specs.declared.ping_core.PingCore.{PingCore}
 

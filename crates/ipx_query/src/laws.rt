@@ -5,7 +5,7 @@ ghost use Rattle.ipx_wire.specs.declared.spx.packet.SpxHeader.{SpxHeader};
 ghost use Rattle.ipx_wire.specs.Connection.{IsConnectionPacket};
 ghost use Rattle.ipx_wire.specs.Ipx.{PacketView};
 ghost use Rattle.spx_link.specs.Limits.{no_id};
-ghost use Rattle.spx_units.specs.WrittenPackets.{IsRequestFor};
+ghost use Rattle.spx_messages.specs.WrittenPackets.{IsRequestFor};
 ghost use Rattle.ipx_query.specs.PingRequests.{IsPing};
 
 use ipx_wire::Address;

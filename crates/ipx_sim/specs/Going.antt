@@ -1,8 +1,8 @@
 -- What `fill`, `take`, `run` and `pump` do to a network, step by step. Defined by this project.
 use Rattle.std.specs.Prelude.{ℕ, ◌≡◌, ◌%◌, ◌==◌, ◌⊎◌, Bool, true, false, not, MatchBool, List, [], ◌∷◌, length, MatchOption, Result, Ok, Err}
 use Rattle.std.specs.List.{range_with_len}
-use Rattle.spx_units.specs.Message.{message_view}
-use Rattle.spx_units.specs.declared.message.Message.{Message}
+use Rattle.spx_messages.specs.Message.{message_view}
+use Rattle.spx_messages.specs.declared.message.Message.{Message}
 use Rattle.spx_messages.specs.Taking.{TakenView, Nothing, Part, PeerEnd, Whole, taken_view}
 use Rattle.spx_messages.specs.declared.taken.Taken as code
 use Rattle.ipx_net.specs.AnswerView.{AnswerView, ArrivedAt, Done, Dropped, End, Heard, Parcels, Refused, Taken}

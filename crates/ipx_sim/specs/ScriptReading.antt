@@ -1,7 +1,7 @@
 -- What the lines of a script after the layout mean. Defined by this project.
 use Rattle.std.specs.Prelude.{ℕ, ◌≡◌, ◌==◌, ◌||◌, Bool, false, true, if◌then◌else◌, List, [], ◌∷◌, codes, length, slice_index_or, Option, Some, None, option_map, Result, Ok, Err}
 use Rattle.std.specs.Str.{bytes_eq}
-use Rattle.spx_units.specs.Message.{MessageView, message_view}
+use Rattle.spx_messages.specs.Message.{MessageView, message_view}
 use Rattle.ipx_wire.specs.AddressText.{spelled_node, spelled_socket}
 use Rattle.ipx_wire.specs.declared.address.Address.{Address}
 use Rattle.ipx_wire.specs.declared.address.Network.{Network}

@@ -9,8 +9,8 @@ use Rattle.spx_link.specs.declared.received.Received.{Received}
 use Rattle.spx_link.specs.declared.received.Received.TheVariants as Receiveds
 use Rattle.spx_link.specs.declared.state.State.{State}
 use Rattle.spx_link.specs.declared.state.State.TheVariants as States
-use Rattle.spx_units.specs.declared.fault.MessageFault.{MessageFault}
-use Rattle.spx_units.specs.declared.fault.MessageFault.TheVariants as MessageFaults
+use Rattle.spx_messages.specs.declared.message_fault.MessageFault.{MessageFault}
+use Rattle.spx_messages.specs.declared.message_fault.MessageFault.TheVariants as MessageFaults
 use Rattle.spx_messages.specs.declared.fault.EndFault.{EndFault}
 use Rattle.spx_messages.specs.declared.fault.EndFault.TheVariants as EndFaults
 use Rattle.ipx_net.specs.declared.fault.NetFault.{NetFault}

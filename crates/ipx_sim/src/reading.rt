@@ -17,7 +17,7 @@ use crate::names::Names;
 use crate::script_fault::ScriptFault;
 use ipx_net::Event;
 use ipx_wire::{Node, Socket};
-use spx_units::Message;
+use spx_messages::Message;
 use std::alloc::Global;
 
 /// Whether a word is this one.

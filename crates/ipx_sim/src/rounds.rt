@@ -13,7 +13,7 @@ use crate::names::Names;
 use crate::stop::LineFault;
 use crate::taking::drain_if;
 use ipx_net::{Answer, Event, Member, Net, NetFault};
-use spx_units::Message;
+use spx_messages::Message;
 use std::alloc::Global;
 
 /// Whether a message was queued.

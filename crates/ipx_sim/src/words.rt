@@ -6,8 +6,7 @@ ghost use Rattle.ipx_sim.specs.ScriptWords.{end_fault_name, links_fault_name, me
 
 use ipx_net::NetFault;
 use spx_link::{LinksFault, OfferFault, Received, State};
-use spx_messages::EndFault;
-use spx_units::MessageFault;
+use spx_messages::{EndFault, MessageFault};
 use std::alloc::{AllocError, Global};
 
 fn offer_fault_name(fault: OfferFault) -> &'static str

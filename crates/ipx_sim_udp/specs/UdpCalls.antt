@@ -6,8 +6,8 @@ use Rattle.spx_link.specs.LinkView.{numbers_of}
 use Rattle.spx_link.specs.Links.{IsNextFree}
 use Rattle.spx_link.specs.declared.state.State.{State}
 use Rattle.spx_link.specs.Offer.{dialed, end_link, offer_link}
-use Rattle.spx_units.specs.Cut.{cut_of}
-use Rattle.spx_units.specs.Message.{MessageView}
+use Rattle.spx_messages.specs.Cut.{cut_of}
+use Rattle.spx_messages.specs.Message.{MessageView}
 use Rattle.spx_messages.specs.Changes.{AddsEnd, ChangesEnd, SameBut}
 use Rattle.spx_messages.specs.EndpointView.{EndpointView, Held, held_at}
 use Rattle.ipx_carrier.specs.Counting.{raised}

@@ -1,7 +1,7 @@
 //! The hosts and routers of a script, each over its own sockets.
 
 ghost use Rattle.std.specs.Prelude.{◌≡◌, ◌%◌};
-ghost use Rattle.spx_units.specs.Message.{message_view};
+ghost use Rattle.spx_messages.specs.Message.{message_view};
 ghost use Rattle.ipx_sim_udp.specs.UdpCalls.{ClosesAt, DialsFromHost, FillsAt, KeepsOtherParts, SendsAt, SendsByte, new_udp_end, next_at, link_state_of};
 
 use crate::binding::{Bindings, bound_hosts, bound_routers};

@@ -8,8 +8,8 @@ use Rattle.spx_link.specs.LinkView.{LinkView}
 use Rattle.spx_link.specs.Links.{LinksView, link_at, Adds, ChangesOnly, IsAcceptedFrom, IsLeast}
 use Rattle.spx_link.specs.Offer.{accepted_from, owe_reply_link}
 use Rattle.spx_link.specs.Receive.{receive_link}
-use Rattle.spx_units.specs.Message.{MessageView}
-use Rattle.spx_units.specs.WrittenPackets.{IsRequestFor}
+use Rattle.spx_messages.specs.Message.{MessageView}
+use Rattle.spx_messages.specs.WrittenPackets.{IsRequestFor}
 use Rattle.spx_messages.specs.Arrives.{Answers, Arrives, Comes, IsAcceptable, IsAccepted, IsAskedAgain, IsHeard, IsNewRequest, IsOneTooMany, IsOurs, IsStrange, IsUnheard, Unheard}
 use Rattle.spx_messages.specs.Changes.{AddsEnd, ChangesEnd, SameBut, SameSelf}
 use Rattle.spx_messages.specs.EndpointView.{EndpointView, buffers_at, buffers_in, held_with, rest_in}

@@ -8,3 +8,7 @@ pub mod OnePoll
 mod Polling
 mod Turning
 mod Written
+pub mod Pieces
+pub mod Joins
+pub mod Filled
+pub mod Grouping

@@ -15,7 +15,7 @@ use Rattle.spx_link.specs.Offer.{accepted_from, owe_reply_link}
 use Rattle.spx_link.specs.Receive.{receive_link}
 use Rattle.spx_link.specs.declared.received.Received.{Received}
 use Rattle.spx_link.specs.declared.received.Received.TheVariants as Receiveds
-use Rattle.spx_units.specs.WrittenPackets.{IsRequestFor}
+use Rattle.spx_messages.specs.WrittenPackets.{IsRequestFor}
 use Rattle.spx_messages.specs.Arrives.{Answers, Arrives, Comes, IsAccepted, IsAskedAgain, IsHeard, IsNewRequest, IsOneTooMany, IsOurs, IsStrange, IsUnheard, Unheard}
 use Rattle.spx_messages.specs.Changes.{AddsEnd, ChangesEnd, SameBut, SameSelf}
 use Rattle.spx_messages.specs.EndpointView.{EndpointView, Held, buffers_at, held_at, held_with, rest_in}

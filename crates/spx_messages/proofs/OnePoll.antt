@@ -7,7 +7,7 @@ use Rattle.ipx_wire.specs.declared.address.Node.{Node}
 use Rattle.ipx_wire.specs.declared.spx.packet.SpxHeader.{SpxHeader}
 use Rattle.spx_link.specs.LinkView.{LinkView}
 use Rattle.spx_link.specs.Poll.{OutgoingView, poll_link}
-use Rattle.spx_units.specs.WrittenPackets.{Home, IsWrittenPacket}
+use Rattle.spx_messages.specs.WrittenPackets.{Home, IsWrittenPacket}
 use Rattle.spx_messages.specs.Changes.{SameBut}
 use Rattle.spx_messages.specs.EndpointView.{EndpointView, Held, held_at}
 use Rattle.spx_messages.specs.OneValue.{IsRoomStill, IsOnePoll}

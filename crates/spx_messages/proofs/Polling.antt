@@ -4,8 +4,8 @@ use Rattle.spx_link.specs.LinkView.{LinkView}
 use Rattle.spx_link.specs.Links.{LinksView, link_at}
 use Rattle.spx_link.specs.Poll.{OutgoingView, poll_link}
 use Rattle.spx_link.specs.declared.outgoing.Sent.{Sent}
-use Rattle.spx_units.specs.Message.{MessageView}
-use Rattle.spx_units.specs.WrittenPackets.{IsWrittenPacket}
+use Rattle.spx_messages.specs.Message.{MessageView}
+use Rattle.spx_messages.specs.WrittenPackets.{IsWrittenPacket}
 use Rattle.spx_messages.specs.Changes.{SameSelf}
 use Rattle.spx_messages.specs.EndpointView.{EndpointView, Held, held_at, held_with, rest_in}
 use Rattle.spx_messages.specs.Polls.{Polls, RestsAt, home_of}

@@ -1,11 +1,11 @@
 -- A unit added to a partial message: the cases of its call.
 use Rattle.std.proofs.Common.{◌≡◌, ℕ, List, refl, sym, subst, ◌∙◌, None, Some, get_or, set, Option, Result, Ok, Err, IfOk, IsOkUnless, option_map}
 use Rattle.spx_link.specs.declared.unit.Unit.{Unit}
-use Rattle.spx_units.specs.declared.fault.MessageFault.{MessageFault}
-use Rattle.spx_units.specs.declared.fault.MessageFault.TheVariants as MessageFaults
-use Rattle.spx_units.specs.declared.message.Message.{Message}
-use Rattle.spx_units.specs.Joining.{added}
-use Rattle.spx_units.specs.Message.{MessageView, message_view}
+use Rattle.spx_messages.specs.declared.message_fault.MessageFault.{MessageFault}
+use Rattle.spx_messages.specs.declared.message_fault.MessageFault.TheVariants as MessageFaults
+use Rattle.spx_messages.specs.declared.message.Message.{Message}
+use Rattle.spx_messages.specs.Joining.{added}
+use Rattle.spx_messages.specs.Message.{MessageView, message_view}
 use Rattle.spx_messages.specs.declared.parts.Part.{Part}
 use Rattle.spx_messages.specs.EndpointView.{rest_in}
 use Rattle.spx_messages.specs.Pushing.{Pushes}

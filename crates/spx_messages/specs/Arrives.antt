@@ -12,7 +12,7 @@ use Rattle.spx_link.specs.Links.{link_at, count_of, IsNextFree, IsAcceptedFrom, 
 use Rattle.spx_link.specs.Receive.{receive_link}
 use Rattle.spx_link.specs.Offer.{owe_reply_link, accepted_from}
 use Rattle.ipx_wire.specs.Connection.{IsConnectionPacket}
-use Rattle.spx_units.specs.WrittenPackets.{IsRequestFor}
+use Rattle.spx_messages.specs.WrittenPackets.{IsRequestFor}
 use Rattle.spx_messages.specs.Changes.{AddsEnd, ChangesEnd, SameBut}
 use Rattle.spx_messages.specs.EndpointView.{EndpointView, Held, buffers_at, held_at}
 use Rattle.spx_messages.specs.declared.arrived.Arrived.{Arrived}

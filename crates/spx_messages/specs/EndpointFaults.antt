@@ -1,7 +1,7 @@
 -- The numbers of the faults of an endpoint's calls. Defined by this project.
 use Rattle.std.specs.Prelude.{ℕ}
 use Rattle.spx_link.specs.LinkFaults.{links_fault_number, offer_fault_number}
-use Rattle.spx_units.specs.Message.{message_fault_number}
+use Rattle.spx_messages.specs.Message.{message_fault_number}
 use Rattle.spx_messages.specs.declared.fault.EndFault.{EndFault}
 use Rattle.spx_messages.specs.declared.fault.EndFault.TheVariants.{Links, Message, NoSuchEnd, Offer}
 

@@ -8,3 +8,8 @@ pub mod EndpointFaults
 pub mod Pushing
 pub mod Readings
 pub mod EndpointTurns
+pub mod Message
+pub mod Cut
+pub mod Joining
+pub mod Groups
+pub mod WrittenPackets

@@ -2,11 +2,11 @@
 use Rattle.std.specs.Prelude.{ℕ, ◌≡◌, ◌≢◌, true, false, IfOk, IsOkUnless, List, Option, Some, None, Result, Err, option_map}
 use Rattle.spx_link.specs.declared.unit.Unit.{Unit}
 use Rattle.spx_link.specs.Links.{ChangesOnly, LinksView}
-use Rattle.spx_units.specs.declared.fault.MessageFault.{MessageFault}
-use Rattle.spx_units.specs.declared.fault.MessageFault.TheVariants as MessageFaults
-use Rattle.spx_units.specs.declared.message.Message.{Message}
-use Rattle.spx_units.specs.Joining.{added, is_overlong}
-use Rattle.spx_units.specs.Message.{MessageView, message_view}
+use Rattle.spx_messages.specs.declared.message_fault.MessageFault.{MessageFault}
+use Rattle.spx_messages.specs.declared.message_fault.MessageFault.TheVariants as MessageFaults
+use Rattle.spx_messages.specs.declared.message.Message.{Message}
+use Rattle.spx_messages.specs.Joining.{added, is_overlong}
+use Rattle.spx_messages.specs.Message.{MessageView, message_view}
 use Rattle.spx_messages.specs.declared.parts.Part.{Part}
 use Rattle.spx_messages.specs.EndpointView.{Held, rest_in}
 use Rattle.spx_messages.specs.Taking.{TakenView, Part as OnePart, Whole}

@@ -14,7 +14,7 @@ use Rattle.spx_link.specs.Links.{LinksView, link_at, count_of, Adds, ChangesOnly
 use Rattle.spx_link.specs.Links.{IsAcceptedFrom, IsLeast}
 use Rattle.spx_link.specs.Receive.{receive_link}
 use Rattle.spx_link.specs.Offer.{owe_reply_link, accepted_from}
-use Rattle.spx_units.specs.WrittenPackets.{Home}
+use Rattle.spx_messages.specs.WrittenPackets.{Home}
 use Rattle.spx_messages.specs.EndpointView.{buffers_in, rest_in}
 use Rattle.spx_messages.specs.declared.arrived.Arrived.{Arrived}
 use Rattle.spx_messages.specs.declared.arrived.Arrived.TheVariants as Arriveds

@@ -4,9 +4,9 @@ use Rattle.std.specs.Prelude.{Result, Ok, Err}
 use Rattle.spx_link.specs.declared.unit.Unit.{Unit}
 use Rattle.spx_link.specs.LinkView.{is_end}
 use Rattle.spx_link.specs.Offer.{first_of, lose_link, take_link}
-use Rattle.spx_units.specs.declared.fault.MessageFault.TheVariants as MessageFaults
-use Rattle.spx_units.specs.Joining.{added, is_overlong}
-use Rattle.spx_units.specs.Message.{MessageView, message_view}
+use Rattle.spx_messages.specs.declared.message_fault.MessageFault.TheVariants as MessageFaults
+use Rattle.spx_messages.specs.Joining.{added, is_overlong}
+use Rattle.spx_messages.specs.Message.{MessageView, message_view}
 use Rattle.spx_messages.specs.declared.fault.EndFault.{EndFault}
 use Rattle.spx_messages.specs.declared.fault.EndFault.TheVariants as EndFaults
 use Rattle.spx_messages.specs.declared.taken.Taken.{Taken}

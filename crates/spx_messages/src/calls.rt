@@ -7,23 +7,24 @@ ghost use Rattle.spx_link.specs.Offer.{again_link, dialed, end_link, offer_link,
 ghost use Rattle.spx_link.specs.declared.fault.LinksFault.TheVariants as LinksFaults;
 ghost use Rattle.spx_link.specs.declared.fault.OfferFault.{OfferFault};
 ghost use Rattle.spx_link.specs.declared.fault.OfferFault.TheVariants as OfferFaults;
-ghost use Rattle.spx_units.specs.Cut.{cut_of};
-ghost use Rattle.spx_units.specs.Message.{cut_fault, message_view};
-ghost use Rattle.spx_units.specs.declared.fault.MessageFault.{MessageFault};
-ghost use Rattle.spx_units.specs.declared.fault.MessageFault.TheVariants as MessageFaults;
+ghost use Rattle.spx_messages.specs.Cut.{cut_of};
+ghost use Rattle.spx_messages.specs.Message.{cut_fault, message_view};
+ghost use Rattle.spx_messages.specs.declared.message_fault.MessageFault.{MessageFault};
+ghost use Rattle.spx_messages.specs.declared.message_fault.MessageFault.TheVariants as MessageFaults;
 ghost use Rattle.spx_messages.specs.Changes.{AddsEnd, ChangesEnd, ReleasesEnd, SameBut};
 ghost use Rattle.spx_messages.specs.EndpointView.{held_at};
 ghost use Rattle.spx_messages.specs.Taking.{IsPushed, result_view, take_end};
 ghost use Rattle.spx_messages.specs.declared.fault.EndFault.TheVariants as EndFaults;
 
+use crate::cutting::cut;
 use crate::endpoint::Endpoint;
 use crate::fault::EndFault;
 use crate::links::link_of;
+use crate::message::Message;
 use crate::parts::forget;
 use crate::taken::Taken;
 use crate::taking::take_from;
 use ipx_wire::{Address, Socket};
-use spx_units::{Message, cut};
 use std::alloc::Global;
 
 impl Endpoint {

@@ -4,8 +4,8 @@ ghost use Rattle.std.specs.Prelude.{◌≡◌};
 ghost use Rattle.spx_messages.specs.EndpointFaults.{end_fault_number};
 ghost use Rattle.spx_messages.specs.declared.fault.EndFault.TheVariants as EndFaults;
 
+use crate::message_fault::MessageFault;
 use spx_link::{LinksFault, OfferFault};
-use spx_units::MessageFault;
 use thiserror::Error;
 
 /// Why a call on a connection was refused.

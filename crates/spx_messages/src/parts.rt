@@ -5,8 +5,10 @@ ghost use Rattle.spx_link.specs.Limits.{end_stream};
 ghost use Rattle.spx_messages.specs.EndpointView.{rest_in};
 ghost use Rattle.spx_messages.specs.Pushing.{Pushes};
 
+use crate::inbox::Inbox;
+use crate::message::Message;
+use crate::message_fault::MessageFault;
 use spx_link::Unit;
-use spx_units::{Inbox, Message, MessageFault};
 use std::alloc::Global;
 
 /// The partial message of the link of this id.

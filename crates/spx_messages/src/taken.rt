@@ -1,6 +1,6 @@
 //! What a take from a connection gives.
 
-use spx_units::Message;
+use crate::message::Message;
 
 /// What a take gave.
 #[derive(Drop)]

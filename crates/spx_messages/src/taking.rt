@@ -3,8 +3,8 @@
 ghost use Rattle.std.specs.Prelude.{◌≡◌, ◌≢◌, ◌↔◌, ℕ, Err, IfOk, IfSome, MatchResult, None, Ok, Some, option_copied, option_map};
 ghost use Rattle.spx_link.specs.Links.{ChangesOnly, IsLive, link_at};
 ghost use Rattle.spx_link.specs.Offer.{first_of, lose_link, take_link};
-ghost use Rattle.spx_units.specs.Message.{message_view};
-ghost use Rattle.spx_units.specs.declared.fault.MessageFault.TheVariants as MessageFaults;
+ghost use Rattle.spx_messages.specs.Message.{message_view};
+ghost use Rattle.spx_messages.specs.declared.message_fault.MessageFault.TheVariants as MessageFaults;
 ghost use Rattle.spx_messages.specs.EndpointView.{held_among, rest_in};
 ghost use Rattle.spx_messages.specs.Pushing.{ChangesHeld, taken_by_push};
 ghost use Rattle.spx_messages.specs.Taking.{IsPushed, result_view, take_end};
@@ -12,10 +12,11 @@ ghost use Rattle.spx_messages.specs.declared.fault.EndFault.TheVariants as EndFa
 
 use crate::fault::EndFault;
 use crate::links::link_of;
+use crate::message::Message;
+use crate::message_fault::MessageFault;
 use crate::parts::{Part, add_unit};
 use crate::taken::Taken;
 use spx_link::{Links, Unit};
-use spx_units::{Message, MessageFault};
 use std::alloc::Global;
 
 /// The datastream type of the end of a connection.

@@ -2,7 +2,7 @@
 
 use crate::units::message;
 use spx_link::Unit;
-use spx_units::{Inbox, Message, MessageFault, cut};
+use spx_messages::{Inbox, Message, MessageFault, cut};
 use std::alloc::{AllocError, Global};
 use std::process::Abort;
 use std::test::Fail;

@@ -1,6 +1,6 @@
 //! Messages split into units, and units joined to messages.
 
-use spx_units::{Inbox, Message, MessageFault, cut};
+use spx_messages::{Inbox, Message, MessageFault, cut};
 use std::alloc::{AllocError, Global};
 use std::process::Abort;
 use std::test::Fail;

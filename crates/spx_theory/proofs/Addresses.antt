@@ -10,7 +10,7 @@ use Rattle.theory_pairs.specs.Names.{Names}
 use Rattle.spx_theory.specs.Named.{PeersAreThere}
 use Rattle.spx_theory.specs.Scene.{Scene, Stand}
 use Rattle.spx_theory.specs.EndsTold.{StaysAtHost}
-use Rattle.spx_units.specs.WrittenPackets.{Home}
+use Rattle.spx_messages.specs.WrittenPackets.{Home}
 use Rattle.spx_theory.specs.Deeds.{Deed, DoesDeed, Dials, Accepts, Reads, OwesReply, Paces, AsksAgain, Gives, Rests, Sends, Takes, Overruns, Closes, Releases, Carries, Tells, Injects, IsBegun, Reached, begun, happened}
 use Rattle.spx_theory.proofs.Lists.{get_before}
 use Rattle.spx_theory.proofs.Folding.{seen_all-append}

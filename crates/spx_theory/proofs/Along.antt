@@ -19,7 +19,7 @@ use Rattle.spx_theory.proofs.NextHeld.{next_held}
 use Rattle.spx_theory.proofs.PairPremises.{closed}
 use Rattle.spx_theory.proofs.Telling.{AreOk, Tells', Said, never, next_tells, ranged_ok}
 use Rattle.spx_theory.proofs.Gathering.{joins_log}
-use Rattle.spx_units.specs.Joining.{joined}
+use Rattle.spx_messages.specs.Joining.{joined}
 use Rattle.spx_theory.specs.Handed.{handed_in, handed_out, units_of, taken_of, IsBeginning}
 use Rattle.std.proofs.Math.Seq.{take-append_seam}
 use Rattle.spx_theory.specs.Below.{LawsBelow}

@@ -9,7 +9,7 @@ use Rattle.spx_link.specs.LinkView.{LinkView}
 use Rattle.ipx_wire.specs.Connection.{IsConnectionPacket}
 use Rattle.spx_theory.specs.SentUnits.{SaysOnly}
 use Rattle.spx_theory.specs.PacketsOnWay.{IsOneOn, one_on}
-use Rattle.spx_units.specs.WrittenPackets.{Home, IsWrittenPacket}
+use Rattle.spx_messages.specs.WrittenPackets.{Home, IsWrittenPacket}
 use Rattle.spx_theory.specs.Below.{LawsBelow}
 
 -- what was written is read as what was given, and in no other way

@@ -11,7 +11,7 @@ use Rattle.spx_link.specs.SequenceMarks.{mark}
 use Rattle.spx_link.specs.Poll.{poll_link}
 use Rattle.spx_link.specs.Receive.{receive_link}
 use Rattle.spx_link.specs.Offer.{owe_reply_link, pace_link, again_link, take_link, offer_link, end_link, lose_link, dialed, accepted_from}
-use Rattle.spx_units.specs.Cut.{cut_of}
+use Rattle.spx_messages.specs.Cut.{cut_of}
 use Rattle.spx_theory.specs.Note.{Note, Opened, Accepted, Got, HandsIn, AsksEnd, TakesUnit, Released, Told, Carried, Injected}
 use Rattle.spx_theory.specs.Scan.{Scan, Role, Maker, times, seen, seen_all, scan, unread, no_role, mark_of, joined_by, asker}
 use Rattle.spx_theory.specs.Scene.{Scene, Stand, linked}

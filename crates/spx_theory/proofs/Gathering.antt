@@ -7,9 +7,9 @@ use Rattle.std.proofs.lemmas.Bool.{cases_lt, cond-true, cond-false}
 use Rattle.spx_link.specs.declared.unit.Unit.{Unit}
 use Rattle.spx_link.specs.Offer.{the_end}
 use Rattle.spx_link.specs.Machine.{End, Packet}
-use Rattle.spx_units.specs.Message.{MessageView}
-use Rattle.spx_units.specs.Joining.{Joining, added, join_all}
-use Rattle.spx_units.specs.Cut.{cut_of}
+use Rattle.spx_messages.specs.Message.{MessageView}
+use Rattle.spx_messages.specs.Joining.{Joining, added, join_all}
+use Rattle.spx_messages.specs.Cut.{cut_of}
 use Rattle.spx_theory.specs.Note.{Note, Opened, Accepted, Joined, HandsIn, HandsOut, TakesUnit, AsksEnd, Got, Released, SendsUnit, SendsAgain, SendsSystem, Told, Carried, Injected}
 use Rattle.spx_theory.specs.Handed.{in_by, units_by, taken_by, gathered, handed_in, units_of, taken_of}
 use Rattle.spx_theory.specs.PairLog.{Half, Pair, half_after, pair_after, pair_from, got_mail, mail_of, not_mine, posted, posted_next}

@@ -6,7 +6,7 @@ use Rattle.ipx_wire.specs.declared.address.Network.{Network}
 use Rattle.spx_link.specs.declared.outgoing.Sent.{Sent}
 use Rattle.spx_link.specs.declared.received.Received.{Received}
 use Rattle.spx_link.specs.Receive.{receive_link}
-use Rattle.spx_units.specs.Message.{MessageView}
+use Rattle.spx_messages.specs.Message.{MessageView}
 use Rattle.spx_theory.specs.Note.{Note, SendsUnit}
 use Rattle.spx_theory.specs.Scene.{Scene}
 use Rattle.spx_theory.specs.Deeds.{Deed, DoesDeed, DoesGive, Dials, Accepts, Reads, OwesReply, Paces, AsksAgain, Gives, Rests, Sends, Takes, Overruns, Closes, Releases, Carries, Tells, Injects, Reached, begun, happened}

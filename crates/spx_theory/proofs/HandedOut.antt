@@ -7,7 +7,7 @@ use Rattle.std.proofs.lemmas.Option.{slice_get_within}
 use Rattle.spx_link.specs.declared.unit.Unit.{Unit}
 use Rattle.spx_link.specs.Receive.{receive_link}
 use Rattle.spx_link.specs.Offer.{take_link}
-use Rattle.spx_units.specs.Joining.{Joining, join_unit, joined}
+use Rattle.spx_messages.specs.Joining.{Joining, join_unit, joined}
 use Rattle.spx_theory.specs.Note.{Note, Opened, Accepted, Got, HandsIn, AsksEnd, TakesUnit, Released, Told, Carried, Injected}
 use Rattle.spx_theory.specs.Handed.{out_by, taken_by, gathered, handed_out, taken_of}
 use Rattle.spx_theory.specs.Scene.{Scene, Stand, linked}

@@ -13,8 +13,8 @@ use Rattle.spx_link.specs.LinkView.{LinkView}
 use Rattle.spx_link.specs.Poll.{poll_link}
 use Rattle.spx_link.specs.Receive.{receive_link}
 use Rattle.spx_link.specs.Offer.{queued, the_end, refusal, take_link, end_link, offer_link, owe_reply_link, pace_link, again_link, lose_link, dialed, accepted_from}
-use Rattle.spx_units.specs.Message.{MessageView}
-use Rattle.spx_units.specs.Cut.{cut_of}
+use Rattle.spx_messages.specs.Message.{MessageView}
+use Rattle.spx_messages.specs.Cut.{cut_of}
 use Rattle.spx_theory.specs.Note.{Note, Opened, Accepted, Joined, Got, HandsIn, AsksEnd, TakesUnit, Released, Told, Carried, Injected}
 use Rattle.spx_theory.specs.Scan.{Scan, Reading, seen, seen_all, scan, unread, is_now}
 use Rattle.spx_theory.specs.Handed.{taken_by, gathered, taken_of}

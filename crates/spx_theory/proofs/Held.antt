@@ -5,7 +5,7 @@ use Rattle.spx_link.specs.LinkView.{LinkView}
 use Rattle.spx_link.specs.Machine.{End}
 use Rattle.spx_theory.proofs.Running.{runs_over}
 use Rattle.spx_theory.proofs.Stepping.{swapped}
-use Rattle.spx_units.specs.Message.{MessageView}
+use Rattle.spx_messages.specs.Message.{MessageView}
 use Rattle.spx_theory.specs.Note.{Note}
 use Rattle.spx_theory.specs.Scan.{Scan, Mark, Role, seen, seen_all, scan, unread}
 use Rattle.spx_theory.specs.PairLog.{Half, Pair, pair_after, pair_from, pair_between}

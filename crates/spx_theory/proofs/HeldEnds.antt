@@ -29,7 +29,7 @@ use Rattle.theory_pairs.specs.Tracks.{Formed, Follows}
 use Rattle.theory_pairs.specs.Spelling.{Carries}
 use Rattle.theory_pairs.specs.States.{is_quiet}
 use Rattle.spx_theory.specs.Scene.{Stand}
-use Rattle.spx_units.specs.WrittenPackets.{IsRequestFor}
+use Rattle.spx_messages.specs.WrittenPackets.{IsRequestFor}
 use Rattle.spx_theory.proofs.Lists.{get_last, get_before, get_here, read_there}
 use Rattle.spx_theory.proofs.Tied.{mark_at, Letter}
 use Rattle.spx_theory.proofs.Moving.{moves, sees_same}

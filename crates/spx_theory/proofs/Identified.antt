@@ -10,7 +10,7 @@ use Rattle.spx_link.specs.LinkView.{LinkView}
 use Rattle.spx_theory.specs.Scan.{Mark, Role, Reading, no_role}
 use Rattle.ipx_wire.specs.Connection.{IsConnectionPacket}
 use Rattle.spx_theory.specs.Scene.{Stand}
-use Rattle.spx_units.specs.WrittenPackets.{Home}
+use Rattle.spx_messages.specs.WrittenPackets.{Home}
 use Rattle.spx_theory.proofs.Lists.{get_before, get_last, get_here, get_set}
 use Rattle.spx_theory.proofs.Held.{set_other, set_here}
 use Rattle.spx_theory.proofs.Tied.{mark_at}

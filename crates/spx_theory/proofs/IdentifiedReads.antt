@@ -15,7 +15,7 @@ use Rattle.spx_theory.specs.Scan.{Scan, Maker, Role, Reading, seen_all, scan, un
 use Rattle.spx_theory.specs.Peers.{NothingInjected}
 use Rattle.spx_theory.specs.Scene.{Scene, Stand, Stands, linked}
 use Rattle.spx_theory.specs.PacketsOnWay.{IsFor, notes_of}
-use Rattle.spx_units.specs.WrittenPackets.{Home, IsRequestFor}
+use Rattle.spx_messages.specs.WrittenPackets.{Home, IsRequestFor}
 use Rattle.spx_theory.specs.Deeds.{DoesAccept, DoesRead}
 use Rattle.spx_theory.proofs.Lists.{get_here, read_there}
 use Rattle.spx_theory.proofs.Folding.{seen_all-append}

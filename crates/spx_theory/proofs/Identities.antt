@@ -14,7 +14,7 @@ use Rattle.spx_theory.specs.Scan.{Each, Mark, Maker, Role, Reading, BySystem, Fr
 use Rattle.spx_theory.specs.Peers.{end_of}
 use Rattle.ipx_wire.specs.Connection.{IsConnectionPacket}
 use Rattle.spx_theory.specs.Scene.{Stand}
-use Rattle.spx_units.specs.WrittenPackets.{Home}
+use Rattle.spx_messages.specs.WrittenPackets.{Home}
 use Rattle.spx_theory.proofs.Lists.{get_before}
 use Rattle.spx_theory.proofs.Held.{set_other, set_here}
 use Rattle.spx_theory.proofs.Tied.{mark_at}

@@ -4,9 +4,9 @@ use Rattle.std.specs.Prelude.{slice_get}
 use Rattle.std.proofs.lemmas.List.{append_assoc}
 use Rattle.std.proofs.lemmas.Bool.{cond_both, cond-false}
 use Rattle.spx_link.specs.declared.unit.Unit.{Unit}
-use Rattle.spx_units.specs.Message.{MessageView}
-use Rattle.spx_units.specs.Joining.{Joining, added, join_unit, join_all}
-use Rattle.spx_units.specs.Cut.{pieces, cut_of}
+use Rattle.spx_messages.specs.Message.{MessageView}
+use Rattle.spx_messages.specs.Joining.{Joining, added, join_unit, join_all}
+use Rattle.spx_messages.specs.Cut.{pieces, cut_of}
 
 pub join_all-append : (j : Joining) (us vs : List Unit) → join_all j (us ++ vs) ≡ join_all (join_all j us) vs
 join_all-append j [] vs = refl

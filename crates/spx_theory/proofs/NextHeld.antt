@@ -11,7 +11,7 @@ use Rattle.spx_link.specs.Poll.{OutgoingView, poll_link}
 use Rattle.spx_link.specs.Receive.{receive_link}
 use Rattle.spx_link.specs.Offer.{refusal, owe_reply_link, pace_link, again_link, take_link, offer_link, end_link, the_end}
 use Rattle.spx_link.specs.Machine.{AreSound}
-use Rattle.spx_units.specs.Cut.{cut_of, pieces}
+use Rattle.spx_messages.specs.Cut.{cut_of, pieces}
 use Rattle.ipx_wire.specs.Connection.{IsConnectionPacket}
 use Rattle.spx_theory.specs.Note.{Note, Opened, Accepted, Got, HandsIn, AsksEnd, TakesUnit, Released, Told, Carried, Injected}
 use Rattle.spx_theory.specs.Scan.{Each, Scan, seen_all, scan, unread, ByRouter, FromOutside}
@@ -22,7 +22,7 @@ use Rattle.theory_pairs.specs.Spelling.{PolledTo}
 use Rattle.theory_pairs.specs.States.{is_quiet}
 use Rattle.spx_theory.specs.Scene.{Scene, Stand, linked}
 use Rattle.spx_theory.specs.PacketsOnWay.{note_of, notes_of, out_notes}
-use Rattle.spx_units.specs.WrittenPackets.{Home, IsWrittenPacket}
+use Rattle.spx_messages.specs.WrittenPackets.{Home, IsWrittenPacket}
 use Rattle.spx_theory.specs.Deeds.{Deed, DoesDeed, DoesOverrun, Dials, Accepts, Reads, OwesReply, Paces, AsksAgain, Gives, Rests, Sends, Takes, Overruns, Closes, Releases, Carries, Tells, Injects}
 use Rattle.spx_theory.proofs.Tied.{Whole}
 use Rattle.spx_theory.proofs.Bytes.{written_says}

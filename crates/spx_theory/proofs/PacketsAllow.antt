@@ -13,7 +13,7 @@ use Rattle.spx_link.specs.SequenceMarks.{mark}
 use Rattle.spx_link.specs.Offer.{refusal, offer_link, end_link, take_link, owe_reply_link, pace_link, again_link, lose_link}
 use Rattle.spx_link.specs.Poll.{OutgoingView, poll_link}
 use Rattle.spx_link.specs.Receive.{receive_link}
-use Rattle.spx_units.specs.Cut.{cut_of}
+use Rattle.spx_messages.specs.Cut.{cut_of}
 use Rattle.ipx_wire.specs.Connection.{IsConnectionPacket}
 use Rattle.spx_theory.specs.Note.{Note, Opened, Accepted, HandsIn, TakesUnit, AsksEnd, Got, Released, Told, Carried, Injected}
 use Rattle.spx_theory.specs.Scan.{Scan, Mark, Role, FromOutside, seen, seen_all, scan, unread, mark_of, role_of, no_role, one_further}

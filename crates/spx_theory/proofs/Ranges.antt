@@ -6,7 +6,7 @@ use Rattle.spx_link.specs.declared.outgoing.Sent.{Sent}
 use Rattle.spx_link.specs.declared.received.Received.{Received}
 use Rattle.spx_link.specs.Limits.{most_units}
 use Rattle.spx_link.specs.Receive.{receive_link}
-use Rattle.spx_units.specs.Message.{MessageView}
+use Rattle.spx_messages.specs.Message.{MessageView}
 use Rattle.spx_theory.specs.Note.{Note, Opened, Accepted, Joined, HandsIn, HandsOut, TakesUnit, AsksEnd, Got, Released, SendsUnit, SendsAgain, SendsSystem, Told, Carried, Injected}
 use Rattle.spx_theory.specs.Scan.{Each, Scan, Role, Maker, seen, seen_all, scan, unread, role_of, mark_of, joined_by, asker, no_role}
 use Rattle.spx_theory.specs.Scene.{Scene}

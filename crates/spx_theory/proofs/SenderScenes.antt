@@ -13,7 +13,7 @@ use Rattle.spx_link.specs.LinkView.{LinkView}
 use Rattle.spx_link.specs.Poll.{OutgoingView, poll_link}
 use Rattle.spx_link.specs.Receive.{receive_link}
 use Rattle.spx_link.specs.Offer.{owe_reply_link, pace_link, again_link, lose_link, take_link, offer_link, end_link, the_end}
-use Rattle.spx_units.specs.Cut.{cut_of}
+use Rattle.spx_messages.specs.Cut.{cut_of}
 use Rattle.ipx_wire.specs.Connection.{IsConnectionPacket, sequence_in}
 use Rattle.spx_theory.specs.Note.{Note, Opened, Accepted, Got, HandsIn, AsksEnd, TakesUnit, Released, SendsUnit, SendsAgain, SendsSystem, Told, Carried, Injected}
 use Rattle.spx_theory.specs.Scan.{times, scan, unread}
@@ -22,7 +22,7 @@ use Rattle.spx_theory.specs.PairLog.{position_of}
 use Rattle.spx_theory.specs.Scene.{Scene, Stand, linked}
 use Rattle.spx_theory.specs.Deeds.{Deed, DoesDeed, Dials, Accepts, Reads, OwesReply, Paces, AsksAgain, Gives, Rests, Sends, Takes, Overruns, Closes, Releases, Carries, Tells, Injects, DoesGive, IsBegun, Reached, begun, happened}
 use Rattle.spx_theory.specs.PacketsOnWay.{note_of, notes_of, out_notes}
-use Rattle.spx_units.specs.WrittenPackets.{Home, IsWrittenPacket}
+use Rattle.spx_messages.specs.WrittenPackets.{Home, IsWrittenPacket}
 use Rattle.spx_theory.specs.SentUnits.{sent_by, IsUnitPacket, CarriesUnit, UnitsAreSentInOrder, LinksSendInOrder, PositionsAreGreatest}
 use Rattle.theory_pairs.specs.PairQueues.{SendsFrom, Queues, GivesUnit, IsGivenOut, PolledFrom}
 use Rattle.spx_theory.proofs.Lists.{get_last, get_set, get_here, read_there, times-append}

@@ -10,8 +10,8 @@ use Rattle.spx_link.specs.declared.outgoing.Sent.{Sent}
 use Rattle.spx_link.specs.declared.received.Received.{Received}
 use Rattle.spx_link.specs.LinkView.{LinkView, is_end}
 use Rattle.spx_link.specs.Receive.{receive_link}
-use Rattle.spx_units.specs.Message.{MessageView}
-use Rattle.spx_units.specs.Joining.{Joining, added, join_unit, join_all, joined}
+use Rattle.spx_messages.specs.Message.{MessageView}
+use Rattle.spx_messages.specs.Joining.{Joining, added, join_unit, join_all, joined}
 use Rattle.spx_theory.specs.Note.{Note, Opened, Accepted, HandsIn, TakesUnit, AsksEnd, Got, Released, Told, Carried, Injected}
 use Rattle.spx_theory.specs.Scan.{scan}
 use Rattle.spx_theory.specs.Handed.{out_by, units_by, taken_by, gathered, handed_out, units_of, taken_of, IsBeginning}

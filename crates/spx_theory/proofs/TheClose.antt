@@ -10,7 +10,7 @@ use Rattle.spx_link.specs.LinkView.{LinkView}
 use Rattle.spx_link.specs.Units.{unit_of, queued_units}
 use Rattle.spx_link.specs.Machine.{End, AreSound}
 use Rattle.spx_theory.proofs.Stepping.{swapped}
-use Rattle.spx_units.specs.Joining.{joined, join_all}
+use Rattle.spx_messages.specs.Joining.{joined, join_all}
 use Rattle.spx_theory.specs.Note.{Note, TakesUnit}
 use Rattle.spx_theory.specs.Scan.{Scan, Reading, scan, role_of}
 use Rattle.spx_theory.specs.Peers.{AreJoined, ArePeersIn, Premises, FromOwnPeer}

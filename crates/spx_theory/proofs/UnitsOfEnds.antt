@@ -13,8 +13,8 @@ use Rattle.spx_link.specs.declared.state.State.{State}
 use Rattle.spx_link.specs.LinkView.{LinkView}
 use Rattle.spx_link.specs.Offer.{refusal, the_end}
 use Rattle.spx_link.specs.Receive.{receive_link}
-use Rattle.spx_units.specs.Message.{MessageView}
-use Rattle.spx_units.specs.Cut.{cut_of}
+use Rattle.spx_messages.specs.Message.{MessageView}
+use Rattle.spx_messages.specs.Cut.{cut_of}
 use Rattle.theory_pairs.specs.Tracks.{Formed, may_end}
 use Rattle.spx_theory.specs.Below.{LawsBelow}
 use Rattle.spx_theory.specs.Note.{Note, HandsIn, AsksEnd, TakesUnit}

@@ -5,9 +5,9 @@ use Rattle.std.proofs.lemmas.List.{append-nil, append_assoc}
 use Rattle.spx_link.specs.declared.unit.Unit.{Unit}
 use Rattle.spx_link.specs.LinkView.{is_end}
 use Rattle.spx_link.specs.Offer.{the_end}
-use Rattle.spx_units.specs.Message.{MessageView}
-use Rattle.spx_units.specs.Joining.{Joining, added, join_unit, join_all, joined}
-use Rattle.spx_units.specs.Cut.{cut_of}
+use Rattle.spx_messages.specs.Message.{MessageView}
+use Rattle.spx_messages.specs.Joining.{Joining, added, join_unit, join_all, joined}
+use Rattle.spx_messages.specs.Cut.{cut_of}
 use Rattle.spx_theory.specs.Note.{Note, Opened, Accepted, Joined, HandsIn, HandsOut, TakesUnit, AsksEnd, Got, Released, SendsUnit, SendsAgain, SendsSystem, Told, Carried, Injected}
 use Rattle.spx_theory.specs.Handed.{in_by, units_by, taken_by, handed_in, units_of, taken_of}
 use Rattle.spx_theory.proofs.Joining.{cut_join, join_all-append}

@@ -15,8 +15,8 @@ use Rattle.spx_link.specs.SequenceMarks.{mark, distance, room_after}
 use Rattle.spx_link.specs.Offer.{offer_link, end_link, take_link, owe_reply_link, pace_link, again_link}
 use Rattle.spx_link.specs.Poll.{poll_link}
 use Rattle.spx_link.specs.Receive.{receive_link}
-use Rattle.spx_units.specs.Message.{MessageView}
-use Rattle.spx_units.specs.Cut.{cut_of}
+use Rattle.spx_messages.specs.Message.{MessageView}
+use Rattle.spx_messages.specs.Cut.{cut_of}
 use Rattle.ipx_wire.specs.Connection.{IsConnectionPacket}
 use Rattle.spx_theory.specs.Note.{Note, Opened, Accepted, Joined, HandsIn, TakesUnit, AsksEnd, Got, Released, Told, Carried, Injected}
 use Rattle.spx_theory.specs.Scan.{Each, times, Scan, Mark, Reading, FromOutside, seen, seen_all, scan, unread, mark_of, role_of, is_now}

@@ -4,7 +4,7 @@ use Rattle.std.specs.Prelude.{ℕ, ◌≡◌, ◌≢◌, List, Some, slice_get, 
 use Rattle.spx_theory.specs.Note.{Note, Released}
 use Rattle.spx_theory.specs.Peers.{NothingInjected, FromOwnPeer}
 use Rattle.spx_theory.specs.Scene.{Scene, Stand}
-use Rattle.spx_units.specs.WrittenPackets.{Home}
+use Rattle.spx_messages.specs.WrittenPackets.{Home}
 
 abbrev pub AddressesDiffer : Scene → Type 0
 AddressesDiffer s =

@@ -6,7 +6,7 @@ use Rattle.spx_link.specs.declared.state.State.TheVariants.{Confirmed}
 use Rattle.spx_link.specs.Limits.{end_stream}
 use Rattle.spx_link.specs.LinkView.{LinkView}
 use Rattle.spx_link.specs.Machine.{End}
-use Rattle.spx_units.specs.Joining.{join_all}
+use Rattle.spx_messages.specs.Joining.{join_all}
 use Rattle.spx_theory.specs.Note.{TakesUnit, AsksEnd}
 use Rattle.spx_theory.specs.Scan.{scan}
 use Rattle.spx_theory.specs.Peers.{AreJoined, ArePeers, Premises}

@@ -11,15 +11,15 @@ use Rattle.spx_link.specs.LinkView.{LinkView}
 use Rattle.spx_link.specs.Poll.{OutgoingView, poll_link}
 use Rattle.spx_link.specs.Receive.{receive_link}
 use Rattle.spx_link.specs.Offer.{refusal, offer_link, end_link, take_link, owe_reply_link, lose_link, pace_link, again_link, dialed, accepted_from}
-use Rattle.spx_units.specs.Message.{MessageView, most_bytes}
-use Rattle.spx_units.specs.Joining.{Joining, join_unit, added}
-use Rattle.spx_units.specs.Cut.{cut_of}
+use Rattle.spx_messages.specs.Message.{MessageView, most_bytes}
+use Rattle.spx_messages.specs.Joining.{Joining, join_unit, added}
+use Rattle.spx_messages.specs.Cut.{cut_of}
 use Rattle.ipx_wire.specs.Connection.{IsConnectionPacket}
 use Rattle.spx_theory.specs.Note.{Opened, Accepted, HandsIn, TakesUnit, AsksEnd, Got, Released, Told, Carried, Injected}
 use Rattle.spx_link.specs.declared.received.Received.TheVariants as Receiveds
 use Rattle.spx_theory.specs.PacketsOnWay.{IsFor, IsOneOn, note_of, notes_of, out_notes}
 use Rattle.spx_theory.specs.Scene.{IsFreeId, Scene, Stand, Stands, linked, with_entries, put_end, sent_off}
-use Rattle.spx_units.specs.WrittenPackets.{Home, IsRequestFor, IsWrittenPacket}
+use Rattle.spx_messages.specs.WrittenPackets.{Home, IsRequestFor, IsWrittenPacket}
 
 pub data Deed : Type 0 where
   -- an end is opened, or made by a request

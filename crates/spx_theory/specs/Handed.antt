@@ -3,8 +3,8 @@
 use Rattle.std.specs.Prelude.{ℕ, ◌≡◌, ◌==◌, List, [], ◌∷◌, ◌++◌, if◌then◌else◌}
 use Rattle.spx_link.specs.declared.unit.Unit.{Unit}
 use Rattle.spx_link.specs.Offer.{the_end}
-use Rattle.spx_units.specs.Message.{MessageView}
-use Rattle.spx_units.specs.Cut.{cut_of}
+use Rattle.spx_messages.specs.Message.{MessageView}
+use Rattle.spx_messages.specs.Cut.{cut_of}
 use Rattle.spx_theory.specs.Note.{Note, HandsIn, HandsOut, TakesUnit, AsksEnd}
 
 -- what an entry adds to the messages handed in at an end, to those handed out, to its units, and to the units

@@ -1,6 +1,6 @@
 -- What an end handed out is what it took, joined to messages (Novell SPX: the end of message bit).
 use Rattle.std.specs.Prelude.{ℕ, ◌≡◌, ◌≢◌, ◌≤◌, false, List, [], length, Some, None, slice_get}
-use Rattle.spx_units.specs.Joining.{joined}
+use Rattle.spx_messages.specs.Joining.{joined}
 use Rattle.spx_theory.specs.Handed.{handed_out, taken_of}
 use Rattle.spx_theory.specs.Scene.{Scene, Stand}
 

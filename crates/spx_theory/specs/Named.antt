@@ -1,7 +1,7 @@
 -- The ids by which the links of two peers address each other (ids of Novell SPX), and their hosts.
 use Rattle.std.specs.Prelude.{ℕ, ◌≡◌, Some, slice_get}
 use Rattle.spx_link.specs.LinkView.{LinkView}
-use Rattle.spx_units.specs.WrittenPackets.{Home}
+use Rattle.spx_messages.specs.WrittenPackets.{Home}
 use Rattle.spx_theory.specs.Addresses.{IdsDiffer}
 use Rattle.spx_theory.specs.Peers.{AreJoined, ArePeers, NothingInjected}
 use Rattle.spx_theory.specs.Scan.{scan}

@@ -1,7 +1,7 @@
 -- The entries of the log of a network, without their place in memory.
 use Rattle.std.specs.Prelude.{ℕ}
 use Rattle.spx_link.specs.declared.unit.Unit.{Unit}
-use Rattle.spx_units.specs.Message.{MessageView}
+use Rattle.spx_messages.specs.Message.{MessageView}
 
 -- ends, parcels, hosts and routers by their numbers. The last six make a parcel: an end sends a unit, a unit
 -- again, or a packet without a unit; a router sends a packet of its own or forwards one; or one is injected

@@ -7,8 +7,8 @@ use Rattle.ipx_wire.specs.declared.address.Address.{Address}
 use Rattle.ipx_wire.specs.Ipx.{PacketView, IsIpx}
 use Rattle.spx_link.specs.declared.outgoing.Sent.{Sent}
 use Rattle.spx_link.specs.declared.received.Received.{Received}
-use Rattle.spx_units.specs.Message.{MessageView}
-use Rattle.spx_units.specs.WrittenPackets.{Home}
+use Rattle.spx_messages.specs.Message.{MessageView}
+use Rattle.spx_messages.specs.WrittenPackets.{Home}
 use Rattle.spx_theory.specs.Note.{Note, Joined, HandsOut, Got, SendsUnit, SendsAgain, SendsSystem}
 use Rattle.spx_link.specs.declared.outgoing.Sent.TheVariants as Sents
 use Rattle.spx_link.specs.declared.received.Received.TheVariants as Receiveds

@@ -5,7 +5,7 @@ use Rattle.spx_link.specs.SequenceMarks.{mark, distance}
 use Rattle.spx_link.specs.Machine.{End, Packet, packet_now, mailed, sent_next, one_more_sent, got, new_end}
 use Rattle.spx_link.specs.declared.unit.Unit.{Unit}
 use Rattle.spx_link.specs.Offer.{the_end}
-use Rattle.spx_units.specs.Cut.{cut_of}
+use Rattle.spx_messages.specs.Cut.{cut_of}
 use Rattle.ipx_wire.specs.Connection.{sequence_in}
 use Rattle.spx_theory.specs.Note.{Note, Opened, Accepted, Joined, HandsIn, HandsOut, TakesUnit, AsksEnd, Got, Released, SendsUnit, SendsAgain, SendsSystem, Told, Carried, Injected}
 

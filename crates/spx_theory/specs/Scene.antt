@@ -2,8 +2,8 @@
 use Rattle.std.specs.Prelude.{ℕ, ◌≡◌, ◌≢◌, Bool, List, [], ◌∷◌, ◌++◌, set, Option, Some, slice_get}
 use Rattle.ipx_wire.specs.declared.address.Network.{Network}
 use Rattle.spx_link.specs.LinkView.{LinkView}
-use Rattle.spx_units.specs.Message.{MessageView}
-use Rattle.spx_units.specs.WrittenPackets.{Home}
+use Rattle.spx_messages.specs.Message.{MessageView}
+use Rattle.spx_messages.specs.WrittenPackets.{Home}
 use Rattle.spx_theory.specs.Note.{Note}
 
 -- an end: its host, its id there, its link until it is released, its partial message, and whether a take of

@@ -4,7 +4,7 @@ use Rattle.std.specs.Prelude.{ℕ, ◌≡◌, ◌==◌, ◌⊎◌, List, [], ◌
 use Rattle.std.specs.List.{flat_map}
 use Rattle.spx_link.specs.declared.unit.Unit.{Unit}
 use Rattle.spx_link.specs.Offer.{the_end}
-use Rattle.spx_units.specs.Cut.{cut_of}
+use Rattle.spx_messages.specs.Cut.{cut_of}
 use Rattle.spx_theory.specs.Note.{Note, AsksEnd}
 use Rattle.spx_theory.specs.Handed.{gathered, handed_in, units_of}
 use Rattle.spx_theory.specs.Scene.{Scene}

@@ -1,7 +1,7 @@
 -- A world in which nothing happened yet, and all worlds that steps reach from it.
 use Rattle.std.proofs.Common.{◌≡◌, ◌≢◌, ℕ, [], map, Some, sym, ◌∙◌, ap, subst}
 use Rattle.std.specs.Prelude.{slice_get}
-use Rattle.spx_units.specs.WrittenPackets.{Home}
+use Rattle.spx_messages.specs.WrittenPackets.{Home}
 use Rattle.spx_theory.specs.Deeds.{IsBegun, Reached, begun}
 use Rattle.theory_steps.specs.World.{World, EndNow, end_at, stand_of, home_at, bytes_of, segment_of, scene_of, InOrder}
 use Rattle.theory_steps.specs.Reach.{HasNoLinks, IsNewWorld, CameTo, new, stepped}

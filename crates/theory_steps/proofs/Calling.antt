@@ -8,8 +8,8 @@ use Rattle.ipx_wire.specs.declared.address.Socket.{Socket}
 use Rattle.ipx_wire.specs.declared.address.Address.{Address}
 use Rattle.spx_link.specs.LinkView.{LinkView}
 use Rattle.spx_link.specs.Offer.{offer_link, end_link, pace_link, again_link, dialed}
-use Rattle.spx_units.specs.Message.{MessageView}
-use Rattle.spx_units.specs.Cut.{cut_of}
+use Rattle.spx_messages.specs.Message.{MessageView}
+use Rattle.spx_messages.specs.Cut.{cut_of}
 use Rattle.spx_theory.specs.Note.{Note}
 use Rattle.spx_theory.specs.Scene.{Stand, Stands, linked, with_entries, put_end}
 use Rattle.spx_theory.specs.Deeds.{Deed, DoesDeed}

@@ -10,7 +10,7 @@ use Rattle.spx_link.specs.LinkView.{LinkView}
 use Rattle.spx_link.specs.Receive.{receive_link}
 use Rattle.spx_link.specs.Offer.{owe_reply_link, accepted_from}
 use Rattle.spx_theory.specs.Note.{Note}
-use Rattle.spx_units.specs.WrittenPackets.{Home}
+use Rattle.spx_messages.specs.WrittenPackets.{Home}
 use Rattle.spx_theory.specs.Deeds.{Accepts, Reads, OwesReply}
 use Rattle.spx_theory.specs.PacketsOnWay.{IsFor, notes_of}
 use Rattle.spx_messages.specs.Changes.{SameBut}

@@ -5,10 +5,10 @@ use Rattle.std.proofs.lemmas.Bool.{cases_eq, cases_Bool, cond-true, cond-false}
 use Rattle.ipx_wire.specs.declared.address.Network.{Network}
 use Rattle.spx_link.specs.LinkView.{LinkView}
 use Rattle.spx_link.specs.Links.{link_at}
-use Rattle.spx_units.specs.Message.{MessageView}
+use Rattle.spx_messages.specs.Message.{MessageView}
 use Rattle.spx_theory.specs.Note.{Note}
 use Rattle.spx_theory.specs.Scene.{Scene, Stand}
-use Rattle.spx_units.specs.WrittenPackets.{Home}
+use Rattle.spx_messages.specs.WrittenPackets.{Home}
 use Rattle.spx_messages.specs.Changes.{SameSelf}
 use Rattle.spx_messages.specs.EndpointView.{Held, EndpointView, rest_in, held_with, held_at}
 use Rattle.spx_messages.specs.Polls.{home_of}

@@ -4,12 +4,12 @@ use Rattle.std.specs.Prelude.{Result, slice_get}
 use Rattle.std.proofs.lemmas.List.{append-nil, map-set}
 use Rattle.std.proofs.lemmas.Bool.{cases_Bool, cond-true, cond-false}
 use Rattle.std.proofs.lemmas.Bool.Decides.{nat_tests, Decides-eqb, Decides-ltb}
-use Rattle.spx_units.specs.Message.{most_bytes}
+use Rattle.spx_messages.specs.Message.{most_bytes}
 use Rattle.spx_link.specs.declared.unit.Unit.{Unit}
 use Rattle.spx_link.specs.Limits.{end_stream}
 use Rattle.spx_link.specs.LinkView.{LinkView, is_end}
 use Rattle.spx_link.specs.Offer.{take_link, take_held, first_of}
-use Rattle.spx_units.specs.Joining.{Joining, added, is_overlong}
+use Rattle.spx_messages.specs.Joining.{Joining, added, is_overlong}
 use Rattle.spx_theory.specs.Note.{Note}
 use Rattle.spx_theory.specs.Scene.{Scene, Stands, with_entries, put_end}
 use Rattle.spx_theory.specs.Deeds.{Takes, Overruns}

@@ -8,8 +8,8 @@ use Rattle.spx_link.specs.Limits.{end_stream, most_units, most_links}
 use Rattle.spx_link.specs.LinkView.{LinkView}
 use Rattle.spx_link.specs.Links.{count_of, IsNextFree}
 use Rattle.spx_link.specs.Offer.{refusal, offer_link, end_link, pace_link, again_link, dialed}
-use Rattle.spx_units.specs.Message.{MessageView}
-use Rattle.spx_units.specs.Cut.{cut_of}
+use Rattle.spx_messages.specs.Message.{MessageView}
+use Rattle.spx_messages.specs.Cut.{cut_of}
 use Rattle.spx_theory.specs.Note.{Note}
 use Rattle.spx_messages.specs.Changes.{AddsEnd, ChangesEnd, ReleasesEnd, SameBut}
 use Rattle.spx_messages.specs.EndpointView.{Held, held_at}

@@ -6,7 +6,7 @@ use Rattle.ipx_wire.specs.declared.address.Socket.{Socket}
 use Rattle.spx_link.specs.Limits.{most_units}
 use Rattle.spx_theory.specs.Note.{Note}
 use Rattle.spx_theory.specs.Scene.{Scene, Stand}
-use Rattle.spx_units.specs.WrittenPackets.{Home}
+use Rattle.spx_messages.specs.WrittenPackets.{Home}
 use Rattle.spx_messages.specs.EndpointView.{Held, EndpointView, held_at, buffers_at}
 use Rattle.spx_messages.specs.Polls.{home_of}
 

@@ -1,7 +1,7 @@
 //! The answer to a connection request.
 
 ghost use Rattle.std.specs.Prelude.{◌≡◌, ◌↔◌, IfOk, IsTrue, OnErr};
-ghost use Rattle.spx_units.specs.WrittenPackets.{IsRequestFor};
+ghost use Rattle.spx_messages.specs.WrittenPackets.{IsRequestFor};
 ghost use Rattle.spx_messages.specs.Readings.{IsAsked, IsNew, IsOpenTo, Unasked};
 
 use crate::arrived::Arrived;

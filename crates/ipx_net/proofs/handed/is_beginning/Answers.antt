@@ -1,5 +1,5 @@
 use Rattle.std.proofs.Common.{◌∷◌, [], refl, drop}
-use Rattle.spx_units.specs.Message.{message_view}
+use Rattle.spx_messages.specs.Message.{message_view}
 use Rattle.spx_theory.specs.Handed.{out_by, handed_in, handed_out, IsBeginning}
 use Rattle.ipx_net.specs.LogEntries.{entry_notes}
 use Rattle.ipx_net.proofs.Walking.{here, none_left, another, one_more, refuse, all_held}

@@ -1,5 +1,5 @@
 use Rattle.std.proofs.Common.{arith, ◌∙◌, [], ◌∷◌}
-use Rattle.spx_units.specs.Message.{message_view}
+use Rattle.spx_messages.specs.Message.{message_view}
 use Rattle.spx_theory.specs.Handed.{in_by}
 use Rattle.ipx_net.proofs.Walking.{here}
 use Rattle.ipx_net.proofs.handed.next_in.Goals as goal

@@ -1,6 +1,6 @@
 use Rattle.std.proofs.Common.{ℕ, List, ap, inl}
-use Rattle.spx_units.specs.Message.{MessageView}
-use Rattle.spx_units.specs.declared.message.Message.{Message}
+use Rattle.spx_messages.specs.Message.{MessageView}
+use Rattle.spx_messages.specs.declared.message.Message.{Message}
 use Rattle.ipx_sim.specs.Act.{outcome_view}
 use Rattle.ipx_sim.proofs.rounds.send_number.Goals as goal
 

@@ -1,6 +1,6 @@
 use Rattle.std.proofs.Common.{◌≡◌, List, None, refl, sym, subst, ap, Err, Ok, ◌∙◌}
 use Rattle.std.proofs.lemmas.Result.{err_from_is_err_and}
-use Rattle.spx_units.specs.declared.fault.MessageFault.TheVariants as MessageFaults
+use Rattle.spx_messages.specs.declared.message_fault.MessageFault.TheVariants as MessageFaults
 use Rattle.spx_messages.specs.declared.parts.Part.{Part}
 use Rattle.spx_messages.specs.EndpointView.{rest_in}
 use Rattle.spx_messages.specs.Pushing.{Pushes}

@@ -1,6 +1,6 @@
 use Rattle.std.proofs.Common.{◌≡◌, None, subst, refl}
 use Rattle.std.specs.Prelude.{IfErr, OnOk}
-use Rattle.spx_units.specs.Message.{message_view}
+use Rattle.spx_messages.specs.Message.{message_view}
 use Rattle.ipx_net_hosts.specs.Refusing.{SendIsRefused, send_fault}
 use Rattle.ipx_net_hosts.proofs.Placing.{held_there, homes_set, left_err}
 use Rattle.ipx_net_hosts.proofs.Marks.{marks_same}

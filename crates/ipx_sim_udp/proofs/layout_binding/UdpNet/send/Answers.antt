@@ -1,5 +1,5 @@
 use Rattle.std.proofs.Common.{ap, refl, set, subst}
-use Rattle.spx_units.specs.Message.{message_view}
+use Rattle.spx_messages.specs.Message.{message_view}
 use Rattle.spx_messages.specs.Changes.{SameBut}
 use Rattle.spx_messages.specs.declared.fault.EndFault.TheVariants.{NoSuchEnd}
 use Rattle.ipx_sim_udp.specs.UdpCalls.{Sends}

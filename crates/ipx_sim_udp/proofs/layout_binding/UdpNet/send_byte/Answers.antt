@@ -1,5 +1,5 @@
 use Rattle.std.proofs.Common.{ap, inl, subst}
-use Rattle.spx_units.specs.Message.{MessageView}
+use Rattle.spx_messages.specs.Message.{MessageView}
 use Rattle.ipx_sim_udp.specs.UdpCalls.{SendsAt}
 use Rattle.ipx_sim_udp.proofs.layout_binding.UdpNet.send_byte.Goals as goal
 

@@ -1,5 +1,5 @@
 use Rattle.std.proofs.Common.{refl}
-use Rattle.spx_units.specs.WrittenPackets.{IsRequestFor}
+use Rattle.spx_messages.specs.WrittenPackets.{IsRequestFor}
 use Rattle.spx_messages.proofs.Arriving.{acceptable_if, asked_arrives, heard_arrives, strange_arrives}
 use Rattle.spx_messages.proofs.endpoint.Endpoint.receive.Goals as goal
 

@@ -1,4 +1,0 @@
-pub mod Pieces
-pub mod Joins
-pub mod Filled
-pub mod Grouping

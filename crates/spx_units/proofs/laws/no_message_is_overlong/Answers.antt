@@ -1,5 +1,0 @@
-use Rattle.spx_units.proofs.Joins.{none_overlong}
-use Rattle.spx_units.proofs.laws.no_message_is_overlong.Goals as goal
-
-pub returns : goal.returns
-returns c = none_overlong

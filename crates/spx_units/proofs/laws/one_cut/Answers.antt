@@ -1,5 +1,0 @@
-use Rattle.spx_units.proofs.Pieces.{cut_is, is_cut}
-use Rattle.spx_units.proofs.laws.one_cut.Goals as goal
-
-pub returns : goal.returns
-returns c = λ m units. (is_cut m units, cut_is m units)

@@ -1,5 +1,0 @@
-pub mod Message
-pub mod Cut
-pub mod Joining
-pub mod Groups
-pub mod WrittenPackets
