@@ -15,7 +15,7 @@ use Rattle.spx_link.specs.Machine.{End, Packet, AreSound, learned, read_unit, go
 use Rattle.spx_link.specs.Poll.{OutgoingView}
 use Rattle.spx_link.specs.Receive.{is_own, is_system, after_end, receive_link}
 use Rattle.spx_link.specs.LinkTurns.{is_joined}
-use Rattle.theory_pairs.specs.Tracks.{Follows, IsOpen}
+use Rattle.spx_theory.specs.Tracks.{Follows, IsOpen}
 use Rattle.ipx_recovery.specs.LinkLaws.{LinkLaws}
 use Rattle.spx_link.specs.Units.{unit_of}
 use Rattle.spx_link.specs.Poll.{late}

@@ -8,7 +8,7 @@ use Rattle.spx_link.specs.Limits.{resend_after}
 use Rattle.spx_link.specs.LinkView.{LinkView, is_working}
 use Rattle.spx_link.specs.Machine.{End}
 use Rattle.spx_link.specs.LinkTurns.{is_joined}
-use Rattle.theory_pairs.specs.Tracks.{may_end}
+use Rattle.spx_theory.specs.Tracks.{may_end}
 use Rattle.ipx_recovery.specs.LinkLaws.{LinkLaws}
 use Rattle.ipx_recovery.specs.RoundsDeliver.{CanDeliver, IsDelivered, RoundsDeliverBothWays}
 use Rattle.ipx_recovery.specs.LosslessRounds.{Conveys, TakesAll, InTurn, over, after, Rise, shares, waiting, round_share}

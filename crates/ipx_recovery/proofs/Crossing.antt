@@ -8,14 +8,14 @@ use Rattle.spx_link.specs.Limits.{most_sends, most_manual_probes}
 use Rattle.spx_link.specs.LinkView.{LinkView, due, is_working}
 use Rattle.spx_link.specs.Machine.{End, got, packet_now}
 use Rattle.spx_link.specs.LinkTurns.{is_joined}
-use Rattle.theory_pairs.specs.Tracks.{IsOpen}
+use Rattle.spx_theory.specs.Tracks.{IsOpen}
 use Rattle.ipx_recovery.specs.LinkLaws.{LinkLaws}
 use Rattle.ipx_recovery.specs.LosslessRounds.{Conveys, stops, goes}
 use Rattle.ipx_recovery.proofs.PollCases.{IsResting}
 use Rattle.ipx_recovery.proofs.Ending.{not_yet}
-use Rattle.theory_pairs.specs.Spelling.{PolledTo}
-use Rattle.theory_pairs.specs.Tracks.{core}
-use Rattle.theory_pairs.specs.PairSteps.{Polled}
+use Rattle.spx_theory.specs.Spelling.{PolledTo}
+use Rattle.spx_theory.specs.Tracks.{core}
+use Rattle.spx_theory.specs.PairSteps.{Polled}
 use Rattle.spx_link.specs.Limits.{most_units}
 use Rattle.spx_link.specs.Offer.{the_end, queued}
 use Rattle.spx_link.specs.Poll.{late, asked_again, wanted, late_if_working, most_probes, is_waiting}

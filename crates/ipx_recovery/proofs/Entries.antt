@@ -9,11 +9,11 @@ use Rattle.spx_link.specs.LinkView.{LinkView, due}
 use Rattle.spx_link.specs.declared.unit.Unit.{Unit}
 use Rattle.ipx_wire.specs.declared.spx.packet.SpxHeader.{SpxHeader}
 use Rattle.spx_link.specs.SequenceMarks.{mark, distance}
-use Rattle.theory_pairs.specs.Spelling.{Carries}
+use Rattle.spx_theory.specs.Spelling.{Carries}
 use Rattle.spx_link.specs.Machine.{End, AreSound}
 use Rattle.spx_link.specs.Poll.{OutgoingView}
 use Rattle.spx_link.specs.Receive.{is_system}
-use Rattle.theory_pairs.specs.Tracks.{Follows}
+use Rattle.spx_theory.specs.Tracks.{Follows}
 use Rattle.ipx_recovery.proofs.Having.{Has}
 use Rattle.ipx_recovery.proofs.Speaking.{PositionIs}
 use Rattle.ipx_recovery.proofs.Hearing.{Owes, owes_by_ack, owes_by_confirm}

@@ -12,7 +12,7 @@ use Rattle.spx_link.specs.Machine.{End, AreSound}
 use Rattle.spx_link.specs.Offer.{the_end}
 use Rattle.spx_link.specs.Receive.{after_end}
 use Rattle.spx_link.specs.LinkTurns.{is_joined}
-use Rattle.theory_pairs.specs.Tracks.{Follows, Formed}
+use Rattle.spx_theory.specs.Tracks.{Follows, Formed}
 use Rattle.ipx_recovery.proofs.Hearing.{Owes}
 use Rattle.ipx_recovery.proofs.Giving.{Owed}
 use Rattle.ipx_recovery.proofs.Taking.{TookAll}

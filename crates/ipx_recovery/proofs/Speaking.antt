@@ -9,8 +9,8 @@ use Rattle.spx_link.specs.Receive.{receive_link}
 use Rattle.spx_link.specs.Machine.{End, Packet, WasSent, AreSound, mailed, sent_next, one_more_sent, packet_now, got}
 use Rattle.spx_link.specs.Machine.Act.{Sends, SendsAgain, SendsNoUnit}
 use Rattle.spx_link.specs.Machine.Step.{One}
-use Rattle.theory_pairs.specs.Tracks.{Core, Tracks, Follows, Formed, core}
-use Rattle.theory_pairs.specs.Spelling.{Spells, Carries, Says, Spoke}
+use Rattle.spx_theory.specs.Tracks.{Core, Tracks, Follows, Formed, core}
+use Rattle.spx_theory.specs.Spelling.{Spells, Carries, Says, Spoke}
 use Rattle.ipx_recovery.specs.LinkLaws.{LinkLaws}
 
 pub swapped : (c d : End) → AreSound c d → AreSound d c

@@ -2,11 +2,11 @@
 use Rattle.std.proofs.Common.{ℕ, ◌≡◌, length, drop, sym, ap, ◌∙◌, subst, inl, inr, slice_get, take, false, Some, ◌++◌}
 use Rattle.std.proofs.lemmas.Bool.{eq-eqb}
 use Rattle.spx_link.specs.LinkView.{is_end}
-use Rattle.theory_pairs.specs.Tracks.{may_end}
+use Rattle.spx_theory.specs.Tracks.{may_end}
 use Rattle.ipx_recovery.specs.LinkLaws.{LinkLaws}
 use Rattle.spx_link.specs.LinkView.{LinkView}
 use Rattle.spx_link.specs.Machine.{End, AreSound}
-use Rattle.theory_pairs.specs.Tracks.{Follows}
+use Rattle.spx_theory.specs.Tracks.{Follows}
 use Rattle.spx_theory.specs.Deeds.{Reached}
 use Rattle.spx_theory.specs.Handed.{taken_of, units_of}
 use Rattle.spx_theory.specs.InStep.{PeersAreInStep, PeersFollow, pair_in}

@@ -7,8 +7,8 @@ use Rattle.spx_link.specs.Machine.{End, AreSound}
 use Rattle.spx_link.specs.Machine.Act.{Takes}
 use Rattle.spx_link.specs.Machine.Step.{One}
 use Rattle.spx_link.specs.Offer.{take_link, take_held}
-use Rattle.theory_pairs.specs.Tracks.{Follows}
-use Rattle.theory_pairs.specs.PairSteps.{TakesTo}
+use Rattle.spx_theory.specs.Tracks.{Follows}
+use Rattle.spx_theory.specs.PairSteps.{TakesTo}
 use Rattle.ipx_recovery.specs.LinkLaws.{LinkLaws}
 use Rattle.ipx_recovery.specs.LosslessRounds.{TakesAll, nothing, another}
 

@@ -12,7 +12,7 @@ use Rattle.spx_link.specs.LinkTurns.{is_joined}
 use Rattle.spx_link.specs.Receive.{after_end}
 use Rattle.spx_link.specs.Offer.{the_end}
 use Rattle.spx_link.specs.LinkView.{is_end}
-use Rattle.theory_pairs.specs.Tracks.{may_end}
+use Rattle.spx_theory.specs.Tracks.{may_end}
 use Rattle.ipx_recovery.specs.RoundsDeliver.{IsSending, CanDeliver, RoundsDeliver}
 use Rattle.ipx_recovery.specs.LosslessRounds.{InTurn, over, after, Rise, HasSentBy, shares, waiting, round_share}
 use Rattle.ipx_recovery.proofs.Giving.{Owed}

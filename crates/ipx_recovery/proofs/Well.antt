@@ -18,7 +18,7 @@ use Rattle.spx_link.specs.Poll.{poll_link}
 use Rattle.spx_link.specs.Receive.{any_end, after_end, is_own, is_reply, joined_link, read_numbers, read_packet, receive_joined, receive_at, receive_link}
 use Rattle.spx_messages.specs.Message.{MessageView}
 use Rattle.spx_messages.specs.Cut.{cut_of}
-use Rattle.theory_pairs.specs.Tracks.{may_end}
+use Rattle.spx_theory.specs.Tracks.{may_end}
 use Rattle.spx_theory.specs.Note.{Note, Opened, Accepted, Got, HandsIn, AsksEnd, TakesUnit, Released, Told, Carried, Injected}
 use Rattle.spx_theory.specs.Handed.{taken_by, taken_of}
 use Rattle.spx_theory.specs.Scene.{Scene, Stand, Stands, linked}

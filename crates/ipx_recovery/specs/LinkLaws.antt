@@ -1,5 +1,5 @@
 -- The laws of lower crates that the proofs here use: of the machine and of one link. Each field is a clause
--- of a public function of `spx_link` or `theory_pairs`.
+-- of a public function of `spx_link` or `spx_theory`.
 use Rattle.std.specs.Prelude.{ℕ, ◌≡◌, List}
 use Rattle.ipx_wire.specs.declared.spx.packet.SpxHeader.{SpxHeader}
 use Rattle.spx_link.specs.ByClock.{pace_of}
@@ -9,8 +9,8 @@ use Rattle.spx_link.specs.Poll.{poll_link}
 use Rattle.spx_link.specs.Receive.{receive_link}
 use Rattle.spx_link.specs.Units.{SameEndings, SameUnits}
 use Rattle.spx_link.specs.Machine.{End, Machine, Packet, Step, IsStep, WasSent, AreSound, got}
-use Rattle.theory_pairs.specs.Allowances.{AllowanceLaws}
-use Rattle.theory_pairs.specs.PairSteps.{StepLaws}
+use Rattle.spx_theory.specs.Allowances.{AllowanceLaws}
+use Rattle.spx_theory.specs.PairSteps.{StepLaws}
 
 pub record LinkLaws : Type 0 where
   -- the machine, one step at a time

@@ -8,7 +8,7 @@ use Rattle.spx_link.specs.Limits.{end_stream, most_sends}
 use Rattle.spx_link.specs.ByClock.{IsUnpaced}
 use Rattle.spx_link.specs.LinkView.{LinkView}
 use Rattle.spx_link.specs.Machine.{End, AreSound}
-use Rattle.theory_pairs.specs.Tracks.{Follows}
+use Rattle.spx_theory.specs.Tracks.{Follows}
 use Rattle.spx_theory.specs.Named.{AreNamed}
 use Rattle.ipx_recovery.specs.LosslessRounds.{LosslessRounds, rounds_for}
 

@@ -10,8 +10,10 @@ ghost use Rattle.ipx_recovery.specs.Stuck.{NoPairIsStuck, NoStateIsStuck, Nothin
 ghost use Rattle.spx_link.specs.LinkView.{LinkView};
 
 use spx_link::{poll_keeps_units, soundness, unpaced_links_go_by_the_clock};
-use spx_theory::{addresses_tell_peers, peers_are_in_step, peers_are_named, peers_follow};
-use theory_pairs::{calls_are_steps, packets_allow_what_was_taken};
+use spx_theory::{
+    addresses_tell_peers, calls_are_steps, packets_allow_what_was_taken, peers_are_in_step,
+    peers_are_named, peers_follow,
+};
 
 /// The laws of the machine and of one link, on which the theorems depend.
 fn link_laws()

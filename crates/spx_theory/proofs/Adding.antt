@@ -10,8 +10,8 @@ use Rattle.spx_theory.proofs.Stepping.{Later, was_later}
 use Rattle.spx_theory.specs.Scan.{Mark, times, nowhere}
 use Rattle.spx_theory.specs.Peers.{end_of}
 use Rattle.spx_theory.specs.PairLog.{Half}
-use Rattle.theory_pairs.specs.Tracks.{Formed, Follows}
-use Rattle.theory_pairs.specs.Spelling.{Carries}
+use Rattle.spx_theory.specs.Tracks.{Formed, Follows}
+use Rattle.spx_theory.specs.Spelling.{Carries}
 use Rattle.spx_theory.specs.Scene.{Stand}
 use Rattle.spx_theory.proofs.Lists.{get_before, get_last, get_here, read_there}
 use Rattle.spx_theory.proofs.Tied.{mark_at, Letter, Tied}

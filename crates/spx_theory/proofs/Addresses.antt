@@ -6,7 +6,7 @@ use Rattle.spx_theory.specs.Scan.{Role, Scan, Reading, seen_all, scan, unread}
 use Rattle.spx_theory.specs.Peers.{ArePeersIn, NothingInjected}
 use Rattle.spx_theory.specs.Addresses.{AddressesTellPeers, IdsDiffer, IdsTellPeers}
 use Rattle.ipx_wire.specs.declared.address.Address.{Address}
-use Rattle.theory_pairs.specs.Names.{Names}
+use Rattle.spx_theory.specs.Names.{Names}
 use Rattle.spx_theory.specs.Named.{PeersAreThere}
 use Rattle.spx_theory.specs.Scene.{Scene, Stand}
 use Rattle.spx_theory.specs.EndsTold.{StaysAtHost}

@@ -14,7 +14,7 @@ use Rattle.spx_theory.specs.SentUnits.{sent_by}
 use Rattle.spx_theory.proofs.Growing.{IsAllowing, is_allowed, role_stays}
 use Rattle.spx_theory.proofs.GivenUnits.{GaveUnit, cut}
 use Rattle.spx_theory.proofs.WithPeers.{caller_within, callee_within}
-use Rattle.theory_pairs.specs.Allowances.{GivesAs, SendsAs}
+use Rattle.spx_theory.specs.Allowances.{GivesAs, SendsAs}
 use Rattle.spx_theory.proofs.WithoutPeers.{AloneReads, AloneAt, alone_before, alone_along}
 use Rattle.spx_link.specs.declared.outgoing.Sent.TheVariants as Sents
 use Rattle.spx_theory.specs.Below.{LawsBelow}

@@ -22,7 +22,7 @@ use Rattle.spx_theory.proofs.Lists.{get_last, get_set, times-append}
 use Rattle.spx_theory.proofs.Speaking.{eqb_same}
 use Rattle.spx_theory.proofs.Folding.{seen_all-append}
 use Rattle.spx_theory.proofs.Held.{calmed, outs_seen}
-use Rattle.theory_pairs.specs.Lasting.{Lasting, lasting, NextBy, NextOf}
+use Rattle.spx_theory.specs.Lasting.{Lasting, lasting, NextBy, NextOf}
 use Rattle.spx_link.specs.declared.outgoing.Sent.TheVariants as Sents
 use Rattle.spx_link.specs.declared.received.Received.TheVariants as Rs
 use Rattle.spx_theory.specs.Below.{LawsBelow}

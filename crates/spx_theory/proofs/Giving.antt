@@ -14,8 +14,8 @@ use Rattle.ipx_wire.specs.Connection.{IsConnectionPacket}
 use Rattle.spx_theory.specs.Scan.{Mark, times}
 use Rattle.spx_theory.specs.Peers.{end_of}
 use Rattle.spx_theory.specs.PairLog.{Half, not_mine}
-use Rattle.theory_pairs.specs.Tracks.{core, Follows, IsOpen}
-use Rattle.theory_pairs.specs.Spelling.{Spells, Carries, Says}
+use Rattle.spx_theory.specs.Tracks.{core, Follows, IsOpen}
+use Rattle.spx_theory.specs.Spelling.{Spells, Carries, Says}
 use Rattle.spx_theory.specs.Scene.{Stand, linked}
 use Rattle.spx_theory.proofs.Lists.{get_last}
 use Rattle.spx_theory.proofs.Tied.{mark_at, Letter, Whole}

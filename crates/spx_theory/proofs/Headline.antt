@@ -5,7 +5,7 @@ use Rattle.spx_theory.specs.Scan.{scan, role_of}
 use Rattle.spx_theory.specs.Handed.{units_of, taken_of}
 use Rattle.spx_link.specs.LinkView.{LinkView}
 use Rattle.spx_link.specs.Machine.{End}
-use Rattle.theory_pairs.specs.Tracks.{Follows}
+use Rattle.spx_theory.specs.Tracks.{Follows}
 use Rattle.spx_theory.specs.PairLog.{Pair, new_half}
 use Rattle.spx_theory.proofs.Lists.{take_parts}
 use Rattle.spx_theory.specs.Scene.{Scene}

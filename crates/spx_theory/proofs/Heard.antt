@@ -28,8 +28,8 @@ use Rattle.spx_theory.proofs.PairPremises.{all_grew}
 use Rattle.spx_theory.proofs.HeldReads.{notes_cases}
 use Rattle.spx_theory.proofs.NextFacts.{FactsAt}
 use Rattle.spx_theory.proofs.Along.{LogGrows, facts_along}
-use Rattle.theory_pairs.specs.Confirmed.{ConfirmedIsDone, PollLeaves}
-use Rattle.theory_pairs.specs.Tracks.{IsOpen, may_end}
+use Rattle.spx_theory.specs.Confirmed.{ConfirmedIsDone, PollLeaves}
+use Rattle.spx_theory.specs.Tracks.{IsOpen, may_end}
 use Rattle.spx_link.specs.declared.received.Received.TheVariants as R
 use Rattle.spx_theory.proofs.SenderScenes.{senders_along}
 use Rattle.spx_link.specs.declared.outgoing.Sent.TheVariants as Sents

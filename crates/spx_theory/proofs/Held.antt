@@ -9,7 +9,7 @@ use Rattle.spx_messages.specs.Message.{MessageView}
 use Rattle.spx_theory.specs.Note.{Note}
 use Rattle.spx_theory.specs.Scan.{Scan, Mark, Role, seen, seen_all, scan, unread}
 use Rattle.spx_theory.specs.PairLog.{Half, Pair, pair_after, pair_from, pair_between}
-use Rattle.theory_pairs.specs.States.{is_quiet}
+use Rattle.spx_theory.specs.States.{is_quiet}
 use Rattle.spx_theory.specs.Scene.{Scene, Stand}
 use Rattle.spx_theory.specs.PacketsOnWay.{out_notes}
 use Rattle.spx_theory.proofs.Tied.{Whole}

@@ -10,8 +10,8 @@ use Rattle.spx_link.specs.Machine.{End}
 use Rattle.spx_theory.specs.Note.{Note, TakesUnit}
 use Rattle.spx_theory.specs.Scan.{Scan, seen}
 use Rattle.spx_theory.specs.PairLog.{Half, Pair, half_after, pair_after, one_taken, gained}
-use Rattle.theory_pairs.specs.Tracks.{Formed, Follows}
-use Rattle.theory_pairs.specs.States.{is_quiet}
+use Rattle.spx_theory.specs.Tracks.{Formed, Follows}
+use Rattle.spx_theory.specs.States.{is_quiet}
 use Rattle.spx_theory.specs.Scene.{Stand}
 use Rattle.spx_theory.proofs.Tied.{Whole}
 use Rattle.spx_theory.proofs.Moving.{other_end, this_end}

@@ -25,9 +25,9 @@ use Rattle.spx_theory.specs.Scan.{Scan, Role, seen, seen_all, mark_of, asker}
 use Rattle.spx_theory.specs.Peers.{end_of}
 use Rattle.spx_theory.proofs.OfTwo.{AreRoles}
 use Rattle.spx_theory.specs.PairLog.{Half, Pair, half_after, pair_from, got_mail, mail_of}
-use Rattle.theory_pairs.specs.Tracks.{Formed, Follows}
-use Rattle.theory_pairs.specs.Spelling.{Carries}
-use Rattle.theory_pairs.specs.States.{is_quiet}
+use Rattle.spx_theory.specs.Tracks.{Formed, Follows}
+use Rattle.spx_theory.specs.Spelling.{Carries}
+use Rattle.spx_theory.specs.States.{is_quiet}
 use Rattle.spx_theory.specs.Scene.{Stand}
 use Rattle.spx_messages.specs.WrittenPackets.{IsRequestFor}
 use Rattle.spx_theory.proofs.Lists.{get_last, get_before, get_here, read_there}

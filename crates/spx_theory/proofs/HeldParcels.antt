@@ -14,9 +14,9 @@ use Rattle.spx_theory.specs.Note.{Note, SendsUnit, SendsAgain, SendsSystem}
 use Rattle.spx_theory.specs.Scan.{Scan, Mark, seen, ByUnit, BySystem}
 use Rattle.spx_theory.specs.Peers.{end_of}
 use Rattle.spx_theory.specs.PairLog.{Half, Pair, half_after, not_mine, posted, pair_after}
-use Rattle.theory_pairs.specs.Spelling.{Spoke, PolledTo}
-use Rattle.theory_pairs.specs.Tracks.{core}
-use Rattle.theory_pairs.specs.States.{is_quiet}
+use Rattle.spx_theory.specs.Spelling.{Spoke, PolledTo}
+use Rattle.spx_theory.specs.Tracks.{core}
+use Rattle.spx_theory.specs.States.{is_quiet}
 use Rattle.spx_theory.specs.Scene.{Stand, linked}
 use Rattle.spx_theory.specs.PacketsOnWay.{note_of}
 use Rattle.spx_theory.proofs.Tied.{Whole}

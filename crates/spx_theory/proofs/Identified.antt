@@ -15,7 +15,7 @@ use Rattle.spx_theory.proofs.Lists.{get_before, get_last, get_here, get_set}
 use Rattle.spx_theory.proofs.Held.{set_other, set_here}
 use Rattle.spx_theory.proofs.Tied.{mark_at}
 use Rattle.spx_theory.proofs.Adding.{mark_before, mark_here}
-use Rattle.theory_pairs.specs.Names.{names}
+use Rattle.spx_theory.specs.Names.{names}
 use Rattle.spx_theory.proofs.Identities.{Identity, Shows, IdentityIs, AreIdentities, IsFromOrOutside, AreFrom, IsTold, AreTold, IdentityLater, IdentitiesLater, identity_comes, identity_joins, are_from_later, are_told_later, identity_is_later}
 use Rattle.spx_theory.proofs.Lists.{same_element}
 

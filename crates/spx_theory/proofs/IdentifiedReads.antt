@@ -22,7 +22,7 @@ use Rattle.spx_theory.proofs.Folding.{seen_all-append}
 use Rattle.spx_theory.proofs.NextFacts.{FactsAt}
 use Rattle.spx_theory.proofs.HeldReads.{notes_cases}
 use Rattle.spx_theory.proofs.Speaking.{eqb_same}
-use Rattle.theory_pairs.specs.Names.{Names, names}
+use Rattle.spx_theory.specs.Names.{Names, names}
 use Rattle.spx_theory.proofs.Identities.{Identity, IdentityIs, IsFrom, IsFromOrOutside, IsTold, IdentityLater, OneEnd, HaveNetworks, ComesTo, answers, told_by}
 use Rattle.spx_theory.proofs.Identified.{Identified, IdentityOf, identity_of, identified_put, identified_got, identified_first, identified_new, identified_joined}
 use Rattle.spx_link.specs.declared.received.Received.TheVariants as Rs

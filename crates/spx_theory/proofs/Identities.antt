@@ -18,7 +18,7 @@ use Rattle.spx_messages.specs.WrittenPackets.{Home}
 use Rattle.spx_theory.proofs.Lists.{get_before}
 use Rattle.spx_theory.proofs.Held.{set_other, set_here}
 use Rattle.spx_theory.proofs.Tied.{mark_at}
-use Rattle.theory_pairs.specs.Names.{Names, names}
+use Rattle.spx_theory.specs.Names.{Names, names}
 use Rattle.spx_theory.proofs.Lists.{same_element}
 
 pub record Identity : Type 0 where

@@ -8,8 +8,8 @@ use Rattle.spx_link.specs.Machine.{End, Packet}
 use Rattle.spx_theory.proofs.Stepping.{Later, was_later}
 use Rattle.spx_theory.specs.Scan.{Mark}
 use Rattle.spx_theory.specs.PairLog.{Half}
-use Rattle.theory_pairs.specs.Tracks.{Formed, Follows}
-use Rattle.theory_pairs.specs.Spelling.{Carries}
+use Rattle.spx_theory.specs.Tracks.{Formed, Follows}
+use Rattle.spx_theory.specs.Spelling.{Carries}
 use Rattle.spx_theory.specs.Scene.{Stand, linked}
 use Rattle.spx_theory.proofs.Lists.{get_before, get_set}
 use Rattle.spx_theory.proofs.Tied.{Letter, Tied}

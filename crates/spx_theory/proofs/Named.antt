@@ -14,7 +14,7 @@ use Rattle.spx_link.specs.Receive.{receive_link}
 use Rattle.spx_link.specs.Offer.{owe_reply_link, pace_link, again_link, take_link, offer_link, end_link, lose_link, dialed, accepted_from}
 use Rattle.spx_link.specs.declared.state.State.TheVariants.{Opening}
 use Rattle.spx_messages.specs.Cut.{cut_of}
-use Rattle.theory_pairs.specs.Names.{Names, names}
+use Rattle.spx_theory.specs.Names.{Names, names}
 use Rattle.spx_theory.specs.Note.{Note, Opened, Accepted, Joined, Got, HandsIn, AsksEnd, TakesUnit, Released, Told, Carried, Injected}
 use Rattle.spx_theory.specs.Scan.{Scan, Mark, Maker, Role, seen, seen_all, scan, unread, mark_of, role_of, one_further, joined_by, asker, no_role, ByRouter, FromOutside}
 use Rattle.spx_theory.specs.Peers.{end_of}

@@ -17,9 +17,9 @@ use Rattle.spx_theory.specs.Note.{Note, Opened, Accepted, Got, HandsIn, AsksEnd,
 use Rattle.spx_theory.specs.Scan.{Each, Scan, seen_all, scan, unread, ByRouter, FromOutside}
 use Rattle.spx_theory.proofs.OfTwo.{AreRoles, ReadsOf, PairPremises}
 use Rattle.spx_theory.specs.PairLog.{Half, Pair, pair_after, pair_from, pair_between}
-use Rattle.theory_pairs.specs.Tracks.{Formed, core, Follows, may_end}
-use Rattle.theory_pairs.specs.Spelling.{PolledTo}
-use Rattle.theory_pairs.specs.States.{is_quiet}
+use Rattle.spx_theory.specs.Tracks.{Formed, core, Follows, may_end}
+use Rattle.spx_theory.specs.Spelling.{PolledTo}
+use Rattle.spx_theory.specs.States.{is_quiet}
 use Rattle.spx_theory.specs.Scene.{Scene, Stand, linked}
 use Rattle.spx_theory.specs.PacketsOnWay.{note_of, notes_of, out_notes}
 use Rattle.spx_messages.specs.WrittenPackets.{Home, IsWrittenPacket}

@@ -26,7 +26,7 @@ use Rattle.spx_theory.specs.Deeds.{Deed, DoesDeed, DoesDial, DoesGive, DoesCarry
 use Rattle.spx_theory.proofs.Bytes.{written_says}
 use Rattle.spx_theory.proofs.NextFacts.{FactsAt, given_mark}
 use Rattle.spx_theory.proofs.Held.{calmed, outs_seen, set_here}
-use Rattle.theory_pairs.specs.Names.{Names, names, GaveNames, is_plain}
+use Rattle.spx_theory.specs.Names.{Names, names, GaveNames, is_plain}
 use Rattle.spx_theory.proofs.Identities.{Identity, IdentityIs, IsFrom, IsFromOrOutside, OneEnd, HaveNetworks, address_at}
 use Rattle.spx_theory.proofs.Identified.{Identified, IdentityOf, identity_of, identified_gone, identified_put, identified_sent, identified_new}
 use Rattle.spx_theory.proofs.IdentifiedReads.{IdentifiedIn, IdentifiedAt, identified_at, opening_called, accepts, reads}

@@ -33,7 +33,7 @@ use Rattle.spx_theory.proofs.Speaking.{eqb_same}
 use Rattle.spx_theory.proofs.NextFacts.{FactsAt}
 use Rattle.spx_theory.proofs.Along.{facts_along}
 use Rattle.spx_theory.proofs.Growing.{IsPosted, posted_more, role_stays}
-use Rattle.theory_pairs.specs.Allowances.{HasTakenAndFits, SameReceived, GivesAs, Took}
+use Rattle.spx_theory.specs.Allowances.{HasTakenAndFits, SameReceived, GivesAs, Took}
 use Rattle.spx_link.specs.declared.outgoing.Sent.TheVariants as Sents
 use Rattle.spx_link.specs.declared.received.Received.TheVariants as R
 use Rattle.spx_link.specs.declared.state.State.TheVariants as S

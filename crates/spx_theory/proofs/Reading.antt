@@ -17,7 +17,7 @@ use Rattle.ipx_wire.specs.Connection.{IsConnectionPacket}
 use Rattle.spx_theory.specs.Scan.{Mark, times}
 use Rattle.spx_theory.specs.Peers.{end_of}
 use Rattle.spx_theory.specs.PairLog.{Half, mail_of, got_mail}
-use Rattle.theory_pairs.specs.Tracks.{Formed, Follows}
+use Rattle.spx_theory.specs.Tracks.{Formed, Follows}
 use Rattle.spx_theory.specs.Scene.{Stand, linked}
 use Rattle.spx_theory.proofs.Lists.{read_there, times-parts}
 use Rattle.std.proofs.lemmas.List.{append-nil}

@@ -24,7 +24,7 @@ use Rattle.spx_theory.specs.Deeds.{Deed, DoesDeed, Dials, Accepts, Reads, OwesRe
 use Rattle.spx_theory.specs.PacketsOnWay.{note_of, notes_of, out_notes}
 use Rattle.spx_messages.specs.WrittenPackets.{Home, IsWrittenPacket}
 use Rattle.spx_theory.specs.SentUnits.{sent_by, IsUnitPacket, CarriesUnit, UnitsAreSentInOrder, LinksSendInOrder, PositionsAreGreatest}
-use Rattle.theory_pairs.specs.PairQueues.{SendsFrom, Queues, GivesUnit, IsGivenOut, PolledFrom}
+use Rattle.spx_theory.specs.PairQueues.{SendsFrom, Queues, GivesUnit, IsGivenOut, PolledFrom}
 use Rattle.spx_theory.proofs.Lists.{get_last, get_set, get_here, read_there, times-append}
 use Rattle.spx_theory.proofs.Bytes.{written_says}
 use Rattle.spx_theory.proofs.Folding.{seen_all-append}

@@ -16,8 +16,8 @@ use Rattle.ipx_wire.specs.Connection.{sequence_in}
 use Rattle.spx_theory.specs.Note.{Note, SendsUnit, SendsAgain, SendsSystem}
 use Rattle.spx_theory.specs.Scan.{Scan, Mark, times, seen, ByUnit, BySystem}
 use Rattle.spx_theory.specs.PairLog.{Half, half_after, not_mine, posted, posted_next, position_of}
-use Rattle.theory_pairs.specs.Spelling.{Says, Spoke}
-use Rattle.theory_pairs.specs.Tracks.{core, IsOpen}
+use Rattle.spx_theory.specs.Spelling.{Says, Spoke}
+use Rattle.spx_theory.specs.Tracks.{core, IsOpen}
 use Rattle.spx_theory.specs.Scene.{Stand, linked}
 use Rattle.spx_theory.specs.PacketsOnWay.{note_of}
 use Rattle.spx_theory.proofs.Lists.{times-append, read_there, get_here}

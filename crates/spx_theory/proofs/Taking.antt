@@ -9,7 +9,7 @@ use Rattle.spx_theory.proofs.Running.{gained_runs, taken_runs}
 use Rattle.spx_theory.proofs.Stepping.{taken_sound, gained_sound}
 use Rattle.spx_theory.specs.Scan.{Mark}
 use Rattle.spx_theory.specs.PairLog.{Half, one_taken, gained}
-use Rattle.theory_pairs.specs.Tracks.{Formed, Follows}
+use Rattle.spx_theory.specs.Tracks.{Formed, Follows}
 use Rattle.spx_theory.specs.Scene.{Stand}
 use Rattle.spx_theory.proofs.Lists.{get_before}
 use Rattle.spx_theory.proofs.Tied.{Whole}

@@ -16,7 +16,7 @@ use Rattle.spx_theory.specs.Scan.{Scan, Reading, scan, role_of}
 use Rattle.spx_theory.specs.Peers.{AreJoined, ArePeersIn, Premises, FromOwnPeer}
 use Rattle.spx_theory.specs.Handed.{handed_in, handed_out, units_of, taken_of}
 use Rattle.spx_theory.specs.PairLog.{Pair, new_half}
-use Rattle.theory_pairs.specs.Tracks.{Formed, Follows}
+use Rattle.spx_theory.specs.Tracks.{Formed, Follows}
 use Rattle.spx_theory.specs.Scene.{Scene, Stand, Stands}
 use Rattle.spx_theory.specs.Deeds.{Reached}
 use Rattle.spx_theory.specs.InStep.{pair_in, PeersFollow}
@@ -28,7 +28,7 @@ use Rattle.spx_theory.proofs.PairPremises.{to_pair}
 use Rattle.spx_theory.proofs.Telling.{AreOk, Said}
 use Rattle.spx_theory.proofs.Ranges.{in_range}
 use Rattle.spx_theory.proofs.Along.{held_along, joined_differ}
-use Rattle.theory_pairs.specs.Confirmed.{HasAllAcknowledged}
+use Rattle.spx_theory.specs.Confirmed.{HasAllAcknowledged}
 use Rattle.spx_theory.proofs.WholeUnits.{whole_joined, joined_on, taken_there}
 use Rattle.spx_theory.proofs.Heard.{HasRead, heard_along}
 use Rattle.spx_theory.specs.Below.{LawsBelow}

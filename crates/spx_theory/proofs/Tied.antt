@@ -11,8 +11,8 @@ use Rattle.ipx_wire.specs.Connection.{IsConnectionPacket}
 use Rattle.spx_theory.specs.Scan.{Mark, times, nowhere}
 use Rattle.spx_theory.specs.Peers.{end_of}
 use Rattle.spx_theory.specs.PairLog.{Half}
-use Rattle.theory_pairs.specs.Tracks.{Formed, Follows}
-use Rattle.theory_pairs.specs.Spelling.{Spells, Carries}
+use Rattle.spx_theory.specs.Tracks.{Formed, Follows}
+use Rattle.spx_theory.specs.Spelling.{Spells, Carries}
 use Rattle.spx_theory.specs.Scene.{Stand}
 
 abbrev pub mark_at : List Mark → ℕ → Mark

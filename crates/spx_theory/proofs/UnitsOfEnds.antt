@@ -15,7 +15,7 @@ use Rattle.spx_link.specs.Offer.{refusal, the_end}
 use Rattle.spx_link.specs.Receive.{receive_link}
 use Rattle.spx_messages.specs.Message.{MessageView}
 use Rattle.spx_messages.specs.Cut.{cut_of}
-use Rattle.theory_pairs.specs.Tracks.{Formed, may_end}
+use Rattle.spx_theory.specs.Tracks.{Formed, may_end}
 use Rattle.spx_theory.specs.Below.{LawsBelow}
 use Rattle.spx_theory.specs.Note.{Note, HandsIn, AsksEnd, TakesUnit}
 use Rattle.spx_theory.specs.Handed.{in_by, units_by, handed_in, units_of}

@@ -7,8 +7,8 @@ use Rattle.spx_theory.specs.Scan.{scan, role_of}
 use Rattle.spx_theory.specs.Peers.{AreJoined, Premises}
 use Rattle.spx_theory.proofs.OfTwo.{PairPremises}
 use Rattle.spx_theory.specs.PairLog.{Half, pair_between}
-use Rattle.theory_pairs.specs.Spelling.{Spoke, PolledTo}
-use Rattle.theory_pairs.specs.Tracks.{core}
+use Rattle.spx_theory.specs.Spelling.{Spoke, PolledTo}
+use Rattle.spx_theory.specs.Tracks.{core}
 use Rattle.spx_theory.specs.Scene.{Scene}
 use Rattle.spx_theory.specs.Deeds.{Reached}
 use Rattle.spx_theory.specs.SentUnits.{sent_by}

@@ -21,7 +21,7 @@ use Rattle.ipx_wire.specs.Connection.{IsConnectionPacket}
 use Rattle.spx_theory.specs.Note.{Note, Opened, Accepted, Joined, HandsIn, TakesUnit, AsksEnd, Got, Released, Told, Carried, Injected}
 use Rattle.spx_theory.specs.Scan.{Each, times, Scan, Mark, Reading, FromOutside, seen, seen_all, scan, unread, mark_of, role_of, is_now}
 use Rattle.spx_theory.specs.Handed.{taken_by, taken_of, handed_out, out_by}
-use Rattle.theory_pairs.specs.States.{is_quiet}
+use Rattle.spx_theory.specs.States.{is_quiet}
 use Rattle.spx_theory.specs.Scene.{Scene, Stand, Stands, linked}
 use Rattle.spx_theory.specs.Deeds.{Deed, DoesDeed, Dials, Accepts, Reads, OwesReply, Paces, AsksAgain, Gives, Rests, Sends, Takes, Overruns, Closes, Releases, Carries, Tells, Injects, Reached, begun, happened}
 use Rattle.spx_theory.specs.PacketsOnWay.{note_of, notes_of, out_notes}
@@ -36,7 +36,7 @@ use Rattle.spx_theory.proofs.Gathering.{gathered-append}
 use Rattle.spx_theory.proofs.NextFacts.{FactsAt}
 use Rattle.spx_theory.proofs.Along.{facts_along, log_grows}
 use Rattle.spx_theory.proofs.Growing.{IsPosted, IsAllowing, allowing_more, posted_more, mark_stays, role_stays}
-use Rattle.theory_pairs.specs.Allowances.{GivesAs, SendsAs, Took}
+use Rattle.spx_theory.specs.Allowances.{GivesAs, SendsAs, Took}
 use Rattle.spx_theory.proofs.PacketsAllow.{SidesAt, sides_along, IsSilent, read_silent, read_scan, posting}
 use Rattle.spx_link.specs.declared.outgoing.Sent.TheVariants as Sents
 use Rattle.spx_link.specs.declared.state.State.TheVariants as S

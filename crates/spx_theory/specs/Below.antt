@@ -1,18 +1,18 @@
 -- The laws of lower crates that the proofs here use: of bytes, of the machine and of one link. Each field is
--- a clause of a public function of `ipx_wire`, `spx_link` or `theory_pairs`.
+-- a clause of a public function of `ipx_wire`, `spx_link` or `spx_theory`.
 use Rattle.std.specs.Prelude.{ℕ, ◌≡◌, List}
 use Rattle.ipx_wire.specs.Connection.{IsConnectionPacket, sequence_in}
 use Rattle.ipx_wire.specs.Ipx.{PacketView, IsIpx}
 use Rattle.ipx_wire.specs.Spx.{IsSpx}
 use Rattle.ipx_wire.specs.declared.spx.packet.SpxHeader.{SpxHeader}
 use Rattle.spx_link.specs.Machine.{End, Machine, Packet, Step, Grows, IsRun, IsStep, WasSent, AreSound, new_end, got}
-use Rattle.theory_pairs.specs.Allowances.{AllowanceLaws}
-use Rattle.theory_pairs.specs.Confirmed.{CloseLaws}
-use Rattle.theory_pairs.specs.Lasting.{LastingLaws}
-use Rattle.theory_pairs.specs.Names.{NameLaws}
-use Rattle.theory_pairs.specs.PairQueues.{QueueLaws}
-use Rattle.theory_pairs.specs.States.{StateLaws}
-use Rattle.theory_pairs.specs.PairSteps.{StepLaws}
+use Rattle.spx_theory.specs.Allowances.{AllowanceLaws}
+use Rattle.spx_theory.specs.Confirmed.{CloseLaws}
+use Rattle.spx_theory.specs.Lasting.{LastingLaws}
+use Rattle.spx_theory.specs.Names.{NameLaws}
+use Rattle.spx_theory.specs.PairQueues.{QueueLaws}
+use Rattle.spx_theory.specs.States.{StateLaws}
+use Rattle.spx_theory.specs.PairSteps.{StepLaws}
 
 pub record LawsBelow : Type 0 where
   -- bytes are at most one packet

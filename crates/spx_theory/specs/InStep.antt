@@ -4,7 +4,7 @@ use Rattle.std.specs.Prelude.{ℕ, ◌≡◌, ◌≤◌, ◌+◌, ◌++◌, fals
 use Rattle.spx_link.specs.LinkView.{LinkView}
 use Rattle.spx_link.specs.SequenceMarks.{mark}
 use Rattle.spx_link.specs.Machine.{AreSound, End}
-use Rattle.theory_pairs.specs.Tracks.{Follows}
+use Rattle.spx_theory.specs.Tracks.{Follows}
 use Rattle.spx_theory.specs.Scan.{Scan, scan, role_of}
 use Rattle.spx_theory.specs.Peers.{AreJoined, Premises}
 use Rattle.spx_theory.specs.Handed.{handed_in, handed_out, units_of, taken_of, IsBeginning}

@@ -24,3 +24,13 @@ pub mod InSteps
 pub mod LogPremises
 pub mod PremisesRead
 pub mod LogHeadline
+pub mod Tracks
+pub mod Spelling
+pub mod PairSteps
+pub mod States
+pub mod PairQueues
+pub mod Names
+pub mod Lasting
+pub mod Confirmed
+pub mod Allowances
+pub mod PacedLinks

@@ -9,7 +9,7 @@ use Rattle.spx_link.specs.SequenceMarks.{mark}
 use Rattle.spx_link.specs.Receive.{is_system}
 use Rattle.spx_link.specs.Units.{unit_in}
 use Rattle.ipx_wire.specs.Connection.{IsConnectionPacket, sequence_in}
-use Rattle.theory_pairs.specs.PairQueues.{SendsFrom}
+use Rattle.spx_theory.specs.PairQueues.{SendsFrom}
 use Rattle.spx_theory.specs.Note.{Note, SendsUnit, SendsAgain}
 use Rattle.spx_theory.specs.Scan.{times, scan}
 use Rattle.spx_theory.specs.Handed.{units_of}

@@ -13,11 +13,15 @@
 //! - a file for each theorem
 //!
 //! Each function here is a law of every scene that some list of deeds reaches.
+//!
+//! `pair_laws` says what one call of a link does beside the machine whose numbers never wrap, whatever
+//! packet it reads: `spx_link` has the functions of a link, in 16-bit numbers, and the machine.
 #![tactic(auto)]
 
 mod below;
 mod ends;
 mod laws;
+mod pair_laws;
 mod premises;
 
 pub use ends::{
@@ -29,6 +33,10 @@ pub use laws::{
     end_taken_is_whole, hands_out_what_it_took, ids_tell_peers, links_send_in_order,
     pairs_take_steps, peers_are_in_step, peers_are_named, peers_are_there, peers_follow,
     positions_are_greatest, routers_alter_hops_alone, units_are_sent_in_order, within_allocation,
+};
+pub use pair_laws::{
+    calls_are_steps, calls_keep_names, calls_keep_what_lasts, confirmed_links_are_done,
+    links_send_their_queue, pacing_changes_no_core, packets_allow_what_was_taken, states_go_on,
 };
 pub use premises::{
     between_is_read, headline_of_log, made_once, origins_are_read, peers_are_read,

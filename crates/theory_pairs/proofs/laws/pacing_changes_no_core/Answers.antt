@@ -1,9 +1,0 @@
-use Rattle.std.proofs.Common.{refl}
-use Rattle.theory_pairs.proofs.laws.pacing_changes_no_core.Goals as goal
-
-pub returns : goal.returns
-returns c =
-    record {
-      paces = λ l window manual. record { core = refl; names = refl; lasting = refl; queue = refl; state = refl; end_queued = refl };
-      asks = λ l place. record { core = refl; names = refl; lasting = refl; queue = refl; state = refl; end_queued = refl };
-    }
