@@ -14,8 +14,8 @@ use Rattle.ipx_net_hosts.specs.Hosts.{HostsView, world_of}
 use Rattle.ipx_router.specs.NewRouter.{ports_fault}
 use Rattle.ipx_router.specs.declared.fault.NewFault.{NewFault}
 use Rattle.ipx_router.specs.declared.port.Port.{Port}
-use Rattle.theory_steps.specs.Reach.{CameTo, HasNoLinks, IsNewWorld}
-use Rattle.theory_steps.specs.World.{InOrder, HostState, World, scene_of}
+use Rattle.spx_theory.specs.Reach.{CameTo, HasNoLinks, IsNewWorld}
+use Rattle.spx_theory.specs.World.{InOrder, HostState, World, scene_of}
 use Rattle.ipx_net.specs.IndexedLogView.{IndexedLogView, blank}
 use Rattle.ipx_net.specs.NetReach.{GoesOn}
 use Rattle.ipx_net.specs.NetBeginnings.{AreHosts, AreRouters, IsHostOwed, IsStationOf, IsRouterOf, PortLists, first_refusal, router_faults}

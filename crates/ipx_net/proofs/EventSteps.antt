@@ -11,9 +11,9 @@ use Rattle.spx_messages.specs.declared.fault.EndFault.{EndFault}
 use Rattle.spx_messages.specs.OneValue.{IsRoomStill}
 use Rattle.spx_messages.specs.Taking.{TakenView, overlong}
 use Rattle.spx_theory.specs.Note.{Note}
-use Rattle.theory_steps.specs.HostSteps.{TakesOf, said_notes, given_notes, unit_notes, whole_notes}
-use Rattle.theory_steps.specs.EndCalls.{RefusesAt}
-use Rattle.theory_steps.specs.World.{AtHost, ParcelView, HostState, World, end_at}
+use Rattle.spx_theory.specs.HostSteps.{TakesOf, said_notes, given_notes, unit_notes, whole_notes}
+use Rattle.spx_theory.specs.EndCalls.{RefusesAt}
+use Rattle.spx_theory.specs.World.{AtHost, ParcelView, HostState, World, end_at}
 use Rattle.ipx_net_hosts.specs.Hosts.{HostsView, LeftAs, Noting, PolledAt, world_of}
 use Rattle.ipx_net_hosts.specs.Refusing.{PushesTo, TakeIsRefused, end_held, want}
 use Rattle.ipx_net_hosts.specs.HostStates.{given_as, speaker}
@@ -22,7 +22,7 @@ use Rattle.ipx_net.specs.StepResultView.{StepResultView, GrowsWorld}
 use Rattle.ipx_net.specs.HostEvents.{DeliversSo, PollingHost, TakingFrom}
 use Rattle.ipx_net.specs.Speaking.{spoken_notes}
 use Rattle.spx_messages.specs.declared.arrived.Arrived.{Arrived}
-use Rattle.theory_steps.specs.HostSteps.{arrival_notes}
+use Rattle.spx_theory.specs.HostSteps.{arrival_notes}
 use Rattle.ipx_net_hosts.specs.Hosts.{DeliveredAt}
 use Rattle.ipx_net.specs.AnswerView.{ArrivedAt}
 use Rattle.ipx_net.specs.HostEvents.{end_for}

@@ -15,8 +15,8 @@ use Rattle.ipx_router.specs.declared.port.Port.{Port}
 use Rattle.spx_theory.specs.Note.{Note}
 use Rattle.spx_theory.specs.Note as Notes
 use Rattle.spx_theory.specs.PacketsOnWay.{IsOneOn}
-use Rattle.theory_steps.specs.Routers.{GivesOwnLetters, told_notes}
-use Rattle.theory_steps.specs.World.{ParcelView, World}
+use Rattle.spx_theory.specs.Routers.{GivesOwnLetters, told_notes}
+use Rattle.spx_theory.specs.World.{ParcelView, World}
 use Rattle.ipx_net_hosts.specs.Hosts.{HostsView, world_of}
 use Rattle.ipx_net.specs.AnswerView.{AnswerView, Parcels}
 use Rattle.ipx_net.specs.IndexedLogView.{IndexedLogView}

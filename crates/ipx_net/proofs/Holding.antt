@@ -26,7 +26,7 @@ use Rattle.spx_theory.specs.Scene.{Scene, Stand}
 use Rattle.spx_theory.specs.SentUnits.{LinksSendInOrder, UnitsAreSentInOrder}
 use Rattle.spx_theory.specs.UnitsOfEnds.{UnitsAreCuts}
 use Rattle.ipx_recovery.specs.Stuck.{NoPairIsStuck, NoStateIsStuck, NothingIsStuckByAddresses}
-use Rattle.theory_steps.specs.World.{EndNow, InOrder, HostState, World, bytes_of, held_in, held_of, home_at, scene_of, segment_of, stand_of, stand_with}
+use Rattle.spx_theory.specs.World.{EndNow, InOrder, HostState, World, bytes_of, held_in, held_of, home_at, scene_of, segment_of, stand_of, stand_with}
 use Rattle.ipx_net_hosts.specs.Hosts.{FollowsMarks, marks_of}
 use Rattle.ipx_net.specs.NetReach.{GoesOn, IsKept}
 use Rattle.ipx_net.specs.NetView.{NetView}

@@ -16,9 +16,9 @@ use Rattle.spx_messages.specs.OneValue.{IsOnePoll}
 use Rattle.spx_messages.specs.declared.arrived.Arrived.{Arrived}
 use Rattle.spx_messages.specs.declared.arrived.Arrived.TheVariants as Arriveds
 use Rattle.spx_theory.specs.Note as Notes
-use Rattle.theory_steps.specs.HostSteps.{arrival_notes, buffers_of, ends_after, heard_notes, here_after}
-use Rattle.theory_steps.specs.Routers.{GivesOwnLetters, told_notes}
-use Rattle.theory_steps.specs.World.{HostState, ParcelView, World, end_at}
+use Rattle.spx_theory.specs.HostSteps.{arrival_notes, buffers_of, ends_after, heard_notes, here_after}
+use Rattle.spx_theory.specs.Routers.{GivesOwnLetters, told_notes}
+use Rattle.spx_theory.specs.World.{HostState, ParcelView, World, end_at}
 use Rattle.ipx_net.specs.AnswerView.{AnswerView, ArrivedAt, Parcels}
 use Rattle.ipx_net.specs.HostEvents.{DeliveringToHost, arrival_answer, end_for}
 use Rattle.ipx_net.specs.NetView.{NetNow}

@@ -3,9 +3,9 @@ use Rattle.std.proofs.Common.{ℕ, ◌≡◌, ◌<◌, ◌+◌, ◌++◌, ◌∙
 use Rattle.std.specs.Result.{is_err}
 use Rattle.std.proofs.lemmas.List.{length-map}
 use Rattle.spx_theory.specs.Deeds.{Reached}
-use Rattle.theory_steps.specs.WorldStep.{WorldStep}
+use Rattle.spx_theory.specs.WorldStep.{WorldStep}
 use Rattle.spx_theory.specs.Scene.{Stand}
-use Rattle.theory_steps.specs.World.{EndNow, InOrder, World, bytes_of, held_of, scene_of, segment_of, stand_of}
+use Rattle.spx_theory.specs.World.{EndNow, InOrder, World, bytes_of, held_of, scene_of, segment_of, stand_of}
 use Rattle.ipx_net_hosts.specs.Hosts.{FollowsMarks, HostsView, SameHomes, marks_of, world_of}
 use Rattle.ipx_net.specs.EventWants.{IsMade}
 use Rattle.ipx_net.specs.LogEntries.{entry_note}

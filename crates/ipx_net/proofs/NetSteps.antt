@@ -4,8 +4,8 @@ use Rattle.ipx_router.specs.OutcomeView as Outcomes
 use Rattle.ipx_router.specs.OutcomeView.{OutcomeView}
 use Rattle.ipx_router.specs.declared.port.Port.{Port}
 use Rattle.spx_messages.specs.declared.fault.EndFault.{EndFault}
-use Rattle.theory_steps.specs.WorldStep.{WorldStep, Delivered, Polled, Taken, Dialled, Sent, Closed, Released, Paced, AskedAgain, Refused, Injected, Ticked, Told, Carried}
-use Rattle.theory_steps.specs.World.{World}
+use Rattle.spx_theory.specs.WorldStep.{WorldStep, Delivered, Polled, Taken, Dialled, Sent, Closed, Released, Paced, AskedAgain, Refused, Injected, Ticked, Told, Carried}
+use Rattle.spx_theory.specs.World.{World}
 use Rattle.spx_messages.specs.Taking.{overlong}
 use Rattle.spx_messages.specs.Message.{message_view}
 use Rattle.ipx_net.specs.AnswerView.{AnswerView}

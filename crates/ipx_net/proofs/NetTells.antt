@@ -4,7 +4,7 @@ use Rattle.std.proofs.lemmas.List.{length-map}
 use Rattle.spx_theory.specs.EndsTold.{EndsAreTold}
 use Rattle.spx_theory.specs.Note.{Note}
 use Rattle.std.specs.Prelude.{slice_get}
-use Rattle.theory_steps.specs.World.{EndNow, InOrder, World, scene_of, stand_of}
+use Rattle.spx_theory.specs.World.{EndNow, InOrder, World, scene_of, stand_of}
 use Rattle.ipx_net.specs.AnswerView.{AnswerView}
 use Rattle.ipx_net.specs.Ends.{TellsEnds, TellsLog, TellsNext}
 use Rattle.ipx_net.specs.NetEvents.{Happens}

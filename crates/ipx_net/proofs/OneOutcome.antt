@@ -18,9 +18,9 @@ use Rattle.spx_messages.specs.declared.fault.EndFault.{EndFault}
 use Rattle.spx_link.specs.Offer.{again_link, dialed, end_link, first_of, offer_link, pace_link}
 use Rattle.spx_messages.specs.Cut.{cut_of}
 use Rattle.spx_messages.specs.Message.{MessageView, message_view}
-use Rattle.theory_steps.specs.EndCalls.{ChangesLink, ChangesQuietly, Closes, DialsFrom, InjectsInto, RefusesAt, ReleasesOf, SendsTo, Ticks}
-use Rattle.theory_steps.specs.HostSteps.{TakesOf, marked_over, unit_notes, whole_notes}
-use Rattle.theory_steps.specs.World.{EndNow, HostState, World, end_at}
+use Rattle.spx_theory.specs.EndCalls.{ChangesLink, ChangesQuietly, Closes, DialsFrom, InjectsInto, RefusesAt, ReleasesOf, SendsTo, Ticks}
+use Rattle.spx_theory.specs.HostSteps.{TakesOf, marked_over, unit_notes, whole_notes}
+use Rattle.spx_theory.specs.World.{EndNow, HostState, World, end_at}
 use Rattle.ipx_net.specs.AnswerView.{AnswerView, Refused, Taken}
 use Rattle.ipx_net.specs.HostEvents.{Dialling, IsDoneOrRefused, RefusedOf, TakingFrom, held_under}
 use Rattle.ipx_net.specs.NetView.{NetNow}

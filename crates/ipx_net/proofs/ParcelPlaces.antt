@@ -2,7 +2,7 @@
 use Rattle.std.proofs.Common.{ℕ, ◌≡◌, List, [], ◌∷◌, zero, suc, Option, None, Some, refl, sym, ap, ◌∙◌}
 use Rattle.std.specs.Prelude.{option_map, slice_get}
 use Rattle.ipx_wire.specs.declared.address.Network.{Network}
-use Rattle.theory_steps.specs.World.{ParcelView}
+use Rattle.spx_theory.specs.World.{ParcelView}
 use Rattle.ipx_net.specs.NetFaults.{place_fault, segment_fault}
 use Rattle.ipx_net.specs.Parcels.{parcel_view, parcel_views}
 use Rattle.ipx_net.specs.declared.fault.NetFault.{NetFault}

@@ -10,8 +10,8 @@ use Rattle.spx_messages.specs.WrittenPackets.{IsWrittenPacket}
 use Rattle.spx_messages.specs.EndpointView.{EndpointView}
 use Rattle.spx_messages.specs.OneValue.{IsOnePoll, IsRoomStill, IsSamePoll}
 use Rattle.spx_messages.specs.Polls.{FirstLinkGives, Polls, home_of}
-use Rattle.theory_steps.specs.HostSteps.{said_notes, sent_letters}
-use Rattle.theory_steps.specs.World.{AtHost, HostState, ParcelView, World, end_at}
+use Rattle.spx_theory.specs.HostSteps.{said_notes, sent_letters}
+use Rattle.spx_theory.specs.World.{AtHost, HostState, ParcelView, World, end_at}
 use Rattle.ipx_net.specs.AnswerView.{AnswerView, Parcels}
 use Rattle.ipx_net.specs.HostEvents.{PollingHost, made_by}
 use Rattle.ipx_net.specs.OneOutcome.{AreAlike}

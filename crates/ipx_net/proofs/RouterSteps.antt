@@ -13,7 +13,7 @@ use Rattle.ipx_router.specs.Ports.{IsPort}
 use Rattle.ipx_router.specs.RouterView.{RouterView}
 use Rattle.spx_theory.specs.PacketsOnWay.{IsOneOn}
 use Rattle.spx_theory.specs.Scan.{Each}
-use Rattle.theory_steps.specs.Routers.{IsOwnLetter}
+use Rattle.spx_theory.specs.Routers.{IsOwnLetter}
 use Rattle.ipx_net.specs.RouterMembers.{letter_of, letters_of, network_of, port_at}
 
 -- a packet that a router made itself is of no connection

@@ -7,7 +7,7 @@ use Rattle.spx_messages.specs.EndpointView.{Held}
 use Rattle.spx_theory.specs.EndsTold.{PeerIsFound}
 use Rattle.spx_theory.specs.Peers.{ArePeersIn}
 use Rattle.spx_theory.specs.Scan.{Scan, scan}
-use Rattle.theory_steps.specs.World.{EndNow, World, held_of, stand_of, stand_with}
+use Rattle.spx_theory.specs.World.{EndNow, World, held_of, stand_of, stand_with}
 use Rattle.ipx_net_hosts.specs.EndTelling.{state_of}
 use Rattle.ipx_net.specs.Ends.{TellsClosed, TellsEnded, TellsLog, TellsOpened, TellsReleased, TellsStands, told_of}
 use Rattle.ipx_net.specs.NetView.{NetView}

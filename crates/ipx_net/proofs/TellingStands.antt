@@ -5,7 +5,7 @@ use Rattle.std.proofs.lemmas.Bool.{cases_eq, cases_lt}
 use Rattle.std.proofs.lemmas.List.{get_or-set_same, get_or-set_other, set_past}
 use Rattle.std.proofs.lemmas.Option.{same_Some}
 use Rattle.spx_link.specs.declared.state.State.{State}
-use Rattle.theory_steps.specs.World.{IsEndOf, HostState, end_at}
+use Rattle.spx_theory.specs.World.{IsEndOf, HostState, end_at}
 use Rattle.ipx_net_hosts.specs.Hosts.{FitTogether, HostsView}
 use Rattle.ipx_net_hosts.specs.EndTelling.{here_at, here_in, state_on_host}
 use Rattle.ipx_net.specs.Ends.{nobody, told_of}

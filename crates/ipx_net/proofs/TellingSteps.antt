@@ -12,9 +12,9 @@ use Rattle.spx_messages.specs.declared.arrived.Arrived.TheVariants as Arriveds
 use Rattle.spx_messages.specs.declared.fault.EndFault.{EndFault}
 use Rattle.spx_messages.specs.Taking.{TakenView, overlong}
 use Rattle.spx_link.specs.LinkView.{LinkView}
-use Rattle.theory_steps.specs.EndCalls.{ChangesLink, ChangesQuietly, DialsFrom, RefusesAt, ReleasesOf}
-use Rattle.theory_steps.specs.HostSteps.{TakesOf, ends_after, marked_over}
-use Rattle.theory_steps.specs.World.{EndNow, InOrder, IsEndOf, HostState, World, end_at, held_in, held_of}
+use Rattle.spx_theory.specs.EndCalls.{ChangesLink, ChangesQuietly, DialsFrom, RefusesAt, ReleasesOf}
+use Rattle.spx_theory.specs.HostSteps.{TakesOf, ends_after, marked_over}
+use Rattle.spx_theory.specs.World.{EndNow, InOrder, IsEndOf, HostState, World, end_at, held_in, held_of}
 use Rattle.ipx_wire.specs.declared.address.Address.{Address}
 use Rattle.ipx_wire.specs.declared.address.Socket.{Socket}
 use Rattle.ipx_net_hosts.specs.Hosts.{HostsView}

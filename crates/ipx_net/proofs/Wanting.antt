@@ -15,8 +15,8 @@ use Rattle.ipx_router.specs.RouterPackets.{SendingView, sending_of, sendings}
 use Rattle.ipx_router.specs.declared.outcome.Reply.{Reply}
 use Rattle.ipx_router.specs.declared.port.Port.{Port}
 use Rattle.spx_theory.specs.Note.{Note}
-use Rattle.theory_steps.specs.HostSteps.{TakesOf, arrival_notes, unit_notes, whole_notes}
-use Rattle.theory_steps.specs.World.{EndNow, ParcelView, HostState}
+use Rattle.spx_theory.specs.HostSteps.{TakesOf, arrival_notes, unit_notes, whole_notes}
+use Rattle.spx_theory.specs.World.{EndNow, ParcelView, HostState}
 use Rattle.ipx_net_hosts.specs.Hosts.{DeliveredAt, HostsView, Noting}
 use Rattle.ipx_net_hosts.specs.Refusing.{end_held, held_by}
 use Rattle.ipx_net.specs.AnswerView.{AnswerView}

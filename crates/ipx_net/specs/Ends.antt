@@ -14,7 +14,7 @@ use Rattle.spx_theory.specs.Peers.{Premises}
 use Rattle.spx_theory.specs.Scan.{scan}
 use Rattle.spx_theory.specs.Scene.{Stand, Stands}
 use Rattle.spx_theory.specs.SentUnits.{sent_by}
-use Rattle.theory_steps.specs.World.{EndNow, HostState, World, held_of, scene_of}
+use Rattle.spx_theory.specs.World.{EndNow, HostState, World, held_of, scene_of}
 use Rattle.ipx_net_hosts.specs.EndTelling.{state_of}
 use Rattle.ipx_net.specs.NetView.{NetView}
 use Rattle.ipx_net.specs.declared.endinfo.EndInfo.{EndInfo}

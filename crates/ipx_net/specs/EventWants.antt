@@ -18,8 +18,8 @@ use Rattle.ipx_router.specs.RouterView.{RouterView}
 use Rattle.ipx_router.specs.Telling.{HasToTell, is_due}
 use Rattle.ipx_router.specs.WantOfMemory.{WantsMemory}
 use Rattle.spx_theory.specs.Note.{Note}
-use Rattle.theory_steps.specs.HostSteps.{arrival_notes, unit_notes, whole_notes}
-use Rattle.theory_steps.specs.World.{ParcelView, HostState}
+use Rattle.spx_theory.specs.HostSteps.{arrival_notes, unit_notes, whole_notes}
+use Rattle.spx_theory.specs.World.{ParcelView, HostState}
 use Rattle.ipx_net_hosts.specs.Hosts.{DeliveredAt, HostsView, PolledAt}
 use Rattle.ipx_net_hosts.specs.Refusing.{close_fault, dial_fault, send_fault}
 use Rattle.ipx_net.specs.StepResultView.{step_result_view}

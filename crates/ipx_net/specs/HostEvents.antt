@@ -13,9 +13,9 @@ use Rattle.spx_messages.specs.Taking.{TakenView, overlong}
 use Rattle.spx_messages.specs.Message.{MessageView}
 use Rattle.ipx_net_hosts.specs.Hosts.{DeliveredAt, HostsView}
 use Rattle.ipx_net_hosts.specs.Refusing.{CloseIsRefused, DialIsRefused, PushesTo, SendIsRefused, close_fault, dial_fault, end_held, send_fault, want}
-use Rattle.theory_steps.specs.EndCalls.{AsksAgainOf, Closes, DialsFrom, PacesOf, RefusesAt, ReleasesOf, SendsTo}
-use Rattle.theory_steps.specs.HostSteps.{Delivers, PollsHost, TakesOf, arrival_notes}
-use Rattle.theory_steps.specs.World.{EndNow, HostState, World, end_at}
+use Rattle.spx_theory.specs.EndCalls.{AsksAgainOf, Closes, DialsFrom, PacesOf, RefusesAt, ReleasesOf, SendsTo}
+use Rattle.spx_theory.specs.HostSteps.{Delivers, PollsHost, TakesOf, arrival_notes}
+use Rattle.spx_theory.specs.World.{EndNow, HostState, World, end_at}
 use Rattle.ipx_net.specs.AnswerView.{AnswerView, ArrivedAt, Done, End, Parcels, Refused, Taken}
 use Rattle.ipx_net.specs.StepResultView.{StepResultView}
 

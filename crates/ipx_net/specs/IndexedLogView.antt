@@ -1,7 +1,7 @@
 -- What an indexed log holds: the parcels by their numbers, and the log.
 use Rattle.std.specs.Prelude.{List, [], ◌++◌}
 use Rattle.spx_theory.specs.Note.{Note}
-use Rattle.theory_steps.specs.World.{ParcelView}
+use Rattle.spx_theory.specs.World.{ParcelView}
 
 pub record IndexedLogView : Type 0 where
   pub parcels : List ParcelView

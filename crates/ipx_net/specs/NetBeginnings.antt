@@ -8,7 +8,7 @@ use Rattle.ipx_router.specs.NewRouter.{IsOwnNetwork, ports_fault}
 use Rattle.ipx_router.specs.declared.fault.NewFault.{NewFault}
 use Rattle.ipx_router.specs.declared.port.Port.{Port}
 use Rattle.ipx_net_hosts.specs.HostBeginnings.{BeginsAt}
-use Rattle.theory_steps.specs.World.{HostState}
+use Rattle.spx_theory.specs.World.{HostState}
 use Rattle.ipx_net.specs.NetView.{NetView}
 use Rattle.ipx_net.specs.declared.host.Host.{Host}
 use Rattle.ipx_net.specs.declared.routers.RouterNow.{RouterNow}

@@ -2,8 +2,8 @@
 use Rattle.std.specs.Prelude.{ℕ, ◌≡◌, ◌<◌, ◌≤◌, List, [], ◌∷◌, None, length}
 use Rattle.spx_link.specs.Limits.{most_units}
 use Rattle.spx_messages.specs.Message.{message_view}
-use Rattle.theory_steps.specs.EndCalls.{InjectsInto, Ticks}
-use Rattle.theory_steps.specs.World.{EndNow, World}
+use Rattle.spx_theory.specs.EndCalls.{InjectsInto, Ticks}
+use Rattle.spx_theory.specs.World.{EndNow, World}
 use Rattle.ipx_net_hosts.specs.Hosts.{FollowsMarks, marks_of}
 use Rattle.ipx_net.specs.AnswerView.{AnswerView, Done, Parcels}
 use Rattle.ipx_wire.specs.declared.address.Network.{Network}

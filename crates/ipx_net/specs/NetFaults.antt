@@ -1,7 +1,7 @@
 -- The faults that are found before an event does anything. Defined by this project.
 use Rattle.std.specs.Prelude.{ℕ, Bool, ◌==◌, if◌then◌else◌, nat_lt, nat_le, length, Option, Some, None, slice_get, option_map}
 use Rattle.ipx_wire.specs.declared.address.Network.{Network}
-use Rattle.theory_steps.specs.World.{ParcelView, HostState}
+use Rattle.spx_theory.specs.World.{ParcelView, HostState}
 use Rattle.ipx_net_hosts.specs.Hosts.{stands_now}
 use Rattle.ipx_net.specs.NetView.{NetNow, NetView}
 use Rattle.ipx_net.specs.RouterMembers.{port_at}

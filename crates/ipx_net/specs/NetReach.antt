@@ -4,7 +4,7 @@
 use Rattle.std.specs.Prelude.{◌≡◌, Bool, true, false, map}
 use Rattle.spx_theory.specs.Deeds.{Reached}
 use Rattle.spx_theory.specs.Scene.{Scene}
-use Rattle.theory_steps.specs.World.{InOrder, World, bytes_of, home_at, scene_of, segment_of}
+use Rattle.spx_theory.specs.World.{InOrder, World, bytes_of, home_at, scene_of, segment_of}
 use Rattle.ipx_net_hosts.specs.Hosts.{FollowsMarks, marks_of}
 
 pub record GoesOn (w : World) : Type 0 where

@@ -1,7 +1,7 @@
 -- A network in contracts: hosts, ends, parcels, log, time and routers, and whether it gave up.
 use Rattle.std.specs.Prelude.{ℕ, Bool, List}
 use Rattle.spx_theory.specs.Note.{Note}
-use Rattle.theory_steps.specs.World.{ParcelView, World}
+use Rattle.spx_theory.specs.World.{ParcelView, World}
 use Rattle.ipx_net_hosts.specs.Hosts.{HostsView, world_of}
 use Rattle.ipx_net.specs.declared.routers.RouterNow.{RouterNow}
 

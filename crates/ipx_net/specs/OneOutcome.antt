@@ -3,7 +3,7 @@ use Rattle.std.specs.Prelude.{ℕ, ◌≡◌, ◌⊎◌, length, Some, slice_get
 use Rattle.ipx_router.specs.Knowledge.{HoldsRoutes, HoldsServices, KeepsAllButOffers, routes_in, services_in}
 use Rattle.ipx_net_hosts.specs.Refusing.{want, want_of_link, want_of_queue}
 use Rattle.spx_messages.specs.Changes.{SameBut}
-use Rattle.theory_steps.specs.World.{HostState, end_at}
+use Rattle.spx_theory.specs.World.{HostState, end_at}
 use Rattle.ipx_net.specs.AnswerView.{AnswerView, Refused}
 use Rattle.ipx_net.specs.NetEvents.{Happens}
 use Rattle.ipx_net.specs.NetView.{NetNow}

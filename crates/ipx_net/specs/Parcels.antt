@@ -1,7 +1,7 @@
 -- Parcels, without the place of their bytes in memory.
 use Rattle.std.specs.Prelude.{List, map, option_map}
-use Rattle.theory_steps.specs.World.{ParcelView, AtHost, AtPort}
-use Rattle.theory_steps.specs.World as Worlds
+use Rattle.spx_theory.specs.World.{ParcelView, AtHost, AtPort}
+use Rattle.spx_theory.specs.World as Worlds
 use Rattle.ipx_net.specs.declared.parcel.Parcel.{Parcel}
 use Rattle.ipx_net.specs.declared.place.Place.{Place}
 use Rattle.ipx_net.specs.declared.place.Place.TheVariants as Places

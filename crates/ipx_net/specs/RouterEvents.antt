@@ -9,8 +9,8 @@ use Rattle.ipx_router.specs.OutcomeView as Outcomes
 use Rattle.ipx_router.specs.RouterPackets.{AreOwn, SendingView}
 use Rattle.ipx_router.specs.declared.port.Port.{Port}
 use Rattle.spx_theory.specs.Note as Notes
-use Rattle.theory_steps.specs.Routers.{CarriesOn, GivesOwnLetters, told_notes}
-use Rattle.theory_steps.specs.World.{ParcelView, World}
+use Rattle.spx_theory.specs.Routers.{CarriesOn, GivesOwnLetters, told_notes}
+use Rattle.spx_theory.specs.World.{ParcelView, World}
 use Rattle.ipx_net.specs.AnswerView.{AnswerView, Dropped, Heard, Parcels}
 use Rattle.ipx_net.specs.StepResultView.{StepResultView}
 use Rattle.ipx_net.specs.NetView.{NetNow}

@@ -7,7 +7,7 @@ use Rattle.ipx_router.specs.Knowledge.{HoldsKnown, KeepsAllButOffers, known_at, 
 use Rattle.ipx_router.specs.RouterPackets.{SendingView}
 use Rattle.ipx_router.specs.Starting.{AreStarts}
 use Rattle.ipx_router.specs.Telling.{TellsIfDue}
-use Rattle.theory_steps.specs.World.{AtPort, ParcelView}
+use Rattle.spx_theory.specs.World.{AtPort, ParcelView}
 use Rattle.ipx_net.specs.declared.routers.RouterNow.{RouterNow}
 
 -- the port of this number, from 1 on

@@ -1,7 +1,7 @@
 -- What an event adds to the log of a network, and its answer, without their place in memory.
 use Rattle.std.specs.Prelude.{ℕ, ◌≡◌, List, ◌++◌, length}
 use Rattle.spx_theory.specs.Note.{Note}
-use Rattle.theory_steps.specs.World.{ParcelView, World}
+use Rattle.spx_theory.specs.World.{ParcelView, World}
 use Rattle.ipx_net_hosts.specs.Hosts.{HostsView, world_of}
 use Rattle.ipx_net.specs.AnswerView.{AnswerView, answer_view}
 use Rattle.ipx_net.specs.LogEntries.{entry_notes}

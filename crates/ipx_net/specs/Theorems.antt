@@ -18,7 +18,7 @@ use Rattle.spx_theory.specs.Scan.{scan}
 use Rattle.spx_theory.specs.SentUnits.{LinksSendInOrder, UnitsAreSentInOrder}
 use Rattle.spx_theory.specs.UnitsOfEnds.{UnitsAreCuts}
 use Rattle.ipx_recovery.specs.Stuck.{NoPairIsStuck, NoStateIsStuck, NothingIsStuckByAddresses}
-use Rattle.theory_steps.specs.World.{EndNow, InOrder, World, scene_of}
+use Rattle.spx_theory.specs.World.{EndNow, InOrder, World, scene_of}
 use Rattle.ipx_net.specs.NetView.{NetView}
 
 -- each entry of a log names something that exists

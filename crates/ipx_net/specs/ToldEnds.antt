@@ -7,7 +7,7 @@ use Rattle.spx_theory.specs.Handed.{handed_in, handed_out}
 use Rattle.spx_theory.specs.Note.{Note, Opened, Accepted, Joined, HandsIn, HandsOut, SendsUnit}
 use Rattle.spx_theory.specs.Scan.{scan}
 use Rattle.spx_theory.specs.SentUnits.{sent_by}
-use Rattle.theory_steps.specs.World.{World, end_at}
+use Rattle.spx_theory.specs.World.{World, end_at}
 use Rattle.ipx_net_hosts.specs.Hosts.{HostsView}
 use Rattle.ipx_net_hosts.specs.EndTelling.{here_at, state_on_host}
 use Rattle.ipx_net.specs.Ends.{nobody, told_of}

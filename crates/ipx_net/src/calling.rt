@@ -6,7 +6,7 @@ ghost use Rattle.spx_messages.specs.Taking.{taken_view};
 ghost use Rattle.spx_messages.specs.Message.{message_view};
 ghost use Rattle.ipx_net_hosts.specs.Hosts.{FitTogether, KeepsMarks, MayAddEnd, SameHomes, stands};
 ghost use Rattle.ipx_net_hosts.specs.Refusing.{close_fault, dial_fault, end_held, send_fault};
-ghost use Rattle.theory_steps.specs.HostSteps.{unit_notes, whole_notes};
+ghost use Rattle.spx_theory.specs.HostSteps.{unit_notes, whole_notes};
 ghost use Rattle.ipx_net.specs.AnswerView as views;
 ghost use Rattle.ipx_net.specs.LogEntries.{taken_unit};
 ghost use Rattle.ipx_net.specs.StepResultView.{GrowsWorld, step_result_view};

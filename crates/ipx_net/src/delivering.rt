@@ -3,7 +3,7 @@
 ghost use Rattle.std.specs.Prelude.{◌≡◌, ◌<◌, ◌≤◌, ◌∷◌, [], IfOk, IfSome, OnErr, Some, length, slice_get};
 ghost use Rattle.spx_theory.specs.Note as Notes;
 ghost use Rattle.spx_theory.specs.PacketsOnWay.{notes_of};
-ghost use Rattle.theory_steps.specs.HostSteps.{arrival_notes, read_notes};
+ghost use Rattle.spx_theory.specs.HostSteps.{arrival_notes, read_notes};
 ghost use Rattle.ipx_net_hosts.specs.Hosts.{MayAddEnd, SameHomes};
 ghost use Rattle.ipx_net.specs.LogEntries.{entry_notes};
 ghost use Rattle.ipx_net.specs.StepResultView.{step_result_view};

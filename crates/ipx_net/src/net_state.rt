@@ -37,12 +37,12 @@ use spx_theory::{
     acknowledged_end_is_read, addresses_tell_peers, alone_reads_nothing, between_is_read,
     confirmed_is_read, end_taken_is_whole, ends_are_told, entries_tell_ends,
     hands_out_what_it_took, headline_of_log, links_send_in_order, made_once, numbers_are_in_order,
-    origins_are_read, pairs_take_steps, peers_are_in_step, peers_are_read, premises_are_read,
-    routers_alter_hops_alone, units_are_cuts, units_are_sent_in_order,
+    origins_are_read, pairs_take_steps, peers_are_in_step, peers_are_read,
+    peers_of_worlds_are_in_step, premises_are_read, routers_alter_hops_alone, steps_are_deeds,
+    units_are_cuts, units_are_sent_in_order,
 };
 use std::alloc::Global;
 use std::marker::Model;
-use theory_steps::{peers_of_worlds_are_in_step, steps_are_deeds};
 
 /// The number of entries in the log after which no more steps are taken.
 const MAX_ENTRIES: usize = 1_000_000;

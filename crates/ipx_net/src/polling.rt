@@ -2,7 +2,7 @@
 
 ghost use Rattle.std.specs.Prelude.{◌≡◌, ◌<◌, ◌∷◌, [], IfOk, Some, length};
 ghost use Rattle.spx_theory.specs.PacketsOnWay.{note_of};
-ghost use Rattle.theory_steps.specs.World.{AtHost};
+ghost use Rattle.spx_theory.specs.World.{AtHost};
 ghost use Rattle.ipx_net_hosts.specs.Hosts.{KeepsMarks, SameHomes};
 ghost use Rattle.ipx_net.specs.AnswerView as views;
 ghost use Rattle.ipx_net.specs.LogEntries.{entry_note, entry_notes};

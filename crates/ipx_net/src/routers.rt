@@ -5,7 +5,7 @@ ghost use Rattle.ipx_router.specs.NewRouter.{IsOwnNetwork};
 ghost use Rattle.ipx_router.specs.RouterPackets.{AreOwn, sending_of, sendings};
 ghost use Rattle.ipx_router.specs.Ports.{AreOnPorts};
 ghost use Rattle.ipx_router.specs.Starting.{AreStarts};
-ghost use Rattle.theory_steps.specs.Routers.{told_notes};
+ghost use Rattle.spx_theory.specs.Routers.{told_notes};
 ghost use Rattle.ipx_net.specs.LogEntries.{entry_notes};
 ghost use Rattle.ipx_net.specs.Parcels.{parcel_view, parcel_views};
 ghost use Rattle.ipx_net.specs.RouterMembers.{IsPolled, letter_of, letters_of, network_of, port_at};

@@ -5,7 +5,7 @@ ghost use Rattle.ipx_net_hosts.specs.Hosts.{FitTogether};
 ghost use Rattle.ipx_net_hosts.specs.EndTelling.{here_at, state_on_host};
 ghost use Rattle.spx_theory.specs.EndsTold.{peer_of};
 ghost use Rattle.spx_theory.specs.Scan.{scan};
-ghost use Rattle.theory_steps.specs.World.{end_at};
+ghost use Rattle.spx_theory.specs.World.{end_at};
 ghost use Rattle.ipx_net.specs.Ends.{nobody, told_of};
 ghost use Rattle.ipx_net.specs.LogEntries.{entry_note, entry_notes};
 ghost use Rattle.ipx_net.specs.Theorems.{AreNumbered};

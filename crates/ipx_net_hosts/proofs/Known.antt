@@ -2,7 +2,7 @@
 use Rattle.std.proofs.Common.{◌≡◌, ◌≢◌, ℕ, List, [], ◌∷◌, Bool, true, false, not, cond, ◌==◌, refl, ap, sym, ◌∙◌, Option, None, Some, filter, find, arith}
 use Rattle.std.specs.Prelude.{option_map}
 use Rattle.std.proofs.lemmas.Bool.Decides.{nat_tests, Decides-eqb}
-use Rattle.theory_steps.specs.World.{end_at}
+use Rattle.spx_theory.specs.World.{end_at}
 
 abbrev pub has : ℕ → (ℕ × ℕ) → Bool
 has id x = x.0 == id

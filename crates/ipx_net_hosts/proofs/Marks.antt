@@ -5,7 +5,7 @@ use Rattle.std.proofs.lemmas.List.{map-append}
 use Rattle.spx_messages.specs.Taking.{overlong, result_view}
 use Rattle.spx_messages.specs.declared.fault.EndFault.{EndFault}
 use Rattle.spx_messages.specs.declared.taken.Taken.{Taken}
-use Rattle.theory_steps.specs.World.{EndNow, HostState}
+use Rattle.spx_theory.specs.World.{EndNow, HostState}
 use Rattle.ipx_net_hosts.specs.Hosts.{HostsView, KeepsMarks, MayAddEnd, is_lost, marks_of}
 use Rattle.ipx_net_hosts.specs.Refusing.{TakeIsRefused}
 use Rattle.ipx_net_hosts.proofs.Placing.{made}

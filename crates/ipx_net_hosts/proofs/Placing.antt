@@ -21,9 +21,9 @@ use Rattle.spx_messages.specs.declared.fault.EndFault.TheVariants as EndFaults
 use Rattle.spx_messages.specs.declared.taken.Taken.{Taken}
 use Rattle.spx_messages.specs.declared.message_fault.MessageFault.TheVariants as MessageFaults
 use Rattle.spx_theory.specs.Note.{Opened, Released}
-use Rattle.theory_steps.specs.EndCalls.{ChangesQuietly, DialsFrom, ReleasesOf}
-use Rattle.theory_steps.specs.HostSteps.{TakesOf, ends_after, here_after, marked_over, unit_notes, whole_notes}
-use Rattle.theory_steps.specs.World.{EndNow, HostState, StandsAt, end_at, held_in, held_of, home_at}
+use Rattle.spx_theory.specs.EndCalls.{ChangesQuietly, DialsFrom, ReleasesOf}
+use Rattle.spx_theory.specs.HostSteps.{TakesOf, ends_after, here_after, marked_over, unit_notes, whole_notes}
+use Rattle.spx_theory.specs.World.{EndNow, HostState, StandsAt, end_at, held_in, held_of, home_at}
 use Rattle.ipx_net_hosts.specs.Hosts.{DeliveredAt, FitTogether, HostsView, LeftBy, LeftAs, LeftAt, Noting, Standing, is_lost, stands, stands_now}
 use Rattle.ipx_net_hosts.specs.Refusing.{end_held, held_by, want}
 use Rattle.ipx_net_hosts.specs.HostStates.{ChangesAt, DialsAt, ReleasesAt, RefusalKeeps, StaysAt}

@@ -2,7 +2,7 @@
 use Rattle.std.specs.Prelude.{ℕ, List, [], Option, Some, None, slice_get}
 use Rattle.spx_link.specs.declared.state.State.{State}
 use Rattle.spx_messages.specs.EndpointView.{Held}
-use Rattle.theory_steps.specs.World.{HostState, held_in}
+use Rattle.spx_theory.specs.World.{HostState, held_in}
 use Rattle.ipx_net_hosts.specs.Hosts.{HostsView}
 
 abbrev pub here_in : Option HostState → List (ℕ × ℕ)

@@ -5,7 +5,7 @@ use Rattle.ipx_wire.specs.declared.address.Node.{Node}
 use Rattle.ipx_wire.specs.declared.address.Socket.{Socket}
 use Rattle.spx_link.specs.Links.{count_of}
 use Rattle.spx_messages.specs.EndpointView.{buffers_at, held_at}
-use Rattle.theory_steps.specs.World.{HostState}
+use Rattle.spx_theory.specs.World.{HostState}
 
 -- the buffers of the links that are accepted at a socket
 abbrev pub listens_at : Option (Socket × ℕ) → Socket → Option ℕ

@@ -8,7 +8,7 @@ use Rattle.spx_link.specs.Offer.{dialed}
 use Rattle.spx_link.specs.declared.outgoing.Sent.{Sent}
 use Rattle.spx_messages.specs.Changes.{AddsEnd, ChangesEnd, ReleasesEnd, SameBut}
 use Rattle.spx_messages.specs.EndpointView.{Held}
-use Rattle.theory_steps.specs.World.{HostState, end_at}
+use Rattle.spx_theory.specs.World.{HostState, end_at}
 use Rattle.ipx_net_hosts.specs.declared.refusal.Refusal.{Refusal}
 use Rattle.ipx_net_hosts.specs.declared.refusal.Refusal.TheVariants as Refusals
 

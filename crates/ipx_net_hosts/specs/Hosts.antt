@@ -10,11 +10,11 @@ use Rattle.spx_messages.specs.declared.message_fault.MessageFault.TheVariants as
 use Rattle.spx_messages.specs.EndpointView.{Held, held_at}
 use Rattle.spx_messages.specs.Polls.{Polls}
 use Rattle.spx_theory.specs.Note.{Note}
-use Rattle.theory_steps.specs.EndCalls.{RefusesAt}
-use Rattle.theory_steps.specs.HostSteps.{ends_after, here_after}
+use Rattle.spx_theory.specs.EndCalls.{RefusesAt}
+use Rattle.spx_theory.specs.HostSteps.{ends_after, here_after}
 use Rattle.ipx_net_hosts.specs.declared.refusal.Refusal.{Refusal}
 use Rattle.ipx_net_hosts.specs.declared.refusal.Refusal.TheVariants as Refusals
-use Rattle.theory_steps.specs.World.{EndNow, InOrder, ParcelView, HostState, World, end_at, home_at}
+use Rattle.spx_theory.specs.World.{EndNow, InOrder, ParcelView, HostState, World, end_at, home_at}
 
 pub record HostsView : Type 0 where
   pub stations : List HostState

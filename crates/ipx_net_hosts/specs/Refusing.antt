@@ -13,7 +13,7 @@ use Rattle.spx_messages.specs.EndpointView.{Held}
 use Rattle.spx_messages.specs.Taking.{IsPushed, overlong, take_end}
 use Rattle.spx_messages.specs.declared.fault.EndFault.{EndFault}
 use Rattle.spx_messages.specs.declared.fault.EndFault.TheVariants as EndFaults
-use Rattle.theory_steps.specs.World.{EndNow, HostState, held_of}
+use Rattle.spx_theory.specs.World.{EndNow, HostState, held_of}
 use Rattle.ipx_net_hosts.specs.declared.refusal.Refusal.{Refusal}
 use Rattle.ipx_net_hosts.specs.declared.refusal.Refusal.TheVariants as Refusals
 

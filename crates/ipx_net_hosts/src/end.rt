@@ -13,7 +13,7 @@ pub struct EndNow {
 }
 
 impl Model for EndNow {
-    ghost use Rattle.theory_steps.specs.World.{EndNow};
+    ghost use Rattle.spx_theory.specs.World.{EndNow};
 
     ghost Value = { EndNow };
 

@@ -11,8 +11,8 @@ ghost use Rattle.spx_messages.specs.declared.message_fault.MessageFault.TheVaria
 ghost use Rattle.spx_messages.specs.EndpointView.{held_at};
 ghost use Rattle.spx_messages.specs.Cut.{cut_of};
 ghost use Rattle.spx_messages.specs.Message.{cut_fault, message_view};
-ghost use Rattle.theory_steps.specs.HostSteps.{buffers_of, here_after};
-ghost use Rattle.theory_steps.specs.World.{end_at};
+ghost use Rattle.spx_theory.specs.HostSteps.{buffers_of, here_after};
+ghost use Rattle.spx_theory.specs.World.{end_at};
 ghost use Rattle.spx_messages.specs.Changes.{Listens};
 ghost use Rattle.ipx_net_hosts.specs.HostBeginnings.{BeginsAt};
 ghost use Rattle.ipx_net_hosts.specs.Refusing.{CloseIsRefused, DialIsLeft, Overruns, PushesTo, SendIsRefused, TakeIsRefused, close_fault, dial_fault, send_fault, want};
@@ -34,7 +34,7 @@ pub struct HostState {
 }
 
 impl Model for HostState {
-    ghost use Rattle.theory_steps.specs.World.{HostState};
+    ghost use Rattle.spx_theory.specs.World.{HostState};
 
     ghost Value = { HostState };
 

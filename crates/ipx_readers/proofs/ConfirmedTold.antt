@@ -11,7 +11,7 @@ use Rattle.spx_theory.specs.Close.{HoldsAll}
 use Rattle.spx_theory.specs.Peers.{ArePeers, Premises}
 use Rattle.spx_theory.specs.Scan.{scan}
 use Rattle.spx_theory.specs.Scene.{Stand}
-use Rattle.theory_steps.specs.World.{EndNow, World, held_of, scene_of, stand_of, stand_with}
+use Rattle.spx_theory.specs.World.{EndNow, World, held_of, scene_of, stand_of, stand_with}
 use Rattle.ipx_net_hosts.specs.EndTelling.{state_of}
 use Rattle.ipx_net.specs.Ends.{TellsClosed, TellsEnds, nobody, told_of}
 use Rattle.ipx_net.specs.NetView.{NetView}

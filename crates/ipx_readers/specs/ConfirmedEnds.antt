@@ -3,7 +3,7 @@
 use Rattle.std.specs.Prelude.{ℕ, ◌≡◌, ◌≢◌, false, List, None, Option, Some, slice_get}
 use Rattle.spx_link.specs.declared.state.State.TheVariants.{Confirmed}
 use Rattle.spx_theory.specs.Peers.{ArePeers, Premises}
-use Rattle.theory_steps.specs.World.{EndNow, held_of}
+use Rattle.spx_theory.specs.World.{EndNow, held_of}
 use Rattle.ipx_net_hosts.specs.EndTelling.{state_of}
 use Rattle.ipx_net.specs.Ends.{TellsEnds, told_of}
 use Rattle.ipx_net.specs.NetView.{NetView}

@@ -3,7 +3,7 @@
 ghost use Rattle.std.specs.Prelude.{◌≡◌, IfSome, false};
 ghost use Rattle.spx_theory.specs.Close.{HoldsAll};
 ghost use Rattle.spx_theory.specs.Peers.{Premises};
-ghost use Rattle.theory_steps.specs.World.{scene_of};
+ghost use Rattle.spx_theory.specs.World.{scene_of};
 ghost use Rattle.ipx_readers.specs.ConfirmedEnds.{ConfirmedHavePeers, IsFoundWhereConfirmed};
 
 use ipx_net::Net;

@@ -9,7 +9,7 @@ use Rattle.spx_messages.specs.declared.arrived.Arrived.TheVariants as Arriveds
 use Rattle.spx_messages.specs.declared.fault.EndFault.{EndFault}
 use Rattle.spx_messages.specs.EndpointFaults.{end_fault_number}
 use Rattle.ipx_inspect.specs.Line.{fault_text, numbered, reason_text, spx_fault_text}
-use Rattle.theory_steps.specs.World.{ParcelView}
+use Rattle.spx_theory.specs.World.{ParcelView}
 use Rattle.ipx_net.specs.AnswerView.{AnswerView, ArrivedAt, Done, Dropped, End, Heard, Parcels, Refused, Taken}
 use Rattle.ipx_net.specs.NetFaultNumbers.{net_fault_number}
 use Rattle.ipx_net.specs.declared.event.Event.{Event}

@@ -4,8 +4,8 @@ use Rattle.std.specs.Prelude.{ℕ, ◌≡◌, ◌≤◌, ◌+◌, ◌==◌, ◌&
 use Rattle.std.specs.List.{range_with_len}
 use Rattle.std.specs.Str.{bytes_eq}
 use Rattle.ipx_wire.specs.Assigned.{broadcast_node}
-use Rattle.theory_steps.specs.World.{AtHost, AtPort, ParcelView}
-use Rattle.theory_steps.specs.World as Worlds
+use Rattle.spx_theory.specs.World.{AtHost, AtPort, ParcelView}
+use Rattle.spx_theory.specs.World as Worlds
 use Rattle.ipx_net.specs.AnswerView.{AnswerView}
 use Rattle.ipx_net.specs.NetView.{NetView}
 use Rattle.ipx_net.specs.declared.event.Event.TheVariants as Events

@@ -34,3 +34,10 @@ pub mod Lasting
 pub mod Confirmed
 pub mod Allowances
 pub mod PacedLinks
+pub mod World
+pub mod HostSteps
+pub mod DeedRuns
+pub mod EndCalls
+pub mod Routers
+pub mod WorldStep
+pub mod Reach

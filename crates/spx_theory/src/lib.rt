@@ -16,6 +16,12 @@
 //!
 //! `pair_laws` says what one call of a link does beside the machine whose numbers never wrap, whatever
 //! packet it reads: `spx_link` has the functions of a link, in 16-bit numbers, and the machine.
+//!
+//! `step_laws` is the way from a network in memory to scenes. `specs/` says what a network of hosts
+//! holds (`World`) and, in the words of the contracts of `spx_messages`, what each event does to it
+//! (`HostSteps`, `EndCalls`, `Routers`, `WorldStep`). Each step is a list of deeds, so the theorems hold
+//! of every world that steps come to. What routers hold, faults and want of memory are no part of a
+//! world.
 #![tactic(auto)]
 
 mod below;
@@ -23,6 +29,7 @@ mod ends;
 mod laws;
 mod pair_laws;
 mod premises;
+mod step_laws;
 
 pub use ends::{
     ends_are_told, ends_stay, entries_tell_ends, gone_sends_nothing, numbers_are_in_order,
@@ -42,3 +49,4 @@ pub use premises::{
     between_is_read, headline_of_log, made_once, origins_are_read, peers_are_read,
     premises_are_read,
 };
+pub use step_laws::{peers_of_worlds_are_in_step, steps_are_deeds};

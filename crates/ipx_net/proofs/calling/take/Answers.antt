@@ -1,5 +1,5 @@
 use Rattle.std.proofs.Common.{◌++◌, Err, sym, ◌∙◌, ap, subst}
-use Rattle.theory_steps.specs.HostSteps.{TakesOf, unit_notes, whole_notes}
+use Rattle.spx_theory.specs.HostSteps.{TakesOf, unit_notes, whole_notes}
 use Rattle.ipx_net_hosts.specs.Hosts.{Noting}
 use Rattle.ipx_net_hosts.specs.Refusing.{TakeIsRefused}
 use Rattle.std.specs.Prelude.{IfErr}

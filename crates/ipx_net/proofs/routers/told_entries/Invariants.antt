@@ -1,5 +1,5 @@
 use Rattle.std.proofs.Common.{◌≡◌, ◌+◌, ◌++◌, drop}
-use Rattle.theory_steps.specs.Routers.{told_notes}
+use Rattle.spx_theory.specs.Routers.{told_notes}
 use Rattle.ipx_net.specs.LogEntries.{entry_notes}
 use Rattle.ipx_net.specs.Parcels.{parcel_views}
 use Rattle.ipx_net.proofs.routers.told_entries.Given as goal

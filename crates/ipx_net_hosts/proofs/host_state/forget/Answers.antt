@@ -1,6 +1,6 @@
 use Rattle.std.proofs.Common.{◌≡◌, ◌≢◌, ℕ, List, not, ◌==◌, rules, subst, sym, None}
 use Rattle.std.proofs.lemmas.Fn.{filter_same}
-use Rattle.theory_steps.specs.World.{end_at}
+use Rattle.spx_theory.specs.World.{end_at}
 use Rattle.ipx_net_hosts.proofs.Known.{gone, stays, without}
 use Rattle.ipx_net_hosts.proofs.host_state.forget.Goals as goal
 

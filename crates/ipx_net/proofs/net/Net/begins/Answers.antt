@@ -1,7 +1,7 @@
 use Rattle.std.proofs.Common.{◌↔◌, subst}
 use Rattle.std.specs.Prelude.{IsTrue}
 use Rattle.spx_theory.specs.LogPremises.{IsEnd, LogPremises}
-use Rattle.theory_steps.specs.World.{World, scene_of}
+use Rattle.spx_theory.specs.World.{World, scene_of}
 use Rattle.ipx_net.specs.Begins.{Begins}
 use Rattle.ipx_net.specs.NetView.{NetView}
 use Rattle.ipx_net.specs.Theorems.{Theorems}

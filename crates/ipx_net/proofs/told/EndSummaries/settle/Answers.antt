@@ -1,5 +1,5 @@
 use Rattle.std.proofs.Common.{refl, arith, subst, ap, ◌∙◌, ℕ}
-use Rattle.theory_steps.specs.World.{end_at}
+use Rattle.spx_theory.specs.World.{end_at}
 use Rattle.std.proofs.lemmas.Option.{slice_get_within}
 use Rattle.ipx_net_hosts.specs.EndTelling.{here_at, state_on_host}
 use Rattle.ipx_net.specs.Ends.{told_of}

@@ -2,7 +2,7 @@ use Rattle.std.proofs.Common.{◌≡◌, ◌∙◌, ap, sym, Option, None, Some,
 use Rattle.spx_link.specs.declared.unit.Unit.{Unit}
 use Rattle.spx_link.specs.Offer.{first_of}
 use Rattle.spx_messages.specs.EndpointView.{Held, held_at}
-use Rattle.theory_steps.specs.World.{HostState}
+use Rattle.spx_theory.specs.World.{HostState}
 use Rattle.ipx_net_hosts.proofs.host_state.HostState.next_unit.Goals as goal
 
 unheld : (o : Option Held) (u : Option Unit) → o ≡ None → IfSome o (λ h. u ≡ first_of h.link.held)

@@ -1,6 +1,6 @@
 use Rattle.std.proofs.Common.{◌≡◌, ◌∙◌, ap, sym, Err, None}
 use Rattle.spx_messages.specs.EndpointView.{held_at}
-use Rattle.theory_steps.specs.World.{HostState}
+use Rattle.spx_theory.specs.World.{HostState}
 use Rattle.ipx_net_hosts.proofs.Placing.{unheld}
 use Rattle.ipx_net_hosts.proofs.host_state.HostState.pace.Goals as goal
 

@@ -1,5 +1,5 @@
 use Rattle.std.proofs.Common.{◌≡◌, get_or, sym, subst}
-use Rattle.theory_steps.specs.World.{EndNow}
+use Rattle.spx_theory.specs.World.{EndNow}
 use Rattle.ipx_net_hosts.proofs.Placing.{standing}
 use Rattle.ipx_net_hosts.proofs.hosts.Hosts.place.Goals as goal
 

@@ -1,5 +1,5 @@
 use Rattle.std.proofs.Common.{◌≡◌, ◌<◌, length, arith, get_or, refl, sym, subst, true}
-use Rattle.theory_steps.specs.World.{EndNow}
+use Rattle.spx_theory.specs.World.{EndNow}
 use Rattle.ipx_net_hosts.proofs.Placing.{end_within, homes_set, known_held, released}
 use Rattle.ipx_net_hosts.proofs.Marks.{marks_changed}
 use Rattle.ipx_net_hosts.proofs.hosts.Hosts.release.Goals as goal

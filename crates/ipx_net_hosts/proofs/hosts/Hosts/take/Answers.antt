@@ -1,8 +1,8 @@
 use Rattle.std.proofs.Common.{◌≡◌, ◌≢◌, ◌↔◌, ◌++◌, ◌∙◌, Err, true, false, refl, get_or, map, set, sym, subst}
 use Rattle.std.specs.Prelude.{IfErr}
 use Rattle.spx_messages.specs.Taking.{overlong, result_view}
-use Rattle.theory_steps.specs.HostSteps.{TakesOf, unit_notes, whole_notes}
-use Rattle.theory_steps.specs.World.{EndNow, home_at}
+use Rattle.spx_theory.specs.HostSteps.{TakesOf, unit_notes, whole_notes}
+use Rattle.spx_theory.specs.World.{EndNow, home_at}
 use Rattle.ipx_net_hosts.specs.Hosts.{HostsView, KeepsMarks, LeftAs, Noting}
 use Rattle.ipx_net_hosts.specs.Refusing.{Overruns, PushesTo, TakeIsRefused, want}
 use Rattle.ipx_net_hosts.proofs.Placing.{held_there, homes_set, known_held, left, marks_kept, marks_lost, stays_held, taken, view_not_want, want_is_kept}

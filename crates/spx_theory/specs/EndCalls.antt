@@ -13,7 +13,7 @@ use Rattle.spx_messages.specs.Cut.{cut_of}
 use Rattle.spx_theory.specs.Note.{Note}
 use Rattle.spx_messages.specs.Changes.{AddsEnd, ChangesEnd, ReleasesEnd, SameBut}
 use Rattle.spx_messages.specs.EndpointView.{Held, held_at}
-use Rattle.theory_steps.specs.World.{World, HostState, EndNow, end_at}
+use Rattle.spx_theory.specs.World.{World, HostState, EndNow, end_at}
 use Rattle.spx_theory.specs.Note as Notes
 
 pub record DialsFrom (old : World) (host : ℕ) (socket : Socket) (to : Address) (buffers id : ℕ)

@@ -17,13 +17,13 @@ use Rattle.spx_messages.specs.Changes.{SameBut}
 use Rattle.spx_messages.specs.EndpointView.{Held, EndpointView, held_at}
 use Rattle.spx_messages.specs.declared.arrived.Arrived.{Arrived}
 use Rattle.spx_messages.specs.Arrives.{IsOurs, IsAccepted, IsAskedAgain, IsHeard}
-use Rattle.theory_steps.specs.World.{World, HostState, EndNow, stand_with, stand_of, home_at, bytes_of, segment_of, scene_of, InOrder}
-use Rattle.theory_steps.specs.HostSteps.{Delivers, heard_notes, read_notes, arrival_notes, buffers_of}
-use Rattle.theory_steps.specs.DeedRuns.{Deeds}
-use Rattle.theory_steps.proofs.Places.{get_map, get_set_here, map_more, map_same, map_length}
-use Rattle.theory_steps.proofs.Doing.{no_deed, one_deed}
-use Rattle.theory_steps.proofs.Standing.{none_held, held_same, held_stands, held_there, ends_same, made, scene_after}
-use Rattle.theory_steps.proofs.Finding.{Found, found, found_changed, home_there, free_id}
+use Rattle.spx_theory.specs.World.{World, HostState, EndNow, stand_with, stand_of, home_at, bytes_of, segment_of, scene_of, InOrder}
+use Rattle.spx_theory.specs.HostSteps.{Delivers, heard_notes, read_notes, arrival_notes, buffers_of}
+use Rattle.spx_theory.specs.DeedRuns.{Deeds}
+use Rattle.spx_theory.proofs.Places.{get_map, get_set_here, map_more, map_same, map_length}
+use Rattle.spx_theory.proofs.Doing.{no_deed, one_deed}
+use Rattle.spx_theory.proofs.Standing.{none_held, held_same, held_stands, held_there, ends_same, made, scene_after}
+use Rattle.spx_theory.proofs.Finding.{Found, found, found_changed, home_there, free_id}
 use Rattle.spx_theory.specs.Note as Notes
 use Rattle.spx_messages.specs.declared.arrived.Arrived.TheVariants as Arriveds
 

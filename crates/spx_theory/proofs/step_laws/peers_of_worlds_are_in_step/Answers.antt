@@ -1,6 +1,6 @@
-use Rattle.theory_steps.specs.World.{scene_of}
-use Rattle.theory_steps.proofs.Beginning.{came_to}
-use Rattle.theory_steps.proofs.laws.peers_of_worlds_are_in_step.Goals as goal
+use Rattle.spx_theory.specs.World.{scene_of}
+use Rattle.spx_theory.proofs.Beginning.{came_to}
+use Rattle.spx_theory.proofs.step_laws.peers_of_worlds_are_in_step.Goals as goal
 
 pub returns-clause-reached : goal.returns-clause-reached
 returns-clause-reached c = came_to

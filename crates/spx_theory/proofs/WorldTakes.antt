@@ -16,12 +16,12 @@ use Rattle.spx_theory.specs.Deeds.{Takes, Overruns}
 use Rattle.spx_messages.specs.EndpointView.{Held, held_at}
 use Rattle.spx_messages.specs.declared.fault.EndFault.{EndFault}
 use Rattle.spx_messages.specs.Taking.{TakenView, Nothing, Part, Whole, PeerEnd, overlong, taken_held, overrun, joins_on, takes_data, takes_first, take_end}
-use Rattle.theory_steps.specs.World.{World, HostState, EndNow, stand_with, stand_of, home_at, bytes_of, segment_of, scene_of, InOrder}
-use Rattle.theory_steps.specs.HostSteps.{TakesOf, unit_notes, whole_notes, marked_over}
-use Rattle.theory_steps.specs.DeedRuns.{Deeds}
-use Rattle.theory_steps.proofs.Places.{get_set_here}
-use Rattle.theory_steps.proofs.Doing.{no_deed, one_deed}
-use Rattle.theory_steps.proofs.Standing.{held_stands, stands_there, ends_changed, made, scene_after}
+use Rattle.spx_theory.specs.World.{World, HostState, EndNow, stand_with, stand_of, home_at, bytes_of, segment_of, scene_of, InOrder}
+use Rattle.spx_theory.specs.HostSteps.{TakesOf, unit_notes, whole_notes, marked_over}
+use Rattle.spx_theory.specs.DeedRuns.{Deeds}
+use Rattle.spx_theory.proofs.Places.{get_set_here}
+use Rattle.spx_theory.proofs.Doing.{no_deed, one_deed}
+use Rattle.spx_theory.proofs.Standing.{held_stands, stands_there, ends_changed, made, scene_after}
 
 pub set_twice : {A : Type 0} (xs : List A) (k : ℕ) (x y : A) → set (set xs k x) k y ≡ set xs k y
 set_twice [] k x y = refl

@@ -3,8 +3,8 @@ use Rattle.std.specs.Prelude.{ℕ, ◌≡◌, ◌≢◌, ◌<◌, ◌≤◌, [],
 use Rattle.ipx_wire.specs.declared.address.Socket.{Socket}
 use Rattle.spx_link.specs.Limits.{most_units}
 use Rattle.spx_messages.specs.EndpointView.{held_at, buffers_at}
-use Rattle.theory_steps.specs.World.{World, HostState}
-use Rattle.theory_steps.specs.WorldStep.{WorldStep}
+use Rattle.spx_theory.specs.World.{World, HostState}
+use Rattle.spx_theory.specs.WorldStep.{WorldStep}
 
 -- a host without links; its network is not 0, and its listening sockets have buffers in range
 pub record HasNoLinks (s : HostState) : Type 0 where

@@ -8,10 +8,10 @@ use Rattle.spx_messages.specs.Message.{MessageView}
 use Rattle.spx_messages.specs.declared.arrived.Arrived.{Arrived}
 use Rattle.spx_messages.specs.declared.fault.EndFault.{EndFault}
 use Rattle.spx_messages.specs.Taking.{TakenView}
-use Rattle.theory_steps.specs.World.{World, ParcelView}
-use Rattle.theory_steps.specs.HostSteps.{Delivers, PollsHost, TakesOf}
-use Rattle.theory_steps.specs.EndCalls.{DialsFrom, SendsTo, Closes, ReleasesOf, PacesOf, AsksAgainOf, RefusesAt, InjectsInto, Ticks}
-use Rattle.theory_steps.specs.Routers.{GivesOwnLetters, CarriesOn}
+use Rattle.spx_theory.specs.World.{World, ParcelView}
+use Rattle.spx_theory.specs.HostSteps.{Delivers, PollsHost, TakesOf}
+use Rattle.spx_theory.specs.EndCalls.{DialsFrom, SendsTo, Closes, ReleasesOf, PacesOf, AsksAgainOf, RefusesAt, InjectsInto, Ticks}
+use Rattle.spx_theory.specs.Routers.{GivesOwnLetters, CarriesOn}
 
 pub data WorldStep (old new : World) : Type 0 where
   Delivered : (parcel host : ℕ) (answer : Arrived)

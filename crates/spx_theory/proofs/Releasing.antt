@@ -3,15 +3,15 @@ use Rattle.std.proofs.Common.{◌≡◌, ◌≢◌, ℕ, true, false, List, [], 
 use Rattle.std.specs.Prelude.{slice_get}
 use Rattle.std.proofs.lemmas.List.{map-set}
 use Rattle.std.proofs.lemmas.Bool.{cases_eq}
-use Rattle.theory_steps.proofs.Lists.{get_set}
+use Rattle.spx_theory.proofs.WorldLists.{get_set}
 use Rattle.spx_messages.specs.EndpointView.{Held, held_at}
-use Rattle.theory_steps.specs.World.{World, HostState, EndNow, end_at, stand_with, stand_of, scene_of, InOrder, StandsAt, IsEndOf, IsHostInOrder}
-use Rattle.theory_steps.specs.EndCalls.{ReleasesOf}
-use Rattle.theory_steps.specs.DeedRuns.{Deeds}
-use Rattle.theory_steps.proofs.Places.{one_of_it, get_set_here, get_set_other, map_to_set}
-use Rattle.theory_steps.proofs.Doing.{one_deed}
-use Rattle.theory_steps.proofs.Standing.{held_same, held_there, stands_there, the_only, scene_after}
-use Rattle.theory_steps.proofs.Taking.{set_twice}
+use Rattle.spx_theory.specs.World.{World, HostState, EndNow, end_at, stand_with, stand_of, scene_of, InOrder, StandsAt, IsEndOf, IsHostInOrder}
+use Rattle.spx_theory.specs.EndCalls.{ReleasesOf}
+use Rattle.spx_theory.specs.DeedRuns.{Deeds}
+use Rattle.spx_theory.proofs.Places.{one_of_it, get_set_here, get_set_other, map_to_set}
+use Rattle.spx_theory.proofs.Doing.{one_deed}
+use Rattle.spx_theory.proofs.Standing.{held_same, held_there, stands_there, the_only, scene_after}
+use Rattle.spx_theory.proofs.WorldTakes.{set_twice}
 use Rattle.spx_theory.specs.Note as Notes
 use Rattle.spx_theory.specs.Deeds as Scenes
 

@@ -6,12 +6,12 @@ use Rattle.ipx_wire.specs.declared.address.Node.{Node}
 use Rattle.spx_theory.specs.Note.{Note}
 use Rattle.spx_theory.specs.Scan.{Each}
 use Rattle.spx_theory.specs.Scene.{Scene, sent_off}
-use Rattle.theory_steps.specs.World.{World, ParcelView, AtPort, stand_of, home_at, bytes_of, segment_of, scene_of}
-use Rattle.theory_steps.specs.Routers.{IsOwnLetter, told_notes, GivesOwnLetters, CarriesOn}
-use Rattle.theory_steps.specs.DeedRuns.{Deeds}
-use Rattle.theory_steps.proofs.Places.{get_map, map_more, map_length}
-use Rattle.theory_steps.proofs.Doing.{no_deed, one_deed, then}
-use Rattle.theory_steps.proofs.Standing.{made, made_same}
+use Rattle.spx_theory.specs.World.{World, ParcelView, AtPort, stand_of, home_at, bytes_of, segment_of, scene_of}
+use Rattle.spx_theory.specs.Routers.{IsOwnLetter, told_notes, GivesOwnLetters, CarriesOn}
+use Rattle.spx_theory.specs.DeedRuns.{Deeds}
+use Rattle.spx_theory.proofs.Places.{get_map, map_more, map_length}
+use Rattle.spx_theory.proofs.Doing.{no_deed, one_deed, then}
+use Rattle.spx_theory.proofs.Standing.{made, made_same}
 use Rattle.spx_theory.specs.Note as Notes
 use Rattle.spx_theory.specs.Deeds as Scenes
 

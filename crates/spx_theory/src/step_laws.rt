@@ -1,13 +1,13 @@
 //! What an event does to a world is a list of deeds of its scene, and it leaves the world in order.
 
 ghost use Rattle.spx_theory.specs.Deeds.{Reached};
-ghost use Rattle.theory_steps.specs.World.{World, InOrder, scene_of};
-ghost use Rattle.theory_steps.specs.WorldStep.{WorldStep};
-ghost use Rattle.theory_steps.specs.DeedRuns.{Deeds};
-ghost use Rattle.theory_steps.specs.Reach.{CameTo};
+ghost use Rattle.spx_theory.specs.World.{World, InOrder, scene_of};
+ghost use Rattle.spx_theory.specs.WorldStep.{WorldStep};
+ghost use Rattle.spx_theory.specs.DeedRuns.{Deeds};
+ghost use Rattle.spx_theory.specs.Reach.{CameTo};
 ghost use Rattle.spx_theory.specs.InStep.{PeersAreInStep};
 
-use spx_theory::peers_are_in_step;
+use crate::laws::peers_are_in_step;
 
 /// Each step of a network changes its scene by deeds, and leaves the world in order. So its scene
 /// is still one that deeds reach.

@@ -12,8 +12,8 @@ use Rattle.spx_messages.specs.WrittenPackets.{Home}
 use Rattle.spx_messages.specs.Changes.{SameSelf}
 use Rattle.spx_messages.specs.EndpointView.{Held, EndpointView, rest_in, held_with, held_at}
 use Rattle.spx_messages.specs.Polls.{home_of}
-use Rattle.theory_steps.specs.World.{World, HostState, EndNow, end_at, held_in, held_of, stand_with, stand_of, home_at, bytes_of, segment_of, scene_of, StandsAt, InOrder}
-use Rattle.theory_steps.proofs.Places.{one_of_it, same_some, get_map, get_set_here, get_set_other, map_to_set, map_same, map_set_same}
+use Rattle.spx_theory.specs.World.{World, HostState, EndNow, end_at, held_in, held_of, stand_with, stand_of, home_at, bytes_of, segment_of, scene_of, StandsAt, InOrder}
+use Rattle.spx_theory.proofs.Places.{one_of_it, same_some, get_map, get_set_here, get_set_other, map_to_set, map_same, map_set_same}
 
 -- ---- a link and its rest
 

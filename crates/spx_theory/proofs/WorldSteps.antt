@@ -2,17 +2,17 @@
 use Rattle.std.proofs.Common.{sym, ◌∙◌}
 use Rattle.std.proofs.lemmas.List.{append-nil}
 use Rattle.spx_theory.specs.Deeds.{Reached}
-use Rattle.theory_steps.specs.World.{World, scene_of, InOrder}
-use Rattle.theory_steps.specs.DeedRuns.{Deeds}
-use Rattle.theory_steps.specs.WorldStep.{WorldStep, Delivered, Polled, Taken, Dialled, Sent, Closed, Released, Paced, AskedAgain, Refused, Injected, Ticked, Told, Carried}
-use Rattle.theory_steps.proofs.Doing.{reached_after}
-use Rattle.theory_steps.proofs.Delivering.{delivers_deeds, left_alone}
-use Rattle.theory_steps.proofs.Polling.{polls_deeds}
-use Rattle.theory_steps.proofs.Taking.{takes_deeds}
-use Rattle.theory_steps.proofs.Calling.{dials_deeds, dials_kept, sends_deeds, sends_kept, closes_deeds, closes_kept, quiet_kept, paces_deeds, asks_deeds, injects_deeds, ticks_deeds, order_of_same}
-use Rattle.theory_steps.proofs.Releasing.{releases_deeds, releases_kept}
-use Rattle.theory_steps.proofs.Routing.{tells_deeds, carries_deeds}
-use Rattle.theory_steps.proofs.KeptBy.{delivers_kept, left_kept, polls_kept, takes_kept}
+use Rattle.spx_theory.specs.World.{World, scene_of, InOrder}
+use Rattle.spx_theory.specs.DeedRuns.{Deeds}
+use Rattle.spx_theory.specs.WorldStep.{WorldStep, Delivered, Polled, Taken, Dialled, Sent, Closed, Released, Paced, AskedAgain, Refused, Injected, Ticked, Told, Carried}
+use Rattle.spx_theory.proofs.Doing.{reached_after}
+use Rattle.spx_theory.proofs.Delivering.{delivers_deeds, left_alone}
+use Rattle.spx_theory.proofs.WorldPolls.{polls_deeds}
+use Rattle.spx_theory.proofs.WorldTakes.{takes_deeds}
+use Rattle.spx_theory.proofs.WorldCalls.{dials_deeds, dials_kept, sends_deeds, sends_kept, closes_deeds, closes_kept, quiet_kept, paces_deeds, asks_deeds, injects_deeds, ticks_deeds, order_of_same}
+use Rattle.spx_theory.proofs.Releasing.{releases_deeds, releases_kept}
+use Rattle.spx_theory.proofs.Routing.{tells_deeds, carries_deeds}
+use Rattle.spx_theory.proofs.KeptBy.{delivers_kept, left_kept, polls_kept, takes_kept}
 
 pub step_deeds : (old new : World) → InOrder old → WorldStep old new → Deeds (scene_of old) (scene_of new)
 step_deeds old new o (Delivered parcel host answer d) = delivers_deeds old new parcel host answer o d

@@ -14,7 +14,7 @@ use Rattle.spx_messages.specs.Arrives.{Arrives}
 use Rattle.spx_messages.specs.Polls.{Polls}
 use Rattle.spx_messages.specs.declared.fault.EndFault.{EndFault}
 use Rattle.spx_messages.specs.Taking.{TakenView, take_end, Nothing, Part, Whole, PeerEnd}
-use Rattle.theory_steps.specs.World.{World, HostState, EndNow, ParcelView, AtHost, end_at}
+use Rattle.spx_theory.specs.World.{World, HostState, EndNow, ParcelView, AtHost, end_at}
 use Rattle.spx_theory.specs.Note as Notes
 use Rattle.spx_messages.specs.declared.arrived.Arrived.TheVariants as Arriveds
 

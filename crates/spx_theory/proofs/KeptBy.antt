@@ -12,11 +12,11 @@ use Rattle.spx_messages.specs.Arrives.{IsAccepted}
 use Rattle.spx_messages.specs.Polls.{RestsAt, polled_held, GivesNothing, Polls}
 use Rattle.spx_messages.specs.declared.fault.EndFault.{EndFault}
 use Rattle.spx_messages.specs.Taking.{TakenView, take_end}
-use Rattle.theory_steps.specs.World.{World, HostState, InOrder}
-use Rattle.theory_steps.specs.HostSteps.{Delivers, PollsHost, TakesOf, marked_over}
-use Rattle.theory_steps.proofs.Standing.{none_held}
-use Rattle.theory_steps.proofs.Keeping.{SameIds, SameEnds, same_ends, set_ends, ids_kept, id_comes, cases_option}
-use Rattle.theory_steps.proofs.Taking.{marked_host, marked_id, marked_stands}
+use Rattle.spx_theory.specs.World.{World, HostState, InOrder}
+use Rattle.spx_theory.specs.HostSteps.{Delivers, PollsHost, TakesOf, marked_over}
+use Rattle.spx_theory.proofs.Standing.{none_held}
+use Rattle.spx_theory.proofs.Keeping.{SameIds, SameEnds, same_ends, set_ends, ids_kept, id_comes, cases_option}
+use Rattle.spx_theory.proofs.WorldTakes.{marked_host, marked_id, marked_stands}
 use Rattle.spx_messages.specs.declared.arrived.Arrived.TheVariants as Arriveds
 use Rattle.spx_messages.specs.Polls as Polled
 

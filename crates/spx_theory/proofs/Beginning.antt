@@ -3,10 +3,10 @@ use Rattle.std.proofs.Common.{◌≡◌, ◌≢◌, ℕ, [], map, Some, sym, ◌
 use Rattle.std.specs.Prelude.{slice_get}
 use Rattle.spx_messages.specs.WrittenPackets.{Home}
 use Rattle.spx_theory.specs.Deeds.{IsBegun, Reached, begun}
-use Rattle.theory_steps.specs.World.{World, EndNow, end_at, stand_of, home_at, bytes_of, segment_of, scene_of, InOrder}
-use Rattle.theory_steps.specs.Reach.{HasNoLinks, IsNewWorld, CameTo, new, stepped}
-use Rattle.theory_steps.proofs.Places.{map_got}
-use Rattle.theory_steps.proofs.Stepping.{step_kept, step_reaches}
+use Rattle.spx_theory.specs.World.{World, EndNow, end_at, stand_of, home_at, bytes_of, segment_of, scene_of, InOrder}
+use Rattle.spx_theory.specs.Reach.{HasNoLinks, IsNewWorld, CameTo, new, stepped}
+use Rattle.spx_theory.proofs.Places.{map_got}
+use Rattle.spx_theory.proofs.WorldSteps.{step_kept, step_reaches}
 
 new_in_order : (w : World) → IsNewWorld w → InOrder w
 new_in_order w n =

@@ -5,9 +5,9 @@ use Rattle.std.proofs.lemmas.Bool.{cases_eq, cases_Bool, cond-true, cond-false}
 use Rattle.std.proofs.lemmas.Bool.Decides.{Decides-eqb}
 use Rattle.spx_messages.specs.Changes.{SameSelf}
 use Rattle.spx_messages.specs.EndpointView.{Held, EndpointView, held_at}
-use Rattle.theory_steps.specs.World.{World, HostState, EndNow, end_at, StandsAt, IsEndOf, IsHostInOrder, InOrder}
-use Rattle.theory_steps.proofs.Places.{one_of_it, same_some, get_set_here, get_set_other, get_past}
-use Rattle.theory_steps.proofs.Lists.{get_set, get_last, get_before}
+use Rattle.spx_theory.specs.World.{World, HostState, EndNow, end_at, StandsAt, IsEndOf, IsHostInOrder, InOrder}
+use Rattle.spx_theory.proofs.Places.{one_of_it, same_some, get_set_here, get_set_other, get_past}
+use Rattle.spx_theory.proofs.WorldLists.{get_set, get_last, get_before}
 
 -- the same ends, as far as their hosts know them
 pub record IsSameEnd (e e' : EndNow) : Type 0 where

@@ -14,15 +14,15 @@ use Rattle.spx_theory.specs.Note.{Note}
 use Rattle.spx_theory.specs.Scene.{Stand, Stands, linked, with_entries, put_end}
 use Rattle.spx_theory.specs.Deeds.{Deed, DoesDeed}
 use Rattle.spx_messages.specs.EndpointView.{Held, held_at}
-use Rattle.theory_steps.specs.World.{World, HostState, EndNow, ParcelView, stand_with, stand_of, home_at, bytes_of, segment_of, scene_of, InOrder, StandsAt, IsHostInOrder}
-use Rattle.theory_steps.specs.EndCalls.{DialsFrom, ChangesLink, ChangesQuietly, SendsTo, Closes, PacesOf, AsksAgainOf, InjectsInto, Ticks}
-use Rattle.theory_steps.specs.DeedRuns.{Deeds}
-use Rattle.theory_steps.proofs.Places.{get_map, get_set_here, map_more, map_same, map_length}
-use Rattle.theory_steps.proofs.Doing.{no_deed, one_deed}
-use Rattle.theory_steps.proofs.Standing.{none_held, held_same, held_stands, held_there, stands_there, ends_changed, made, made_same, scene_after}
-use Rattle.theory_steps.proofs.Finding.{free_id}
-use Rattle.theory_steps.proofs.Keeping.{same_ends, ids_kept, id_comes}
-use Rattle.theory_steps.proofs.KeptBy.{ids_changed}
+use Rattle.spx_theory.specs.World.{World, HostState, EndNow, ParcelView, stand_with, stand_of, home_at, bytes_of, segment_of, scene_of, InOrder, StandsAt, IsHostInOrder}
+use Rattle.spx_theory.specs.EndCalls.{DialsFrom, ChangesLink, ChangesQuietly, SendsTo, Closes, PacesOf, AsksAgainOf, InjectsInto, Ticks}
+use Rattle.spx_theory.specs.DeedRuns.{Deeds}
+use Rattle.spx_theory.proofs.Places.{get_map, get_set_here, map_more, map_same, map_length}
+use Rattle.spx_theory.proofs.Doing.{no_deed, one_deed}
+use Rattle.spx_theory.proofs.Standing.{none_held, held_same, held_stands, held_there, stands_there, ends_changed, made, made_same, scene_after}
+use Rattle.spx_theory.proofs.Finding.{free_id}
+use Rattle.spx_theory.proofs.Keeping.{same_ends, ids_kept, id_comes}
+use Rattle.spx_theory.proofs.KeptBy.{ids_changed}
 use Rattle.spx_theory.specs.Note as Notes
 use Rattle.spx_theory.specs.Deeds as Scenes
 

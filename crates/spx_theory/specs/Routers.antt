@@ -7,7 +7,7 @@ use Rattle.ipx_wire.specs.Ipx.{PacketView, IsIpx}
 use Rattle.spx_theory.specs.Note.{Note}
 use Rattle.spx_theory.specs.Scan.{Each}
 use Rattle.spx_theory.specs.PacketsOnWay.{IsOneOn}
-use Rattle.theory_steps.specs.World.{World, ParcelView, AtPort}
+use Rattle.spx_theory.specs.World.{World, ParcelView, AtPort}
 use Rattle.spx_theory.specs.Note as Notes
 
 -- a packet that a router made itself, which is of no connection

@@ -11,14 +11,14 @@ use Rattle.spx_theory.specs.Deeds.{Gives}
 use Rattle.spx_theory.specs.PacketsOnWay.{note_of}
 use Rattle.spx_messages.specs.EndpointView.{Held, held_at}
 use Rattle.spx_messages.specs.Polls.{RestsAt, polled_held, GivesNothing, Polls, home_of}
-use Rattle.theory_steps.specs.World.{World, HostState, EndNow, stand_with, stand_of, home_at, bytes_of, segment_of, scene_of, InOrder}
-use Rattle.theory_steps.specs.HostSteps.{PollsHost, said_notes, given_notes, sent_letters}
-use Rattle.theory_steps.specs.DeedRuns.{Deeds}
-use Rattle.theory_steps.proofs.Places.{one_of_it, get_map, map_got, get_set_here, map_more, map_length, set_back}
-use Rattle.theory_steps.proofs.Doing.{one_deed, then, RestsOr, with_ends, all_rest}
-use Rattle.theory_steps.proofs.Standing.{held_same, held_stands, held_there, stands_there, the_only, made, made_same, scene_after, homes_same}
-use Rattle.theory_steps.proofs.Finding.{Found, found}
-use Rattle.theory_steps.proofs.Lists.{get_set}
+use Rattle.spx_theory.specs.World.{World, HostState, EndNow, stand_with, stand_of, home_at, bytes_of, segment_of, scene_of, InOrder}
+use Rattle.spx_theory.specs.HostSteps.{PollsHost, said_notes, given_notes, sent_letters}
+use Rattle.spx_theory.specs.DeedRuns.{Deeds}
+use Rattle.spx_theory.proofs.Places.{one_of_it, get_map, map_got, get_set_here, map_more, map_length, set_back}
+use Rattle.spx_theory.proofs.Doing.{one_deed, then, RestsOr, with_ends, all_rest}
+use Rattle.spx_theory.proofs.Standing.{held_same, held_stands, held_there, stands_there, the_only, made, made_same, scene_after, homes_same}
+use Rattle.spx_theory.proofs.Finding.{Found, found}
+use Rattle.spx_theory.proofs.WorldLists.{get_set}
 use Rattle.spx_messages.specs.Polls as Polled
 
 -- if the end is of this host and its id gave nothing, the end gives nothing; other ends stay as they are

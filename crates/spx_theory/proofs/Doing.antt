@@ -5,8 +5,8 @@ use Rattle.spx_link.specs.LinkView.{LinkView}
 use Rattle.spx_link.specs.Poll.{poll_link}
 use Rattle.spx_theory.specs.Scene.{Scene, Stand, linked}
 use Rattle.spx_theory.specs.Deeds.{Deed, DoesDeed, Rests, Reached, happened}
-use Rattle.theory_steps.specs.DeedRuns.{DoesAll, Deeds}
-use Rattle.theory_steps.proofs.Places.{get_past, set_past}
+use Rattle.spx_theory.specs.DeedRuns.{DoesAll, Deeds}
+use Rattle.spx_theory.proofs.Places.{get_past, set_past}
 
 pub no_deed : (old new : Scene) → new ≡ old → Deeds old new
 no_deed old new e = ([], e)
