@@ -25,7 +25,7 @@ use Rattle.spx_theory.specs.PremisesRead.{AreMadeOnce, BetweenIsRead, OriginsAre
 use Rattle.spx_theory.specs.Scene.{Scene, Stand}
 use Rattle.spx_theory.specs.SentUnits.{LinksSendInOrder, UnitsAreSentInOrder}
 use Rattle.spx_theory.specs.UnitsOfEnds.{UnitsAreCuts}
-use Rattle.ipx_recovery.specs.Stuck.{NoPairIsStuck, NoStateIsStuck, NothingIsStuckByAddresses}
+use Rattle.spx_theory.specs.Stuck.{NoPairIsStuck, NoStateIsStuck, NothingIsStuckByAddresses}
 use Rattle.spx_theory.specs.World.{EndNow, InOrder, HostState, World, bytes_of, held_in, held_of, home_at, scene_of, segment_of, stand_of, stand_with}
 use Rattle.ipx_net_hosts.specs.Hosts.{FollowsMarks, marks_of}
 use Rattle.ipx_net.specs.NetReach.{GoesOn, IsKept}
@@ -35,7 +35,7 @@ use Rattle.ipx_net.specs.Theorems.{AreNumbered, AreReleasedByLog, AreWhereOpened
 abbrev pub IsLaw : (Scene → Type 0) → Type 0
 IsLaw P = (s : Scene) → Reached s → P s
 
--- the laws of scenes, each one a clause of a function of `spx_theory` or `ipx_recovery`
+-- the laws of scenes, each one a clause of a function of `spx_theory` or `spx_theory`
 pub record SceneLaws : Type 0 where
   pub carried : IsLaw RoutersAlterHopsAlone
   pub sent : IsLaw UnitsAreSentInOrder

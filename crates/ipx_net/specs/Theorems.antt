@@ -17,7 +17,7 @@ use Rattle.spx_theory.specs.PremisesRead.{AreMadeOnce, BetweenIsRead, OriginsAre
 use Rattle.spx_theory.specs.Scan.{scan}
 use Rattle.spx_theory.specs.SentUnits.{LinksSendInOrder, UnitsAreSentInOrder}
 use Rattle.spx_theory.specs.UnitsOfEnds.{UnitsAreCuts}
-use Rattle.ipx_recovery.specs.Stuck.{NoPairIsStuck, NoStateIsStuck, NothingIsStuckByAddresses}
+use Rattle.spx_theory.specs.Stuck.{NoPairIsStuck, NoStateIsStuck, NothingIsStuckByAddresses}
 use Rattle.spx_theory.specs.World.{EndNow, InOrder, World, scene_of}
 use Rattle.ipx_net.specs.NetView.{NetView}
 

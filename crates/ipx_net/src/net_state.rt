@@ -31,15 +31,15 @@ use crate::routers::RouterNow;
 use crate::step_result::StepResult;
 use crate::told::EndSummaries;
 use ipx_net_hosts::Hosts;
-use ipx_recovery::{no_pair_is_stuck, no_state_is_stuck, nothing_is_stuck_by_addresses};
 use ipx_router::{NewFault, Port};
 use spx_theory::{
     acknowledged_end_is_read, addresses_tell_peers, alone_reads_nothing, between_is_read,
     confirmed_is_read, end_taken_is_whole, ends_are_told, entries_tell_ends,
-    hands_out_what_it_took, headline_of_log, links_send_in_order, made_once, numbers_are_in_order,
-    origins_are_read, pairs_take_steps, peers_are_in_step, peers_are_read,
-    peers_of_worlds_are_in_step, premises_are_read, routers_alter_hops_alone, steps_are_deeds,
-    units_are_cuts, units_are_sent_in_order,
+    hands_out_what_it_took, headline_of_log, links_send_in_order, made_once, no_pair_is_stuck,
+    no_state_is_stuck, nothing_is_stuck_by_addresses, numbers_are_in_order, origins_are_read,
+    pairs_take_steps, peers_are_in_step, peers_are_read, peers_of_worlds_are_in_step,
+    premises_are_read, routers_alter_hops_alone, steps_are_deeds, units_are_cuts,
+    units_are_sent_in_order,
 };
 use std::alloc::Global;
 use std::marker::Model;

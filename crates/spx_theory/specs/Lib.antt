@@ -41,3 +41,7 @@ pub mod EndCalls
 pub mod Routers
 pub mod WorldStep
 pub mod Reach
+pub mod LinkLaws
+pub mod LosslessRounds
+pub mod RoundsDeliver
+pub mod Stuck

@@ -22,6 +22,10 @@
 //! (`HostSteps`, `EndCalls`, `Routers`, `WorldStep`). Each step is a list of deeds, so the theorems hold
 //! of every world that steps come to. What routers hold, faults and want of memory are no part of a
 //! world.
+//!
+//! `round_laws` says that no state that two ends of a network reach is one that they cannot get out of.
+//! `specs/` has rounds (`LosslessRounds`), a network that loses nothing for a moment; what they do to
+//! two links in step (`RoundsDeliver`); and to two peers of a network (`Stuck`).
 #![tactic(auto)]
 
 mod below;
@@ -29,6 +33,7 @@ mod ends;
 mod laws;
 mod pair_laws;
 mod premises;
+mod round_laws;
 mod step_laws;
 
 pub use ends::{
@@ -48,5 +53,9 @@ pub use pair_laws::{
 pub use premises::{
     between_is_read, headline_of_log, made_once, origins_are_read, peers_are_read,
     premises_are_read,
+};
+pub use round_laws::{
+    no_pair_is_stuck, no_state_is_stuck, nothing_is_stuck_by_addresses, round_is_one,
+    rounds_deliver, rounds_deliver_both_ways, rounds_exist,
 };
 pub use step_laws::{peers_of_worlds_are_in_step, steps_are_deeds};

@@ -1,7 +1,0 @@
-use Rattle.ipx_recovery.proofs.Stuck as stuck
-use Rattle.ipx_recovery.proofs.laws.no_state_is_stuck.Goals as goal
-
-pub returns : goal.returns
-returns c =
-    λ s reached.
-    stuck.no_state_is_stuck c.link_laws.ensures c.rounds_deliver.ensures s reached (c.peers_follow.ensures s reached) (c.peers_are_in_step.ensures s reached) (c.peers_are_named.ensures s reached)

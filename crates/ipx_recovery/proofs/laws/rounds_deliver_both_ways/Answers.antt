@@ -1,5 +1,0 @@
-use Rattle.ipx_recovery.proofs.Both as both
-use Rattle.ipx_recovery.proofs.laws.rounds_deliver_both_ways.Goals as goal
-
-pub returns : goal.returns
-returns c = both.rounds_deliver_both_ways c.link_laws.ensures

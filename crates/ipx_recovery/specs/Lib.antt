@@ -1,4 +1,0 @@
-pub mod LinkLaws
-pub mod LosslessRounds
-pub mod RoundsDeliver
-pub mod Stuck
