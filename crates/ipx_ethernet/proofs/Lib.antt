@@ -4,3 +4,8 @@ pub mod Packets
 pub mod Parts
 pub mod Sends
 pub mod Unique
+pub mod Alike
+pub mod Back
+pub mod Goes
+pub mod Known
+pub mod Room

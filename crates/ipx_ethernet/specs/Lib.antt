@@ -2,3 +2,5 @@ pub mod Frame
 pub mod FrameFault
 pub mod SentFrame
 pub mod PortFrames
+pub mod SwitchEnds
+pub mod Heard

@@ -2,19 +2,29 @@
 //!
 //! [`decode_frame`] reads a frame as a station receives it, and [`encode_frame_into`] writes one.
 //! Nothing allocates memory, and the packet is lent from the frame that was read.
+//!
+//! A port on a wire of several ends has a [`Switch`]. [`Switch::hear`] says of a frame that one end gave
+//! which of the others it goes on to, and which packet in it goes to the core of the port.
+//! [`Switch::egress_for`] says which ends a frame of the port's own goes to.
 #![tactic(auto)]
 
+mod egress;
 mod encapsulation;
 mod ethernet_port;
 mod fault;
 mod frame;
 mod frame_counters;
 mod laws;
+mod mac_table;
 mod packet;
+mod passing;
 mod reading;
 mod stations;
+mod switch;
+mod switch_laws;
 mod writing;
 
+pub use egress::Egress;
 pub use encapsulation::Encapsulation;
 pub use ethernet_port::{EthernetPort, FrameDrop};
 pub use fault::FrameFault;
@@ -24,6 +34,13 @@ pub use laws::{
     bytes_are_one_frame, frame_has_no_fault, sent_frame_is_read_back, sent_frame_is_sized,
     sent_raw_frame_is_even,
 };
+pub use mac_table::{AGEING_TIME_MS, MAX_STATIONS, Station};
+pub use passing::MAX_FORWARDED_SIZE;
 pub use reading::decode_frame;
 pub use stations::stations_of;
+pub use switch::Switch;
+pub use switch_laws::{
+    frames_go_on_whatever_they_hold, frames_go_where_they_are_for, other_stations_are_known_still,
+    station_is_known_where_it_was_heard,
+};
 pub use writing::encode_frame_into;

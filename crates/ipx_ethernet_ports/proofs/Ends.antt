@@ -5,8 +5,8 @@ use Rattle.std.specs.List.{range_with_len}
 use Rattle.std.proofs.lemmas.Bool.{ne_eqb}
 use Rattle.std.proofs.lemmas.List.{map-append}
 use Rattle.std.proofs.lemmas.List.Elements.{filter-append}
-use Rattle.ipx_hub.specs.declared.egress.Egress.{Egress}
-use Rattle.ipx_hub.specs.SwitchEnds.{is_way_to}
+use Rattle.ipx_ethernet.specs.declared.egress.Egress.{Egress}
+use Rattle.ipx_ethernet.specs.SwitchEnds.{is_way_to}
 use Rattle.ipx_carrier.specs.Counting.{raised}
 use Rattle.ipx_ethernet_ports.specs.EndTraffic.{EndFrame, EndTraffic, EndsPass, failures_counted, frame_at, raised_times}
 use Rattle.ipx_ethernet_ports.specs.OnEthernet.{ReachesEnds, ends_on}

@@ -5,8 +5,8 @@ use Rattle.std.proofs.Math.Seq.{map-set_same}
 use Rattle.std.proofs.lemmas.Option.{get_or_from_slice_get}
 use Rattle.ipx_wire.specs.declared.address.Node.{Node}
 use Rattle.ipx_ethernet.specs.declared.ethernet_port.EthernetPort.{EthernetPort}
-use Rattle.ipx_hub.specs.declared.egress.Egress.{Egress}
-use Rattle.ipx_hub.specs.Heard.{SwitchView, way_behind}
+use Rattle.ipx_ethernet.specs.declared.egress.Egress.{Egress}
+use Rattle.ipx_ethernet.specs.Heard.{SwitchView, way_behind}
 use Rattle.ipx_carrier.specs.declared.segments.PacketSent.{PacketSent}
 use Rattle.ipx_carrier.specs.declared.segments.PacketSent.TheVariants.{Unmapped, Transmitted}
 use Rattle.ipx_ethernet_ports.specs.EndTraffic.{EndFrame, EndTraffic, EndsPass}

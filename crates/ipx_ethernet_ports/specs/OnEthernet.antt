@@ -9,9 +9,9 @@ use Rattle.ipx_ethernet.specs.declared.ethernet_port.EthernetPort.{EthernetPort}
 use Rattle.ipx_ethernet.specs.Frame.{FrameView, frame_of, own_bytes}
 use Rattle.ipx_ethernet.specs.SentFrame.{IsSentFrame, sending_fault}
 use Rattle.ipx_ethernet.specs.PortFrames.{IsForCore, KeepsFrame}
-use Rattle.ipx_hub.specs.declared.egress.Egress.{Egress}
-use Rattle.ipx_hub.specs.Heard.{SwitchView, switch_handing, switch_keeping, switch_passing, switch_refusing, way_behind, way_of_own}
-use Rattle.ipx_hub.specs.SwitchEnds.{is_way_to}
+use Rattle.ipx_ethernet.specs.declared.egress.Egress.{Egress}
+use Rattle.ipx_ethernet.specs.Heard.{SwitchView, switch_handing, switch_keeping, switch_passing, switch_refusing, way_behind, way_of_own}
+use Rattle.ipx_ethernet.specs.SwitchEnds.{is_way_to}
 use Rattle.ipx_carrier.specs.declared.segments.PacketSent.{PacketSent}
 use Rattle.ipx_carrier.specs.declared.segments.PacketSent.TheVariants.{Unmapped, Transmitted}
 use Rattle.ipx_carrier.specs.Counting.{raised}

@@ -10,8 +10,7 @@ use crate::reaching::send_to_ends;
 use crate::sockets::EthernetSockets;
 use crate::taking::take_packet;
 use ipx_carrier::{DeviceFault, PacketSent, PortDriver, PortDriverFilters, saturating_increment};
-use ipx_ethernet::FRAME_MAX_SIZE;
-use ipx_hub::Switch;
+use ipx_ethernet::{FRAME_MAX_SIZE, Switch};
 use ipx_wire::Node;
 
 /// The size of the buffer that a frame is received into: more than any that is forwarded.

@@ -4,7 +4,7 @@ ghost use Rattle.std.specs.Prelude.{◌≡◌, ◌<◌, [], length, slice_index}
 ghost use Rattle.ipx_ethernet_ports.specs.OnEthernet.{ReachesEnds};
 
 use crate::end_sockets::EndSockets;
-use ipx_hub::Egress;
+use ipx_ethernet::Egress;
 
 /// Sends bytes by a port to each of its remotes that an egress names, in order. If that fails for
 /// one, the others still get them.

@@ -1,11 +1,11 @@
 //! What the core gets of a frame that came from a remote.
 
 ghost use Rattle.std.specs.Prelude.{◌≡◌, ◌≤◌, IfSome, None, false, length, take};
-ghost use Rattle.ipx_hub.specs.Heard.{way_behind};
-ghost use Rattle.ipx_hub.specs.SwitchEnds.{is_way_to};
+ghost use Rattle.ipx_ethernet.specs.Heard.{way_behind};
+ghost use Rattle.ipx_ethernet.specs.SwitchEnds.{is_way_to};
 ghost use Rattle.ipx_ethernet_ports.specs.OnEthernet.{TakesPacket};
 
-use ipx_hub::{Egress, Switch};
+use ipx_ethernet::{Egress, Switch};
 
 /// Puts bytes at the front of a buffer, as many as fit.
 pub fn put_front(bytes: &[u8], room: &mut [u8]) -> usize

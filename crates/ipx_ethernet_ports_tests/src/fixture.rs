@@ -1,8 +1,7 @@
 //! A port with three remotes, a station at each, and the frames that they send.
 
-use ipx_ethernet::{Encapsulation, EthernetPort};
+use ipx_ethernet::{Encapsulation, EthernetPort, Switch};
 use ipx_ethernet_ports::{EndSockets, EthernetPorts, MemoryEnds, MemoryFrame};
-use ipx_hub::Switch;
 use ipx_wire::{Network, Node};
 use std::alloc::{AllocError, Global};
 

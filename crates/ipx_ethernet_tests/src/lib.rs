@@ -1,7 +1,11 @@
-//! Tests of Ethernet frames that hold an IPX packet, with literal values. They call what
+//! Tests of Ethernet frames that hold an IPX packet, and of a switch, with literal values. They call what
 //! `ipx_ethernet` makes public, and no crate depends on this one.
 #![tactic(auto)]
 
+#[cfg(test)]
+mod apart;
+#[cfg(test)]
+mod between;
 #[cfg(test)]
 mod caller;
 #[cfg(test)]
@@ -11,15 +15,25 @@ mod fixture;
 #[cfg(test)]
 mod heard;
 #[cfg(test)]
+mod known;
+#[cfg(test)]
 mod largest;
 #[cfg(test)]
 mod lines;
 #[cfg(test)]
 mod refusals;
 #[cfg(test)]
+mod refused;
+#[cfg(test)]
 mod refused_by_others;
 #[cfg(test)]
 mod sending;
+#[cfg(test)]
+mod switch_caller;
+#[cfg(test)]
+mod switch_fixture;
+#[cfg(test)]
+mod switch_sending;
 #[cfg(test)]
 mod texts;
 #[cfg(test)]

@@ -10,7 +10,7 @@ use Rattle.ipx_ipxnet_ports.specs.declared.server_ports.Servers.{Servers}
 use Rattle.ipx_ipxnet_ports.specs.declared.sockets.ServerSockets.{ServerSockets}
 use Rattle.ipx_ethernet_ports.specs.declared.end_sockets.EndSockets as OfSockets
 use Rattle.ipx_ethernet_ports.specs.declared.sockets.EthernetSockets.{EthernetSockets}
-use Rattle.ipx_hub.specs.Heard.{SwitchView}
+use Rattle.ipx_ethernet.specs.Heard.{SwitchView}
 use Rattle.ipx_site.specs.declared.source_filter.FilterDrops.{FilterDrops}
 use Rattle.ipx_site.specs.declared.source_filter.SourceFilter.{SourceFilter}
 use Rattle.ipx_site.specs.declared.router_counts.RouterCounts.{RouterCounts}

@@ -4,7 +4,7 @@ use Rattle.ipx_carrier.specs.Counting.{counted}
 use Rattle.ipx_ethernet.specs.declared.encapsulation.Encapsulation.{Encapsulation}
 use Rattle.ipx_ethernet.specs.declared.encapsulation.Encapsulation.TheVariants.{Raw, Llc, Snap, EthernetII}
 use Rattle.ipx_ethernet.specs.declared.frame_counters.FrameCounters.{FrameCounters}
-use Rattle.ipx_hub.specs.Heard.{SwitchView}
+use Rattle.ipx_ethernet.specs.Heard.{SwitchView}
 
 -- the frames with a packet in an encapsulation other than the port's
 abbrev pub encapsulated_otherwise : FrameCounters → ℕ

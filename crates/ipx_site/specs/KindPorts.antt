@@ -3,7 +3,7 @@
 use Rattle.std.specs.Prelude.{◌≡◌, ℕ, List, [], ◌∷◌, ◌++◌, Option, length, map}
 use Rattle.std.specs.List.{flat_map}
 use Rattle.ipx_ethernet.specs.declared.ethernet_port.EthernetPort.{EthernetPort}
-use Rattle.ipx_hub.specs.Heard.{SwitchView, new_switch}
+use Rattle.ipx_ethernet.specs.Heard.{SwitchView, new_switch}
 use Rattle.ipx_carrier.specs.Turns.{peers_of}
 use Rattle.ipxnet_server.specs.ServerHears.{ServerView, joined_server}
 use Rattle.ipxnet_server.specs.declared.place.Place.{Place as ClientPlace}

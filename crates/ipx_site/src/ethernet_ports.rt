@@ -6,9 +6,8 @@ ghost use Rattle.ipx_ethernet_ports.specs.EthernetAddresses.{places_behind};
 
 use crate::bind_fault::{BindFault, bind_error};
 use crate::site::{EthernetPortConfig, PortConfig};
-use ipx_ethernet::EthernetPort;
+use ipx_ethernet::{EthernetPort, Switch};
 use ipx_ethernet_ports::{EthernetPorts, EthernetSockets, Place};
-use ipx_hub::Switch;
 use std::alloc::{AllocError, Global};
 use std::io::ErrorKind;
 use std::net::Net;

@@ -4,8 +4,7 @@ ghost use Rattle.std.specs.Prelude.{◌≡◌};
 ghost use Rattle.ipx_carrier.specs.Counting.{counted};
 ghost use Rattle.ipx_site.specs.EthernetTotals.{came_as, encapsulated_otherwise, encapsulated_otherwise_in, unframed_in};
 
-use ipx_ethernet::{Encapsulation, FrameCounters};
-use ipx_hub::Switch;
+use ipx_ethernet::{Encapsulation, FrameCounters, Switch};
 
 /// The number of the router's packets that no frame could carry. Saturates at the greatest u64.
 pub fn unframed(switches: &[Switch]) -> u64

@@ -5,9 +5,8 @@ ghost use Rattle.std.specs.Prelude.{◌≡◌};
 use crate::ethernet_totals::came_in;
 use crate::family::{Family, put_family, put_of_port, put_one};
 use crate::router_ports::{PortIndex, UdpRouterPorts};
-use ipx_ethernet::{Encapsulation, FrameCounters};
+use ipx_ethernet::{Encapsulation, FrameCounters, Switch};
 use ipx_ethernet_ports::EndSockets;
-use ipx_hub::Switch;
 use log::{Log, warn};
 use std::alloc::{AllocError, Global};
 

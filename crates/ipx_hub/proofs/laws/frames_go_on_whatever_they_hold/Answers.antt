@@ -1,8 +1,0 @@
-use Rattle.ipx_hub.proofs.Alike.{switch_alike, way_passing_alike}
-use Rattle.ipx_hub.proofs.laws.frames_go_on_whatever_they_hold.Goals as goal
-
-pub returns-clause-ends : goal.returns-clause-ends
-returns-clause-ends c = way_passing_alike
-
-pub returns-clause-switch : goal.returns-clause-switch
-returns-clause-switch c = switch_alike

@@ -1,8 +1,0 @@
-use Rattle.ipx_hub.proofs.Goes.{known_goes, unknown_goes}
-use Rattle.ipx_hub.proofs.laws.frames_go_where_they_are_for.Goals as goal
-
-pub returns-clause-unknown : goal.returns-clause-unknown
-returns-clause-unknown c = unknown_goes
-
-pub returns-clause-known : goal.returns-clause-known
-returns-clause-known c = known_goes

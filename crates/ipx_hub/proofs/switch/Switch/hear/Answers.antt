@@ -1,9 +1,0 @@
-use Rattle.std.proofs.Common.{ap, ◌∙◌}
-use Rattle.ipx_hub.specs.SwitchEnds.{is_way_to}
-use Rattle.ipx_hub.specs.declared.egress.Egress.{Egress}
-use Rattle.ipx_hub.proofs.Back.{never_back}
-use Rattle.ipx_hub.proofs.switch.Switch.hear.Goals as goal
-
-pub returns-clause-back : goal.returns-clause-back
-returns-clause-back c =
-    ap (λ (o : Egress). is_way_to o c.args.end) c.pass-onward.ensures.onward ∙ never_back c.pass-onward.new.self c.args.bytes.now c.args.end c.args.now

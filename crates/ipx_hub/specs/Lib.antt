@@ -1,2 +1,0 @@
-pub mod SwitchEnds
-pub mod Heard
