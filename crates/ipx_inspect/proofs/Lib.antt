@@ -9,3 +9,6 @@ pub mod Readings
 pub mod Outputs
 pub mod HopOutputs
 pub mod Written
+pub mod Shown
+pub mod Texts
+pub mod OneOutput

@@ -8,3 +8,5 @@ pub mod CheckLine
 pub mod Check
 pub mod CheckCounts
 pub mod Output
+pub mod ShownFrame
+pub mod FrameLine

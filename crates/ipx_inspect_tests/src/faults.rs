@@ -2,8 +2,7 @@
 
 use crate::texts::{CHECKED, FIELDS, FORWARD, FRAMES, HEARD, PACKET, STATION, VECTOR};
 use faulty_io::Failing;
-use ipx_inspect::{do_check, do_hop, do_show};
-use ipx_shown_frames::do_show_frames;
+use ipx_inspect::{do_check, do_hop, do_show, do_show_frames};
 use std::alloc::Global;
 
 /// Whether `hop` gives this answer and has written this text, if its reader fails after `left`

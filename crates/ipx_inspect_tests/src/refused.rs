@@ -2,8 +2,7 @@
 //! refused. The writer has its memory before.
 
 use crate::texts::{CHECKED, FIELDS, FORWARD, FRAMES, HEARD, NO_MEMORY, PACKET, STATION, VECTOR};
-use ipx_inspect::{do_check, do_hop, do_show};
-use ipx_shown_frames::do_show_frames;
+use ipx_inspect::{do_check, do_hop, do_show, do_show_frames};
 
 /// Whether the status fits what was written: the usual lines, or that memory ran out.
 fn is_told(answer: Result<u8, u8>, written: &[u8], lines: &str) -> bool {

@@ -1,3 +1,0 @@
-pub mod Shown
-pub mod Texts
-pub mod OneOutput

@@ -1,2 +1,0 @@
-pub mod ShownFrame
-pub mod FrameLine
