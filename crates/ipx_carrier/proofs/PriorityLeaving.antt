@@ -5,7 +5,7 @@ use Rattle.ipx_router.specs.declared.outcome.Reply.{Reply}
 use Rattle.ipx_router.specs.RouterPackets.{SendingView, sending_of, sendings}
 use Rattle.ipx_carrier.specs.Turns.{Given, GivesEach}
 use Rattle.ipx_carrier.specs.RouterQueues.{given_of}
-use Rattle.ipx_carrier.specs.PriorityRouterCore.{PriorityQueues, PriorityCoreView, ForwardedLeaveFirst, GivesNext, LeaveInOrder, Dequeues, PriorityGives, PriorityStartsAndTells, KeepsAllButQueues, max_originated_run, max_of_own, row_behind}
+use Rattle.ipx_carrier.specs.PriorityRouterCore.{PriorityQueues, PriorityCoreView, ForwardedLeaveFirst, GivesNext, LeaveInOrder, Dequeues, PriorityGives, PriorityStartsAndTells, KeepsAllButQueues, max_originated_run, max_of_own, run_after_forward}
 use Rattle.ipx_carrier.specs.PriorityQueued.{priority_queues}
 use Rattle.ipx_carrier.proofs.PriorityStaying.{all_once, keeps_on, keeps_rest, no_more_own, ready_once}
 
@@ -17,7 +17,7 @@ none_left [] ys e rest = refl
 none_left (x ∷ xs) ys e rest = absurd (omega (arith, ap length e, ap length rest))
 
 -- the first forwarded packet leaves
-pub forwarded_leaves : (w w' q : List Reply) (row row' : ℕ) (r : Reply) → w ≡ r ∷ w' → row' ≡ row_behind (sendings q) → Dequeues (priority_queues w q row) (Some (sending_of r)) (priority_queues w' q row')
+pub forwarded_leaves : (w w' q : List Reply) (row row' : ℕ) (r : Reply) → w ≡ r ∷ w' → row' ≡ run_after_forward (sendings q) → Dequeues (priority_queues w q row) (Some (sending_of r)) (priority_queues w' q row')
 forwarded_leaves w w' q row row' r e is =
     inl (ap sendings e, ap (λ n. priority_queues w' q n) is)
 
@@ -36,8 +36,8 @@ none_leaves q q' row row' e rest is =
     (refl, inl (ap sendings (none_left q q' e rest)), ap (λ (xs : List Reply). priority_queues [] xs row') (sym e) ∙ ap (λ n. priority_queues [] q n) is)
 
 -- its own leave if none is forwarded
-pub behind_none : (w w' q q' : List Reply) (row row' : ℕ) (leaving : Option SendingView) → w ≡ w' → w' ≡ drop 1 w → Dequeues (priority_queues [] q row) leaving (priority_queues [] q' row') → Dequeues (priority_queues w q row) leaving (priority_queues w' q' row')
-behind_none w w' q q' row row' leaving e rest h =
+pub after_none : (w w' q q' : List Reply) (row row' : ℕ) (leaving : Option SendingView) → w ≡ w' → w' ≡ drop 1 w → Dequeues (priority_queues [] q row) leaving (priority_queues [] q' row') → Dequeues (priority_queues w q row) leaving (priority_queues w' q' row')
+after_none w w' q q' row row' leaving e rest h =
     let none : w ≡ [] = none_left w w' e rest in
     subst (λ (xs : List Reply). Dequeues (priority_queues xs q row) leaving (priority_queues w' q' row')) (sym none)
     (subst (λ (xs : List Reply). Dequeues (priority_queues [] q row) leaving (priority_queues xs q' row')) (sym none ∙ e) h)
@@ -77,12 +77,12 @@ no_more own row new (inr most) is =
     let none : max_originated_run - row ≡ 0 = omega (arith, most) in
     (sym (ap (λ n. map given_of (take n own)) none), is ∙ sym (ap (λ n. all_of [] (drop n own) 0) none))
 
-same_row : (w own : List SendingView) → max_of_own w own (row_behind own) ≡ max_originated_run - row_behind own
+same_row : (w own : List SendingView) → max_of_own w own (run_after_forward own) ≡ max_originated_run - run_after_forward own
 same_row [] own = refl
 same_row (s ∷ w) own = refl
 
 -- a forwarded packet leaves
-one_forwarded_more : (p : Given) (ps : List Given) (s : SendingView) (w own : List SendingView) (row : ℕ) (new : PriorityQueues) → p ≡ given_of s → LeaveInOrder (all_of w own (row_behind own)) ps new → LeaveInOrder (all_of (s ∷ w) own row) (p ∷ ps) new
+one_forwarded_more : (p : Given) (ps : List Given) (s : SendingView) (w own : List SendingView) (row : ℕ) (new : PriorityQueues) → p ≡ given_of s → LeaveInOrder (all_of w own (run_after_forward own)) ps new → LeaveInOrder (all_of (s ∷ w) own row) (p ∷ ps) new
 one_forwarded_more p ps s w own row new is rest = (
   ap (λ (x : Given). x ∷ ps) is ∙ ap (λ (xs : List Given). given_of s ∷ xs) (rest.0 ∙ ap (λ n. map given_of (w ++ take n own)) (same_row w own)),
   rest.1 ∙ ap (λ n. all_of [] (drop n own) 0) (same_row w own),

@@ -8,22 +8,22 @@ use Rattle.ipx_router.specs.Knowledge.{Known, known_at, routes_in, services_in}
 use Rattle.ipx_router.specs.RouterPackets.{SendingView}
 use Rattle.ipx_router.specs.RouterView.{RouterView}
 use Rattle.ipx_router.specs.Starting.{AreStarts}
-use Rattle.ipx_router.specs.Telling.{AreTellings, is_due}
-use Rattle.ipx_carrier.specs.RouterQueues.{TellsNow, dropped_behind, max_queued, put_behind}
+use Rattle.ipx_router.specs.Telling.{AreAdvertisements, is_due}
+use Rattle.ipx_carrier.specs.RouterQueues.{TellsNow, dropped_if_full, max_queued, put_after}
 use Rattle.ipx_carrier.specs.PriorityRouterCore.{PriorityQueues, PriorityCoreView, HoldsTheSame, KeepsAllButQueues, Dequeues, PriorityStartsAndTells}
 
 -- ---- what is advertised, and when
 
 -- none is due at the time of an advertisement that was just sent
 told_by : (k : Known) (last told : Option ℕ) (now : ℕ) (sent : List SendingView) (due : Bool) → is_due last now ≡ due
-    → MatchBool due (AreTellings k.ports k.routes k.services now 1 k.ports sent × (told ≡ Some now)) ((sent ≡ []) × (told ≡ last)) → is_due told now ≡ false
+    → MatchBool due (AreAdvertisements k.ports k.routes k.services now 1 k.ports sent × (told ≡ Some now)) ((sent ≡ []) × (told ≡ last)) → is_due told now ≡ false
 told_by k last told now sent true e h =
     let same : now - now ≡ 0 = omega arith in
     ap (λ o. is_due o now) h.1 ∙ ap (λ n. nat_le 60000 n) same
 told_by k last told now sent false e h = ap (λ o. is_due o now) h.1 ∙ e
 
 none_told : (k : Known) (last told : Option ℕ) (now : ℕ) (sent : List SendingView) (due : Bool) → due ≡ false
-    → MatchBool due (AreTellings k.ports k.routes k.services now 1 k.ports sent × (told ≡ Some now)) ((sent ≡ []) × (told ≡ last)) → (sent ≡ []) × (told ≡ last)
+    → MatchBool due (AreAdvertisements k.ports k.routes k.services now 1 k.ports sent × (told ≡ Some now)) ((sent ≡ []) × (told ≡ last)) → (sent ≡ []) × (told ≡ last)
 none_told k last told now sent true e h = absurd (cc)
 none_told k last told now sent false e h = h
 
@@ -75,7 +75,7 @@ put_nothing_by : (b : Bool) (q : List SendingView) → cond b (q ++ []) q ≡ q
 put_nothing_by true q = append-nil q
 put_nothing_by false q = refl
 
-put_nothing : (q : List SendingView) → put_behind q [] ≡ q
+put_nothing : (q : List SendingView) → put_after q [] ≡ q
 put_nothing q = put_nothing_by (nat_le (length q + 0) max_queued) q
 
 -- a queue is within its limit, or what it dropped was counted
@@ -88,7 +88,7 @@ counted_by true q sent d e =
     inl (omega (arith, length-append q sent))
 counted_by false q sent d e = inr (grind (arith))
 
-is_counted : (q sent : List SendingView) (d : ℕ) → IsCounted (put_behind q sent) (dropped_behind q sent d)
+is_counted : (q sent : List SendingView) (d : ℕ) → IsCounted (put_after q sent) (dropped_if_full q sent d)
 is_counted q sent d = counted_by (nat_le (length q + length sent) max_queued) q sent d refl
 
 counted_fewer : (q q' : List SendingView) (d : ℕ) → length q' ≤ length q → IsCounted q d → IsCounted q' d
@@ -100,7 +100,7 @@ drops_nothing_by true q d e h = refl
 drops_nothing_by false q d e (inl few) = absurd (grind (arith))
 drops_nothing_by false q d e (inr less) = grind (arith)
 
-drops_nothing : (q : List SendingView) (d : ℕ) → IsCounted q d → dropped_behind q [] d ≡ d
+drops_nothing : (q : List SendingView) (d : ℕ) → IsCounted q d → dropped_if_full q [] d ≡ d
 drops_nothing q d h = drops_nothing_by (nat_le (length q + 0) max_queued) q d refl h
 
 -- ---- a core that started and advertised is asked again
@@ -122,10 +122,10 @@ puts_nothing now old ready mid again h m g =
 pub ready_once : (now : ℕ) (old ready mid again : PriorityCoreView) → PriorityStartsAndTells old now ready → mid ≡ record ready { queues = mid.queues } → PriorityStartsAndTells mid now again → again.queues ≡ mid.queues
 ready_once now old ready mid again h m g =
     let none = puts_nothing now old ready mid again h m g in
-    let own : put_behind (put_behind mid.queues.own g.0) g.1 ≡ mid.queues.own =
-    ap (λ (xs : List SendingView). put_behind (put_behind mid.queues.own xs) g.1) none.0
-    ∙ ap (λ (xs : List SendingView). put_behind (put_behind mid.queues.own []) xs) none.1
-    ∙ put_nothing (put_behind mid.queues.own []) ∙ put_nothing mid.queues.own in
+    let own : put_after (put_after mid.queues.own g.0) g.1 ≡ mid.queues.own =
+    ap (λ (xs : List SendingView). put_after (put_after mid.queues.own xs) g.1) none.0
+    ∙ ap (λ (xs : List SendingView). put_after (put_after mid.queues.own []) xs) none.1
+    ∙ put_nothing (put_after mid.queues.own []) ∙ put_nothing mid.queues.own in
     ap (λ (c : PriorityCoreView). c.queues) g.5 ∙ ap (λ (xs : List SendingView). record mid.queues { own = xs }) own
 
 -- what was dropped stays
@@ -134,15 +134,15 @@ dropped_once now old ready mid again h m g fewer =
     let none = puts_nothing now old ready mid again h m g in
     let q = mid.queues.own in
     let before : IsCounted ready.queues.own ready.dropped =
-    subst (λ (c : PriorityCoreView). IsCounted c.queues.own c.dropped) (sym h.5) (is_counted (put_behind old.queues.own h.0) h.1 (dropped_behind old.queues.own h.0 old.dropped)) in
+    subst (λ (c : PriorityCoreView). IsCounted c.queues.own c.dropped) (sym h.5) (is_counted (put_after old.queues.own h.0) h.1 (dropped_if_full old.queues.own h.0 old.dropped)) in
     let here : IsCounted q ready.dropped = counted_fewer ready.queues.own q ready.dropped fewer before in
     let counted : IsCounted q mid.dropped = subst (IsCounted q) (sym (ap (λ (c : PriorityCoreView). c.dropped) m)) here in
     let d = mid.dropped in
     ap (λ (c : PriorityCoreView). c.dropped) g.5
-    ∙ ap (λ (xs : List SendingView). dropped_behind (put_behind q xs) g.1 (dropped_behind q xs d)) none.0
-    ∙ ap (λ (xs : List SendingView). dropped_behind (put_behind q []) xs (dropped_behind q [] d)) none.1
-    ∙ ap (λ (xs : List SendingView). dropped_behind xs [] (dropped_behind q [] d)) (put_nothing q)
-    ∙ ap (dropped_behind q []) (drops_nothing q d counted) ∙ drops_nothing q d counted
+    ∙ ap (λ (xs : List SendingView). dropped_if_full (put_after q xs) g.1 (dropped_if_full q xs d)) none.0
+    ∙ ap (λ (xs : List SendingView). dropped_if_full (put_after q []) xs (dropped_if_full q [] d)) none.1
+    ∙ ap (λ (xs : List SendingView). dropped_if_full xs [] (dropped_if_full q [] d)) (put_nothing q)
+    ∙ ap (dropped_if_full q []) (drops_nothing q d counted) ∙ drops_nothing q d counted
 
 rest_same : (old new : PriorityCoreView) → new.started ≡ old.started → new.dropped ≡ old.dropped → new.outcomes ≡ old.outcomes → new ≡ record old { router = new.router; queues = new.queues }
 rest_same old new s d f =

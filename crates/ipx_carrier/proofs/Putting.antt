@@ -7,9 +7,9 @@ use Rattle.ipx_router.specs.declared.outcome.Reply.{Reply}
 use Rattle.ipx_router.specs.RouterPackets.{SendingView, sendings}
 use Rattle.ipx_carrier.specs.declared.outcome_counters.OutcomeCounters.{OutcomeCounters}
 use Rattle.ipx_carrier.specs.Turns.{Given}
-use Rattle.ipx_carrier.specs.RouterQueues.{AreGivable, CanBeSent, IsNotTold, one_forwarded, put_behind}
-use Rattle.ipx_carrier.specs.RouterCore.{CoreView, GivesFront, Leaves, RouterGives, TakesFirst, Withholds, put, put_answer}
-use Rattle.ipx_carrier.specs.Queued.{Puts, PutsAnswer, PutsStart, PutsTold}
+use Rattle.ipx_carrier.specs.RouterQueues.{AreGivable, CanBeSent, IsNotAdvertised, one_forwarded, put_after}
+use Rattle.ipx_carrier.specs.RouterCore.{CoreView, GivesFront, Leaves, RouterGives, TakesFirst, NextOutOfMemory, put, put_answer}
+use Rattle.ipx_carrier.specs.Queued.{Puts, PutsAnswer, PutsStart, PutsAdvertised}
 use Rattle.ipx_carrier.proofs.Givable.{IsGivableAnswer}
 use Rattle.ipx_carrier.proofs.Queueing.{IsKept, first_givable, kept_by_put, kept_rest, kept_same, put_both}
 
@@ -22,7 +22,7 @@ core_of f router queue started dropped =
 pub put_is : (f : OutcomeCounters) (sent q q' : List SendingView) (d d' : ℕ) (router : RouterView) (started : Bool) → Puts sent q d q' d' → core_of f router q' started d' ≡ put sent (core_of f router q started d)
 put_is f sent q q' d d' router started h =
     let p = put_both sent q q' d d' h in
-    ap (λ q. core_of f router q started d') p.0 ∙ ap (λ d. core_of f router (put_behind q sent) started d) p.1
+    ap (λ q. core_of f router q started d') p.0 ∙ ap (λ d. core_of f router (put_after q sent) started d) p.1
 
 both_same : (f : OutcomeCounters) (q q' : List SendingView) (d d' : ℕ) (router : RouterView) (started : Bool) → (q' ≡ q) × (d' ≡ d) → core_of f router q' started d' ≡ core_of f router q started d
 both_same f q q' d d' router started h = ap (λ q. core_of f router q started d') h.0 ∙ ap (λ d. core_of f router q started d) h.1
@@ -68,7 +68,7 @@ pub same_core : (f : OutcomeCounters) (router : RouterView) (q q' : List Reply) 
 same_core f router q q' started started' d d' h s =
     ap (λ (xs : List Reply). core_of f router (sendings xs) started' d') h.0 ∙ ap (λ d. core_of f router (sendings q) started' d) h.1 ∙ ap (λ s. core_of f router (sendings q) s d) s
 
-pub next_gives : (f : OutcomeCounters) (router router' : RouterView) (q q1 q2 q3 : List Reply) (started started' : Bool) (d d1 d2 now : ℕ) (given : Option Given) → PutsStart router started (sendings q) d (sendings q1) d1 → PutsTold router now router' (sendings q1) d1 (sendings q2) d2 → started' ≡ true → GivesFront (sendings q2) given (sendings q3) → RouterGives (core_of f router (sendings q) started d) now given (core_of f router' (sendings q3) started' d2)
+pub next_gives : (f : OutcomeCounters) (router router' : RouterView) (q q1 q2 q3 : List Reply) (started started' : Bool) (d d1 d2 now : ℕ) (given : Option Given) → PutsStart router started (sendings q) d (sendings q1) d1 → PutsAdvertised router now router' (sendings q1) d1 (sendings q2) d2 → started' ≡ true → GivesFront (sendings q2) given (sendings q3) → RouterGives (core_of f router (sendings q) started d) now given (core_of f router' (sendings q3) started' d2)
 next_gives f router router' q q1 q2 q3 started started' d d1 d2 now given h k s g =
     let new : CoreView = core_of f router' (sendings q3) started' d2 in
     let x : put k.0 (put h.0 (core_of f router' (sendings q) true d)) ≡ core_of f router' (sendings q2) true d2 =
@@ -76,12 +76,12 @@ next_gives f router router' q q1 q2 q3 started started' d d1 d2 now given h k s 
     let takes : TakesFirst (core_of f router' (sendings q2) true d2) given new = (g, ap (λ s. core_of f router' (sendings q3) s d2) s) in
     (core_of f router' (sendings q2) true d2, (h.0, k.0, router', h.1, k.1, sym x), takes)
 
-pub next_withholds : (f : OutcomeCounters) (router router' : RouterView) (q q1 q2 : List Reply) (started started' : Bool) (d d1 d2 now : ℕ) → PutsStart router started (sendings q) d (sendings q1) d1 → started' ≡ true → (q2 ≡ q1) × (d2 ≡ d1) → IsNotTold router now (sendings q1) router' → Withholds (core_of f router (sendings q) started d) now (core_of f router' (sendings q2) started' d2)
+pub next_withholds : (f : OutcomeCounters) (router router' : RouterView) (q q1 q2 : List Reply) (started started' : Bool) (d d1 d2 now : ℕ) → PutsStart router started (sendings q) d (sendings q1) d1 → started' ≡ true → (q2 ≡ q1) × (d2 ≡ d1) → IsNotAdvertised router now (sendings q1) router' → NextOutOfMemory (core_of f router (sendings q) started d) now (core_of f router' (sendings q2) started' d2)
 next_withholds f router router' q q1 q2 started started' d d1 d2 now h s same lost =
     inr (
       h.0,
       router',
       h.1,
       same_core f router' q1 q2 true started' d1 d2 same s ∙ put_is f h.0 (sendings q) (sendings q1) d d1 router' true h.2,
-      subst (λ (xs : List Reply). IsNotTold router now (sendings xs) router') (sym same.0) lost,
+      subst (λ (xs : List Reply). IsNotAdvertised router now (sendings xs) router') (sym same.0) lost,
     )

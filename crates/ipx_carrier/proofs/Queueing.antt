@@ -7,8 +7,8 @@ use borrow.Author.Tests.{leb-true}
 use Rattle.ipx_router.specs.RouterView.{RouterView}
 use Rattle.ipx_router.specs.declared.outcome.Reply.{Reply}
 use Rattle.ipx_router.specs.RouterPackets.{SendingView, sending_of, sendings}
-use Rattle.ipx_carrier.specs.Queued.{Puts, PutsStart, PutsTold}
-use Rattle.ipx_carrier.specs.RouterQueues.{AreGivable, CanBeSent, dropped_behind, max_queued, put_behind}
+use Rattle.ipx_carrier.specs.Queued.{Puts, PutsStart, PutsAdvertised}
+use Rattle.ipx_carrier.specs.RouterQueues.{AreGivable, CanBeSent, dropped_if_full, max_queued, put_after}
 
 -- ---- what was put
 
@@ -16,7 +16,7 @@ put_cases : (b : Bool) (sent q q' : List SendingView) (d d' : ℕ) → MatchBool
 put_cases true sent q q' d d' h = h
 put_cases false sent q q' d d' h = h
 
-pub put_both : (sent q q' : List SendingView) (d d' : ℕ) → Puts sent q d q' d' → (q' ≡ put_behind q sent) × (d' ≡ dropped_behind q sent d)
+pub put_both : (sent q q' : List SendingView) (d d' : ℕ) → Puts sent q d q' d' → (q' ≡ put_after q sent) × (d' ≡ dropped_if_full q sent d)
 put_both sent q q' d d' h = put_cases (nat_le (length q + length sent) max_queued) sent q q' d d' h
 
 -- ---- what a queue keeps
@@ -66,7 +66,7 @@ kept_rest n s items items' e kept = record {
   givable = All-tail (CanBeSent n) s (sendings items') (subst (AreGivable n) e kept.givable);
 }
 
-pub kept_next : (router router' : RouterView) (items items1 items2 : List Reply) (started : Bool) (d d1 d2 now : ℕ) → IsKept (length router.ports) items → PutsStart router started (sendings items) d (sendings items1) d1 → PutsTold router now router' (sendings items1) d1 (sendings items2) d2 → IsKept (length router.ports) items2
+pub kept_next : (router router' : RouterView) (items items1 items2 : List Reply) (started : Bool) (d d1 d2 now : ℕ) → IsKept (length router.ports) items → PutsStart router started (sendings items) d (sendings items1) d1 → PutsAdvertised router now router' (sendings items1) d1 (sendings items2) d2 → IsKept (length router.ports) items2
 kept_next router router' items items1 items2 started d d1 d2 now kept h k =
     let begun = kept_by_put (length router.ports) h.0 items items1 d d1 kept h.3 h.2 in
     kept_by_put (length router.ports) k.0 items1 items2 d1 d2 begun k.3 k.2

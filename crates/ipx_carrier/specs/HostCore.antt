@@ -1,12 +1,12 @@
 -- A host as a core: its endpoint receives datagrams, and gives packets when it is polled. The entry points
--- are `HostHears` and `HostGives`, and `Misses` for out of memory.
+-- are `HostHears` and `HostGives`, and `HearOutOfMemory` for out of memory.
 use Rattle.std.specs.Prelude.{◌≡◌, ◌≤◌, ℕ, List, Option, Some, None, length}
 use Rattle.ipx_wire.specs.Assigned.{spx_max_packet_size}
 use Rattle.ipx_wire.specs.declared.address.Node.{Node}
 use Rattle.spx_messages.specs.declared.arrived.Arrived.{Arrived}
 use Rattle.spx_messages.specs.Arrives.{Arrives, IsAcceptable, Unheard}
 use Rattle.spx_messages.specs.EndpointView.{EndpointView}
-use Rattle.spx_messages.specs.OneValue.{IsRoomStill}
+use Rattle.spx_messages.specs.OneValue.{IsBufferStill}
 use Rattle.spx_messages.specs.Polls.{Polls}
 use Rattle.ipx_carrier.specs.Turns.{Given}
 use Rattle.ipx_carrier.specs.GivenPackets.{given_in}
@@ -17,8 +17,8 @@ HostHears old bytes now new = (answer : Arrived) × Arrives old bytes now answer
 
 -- memory runs out only for a connection that would be accepted. Then only which link read the last datagram
 -- changes
-abbrev pub Misses : EndpointView → List ℕ → EndpointView → Type 0
-Misses old bytes new = IsAcceptable old bytes × Unheard old new × (new.said ≡ old.said)
+abbrev pub HearOutOfMemory : EndpointView → List ℕ → EndpointView → Type 0
+HearOutOfMemory old bytes new = IsAcceptable old bytes × Unheard old new × (new.said ≡ old.said)
 
 -- a host has one port, numbered 0
 abbrev pub at_port : Option (Node × ℕ) → Option (ℕ × Node × ℕ)
@@ -30,4 +30,4 @@ at_port (Some r) = Some (0, r.0, r.1)
 abbrev pub HostGives : EndpointView → ℕ → Option Given → EndpointView → Type 0
 HostGives old now given new = (polled : Option (Node × ℕ)) × (room written : List ℕ)
     × Polls old now polled room written new × (given ≡ given_in written (at_port polled))
-    × (spx_max_packet_size ≤ length room) × IsRoomStill room written
+    × (spx_max_packet_size ≤ length room) × IsBufferStill room written

@@ -1,6 +1,6 @@
 -- A router as a core that gives forwarded packets before its own. Each of the two has a queue of at most
 -- 16,384. Which packets leave is defined by this project. The entry points are `PriorityHears` and
--- `PriorityGives`, and `PriorityMisses` and `PriorityWithholds` for out of memory.
+-- `PriorityGives`, and `PriorityHearOutOfMemory` and `PriorityNextOutOfMemory` for out of memory.
 use Rattle.std.specs.Prelude.{◌≡◌, ◌<◌, ◌≤◌, ◌⊎◌, ℕ, ◌+◌, ◌-◌, Bool, true, false, List, [], ◌∷◌, ◌++◌, length, map, nat_lt, take, drop, Option, Some, None, option_map, if◌then◌else◌}
 use Rattle.ipx_router.specs.RouterView.{RouterView}
 use Rattle.ipx_router.specs.RouterPackets.{SendingView}
@@ -9,7 +9,7 @@ use Rattle.ipx_router.specs.Answer.{Receives}
 use Rattle.ipx_router.specs.Knowledge.{HoldsKnown, KeepsAllButOffers, known_in, tables}
 use Rattle.ipx_carrier.specs.declared.outcome_counters.OutcomeCounters.{OutcomeCounters}
 use Rattle.ipx_carrier.specs.OutcomeCounters.{outcome_counted}
-use Rattle.ipx_carrier.specs.RouterQueues.{AreFirst, IsNotTold, IsRoomFor, ReceivesInVain, TellsNow, dropped_behind, given_of, one_forwarded, put_behind}
+use Rattle.ipx_carrier.specs.RouterQueues.{AreFirst, IsNotAdvertised, IsSpaceFor, ReceivesInVain, TellsNow, dropped_if_full, given_of, one_forwarded, put_after}
 use Rattle.ipx_carrier.specs.Turns.{Given, GivesEach}
 
 -- the packets to send, in order
@@ -50,14 +50,14 @@ least_in_a_row = 2
 -- are all dropped and counted
 abbrev pub put_forwarded : List SendingView → PriorityCoreView → PriorityCoreView
 put_forwarded sent core = record core {
-  queues = record core.queues { forwarded = put_behind core.queues.forwarded sent };
-  dropped = dropped_behind core.queues.forwarded sent core.dropped;
+  queues = record core.queues { forwarded = put_after core.queues.forwarded sent };
+  dropped = dropped_if_full core.queues.forwarded sent core.dropped;
 }
 
 abbrev pub put_own : List SendingView → PriorityCoreView → PriorityCoreView
 put_own sent core = record core {
-  queues = record core.queues { own = put_behind core.queues.own sent };
-  dropped = dropped_behind core.queues.own sent core.dropped;
+  queues = record core.queues { own = put_after core.queues.own sent };
+  dropped = dropped_if_full core.queues.own sent core.dropped;
 }
 
 -- the packets of a router's answer go into their queue
@@ -75,15 +75,15 @@ PriorityHears old port bytes now new = (a : OutcomeView) × (router : RouterView
 
 -- how many of its own count as having left in a row once a forwarded packet leaves. If more than
 -- `few_waiting` wait, as many as leave only `least_in_a_row` to go; otherwise none
-abbrev pub row_behind : List SendingView → ℕ
-row_behind own = if nat_lt few_waiting (length own) then max_originated_run - least_in_a_row else 0
+abbrev pub run_after_forward : List SendingView → ℕ
+run_after_forward own = if nat_lt few_waiting (length own) then max_originated_run - least_in_a_row else 0
 
 -- which packet leaves next, and what waits then. It is the first forwarded packet. If there is none, it is
 -- the first of the router's own, unless the most in a row have left. Otherwise none leaves, and another row
 -- begins
 abbrev pub Dequeues : PriorityQueues → Option SendingView → PriorityQueues → Type 0
 Dequeues old (Some s) new = ((old.forwarded ≡ s ∷ new.forwarded)
-    × (new ≡ record old { forwarded = new.forwarded; originated_run = row_behind old.own }))
+    × (new ≡ record old { forwarded = new.forwarded; originated_run = run_after_forward old.own }))
     ⊎ ((old.forwarded ≡ []) × (old.own ≡ s ∷ new.own) × (old.originated_run < max_originated_run)
     × (new ≡ record old { own = new.own; originated_run = old.originated_run + 1 }))
 Dequeues old None new = (old.forwarded ≡ []) × ((old.own ≡ []) ⊎ (max_originated_run ≤ old.originated_run))
@@ -111,21 +111,21 @@ PriorityGives old now given new =
     (ready : PriorityCoreView) × PriorityStartsAndTells old now ready × TakesByPriority ready given new
 
 -- the packets of an answer fit into their queue
-abbrev pub IsRoomByPriority : List SendingView → List SendingView → OutcomeView → Type 0
-IsRoomByPriority forwarded own (Forward port next bytes) =
-    IsRoomFor forwarded (one_forwarded port next bytes)
-IsRoomByPriority forwarded own (Replies sent) = IsRoomFor own sent
-IsRoomByPriority forwarded own (Heard n) = ⊥
-IsRoomByPriority forwarded own (Dropped reason) = ⊥
+abbrev pub IsSpaceByPriority : List SendingView → List SendingView → OutcomeView → Type 0
+IsSpaceByPriority forwarded own (Forward port next bytes) =
+    IsSpaceFor forwarded (one_forwarded port next bytes)
+IsSpaceByPriority forwarded own (Replies sent) = IsSpaceFor own sent
+IsSpaceByPriority forwarded own (Heard n) = ⊥
+IsSpaceByPriority forwarded own (Dropped reason) = ⊥
 
 -- the router runs out of memory, or a queue does for the router's answer, which is lost
-abbrev pub PriorityMisses : PriorityCoreView → ℕ → List ℕ → ℕ → PriorityCoreView → Type 0
-PriorityMisses old port bytes now new = (router : RouterView)
+abbrev pub PriorityHearOutOfMemory : PriorityCoreView → ℕ → List ℕ → ℕ → PriorityCoreView → Type 0
+PriorityHearOutOfMemory old port bytes now new = (router : RouterView)
     × (((new ≡ record old { router = router })
     × ReceivesInVain old.router (port + 1) bytes now router)
     ⊎ ((a : OutcomeView) × (new ≡ record old { router = router; outcomes = outcome_counted a old.outcomes })
     × Receives old.router (port + 1) bytes now a router
-    × IsRoomByPriority old.queues.forwarded old.queues.own a))
+    × IsSpaceByPriority old.queues.forwarded old.queues.own a))
 
 -- memory runs out for the packets of the start, which are lost: the router is asked for them only once
 abbrev pub PriorityStartsInVain : PriorityCoreView → PriorityCoreView → Type 0
@@ -133,16 +133,16 @@ PriorityStartsInVain old new = (old.started ≡ false) × (new ≡ record old { 
 
 -- memory runs out for the packets of the start; or these are queued, and memory runs out for the
 -- advertisements
-abbrev pub PriorityWithholds : PriorityCoreView → ℕ → PriorityCoreView → Type 0
-PriorityWithholds old now new = PriorityStartsInVain old new
+abbrev pub PriorityNextOutOfMemory : PriorityCoreView → ℕ → PriorityCoreView → Type 0
+PriorityNextOutOfMemory old now new = PriorityStartsInVain old new
     ⊎ ((first : List SendingView) × (router : RouterView) × AreFirst old.started old.router first
     × (new ≡ put_own first (record old { router = router; started = true }))
-    × IsNotTold old.router now new.queues.own router)
+    × IsNotAdvertised old.router now new.queues.own router)
 
 -- how many of its own may leave once no forwarded packet waits any more
 abbrev pub max_of_own : List SendingView → List SendingView → ℕ → ℕ
 max_of_own [] own originated_run = max_originated_run - originated_run
-max_of_own (s ∷ forwarded) own originated_run = max_originated_run - row_behind own
+max_of_own (s ∷ forwarded) own originated_run = max_originated_run - run_after_forward own
 
 -- all forwarded packets leave, in order, then this many of its own; the others still wait
 abbrev pub LeaveInOrder : PriorityQueues → List Given → PriorityQueues → Type 0

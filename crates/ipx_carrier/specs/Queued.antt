@@ -32,8 +32,8 @@ PutsStart router started queue dropped queue_after dropped_after = (sent : List 
     × AreGivable (length router.ports) sent
 
 -- a router's advertisements were put into the queue
-abbrev pub PutsTold : RouterView → ℕ → RouterView → List SendingView → ℕ → List SendingView → ℕ
+abbrev pub PutsAdvertised : RouterView → ℕ → RouterView → List SendingView → ℕ → List SendingView → ℕ
     → Type 0
-PutsTold old now new queue dropped queue_after dropped_after = (sent : List SendingView)
+PutsAdvertised old now new queue dropped queue_after dropped_after = (sent : List SendingView)
     × TellsNow old now sent new × Puts sent queue dropped queue_after dropped_after
     × AreGivable (length old.ports) sent

@@ -33,6 +33,6 @@ AsksMarked port came old new faults faults_after = (failed : ℕ)
 
 -- whether something came to a port that filters: it is returned, or else counted as filtered. If nothing came
 -- it is neither
-abbrev pub IsKeptOrAnswer : Bool → Bool → ℕ → ℕ → Type 0
-IsKeptOrAnswer true answered kept kept_after = kept_after ≡ (if answered then kept else raised kept)
-IsKeptOrAnswer false answered kept kept_after = (answered ≡ false) × (kept_after ≡ kept)
+abbrev pub IsFilteredOrAnswer : Bool → Bool → ℕ → ℕ → Type 0
+IsFilteredOrAnswer true answered kept kept_after = kept_after ≡ (if answered then kept else raised kept)
+IsFilteredOrAnswer false answered kept kept_after = (answered ≡ false) × (kept_after ≡ kept)

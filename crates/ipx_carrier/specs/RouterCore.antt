@@ -1,5 +1,5 @@
 -- A router as a core: it receives datagrams and gives packets through one queue of at most 16,384, first in,
--- first out. The entry points are `RouterHears` and `RouterGives`, and `Misses` and `Withholds` for out of
+-- first out. The entry points are `RouterHears` and `RouterGives`, and `HearOutOfMemory` and `NextOutOfMemory` for out of
 -- memory.
 use Rattle.std.specs.Prelude.{◌≡◌, ◌⊎◌, ℕ, ◌+◌, Bool, true, false, List, [], ◌∷◌, Option, Some, None, option_map}
 use Rattle.ipx_router.specs.RouterView.{RouterView}
@@ -8,7 +8,7 @@ use Rattle.ipx_router.specs.OutcomeView.{OutcomeView, Forward, Replies, Heard, D
 use Rattle.ipx_router.specs.Answer.{Receives}
 use Rattle.ipx_carrier.specs.declared.outcome_counters.OutcomeCounters.{OutcomeCounters}
 use Rattle.ipx_carrier.specs.OutcomeCounters.{outcome_counted}
-use Rattle.ipx_carrier.specs.RouterQueues.{AreFirst, IsNotTold, IsRoomFor, ReceivesInVain, TellsNow, dropped_behind, given_of, one_forwarded, put_behind}
+use Rattle.ipx_carrier.specs.RouterQueues.{AreFirst, IsNotAdvertised, IsSpaceFor, ReceivesInVain, TellsNow, dropped_if_full, given_of, one_forwarded, put_after}
 use Rattle.ipx_carrier.specs.Turns.{Given}
 
 pub record CoreView : Type 0 where
@@ -25,8 +25,8 @@ pub record CoreView : Type 0 where
 -- packets go into the queue; if they don't fit they are all dropped and counted
 abbrev pub put : List SendingView → CoreView → CoreView
 put sent core = record core {
-  queue = put_behind core.queue sent;
-  dropped = dropped_behind core.queue sent core.dropped;
+  queue = put_after core.queue sent;
+  dropped = dropped_if_full core.queue sent core.dropped;
 }
 
 -- the packets of a router's answer go into the queue
@@ -69,19 +69,19 @@ RouterGives old now given new =
     (ready : CoreView) × StartsAndTells old now ready × TakesFirst ready given new
 
 -- the packets of an answer fit into the queue
-abbrev pub IsRoomForAnswer : List SendingView → OutcomeView → Type 0
-IsRoomForAnswer queue (Forward port next bytes) = IsRoomFor queue (one_forwarded port next bytes)
-IsRoomForAnswer queue (Replies sent) = IsRoomFor queue sent
-IsRoomForAnswer queue (Heard n) = ⊥
-IsRoomForAnswer queue (Dropped reason) = ⊥
+abbrev pub IsSpaceForAnswer : List SendingView → OutcomeView → Type 0
+IsSpaceForAnswer queue (Forward port next bytes) = IsSpaceFor queue (one_forwarded port next bytes)
+IsSpaceForAnswer queue (Replies sent) = IsSpaceFor queue sent
+IsSpaceForAnswer queue (Heard n) = ⊥
+IsSpaceForAnswer queue (Dropped reason) = ⊥
 
 -- the router runs out of memory, or the queue does for the router's answer, which is lost
-abbrev pub Misses : CoreView → ℕ → List ℕ → ℕ → CoreView → Type 0
-Misses old port bytes now new = (router : RouterView)
+abbrev pub HearOutOfMemory : CoreView → ℕ → List ℕ → ℕ → CoreView → Type 0
+HearOutOfMemory old port bytes now new = (router : RouterView)
     × (((new ≡ record old { router = router })
     × ReceivesInVain old.router (port + 1) bytes now router)
     ⊎ ((a : OutcomeView) × (new ≡ record old { router = router; outcomes = outcome_counted a old.outcomes })
-    × Receives old.router (port + 1) bytes now a router × IsRoomForAnswer old.queue a))
+    × Receives old.router (port + 1) bytes now a router × IsSpaceForAnswer old.queue a))
 
 -- memory runs out for the packets of the start, which are lost: the router is asked for them only once
 abbrev pub StartsInVain : CoreView → CoreView → Type 0
@@ -89,8 +89,8 @@ StartsInVain old new = (old.started ≡ false) × (new ≡ record old { started 
 
 -- memory runs out for the packets of the start; or these are queued, and memory runs out for the
 -- advertisements
-abbrev pub Withholds : CoreView → ℕ → CoreView → Type 0
-Withholds old now new = StartsInVain old new
+abbrev pub NextOutOfMemory : CoreView → ℕ → CoreView → Type 0
+NextOutOfMemory old now new = StartsInVain old new
     ⊎ ((first : List SendingView) × (router : RouterView) × AreFirst old.started old.router first
     × (new ≡ put first (record old { router = router; started = true }))
-    × IsNotTold old.router now new.queue router)
+    × IsNotAdvertised old.router now new.queue router)

@@ -5,7 +5,7 @@ use Rattle.ipx_wire.specs.declared.address.Node.{Node}
 use Rattle.ipx_router.specs.RouterView.{RouterView}
 use Rattle.ipx_router.specs.RouterPackets.{SendingView}
 use Rattle.ipx_router.specs.Ports.{IsPortNumber}
-use Rattle.ipx_router.specs.WantOfMemory.{WantsMemory}
+use Rattle.ipx_router.specs.OutOfMemoryCases.{RunsOutOfMemory}
 use Rattle.ipx_router.specs.Starting.{AreStarts}
 use Rattle.ipx_router.specs.Knowledge.{HoldsKnown, KeepsAllButOffers, known_at, tables}
 use Rattle.ipx_router.specs.Telling as telling
@@ -17,13 +17,13 @@ abbrev pub max_queued : ℕ
 max_queued = 16384
 
 -- packets go after those that wait, if all of them fit; otherwise none does
-abbrev pub put_behind : List SendingView → List SendingView → List SendingView
-put_behind queue sent =
+abbrev pub put_after : List SendingView → List SendingView → List SendingView
+put_after queue sent =
     if nat_le (length queue + length sent) max_queued then queue ++ sent else queue
 
 -- packets that don't fit are counted as dropped, up to the greatest of 64 bits
-abbrev pub dropped_behind : List SendingView → List SendingView → ℕ → ℕ
-dropped_behind queue sent dropped =
+abbrev pub dropped_if_full : List SendingView → List SendingView → ℕ → ℕ
+dropped_if_full queue sent dropped =
     if nat_le (length queue + length sent) max_queued
     then dropped
     else counted (dropped + length sent)
@@ -55,13 +55,13 @@ TellsNow old now sent new = telling.TellsIfDue (known_at old now) old.told now s
 -- ---- out of memory
 
 -- there are packets to put into a queue, and all of them fit
-abbrev pub IsRoomFor : List SendingView → List SendingView → Type 0
-IsRoomFor queue sent = (0 < length sent) × (length queue + length sent ≤ max_queued)
+abbrev pub IsSpaceFor : List SendingView → List SendingView → Type 0
+IsSpaceFor queue sent = (0 < length sent) × (length queue + length sent ≤ max_queued)
 
 -- a router runs out of memory for what it receives
 abbrev pub ReceivesInVain : RouterView → ℕ → List ℕ → ℕ → RouterView → Type 0
 ReceivesInVain old port bytes now new =
-    WantsMemory old port bytes now new × KeepsAllButOffers old new × (new.told ≡ old.told)
+    RunsOutOfMemory old port bytes now new × KeepsAllButOffers old new × (new.told ≡ old.told)
 
 -- a router runs out of memory as it is to advertise, and the advertisement is still due
 abbrev pub TellsInVain : RouterView → ℕ → RouterView → Type 0
@@ -70,6 +70,6 @@ TellsInVain old now new = (telling.is_due old.told now ≡ true)
     × HoldsKnown (known_at old now) (tables new) × KeepsAllButOffers old new
 
 -- the same, or the queue runs out of memory for the advertisements, which are lost
-abbrev pub IsNotTold : RouterView → ℕ → List SendingView → RouterView → Type 0
-IsNotTold old now queue new = TellsInVain old now new
-    ⊎ ((told : List SendingView) × TellsNow old now told new × IsRoomFor queue told)
+abbrev pub IsNotAdvertised : RouterView → ℕ → List SendingView → RouterView → Type 0
+IsNotAdvertised old now queue new = TellsInVain old now new
+    ⊎ ((told : List SendingView) × TellsNow old now told new × IsSpaceFor queue told)

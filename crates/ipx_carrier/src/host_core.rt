@@ -42,7 +42,7 @@ impl HostCore {
 }
 
 impl Core for HostCore {
-    ghost use Rattle.ipx_carrier.specs.HostCore.{HostGives, HostHears, Misses};
+    ghost use Rattle.ipx_carrier.specs.HostCore.{HostGives, HostHears, HearOutOfMemory};
 
     ghost port_count = { λ c. 1 };
 
@@ -50,7 +50,7 @@ impl Core for HostCore {
 
     ghost gives = { λ old now given new. HostGives old.endpoint now given new.endpoint };
 
-    ghost hear_out_of_memory = { λ old port bytes now new. Misses old.endpoint bytes new.endpoint };
+    ghost hear_out_of_memory = { λ old port bytes now new. HearOutOfMemory old.endpoint bytes new.endpoint };
 
     ghost next_out_of_memory = { λ old now new. ⊥ };
 

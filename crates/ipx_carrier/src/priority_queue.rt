@@ -5,7 +5,7 @@ ghost use Rattle.ipx_router.specs.RouterPackets.{sending_of, sendings};
 ghost use Rattle.ipx_router.specs.OutcomeView.{router_outcome};
 ghost use Rattle.ipx_carrier.specs.GivenPackets.{given_in};
 ghost use Rattle.ipx_carrier.specs.PriorityQueued.{PutsByPriority, priority_queues};
-ghost use Rattle.ipx_carrier.specs.PriorityRouterCore.{GivesNext, IsRoomByPriority, Dequeues, row_behind};
+ghost use Rattle.ipx_carrier.specs.PriorityRouterCore.{GivesNext, IsSpaceByPriority, Dequeues, run_after_forward};
 ghost use Rattle.ipx_carrier.specs.RouterQueues.{AreGivable, max_queued};
 
 use crate::queue::{enqueue_all, enqueue_one, write_to};
@@ -36,7 +36,7 @@ pub fn put_outcome(
         (sendings forwarded.new.items) (sendings own.new.items) dropped.new) }
     ensures refused { OnErr result ((forwarded.new.items ≡ forwarded.old.items)
         × (own.new.items ≡ own.old.items) × (dropped.new ≡ dropped.old)) }
-    ensures lost { OnErr result (IsRoomByPriority
+    ensures lost { OnErr result (IsSpaceByPriority
         (sendings forwarded.old.items) (sendings own.old.items) (router_outcome outcome)) }
 {
     match outcome {
@@ -64,8 +64,8 @@ fn take_own(own: &mut VecDeque<Reply>, originated_run: &mut u32) -> Option<Reply
 
 /// How many of the router's own packets count as having left in a row, once a forwarded packet
 /// leaves.
-fn row_behind(own: &VecDeque<Reply>) -> u32
-    ensures { result ≡ row_behind (sendings own.now.items) }
+fn run_after_forward(own: &VecDeque<Reply>) -> u32
+    ensures { result ≡ run_after_forward (sendings own.now.items) }
 {
     if own.len() > FEW_WAITING {
         MAX_ORIGINATED_RUN - LEAST_IN_A_ROW
@@ -87,7 +87,7 @@ fn take_next(
     let Some(reply) = forwarded.pop_front() else {
         return take_own(own, originated_run);
     };
-    *originated_run = row_behind(own);
+    *originated_run = run_after_forward(own);
     Some(reply)
 }
 

@@ -129,7 +129,7 @@ pub fn forwarded_packets_leave_first()
 
 impl Core for PriorityRouterCore {
     ghost use Rattle.std.specs.Prelude.{length};
-    ghost use Rattle.ipx_carrier.specs.PriorityRouterCore.{PriorityGives, PriorityHears, PriorityMisses, PriorityWithholds};
+    ghost use Rattle.ipx_carrier.specs.PriorityRouterCore.{PriorityGives, PriorityHears, PriorityHearOutOfMemory, PriorityNextOutOfMemory};
 
     ghost port_count = { λ c. length c.router.ports };
 
@@ -137,9 +137,9 @@ impl Core for PriorityRouterCore {
 
     ghost gives = { PriorityGives };
 
-    ghost hear_out_of_memory = { PriorityMisses };
+    ghost hear_out_of_memory = { PriorityHearOutOfMemory };
 
-    ghost next_out_of_memory = { PriorityWithholds };
+    ghost next_out_of_memory = { PriorityNextOutOfMemory };
 
     fn ports(&self) -> usize {
         self.router.ports().len()

@@ -4,9 +4,9 @@ ghost use Rattle.std.specs.Prelude.{◌≡◌, ℕ, ◌<◌, ◌≤◌, ◌∷�
 ghost use Rattle.ipx_router.specs.RouterPackets.{sending_of, sendings};
 ghost use Rattle.ipx_router.specs.OutcomeView.{router_outcome};
 ghost use Rattle.ipx_carrier.specs.GivenPackets.{given_in};
-ghost use Rattle.ipx_carrier.specs.Queued.{Puts, PutsAnswer, PutsStart, PutsTold};
-ghost use Rattle.ipx_carrier.specs.RouterCore.{GivesFront, IsRoomForAnswer};
-ghost use Rattle.ipx_carrier.specs.RouterQueues.{AreGivable, CanBeSent, IsNotTold, IsRoomFor, given_of, max_queued};
+ghost use Rattle.ipx_carrier.specs.Queued.{Puts, PutsAnswer, PutsStart, PutsAdvertised};
+ghost use Rattle.ipx_carrier.specs.RouterCore.{GivesFront, IsSpaceForAnswer};
+ghost use Rattle.ipx_carrier.specs.RouterQueues.{AreGivable, CanBeSent, IsNotAdvertised, IsSpaceFor, given_of, max_queued};
 
 use crate::counting::saturating_increment;
 use ipx_router::{Outcome, Reply, Router};
@@ -29,7 +29,7 @@ pub fn enqueue_all(
     ensures refused { OnErr result
         ((queue.new.items ≡ queue.old.items) × (dropped.new ≡ dropped.old)) }
     ensures lost { OnErr result
-        (IsRoomFor (sendings queue.old.items) (sendings replies.items)) }
+        (IsSpaceFor (sendings queue.old.items) (sendings replies.items)) }
 {
     if replies.is_empty() {
         return Ok(());
@@ -54,7 +54,7 @@ pub fn enqueue_one(
     ensures refused { OnErr result
         ((queue.new.items ≡ queue.old.items) × (dropped.new ≡ dropped.old)) }
     ensures lost { OnErr result
-        (IsRoomFor (sendings queue.old.items) (sendings (reply ∷ []))) }
+        (IsSpaceFor (sendings queue.old.items) (sendings (reply ∷ []))) }
 {
     if queue.len() >= MAX_QUEUED {
         saturating_increment(dropped);
@@ -76,7 +76,7 @@ pub fn put_outcome(
     ensures refused { OnErr result
         ((queue.new.items ≡ queue.old.items) × (dropped.new ≡ dropped.old)) }
     ensures lost { OnErr result
-        (IsRoomForAnswer (sendings queue.old.items) (router_outcome outcome)) }
+        (IsSpaceForAnswer (sendings queue.old.items) (router_outcome outcome)) }
 {
     match outcome {
         Outcome::Forward(reply) => enqueue_one(queue, dropped, reply),
@@ -118,13 +118,13 @@ pub fn enqueue_advertisements(
     dropped: &mut u64,
 ) -> Result<(), OutOfMemory>
     requires { length queue.old.items ≤ max_queued }
-    ensures put { OnOk result (PutsTold router.old now router.new
+    ensures put { OnOk result (PutsAdvertised router.old now router.new
         (sendings queue.old.items) dropped.old (sendings queue.new.items) dropped.new) }
     ensures ports { router.new.ports ≡ router.old.ports }
     ensures refused { OnErr result
         ((queue.new.items ≡ queue.old.items) × (dropped.new ≡ dropped.old)) }
     ensures lost { OnErr result
-        (IsNotTold router.old now (sendings queue.old.items) router.new) }
+        (IsNotAdvertised router.old now (sendings queue.old.items) router.new) }
 {
     let told = router.tell(alloc, now)?;
     enqueue_all(queue, dropped, told)

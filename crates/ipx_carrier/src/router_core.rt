@@ -98,7 +98,7 @@ impl RouterCore {
 
 impl Core for RouterCore {
     ghost use Rattle.std.specs.Prelude.{length};
-    ghost use Rattle.ipx_carrier.specs.RouterCore.{RouterGives, RouterHears, Misses, Withholds};
+    ghost use Rattle.ipx_carrier.specs.RouterCore.{RouterGives, RouterHears, HearOutOfMemory, NextOutOfMemory};
 
     ghost port_count = { λ c. length c.router.ports };
 
@@ -106,9 +106,9 @@ impl Core for RouterCore {
 
     ghost gives = { RouterGives };
 
-    ghost hear_out_of_memory = { Misses };
+    ghost hear_out_of_memory = { HearOutOfMemory };
 
-    ghost next_out_of_memory = { Withholds };
+    ghost next_out_of_memory = { NextOutOfMemory };
 
     fn ports(&self) -> usize {
         self.router.ports().len()

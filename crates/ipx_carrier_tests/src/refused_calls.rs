@@ -149,11 +149,7 @@ fn refused_hear_of_a_request_by_priority(rt: HostRuntime) -> Result<(), Fail> {
 }
 
 /// If memory runs out for the packets of the start, a forwarded packet still leaves.
-fn leaves_behind_refused<C: Core>(
-    rt: &impl Abort,
-    alloc: Global,
-    core: &mut C,
-) -> Result<(), Fail> {
+fn leaves_after_refused<C: Core>(rt: &impl Abort, alloc: Global, core: &mut C) -> Result<(), Fail> {
     let bytes = bytes_at_last(alloc, ONWARD)?;
     if hear(alloc, core, &bytes).is_err() {
         hear(alloc, core, &bytes)?;
@@ -163,13 +159,13 @@ fn leaves_behind_refused<C: Core>(
 }
 
 #[test]
-fn refused_next_behind_what_is_forwarded(rt: HostRuntime) -> Result<(), Fail> {
+fn refused_next_after_what_is_forwarded(rt: HostRuntime) -> Result<(), Fail> {
     let mut core = core_at_last(rt.alloc())?;
-    leaves_behind_refused(&rt, rt.alloc(), &mut core)
+    leaves_after_refused(&rt, rt.alloc(), &mut core)
 }
 
 #[test]
-fn refused_next_behind_what_is_forwarded_first(rt: HostRuntime) -> Result<(), Fail> {
+fn refused_next_after_what_is_forwarded_first(rt: HostRuntime) -> Result<(), Fail> {
     let mut core = priority_core_at_last(rt.alloc())?;
-    leaves_behind_refused(&rt, rt.alloc(), &mut core)
+    leaves_after_refused(&rt, rt.alloc(), &mut core)
 }

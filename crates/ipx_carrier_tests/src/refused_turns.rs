@@ -112,7 +112,7 @@ fn all_wanted(alloc: Global, texts: &[&str]) -> Result<Vec<Wanted>, Fail> {
     Ok(all)
 }
 
-fn is_wanted(sent: &SentDatagram, wanted: &Wanted) -> bool {
+fn is_awaited(sent: &SentDatagram, wanted: &Wanted) -> bool {
     let here = sent.port == wanted.port as usize && sent.to == [127, 0, 0, wanted.last];
     here && sent.bytes.as_slice() == wanted.bytes.as_slice()
 }
@@ -122,7 +122,11 @@ fn are_all_but(sent: &[SentDatagram], wanted: &[Wanted], from: usize, count: usi
     let mut rest = sent.iter();
     for (place, one) in wanted.iter().enumerate() {
         let is_left_out = place >= from && place - from < count;
-        if !is_left_out && !rest.next().is_some_and(|datagram| is_wanted(datagram, one)) {
+        if !is_left_out
+            && !rest
+                .next()
+                .is_some_and(|datagram| is_awaited(datagram, one))
+        {
             return false;
         }
     }

@@ -1,7 +1,7 @@
 -- Frames with the same addresses are forwarded alike, and leave the switch the same.
 use Rattle.std.proofs.Common.{◌≡◌, ℕ, List, true, length, take, drop, refl, sym, ap, ◌∙◌, arith}
 use Rattle.std.proofs.lemmas.List.{drop-take, take-take}
-use Rattle.ipx_ethernet.specs.Heard.{SwitchView, switch_passing, may_pass, way_behind}
+use Rattle.ipx_ethernet.specs.Heard.{SwitchView, switch_passing, may_pass, way_after}
 
 -- the addresses are the first twelve bytes
 to_in : (bytes : List ℕ) → take 6 bytes ≡ take 6 (take 12 bytes)
@@ -22,11 +22,11 @@ switch_alike h bytes other end now same one two =
     rw (one, two, to_alike bytes other same, from_alike bytes other same) refl
 
 way_alike : (h : SwitchView) (bytes other : List ℕ) (end now : ℕ) → take 12 bytes ≡ take 12 other → may_pass (length bytes) ≡ true → may_pass (length other) ≡ true
-    → way_behind h bytes end now ≡ way_behind h other end now
+    → way_after h bytes end now ≡ way_after h other end now
 way_alike h bytes other end now same one two =
     rw (one, two, to_alike bytes other same, from_alike bytes other same) refl
 
 pub way_passing_alike : (h : SwitchView) (bytes other : List ℕ) (end now : ℕ) → take 12 bytes ≡ take 12 other → may_pass (length bytes) ≡ true → may_pass (length other) ≡ true
-    → way_behind (switch_passing h bytes end now) bytes end now ≡ way_behind (switch_passing h other end now) other end now
+    → way_after (switch_passing h bytes end now) bytes end now ≡ way_after (switch_passing h other end now) other end now
 way_passing_alike h bytes other end now same one two =
-    way_alike (switch_passing h bytes end now) bytes other end now same one two ∙ ap (λ (g : SwitchView). way_behind g other end now) (switch_alike h bytes other end now same one two)
+    way_alike (switch_passing h bytes end now) bytes other end now same one two ∙ ap (λ (g : SwitchView). way_after g other end now) (switch_alike h bytes other end now same one two)

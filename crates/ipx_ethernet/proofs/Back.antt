@@ -7,7 +7,7 @@ use Rattle.ipx_ethernet.specs.declared.egress.Egress.{Egress}
 use Rattle.ipx_ethernet.specs.declared.egress.Egress.TheVariants.{Nowhere, ToOne}
 use Rattle.ipx_ethernet.specs.declared.mac_table.Station.{Station}
 use Rattle.ipx_ethernet.specs.SwitchEnds.{end_of_station, is_way_to, way_past}
-use Rattle.ipx_ethernet.specs.Heard.{SwitchView, may_pass, station_from, station_to, way_behind, way_between, way_joined}
+use Rattle.ipx_ethernet.specs.Heard.{SwitchView, may_pass, station_from, station_to, way_after, way_between, way_joined}
 
 -- a choice of two egresses that do not lead to a remote
 neither : (b : Bool) (o p : Egress) (end : ℕ) → is_way_to o end ≡ false → is_way_to p end ≡ false → is_way_to (if b then o else p) end ≡ false
@@ -33,6 +33,6 @@ joined own bytes end now known =
     let way = way_between own (station_to bytes) (station_from bytes) end (end_of_station (station_to bytes) now known) in
     neither (may_pass (length bytes)) way Nowhere end (forwarding_decision own bytes end now known) refl
 
-pub never_back : (h : SwitchView) (bytes : List ℕ) (end now : ℕ) → is_way_to (way_behind h bytes end now) end ≡ false
+pub never_back : (h : SwitchView) (bytes : List ℕ) (end now : ℕ) → is_way_to (way_after h bytes end now) end ≡ false
 never_back h bytes end now =
     neither h.joined (way_joined h.port.own bytes end now h.stations) Nowhere end (joined h.port.own bytes end now h.stations) refl

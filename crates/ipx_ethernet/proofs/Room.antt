@@ -10,6 +10,6 @@ last_with xs s =
     let n = length xs + 1 - max_stations in
     sym (drop-append-le n xs (s ∷ []) (omega arith)) ∙ ap (λ (i : ℕ). drop (i - max_stations) (xs ++ s ∷ [])) (sym (length-append xs (s ∷ [])))
 
-pub behind_all : (xs : List Station) (s : Station) → take (length xs) xs ++ s ∷ drop (length xs) xs ≡ xs ++ s ∷ []
-behind_all [] s = refl
-behind_all (x ∷ xs) s = ap (λ (l : List Station). x ∷ l) (behind_all xs s)
+pub after_all : (xs : List Station) (s : Station) → take (length xs) xs ++ s ∷ drop (length xs) xs ≡ xs ++ s ∷ []
+after_all [] s = refl
+after_all (x ∷ xs) s = ap (λ (l : List Station). x ∷ l) (after_all xs s)

@@ -47,20 +47,20 @@ abbrev pub station_from : List ℕ → Node
 station_from bytes = node_of (take 6 (drop 6 bytes))
 
 -- an address that a station at a remote may have: not a group, not zero, and not the port's own
-abbrev pub may_be_behind : Node → Node → Bool
-may_be_behind own node =
+abbrev pub may_be_station : Node → Node → Bool
+may_be_station own node =
     not (is_group node.0 || bytes_eq node.0 (replicate 6 0) || bytes_eq node.0 own.0)
 
 -- which stations are known after one sent a frame from a remote
 abbrev pub stations_from : Node → Node → ℕ → ℕ → List Station → List Station
 stations_from own from end now known =
-    if may_be_behind own from
+    if may_be_station own from
     then stations_with (record { node = from; end = end; moment = now }) known
     else known
 
 -- the same for bytes
-abbrev pub stations_behind : Node → List ℕ → ℕ → ℕ → List Station → List Station
-stations_behind own bytes end now known =
+abbrev pub stations_after : Node → List ℕ → ℕ → ℕ → List Station → List Station
+stations_after own bytes end now known =
     if may_pass (length bytes) then stations_from own (station_from bytes) end now known else known
 
 -- where a frame is forwarded, by where its destination is known. The port's own frame, which came back, and
@@ -77,8 +77,8 @@ way_joined own bytes end now known =
     (end_of_station (station_to bytes) now known)
     else Nowhere
 
-abbrev pub way_behind : SwitchView → List ℕ → ℕ → ℕ → Egress
-way_behind h bytes end now =
+abbrev pub way_after : SwitchView → List ℕ → ℕ → ℕ → Egress
+way_after h bytes end now =
     if h.joined then way_joined h.port.own bytes end now h.stations else Nowhere
 
 -- where the port's own frame to a node is sent: to each remote if it is for a group. Otherwise to the remote
@@ -97,12 +97,12 @@ passed_with (ToOthers giver) n = frames_raised n
 -- the source address is known, if a station may have it
 abbrev pub switch_knowing : SwitchView → List ℕ → ℕ → ℕ → SwitchView
 switch_knowing h bytes end now =
-    record h { stations = stations_behind h.port.own bytes end now h.stations }
+    record h { stations = stations_after h.port.own bytes end now h.stations }
 
 -- the switch after a frame from a remote: its source is known, and it is counted if it is to be forwarded
 abbrev pub switch_passing : SwitchView → List ℕ → ℕ → ℕ → SwitchView
 switch_passing h bytes end now = record (switch_knowing h bytes end now) {
-  passed = passed_with (way_behind (switch_knowing h bytes end now) bytes end now) h.passed;
+  passed = passed_with (way_after (switch_knowing h bytes end now) bytes end now) h.passed;
 }
 
 -- one more frame whose packet went to the core, and one that was kept from it: only its count changes

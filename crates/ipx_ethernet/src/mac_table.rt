@@ -55,7 +55,7 @@ fn forget(known: &mut Vec<Station>, node: Node)
 }
 
 /// Removes the station that was heard longest ago, if there is no room for another.
-fn make_room(known: &mut Vec<Station>)
+fn make_space(known: &mut Vec<Station>)
     requires { vec_len known.old ≤ max_stations }
     ensures items { known.new.items
         ≡ drop (length known.old.items + 1 - max_stations) known.old.items }
@@ -95,7 +95,7 @@ impl MacTable {
         ensures { self.new ≡ stations_with station self.old }
     {
         forget(&mut self.known, station.node);
-        make_room(&mut self.known);
+        make_space(&mut self.known);
         let last = self.known.len();
         self.known.insert(last, station).unwrap();
     }

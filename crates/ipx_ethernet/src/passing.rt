@@ -2,7 +2,7 @@
 
 ghost use Rattle.std.specs.Prelude.{◌≡◌, ◌==◌, IfSome, is_some, length};
 ghost use Rattle.ipx_ethernet.specs.Frame;
-ghost use Rattle.ipx_ethernet.specs.Heard.{may_be_behind, may_pass, passed_with, station_from, station_to, stations_from, way_between};
+ghost use Rattle.ipx_ethernet.specs.Heard.{may_be_station, may_pass, passed_with, station_from, station_to, stations_from, way_between};
 
 use crate::egress::{Egress, flood_except};
 use crate::mac_table::{MacTable, Station};
@@ -40,7 +40,7 @@ pub fn is_group(node: Node) -> bool
 
 /// Whether a station at a remote may have an address.
 fn may_be_there(own: Node, node: Node) -> bool
-    ensures { result ≡ may_be_behind own node }
+    ensures { result ≡ may_be_station own node }
 {
     !(is_group(node) || node == Node([0; 6]) || node == own)
 }

@@ -6,7 +6,7 @@ ghost use Rattle.ipx_ethernet.specs.Frame.{frame_of, own_bytes, packet_place};
 ghost use Rattle.ipx_ethernet.specs.SentFrame.{IsSentFrame, sending_fault, sent_size};
 ghost use Rattle.ipx_ethernet.specs.PortFrames.{IsForCore, KeepsFrame};
 ghost use Rattle.ipx_ethernet.specs.Heard.{SwitchView, switch_handing, switch_keeping, switch_knowing, switch_passing, switch_refusing, new_switch};
-ghost use Rattle.ipx_ethernet.specs.Heard.{way_behind, way_of_own};
+ghost use Rattle.ipx_ethernet.specs.Heard.{way_after, way_of_own};
 ghost use Rattle.ipx_ethernet.specs.SwitchEnds.{is_way_to};
 
 use crate::egress::{Egress, egress_to};
@@ -161,7 +161,7 @@ impl Switch {
         now: u64,
     ) -> (Egress, Result<&'a [u8], FrameDrop>)
         // Which remotes it is forwarded to; never the one that it came from.
-        ensures onward { result.0 ≡ way_behind self.new bytes.now end now }
+        ensures onward { result.0 ≡ way_after self.new bytes.now end now }
         ensures back { is_way_to result.0 end ≡ false }
         // Exactly the packets for the core go to it, and why another does not.
         ensures heard { IfOk result.1 (λ r. IsForCore self.old.port bytes.now r.now) }
@@ -183,7 +183,7 @@ impl Switch {
 
     /// Where a frame from a remote is forwarded.
     fn way(&self, end: usize, bytes: &[u8], now: u64) -> Egress
-        ensures { result ≡ way_behind self.now bytes.now end now }
+        ensures { result ≡ way_after self.now bytes.now end now }
     {
         if !self.joined {
             return Egress::Nowhere;
@@ -209,7 +209,7 @@ impl Switch {
     /// Where a frame from a remote is forwarded, once its source is learned. It is counted if it is
     /// to be forwarded.
     fn pass(&mut self, end: usize, bytes: &[u8], now: u64) -> Egress
-        ensures onward { result ≡ way_behind self.new bytes.now end now }
+        ensures onward { result ≡ way_after self.new bytes.now end now }
         ensures leaves { self.new ≡ switch_passing self.old bytes.now end now }
     {
         self.know_sender(end, bytes, now);

@@ -131,8 +131,8 @@ reaches_sent (Err e) way n port bytes s t u f g i named r went none counted =
     step way n port bytes s t u f g i false false true r (ap (λ (w : Bool). w && false) named) (ap (λ (w : Bool). w && true) named) (pass_nothing t u none) counted
 
 -- the same if something came before
-pub reaches_behind : (way : Egress) (n port : ℕ) (bytes : List ℕ) (came : List EndFrame) (s t u : Option EndTraffic) (f g : ℕ) → EndsPass s t came [] → ReachesEnds way n port bytes [] t u f g → ReachesEnds way n port bytes came s u f g
-reaches_behind way n port bytes came s t u f g first r =
+pub reaches_after : (way : Egress) (n port : ℕ) (bytes : List ℕ) (came : List EndFrame) (s t u : Option EndTraffic) (f g : ℕ) → EndsPass s t came [] → ReachesEnds way n port bytes [] t u f g → ReachesEnds way n port bytes came s u f g
+reaches_after way n port bytes came s t u f g first r =
     let went : List EndFrame = map (frame_at port bytes) (ends_on way r.takes n) in
     let both : EndsPass s u (came ++ []) went = pass_on s t u came [] [] went first r.went in
     record {

@@ -6,12 +6,12 @@ use Rattle.std.proofs.lemmas.Option.{get_or_from_slice_get}
 use Rattle.ipx_wire.specs.declared.address.Node.{Node}
 use Rattle.ipx_ethernet.specs.declared.ethernet_port.EthernetPort.{EthernetPort}
 use Rattle.ipx_ethernet.specs.declared.egress.Egress.{Egress}
-use Rattle.ipx_ethernet.specs.Heard.{SwitchView, way_behind}
+use Rattle.ipx_ethernet.specs.Heard.{SwitchView, way_after}
 use Rattle.ipx_carrier.specs.declared.segments.PacketSent.{PacketSent}
 use Rattle.ipx_carrier.specs.declared.segments.PacketSent.TheVariants.{Unmapped, Transmitted}
 use Rattle.ipx_ethernet_ports.specs.EndTraffic.{EndFrame, EndTraffic, EndsPass}
-use Rattle.ipx_ethernet_ports.specs.OnEthernet.{HearsBehind, ReachesEnds, SendsOnEthernet, SendsPacket, TakesPacket, EthernetPortsView, ethernet_ports_view}
-use Rattle.ipx_ethernet_ports.proofs.Ends.{reaches_behind}
+use Rattle.ipx_ethernet_ports.specs.OnEthernet.{HearsAtEthernet, ReachesEnds, SendsOnEthernet, SendsPacket, TakesPacket, EthernetPortsView, ethernet_ports_view}
+use Rattle.ipx_ethernet_ports.proofs.Ends.{reaches_after}
 
 abbrev port_in : SwitchView → EthernetPort
 port_in h = h.port
@@ -28,7 +28,7 @@ sending_stays : (h : SwitchView) (n now port : ℕ) (node : Node) (packet : List
 sending_stays h n now port node packet Unmapped after s t f g r = ap port_in r.4
 sending_stays h n now port node packet (Transmitted count) after s t f g r = ap port_in r.5
 
-pub hearing_leaves_ports : (n now most : ℕ) (frame : EndFrame) (came : List EndFrame) (room : List ℕ) (up : Option ℕ) (old new : EthernetPortsView) → HearsBehind n now most frame came room up old new → map port_in new.switches ≡ map port_in old.switches
+pub hearing_leaves_ports : (n now most : ℕ) (frame : EndFrame) (came : List EndFrame) (room : List ℕ) (up : Option ℕ) (old new : EthernetPortsView) → HearsAtEthernet n now most frame came room up old new → map port_in new.switches ≡ map port_in old.switches
 hearing_leaves_ports n now most frame came room up old new r =
     ap (map port_in) r.switches ∙ ports_stay old.switches frame.port r.switch r.after r.at_port (taking_stays r.switch frame.end frame.bytes now most room up r.after r.core)
 
@@ -38,11 +38,11 @@ sending_leaves_ports n now port node packet sent old new r =
 
 -- what is received after what the sockets returned
 pub hears_answer : (n n' now most : ℕ) (frame : EndFrame) (room : List ℕ) (up : Option ℕ) (switches : List SwitchView) (kept : ℕ) (s t : Option EndTraffic) (f f' : ℕ) (new : EthernetPortsView) → n' ≡ n → f' ≡ f → EndsPass s t (frame ∷ []) []
-    → HearsBehind n' now most frame [] room up (ethernet_ports_view switches kept t f') new → HearsBehind n now most frame (frame ∷ []) room up (ethernet_ports_view switches kept s f) new
+    → HearsAtEthernet n' now most frame [] room up (ethernet_ports_view switches kept t f') new → HearsAtEthernet n now most frame (frame ∷ []) room up (ethernet_ports_view switches kept s f) new
 hears_answer n n' now most frame room up switches kept s t f f' new same as_often first r =
-    let way : Egress = way_behind r.after frame.bytes frame.end now in
+    let way : Egress = way_after r.after frame.bytes frame.end now in
     let behind : ReachesEnds way n' frame.port frame.bytes (frame ∷ []) s new.traffic f' new.failed =
-    reaches_behind way n' frame.port frame.bytes (frame ∷ []) s t new.traffic f' new.failed first r.onward in
+    reaches_after way n' frame.port frame.bytes (frame ∷ []) s t new.traffic f' new.failed first r.onward in
     let counted : ReachesEnds way n frame.port frame.bytes (frame ∷ []) s new.traffic f' new.failed =
     subst (λ (k : ℕ). ReachesEnds way k frame.port frame.bytes (frame ∷ []) s new.traffic f' new.failed) same behind in
     record {

@@ -18,9 +18,9 @@ abbrev pub end_at_place : SocketAddr → List Place → Option ℕ
 end_at_place from ends = position (is_place from) ends
 
 -- how many remotes each socket has
-abbrev pub ends_behind : List EthernetSocket → List ℕ
-ends_behind ethernet = map (λ w. length w.ends.items) ethernet
+abbrev pub remote_counts : List EthernetSocket → List ℕ
+remote_counts ethernet = map (λ w. length w.ends.items) ethernet
 
 -- the addresses of the remotes of each
-abbrev pub places_behind : List EthernetSocket → List (List Place)
-places_behind ethernet = map (λ w. w.ends.items) ethernet
+abbrev pub remote_places : List EthernetSocket → List (List Place)
+remote_places ethernet = map (λ w. w.ends.items) ethernet

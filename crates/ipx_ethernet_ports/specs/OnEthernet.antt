@@ -10,7 +10,7 @@ use Rattle.ipx_ethernet.specs.Frame.{FrameView, frame_of, own_bytes}
 use Rattle.ipx_ethernet.specs.SentFrame.{IsSentFrame, sending_fault}
 use Rattle.ipx_ethernet.specs.PortFrames.{IsForCore, KeepsFrame}
 use Rattle.ipx_ethernet.specs.declared.egress.Egress.{Egress}
-use Rattle.ipx_ethernet.specs.Heard.{SwitchView, switch_handing, switch_keeping, switch_passing, switch_refusing, way_behind, way_of_own}
+use Rattle.ipx_ethernet.specs.Heard.{SwitchView, switch_handing, switch_keeping, switch_passing, switch_refusing, way_after, way_of_own}
 use Rattle.ipx_ethernet.specs.SwitchEnds.{is_way_to}
 use Rattle.ipx_carrier.specs.declared.segments.PacketSent.{PacketSent}
 use Rattle.ipx_carrier.specs.declared.segments.PacketSent.TheVariants.{Unmapped, Transmitted}
@@ -25,8 +25,8 @@ pub record SentFrameCopy : Type 0 where
   pub frame : FrameView
 
 -- the size of the buffer that a frame is written into
-abbrev pub frame_room : ℕ
-frame_room = 1514
+abbrev pub frame_buffer : ℕ
+frame_buffer = 1514
 
 -- the frame of a packet, if it fits one
 abbrev pub carried_by : Option FrameFault → SentFrameCopy → Option (List SentFrameCopy)
@@ -35,7 +35,7 @@ carried_by (Some fault) frame = None
 
 abbrev pub frame_from : Option EthernetPort → Given → Option (List SentFrameCopy)
 frame_from None p = None
-frame_from (Some w) p = carried_by (sending_fault w.encapsulation p.bytes frame_room) (record {
+frame_from (Some w) p = carried_by (sending_fault w.encapsulation p.bytes frame_buffer) (record {
   port = p.port;
   encapsulation = w.encapsulation;
   frame = frame_of p.node w.own (own_bytes p.bytes);
@@ -67,9 +67,9 @@ TakesPacket h end bytes now most room None after = (k : FrameDrop) × KeepsFrame
     × (after ≡ switch_keeping k (switch_passing h bytes end now))
 
 -- the count of what was kept from the core
-abbrev pub kept_by : Option ℕ → ℕ → ℕ
-kept_by None kept = raised kept
-kept_by (Some n) kept = kept
+abbrev pub filtered_by : Option ℕ → ℕ → ℕ
+filtered_by None kept = raised kept
+filtered_by (Some n) kept = kept
 
 -- Ethernet ports without their sockets: their switches, how many frames were kept from the core, what passed
 -- through the sockets, and how often those failed
@@ -85,15 +85,15 @@ ethernet_ports_view switches kept traffic failed =
 
 -- a frame came to a port of n remotes, and only this one. It is forwarded, as it came, to the remotes that
 -- the switch says, never to its own. The core gets its packet if that is for it
-pub record HearsBehind (n now most : ℕ) (frame : EndFrame) (came : List EndFrame) (room : List ℕ) (up : Option ℕ) (old new : EthernetPortsView) : Type 0 where
+pub record HearsAtEthernet (n now most : ℕ) (frame : EndFrame) (came : List EndFrame) (room : List ℕ) (up : Option ℕ) (old new : EthernetPortsView) : Type 0 where
   pub switch : SwitchView
   pub after : SwitchView
   pub at_port : slice_get old.switches frame.port ≡ Some switch
   pub core : TakesPacket switch frame.end frame.bytes now most room up after
-  pub onward : ReachesEnds (way_behind after frame.bytes frame.end now) n frame.port frame.bytes came old.traffic new.traffic old.failed new.failed
-  pub back : is_way_to (way_behind after frame.bytes frame.end now) frame.end ≡ false
+  pub onward : ReachesEnds (way_after after frame.bytes frame.end now) n frame.port frame.bytes came old.traffic new.traffic old.failed new.failed
+  pub back : is_way_to (way_after after frame.bytes frame.end now) frame.end ≡ false
   pub switches : new.switches ≡ slice_set old.switches frame.port after
-  pub counted : new.kept ≡ kept_by up old.kept
+  pub counted : new.kept ≡ filtered_by up old.kept
 
 -- the same for what the sockets return: a frame; or that nothing came, or that they failed, which they count
 abbrev pub HearsAnswerOf : ℕ → ℕ → ℕ → Option EndFrame → List ℕ → Option ℕ → EthernetPortsView → EthernetPortsView → Type 0
@@ -101,18 +101,18 @@ HearsAnswerOf n now most None room up old new = (up ≡ None) × (new.switches �
     × (new.kept ≡ old.kept) × EndsPass old.traffic new.traffic [] []
     × ((new.failed ≡ old.failed) ⊎ (new.failed ≡ raised old.failed))
 HearsAnswerOf n now most (Some frame) room up old new =
-    HearsBehind n now most frame (frame ∷ []) room up old new
+    HearsAtEthernet n now most frame (frame ∷ []) room up old new
 
 -- a packet of the core for a node at a port of n remotes: its frame was sent to the remotes that the switch
 -- says. Or it does not fit a frame, and that was counted
 abbrev pub SendsOnEthernet : SwitchView → ℕ → ℕ → ℕ → Node → List ℕ → PacketSent → SwitchView → Option EndTraffic → Option EndTraffic → ℕ → ℕ → Type 0
 SendsOnEthernet h n now port node packet (Transmitted count) after old new failed failed_after = (frame : List ℕ)
-    × (count ≡ 1) × (sending_fault h.port.encapsulation packet frame_room ≡ None)
+    × (count ≡ 1) × (sending_fault h.port.encapsulation packet frame_buffer ≡ None)
     × IsSentFrame h.port.encapsulation (frame_of node h.port.own (own_bytes packet)) frame
     × ReachesEnds (way_of_own node now h.stations) n port frame [] old new failed failed_after
     × (after ≡ h)
 SendsOnEthernet h n now port node packet Unmapped after old new failed failed_after = (fault : FrameFault)
-    × (sending_fault h.port.encapsulation packet frame_room ≡ Some fault)
+    × (sending_fault h.port.encapsulation packet frame_buffer ≡ Some fault)
     × EndsPass old new [] [] × (failed_after ≡ failed) × (after ≡ switch_refusing h)
 
 abbrev pub SendsPacket : ℕ → ℕ → ℕ → Node → List ℕ → PacketSent → EthernetPortsView → EthernetPortsView → Type 0

@@ -3,7 +3,7 @@
 ghost use Rattle.std.specs.Prelude.{◌≡◌, ◌<◌, ◌≤◌, ◌+◌, ◌^◌, [], Option, None, IfOk, IfSome, OnErr, length, map, min, slice_index, slice_set, true};
 ghost use Rattle.ipx_carrier.specs.PortDrivers.{copies_count, count_in};
 ghost use Rattle.ipx_ethernet_ports.specs.EndTraffic.{EndFrame, frame_at};
-ghost use Rattle.ipx_ethernet_ports.specs.OnEthernet.{HearsAnswerOf, HearsBehind, SendsPacket, by_frames, ethernet_ports_view};
+ghost use Rattle.ipx_ethernet_ports.specs.OnEthernet.{HearsAnswerOf, HearsAtEthernet, SendsPacket, by_frames, ethernet_ports_view};
 
 use crate::end_sockets::EndSockets;
 use crate::reaching::send_to_ends;
@@ -14,7 +14,7 @@ use ipx_ethernet::{FRAME_MAX_SIZE, Switch};
 use ipx_wire::Node;
 
 /// The size of the buffer that a frame is received into: more than any that is forwarded.
-const FRAME_ROOM: usize = 1536;
+const FRAME_BUFFER: usize = 1536;
 
 /// Ethernet ports, each with a switch between its remotes. Frames of a remote are forwarded to
 /// others, the core gets what is for it, and its packets are sent in frames. There are as many
@@ -47,7 +47,7 @@ impl<D: EndSockets + Drop> EthernetPorts<D> {
 
     /// Sets the time, in ms, of what is received and sent from now on. Call it before each turn, or
     /// before each batch.
-    pub fn set_moment(&mut self, moment: u64)
+    pub fn set_time(&mut self, moment: u64)
         ensures { self.new ≡ record self.old { moment = moment } }
     {
         self.moment = moment;
@@ -103,7 +103,7 @@ impl<D: EndSockets + Drop> EthernetPorts<D> {
     ) -> Option<usize>
         requires switch { port < length self.old.switches.items }
         requires there { port < length (D.ends_of self.old.sockets) }
-        ensures heard { HearsBehind (slice_index (D.ends_of self.old.sockets) port) self.old.moment
+        ensures heard { HearsAtEthernet (slice_index (D.ends_of self.old.sockets) port) self.old.moment
             (length room.old) (frame_at port bytes.now end) [] room.new result
             (ethernet_ports_view self.old.switches.items self.old.kept
             (D.traffic self.old.sockets) (D.failed self.old.sockets))
@@ -227,7 +227,7 @@ impl<D: EndSockets + Drop> PortDriver for EthernetPorts<D> {
         ensures filtered { D.filtered self.old.sockets ≤ D.filtered self.new.sockets }
         ensures ends { D.ends_of self.new.sockets ≡ D.ends_of self.old.sockets }
     {
-        let mut frame = [0; FRAME_ROOM];
+        let mut frame = [0; FRAME_BUFFER];
         let Ok(came) = self.sockets.receive(port, &mut frame) else {
             return Ok(None);
         };

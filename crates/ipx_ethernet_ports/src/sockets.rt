@@ -2,9 +2,9 @@
 
 ghost use Rattle.std.specs.Prelude.{◌≡◌, ◌<◌, ◌≤◌, ◌↔◌, ◌++◌, ◌∷◌, [], Bool, IfOk, IfSome, IsSome, None, Ok, OnErr, OnOk, false, is_some, length, slice_index, slice_set, true};
 ghost use Rattle.ipx_carrier.specs.Counting.{raised};
-ghost use Rattle.ipx_carrier.specs.ReadySet.{AsksMarked, IsKeptOrAnswer, is_port_marked};
+ghost use Rattle.ipx_carrier.specs.ReadySet.{AsksMarked, IsFilteredOrAnswer, is_port_marked};
 ghost use Rattle.ipx_ethernet_ports.specs.EndTraffic.{failures_counted};
-ghost use Rattle.ipx_ethernet_ports.specs.EthernetAddresses.{end_at_place, ends_behind, is_place, places_behind};
+ghost use Rattle.ipx_ethernet_ports.specs.EthernetAddresses.{end_at_place, remote_counts, is_place, remote_places};
 
 use crate::end_sockets::{EndSockets, FrameCame};
 use ipx_carrier::{DeviceFault, ReadySet, bind_nonblocking, saturating_increment, socket_addr};
@@ -88,10 +88,10 @@ impl EthernetSockets {
     /// Binds one more port at an address, with these remotes. The error is the system's or out of
     /// memory, and the ports are then as before.
     pub fn bind<R: Net>(&mut self, rt: &R, at: Place, ends: Vec<Place>) -> io::Result<()>
-        ensures bound { OnOk result (ends_behind self.new.ethernet.items
-            ≡ ends_behind self.old.ethernet.items ++ length ends.items ∷ []) }
-        ensures places { OnOk result (places_behind self.new.ethernet.items
-            ≡ places_behind self.old.ethernet.items ++ ends.items ∷ []) }
+        ensures bound { OnOk result (remote_counts self.new.ethernet.items
+            ≡ remote_counts self.old.ethernet.items ++ length ends.items ∷ []) }
+        ensures places { OnOk result (remote_places self.new.ethernet.items
+            ≡ remote_places self.old.ethernet.items ++ ends.items ∷ []) }
         ensures marks { OnOk result (self.new.marks ≡ self.old.marks ++ true ∷ []) }
         ensures refused { OnErr result ((self.new.ethernet.items ≡ self.old.ethernet.items)
             × (self.new.marks ≡ self.old.marks)) }
@@ -150,7 +150,7 @@ impl EthernetSockets {
 impl EndSockets for EthernetSockets {
     ghost use Rattle.std.specs.Prelude.{None};
 
-    ghost ends_of = { λ s. ends_behind s.ethernet.items };
+    ghost ends_of = { λ s. remote_counts s.ethernet.items };
 
     ghost failed = { λ s. s.failures };
 
@@ -176,8 +176,8 @@ impl EndSockets for EthernetSockets {
     }
 
     fn send(&mut self, port: usize, end: usize, bytes: &[u8]) -> Result<(), DeviceFault>
-        requires there { port < length (ends_behind self.old.ethernet.items) }
-        requires end { end < slice_index (ends_behind self.old.ethernet.items) port }
+        requires there { port < length (remote_counts self.old.ethernet.items) }
+        requires end { end < slice_index (remote_counts self.old.ethernet.items) port }
         // The system took it or refused it, and that is counted.
         ensures sent { OnOk result (self.new.sent ≡ raised self.old.sent) }
         ensures refused { OnErr result (self.new.sent ≡ self.old.sent) }
@@ -200,7 +200,7 @@ impl EndSockets for EthernetSockets {
     }
 
     fn receive(&mut self, port: usize, room: &mut [u8]) -> Result<Option<FrameCame>, DeviceFault>
-        requires { port < length (ends_behind self.old.ethernet.items) }
+        requires { port < length (remote_counts self.old.ethernet.items) }
         // A port without a mark is not asked, and nothing changes.
         ensures unmarked { is_port_marked self.old.marks port ≡ false
             → (result ≡ Ok None) × (self.new ≡ self.old) × (room.new ≡ room.old) }
@@ -209,10 +209,10 @@ impl EndSockets for EthernetSockets {
         ensures marked { is_port_marked self.old.marks port ≡ true → IfOk result (λ answer.
             (came : Bool) × AsksMarked port came self.old.marks self.new.marks
             self.old.faults self.new.faults
-            × IsKeptOrAnswer came (is_some answer) self.old.unknown_senders self.new.unknown_senders) }
+            × IsFilteredOrAnswer came (is_some answer) self.old.unknown_senders self.new.unknown_senders) }
         // What came from a remote is returned, and what came from an unknown sender is counted.
         ensures end { IfOk result (λ came. IfSome came (λ c.
-            c.end < slice_index (ends_behind self.old.ethernet.items) port)) }
+            c.end < slice_index (remote_counts self.old.ethernet.items) port)) }
         ensures within { IfOk result (λ came. IfSome came (λ c. c.size ≤ length room.old)) }
         ensures answered { IfOk result (λ came. IsSome came
             → self.new.unknown_senders ≡ self.old.unknown_senders) }

@@ -1,7 +1,7 @@
 //! What the core gets of a frame that came from a remote.
 
 ghost use Rattle.std.specs.Prelude.{◌≡◌, ◌≤◌, IfSome, None, false, length, take};
-ghost use Rattle.ipx_ethernet.specs.Heard.{way_behind};
+ghost use Rattle.ipx_ethernet.specs.Heard.{way_after};
 ghost use Rattle.ipx_ethernet.specs.SwitchEnds.{is_way_to};
 ghost use Rattle.ipx_ethernet_ports.specs.OnEthernet.{TakesPacket};
 
@@ -26,7 +26,7 @@ pub fn take_packet(
     now: u64,
     room: &mut [u8],
 ) -> (Egress, Option<usize>)
-    ensures way { result.0 ≡ way_behind switch.new bytes.now end now }
+    ensures way { result.0 ≡ way_after switch.new bytes.now end now }
     ensures back { is_way_to result.0 end ≡ false }
     ensures taken { TakesPacket switch.old end bytes.now now (length room.old) room.new result.1
         switch.new }

@@ -16,7 +16,7 @@ fn frames_between_stations(rt: HostRuntime) -> Result<(), Fail> {
     ends.put(0, 0, &frame(SECOND, FIRST))?;
     ends.put(0, 1, &frame(FIRST, SECOND))?;
     let mut ethernet = ethernet(alloc, ends)?;
-    ethernet.set_moment(1000);
+    ethernet.set_time(1000);
     let mut room = [0xaa; 1536];
     assert!(rt; matches!(ethernet.receive(0, &mut room), Ok(None)));
     assert_eq!(rt; ethernet.sockets().went().len(), 2);

@@ -20,7 +20,7 @@ fn packets_to_stations(rt: HostRuntime) -> Result<(), Fail> {
     let mut ends = three_ends(alloc)?;
     ends.put(0, 1, &frame(PORT.own, SECOND))?;
     let mut ethernet = ethernet(alloc, ends)?;
-    ethernet.set_moment(1000);
+    ethernet.set_time(1000);
     let mut room = [0; 1536];
     assert!(rt; matches!(ethernet.receive(0, &mut room), Ok(Some(30))));
     assert!(rt;
@@ -39,7 +39,7 @@ fn packets_to_stations(rt: HostRuntime) -> Result<(), Fail> {
     );
     assert_eq!(rt; ethernet.sockets().went().len(), 4);
     assert!(rt; took(ethernet.sockets(), &[1], &padded(SECOND)));
-    ethernet.set_moment(301_000);
+    ethernet.set_time(301_000);
     assert!(rt;
         matches!(
             ethernet.send(0, SECOND, &PACKET),

@@ -8,7 +8,7 @@ use std::test::Fail;
 
 /// Nothing is forwarded between remotes. The port sends a frame for a station only to its remote.
 #[test]
-fn ends_apart(rt: HostRuntime) -> Result<(), Fail> {
+fn ends_separate(rt: HostRuntime) -> Result<(), Fail> {
     let mut switch = Switch::new(rt.alloc(), PORT, false)?;
     assert_eq!(rt;
         give(&mut switch, 0, &frame(SECOND, FIRST), 0),

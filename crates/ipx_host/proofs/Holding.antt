@@ -13,9 +13,9 @@ use Rattle.spx_link.specs.declared.state.State.{State}
 use Rattle.spx_messages.specs.EndpointView.{EndpointView, Held, held_at}
 use Rattle.spx_messages.specs.Taking.{TakenView, Nothing, Part, PeerEnd, Whole, take_end}
 use Rattle.spx_messages.specs.declared.fault.EndFault.{EndFault}
-use Rattle.ipx_host.specs.Sessions.{Admits, Asks as IsAsked, EndedAlone, KeepsHeard, KeepsOne, LetsLinkGo, LetsLinksGo, MakesRoom, heard_by, is_ended, has_spoken, is_overdue, once_heard}
+use Rattle.ipx_host.specs.Sessions.{Admits, Asks as IsAsked, OnlyEnded, KeepsHeard, KeepsOne, LetsLinkGo, LetsLinksGo, MakesSpace, heard_by, is_ended, has_spoken, is_overdue, once_heard}
 use Rattle.ipx_host.specs.HostOutput.{Writes}
-use Rattle.ipx_host.specs.Tending.{DoesAction, IsFateOf, JustStays, Tends}
+use Rattle.ipx_host.specs.Tending.{DoesAction, IsActionFor, JustStays, Tends}
 use Rattle.ipx_host.specs.declared.paced_host_core.PacedHostCore.{PacedHostCore}
 use Rattle.ipx_host.specs.ListenOutcomes.{parted}
 use Rattle.ipx_host.specs.declared.listening.ListenOutcome.{ListenOutcome}
@@ -350,9 +350,9 @@ heard_more f xs ys i d c' within same so is =
 
 -- one more just stays
 pub first_more : (core : PacedHostCore) (items xs : List Session) (i : ℕ) (d : Session) (f : SessionAction) → xs ≡ items → i < length xs → All (JustStays core) (take i items)
-    → IsFateOf core (get_or xs i d) f → f ≡ Stays → All (JustStays core) (take (i + 1) items)
+    → IsActionFor core (get_or xs i d) f → f ≡ Stays → All (JustStays core) (take (i + 1) items)
 first_more core items xs i d f same within all is stays =
-    let fate : JustStays core (get_or items i d) = subst (λ (l : List Session). JustStays core (get_or l i d)) same (subst (λ (g : SessionAction). IsFateOf core (get_or xs i d) g) stays is) in
+    let fate : JustStays core (get_or items i d) = subst (λ (l : List Session). JustStays core (get_or l i d)) same (subst (λ (g : SessionAction). IsActionFor core (get_or xs i d) g) stays is) in
     All-more (JustStays core) items i d (omega (arith, within, ap length same)) all fate
 
 -- where nothing was taken, and nothing then, all that is held is as it was
@@ -401,21 +401,21 @@ asked_ended now old new c c' (inr p) ended = sym (ap (λ (k : Session). k.phase)
 pub same_some : (k c : Session) → Some k ≡ Some c → k ≡ c
 same_some k c e = same_Some k c e
 
-done_alone : (now : ℕ) (k c : Session) (fate : SessionAction) (old new : EndpointView) (cs' : List Session) → k ≡ c → DoesAction true now c 0 fate old new (k ∷ []) cs' None → EndedAlone cs' → EndedAlone (k ∷ [])
-done_alone now k c Stays old new cs' at does alone = subst EndedAlone does.1 alone
+done_alone : (now : ℕ) (k c : Session) (fate : SessionAction) (old new : EndpointView) (cs' : List Session) → k ≡ c → DoesAction true now c 0 fate old new (k ∷ []) cs' None → OnlyEnded cs' → OnlyEnded (k ∷ [])
+done_alone now k c Stays old new cs' at does alone = subst OnlyEnded does.1 alone
 done_alone now k c Asks old new cs' at does alone =
     let same = same_head does.0 alone.0 [] [] (sym does.2 ∙ alone.1) in
     (k, refl, ap (λ (x : Session). x.phase) at ∙ asked_ended now old new c does.0 does.1 (ap (λ (x : Session). x.phase) same.0 ∙ alone.2))
 done_alone now k c Over old new cs' at does alone = let no : [] ≡ alone.0 ∷ [] = sym does.1 ∙ alone.1 in absurd (cc)
 done_alone now k c GivenUp old new cs' at does alone = let no : [] ≡ alone.0 ∷ [] = sym does.1 ∙ alone.1 in absurd (cc)
 
-alone_is_heard : (cs' : List Session) → EndedAlone cs' → list_any has_spoken cs' ≡ true
+alone_is_heard : (cs' : List Session) → OnlyEnded cs' → list_any has_spoken cs' ≡ true
 alone_is_heard cs' alone =
     any_ended cs' (ap (list_any is_ended) alone.1 ∙ ap (λ (x : Phase). ends x || false) alone.2)
 
 done_among : (now : ℕ) (k j c : Session) (ks : List Session) (place : ℕ) (fate : SessionAction) (old new : EndpointView) (cs' : List Session) → (list_any has_spoken (k ∷ j ∷ ks) ≡ true → length (k ∷ j ∷ ks) ≡ 1)
-    → DoesAction true now c place fate old new (k ∷ j ∷ ks) cs' None → EndedAlone cs' → EndedAlone (k ∷ j ∷ ks)
-done_among now k j c ks place Stays old new cs' one does alone = subst EndedAlone does.1 alone
+    → DoesAction true now c place fate old new (k ∷ j ∷ ks) cs' None → OnlyEnded cs' → OnlyEnded (k ∷ j ∷ ks)
+done_among now k j c ks place Stays old new cs' one does alone = subst OnlyEnded does.1 alone
 done_among now k j c ks place Asks old new cs' one does alone =
     absurd (omega (arith, ap length does.2, ap length alone.1, length-set (k ∷ j ∷ ks) place does.0))
 done_among now k j c ks place Over old new cs' one does alone =
@@ -425,7 +425,7 @@ done_among now k j c ks place GivenUp old new cs' one does alone =
 
 -- with `once`, where all goes on, the only connection is ended just where it was
 tended_in : (core : PacedHostCore) (new : EndpointView) (cs cs' : List Session) (place : ℕ) (c : Session) → place < length cs → slice_get cs place ≡ Some c
-    → (list_any has_spoken cs ≡ true → length cs ≡ 1) → Tends true core c place new cs cs' None → EndedAlone cs' → EndedAlone cs
+    → (list_any has_spoken cs ≡ true → length cs ≡ 1) → Tends true core c place new cs cs' None → OnlyEnded cs' → OnlyEnded cs
 tended_in core new [] cs' place c within at one tends alone = absurd (omega arith)
 tended_in core new (k ∷ []) cs' zero c within at one tends alone = done_alone core.moment k c tends.0 core.endpoint new cs' (same_some k c at) tends.2 alone
 tended_in core new (k ∷ []) cs' (suc n) c within at one tends alone = absurd (omega arith)
@@ -437,7 +437,7 @@ there_is (c ∷ cs) zero within = (c, refl)
 there_is (c ∷ cs) (suc n) within = there_is cs n (omega arith)
 
 pub tended_on : (once : Bool) (core : PacedHostCore) (new : EndpointView) (cs cs' : List Session) (left : List ℕ) (place : ℕ) → IsTrue once → place < length cs → KeepsOne once cs left
-    → IfSome (slice_get cs place) (λ c. Tends once core c place new cs cs' None) → EndedAlone cs' → EndedAlone cs
+    → IfSome (slice_get cs place) (λ c. Tends once core c place new cs cs' None) → OnlyEnded cs' → OnlyEnded cs
 tended_on false core new cs cs' left place is within keeps tends alone = absurd (cc)
 tended_on true core new cs cs' left place is within keeps tends alone =
     let at = there_is cs place within in
@@ -457,7 +457,7 @@ done_ends now c place Asks old new cs cs' does = let no : Some Stops.Ended ≡ N
 done_ends now c place Over old new cs cs' does = parted_ended Over c.phase does.2
 done_ends now c place GivenUp old new cs cs' does = parted_ended GivenUp c.phase does.2
 
-ends_alone : (cs : List Session) (place : ℕ) (c : Session) → place < length cs → slice_get cs place ≡ Some c → c.phase ≡ Standings.Ended → (list_any has_spoken cs ≡ true → length cs ≡ 1) → EndedAlone cs
+ends_alone : (cs : List Session) (place : ℕ) (c : Session) → place < length cs → slice_get cs place ≡ Some c → c.phase ≡ Standings.Ended → (list_any has_spoken cs ≡ true → length cs ≡ 1) → OnlyEnded cs
 ends_alone [] place c within at ended one = absurd (omega arith)
 ends_alone (k ∷ []) zero c within at ended one = (k, refl, ap (λ (x : Session). x.phase) (same_some k c at) ∙ ended)
 ends_alone (k ∷ []) (suc n) c within at ended one = absurd (omega arith)
@@ -466,7 +466,7 @@ ends_alone (k ∷ j ∷ ks) place c within at ended one =
     absurd (omega (arith, one (any_at has_spoken (k ∷ j ∷ ks) place k within (ap has_spoken here ∙ ap (λ (x : Phase). not (is_unheard x)) ended))))
 
 pub tended_ends : (once : Bool) (core : PacedHostCore) (new : EndpointView) (cs cs' : List Session) (left : List ℕ) (place : ℕ) → IsTrue once → place < length cs → KeepsOne once cs left
-    → IfSome (slice_get cs place) (λ c. Tends once core c place new cs cs' (Some Stops.Ended)) → EndedAlone cs
+    → IfSome (slice_get cs place) (λ c. Tends once core c place new cs cs' (Some Stops.Ended)) → OnlyEnded cs
 tended_ends false core new cs cs' left place is within keeps tends = absurd (cc)
 tended_ends true core new cs cs' left place is within keeps tends =
     let at = there_is cs place within in
@@ -499,7 +499,7 @@ room_kept once now (d ∷ ds) cs' left old new (Some place) is keeps k =
     subst (λ (l : List Session). KeepsOne once l left) (sym k.0)
     (keeps_removed once (d ∷ ds) left place (position-Some (is_overdue now) (d ∷ ds) place d is).0 keeps)
 
-pub keeps_room : (once : Bool) (now : ℕ) (cs cs' : List Session) (left : List ℕ) (old new : EndpointView) → MakesRoom now old new cs cs' → KeepsOne once cs left → KeepsOne once cs' left
+pub keeps_room : (once : Bool) (now : ℕ) (cs cs' : List Session) (left : List ℕ) (old new : EndpointView) → MakesSpace now old new cs cs' → KeepsOne once cs left → KeepsOne once cs' left
 keeps_room once now cs cs' left old new k keeps = room_kept once now cs cs' left old new (position (is_overdue now) cs) refl keeps k
 
 pub keeps_asks : (once : Bool) (cs : List Session) (left : List ℕ) (place : ℕ) (c' d : Session) (now : ℕ) (old new : EndpointView) → place < length cs → IsAsked now old new (get_or cs place d) c'

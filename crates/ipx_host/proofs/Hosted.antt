@@ -17,7 +17,7 @@ use Rattle.ipx_host.specs.ListenOutcomes.{parted, stop_status}
 use Rattle.ipx_host.specs.Tending.{DoesAction, JustStays, Tends, TendsFirst, TendsOn, Tidies}
 use Rattle.ipx_host.specs.declared.sessions.Session.{Session}
 use Rattle.ipx_host.specs.declared.sessions.SessionAction.{SessionAction}
-use Rattle.ipx_host.specs.declared.sessions.SessionAction.TheVariants as Fates
+use Rattle.ipx_host.specs.declared.sessions.SessionAction.TheVariants as ActionsOfSessions
 use Rattle.ipx_host.specs.declared.sessions.Phase.{Phase}
 use Rattle.ipx_host.specs.declared.sessions.Phase.TheVariants as Standings
 use Rattle.ipx_host.specs.declared.paced_host_core.PacedHostCore.{PacedHostCore}
@@ -70,25 +70,25 @@ parts : (once : Bool) (fate : SessionAction) (phase : Phase) → IsParting (part
 parts false fate phase = tt
 parts true fate Standings.New = tt
 parts true fate Standings.NewProbed = tt
-parts true Fates.Stays Standings.Open = tt
-parts true Fates.Asks Standings.Open = tt
-parts true Fates.Over Standings.Open = tt
-parts true Fates.GivenUp Standings.Open = tt
-parts true Fates.Stays Standings.KeepaliveSent = tt
-parts true Fates.Asks Standings.KeepaliveSent = tt
-parts true Fates.Over Standings.KeepaliveSent = tt
-parts true Fates.GivenUp Standings.KeepaliveSent = tt
-parts true Fates.Stays Standings.Ended = tt
-parts true Fates.Asks Standings.Ended = tt
-parts true Fates.Over Standings.Ended = tt
-parts true Fates.GivenUp Standings.Ended = tt
+parts true ActionsOfSessions.Stays Standings.Open = tt
+parts true ActionsOfSessions.Asks Standings.Open = tt
+parts true ActionsOfSessions.Over Standings.Open = tt
+parts true ActionsOfSessions.GivenUp Standings.Open = tt
+parts true ActionsOfSessions.Stays Standings.KeepaliveSent = tt
+parts true ActionsOfSessions.Asks Standings.KeepaliveSent = tt
+parts true ActionsOfSessions.Over Standings.KeepaliveSent = tt
+parts true ActionsOfSessions.GivenUp Standings.KeepaliveSent = tt
+parts true ActionsOfSessions.Stays Standings.Ended = tt
+parts true ActionsOfSessions.Asks Standings.Ended = tt
+parts true ActionsOfSessions.Over Standings.Ended = tt
+parts true ActionsOfSessions.GivenUp Standings.Ended = tt
 
 does_part : (once : Bool) (now : ℕ) (c : Session) (place : ℕ) (fate : SessionAction) (old new : EndpointView) (cs cs' : List Session) (stop : Option ListenOutcome)
     → DoesAction once now c place fate old new cs cs' stop → IsParting stop
-does_part once now c place Fates.Stays old new cs cs' stop does = subst IsParting (sym does.2) tt
-does_part once now c place Fates.Asks old new cs cs' stop does = subst IsParting (sym does.3) tt
-does_part once now c place Fates.Over old new cs cs' stop does = subst IsParting (sym does.2) (parts once Fates.Over c.phase)
-does_part once now c place Fates.GivenUp old new cs cs' stop does = subst IsParting (sym does.2) (parts once Fates.GivenUp c.phase)
+does_part once now c place ActionsOfSessions.Stays old new cs cs' stop does = subst IsParting (sym does.2) tt
+does_part once now c place ActionsOfSessions.Asks old new cs cs' stop does = subst IsParting (sym does.3) tt
+does_part once now c place ActionsOfSessions.Over old new cs cs' stop does = subst IsParting (sym does.2) (parts once ActionsOfSessions.Over c.phase)
+does_part once now c place ActionsOfSessions.GivenUp old new cs cs' stop does = subst IsParting (sym does.2) (parts once ActionsOfSessions.GivenUp c.phase)
 
 tidied_parts : (once : Bool) (old new : PacedHostCore) (cs cs' : List Session) (stop : ListenOutcome) → Tidies once old new cs cs' (Some stop) → IsParting (Some stop)
 tidied_parts once old new cs cs' stop tidied =
@@ -115,11 +115,11 @@ from_writes : (o after : Option Held) (x y : List ℕ) (a b : Option (List ℕ))
 from_writes None after x y a b c c' p = subst (λ (l : List ℕ). Writes l y a b) (sym (append-nil x)) p.1
 from_writes (Some h) after x y a b c c' p = subst (λ (l : List ℕ). Writes (x ++ l) y a b) (sym (bodies_are c.id p.0 h)) p.2
 
-writes_behind : (x y z : List ℕ) (a b : Option (List ℕ)) → Writes x y a b → Writes (x ++ z) (y ++ z) a b
-writes_behind x y z a b p = (p.0, ap (λ l. l ++ z) p.1 ∙ append_assoc p.0 y z, p.2)
+writes_after : (x y z : List ℕ) (a b : Option (List ℕ)) → Writes x y a b → Writes (x ++ z) (y ++ z) a b
+writes_after x y z a b p = (p.0, ap (λ l. l ++ z) p.1 ∙ append_assoc p.0 y z, p.2)
 
 writes_through : (x y v z : List ℕ) (a b c : Option (List ℕ)) → Writes x y a b → Writes (y ++ v) z b c → Writes (x ++ v) z a c
-writes_through x y v z a b c p q = writes_on (x ++ v) (y ++ v) z a b c (writes_behind x y v a b p) q
+writes_through x y v z a b c p q = writes_on (x ++ v) (y ++ v) z a b c (writes_after x y v a b p) q
 
 each_writes : (old new : EndpointView) (x y : List ℕ) (a b : Option (List ℕ)) (cs cs' : List Session) (p : PassesEach old new x y a b cs cs')
     → Writes (x ++ bodies_of (takes_each old new x y a b cs cs' p)) y a b

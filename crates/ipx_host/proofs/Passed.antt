@@ -112,11 +112,11 @@ from_taken (Some h) old new output output' x a b c c' c'' none not p there took 
       (p.4, subst (λ (k : Session). k.phase ≢ Standings.Ended) p.3 not, takes.something),
     )
 
-behind_taken : (o : Option Held) (old new : EndpointView) (output output' : Outlet) (c c' : Session)
+after_taken : (o : Option Held) (old new : EndpointView) (output output' : Outlet) (c c' : Session)
     → left_of output ≡ [] → c.phase ≢ Standings.Ended → (o ≡ None → ⊥) → IfSome o (λ h. Takes h old new output output' c c')
     → c'.phase ≡ Standings.Ended → left_of output' ≡ []
-behind_taken None old new output output' c c' none not there took ended = absurd (there refl)
-behind_taken (Some h) old new output output' c c' none not there took ended =
+after_taken None old new output output' c c' none not there took ended = absurd (there refl)
+after_taken (Some h) old new output output' c c' none not there took ended =
     took.left ∙ ends_left (take_end h).0 c.phase (left_of output) not (sym (ap (λ (k : Session). k.phase) took.noted) ∙ ended) ∙ none
 
 pub one_taken : (old mid new : EndpointView) (output output' : Outlet) (x : List ℕ) (a b : Option (List ℕ)) (c c' c'' : Session)
@@ -129,7 +129,7 @@ one_taken old mid new output output' x a b c c' c'' heard none not same p there 
       (subst (λ (k : ℕ). PassesFrom (held_at old c.id) (held_at mid k) x (left_of output) a b c c') (sym same) p.from) there took);
   others = same_others_on old mid new c.id p.others (subst (λ (k : ℕ). SameOthers mid new k) same others);
   unheard = λ is. absurd (cc);
-  behind = λ before ended. behind_taken (held_at mid c'.id) mid new output output' c' c'' none not there took ended;
+  behind = λ before ended. after_taken (held_at mid c'.id) mid new output output' c' c'' none not there took ended;
 }
 
 -- nothing more was taken

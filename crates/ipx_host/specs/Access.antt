@@ -8,8 +8,8 @@ use Rattle.ipx_wire.specs.Assigned.{local_network}
 use Rattle.ipx_wire.specs.declared.address.Address.{Address}
 
 -- the address that a host speaks to: network 0 is its own
-abbrev pub far_address : HostConfig → Address → Address
-far_address file to =
+abbrev pub peer_address_of : HostConfig → Address → Address
+peer_address_of file to =
     if to.network.0 == local_network then record to { network = file.network } else to
 
 -- a node of the host's own network is reached without a router. 0 is its own network too

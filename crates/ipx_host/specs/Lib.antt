@@ -11,7 +11,7 @@ pub mod HostOutput
 pub mod Paced
 pub mod Passing
 pub mod SendRounds
-pub mod Saying
+pub mod HostCheckLines
 pub mod Sent
 pub mod Sleeping
 pub mod SendSteps

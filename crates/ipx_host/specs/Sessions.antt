@@ -88,8 +88,8 @@ abbrev pub is_overdue : ℕ → Session → Bool
 is_overdue now c = is_unheard c.phase && nat_le 1000 (now - c.heard)
 
 -- there was no link for one that asked: the first connection that is overdue goes, if one is
-abbrev pub MakesRoom : ℕ → EndpointView → EndpointView → List Session → List Session → Type 0
-MakesRoom now old new sessions sessions' = MatchOption (position (is_overdue now) sessions)
+abbrev pub MakesSpace : ℕ → EndpointView → EndpointView → List Session → List Session → Type 0
+MakesSpace now old new sessions sessions' = MatchOption (position (is_overdue now) sessions)
     ((sessions' ≡ sessions) × (new ≡ old))
     (λ place. (sessions' ≡ remove sessions place)
     × IfSome (slice_get sessions place) (λ c. LetsLinkGo old new c.id))
@@ -105,7 +105,7 @@ DoesNoted once (Some (Cames.Heard id)) now old new sessions sessions' =
     KeepsHeard once old new (map (heard_by id now) sessions) sessions'
 DoesNoted once (Some (Cames.Accepted a)) now old new sessions sessions' =
     Admits once (session_of a now) old new sessions sessions'
-DoesNoted once (Some Cames.NoRoom) now old new sessions sessions' = MakesRoom now old new sessions sessions'
+DoesNoted once (Some Cames.NoRoom) now old new sessions sessions' = MakesSpace now old new sessions sessions'
 
 -- it is done of what the core heard last, which is told once
 abbrev pub NotesHeard : Bool → PacedHostCore → PacedHostCore → List Session → List Session → Type 0
@@ -142,8 +142,8 @@ AsksOrCounts old new c place sessions sessions' count count' = (refused : Bool) 
     × (count' ≡ raised_if refused count)
 
 -- a message was refused for want of memory
-abbrev pub IsWantOfMemory : EndFault → Type 0
-IsWantOfMemory f = (f ≡ EndFaults.Message MessageFaults.OutOfMemory)
+abbrev pub IsOutOfMemory : EndFault → Type 0
+IsOutOfMemory f = (f ≡ EndFaults.Message MessageFaults.OutOfMemory)
     ⊎ (f ≡ EndFaults.Offer OfferFaults.OutOfMemory)
 
 -- with `once` a connection that was heard is the only one, and where its end was taken nothing is left to
@@ -154,8 +154,8 @@ KeepsOne true sessions left = (list_any has_spoken sessions ≡ true → length 
     × (list_any is_ended sessions ≡ true → left ≡ [])
 
 -- there is one connection, and its end was taken
-abbrev pub EndedAlone : List Session → Type 0
-EndedAlone sessions = (c : Session) × (sessions ≡ c ∷ []) × (c.phase ≡ Standings.Ended)
+abbrev pub OnlyEnded : List Session → Type 0
+OnlyEnded sessions = (c : Session) × (sessions ≡ c ∷ []) × (c.phase ≡ Standings.Ended)
 
 pub keeps_one_prop : (once : Bool) (sessions : List Session) (left : List ℕ) → IsProp (KeepsOne once sessions left)
 keeps_one_prop false sessions left = Unit-prop

@@ -7,18 +7,18 @@ use Rattle.ipx_host.specs.ListenOutcomes.{parted}
 use Rattle.ipx_host.specs.Transfer.{state_at}
 use Rattle.ipx_host.specs.declared.sessions.Session.{Session}
 use Rattle.ipx_host.specs.declared.sessions.SessionAction.{SessionAction}
-use Rattle.ipx_host.specs.declared.sessions.SessionAction.TheVariants as Fates
+use Rattle.ipx_host.specs.declared.sessions.SessionAction.TheVariants as ActionsOfSessions
 use Rattle.ipx_host.specs.declared.paced_host_core.PacedHostCore.{PacedHostCore}
 use Rattle.ipx_host.specs.declared.listening.ListenOutcome.{ListenOutcome}
 
 -- what becomes of a connection of a host, by its link and its silence
-abbrev pub IsFateOf : PacedHostCore → Session → SessionAction → Type 0
-IsFateOf core c fate =
+abbrev pub IsActionFor : PacedHostCore → Session → SessionAction → Type 0
+IsActionFor core c fate =
     IsSessionAction fate c.phase (state_at core.endpoint c.id) (core.moment - c.heard)
 
 -- nothing is to be done with a connection
 abbrev pub JustStays : PacedHostCore → Session → Type 0
-JustStays core c = IsFateOf core c Fates.Stays
+JustStays core c = IsActionFor core c ActionsOfSessions.Stays
 
 -- the connection at a place goes, and its link; whether the host stops then, its fate tells
 abbrev pub Parts : Bool → Session → ℕ → SessionAction → EndpointView → EndpointView → List Session → List Session → Option ListenOutcome → Type 0
@@ -27,17 +27,17 @@ Parts once c place fate old new sessions sessions' stop = LetsLinkGo old new c.i
 
 -- what is done with the connection at a place, by its fate
 abbrev pub DoesAction : Bool → ℕ → Session → ℕ → SessionAction → EndpointView → EndpointView → List Session → List Session → Option ListenOutcome → Type 0
-DoesAction once now c place Fates.Stays old new sessions sessions' stop =
+DoesAction once now c place ActionsOfSessions.Stays old new sessions sessions' stop =
     (new ≡ old) × (sessions' ≡ sessions) × (stop ≡ None)
-DoesAction once now c place Fates.Asks old new sessions sessions' stop = (c' : Session)
+DoesAction once now c place ActionsOfSessions.Asks old new sessions sessions' stop = (c' : Session)
     × Asks now old new c c' × (sessions' ≡ slice_set sessions place c') × (stop ≡ None)
-DoesAction once now c place Fates.Over old new sessions sessions' stop =
-    Parts once c place Fates.Over old new sessions sessions' stop
-DoesAction once now c place Fates.GivenUp old new sessions sessions' stop =
-    Parts once c place Fates.GivenUp old new sessions sessions' stop
+DoesAction once now c place ActionsOfSessions.Over old new sessions sessions' stop =
+    Parts once c place ActionsOfSessions.Over old new sessions sessions' stop
+DoesAction once now c place ActionsOfSessions.GivenUp old new sessions sessions' stop =
+    Parts once c place ActionsOfSessions.GivenUp old new sessions sessions' stop
 
 abbrev pub Tends : Bool → PacedHostCore → Session → ℕ → EndpointView → List Session → List Session → Option ListenOutcome → Type 0
-Tends once core c place new sessions sessions' stop = (fate : SessionAction) × IsFateOf core c fate
+Tends once core c place new sessions sessions' stop = (fate : SessionAction) × IsActionFor core c fate
     × DoesAction once core.moment c place fate core.endpoint new sessions sessions' stop
 
 -- one tending: of the first connection that does not just stay

@@ -3,7 +3,7 @@ use Rattle.std.specs.Prelude.{◌≡◌, ◌<◌, ◌↔◌, ◌⊎◌, ℕ, IsT
 use Rattle.ipx_carrier.specs.declared.fault.RunFault.TheVariants.{OutOfMemory}
 use Rattle.ipx_carrier.specs.declared.report.Report.{Report}
 use Rattle.ipx_carrier.specs.Driving.{TakesTurn}
-use Rattle.ipx_carrier.specs.HostCore.{Misses}
+use Rattle.ipx_carrier.specs.HostCore.{HearOutOfMemory}
 use Rattle.ipx_carrier.specs.Turns.{Given, Peers}
 use Rattle.ipx_host.specs.Barring.{HearsAllowed}
 use Rattle.ipx_host.specs.Paced.{GivesAsPlanned}
@@ -20,7 +20,7 @@ abbrev pub gives : PacedHostCore → ℕ → Option Given → PacedHostCore → 
 gives old now given new = GivesAsPlanned old now given new
 
 abbrev pub hear_out_of_memory : PacedHostCore → ℕ → List ℕ → ℕ → PacedHostCore → Type 0
-hear_out_of_memory old port bytes now new = Misses old.endpoint bytes new.endpoint
+hear_out_of_memory old port bytes now new = HearOutOfMemory old.endpoint bytes new.endpoint
     × (new ≡ record old { endpoint = new.endpoint; moment = now })
 
 abbrev pub next_out_of_memory : PacedHostCore → ℕ → PacedHostCore → Type 0

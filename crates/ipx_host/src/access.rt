@@ -2,7 +2,7 @@
 
 ghost use Rattle.std.specs.Prelude.{◌≡◌, ◌∷◌, ◌++◌, [], IfOk};
 ghost use Rattle.ipx_site.specs.SitePorts.{access_by, heard_at_port, named};
-ghost use Rattle.ipx_host.specs.Access.{dialed_ip, far_address, guarded_host, is_nowhere, is_on_own_network, known_ips};
+ghost use Rattle.ipx_host.specs.Access.{dialed_ip, peer_address_of, guarded_host, is_nowhere, is_on_own_network, known_ips};
 
 use crate::start::StartFault;
 use ipx_carrier::ip_of;
@@ -12,8 +12,8 @@ use std::alloc::Global;
 
 /// The address that the host of a file speaks to: network 0 is the host's own, which answers have as
 /// their source.
-pub fn far_address(file: &HostConfig, to: Address) -> Address
-    ensures { result ≡ far_address file.now to }
+pub fn peer_address_of(file: &HostConfig, to: Address) -> Address
+    ensures { result ≡ peer_address_of file.now to }
 {
     if to.network == Network::LOCAL {
         Address {

@@ -5,7 +5,7 @@ ghost use Rattle.std.specs.Io.KnownBytes.{Appends};
 ghost use Rattle.ipx_site.specs.Host.{IsHostText};
 ghost use Rattle.ipx_site.specs.Loading.{IsFileText};
 ghost use Rattle.ipx_site.specs.declared.host.HostConfig.{HostConfig as AHostFile};
-ghost use Rattle.ipx_host.specs.Saying.{host_line, host_lines, listener_text, own_place_text, peers_remarks, router_remark};
+ghost use Rattle.ipx_host.specs.HostCheckLines.{host_line, host_lines, listener_text, listen_address_text, peers_remarks, router_remark};
 
 use ipx_carrier::node_of;
 use ipx_site::{
@@ -15,8 +15,8 @@ use std::alloc::{AllocError, Global};
 use std::io::Write;
 use std::rt::Files;
 
-fn own_place_to_text(alloc: Global, file: &HostConfig) -> Result<String, AllocError>
-    ensures { IfOk result (λ t. string_bytes t ≡ own_place_text file.now) }
+fn listen_address_to_text(alloc: Global, file: &HostConfig) -> Result<String, AllocError>
+    ensures { IfOk result (λ t. string_bytes t ≡ listen_address_text file.now) }
 {
     let socket = hex::encode(alloc, file.socket.0.to_be_bytes())?;
     let network = hex::encode(alloc, file.network.0.to_be_bytes())?;
@@ -29,7 +29,7 @@ fn own_place_to_text(alloc: Global, file: &HostConfig) -> Result<String, AllocEr
 pub fn listener_to_text(alloc: Global, file: &HostConfig) -> Result<String, AllocError>
     ensures { IfOk result (λ t. string_bytes t ≡ listener_text file.now) }
 {
-    let place = own_place_to_text(alloc, file)?;
+    let place = listen_address_to_text(alloc, file)?;
     let reached = reached_to_text(alloc, file.address, file.udp_port)?;
     let others = others(file.accept);
     format!(in alloc; "{place} udp {reached}{others}")

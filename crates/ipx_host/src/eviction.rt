@@ -2,7 +2,7 @@
 
 ghost use Rattle.std.specs.Prelude.{◌≡◌, ◌↔◌, ◌<◌, ◌≤◌, true, count_by, is_some, length, map, position, vec_capacity, IfSome, IsTrue};
 ghost use Rattle.std.specs.List.{list_any};
-ghost use Rattle.ipx_host.specs.Sessions.{Admits, Asks, IsAskedUnless, HasNoPlaceFor, IsWantOfMemory, KeepsHeard, LetsLinkGo, LetsLinksGo, MakesRoom, heard_by, has_spoken, is_overdue, is_unheard_of, raised_if};
+ghost use Rattle.ipx_host.specs.Sessions.{Admits, Asks, IsAskedUnless, HasNoPlaceFor, IsOutOfMemory, KeepsHeard, LetsLinkGo, LetsLinksGo, MakesSpace, heard_by, has_spoken, is_overdue, is_unheard_of, raised_if};
 
 use crate::sessions::{Session, hear_one};
 use ipx_wire::{Address, Network};
@@ -133,9 +133,9 @@ pub fn hear_session(
 
 /// Lets the first connection go that is overdue at a moment, and its link. It answers whether there
 /// was one.
-pub fn make_room(endpoint: &mut Endpoint, sessions: &mut Vec<Session>, moment: u64) -> bool
+pub fn make_space(endpoint: &mut Endpoint, sessions: &mut Vec<Session>, moment: u64) -> bool
     requires { 16 ≤ vec_capacity sessions.old }
-    ensures makes { MakesRoom moment endpoint.old endpoint.new sessions.old.items sessions.new.items }
+    ensures makes { MakesSpace moment endpoint.old endpoint.new sessions.old.items sessions.new.items }
     ensures one { result ≡ is_some (position (is_overdue moment) sessions.old.items) }
     ensures room { 16 ≤ vec_capacity sessions.new }
 {
@@ -155,8 +155,8 @@ pub fn count_if(more: bool, count: u64) -> u64
 }
 
 /// Whether a message was refused for want of memory.
-fn is_want_of_memory(fault: EndFault) -> bool
-    ensures { IsTrue result ↔ IsWantOfMemory fault }
+fn is_out_of_memory(fault: EndFault) -> bool
+    ensures { IsTrue result ↔ IsOutOfMemory fault }
 {
     matches!(
         fault,
@@ -183,7 +183,7 @@ pub fn ask(alloc: Global, endpoint: &mut Endpoint, session: &mut Session, moment
         }
         Err(fault) => {
             session.heard = moment;
-            is_want_of_memory(fault)
+            is_out_of_memory(fault)
         }
     }
 }

@@ -3,25 +3,25 @@
 
 ghost use Rattle.std.specs.Prelude.{◌≡◌, ◌<◌, length, slice_get, take, All, IfSome, MatchOption};
 ghost use Rattle.ipx_host.specs.Sleeping.{AllStayFor, StaysFor};
-ghost use Rattle.ipx_host.specs.Tending.{IsFateOf, JustStays};
-ghost use Rattle.ipx_host.specs.declared.sessions.SessionAction.TheVariants as Fates;
+ghost use Rattle.ipx_host.specs.Tending.{IsActionFor, JustStays};
+ghost use Rattle.ipx_host.specs.declared.sessions.SessionAction.TheVariants as ActionsOfSessions;
 
 use crate::paced_host_core::PacedHostCore;
 use crate::sessions::{
-    FIRST_DATA_TIMEOUT, KEEPALIVE_AFTER, LINGER, Phase, Session, SessionAction, fate_of,
+    FIRST_DATA_TIMEOUT, KEEPALIVE_AFTER, LINGER, Phase, Session, SessionAction, session_action,
 };
 
 /// The longest wait, in milliseconds.
 const LONG: u64 = 3_600_000;
 
 /// What becomes of a connection of a host by now.
-pub fn fate_in(core: &PacedHostCore, session: &Session) -> SessionAction
-    ensures fate { IsFateOf core.now session.now result }
-    ensures asks { IsFateOf core.now session.now Fates.Asks → result ≡ Fates.Asks }
+pub fn action_in(core: &PacedHostCore, session: &Session) -> SessionAction
+    ensures fate { IsActionFor core.now session.now result }
+    ensures asks { IsActionFor core.now session.now ActionsOfSessions.Asks → result ≡ ActionsOfSessions.Asks }
 {
     let state = core.endpoint.state(session.id).ok();
     let silent = core.moment().saturating_sub(session.heard);
-    fate_of(session.phase, state, silent)
+    session_action(session.phase, state, silent)
 }
 
 /// The place of the first connection that does not just stay.
@@ -32,7 +32,7 @@ pub fn first_to_tend(core: &PacedHostCore, sessions: &[Session]) -> Option<usize
         × IfSome (slice_get sessions.now place) (λ c. JustStays core.now c → ⊥)) }
 {
     for (place, session) in sessions.iter().enumerate() {
-        if fate_in(core, session) != SessionAction::Stays {
+        if action_in(core, session) != SessionAction::Stays {
             return Some(place);
         }
     }
@@ -43,7 +43,7 @@ pub fn first_to_tend(core: &PacedHostCore, sessions: &[Session]) -> Option<usize
 fn stay_of(core: &PacedHostCore, session: &Session) -> u64
     ensures { StaysFor core.now session.now result }
 {
-    if fate_in(core, session) != SessionAction::Stays {
+    if action_in(core, session) != SessionAction::Stays {
         return 0;
     }
     let end = match session.phase {

@@ -33,7 +33,7 @@ mod taking;
 mod target;
 mod telling;
 
-pub use access::{far_address, is_nowhere, is_on_own_network, tell_nowhere};
+pub use access::{is_nowhere, is_on_own_network, peer_address_of, tell_nowhere};
 pub use checking::check_host;
 pub use listen::do_listen;
 pub use send::do_send;

@@ -4,7 +4,7 @@ ghost use Rattle.std.specs.Prelude.{◌≡◌, ◌≢◌, ◌<◌, ◌≤◌, �
 ghost use Rattle.ipx_carrier.specs.Mapping.{node_at};
 ghost use Rattle.ipx_carrier.specs.Turns.{peers_of};
 ghost use Rattle.ipx_site.specs.AllowedPeers.{named_in};
-ghost use Rattle.ipx_site.specs.SourceFilter.{kept_in};
+ghost use Rattle.ipx_site.specs.SourceFilter.{drops_in};
 ghost use Rattle.ipx_site.specs.SitePorts.{access_by};
 ghost use Rattle.ipx_site.specs.Steady.{NeverGoesBack};
 ghost use Rattle.ipx_wire.specs.declared.address.Socket.{Socket};
@@ -138,8 +138,8 @@ impl<'a, R: Net + Log + Clock> ListeningHost<'a, R> {
     /// Takes a turn, and notes the datagram that it heard.
     fn hear(&mut self, rt: &R, alloc: Global) -> Activity
         // Behind what was kept back more may lie.
-        ensures kept { kept_in self.old.station.host_socket.device.kept
-            < kept_in self.new.station.host_socket.device.kept → IsTrue result.active }
+        ensures kept { drops_in self.old.station.host_socket.device.kept
+            < drops_in self.new.station.host_socket.device.kept → IsTrue result.active }
         ensures hears { HearsAndNotesAll self.old.station.clock self.new.station.clock
             self.old.station.core self.new.station.core
             self.old.sessions.held.items self.new.sessions.held.items self.old.sessions.once
@@ -167,8 +167,8 @@ impl<'a, R: Net + Log + Clock> ListeningHost<'a, R> {
         writer: &mut W,
     ) -> Result<bool, ListenOutcome>
         // Behind what was kept back more may lie.
-        ensures kept { kept_in self.old.station.host_socket.device.kept
-            < kept_in self.new.station.host_socket.device.kept → IfOk result IsTrue }
+        ensures kept { drops_in self.old.station.host_socket.device.kept
+            < drops_in self.new.station.host_socket.device.kept → IfOk result IsTrue }
         ensures steps { (step : StepView) × StepsTo (listening_at self.old (W.contents writer.old))
             (listening_at self.new (W.contents writer.new))
             self.old.sessions.once (stop_in result)
@@ -195,8 +195,8 @@ impl<'a, R: Net + Log + Clock> ListeningHost<'a, R> {
         writer: &mut W,
     ) -> Result<(), ListenOutcome>
         // Behind what was kept back more may lie: it does not wait.
-        ensures kept { kept_in self.old.station.host_socket.device.kept
-            < kept_in self.new.station.host_socket.device.kept →
+        ensures kept { drops_in self.old.station.host_socket.device.kept
+            < drops_in self.new.station.host_socket.device.kept →
             self.new.station.poller.asked ≡ self.old.station.poller.asked }
         ensures steps { (step : StepView) × StepsTo (listening_at self.old (W.contents writer.old))
             (listening_at self.new (W.contents writer.new))

@@ -216,7 +216,7 @@ impl PacedHostCore {
 
 impl Core for PacedHostCore {
     ghost use Rattle.std.specs.Prelude.{◌≡◌};
-    ghost use Rattle.ipx_carrier.specs.HostCore.{Misses};
+    ghost use Rattle.ipx_carrier.specs.HostCore.{HearOutOfMemory};
     ghost use Rattle.ipx_host.specs.Barring.{HearsAllowed};
     ghost use Rattle.ipx_host.specs.Paced.{GivesAsPlanned};
 
@@ -226,7 +226,7 @@ impl Core for PacedHostCore {
 
     ghost gives = { λ old now given new. GivesAsPlanned old now given new };
 
-    ghost hear_out_of_memory = { λ old port bytes now new. Misses old.endpoint bytes new.endpoint
+    ghost hear_out_of_memory = { λ old port bytes now new. HearOutOfMemory old.endpoint bytes new.endpoint
         × (new ≡ record old { endpoint = new.endpoint; moment = now }) };
 
     ghost next_out_of_memory = { λ old now new. ⊥ };

@@ -6,18 +6,18 @@ use ipx_site::{RCVBUF_SIZE, UdpSockets};
 use log::{Log, warn};
 
 /// How many bytes of the room of a socket a unit takes.
-const UNIT_ROOM: u64 = 1280;
+const UNIT_BUFFER: u64 = 1280;
 
 /// Whether a socket with this room gets less than it asks for, and holds less than half of what so
 /// many buffers let a peer send.
 fn is_short(buffers: u16, room: u32) -> bool
     ensures { IsTrue result ↔ ((room < 4194304) × (2 * room < buffers * 1280)) }
 {
-    room < RCVBUF_SIZE && 2 * u64::from(room) < u64::from(buffers) * UNIT_ROOM
+    room < RCVBUF_SIZE && 2 * u64::from(room) < u64::from(buffers) * UNIT_BUFFER
 }
 
 /// Tells that the socket of a host holds less than its buffers want.
-pub fn tell_room<R: Log>(rt: &R, sockets: &UdpSockets, buffers: u16) {
+pub fn warn_small_rcvbuf<R: Log>(rt: &R, sockets: &UdpSockets, buffers: u16) {
     let room = sockets.room(0).unwrap_or(0);
     if is_short(buffers, room) {
         warn!(rt; target: "ipx",

@@ -3,9 +3,9 @@
 ghost use Rattle.std.specs.Prelude.{◌≡◌, ◌<◌, ◌↔◌, ◌∷◌, [], ℕ, false, true, IfOk, IsTrue, None, OnErr, Some, length, map, replicate};
 ghost use Rattle.ipx_carrier.specs.Mapping.{node_at};
 ghost use Rattle.ipx_carrier.specs.Turns.{peers_of};
-ghost use Rattle.ipx_site.specs.Moments.{AreToldIfDue};
+ghost use Rattle.ipx_site.specs.Moments.{AreLoggedIfDue};
 ghost use Rattle.ipx_site.specs.AllowedPeers.{named_in};
-ghost use Rattle.ipx_site.specs.SourceFilter.{kept_in};
+ghost use Rattle.ipx_site.specs.SourceFilter.{drops_in};
 ghost use Rattle.ipx_site.specs.SitePorts.{access_by};
 ghost use Rattle.ipx_site.specs.Steady.{NeverGoesBack};
 ghost use Rattle.ipx_wire.specs.declared.address.Socket.{Socket};
@@ -20,7 +20,7 @@ ghost use Rattle.ipx_host.specs.Turning.{TakesHostTurn, TellsOf};
 use crate::access::access_list_of;
 use crate::eviction::count_if;
 use crate::paced_host_core::{PacedHostCore, copy_origins};
-use crate::room::tell_room;
+use crate::room::warn_small_rcvbuf;
 use crate::start::{StartFault, check_streams};
 use crate::telling::{Counts, Telling};
 use ipx_carrier::{CountsFiltered, Report, RunFault, node_of, turn};
@@ -129,7 +129,7 @@ impl HostSocket {
         let peers = vec![in alloc; router]?;
         let access_lists = vec![in alloc; access_list_of(alloc, file, dials)?]?;
         let sockets = UdpSockets::bind_one(rt, alloc, file.address, file.udp_port)?;
-        tell_room(rt, &sockets, file.buffers);
+        warn_small_rcvbuf(rt, &sockets, file.buffers);
         let poller = Poller::new(rt, alloc, &sockets)?;
         Ok((HostSocket::new(sockets, access_lists, peers), poller))
     }
@@ -257,14 +257,14 @@ impl<'a, R: Net + Log + Clock> RunningHost<'a, R> {
             NeverGoesBack (peers_of self.old.host_socket.peers.items) self.old.core self.new.core result }
         // What was kept back is something that happened: behind it more may lie.
         ensures kept { IsTrue result.kept
-            ↔ kept_in self.old.host_socket.device.kept < kept_in self.new.host_socket.device.kept }
+            ↔ drops_in self.old.host_socket.device.kept < drops_in self.new.host_socket.device.kept }
         ensures peers { self.new.host_socket.peers ≡ self.old.host_socket.peers }
         // Who may speak is as before.
         ensures access { map access_by self.new.host_socket.device.access_lists.items
             ≡ map access_by self.old.host_socket.device.access_lists.items }
         ensures poller { self.new.poller ≡ self.old.poller }
         // Each trouble that is due behind the turn is told, and no other.
-        ensures told { AreToldIfDue (counts_of_host (host_counts self.new.host_socket.device.kept
+        ensures told { AreLoggedIfDue (counts_of_host (host_counts self.new.host_socket.device.kept
             self.new.core.rejected self.new.host_socket.device.device.faults self.new.refused))
             self.new.core.moment self.old.telling.causes self.new.telling.causes }
     {

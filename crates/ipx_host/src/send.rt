@@ -8,13 +8,13 @@ ghost use Rattle.ipx_site.specs.Loading.{IsFileText};
 ghost use Rattle.ipx_site.specs.Steady.{NeverGoesBack};
 ghost use Rattle.ipx_site.specs.declared.clock.SteadyClock.{SteadyClock};
 ghost use Rattle.ipx_wire.specs.declared.address.Address.{Address};
-ghost use Rattle.ipx_host.specs.Access.{far_address, is_nowhere};
+ghost use Rattle.ipx_host.specs.Access.{peer_address_of, is_nowhere};
 ghost use Rattle.ipx_host.specs.Midway.{sending_at};
 ghost use Rattle.ipx_host.specs.SendRounds.{SendState, Transfers};
 ghost use Rattle.ipx_host.specs.Sent.{SendsInput, SendsWholeInput};
 ghost use Rattle.ipx_host.specs.Target.{NamesAddress};
 
-use crate::access::{far_address, is_nowhere, tell_nowhere};
+use crate::access::{is_nowhere, peer_address_of, tell_nowhere};
 use crate::sending::SendingHost;
 use crate::start::{StartFault, tell_start};
 use crate::target::Target;
@@ -65,13 +65,13 @@ fn send_loaded<R: Net + Log + Clock + Eprint, I: Read>(
     shows: bool,
 ) -> u8
     // Where nothing goes to the address from its host, that is told, and nothing is read.
-    ensures nowhere { IfOk loaded (λ file. is_nowhere file (far_address file to) ≡ true
+    ensures nowhere { IfOk loaded (λ file. is_nowhere file (peer_address_of file to) ≡ true
         → (result ≡ 2) × (reader.new ≡ reader.old)) }
-    ensures status { IfOk loaded (λ file. is_nowhere file (far_address file to) ≡ false
+    ensures status { IfOk loaded (λ file. is_nowhere file (peer_address_of file to) ≡ false
         → result < 2) }
     // Where it ends well, the host of the file sent to the address all that the reader had.
     ensures sent { IfOk loaded (λ file. result ≡ 0
-        → SendsInput {K = SteadyClock R} file (far_address file to)
+        → SendsInput {K = SteadyClock R} file (peer_address_of file to)
         (I.remaining reader.old) (I.remaining reader.new) NeverGoesBack) }
     ensures unloaded { IfErr loaded (λ status. (result ≡ status) × (reader.new ≡ reader.old)) }
 {
@@ -79,7 +79,7 @@ fn send_loaded<R: Net + Log + Clock + Eprint, I: Read>(
         Ok(file) => file,
         Err(status) => return status,
     };
-    let to = far_address(&file, to);
+    let to = peer_address_of(&file, to);
     if is_nowhere(&file, to) {
         return tell_nowhere(rt, path, to.node);
     }
@@ -116,7 +116,7 @@ pub fn do_send<R: Net + Log + Files + Clock + Eprint, I: Read>(
     // that the reader had, by rounds of which the last one saw all of it acknowledged, the end too.
     ensures sent { result ≡ 0 → (text : List ℕ) × (file : HostConfig) × (to : Address)
         × IsFileText text × IsHostText text file × NamesAddress target.entry to
-        × SendsWholeInput {K = SteadyClock R} file (far_address file to)
+        × SendsWholeInput {K = SteadyClock R} file (peer_address_of file to)
         (I.remaining reader.old) (I.remaining reader.new) NeverGoesBack }
 {
     let to = match target.address() {

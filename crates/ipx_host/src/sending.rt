@@ -3,7 +3,7 @@
 ghost use Rattle.std.specs.Prelude.{◌≡◌, ◌<◌, ◌+◌, ◌↔◌, ◌⊎◌, ◌∷◌, [], ℕ, List, false, true, length, map, IfOk, IsTrue, Err, Ok, None, Option, Some};
 ghost use Rattle.std.specs.Io.KnownBytes.{IsAtEnd};
 ghost use Rattle.ipx_carrier.specs.Turns.{peers_of};
-ghost use Rattle.ipx_site.specs.SourceFilter.{kept_in};
+ghost use Rattle.ipx_site.specs.SourceFilter.{drops_in};
 ghost use Rattle.ipx_site.specs.SitePorts.{access_by};
 ghost use Rattle.ipx_site.specs.Steady.{NeverGoesBack};
 ghost use Rattle.ipx_wire.specs.declared.address.Address.{Address};
@@ -176,8 +176,8 @@ impl<'a, R: Net + Log + Clock + Eprint> SendingHost<'a, R> {
     /// Takes a turn, and reads. It answers whether there may be more to do at once.
     fn step<I: Read>(&mut self, rt: &R, alloc: Global, reader: &mut I) -> Result<bool, SendOutcome>
         // Behind what was kept back more may lie.
-        ensures kept { kept_in self.old.station.host_socket.device.kept
-            < kept_in self.new.station.host_socket.device.kept → IfOk result IsTrue }
+        ensures kept { drops_in self.old.station.host_socket.device.kept
+            < drops_in self.new.station.host_socket.device.kept → IfOk result IsTrue }
         ensures id { self.new.id ≡ self.old.id }
         // It notes, tells and feeds by what the turn left.
         ensures steps { IsSendStep IsFeedFault (sending_at self.old (I.remaining reader.old))
@@ -226,8 +226,8 @@ impl<'a, R: Net + Log + Clock + Eprint> SendingHost<'a, R> {
         reader: &mut I,
     ) -> Result<(), SendOutcome>
         // Behind what was kept back more may lie: it does not wait.
-        ensures kept { kept_in self.old.station.host_socket.device.kept
-            < kept_in self.new.station.host_socket.device.kept →
+        ensures kept { drops_in self.old.station.host_socket.device.kept
+            < drops_in self.new.station.host_socket.device.kept →
             self.new.station.poller.asked ≡ self.old.station.poller.asked }
         ensures id { self.new.id ≡ self.old.id }
         // It notes, tells and feeds by what the turn left.

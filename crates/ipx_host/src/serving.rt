@@ -1,22 +1,22 @@
 //! The connections of a host that listens: they come, pass what they hold, are asked, and go.
 
 ghost use Rattle.std.specs.Prelude.{◌≡◌, ◌<◌, ◌≤◌, [], ℕ, List, false, is_some, length, map, position, remove, slice_get, slice_set, vec_capacity, IfOk, IfSome, IsTrue, OnErr, OnOk, Err, Ok};
-ghost use Rattle.ipx_site.specs.Moments.{IsToldIfDue};
+ghost use Rattle.ipx_site.specs.Moments.{IsLoggedIfDue};
 ghost use Rattle.spx_messages.specs.EndpointView.{held_at};
-ghost use Rattle.ipx_host.specs.Sessions.{Admits, Asks, AsksOrCounts, EndedAlone, KeepsHeard, KeepsOne, LetsLinkGo, MakesRoom, NotesHeard, session_of, heard_by, is_overdue, keeps_one_prop, raised_if};
+ghost use Rattle.ipx_host.specs.Sessions.{Admits, Asks, AsksOrCounts, OnlyEnded, KeepsHeard, KeepsOne, LetsLinkGo, MakesSpace, NotesHeard, session_of, heard_by, is_overdue, keeps_one_prop, raised_if};
 ghost use Rattle.ipx_host.specs.SessionActions.{is_unheard};
 ghost use Rattle.ipx_host.specs.Hosting.{MovesSome, WritesAndPasses};
 ghost use Rattle.ipx_host.specs.ListenOutcomes.{parted, stop_in};
 ghost use Rattle.ipx_host.specs.HostOutput.{left_of};
 ghost use Rattle.ipx_host.specs.Passing.{PassesEach, PassesSome, Take};
-ghost use Rattle.ipx_host.specs.Tending.{IsFateOf, Tends, Tidies};
+ghost use Rattle.ipx_host.specs.Tending.{IsActionFor, Tends, Tidies};
 ghost use Rattle.ipx_host.specs.declared.sessions.Session.{Session};
-ghost use Rattle.ipx_host.specs.declared.sessions.SessionAction.TheVariants as Fates;
+ghost use Rattle.ipx_host.specs.declared.sessions.SessionAction.TheVariants as ActionsOfSessions;
 ghost use Rattle.ipx_host.specs.declared.sessions.Phase.TheVariants as Standings;
 ghost use Rattle.ipx_host.specs.declared.listening.ListenOutcome.TheVariants as Stops;
 
-use crate::eviction::{MAX_SESSIONS, ask, count_if, hear_session, hold, let_link_go, make_room};
-use crate::idle::{fate_in, first_to_tend};
+use crate::eviction::{MAX_SESSIONS, ask, count_if, hear_session, hold, let_link_go, make_space};
+use crate::idle::{action_in, first_to_tend};
 use crate::listening::ListenOutcome;
 use crate::output::{Outlet, WriteFault};
 use crate::paced_host_core::{Accepted, Arrival, PacedHostCore};
@@ -63,8 +63,8 @@ pub struct Sessions {
     /// Whether the first connection that is heard is the only one, and all is over with it.
     pub once: bool,
     /// How many connections went by their silence, of which nothing was ever heard.
-    never_spoke: u64,
-    of_never_spoke: ThrottledLog,
+    never_heard: u64,
+    of_never_heard: ThrottledLog,
     ghost room: { 16 ≤ vec_capacity held },
     ghost one: { KeepsOne once held.items (left_of output) } by { keeps_one_prop once held.items (left_of output) },
 }
@@ -75,8 +75,8 @@ impl Drop for Sessions {
             held: _,
             output: _,
             once: _,
-            never_spoke: _,
-            of_never_spoke: _,
+            never_heard: _,
+            of_never_heard: _,
         } = self;
     }
 }
@@ -92,8 +92,8 @@ impl Sessions {
             held: Vec::with_capacity(alloc, MAX_SESSIONS)?,
             output: Outlet::new(alloc, gate),
             once,
-            never_spoke: 0,
-            of_never_spoke: ThrottledLog::new(),
+            never_heard: 0,
+            of_never_heard: ThrottledLog::new(),
         })
     }
 
@@ -171,17 +171,17 @@ impl Sessions {
 
     /// Lets a connection go of which nothing was heard for long, since there was no link for
     /// another.
-    fn make_room(&mut self, endpoint: &mut Endpoint, moment: u64)
-        ensures room { MakesRoom moment endpoint.old endpoint.new
+    fn make_space(&mut self, endpoint: &mut Endpoint, moment: u64)
+        ensures room { MakesSpace moment endpoint.old endpoint.new
             self.old.held.items self.new.held.items }
-        ensures counts { self.new.never_spoke
+        ensures counts { self.new.never_heard
             ≡ raised_if (is_some (position (is_overdue moment) self.old.held.items))
-            self.old.never_spoke }
+            self.old.never_heard }
         ensures output { self.new.output ≡ self.old.output }
         ensures once { self.new.once ≡ self.old.once }
     {
-        let went = make_room(endpoint, &mut self.held, moment);
-        self.never_spoke = count_if(went, self.never_spoke);
+        let went = make_space(endpoint, &mut self.held, moment);
+        self.never_heard = count_if(went, self.never_heard);
     }
 
     /// Notes which connection the last datagram was of, or made, or did not find room for.
@@ -195,7 +195,7 @@ impl Sessions {
         match core.take_came() {
             Some(Arrival::Heard(id)) => self.hear_session(&mut core.endpoint, id, moment),
             Some(Arrival::Accepted(accepted)) => self.admit(&mut core.endpoint, accepted, moment),
-            Some(Arrival::NoRoom) => self.make_room(&mut core.endpoint, moment),
+            Some(Arrival::NoRoom) => self.make_space(&mut core.endpoint, moment),
             None => {}
         }
     }
@@ -232,15 +232,15 @@ impl Sessions {
 
     /// Tells how many connections went before anything was heard of them, once a minute at most.
     pub fn tell_silent<R: Log>(&mut self, rt: &R, moment: u64)
-        ensures told { IsToldIfDue self.old.never_spoke moment
-            self.old.of_never_spoke self.new.of_never_spoke }
-        ensures count { self.new.never_spoke ≡ self.old.never_spoke }
+        ensures told { IsLoggedIfDue self.old.never_heard moment
+            self.old.of_never_heard self.new.of_never_heard }
+        ensures count { self.new.never_heard ≡ self.old.never_heard }
         ensures held { self.new.held ≡ self.old.held }
         ensures output { self.new.output ≡ self.old.output }
         ensures once { self.new.once ≡ self.old.once }
     {
-        let count = self.never_spoke;
-        if let Some(more) = self.of_never_spoke.tell(count, moment) {
+        let count = self.never_heard;
+        if let Some(more) = self.of_never_heard.tell(count, moment) {
             warn!(rt; target: "ipx", "{more} connections never sent data ({count} since the start)");
         }
     }
@@ -260,7 +260,7 @@ impl Sessions {
         ensures stops { IfSome (slice_get self.old.held.items place) (λ c.
             stop_in result ≡ parted self.old.once fate c.phase) }
         ensures counts { IfSome (slice_get self.old.held.items place) (λ c.
-            self.new.never_spoke ≡ raised_if (is_unheard c.phase) self.old.never_spoke) }
+            self.new.never_heard ≡ raised_if (is_unheard c.phase) self.old.never_heard) }
         ensures only { OnErr result (IsTrue self.old.once) }
         // With `once` the only connection that was heard goes, and what was taken of it is written.
         ensures written { result ≡ Err Stops.Ended → left_of self.new.output ≡ [] }
@@ -269,7 +269,7 @@ impl Sessions {
     {
         let session = self.held.remove(place);
         let_link_go(endpoint, session.id);
-        self.never_spoke = count_if(session.phase.is_unheard(), self.never_spoke);
+        self.never_heard = count_if(session.phase.is_unheard(), self.never_heard);
         tell_parted(rt, &session, fate);
         stop_of(self.once, fate, session.phase)
     }
@@ -289,7 +289,7 @@ impl Sessions {
         // One that is to be asked is asked, where its link is open; or memory was refused, which is
         // counted.
         ensures asked { IfSome (slice_get self.old.held.items place) (λ c.
-            IsFateOf station.old.core c Fates.Asks → AsksOrCounts
+            IsActionFor station.old.core c ActionsOfSessions.Asks → AsksOrCounts
             station.old.core.endpoint station.new.core.endpoint c place
             self.old.held.items self.new.held.items station.old.refused station.new.refused) }
         ensures only { OnErr result (IsTrue self.old.once) }
@@ -303,7 +303,7 @@ impl Sessions {
         ensures output { self.new.output ≡ self.old.output }
         ensures once { self.new.once ≡ self.old.once }
     {
-        match fate_in(&station.core, &self.held[place]) {
+        match action_in(&station.core, &self.held[place]) {
             SessionAction::Stays => Ok(()),
             SessionAction::Asks => {
                 self.ask(alloc, station, place);
@@ -322,7 +322,7 @@ impl Sessions {
     ) -> Result<(), ListenOutcome>
         ensures tidies { Tidies self.old.once station.old.core station.new.core
             self.old.held.items self.new.held.items (stop_in result) }
-        ensures ended { result ≡ Err Stops.Ended → EndedAlone self.old.held.items }
+        ensures ended { result ≡ Err Stops.Ended → OnlyEnded self.old.held.items }
         ensures written { result ≡ Err Stops.Ended → left_of self.new.output ≡ [] }
         ensures only { OnErr result (IsTrue self.old.once) }
         ensures core { station.new.core ≡ record station.old.core {

@@ -4,7 +4,7 @@ ghost use Rattle.std.specs.Prelude.{◌≡◌, ◌↔◌, Some, map};
 ghost use Rattle.spx_link.specs.declared.state.State.TheVariants as States;
 ghost use Rattle.ipx_host.specs.SessionActions.{IsSessionAction, IsOver, IsToAsk, is_unheard, phase_asked, phase_heard};
 ghost use Rattle.ipx_host.specs.Sessions.{heard_by, has_spoken, is_overdue, is_unheard_of};
-ghost use Rattle.ipx_host.specs.declared.sessions.SessionAction.TheVariants as Fates;
+ghost use Rattle.ipx_host.specs.declared.sessions.SessionAction.TheVariants as ActionsOfSessions;
 ghost use Rattle.ipx_site.specs.AllowedPeers.{home_network};
 
 use ipx_wire::{Address, Network};
@@ -149,11 +149,11 @@ pub enum SessionAction {
 
 /// What becomes of a connection of this standing, whose link has this state, or is gone, and that
 /// was silent for so many milliseconds.
-pub fn fate_of(phase: Phase, state: Option<State>, silent: u64) -> SessionAction
+pub fn session_action(phase: Phase, state: Option<State>, silent: u64) -> SessionAction
     ensures fate { IsSessionAction result phase state silent }
-    ensures given_up { (result ≡ Fates.GivenUp) ↔ (state ≡ Some States.Lost) }
-    ensures over { (result ≡ Fates.Over) ↔ IsOver phase state silent }
-    ensures asks { (result ≡ Fates.Asks) ↔ IsToAsk phase state silent }
+    ensures given_up { (result ≡ ActionsOfSessions.GivenUp) ↔ (state ≡ Some States.Lost) }
+    ensures over { (result ≡ ActionsOfSessions.Over) ↔ IsOver phase state silent }
+    ensures asks { (result ≡ ActionsOfSessions.Asks) ↔ IsToAsk phase state silent }
 {
     match (phase, state) {
         (_, Some(State::Lost)) => SessionAction::GivenUp,

@@ -2,7 +2,7 @@
 
 ghost use Rattle.std.specs.Prelude.{◌≡◌, replicate};
 ghost use Rattle.ipx_site.specs.IdleTime.{counts_of};
-ghost use Rattle.ipx_site.specs.Moments.{AreToldIfDue, untold};
+ghost use Rattle.ipx_site.specs.Moments.{AreLoggedIfDue, untold};
 ghost use Rattle.ipx_host.specs.HostLines.{counts_of_host};
 
 use ipx_site::{FilterDrops, ThrottledLog, Warning, tell_each};
@@ -60,7 +60,7 @@ impl Telling {
 
     /// Tells what it is time to tell.
     pub fn tell<R: Log>(&mut self, rt: &R, counts: Counts, now: u64)
-        ensures { AreToldIfDue (counts_of_host counts) now self.old.causes self.new.causes }
+        ensures { AreLoggedIfDue (counts_of_host counts) now self.old.causes self.new.causes }
     {
         tell_each(rt, &mut self.causes, &warnings_in(counts), now);
     }

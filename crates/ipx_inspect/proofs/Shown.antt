@@ -9,7 +9,7 @@ use Rattle.hex.proofs.HexLemmas.{decode_of-encode_lower}
 use Rattle.ipx_wire.specs.declared.address.Node.{Node}
 use Rattle.ipx_inspect.specs.Output.{AppendsFront, LeavesWritten, no_memory_line}
 use Rattle.ipx_inspect.specs.Show.{Shows, ShowWrites}
-use Rattle.ipx_inspect.specs.ShownFrame.{IsShown, LeavesBehind, LeavesFrame, LeavesShown, ShownFrame, ShowsFrame, bad_text_line}
+use Rattle.ipx_inspect.specs.ShownFrame.{IsShown, LeavesAfter, LeavesFrame, LeavesShown, ShownFrame, ShowsFrame, bad_text_line}
 
 pub on_err : {T E : Type 0} (r : Result T E) (P : Type 0) → P → OnErr r P
 on_err (Ok x) P p = tt
@@ -45,12 +45,12 @@ head_written (Ok l) text status s a b head made wrote = subst (Appends a b) made
 longer_front : (a b : Option (List ℕ)) (whole more : List ℕ) → AppendsFront a b whole → AppendsFront a b (whole ++ more)
 longer_front a b whole more (front, rest, is, wrote) = (front, rest ++ more, ap (λ (t : List ℕ). t ++ more) is ∙ append_assoc front rest more, wrote)
 
-front_behind : (a m b : Option (List ℕ)) (head whole : List ℕ) → Appends a m head → AppendsFront m b whole → AppendsFront a b (head ++ whole)
-front_behind a m b head whole first (front, rest, is, wrote) =
+front_after : (a m b : Option (List ℕ)) (head whole : List ℕ) → Appends a m head → AppendsFront m b whole → AppendsFront a b (head ++ whole)
+front_after a m b head whole first (front, rest, is, wrote) =
     (head ++ front, rest, ap (λ (t : List ℕ). head ++ t) is ∙ sym (append_assoc head front rest), Appends-trans a m b head front first wrote)
 
 pub head_left : {L E : Type 0} (lines : Result L E) (text : L → List ℕ) (a b : Option (List ℕ)) (head : List ℕ) (IsMore : List ℕ → Type 0) → IfOk lines (λ l. text l ≡ head)
-    → AppendsFront a b no_memory_line ⊎ IsOkAnd lines (λ l. AppendsFront a b (text l)) → LeavesBehind a b head IsMore
+    → AppendsFront a b no_memory_line ⊎ IsOkAnd lines (λ l. AppendsFront a b (text l)) → LeavesAfter a b head IsMore
 head_left (Err e) text a b head IsMore made left = elim left [ inl none ↦ inl none | inr some ↦ absurd some ]
 head_left (Ok l) text a b head IsMore made left = elim left [
   | inl none ↦ inl none
@@ -63,11 +63,11 @@ heard_written (Err e) Writes a m b head first wrote = tt
 heard_written (Ok s) Writes a m b head first wrote = (wrote.0, wrote.1, Appends-trans a m b head wrote.0 first wrote.2)
 
 pub heard_left : {F : Type 0} (result : Result ℕ F) (IsMore : List ℕ → Type 0) (a m b : Option (List ℕ)) (head : List ℕ) → Appends a m head
-    → OnErr result (LeavesWritten m b IsMore) → OnErr result (LeavesBehind a b head IsMore)
+    → OnErr result (LeavesWritten m b IsMore) → OnErr result (LeavesAfter a b head IsMore)
 heard_left (Ok s) IsMore a m b head first left = tt
 heard_left (Err e) IsMore a m b head first left = elim left [
-  | inl none ↦ inr (inl (front_behind a m b head no_memory_line first none))
-  | inr some ↦ inr (inr (some.0, some.1, front_behind a m b head some.0 first some.2))
+  | inl none ↦ inr (inl (front_after a m b head no_memory_line first none))
+  | inr some ↦ inr (inr (some.0, some.1, front_after a m b head some.0 first some.2))
 ]
 
 -- ---- a line of input

@@ -65,8 +65,8 @@ ShowsFrames own input lines status = MatchBool (nat_lt max_input (length input))
 
 -- the first bytes of some lines that begin so, or of the line for out of memory, which follows that beginning
 -- or is alone
-abbrev pub LeavesBehind : Option (List ℕ) → Option (List ℕ) → List ℕ → (List ℕ → Type 0) → Type 0
-LeavesBehind before after head IsMore = AppendsFront before after no_memory_line
+abbrev pub LeavesAfter : Option (List ℕ) → Option (List ℕ) → List ℕ → (List ℕ → Type 0) → Type 0
+LeavesAfter before after head IsMore = AppendsFront before after no_memory_line
     ⊎ AppendsFront before after (head ++ no_memory_line)
     ⊎ ((more : List ℕ) × IsMore more × AppendsFront before after (head ++ more))
 
@@ -74,7 +74,7 @@ LeavesBehind before after head IsMore = AppendsFront before after no_memory_line
 abbrev pub LeavesFrame : Node → List ℕ → Option (List ℕ) → Option (List ℕ) → Type 0
 LeavesFrame own bytes before after = MatchOption (frame_fault own bytes)
     ((e : Encapsulation) × (f : FrameView) × (tail : List ℕ) × IsFrame e f bytes tail
-    × LeavesBehind before after (frame_line e f) (λ packet. (status : ℕ) × Shows f.packet packet status))
+    × LeavesAfter before after (frame_line e f) (λ packet. (status : ℕ) × Shows f.packet packet status))
     (λ fault. LeavesWritten before after (λ lines. lines ≡ no_frame_line fault))
 
 -- for this line of input

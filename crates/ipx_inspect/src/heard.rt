@@ -6,7 +6,7 @@ ghost use Rattle.ipx_inspect.specs.Output.{LeavesWritten};
 ghost use Rattle.ipx_inspect.specs.Show.{Shows};
 ghost use Rattle.ipx_ethernet.specs.Frame.{frame_view};
 ghost use Rattle.ipx_inspect.specs.FrameLine.{frame_line};
-ghost use Rattle.ipx_inspect.specs.ShownFrame.{LeavesBehind, LeavesFrame, ShowsFrame};
+ghost use Rattle.ipx_inspect.specs.ShownFrame.{LeavesAfter, LeavesFrame, ShowsFrame};
 
 use crate::frame_line::{frame_lines, refused_lines};
 use crate::output::{tell_no_memory, write_lines};
@@ -43,7 +43,7 @@ fn show_heard<W: Write>(
         × Appends (W.contents writer.old) (W.contents writer.new)
         (frame_line encapsulation (frame_view frame.now) ++ packet)) }
     ensures fault { IfErr result (λ status. status ≡ 1) }
-    ensures left { OnErr result (LeavesBehind (W.contents writer.old) (W.contents writer.new)
+    ensures left { OnErr result (LeavesAfter (W.contents writer.old) (W.contents writer.new)
         (frame_line encapsulation (frame_view frame.now)) (λ packet.
         (status : ℕ) × Shows frame.now.packet.now packet status)) }
 {

@@ -13,7 +13,7 @@ fn is_told(answer: Result<u8, u8>, written: &[u8], lines: &str) -> bool {
 }
 
 /// The same for frames, of which one is refused: that memory ran out may follow their first lines.
-fn is_told_behind(answer: Result<u8, u8>, written: &[u8]) -> bool {
+fn is_told_after(answer: Result<u8, u8>, written: &[u8]) -> bool {
     match answer {
         Ok(status) => status == 1 && written == HEARD.as_bytes(),
         Err(status) => {
@@ -46,7 +46,7 @@ fn refused_show_frames(rt: HostRuntime) {
     if let Ok(mut written) = Vec::with_capacity(rt.alloc(), 256) {
         let mut reader = FRAMES.as_bytes();
         let answer = do_show_frames(rt.alloc(), STATION, &mut reader, &mut written);
-        assert!(rt; is_told_behind(answer, written.as_slice()));
+        assert!(rt; is_told_after(answer, written.as_slice()));
     }
 }
 

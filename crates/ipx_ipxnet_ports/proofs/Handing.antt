@@ -83,8 +83,8 @@ hands_both ds es s t u f g i h k =
     }
 
 -- the same if something came before
-pub hands_behind : (ds came : List PlaceDatagram) (s t u : Option PlaceTraffic) (f g : ℕ) → PlacesPass s t came [] → HandsOver ds [] t u f g → HandsOver ds came s u f g
-hands_behind ds came s t u f g first h =
+pub hands_after : (ds came : List PlaceDatagram) (s t u : Option PlaceTraffic) (f g : ℕ) → PlacesPass s t came [] → HandsOver ds [] t u f g → HandsOver ds came s u f g
+hands_after ds came s t u f g first h =
     let went : List PlaceDatagram = datagrams_of (taken_of h.handed) in
     let both : PlacesPass s u (came ++ []) went = pass_on s t u came [] [] went first h.went in
     record {

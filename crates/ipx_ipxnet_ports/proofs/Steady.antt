@@ -18,21 +18,21 @@ use Rattle.ipxnet_server.specs.declared.port.ServerPort.{ServerPort}
 use Rattle.ipxnet_server.specs.declared.recipients.Recipients.{Recipients}
 use Rattle.ipxnet_server.specs.declared.recipients.Recipients.TheVariants.{Joined, Nobody}
 use Rattle.ipxnet_server.specs.ServerClients.{client_at, client_of_node}
-use Rattle.ipxnet_server.specs.ServerHears.{ServerView, all_get, answer_of, client_gets, is_dropped, is_joined_taker, is_taker, is_to_service, server_aged, server_gives, server_giving, server_hearing, server_told, max_client_bytes, notice_of, takers_join, takers_of, takers_reach}
+use Rattle.ipxnet_server.specs.ServerHears.{ServerView, all_get, answer_of, client_gets, is_dropped, is_joined_taker, is_taker, is_to_service, server_aged, server_gives, server_giving, server_hearing, server_learned, max_client_bytes, notice_of, takers_join, takers_of, takers_reach}
 use Rattle.ipxnet_server.specs.PeerServers.{is_joined_place}
 use Rattle.ipx_carrier.specs.declared.segments.PacketSent.{PacketSent}
 use Rattle.ipx_carrier.specs.PortDrivers.{copies_count, count_in}
 use Rattle.ipx_carrier.specs.Turns.{Given}
 use Rattle.ipx_ipxnet_ports.specs.OnServers.{AreForClients, AreForRouters, HearsAtServer, ServersView, SendsThroughServer, answer_for, by_servers, clients_reached, joined_sends, servers_view, server_ports, server_sends, notice_for, packet_said, packet_sends, relayed_on, relayed_to, routers_reached, takers_given}
 use Rattle.ipx_ipxnet_ports.specs.PlaceTraffic.{HandsOver, PlaceDatagram, PlaceTraffic, PlacesPass, place_datagram}
-use Rattle.ipx_ipxnet_ports.proofs.Handing.{hands_behind}
+use Rattle.ipx_ipxnet_ports.proofs.Handing.{hands_after}
 
 -- ---- a server keeps its port, and how many clients it may have
 
 abbrev port_in : ServerView → ServerPort × ℕ
 port_in l = (l.port, l.most)
 
-told_stays : (told : Option Node) (from : Place) (now : ℕ) (l : ServerView) → port_in (server_told told from now l) ≡ port_in l
+told_stays : (told : Option Node) (from : Place) (now : ℕ) (l : ServerView) → port_in (server_learned told from now l) ≡ port_in l
 told_stays None from now l = refl
 told_stays (Some node) from now l = refl
 
@@ -100,9 +100,9 @@ answer_known port place l None h = All-nil (λ (d : PlaceDatagram). is_some (cli
 answer_known port place l (Some answer) h =
     All-cons (λ (d : PlaceDatagram). is_some (client_at d.place l.clients) ≡ true) (place_datagram port answer place) [] (h refl) (All-nil (λ (d : PlaceDatagram). is_some (client_at d.place l.clients) ≡ true))
 
-answered_apart : (joined : Bool) (heard : Disposition) → (joined ≡ true → answer_of heard ≡ None) → is_some (answer_of heard) ≡ true → joined ≡ false
-answered_apart true heard unanswered e = cc (ap is_some (unanswered refl))
-answered_apart false heard unanswered e = refl
+answered_separate : (joined : Bool) (heard : Disposition) → (joined ≡ true → answer_of heard ≡ None) → is_some (answer_of heard) ≡ true → joined ≡ false
+answered_separate true heard unanswered e = cc (ap is_some (unanswered refl))
+answered_separate false heard unanswered e = refl
 
 -- a sender that is answered was heard and is no joined router, so it is a client
 pub sends_known : (joined : Bool) (l : ServerView) (heard : Disposition) (d : PlaceDatagram) (answer : Option (List ℕ)) (c : Client) → is_some answer ≡ is_some (answer_of heard) → (is_dropped heard ≡ false → joined ≡ false → client_at d.place l.clients ≡ Some c) → (joined ≡ true → answer_of heard ≡ None)
@@ -110,7 +110,7 @@ pub sends_known : (joined : Bool) (l : ServerView) (heard : Disposition) (d : Pl
 sends_known joined l heard d answer c answered sender unanswered =
     let one = λ (e : is_some answer ≡ true). sym answered ∙ e in
     All-append (λ (s : PlaceDatagram). is_some (client_at s.place l.clients) ≡ true) (answer_for d.port d.place answer) (relayed_to d.port d.bytes (clients_reached l (takers_of heard)))
-    (answer_known d.port d.place l answer (λ e. ap (λ (o : Option Client). is_some o) (sender (answered_kept heard (one e)) (answered_apart joined heard unanswered (one e)))))
+    (answer_known d.port d.place l answer (λ e. ap (λ (o : Option Client). is_some o) (sender (answered_kept heard (one e)) (answered_separate joined heard unanswered (one e)))))
     (relays_known d.port d.bytes l (takers_of heard))
 
 -- ---- what is sent on is for joined routers, and did not come from one
@@ -195,12 +195,12 @@ nothing_goes_round l heard d announcement noticed unanswered ring =
 
 -- ---- what is received after what the sockets returned
 
-pub hears_behind : (now most : ℕ) (d : PlaceDatagram) (room : List ℕ) (up : Option ℕ) (servers : List ServerView) (kept : ℕ) (s t : Option PlaceTraffic) (f f' : ℕ) (new : ServersView) → f' ≡ f → PlacesPass s t (d ∷ []) []
+pub hears_after : (now most : ℕ) (d : PlaceDatagram) (room : List ℕ) (up : Option ℕ) (servers : List ServerView) (kept : ℕ) (s t : Option PlaceTraffic) (f f' : ℕ) (new : ServersView) → f' ≡ f → PlacesPass s t (d ∷ []) []
     → HearsAtServer now most d [] room up (servers_view servers kept t f') new → HearsAtServer now most d (d ∷ []) room up (servers_view servers kept s f) new
-hears_behind now most d room up servers kept s t f f' new as_often first r =
+hears_after now most d room up servers kept s t f f' new as_often first r =
     let sends : List PlaceDatagram = server_sends r.after r.heard d r.onward.answer ++ joined_sends r.after r.heard d r.onward.announcement in
     let behind : HandsOver sends (d ∷ []) s new.traffic f' new.failed =
-    hands_behind sends (d ∷ []) s t new.traffic f' new.failed first r.onward.gone in
+    hands_after sends (d ∷ []) s t new.traffic f' new.failed first r.onward.gone in
     record {
       server = r.server;
       after = r.after;

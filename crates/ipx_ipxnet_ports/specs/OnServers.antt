@@ -104,9 +104,9 @@ TakesBytes gets bytes most room (Some n) = (gets ≡ true) × (take n room ≡ t
 TakesBytes gets bytes most room None = gets ≡ false
 
 -- the count of what the core did not get
-abbrev pub kept_count : Option ℕ → ℕ → ℕ
-kept_count None kept = raised kept
-kept_count (Some n) kept = kept
+abbrev pub filtered_count : Option ℕ → ℕ → ℕ
+filtered_count None kept = raised kept
+filtered_count (Some n) kept = kept
 
 -- ports with servers, without their sockets: the servers, how much was kept from the core, what passed
 -- through the sockets, and how often those failed
@@ -139,7 +139,7 @@ pub record HearsAtServer (now most : ℕ) (d : PlaceDatagram) (came : List Place
   pub no_longer : (answer : List ℕ) → IsAnswer heard answer → length answer ≤ length d.bytes
   pub core : TakesBytes (goes_to_core heard) d.bytes most room up
   pub servers : new.servers ≡ slice_set old.servers d.port after
-  pub counted : new.kept ≡ kept_count up old.kept
+  pub counted : new.kept ≡ filtered_count up old.kept
 
 -- the same for what the sockets return: a datagram; or that nothing came, or that they failed, which they
 -- count

@@ -11,9 +11,9 @@ use Rattle.std.specs.declared.net.socket_addr.SocketAddr.TheVariants.{V4, V6}
 use Rattle.ipxnet_server.specs.declared.place.Place.{Place}
 use Rattle.ipx_ipxnet_ports.specs.declared.sockets.ServerSocket.{ServerSocket}
 
-abbrev pub place_behind : SocketAddr → Option Place
-place_behind (V4 a) = Some (record { ip = ipv4_octets (v4_ip a); udp_port = v4_port a })
-place_behind (V6 a) = None
+abbrev pub ipv4_place : SocketAddr → Option Place
+ipv4_place (V4 a) = Some (record { ip = ipv4_octets (v4_ip a); udp_port = v4_port a })
+ipv4_place (V6 a) = None
 
 -- the IP addresses that are named; None means any
 abbrev pub listed_ips : Option (Vec (List ℕ) Global) → Option (List (List ℕ))

@@ -15,7 +15,7 @@ use ipxnet_server::{IpxnetServer, MAX_CLIENT_BYTES, Place, Recipients};
 
 /// The size of the buffer that a datagram is received into: more than any that is sent on to
 /// clients.
-const DATAGRAM_ROOM: usize = 1536;
+const DATAGRAM_BUFFER: usize = 1536;
 
 /// Ports that each have an ipxnet server, which may be joined to those of other routers. What a
 /// client sends is answered and sent to others, the core gets what is for it, and its packets are
@@ -60,7 +60,7 @@ impl<D: PlaceSockets + Drop> Servers<D> {
 
     /// Sets the time, in ms, of what is received and sent from now on. Call it before each turn, or
     /// before each batch.
-    pub fn set_moment(&mut self, moment: u64)
+    pub fn set_time(&mut self, moment: u64)
         ensures { self.new ≡ record self.old { moment = moment } }
     {
         self.moment = moment;
@@ -239,7 +239,7 @@ impl<D: PlaceSockets + Drop> PortDriver for Servers<D> {
         ensures filtered { D.filtered self.old.sockets ≤ D.filtered self.new.sockets }
         ensures ports { D.port_count self.new.sockets ≡ D.port_count self.old.sockets }
     {
-        let mut datagram = [0; DATAGRAM_ROOM];
+        let mut datagram = [0; DATAGRAM_BUFFER];
         let Ok(came) = self.sockets.receive(port, &mut datagram) else {
             return Ok(None);
         };

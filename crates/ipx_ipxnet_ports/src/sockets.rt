@@ -2,8 +2,8 @@
 
 ghost use Rattle.std.specs.Prelude.{◌≡◌, ◌<◌, ◌≤◌, ◌↔◌, ◌++◌, ◌∷◌, [], Bool, IfOk, IfSome, IsSome, None, Ok, OnErr, OnOk, false, is_some, length, map, slice_get, slice_set, true};
 ghost use Rattle.ipx_carrier.specs.Counting.{raised};
-ghost use Rattle.ipx_carrier.specs.ReadySet.{AsksMarked, IsKeptOrAnswer, is_port_marked};
-ghost use Rattle.ipx_ipxnet_ports.specs.ServerAddresses.{ips_heard, is_ip_heard, listed_ips, place_behind, place_heard};
+ghost use Rattle.ipx_carrier.specs.ReadySet.{AsksMarked, IsFilteredOrAnswer, is_port_marked};
+ghost use Rattle.ipx_ipxnet_ports.specs.ServerAddresses.{ips_heard, is_ip_heard, listed_ips, ipv4_place, place_heard};
 ghost use Rattle.ipx_ipxnet_ports.specs.PlaceTraffic.{failures_with};
 
 use crate::place_sockets::{DatagramCame, PlaceSockets};
@@ -47,7 +47,7 @@ const TRIES: u32 = 8;
 
 /// The source address of a datagram.
 fn place_at(from: SocketAddr) -> Option<Place>
-    ensures { result ≡ place_behind from }
+    ensures { result ≡ ipv4_place from }
 {
     match from {
         SocketAddr::V4(from) => Some(Place {
@@ -71,7 +71,7 @@ fn is_heard(ips: &Option<Vec<[u8; 4]>>, ip: [u8; 4]) -> bool
 impl ServerSocket {
     /// The source address of a datagram, if it is accepted.
     fn place_heard(&self, from: SocketAddr) -> Option<Place>
-        ensures { result ≡ place_heard (ips_heard self.now) (place_behind from) }
+        ensures { result ≡ place_heard (ips_heard self.now) (ipv4_place from) }
     {
         let place = place_at(from)?;
         if is_heard(&self.hears, place.ip) {
@@ -218,7 +218,7 @@ impl PlaceSockets for ServerSockets {
         ensures marked { is_port_marked self.old.marks port ≡ true → IfOk result (λ answer.
             (came : Bool) × AsksMarked port came self.old.marks self.new.marks
             self.old.faults self.new.faults
-            × IsKeptOrAnswer came (is_some answer) self.old.nowhere self.new.nowhere) }
+            × IsFilteredOrAnswer came (is_some answer) self.old.nowhere self.new.nowhere) }
         // What came from an accepted address is returned, and anything else is counted.
         ensures within { IfOk result (λ came. IfSome came (λ c. c.size ≤ length room.old)) }
         ensures answered { IfOk result (λ came. IsSome came

@@ -2,8 +2,8 @@
 //! and the core gets what is for it.
 
 use crate::fixture::{
-    ANSWER, CAME, FIRST, PORT, REGISTRATION, SECOND, THIRD, UNKNOWN_SENDER, behind_registrations,
-    packet, servers, went_behind,
+    ANSWER, CAME, FIRST, PORT, REGISTRATION, SECOND, THIRD, UNKNOWN_SENDER, after_registrations,
+    packet, servers, went_after,
 };
 use ipx_carrier::{PortDriver, PortDriverFilters};
 use ipx_ipxnet_ports::MemoryPlaces;
@@ -28,10 +28,10 @@ fn a_registration(rt: HostRuntime) -> Result<(), Fail> {
     let mut sockets = MemoryPlaces::new(alloc, 1);
     sockets.put(0, FIRST, &REGISTRATION)?;
     let mut servers = servers(alloc, sockets)?;
-    servers.set_moment(7);
+    servers.set_time(7);
     let mut room = [0xaa; 1536];
     assert!(rt; matches!(servers.receive(0, &mut room), Ok(None)));
-    assert!(rt; went_behind(servers.sockets(), 0, &[FIRST], &ANSWER));
+    assert!(rt; went_after(servers.sockets(), 0, &[FIRST], &ANSWER));
     assert_eq!(rt; room, [0xaa; 1536]);
     assert_eq!(rt; servers.filtered(), 1);
     let known = servers.servers()[0].clients();
@@ -47,10 +47,10 @@ fn a_registration(rt: HostRuntime) -> Result<(), Fail> {
 #[test]
 fn to_all(rt: HostRuntime) -> Result<(), Fail> {
     let bytes = packet(Node::BROADCAST);
-    let mut servers = behind_registrations(rt.alloc(), &bytes)?;
+    let mut servers = after_registrations(rt.alloc(), &bytes)?;
     let mut room = [0xaa; 1536];
     assert!(rt; matches!(servers.receive(0, &mut room), Ok(None)));
-    assert!(rt; went_behind(servers.sockets(), 3, &[SECOND, THIRD], &bytes));
+    assert!(rt; went_after(servers.sockets(), 3, &[SECOND, THIRD], &bytes));
     assert_eq!(rt; room, [0xaa; 1536]);
     assert_eq!(rt; servers.filtered(), 4);
     Ok(())
@@ -59,24 +59,24 @@ fn to_all(rt: HostRuntime) -> Result<(), Fail> {
 /// To the node of one player: only to that one.
 #[test]
 fn to_one(rt: HostRuntime) -> Result<(), Fail> {
-    let mut servers = behind_registrations(rt.alloc(), &CAME)?;
+    let mut servers = after_registrations(rt.alloc(), &CAME)?;
     let mut room = [0; 1536];
     assert!(rt; matches!(servers.receive(0, &mut room), Ok(None)));
-    assert!(rt; went_behind(servers.sockets(), 3, &[SECOND], &CAME));
+    assert!(rt; went_after(servers.sockets(), 3, &[SECOND], &CAME));
     Ok(())
 }
 
 /// A ping is answered first, and sent to the others after that.
 #[test]
 fn a_ping(rt: HostRuntime) -> Result<(), Fail> {
-    let mut servers = behind_registrations(rt.alloc(), &PING)?;
+    let mut servers = after_registrations(rt.alloc(), &PING)?;
     let mut room = [0; 1536];
     assert!(rt; matches!(servers.receive(0, &mut room), Ok(None)));
     let sent = servers.sockets().went();
     assert_eq!(rt; sent.len(), 6);
     assert_eq!(rt; sent[3].place, FIRST);
     assert_eq!(rt; sent[3].bytes.as_slice(), PONG.as_slice());
-    assert!(rt; went_behind(servers.sockets(), 4, &[SECOND, THIRD], &PING));
+    assert!(rt; went_after(servers.sockets(), 4, &[SECOND, THIRD], &PING));
     assert_eq!(rt; servers.filtered(), 4);
     Ok(())
 }
@@ -86,14 +86,14 @@ fn a_ping(rt: HostRuntime) -> Result<(), Fail> {
 #[test]
 fn to_the_core(rt: HostRuntime) -> Result<(), Fail> {
     let bytes = packet(PORT.own);
-    let mut servers = behind_registrations(rt.alloc(), &bytes)?;
+    let mut servers = after_registrations(rt.alloc(), &bytes)?;
     let mut room = [0xaa; 1536];
     assert!(rt; matches!(servers.receive(0, &mut room), Ok(Some(34))));
     assert_eq!(rt; &room[..34], bytes.as_slice());
     assert_eq!(rt; room[34], 0xaa);
     assert_eq!(rt; servers.sockets().went().len(), 3);
     assert_eq!(rt; servers.filtered(), 3);
-    let mut servers = behind_registrations(rt.alloc(), &bytes)?;
+    let mut servers = after_registrations(rt.alloc(), &bytes)?;
     let mut small = [0xaa; 12];
     assert!(rt; matches!(servers.receive(0, &mut small), Ok(Some(12))));
     assert_eq!(rt; small.as_slice(), &bytes[..12]);
@@ -106,11 +106,11 @@ fn to_all_and_the_core(rt: HostRuntime) -> Result<(), Fail> {
     let mut bytes = packet(Node::BROADCAST);
     bytes[16..18].copy_from_slice(&[4, 0x53]);
     bytes[30..32].copy_from_slice(&[0, 1]);
-    let mut servers = behind_registrations(rt.alloc(), &bytes)?;
+    let mut servers = after_registrations(rt.alloc(), &bytes)?;
     let mut room = [0; 1536];
     assert!(rt; matches!(servers.receive(0, &mut room), Ok(Some(34))));
     assert_eq!(rt; &room[..34], bytes.as_slice());
-    assert!(rt; went_behind(servers.sockets(), 3, &[SECOND, THIRD], &bytes));
+    assert!(rt; went_after(servers.sockets(), 3, &[SECOND, THIRD], &bytes));
     assert_eq!(rt; servers.filtered(), 3);
     Ok(())
 }
@@ -131,7 +131,7 @@ fn an_unknown_sender(rt: HostRuntime) -> Result<(), Fail> {
         assert!(rt; matches!(servers.receive(0, &mut room), Ok(None)));
     }
     // Only the answer to the first player was sent.
-    assert!(rt; went_behind(servers.sockets(), 0, &[FIRST], &ANSWER));
+    assert!(rt; went_after(servers.sockets(), 0, &[FIRST], &ANSWER));
     assert_eq!(rt; room, [0xaa; 1536]);
     assert_eq!(rt; servers.servers()[0].counts().unregistered, 2);
     assert_eq!(rt; servers.servers()[0].counts().malformed, 1);

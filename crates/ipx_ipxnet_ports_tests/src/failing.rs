@@ -2,7 +2,7 @@
 
 use crate::fixture::{
     CAME, FIRST, REGISTRATION, SECOND, SECOND_NODE, THIRD, UNKNOWN_SENDER, packet, registrations,
-    servers, went_behind,
+    servers, went_after,
 };
 use ipx_carrier::{PacketSent, PortDriver};
 use ipx_ipxnet_ports::PlaceSockets;
@@ -29,13 +29,13 @@ fn a_player_that_fails(rt: HostRuntime) -> Result<(), Fail> {
     assert_eq!(rt; servers.sockets().failures(), 1);
     assert_eq!(rt; servers.servers()[0].clients().len(), 3);
     assert!(rt; matches!(servers.receive(0, &mut room), Ok(Some(34))));
-    assert!(rt; went_behind(servers.sockets(), 2, &[THIRD], &bytes));
+    assert!(rt; went_after(servers.sockets(), 2, &[THIRD], &bytes));
     assert_eq!(rt; servers.sockets().failures(), 2);
     assert_eq!(rt; servers.failures(), 0);
     // A packet of the core.
     let sent = servers.send(0, Node::BROADCAST, &CAME);
     assert!(rt; matches!(sent, Ok(PacketSent::Transmitted(1))));
-    assert!(rt; went_behind(servers.sockets(), 3, &[THIRD, FIRST], &CAME));
+    assert!(rt; went_after(servers.sockets(), 3, &[THIRD, FIRST], &CAME));
     let sent = servers.send(0, SECOND_NODE, &CAME);
     assert!(rt; matches!(sent, Ok(PacketSent::Transmitted(1))));
     assert_eq!(rt; servers.sockets().went().len(), 5);
@@ -63,7 +63,7 @@ fn a_player_in_the_middle_that_fails(rt: HostRuntime) -> Result<(), Fail> {
     let sent = servers.send(0, Node::BROADCAST, &CAME);
     assert!(rt; matches!(sent, Ok(PacketSent::Transmitted(1))));
     assert!(rt;
-        went_behind(
+        went_after(
             servers.sockets(),
             3,
             &[FIRST, SECOND, UNKNOWN_SENDER],
@@ -71,7 +71,7 @@ fn a_player_in_the_middle_that_fails(rt: HostRuntime) -> Result<(), Fail> {
         )
     );
     assert!(rt; matches!(servers.receive(0, &mut room), Ok(None)));
-    assert!(rt; went_behind(servers.sockets(), 6, &[SECOND, UNKNOWN_SENDER], &bytes));
+    assert!(rt; went_after(servers.sockets(), 6, &[SECOND, UNKNOWN_SENDER], &bytes));
     assert_eq!(rt; servers.sockets().failures(), 3);
     assert_eq!(rt; servers.failures(), 0);
     Ok(())

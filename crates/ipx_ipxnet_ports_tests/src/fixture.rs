@@ -100,7 +100,7 @@ pub fn registrations(alloc: Global) -> Result<MemoryPlaces, Fail> {
 
 /// The port, whose three players registered and were answered; then these bytes come from the first
 /// one.
-pub fn behind_registrations(alloc: Global, bytes: &[u8]) -> Result<Servers<MemoryPlaces>, Fail> {
+pub fn after_registrations(alloc: Global, bytes: &[u8]) -> Result<Servers<MemoryPlaces>, Fail> {
     let mut sockets = registrations(alloc)?;
     sockets.put(0, FIRST, bytes)?;
     let mut servers = servers(alloc, sockets)?;
@@ -113,7 +113,7 @@ pub fn behind_registrations(alloc: Global, bytes: &[u8]) -> Result<Servers<Memor
 
 /// Whether all that was sent after the first `before` datagrams went to these addresses, in this
 /// order, and is these bytes.
-pub fn went_behind(sockets: &MemoryPlaces, before: usize, places: &[Place], bytes: &[u8]) -> bool {
+pub fn went_after(sockets: &MemoryPlaces, before: usize, places: &[Place], bytes: &[u8]) -> bool {
     let sent = sockets.went();
     if sent.len() != before + places.len() {
         return false;

@@ -1,7 +1,7 @@
 //! Long datagrams: 1,424 bytes are sent to players as they came, more are not, and the core gets at
 //! most 1,536.
 
-use crate::fixture::{PORT, SECOND, SECOND_NODE, THIRD, behind_registrations, packet, went_behind};
+use crate::fixture::{PORT, SECOND, SECOND_NODE, THIRD, after_registrations, packet, went_after};
 use ipx_carrier::{PortDriver, PortDriverFilters};
 use ipx_wire::Node;
 use ipxnet_server::Place;
@@ -39,7 +39,7 @@ fn goes_to(
     places: &[Place],
 ) -> Result<bool, Fail> {
     let bytes = long(to, length);
-    let mut servers = behind_registrations(alloc, &bytes[..size])?;
+    let mut servers = after_registrations(alloc, &bytes[..size])?;
     let mut room = [0xaa; 1536];
     let up = servers.receive(0, &mut room)?;
     let too_long = servers.servers()[0].counts().too_long;
@@ -48,7 +48,7 @@ fn goes_to(
             && room == [0xaa; 1536]
             && servers.filtered() == 4
             && (too_long == 1) == places.is_empty()
-            && went_behind(servers.sockets(), 3, places, &bytes[..size]),
+            && went_after(servers.sockets(), 3, places, &bytes[..size]),
     )
 }
 
@@ -97,7 +97,7 @@ fn long_ones_to_the_core(rt: HostRuntime) -> Result<(), Fail> {
         (L1500, 2000, 1536),
     ] {
         let bytes = long(PORT.own, length);
-        let mut servers = behind_registrations(rt.alloc(), &bytes[..size])?;
+        let mut servers = after_registrations(rt.alloc(), &bytes[..size])?;
         let mut room = [0xaa; 2000];
         assert_eq!(rt; servers.receive(0, &mut room)?, Some(got));
         assert_eq!(rt; &room[..got], &bytes[..got]);
@@ -113,7 +113,7 @@ fn long_ones_to_the_core(rt: HostRuntime) -> Result<(), Fail> {
 fn long_ones_of_no_packet(rt: HostRuntime) -> Result<(), Fail> {
     for (length, size) in [(L1501, 1501), (L1425, 1424), (L2000, 2000)] {
         let bytes = long(PORT.own, length);
-        let mut servers = behind_registrations(rt.alloc(), &bytes[..size])?;
+        let mut servers = after_registrations(rt.alloc(), &bytes[..size])?;
         let mut room = [0xaa; 2000];
         assert_eq!(rt; servers.receive(0, &mut room)?, None);
         assert_eq!(rt; servers.servers()[0].counts().malformed, 1);

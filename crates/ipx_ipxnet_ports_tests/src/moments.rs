@@ -3,7 +3,7 @@
 
 use crate::fixture::{
     ANSWER, CAME, FIRST, REGISTRATION, SECOND, SECOND_ANSWER, THIRD, registrations, servers,
-    went_behind,
+    went_after,
 };
 use ipx_carrier::{PortDriver, PortDriverFilters};
 use ipx_ipxnet_ports::{MemoryPlaces, Servers};
@@ -33,12 +33,12 @@ fn forgotten_and_back(rt: HostRuntime) -> Result<(), Fail> {
     sockets.put(0, SECOND, &REGISTRATION)?;
     sockets.put(0, FIRST, &CAME)?;
     let mut servers = servers(alloc, sockets)?;
-    servers.set_moment(5);
+    servers.set_time(5);
     assert!(rt; hear(&mut servers, 3)?);
-    servers.set_moment(86_400_004);
+    servers.set_time(86_400_004);
     assert!(rt; hear(&mut servers, 1)?);
-    assert!(rt; went_behind(servers.sockets(), 3, &[SECOND], &CAME));
-    servers.set_moment(86_400_005);
+    assert!(rt; went_after(servers.sockets(), 3, &[SECOND], &CAME));
+    servers.set_time(86_400_005);
     assert!(rt; hear(&mut servers, 2)?);
     assert_eq!(rt; servers.sockets().went().len(), 4);
     assert_eq!(rt; servers.servers()[0].counts().no_such_node, 1);
@@ -47,9 +47,9 @@ fn forgotten_and_back(rt: HostRuntime) -> Result<(), Fail> {
     assert_eq!(rt; servers.servers()[0].clients().len(), 1);
     assert_eq!(rt; servers.servers()[0].clients()[0].place, FIRST);
     assert!(rt; hear(&mut servers, 1)?);
-    assert!(rt; went_behind(servers.sockets(), 4, &[SECOND], &SECOND_ANSWER));
+    assert!(rt; went_after(servers.sockets(), 4, &[SECOND], &SECOND_ANSWER));
     assert!(rt; hear(&mut servers, 1)?);
-    assert!(rt; went_behind(servers.sockets(), 5, &[SECOND], &CAME));
+    assert!(rt; went_after(servers.sockets(), 5, &[SECOND], &CAME));
     assert_eq!(rt; servers.filtered(), 8);
     Ok(())
 }
@@ -63,11 +63,11 @@ fn registered_again(rt: HostRuntime) -> Result<(), Fail> {
     sockets.put(0, FIRST, &REGISTRATION)?;
     sockets.put(0, FIRST, &REGISTRATION)?;
     let mut servers = servers(alloc, sockets)?;
-    servers.set_moment(7);
+    servers.set_time(7);
     assert!(rt; hear(&mut servers, 1)?);
-    servers.set_moment(9000);
+    servers.set_time(9000);
     assert!(rt; hear(&mut servers, 1)?);
-    assert!(rt; went_behind(servers.sockets(), 0, &[FIRST, FIRST], &ANSWER));
+    assert!(rt; went_after(servers.sockets(), 0, &[FIRST, FIRST], &ANSWER));
     let known = servers.servers()[0].clients();
     assert_eq!(rt; known.len(), 1);
     assert_eq!(rt; (known[0].since, known[0].heard), (7, 9000));
@@ -81,11 +81,11 @@ fn a_moment_set_back(rt: HostRuntime) -> Result<(), Fail> {
     let mut sockets = registrations(alloc)?;
     sockets.put(0, FIRST, &CAME)?;
     let mut servers = servers(alloc, sockets)?;
-    servers.set_moment(86_400_005);
+    servers.set_time(86_400_005);
     assert!(rt; hear(&mut servers, 3)?);
-    servers.set_moment(0);
+    servers.set_time(0);
     assert!(rt; hear(&mut servers, 1)?);
-    assert!(rt; went_behind(servers.sockets(), 3, &[SECOND], &CAME));
+    assert!(rt; went_after(servers.sockets(), 3, &[SECOND], &CAME));
     let known = servers.servers()[0].clients();
     assert_eq!(rt; known.len(), 3);
     assert_eq!(rt; (known[0].place, known[1].place), (SECOND, THIRD));
@@ -106,11 +106,11 @@ fn eleven_at_a_moment(rt: HostRuntime) -> Result<(), Fail> {
     assert!(rt; hear(&mut servers, 11)?);
     assert_eq!(rt; servers.sockets().went().len(), 10);
     assert_eq!(rt; servers.servers()[0].counts().too_many_new, 1);
-    servers.set_moment(999);
+    servers.set_time(999);
     assert!(rt; hear(&mut servers, 1)?);
     assert_eq!(rt; servers.sockets().went().len(), 10);
     assert_eq!(rt; servers.servers()[0].counts().too_many_new, 2);
-    servers.set_moment(1000);
+    servers.set_time(1000);
     assert!(rt; hear(&mut servers, 1)?);
     assert_eq!(rt; servers.sockets().went().len(), 11);
     assert_eq!(rt;

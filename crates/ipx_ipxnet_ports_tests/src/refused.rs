@@ -2,7 +2,7 @@
 
 use crate::fixture::{
     ANSWER, CAME, FIRST, REGISTRATION, SECOND, SECOND_ANSWER, THIRD, THIRD_ANSWER, packet, server,
-    went_behind,
+    went_after,
 };
 use ipx_carrier::{PacketSent, PortDriver, PortDriverFilters};
 use ipx_ipxnet_ports::{MemoryDatagram, MemoryPlaces, PlaceSockets, Servers};
@@ -65,7 +65,7 @@ fn refused_datagrams(rt: HostRuntime) -> Result<(), Fail> {
     } else {
         assert_eq!(rt; failures, 0);
         assert_eq!(rt; servers.filtered(), 1);
-        assert!(rt; went_behind(servers.sockets(), 0, &[FIRST], &ANSWER));
+        assert!(rt; went_after(servers.sockets(), 0, &[FIRST], &ANSWER));
     }
     assert_eq!(rt; servers.servers()[0].counts(), ServerCounts::new());
     assert_eq!(rt; servers.failures(), 0);

@@ -172,7 +172,7 @@ impl RowWorld {
     fn hear(&mut self, alloc: Global, sent: &Datagram) -> Result<(), Fail> {
         let mut room = [0; 1536];
         self.now += 1000;
-        self.servers.set_moment(self.now);
+        self.servers.set_time(self.now);
         match end_of(sent.who) {
             None => self.core.hear(alloc, WIRED, &sent.bytes, self.now)?,
             Some((port, _)) => {

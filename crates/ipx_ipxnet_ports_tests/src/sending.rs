@@ -2,7 +2,7 @@
 
 use crate::fixture::{
     CAME, FIRST, SECOND, SECOND_NODE, THIRD, UNKNOWN_SENDER, packet, registrations, servers,
-    went_behind,
+    went_after,
 };
 use ipx_carrier::{PacketSent, PortDriver, PortDriverFilters};
 use ipx_ipxnet_ports::{MemoryPlaces, Servers};
@@ -14,7 +14,7 @@ use std::test::Fail;
 /// The port, whose three players registered at time 5.
 fn three_players(alloc: Global) -> Result<Servers<MemoryPlaces>, Fail> {
     let mut servers = servers(alloc, registrations(alloc)?)?;
-    servers.set_moment(5);
+    servers.set_time(5);
     let mut room = [0; 1536];
     for _player in 0..3_u32 {
         servers.receive(0, &mut room)?;
@@ -28,14 +28,14 @@ fn packets_to_players(rt: HostRuntime) -> Result<(), Fail> {
     let mut servers = three_players(rt.alloc())?;
     let sent = servers.send(0, SECOND_NODE, &CAME);
     assert!(rt; matches!(sent, Ok(PacketSent::Transmitted(1))));
-    assert!(rt; went_behind(servers.sockets(), 3, &[SECOND], &CAME));
+    assert!(rt; went_after(servers.sockets(), 3, &[SECOND], &CAME));
     let sent = servers.send(0, Node::BROADCAST, &CAME);
     assert!(rt; matches!(sent, Ok(PacketSent::Transmitted(1))));
-    assert!(rt; went_behind(servers.sockets(), 4, &[FIRST, SECOND, THIRD], &CAME));
-    servers.set_moment(86_400_004);
+    assert!(rt; went_after(servers.sockets(), 4, &[FIRST, SECOND, THIRD], &CAME));
+    servers.set_time(86_400_004);
     servers.send(0, SECOND_NODE, &CAME)?;
-    assert!(rt; went_behind(servers.sockets(), 7, &[SECOND], &CAME));
-    servers.set_moment(86_400_005);
+    assert!(rt; went_after(servers.sockets(), 7, &[SECOND], &CAME));
+    servers.set_time(86_400_005);
     let sent = servers.send(0, SECOND_NODE, &CAME);
     assert!(rt; matches!(sent, Ok(PacketSent::Transmitted(1))));
     assert_eq!(rt; servers.sockets().went().len(), 8);
@@ -60,13 +60,13 @@ fn what_a_router_tells(rt: HostRuntime) -> Result<(), Fail> {
     let mut answer = packet(SECOND_NODE);
     answer[16..18].copy_from_slice(&[4, 0x53]);
     servers.send(0, SECOND_NODE, &answer)?;
-    assert!(rt; went_behind(servers.sockets(), 3, &[SECOND], &answer));
+    assert!(rt; went_after(servers.sockets(), 3, &[SECOND], &answer));
     let mut named = packet(Node::BROADCAST);
     named[5] = 20;
     named[16..18].copy_from_slice(&[4, 0x55]);
     named[28..30].copy_from_slice(&[4, 0x53]);
     servers.send(0, Node::BROADCAST, &named)?;
-    assert!(rt; went_behind(servers.sockets(), 4, &[FIRST, SECOND, THIRD], &named));
+    assert!(rt; went_after(servers.sockets(), 4, &[FIRST, SECOND, THIRD], &named));
     assert_eq!(rt; servers.failures(), 0);
     Ok(())
 }
@@ -89,7 +89,7 @@ fn packets_that_are_too_long(rt: HostRuntime) -> Result<(), Fail> {
     let bytes = [0x55; 1425];
     let sent = servers.send(0, SECOND_NODE, &bytes[..1424]);
     assert!(rt; matches!(sent, Ok(PacketSent::Transmitted(1))));
-    assert!(rt; went_behind(servers.sockets(), 3, &[SECOND], &bytes[..1424]));
+    assert!(rt; went_after(servers.sockets(), 3, &[SECOND], &bytes[..1424]));
     let sent = servers.send(0, SECOND_NODE, &bytes);
     assert!(rt; matches!(sent, Ok(PacketSent::Unmapped)));
     let sent = servers.send(0, Node::BROADCAST, &bytes);

@@ -1,7 +1,7 @@
 //! A server that is joined to those of two other sites, over sockets.
 
 use crate::fixture::{
-    ANSWER, CAME, FIRST, PORT, REGISTRATION, SECOND_NODE, UNKNOWN_SENDER, packet, went_behind,
+    ANSWER, CAME, FIRST, PORT, REGISTRATION, SECOND_NODE, UNKNOWN_SENDER, packet, went_after,
 };
 use ipx_carrier::{PacketSent, PortDriver, PortDriverFilters};
 use ipx_ipxnet_ports::{MemoryPlaces, Servers};
@@ -64,17 +64,17 @@ fn datagrams_of_sites(rt: HostRuntime) -> Result<(), Fail> {
     let sent = servers.sockets().went();
     assert_eq!(rt; sent[0].place, FIRST);
     assert_eq!(rt; sent[0].bytes.as_slice(), ANSWER.as_slice());
-    assert!(rt; went_behind(servers.sockets(), 1, &[SOUTH, WEST], &NOTICE));
+    assert!(rt; went_after(servers.sockets(), 1, &[SOUTH, WEST], &NOTICE));
     servers.receive(0, &mut room)?;
-    assert!(rt; went_behind(servers.sockets(), 3, &[SOUTH, WEST], &all));
+    assert!(rt; went_after(servers.sockets(), 3, &[SOUTH, WEST], &all));
     servers.receive(0, &mut room)?;
-    assert!(rt; went_behind(servers.sockets(), 5, &[SOUTH, WEST], &CAME));
+    assert!(rt; went_after(servers.sockets(), 5, &[SOUTH, WEST], &CAME));
     servers.receive(0, &mut room)?;
-    assert!(rt; went_behind(servers.sockets(), 7, &[FIRST], &back));
+    assert!(rt; went_after(servers.sockets(), 7, &[FIRST], &back));
     servers.receive(0, &mut room)?;
-    assert!(rt; went_behind(servers.sockets(), 8, &[SOUTH], &CAME));
+    assert!(rt; went_after(servers.sockets(), 8, &[SOUTH], &CAME));
     servers.receive(0, &mut room)?;
-    assert!(rt; went_behind(servers.sockets(), 9, &[FIRST], &told));
+    assert!(rt; went_after(servers.sockets(), 9, &[FIRST], &told));
     // What the player here sent to all comes back to nobody.
     servers.receive(0, &mut room)?;
     assert_eq!(rt; servers.sockets().went().len(), 10);
@@ -97,11 +97,11 @@ fn packets_of_the_core_by_sites(rt: HostRuntime) -> Result<(), Fail> {
     servers.receive(0, &mut room)?;
     let sent = servers.send(0, SECOND_NODE, &CAME);
     assert!(rt; matches!(sent, Ok(PacketSent::Transmitted(1))));
-    assert!(rt; went_behind(servers.sockets(), 4, &[WEST], &CAME));
+    assert!(rt; went_after(servers.sockets(), 4, &[WEST], &CAME));
     servers.send(0, UNKNOWN_SENDER.node(), &CAME)?;
-    assert!(rt; went_behind(servers.sockets(), 5, &[SOUTH, WEST], &CAME));
+    assert!(rt; went_after(servers.sockets(), 5, &[SOUTH, WEST], &CAME));
     servers.send(0, Node::BROADCAST, &CAME)?;
-    assert!(rt; went_behind(servers.sockets(), 7, &[FIRST], &CAME));
+    assert!(rt; went_after(servers.sockets(), 7, &[FIRST], &CAME));
     Ok(())
 }
 
@@ -114,6 +114,6 @@ fn a_site_that_fails(rt: HostRuntime) -> Result<(), Fail> {
     let mut servers = joined(rt.alloc(), sockets)?;
     let mut room = [0; 1536];
     servers.receive(0, &mut room)?;
-    assert!(rt; went_behind(servers.sockets(), 1, &[WEST], &NOTICE));
+    assert!(rt; went_after(servers.sockets(), 1, &[WEST], &NOTICE));
     Ok(())
 }

@@ -4,7 +4,7 @@ use Rattle.std.specs.Result.{OnErr, OnOk}
 use Rattle.std.proofs.lemmas.List.{length-take-le}
 use Rattle.ipx_router.specs.OutcomeView.{OutcomeView, Forward, Replies, Heard, Dropped}
 use Rattle.ipx_carrier.specs.OutcomeCounters.{outcome_counted}
-use Rattle.ipx_carrier.specs.PriorityRouterCore.{PriorityCoreView, PriorityMisses, PriorityGives, PriorityHears, PriorityWithholds, put_by_priority}
+use Rattle.ipx_carrier.specs.PriorityRouterCore.{PriorityCoreView, PriorityHearOutOfMemory, PriorityGives, PriorityHears, PriorityNextOutOfMemory, put_by_priority}
 use Rattle.ipx_carrier.specs.Turns.{Given}
 use Rattle.ipx_carrier.specs.declared.outcome_counters.OutcomeCounters.{OutcomeCounters}
 use Rattle.ipx_wire.specs.declared.address.Node.{Node}
@@ -71,12 +71,12 @@ heard_fell k k' port bytes now few h =
     let is = ap (λ (v : PriorityCoreView). v.outcomes) h.3 ∙ answer_outcomes h.0 (record k { router = h.1; outcomes = outcome_counted h.0 k.outcomes }) in
     subst (NoneFell k.outcomes) (sym is) (none_fell h.0 k.outcomes few)
 
-missed_fell : (k k' : PriorityCoreView) (port : ℕ) (bytes : List ℕ) (now : ℕ) → AreFew k.outcomes → PriorityMisses k port bytes now k' → NoneFell k.outcomes k'.outcomes
+missed_fell : (k k' : PriorityCoreView) (port : ℕ) (bytes : List ℕ) (now : ℕ) → AreFew k.outcomes → PriorityHearOutOfMemory k port bytes now k' → NoneFell k.outcomes k'.outcomes
 missed_fell k k' port bytes now few (router, inl x) = subst (NoneFell k.outcomes) (sym (ap (λ (v : PriorityCoreView). v.outcomes) x.0)) (same_outcomes k.outcomes)
 missed_fell k k' port bytes now few (router, inr y) = subst (NoneFell k.outcomes) (sym (ap (λ (v : PriorityCoreView). v.outcomes) y.1)) (none_fell y.0 k.outcomes few)
 
 -- no count of a router falls as it hears
-pub fell_by : {T E : Type 0} (r : Result T E) (k k' : PriorityCoreView) (port : ℕ) (bytes : List ℕ) (now : ℕ) → AreFew k.outcomes → OnOk r (PriorityHears k port bytes now k') → OnErr r (PriorityMisses k port bytes now k') → NoneFell k.outcomes k'.outcomes
+pub fell_by : {T E : Type 0} (r : Result T E) (k k' : PriorityCoreView) (port : ℕ) (bytes : List ℕ) (now : ℕ) → AreFew k.outcomes → OnOk r (PriorityHears k port bytes now k') → OnErr r (PriorityHearOutOfMemory k port bytes now k') → NoneFell k.outcomes k'.outcomes
 fell_by (Ok x) k k' port bytes now few p q = heard_fell k k' port bytes now few p
 fell_by (Err e) k k' port bytes now few p q = missed_fell k k' port bytes now few q
 
@@ -84,7 +84,7 @@ fell_by (Err e) k k' port bytes now few p q = missed_fell k k' port bytes now fe
 pub given_same : (k k' : PriorityCoreView) (now : ℕ) (given : Option Given) → PriorityGives k now given k' → k'.outcomes ≡ k.outcomes
 given_same k k' now given h = ap (λ (v : PriorityCoreView). v.outcomes) h.2.1 ∙ ap (λ (v : PriorityCoreView). v.outcomes) h.1.5
 
-pub withheld_same : (k k' : PriorityCoreView) (now : ℕ) → PriorityWithholds k now k' → k'.outcomes ≡ k.outcomes
+pub withheld_same : (k k' : PriorityCoreView) (now : ℕ) → PriorityNextOutOfMemory k now k' → k'.outcomes ≡ k.outcomes
 withheld_same k k' now (inl h) = ap (λ (v : PriorityCoreView). v.outcomes) h.1
 withheld_same k k' now (inr h) = ap (λ (v : PriorityCoreView). v.outcomes) h.3
 

@@ -2,7 +2,7 @@
 -- project.
 use Rattle.std.specs.Prelude.{◌≡◌, ℕ, Bool, List, length, Option, Some, None}
 use Rattle.ipx_router.specs.RouterView.{RouterView}
-use Rattle.ipx_carrier.specs.PriorityRouterCore.{PriorityQueues, PriorityCoreView, PriorityMisses, PriorityGives, PriorityHears, PriorityWithholds}
+use Rattle.ipx_carrier.specs.PriorityRouterCore.{PriorityQueues, PriorityCoreView, PriorityHearOutOfMemory, PriorityGives, PriorityHears, PriorityNextOutOfMemory}
 use Rattle.ipx_carrier.specs.Turns.{Given}
 use Rattle.ipx_carrier.specs.declared.outcome_counters.OutcomeCounters.{OutcomeCounters}
 use Rattle.ipx_metrics.specs.LastDrops.{AreNoted}
@@ -44,7 +44,7 @@ CountsHeard old port bytes now new = PriorityHears (without_counts old) port byt
 
 -- it runs out of memory as it hears; what came is counted
 abbrev pub CountsMissed : CountedView → ℕ → List ℕ → ℕ → CountedView → Type 0
-CountsMissed old port bytes now new = PriorityMisses (without_counts old) port bytes now (without_counts new)
+CountsMissed old port bytes now new = PriorityHearOutOfMemory (without_counts old) port bytes now (without_counts new)
     × IsCountedHeard old port bytes new
 
 -- a packet that is given is counted at its port, and at no other
@@ -59,5 +59,5 @@ CountsAsItGives old now given new = PriorityGives (without_counts old) now given
 
 -- it runs out of memory as it is asked, and nothing is counted
 abbrev pub CountsWithheld : CountedView → ℕ → CountedView → Type 0
-CountsWithheld old now new = PriorityWithholds (without_counts old) now (without_counts new)
+CountsWithheld old now new = PriorityNextOutOfMemory (without_counts old) now (without_counts new)
     × (new.port_counters ≡ old.port_counters) × (new.last ≡ old.last)

@@ -2,7 +2,7 @@
 use Rattle.std.proofs.Common.{List}
 use Rattle.spx_theory.specs.Note.{Note}
 use Rattle.ipx_net.specs.Ends.{TellsLog}
-use Rattle.ipx_net.specs.ToldEnds.{AreCounted}
+use Rattle.ipx_net.specs.EndSummaryChanges.{AreCounted}
 use Rattle.ipx_net.specs.declared.endinfo.EndInfo.{EndInfo}
 
 pub counted_of : (log : List Note) (told : List EndInfo) → TellsLog log told → AreCounted log told

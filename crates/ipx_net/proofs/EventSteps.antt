@@ -8,10 +8,10 @@ use Rattle.ipx_wire.specs.declared.address.Node.{Node}
 use Rattle.spx_link.specs.declared.outgoing.Sent.{Sent}
 use Rattle.spx_link.specs.declared.unit.Unit.{Unit}
 use Rattle.spx_messages.specs.declared.fault.EndFault.{EndFault}
-use Rattle.spx_messages.specs.OneValue.{IsRoomStill}
+use Rattle.spx_messages.specs.OneValue.{IsBufferStill}
 use Rattle.spx_messages.specs.Taking.{TakenView, overlong}
 use Rattle.spx_theory.specs.Note.{Note}
-use Rattle.spx_theory.specs.HostSteps.{TakesOf, said_notes, given_notes, unit_notes, whole_notes}
+use Rattle.spx_theory.specs.HostSteps.{TakesOf, sending_notes, given_notes, unit_notes, whole_notes}
 use Rattle.spx_theory.specs.EndCalls.{RefusesAt}
 use Rattle.spx_theory.specs.World.{AtHost, ParcelView, HostState, World, end_at}
 use Rattle.ipx_net_hosts.specs.Hosts.{HostsView, LeftAs, Noting, PolledAt, world_of}
@@ -75,7 +75,7 @@ taking_err old new first now who f u g takes left why pushes same =
     ])
 
 -- ---- a host is polled
-spoken_is : (here : List (ℕ × ℕ)) (said : Option (ℕ × Sent)) (parcel : ℕ) → spoken_notes (speaker here said) parcel ≡ said_notes here said parcel
+spoken_is : (here : List (ℕ × ℕ)) (said : Option (ℕ × Sent)) (parcel : ℕ) → spoken_notes (speaker here said) parcel ≡ sending_notes here said parcel
 spoken_is here None parcel = refl
 spoken_is here (Some s) parcel = by (end_at here s.0)
   where
@@ -90,7 +90,7 @@ get_here (z ∷ xs) (suc k) x y = λ at. get_here xs k x y at
 
 pub polling_some : (old new : HostsView) (host first now : ℕ) (r : Node × ℕ) (room written : List ℕ) (segment : Network) (spoke : Option (ℕ × Sent))
     (ps : List ParcelView) (ns : List Note) (numbers : List ℕ)
-    → spx_max_packet_size ≤ length room → IsRoomStill room written
+    → spx_max_packet_size ≤ length room → IsBufferStill room written
     → PolledAt old host now (Some r) room written new
     → option_map (λ s. s.endpoint.network) (slice_get old.stations host) ≡ Some segment
     → IfSome (slice_get new.stations host) (λ s. spoke ≡ speaker s.here s.endpoint.said)
@@ -117,7 +117,7 @@ polling_some old new host first now r room written segment spoke ps ns numbers l
         ends = p.ends;
         parcels = ap (λ (xs : List ParcelView). parcels ++ xs) (letters ∙ ap (λ (n : Network). record { segment = n; next = r.0; bytes = take r.1 written; sent_by = Some (AtHost host) } ∷ []) segment_is);
         log = ap (λ xs. log ++ xs) (notes ∙ ap (λ o. spoken_notes o first) spoken ∙ spoken_is p.after.here p.after.endpoint.said first
-            ∙ ap (λ hs. said_notes hs p.after.endpoint.said first) p.here ∙ ap (said_notes p.before.here p.after.endpoint.said) (sym count));
+            ∙ ap (λ hs. sending_notes hs p.after.endpoint.said first) p.here ∙ ap (sending_notes p.before.here p.after.endpoint.said) (sym count));
         moment = refl;
       },
       ap Parcels (named ∙ ap (λ k. k ∷ []) (sym count)),
@@ -146,7 +146,7 @@ delivering old new host parcel count bytes now arrived r x who notes ps d counte
     }
 
 pub polling_none : (old new : HostsView) (host first now : ℕ) (room written : List ℕ) (g : StepResultView)
-    → spx_max_packet_size ≤ length room → IsRoomStill room written
+    → spx_max_packet_size ≤ length room → IsBufferStill room written
     → PolledAt old host now None room written new
     → g ≡ record { parcels = []; notes = []; answer = Parcels [] }
     → GrowsWorld old new first now g (PollingHost host)
@@ -165,7 +165,7 @@ polling_none old new host first now room written g long still p same =
         hosts = p.stations;
         ends = p.ends;
         parcels = refl;
-        log = ap (λ o. log ++ said_notes p.before.here o (length parcels)) (sym p.polls.gives.said);
+        log = ap (λ o. log ++ sending_notes p.before.here o (length parcels)) (sym p.polls.gives.said);
         moment = refl;
       },
       refl,
@@ -175,7 +175,7 @@ polling_none old new host first now room written g long still p same =
 
 pub polling_grows : (old new : HostsView) (host first now : ℕ) (r : Node × ℕ) (room written : List ℕ) (segment : Network) (spoke : Option (ℕ × Sent))
     (p : ParcelView) (ns : List Note) (g : StepResultView)
-    → spx_max_packet_size ≤ length room → IsRoomStill room written
+    → spx_max_packet_size ≤ length room → IsBufferStill room written
     → PolledAt old host now (Some r) room written new
     → option_map (λ s. s.endpoint.network) (slice_get old.stations host) ≡ Some segment
     → IfSome (slice_get new.stations host) (λ s. spoke ≡ speaker s.here s.endpoint.said)

@@ -22,7 +22,7 @@ use Rattle.ipx_net.specs.AnswerView.{AnswerView, Parcels}
 use Rattle.ipx_net.specs.IndexedLogView.{IndexedLogView}
 use Rattle.ipx_net.specs.StepResultView.{GrowsWorld, StepResultView, step_result_view}
 use Rattle.ipx_net.specs.HostEvents.{DeliveringToHost, DeliversSo}
-use Rattle.ipx_net.specs.NetEvents.{BesideRouters}
+use Rattle.ipx_net.specs.NetEvents.{RoutersUnchanged}
 use Rattle.ipx_net.specs.NetFaults.{member_fault, network_of_host, network_of_port, place_fault, segment_fault}
 use Rattle.ipx_net.specs.NetView.{NetNow, net_of}
 use Rattle.ipx_net.specs.Parcels.{parcel_view, parcel_views}
@@ -43,7 +43,7 @@ before hosts routers b now = net_of hosts routers b.parcels b.log now
 
 pub happened : {E : Type 0} (P : AnswerView → World → World → Type 0) (r : Result StepResult E) (old new : HostsView) (routers : List RouterNow) (b : IndexedLogView) (first now : ℕ)
     → length b.parcels ≡ first → IfOk r (λ g. GrowsWorld old new first now (step_result_view g) P)
-    → IfOk r (λ g. BesideRouters P (step_result_view g).answer (before old routers b now) (after new routers b (step_result_view g) now))
+    → IfOk r (λ g. RoutersUnchanged P (step_result_view g).answer (before old routers b now) (after new routers b (step_result_view g) now))
 happened P (Ok g) old new routers b first now count grows = (grows b.parcels b.log count, refl)
 happened P (Err e) old new routers b first now count grows = tt
 
@@ -75,7 +75,7 @@ segment_there b k l o network none at is =
 pub delivered_host : (old new : HostsView) (routers : List RouterNow) (b : IndexedLogView) (host parcel now : ℕ) (l : ParcelView) (g : StepResultView)
     → slice_get b.parcels parcel ≡ Some l → place_fault (slice_get b.parcels parcel) (network_of_host (slice_get old.stations host)) ≡ None
     → DeliversSo old host parcel l.bytes now g new
-    → BesideRouters (DeliveringToHost parcel host) g.answer (before old routers b now) (after new routers b g now)
+    → RoutersUnchanged (DeliveringToHost parcel host) g.answer (before old routers b now) (after new routers b g now)
 delivered_host old new routers b host parcel now l g at sound d =
     let x = d.delivered in
     let network : network_of_host (slice_get old.stations host) ≡ Some x.before.endpoint.network = ap network_of_host x.there in (
@@ -194,7 +194,7 @@ polled_ok (Err e) hosts routers routers' b router first now count m = tt
 pub delivered_ok : {E : Type 0} (r : Result StepResult E) (old new : HostsView) (routers : List RouterNow) (b : IndexedLogView) (host parcel now : ℕ) (l : ParcelView) (bytes : List ℕ)
     → bytes ≡ l.bytes → slice_get b.parcels parcel ≡ Some l → place_fault (slice_get b.parcels parcel) (network_of_host (slice_get old.stations host)) ≡ None
     → IfOk r (λ g. DeliversSo old host parcel bytes now (step_result_view g) new)
-    → IfOk r (λ g. BesideRouters (DeliveringToHost parcel host) (step_result_view g).answer (before old routers b now) (after new routers b (step_result_view g) now))
+    → IfOk r (λ g. RoutersUnchanged (DeliveringToHost parcel host) (step_result_view g).answer (before old routers b now) (after new routers b (step_result_view g) now))
 delivered_ok (Ok g) old new routers b host parcel now l bytes same at sound d =
     delivered_host old new routers b host parcel now l (step_result_view g) at sound (subst (λ bs. DeliversSo old host parcel bs now (step_result_view g) new) same d)
 delivered_ok (Err e) old new routers b host parcel now l bytes same at sound d = tt

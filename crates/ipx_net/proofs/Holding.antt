@@ -8,11 +8,11 @@ use Rattle.spx_messages.specs.Joining.{joined}
 use Rattle.spx_messages.specs.WrittenPackets.{Home}
 use Rattle.spx_messages.specs.EndpointView.{Held}
 use Rattle.spx_theory.specs.Addresses.{AddressesTellPeers}
-use Rattle.spx_theory.specs.Allocation.{AloneReadsNothing}
-use Rattle.spx_theory.specs.Carried.{RoutersAlterHopsAlone}
+use Rattle.spx_theory.specs.Allocation.{PeerlessReadsNothing}
+use Rattle.spx_theory.specs.Carried.{RoutersAlterOnlyHops}
 use Rattle.spx_theory.specs.Close.{AcknowledgedIsRead, ConfirmedIsRead, EndTakenIsWhole}
 use Rattle.spx_theory.specs.Deeds.{Reached}
-use Rattle.spx_theory.specs.EndsTold.{EndsAreTold}
+use Rattle.spx_theory.specs.EndsSummarized.{EndsAreSummarized}
 use Rattle.spx_theory.specs.EntriesOfEnds.{EntriesTellEnds}
 use Rattle.spx_theory.specs.Handed.{handed_out, taken_of}
 use Rattle.spx_theory.specs.HandedOut.{AbsentHandsOutNothing, HandsOutWhatItTook, HoldsWhatIsLeft}
@@ -22,11 +22,11 @@ use Rattle.spx_theory.specs.LogHeadline.{LogHeadline}
 use Rattle.spx_theory.specs.Note.{Note}
 use Rattle.spx_theory.specs.Numbered.{NumbersAreInOrder}
 use Rattle.spx_theory.specs.PremisesRead.{AreMadeOnce, BetweenIsRead, OriginsAreRead, PeersAreRead, PremisesAreRead}
-use Rattle.spx_theory.specs.Scene.{Scene, Stand}
+use Rattle.spx_theory.specs.Scene.{Scene, PresentEnd}
 use Rattle.spx_theory.specs.SentUnits.{LinksSendInOrder, UnitsAreSentInOrder}
 use Rattle.spx_theory.specs.UnitsOfEnds.{UnitsAreCuts}
 use Rattle.spx_theory.specs.Stuck.{NoPairIsStuck, NoStateIsStuck, NothingIsStuckByAddresses}
-use Rattle.spx_theory.specs.World.{EndNow, InOrder, HostState, World, bytes_of, held_in, held_of, home_at, scene_of, segment_of, stand_of, stand_with}
+use Rattle.spx_theory.specs.World.{EndNow, InOrder, HostState, World, bytes_of, held_in, held_of, home_at, scene_of, segment_of, present_of, present_with}
 use Rattle.ipx_net_hosts.specs.Hosts.{FollowsMarks, marks_of}
 use Rattle.ipx_net.specs.NetReach.{GoesOn, IsKept}
 use Rattle.ipx_net.specs.NetView.{NetView}
@@ -37,7 +37,7 @@ IsLaw P = (s : Scene) → Reached s → P s
 
 -- the laws of scenes, each one a clause of a function of `spx_theory` or `spx_theory`
 pub record SceneLaws : Type 0 where
-  pub carried : IsLaw RoutersAlterHopsAlone
+  pub carried : IsLaw RoutersAlterOnlyHops
   pub sent : IsLaw UnitsAreSentInOrder
   pub headline : (s : Scene) → Reached s → LogHeadline s.log
   pub made_once : (s : Scene) → Reached s → AreMadeOnce s.log
@@ -46,13 +46,13 @@ pub record SceneLaws : Type 0 where
   pub between : IsLaw BetweenIsRead
   pub premises : IsLaw PremisesAreRead
   pub in_step : IsLaw PeersAreInStep
-  pub alone : IsLaw AloneReadsNothing
+  pub alone : IsLaw PeerlessReadsNothing
   pub addresses : IsLaw AddressesTellPeers
   pub machine : IsLaw PairsTakeSteps
   pub end_taken : IsLaw EndTakenIsWhole
   pub numbers : IsLaw NumbersAreInOrder
   pub cuts : IsLaw UnitsAreCuts
-  pub told : IsLaw EndsAreTold
+  pub told : IsLaw EndsAreSummarized
   pub entries : IsLaw EntriesTellEnds
   pub joined : IsLaw HandsOutWhatItTook
   pub left : IsLaw HoldsWhatIsLeft
@@ -110,50 +110,50 @@ addresses law w true kept =
 
 -- ---- an end of the scene and the end of the world
 
-pub stands_there : (w : World) (who : ℕ) (n : EndNow) → slice_get w.ends who ≡ Some n → slice_get (scene_of w).ends who ≡ Some (stand_of w.hosts n)
-stands_there w who n at = there w.ends who at
+pub holds_there : (w : World) (who : ℕ) (n : EndNow) → slice_get w.ends who ≡ Some n → slice_get (scene_of w).ends who ≡ Some (present_of w.hosts n)
+holds_there w who n at = there w.ends who at
   where
-    there : (es : List EndNow) (k : ℕ) → slice_get es k ≡ Some n → slice_get (map (stand_of w.hosts) es) k ≡ Some (stand_of w.hosts n)
+    there : (es : List EndNow) (k : ℕ) → slice_get es k ≡ Some n → slice_get (map (present_of w.hosts) es) k ≡ Some (present_of w.hosts n)
     there [] k is = cc is
-    there (e ∷ es) zero is = let same : e ≡ n = cc is in ap (λ x. Some (stand_of w.hosts x)) same
+    there (e ∷ es) zero is = let same : e ≡ n = cc is in ap (λ x. Some (present_of w.hosts x)) same
     there (e ∷ es) (suc k) is = there es k is
 
-pub stands_of : (w : World) (who : ℕ) (e : Stand) → slice_get (scene_of w).ends who ≡ Some e → (n : EndNow) × (slice_get w.ends who ≡ Some n) × (stand_of w.hosts n ≡ e)
-stands_of w who e at = of w.ends who at
+pub holds_of : (w : World) (who : ℕ) (e : PresentEnd) → slice_get (scene_of w).ends who ≡ Some e → (n : EndNow) × (slice_get w.ends who ≡ Some n) × (present_of w.hosts n ≡ e)
+holds_of w who e at = of w.ends who at
   where
-    of : (es : List EndNow) (k : ℕ) → slice_get (map (stand_of w.hosts) es) k ≡ Some e → (n : EndNow) × (slice_get es k ≡ Some n) × (stand_of w.hosts n ≡ e)
+    of : (es : List EndNow) (k : ℕ) → slice_get (map (present_of w.hosts) es) k ≡ Some e → (n : EndNow) × (slice_get es k ≡ Some n) × (present_of w.hosts n ≡ e)
     of [] k is = cc is
     of (x ∷ es) zero is = (x, refl, cc is)
     of (x ∷ es) (suc k) is = of es k is
 
-pub overlong_of_stand : (n : EndNow) (h : Option Held) → (stand_with n h).overlong ≡ n.overlong
+pub overlong_of_stand : (n : EndNow) (h : Option Held) → (present_with n h).overlong ≡ n.overlong
 overlong_of_stand n None = refl
 overlong_of_stand n (Some h) = refl
 
-host_of_stand : (n : EndNow) (h : Option Held) → (stand_with n h).host ≡ n.host
+host_of_stand : (n : EndNow) (h : Option Held) → (present_with n h).host ≡ n.host
 host_of_stand n None = refl
 host_of_stand n (Some h) = refl
 
-linkless : (n : EndNow) (h : Option Held) → h ≡ None → (stand_with n h).link ≡ None
-linkless n h is = ap (λ (x : Option Held). (stand_with n x).link) is
+linkless : (n : EndNow) (h : Option Held) → h ≡ None → (present_with n h).link ≡ None
+linkless n h is = ap (λ (x : Option Held). (present_with n x).link) is
 
-link_there : (n : EndNow) (h : Held) (o : Option Held) → o ≡ Some h → (stand_with n o).link ≢ None
-link_there n h o is gone = let no : Some h.link ≡ None = sym (ap (λ (x : Option Held). (stand_with n x).link) is) ∙ gone in cc no
+link_there : (n : EndNow) (h : Held) (o : Option Held) → o ≡ Some h → (present_with n o).link ≢ None
+link_there n h o is gone = let no : Some h.link ≡ None = sym (ap (λ (x : Option Held). (present_with n x).link) is) ∙ gone in cc no
 
 where_opened : (w : World) → EntriesTellEnds (scene_of w) → AreWhereOpened w
 where_opened w t who host buffers has =
     let e = t.opened who host buffers has in
-    let n = stands_of w who e.0 e.1 in
-    (n.0, n.1, sym (host_of_stand n.0 (held_of w.hosts n.0)) ∙ ap (λ (x : Stand). x.host) n.2 ∙ e.2)
+    let n = holds_of w who e.0 e.1 in
+    (n.0, n.1, sym (host_of_stand n.0 (held_of w.hosts n.0)) ∙ ap (λ (x : PresentEnd). x.host) n.2 ∙ e.2)
 
 -- a released end has no link; one that is not has one
-released_end : (w : World) (n : EndNow) → n.released ≡ true → (stand_of w.hosts n).link ≡ None
+released_end : (w : World) (n : EndNow) → n.released ≡ true → (present_of w.hosts n).link ≡ None
 released_end w n is = rw is refl
 
 pub held_there : (w : World) (n : EndNow) {x : HostState} {h : Held} → n.released ≡ false → slice_get w.hosts n.host ≡ Some x → held_in (Some x) n.id ≡ Some h → held_of w.hosts n ≡ Some h
 held_there w n is there live = cond-false n.released None (held_in (slice_get w.hosts n.host) n.id) is ∙ (ap (λ o. held_in o n.id) there ∙ live)
 
-unreleased_end : (w : World) → InOrder w → (who : ℕ) (n : EndNow) → slice_get w.ends who ≡ Some n → (b : Bool) → n.released ≡ b → (stand_of w.hosts n).link ≡ None → n.released ≡ true
+unreleased_end : (w : World) → InOrder w → (who : ℕ) (n : EndNow) → slice_get w.ends who ≡ Some n → (b : Bool) → n.released ≡ b → (present_of w.hosts n).link ≡ None → n.released ≡ true
 unreleased_end w order who n at true is gone = is
 unreleased_end w order who n at false is gone =
     let there = order.ends who n at is in
@@ -161,7 +161,7 @@ unreleased_end w order who n at false is gone =
 
 released_by_log : (w : World) → InOrder w → EntriesTellEnds (scene_of w) → AreReleasedByLog w
 released_by_log w order t who n at =
-    let both = t.released who (stand_of w.hosts n) (stands_there w who n at) in
+    let both = t.released who (present_of w.hosts n) (holds_there w who n at) in
     (λ is. both.0 (released_end w n is), λ has. unreleased_end w order who n at n.released refl (both.1 has))
 
 -- ---- theorems of messages, by the log and the marks of ends
@@ -181,21 +181,21 @@ mark_there [] who n at well = absurd (cc at)
 mark_there (e ∷ es) zero n at well = let same : e ≡ n = cc at in ap (λ (x : EndNow). Some x.overlong) same ∙ ap Some well
 mark_there (e ∷ es) (suc who) n at well = mark_there es who n at well
 
-stand_unmarked : (es : List Stand) (who : ℕ) → slice_get (map (λ (e : Stand). e.overlong) es) who ≡ Some false → (e : Stand) × (slice_get es who ≡ Some e) × (e.overlong ≡ false)
+stand_unmarked : (es : List PresentEnd) (who : ℕ) → slice_get (map (λ (e : PresentEnd). e.overlong) es) who ≡ Some false → (e : PresentEnd) × (slice_get es who ≡ Some e) × (e.overlong ≡ false)
 stand_unmarked [] who at = absurd (cc at)
 stand_unmarked (e ∷ es) zero at = (e, refl, cc at)
 stand_unmarked (e ∷ es) (suc who) at = stand_unmarked es who at
 
-was_unmarked : (s : Scene) (es : List EndNow) → FollowsMarks (map (λ (e : Stand). e.overlong) s.ends) (marks_of es) → (who : ℕ) (n : EndNow) → slice_get es who ≡ Some n → n.overlong ≡ false
-    → (length s.ends ≤ who) ⊎ ((e : Stand) × (slice_get s.ends who ≡ Some e) × (e.overlong ≡ false))
+was_unmarked : (s : Scene) (es : List EndNow) → FollowsMarks (map (λ (e : PresentEnd). e.overlong) s.ends) (marks_of es) → (who : ℕ) (n : EndNow) → slice_get es who ≡ Some n → n.overlong ≡ false
+    → (length s.ends ≤ who) ⊎ ((e : PresentEnd) × (slice_get s.ends who ≡ Some e) × (e.overlong ≡ false))
 was_unmarked s es follows who n at well =
-    elim (unmarked_before (map (λ (e : Stand). e.overlong) s.ends) (marks_of es) who follows (mark_there es who n at well)) [
-      | inl past ↦ inl (omega (arith, past, length-map s.ends (λ (e : Stand). e.overlong)))
+    elim (unmarked_before (map (λ (e : PresentEnd). e.overlong) s.ends) (marks_of es) who follows (mark_there es who n at well)) [
+      | inl past ↦ inl (omega (arith, past, length-map s.ends (λ (e : PresentEnd). e.overlong)))
       | inr there ↦ inr (stand_unmarked s.ends who there)
     ]
 
 -- what an end handed out, by what held in a scene that can be reached with the same log
-still_joined : IsLaw HandsOutWhatItTook → IsLaw AbsentHandsOutNothing → (s : Scene) → Reached s → (who : ℕ) → (length s.ends ≤ who) ⊎ ((e : Stand) × (slice_get s.ends who ≡ Some e) × (e.overlong ≡ false))
+still_joined : IsLaw HandsOutWhatItTook → IsLaw AbsentHandsOutNothing → (s : Scene) → Reached s → (who : ℕ) → (length s.ends ≤ who) ⊎ ((e : PresentEnd) × (slice_get s.ends who ≡ Some e) × (e.overlong ≡ false))
     → handed_out who s.log ≡ (joined (taken_of who s.log)).messages
 still_joined law absent s r who (inl past) =
     let none = absent s r who past in
@@ -205,8 +205,8 @@ still_joined law absent s r who (inr there) = law s r who there.0 there.1 there.
 joined_messages : IsLaw HandsOutWhatItTook → IsLaw AbsentHandsOutNothing → (w : World) (spent : Bool) → IsKept w spent → HandsOutWhatItTook (scene_of w)
 joined_messages law absent w false kept = law (scene_of w) kept.reached
 joined_messages law absent w true kept = λ who e at well.
-    let n = stands_of w who e at in
-    let marked : n.0.overlong ≡ false = sym (overlong_of_stand n.0 (held_of w.hosts n.0)) ∙ ap (λ (x : Stand). x.overlong) n.2 ∙ well in
+    let n = holds_of w who e at in
+    let marked : n.0.overlong ≡ false = sym (overlong_of_stand n.0 (held_of w.hosts n.0)) ∙ ap (λ (x : PresentEnd). x.overlong) n.2 ∙ well in
     subst (λ (log : List Note). handed_out who log ≡ (joined (taken_of who log)).messages) kept.log
     (still_joined law absent kept.scene kept.reached who (was_unmarked kept.scene w.ends kept.marks who n.0 n.1 marked))
 
@@ -243,7 +243,7 @@ pub theorems : SceneLaws → (v : NetView) → IsKept v.now.world v.spent → Th
 theorems laws v kept =
     let w : World = v.now.world in
     record {
-      alters = always RoutersAlterHopsAlone laws.carried w v.spent kept;
+      alters = always RoutersAlterOnlyHops laws.carried w v.spent kept;
       in_order = in_order laws.sent w v.spent kept;
       headline = always (λ s. LogHeadline s.log) laws.headline w v.spent kept;
       made_once = always (λ s. AreMadeOnce s.log) laws.made_once w v.spent kept;

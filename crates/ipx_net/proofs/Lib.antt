@@ -14,7 +14,7 @@ pub mod Holding
 pub mod Beginning
 pub mod TellingClose
 pub mod TellingCounts
-pub mod TellingStands
+pub mod TellingHolds
 pub mod TellingPeers
 pub mod TellingSteps
 pub mod CourseTells

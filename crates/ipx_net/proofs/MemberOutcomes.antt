@@ -2,7 +2,7 @@
 use Rattle.std.proofs.Common.{ℕ, ◌≡◌, ◌++◌, ◌∷◌, [], List, Bool, true, false, length, length-set, set, MatchBool, Option, refl, sym, ◌∙◌, ap, subst}
 use Rattle.ipx_router.specs.Answer.{Receives}
 use Rattle.ipx_router.specs.Knowledge.{HoldsRoutes, HoldsServices, Known, known_at, routes_in, services_in, tables}
-use Rattle.ipx_router.specs.OneValue.{IsOneHolding, IsOneStart, IsOneTelling}
+use Rattle.ipx_router.specs.OneValue.{IsOneHolding, IsOneStart, AdvertisementsAreDetermined}
 use Rattle.ipx_router.specs.OutcomeView.{OutcomeView}
 use Rattle.ipx_router.specs.OutcomeView as Outcomes
 use Rattle.ipx_router.specs.RouterPackets.{SendingView}
@@ -41,7 +41,7 @@ pub record MemberLaws : Type 0 where
   pub offers : (old new other : RouterView) (port : ℕ) (bytes : List ℕ) (now : ℕ) (a b : OutcomeView) → Receives old port bytes now a new → Receives old port bytes now b other
       → HoldsRoutes new.routes (routes_in other.routes) × HoldsServices new.services (services_in other.services)
   pub poll : IsOnePoll
-  pub telling : IsOneTelling
+  pub telling : AdvertisementsAreDetermined
   pub holding : IsOneHolding
   pub start : IsOneStart
 

@@ -4,17 +4,17 @@ use Rattle.std.specs.Result.{is_err}
 use Rattle.std.proofs.lemmas.List.{length-map}
 use Rattle.spx_theory.specs.Deeds.{Reached}
 use Rattle.spx_theory.specs.WorldStep.{WorldStep}
-use Rattle.spx_theory.specs.Scene.{Stand}
-use Rattle.spx_theory.specs.World.{EndNow, InOrder, World, bytes_of, held_of, scene_of, segment_of, stand_of}
+use Rattle.spx_theory.specs.Scene.{PresentEnd}
+use Rattle.spx_theory.specs.World.{EndNow, InOrder, World, bytes_of, held_of, scene_of, segment_of, present_of}
 use Rattle.ipx_net_hosts.specs.Hosts.{FollowsMarks, HostsView, SameHomes, marks_of, world_of}
-use Rattle.ipx_net.specs.EventWants.{IsMade}
+use Rattle.ipx_net.specs.EventMemory.{IsMade}
 use Rattle.ipx_net.specs.LogEntries.{entry_note}
 use Rattle.ipx_net.specs.Parcels.{parcel_view}
 use Rattle.ipx_net.specs.IndexedLogView.{IndexedLogView, written_on}
 use Rattle.ipx_net.specs.StepResultView.{StepResultView}
 use Rattle.ipx_net.specs.NetEvents.{Happens, LeavesMarks}
 use Rattle.ipx_net.specs.NetFaults.{first_fault}
-use Rattle.ipx_net.specs.NetReach.{GoesOn, IsKept, StandsStill}
+use Rattle.ipx_net.specs.NetReach.{GoesOn, IsKept, IsAtRest}
 use Rattle.ipx_net.specs.NetView.{NetView, net_of}
 use Rattle.ipx_net.specs.declared.event.Event.{Event}
 use Rattle.ipx_net.specs.declared.event.Event.TheVariants as Events
@@ -69,12 +69,12 @@ pub both_made : (g : StepResult) → 0 < length g.parcels.items + length g.entri
 both_made g some = omega (arith, some, length-map g.entries.items entry_note, length-map g.parcels.items parcel_view)
 
 -- the marks of ends are those of their stands in the scene
-scene_marks : (w : World) → map (λ (e : Stand). e.overlong) (scene_of w).ends ≡ marks_of w.ends
+scene_marks : (w : World) → map (λ (e : PresentEnd). e.overlong) (scene_of w).ends ≡ marks_of w.ends
 scene_marks w = of w.ends
   where
-    of : (es : List EndNow) → map (λ (e : Stand). e.overlong) (map (stand_of w.hosts) es) ≡ marks_of es
+    of : (es : List EndNow) → map (λ (e : PresentEnd). e.overlong) (map (present_of w.hosts) es) ≡ marks_of es
     of [] = refl
-    of (e ∷ es) = ap (λ b. b ∷ map (λ (x : Stand). x.overlong) (map (stand_of w.hosts) es)) (overlong_of_stand e (held_of w.hosts e)) ∙ ap (λ bs. e.overlong ∷ bs) (of es)
+    of (e ∷ es) = ap (λ b. b ∷ map (λ (x : PresentEnd). x.overlong) (map (present_of w.hosts) es)) (overlong_of_stand e (held_of w.hosts e)) ∙ ap (λ bs. e.overlong ∷ bs) (of es)
 
 -- whatever the event, one end at most is new
 follows_marks : (event : Event) (old new : List EndNow) → LeavesMarks event old new → FollowsMarks (marks_of old) (marks_of new)
@@ -92,11 +92,11 @@ follows_marks (Events.Deliver parcel (Places.Port router port)) old new leaves =
 follows_marks (Events.Inject segment next bytes) old new leaves = inl leaves
 
 -- it stands still, with its log and its parcels, and its hosts have the same addresses
-pub stands_still : (event : Event) (hosts hosts' : HostsView) (b b' : IndexedLogView) (now now' : ℕ) (spent : Bool)
+pub holds_still : (event : Event) (hosts hosts' : HostsView) (b b' : IndexedLogView) (now now' : ℕ) (spent : Bool)
     → spent ≡ false → IsKept (world_of hosts b.parcels b.log now) spent
     → SameHomes hosts hosts' → LeavesMarks event hosts.ends hosts'.ends → b'.log ≡ b.log → b'.parcels ≡ b.parcels
-    → StandsStill (world_of hosts' b'.parcels b'.log now')
-stands_still event hosts hosts' b b' now now' spent going kept homes marks log parcels =
+    → IsAtRest (world_of hosts' b'.parcels b'.log now')
+holds_still event hosts hosts' b b' now now' spent going kept homes marks log parcels =
     let old : World = world_of hosts b.parcels b.log now in
     let was : GoesOn old = kept_going old spent going kept in
     record {

@@ -9,7 +9,7 @@ use Rattle.spx_theory.specs.Note.{Note}
 use Rattle.spx_theory.specs.Scan.{Each, Scan, scan}
 use Rattle.spx_theory.specs.Peers.{ArePeers, IsFresh, IsRecent}
 use Rattle.spx_theory.specs.Handed.{handed_in, handed_out, IsBeginning}
-use Rattle.spx_theory.specs.EndsTold.{PeerIsFound, peer_in, peer_of}
+use Rattle.spx_theory.specs.EndsSummarized.{PeerIsFound, peer_in, peer_of}
 use Rattle.ipx_net.specs.Begins.{BeginsAsRead}
 use Rattle.ipx_net.specs.Sights.{reading_view, scan_of}
 use Rattle.ipx_net.specs.declared.log_index.LogIndex.{LogIndex}

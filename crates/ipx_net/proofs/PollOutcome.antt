@@ -8,9 +8,9 @@ use Rattle.ipx_wire.specs.Spx.{HasFreeBitsClear}
 use Rattle.ipx_wire.specs.declared.address.Node.{Node}
 use Rattle.spx_messages.specs.WrittenPackets.{IsWrittenPacket}
 use Rattle.spx_messages.specs.EndpointView.{EndpointView}
-use Rattle.spx_messages.specs.OneValue.{IsOnePoll, IsRoomStill, IsSamePoll}
+use Rattle.spx_messages.specs.OneValue.{IsOnePoll, IsBufferStill, IsSamePoll}
 use Rattle.spx_messages.specs.Polls.{FirstLinkGives, Polls, home_of}
-use Rattle.spx_theory.specs.HostSteps.{said_notes, sent_letters}
+use Rattle.spx_theory.specs.HostSteps.{sending_notes, sent_letters}
 use Rattle.spx_theory.specs.World.{AtHost, HostState, ParcelView, World, end_at}
 use Rattle.ipx_net.specs.AnswerView.{AnswerView, Parcels}
 use Rattle.ipx_net.specs.HostEvents.{PollingHost, made_by}
@@ -33,12 +33,12 @@ front_is_bytes n a b fits in_a in_b i =
 -- a poll that gives the same packet in another room
 record GivesIn (old new : EndpointView) (now : ℕ) (r : Option (Node × ℕ)) (written room : List ℕ) : Type 0 where
   into : List ℕ
-  still : IsRoomStill room into
+  still : IsBufferStill room into
   polls : Polls old now r room into new
   letters : (s : HostState) (host : ℕ) → sent_letters r s host into ≡ sent_letters r s host written
 
 -- what a poll gives does not depend on the room
-gives_in : (old new : EndpointView) (now : ℕ) (r : Option (Node × ℕ)) (before written room : List ℕ) → spx_max_packet_size ≤ length before → IsRoomStill before written → spx_max_packet_size ≤ length room → IsBytes room
+gives_in : (old new : EndpointView) (now : ℕ) (r : Option (Node × ℕ)) (before written room : List ℕ) → spx_max_packet_size ≤ length before → IsBufferStill before written → spx_max_packet_size ≤ length room → IsBytes room
     → Polls old now r before written new → GivesIn old new now r written room
 gives_in old new now None before written room long still long' bytes p =
     record {
@@ -104,8 +104,8 @@ polls_host_both law old x y host a b p q =
     let letters : sent_letters q.0 two.before host two.written ≡ sent_letters p.0 one.before host one.written =
     ap (λ (z : HostState). sent_letters q.0 z host two.written) same ∙ sym (other.letters one.before host) ∙ ap (sent_letters q.0 one.before host) (sym is.written)
     ∙ ap (λ o. sent_letters o one.before host first.into) (sym is.result) ∙ first.letters one.before host in
-    let notes : said_notes two.before.here two.after.endpoint.said n ≡ said_notes one.before.here one.after.endpoint.said n =
-    ap (λ (z : HostState). said_notes z.here two.after.endpoint.said n) same ∙ ap (λ o. said_notes one.before.here o n) is.said in
+    let notes : sending_notes two.before.here two.after.endpoint.said n ≡ sending_notes one.before.here one.after.endpoint.said n =
+    ap (λ (z : HostState). sending_notes z.here two.after.endpoint.said n) same ∙ ap (λ o. sending_notes one.before.here o n) is.said in
     let alike : AreAlike one.after two.after = record {
       endpoint = is.same;
       here = λ i. ap (λ ps. end_at ps i) (two.here ∙ ap (λ (z : HostState). z.here) same ∙ sym one.here);

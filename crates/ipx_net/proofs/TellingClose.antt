@@ -4,18 +4,18 @@ use Rattle.std.specs.Prelude.{slice_get}
 use Rattle.spx_link.specs.declared.state.State.{State}
 use Rattle.spx_link.specs.declared.state.State.TheVariants.{Confirmed}
 use Rattle.spx_messages.specs.EndpointView.{Held}
-use Rattle.spx_theory.specs.EndsTold.{PeerIsFound}
+use Rattle.spx_theory.specs.EndsSummarized.{PeerIsFound}
 use Rattle.spx_theory.specs.Peers.{ArePeersIn}
 use Rattle.spx_theory.specs.Scan.{Scan, scan}
-use Rattle.spx_theory.specs.World.{EndNow, World, held_of, stand_of, stand_with}
-use Rattle.ipx_net_hosts.specs.EndTelling.{state_of}
-use Rattle.ipx_net.specs.Ends.{TellsClosed, TellsEnded, TellsLog, TellsOpened, TellsReleased, TellsStands, told_of}
+use Rattle.spx_theory.specs.World.{EndNow, World, held_of, present_of, present_with}
+use Rattle.ipx_net_hosts.specs.EndStates.{state_of}
+use Rattle.ipx_net.specs.Ends.{TellsClosed, TellsEnded, TellsLog, TellsOpened, TellsReleased, SummariesHaveStates, told_of}
 use Rattle.ipx_net.specs.NetView.{NetView}
 use Rattle.ipx_net.specs.Theorems.{LinkTheorems, Theorems}
 use Rattle.ipx_net.specs.declared.endinfo.EndInfo.{EndInfo}
-use Rattle.ipx_net.proofs.Holding.{held_there, stands_there}
+use Rattle.ipx_net.proofs.Holding.{held_there, holds_there}
 
-pub tells_opened : (w : World) (t : List EndInfo) → LinkTheorems w → TellsStands w t → TellsOpened w t
+pub tells_opened : (w : World) (t : List EndInfo) → LinkTheorems w → SummariesHaveStates w t → TellsOpened w t
 tells_opened w t th stands who host buffers has =
     let n = th.opened who host buffers has in
     (stands who n.0 n.1).host ∙ n.2
@@ -53,7 +53,7 @@ no_state w n false is none th who at =
 gone_state : (w : World) (n : EndNow) → n.released ≡ true → state_of (held_of w.hosts n) ≡ None
 gone_state w n is = rw is refl
 
-pub tells_released : (w : World) (t : List EndInfo) → length t ≡ length w.ends → LinkTheorems w → TellsStands w t → TellsReleased w t
+pub tells_released : (w : World) (t : List EndInfo) → length t ≡ length w.ends → LinkTheorems w → SummariesHaveStates w t → TellsReleased w t
 tells_released w t count th stands who within =
     let e = there w t who count within in
     let told = (stands who e.0 e.1).state in
@@ -67,13 +67,13 @@ held_with : (o : Option Held) (s : State) → state_of o ≡ Some s → (h : Hel
 held_with None s is = cc is
 held_with (Some h) s is = (h, refl, cc is)
 
-pub tells_closed : ((s : Scan) (c d : ℕ) → PeerIsFound s c d) → (w : World) (t : List EndInfo) → length t ≡ length w.ends → LinkTheorems w → TellsLog w.log t → TellsStands w t → TellsClosed w t
+pub tells_closed : ((s : Scan) (c d : ℕ) → PeerIsFound s c d) → (w : World) (t : List EndInfo) → length t ≡ length w.ends → LinkTheorems w → TellsLog w.log t → SummariesHaveStates w t → TellsClosed w t
 tells_closed found w t count th log stands premises who is =
     let e = there w t who count (told_within t who Confirmed is) in
     let n : EndNow = e.0 in
     let h = held_with (held_of w.hosts n) Confirmed (sym (stands who n e.1).state ∙ is) in
-    let link : (stand_of w.hosts n).link ≡ Some h.0.link = ap (λ (o : Option Held). (stand_with n o).link) h.1 in
-    let closed = th.confirmed premises who (stand_of w.hosts n) h.0.link (record { there = stands_there w who n e.1; link = link }) h.2 in
+    let link : (present_of w.hosts n).link ≡ Some h.0.link = ap (λ (o : Option Held). (present_with n o).link) h.1 in
+    let closed = th.confirmed premises who (present_of w.hosts n) h.0.link (record { there = holds_there w who n e.1; link = link }) h.2 in
     record {
       peer = closed.0;
       peer_is = (log.each who).peer ∙ (found (scan w.log) who closed.0).there closed.3.peers;

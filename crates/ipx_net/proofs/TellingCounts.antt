@@ -13,7 +13,7 @@ use Rattle.spx_theory.specs.SentUnits.{sent_by}
 use Rattle.ipx_net.specs.Ends.{nobody, told_of}
 use Rattle.ipx_net.specs.LogEntries.{entry_note, entry_notes}
 use Rattle.ipx_net.specs.Theorems.{AreNumbered}
-use Rattle.ipx_net.specs.ToldEnds.{AreCounted, IsCounted, StayAs, StaysAs, change, one_given, one_out, one_sent, told_with}
+use Rattle.ipx_net.specs.EndSummaryChanges.{AreCounted, IsCounted, StayAs, StaysAs, change, one_given, one_out, one_sent, summaries_with}
 use Rattle.ipx_net.specs.declared.endinfo.EndInfo.{EndInfo}
 use Rattle.ipx_net.specs.declared.entry.Entry.{Entry}
 use Rattle.ipx_net.proofs.Sightings.{seen_all-append}
@@ -114,7 +114,7 @@ sent_step w parcel log who x b is c =
     by false more given out = record { given = given; out = out; next = omega (arith, c.next, more) }
 
 -- one entry more
-pub counted_on : (log : List Note) (n : Note) (told : List EndInfo) → IsNumbered (scan log) n → AreCounted log told → AreCounted (log ++ n ∷ []) (told_with n told)
+pub counted_on : (log : List Note) (n : Note) (told : List EndInfo) → IsNumbered (scan log) n → AreCounted log told → AreCounted (log ++ n ∷ []) (summaries_with n told)
 counted_on log (Opened who host buffers) told is old =
     kept log (Opened who host buffers) told (told ++ nobody ∷ []) (λ e. refl) (λ e. refl) refl (nobody_on told) (omega (arith, old.count, length-append told (nobody ∷ []), length-append (scan log).roles (record { buffers = buffers; called = true; joined = false; partner = None } ∷ []))) old
 counted_on log (Accepted who parcel buffers) told is old =
@@ -155,7 +155,7 @@ change_stays f w told keeps who = by_length (ltb w (length told)) refl
     by_length true h = pick (w == who) refl (ltb-true w (length told) h)
     by_length false h = same_stays (told_of told who) (told_of (change f w told) who) (ap (λ (xs : List EndInfo). told_of xs who) (set_past told w (f (told_of told w)) (ltb-false w (length told) h)))
 
-pub told_stays : (n : Note) (told : List EndInfo) → StayAs told (told_with n told)
+pub told_stays : (n : Note) (told : List EndInfo) → StayAs told (summaries_with n told)
 told_stays (Opened who host buffers) told = λ w. same_stays (told_of told w) (told_of (told ++ nobody ∷ []) w) (nobody_on told w)
 told_stays (Accepted who parcel buffers) told = λ w. same_stays (told_of told w) (told_of (told ++ nobody ∷ []) w) (nobody_on told w)
 told_stays (HandsIn who m) told = change_stays one_given who told (λ e. record { host = refl; state = refl; peer = refl })
@@ -186,9 +186,9 @@ numbered_at log at e h is numbered =
     ∙ ap (λ (es : List Entry). entry_notes (take at log) ++ entry_notes es) (drop_more log at e h ∙ ap (λ (x : Entry). x ∷ drop (at + 1) log) (sym is)))
 
 pub counted_next : (log : List Entry) (at : ℕ) (e : Entry) (told : List EndInfo) → at < length log → e ≡ get_or log at e → AreNumbered (entry_notes log)
-    → AreCounted (entry_notes (take at log)) told → AreCounted (entry_notes (take (at + 1) log)) (told_with (entry_note e) told)
+    → AreCounted (entry_notes (take at log)) told → AreCounted (entry_notes (take (at + 1) log)) (summaries_with (entry_note e) told)
 counted_next log at e told h is numbered old =
-    subst (λ (ns : List Note). AreCounted ns (told_with (entry_note e) told)) (sym (taken_more log at e h is))
+    subst (λ (ns : List Note). AreCounted ns (summaries_with (entry_note e) told)) (sym (taken_more log at e h is))
     (counted_on (entry_notes (take at log)) (entry_note e) told (numbered_at log at e h is numbered) old)
 
 -- ---- no end handed in or out more messages than there are entries

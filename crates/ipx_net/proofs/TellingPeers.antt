@@ -4,7 +4,7 @@ use Rattle.std.specs.Prelude.{slice_get}
 use Rattle.std.proofs.lemmas.Bool.{cases_eq}
 use Rattle.std.proofs.lemmas.List.{map-append, take-append-drop, take_all}
 use Rattle.std.proofs.lemmas.Option.{get_or_from_slice_get, same_Some, slice_get_within}
-use Rattle.spx_theory.specs.EndsTold.{PeerIsFound, peer_in, peer_of}
+use Rattle.spx_theory.specs.EndsSummarized.{PeerIsFound, peer_in, peer_of}
 use Rattle.spx_theory.specs.Note.{Note, Opened, Accepted, Joined, HandsIn, HandsOut, TakesUnit, AsksEnd, Got, Released, SendsUnit, SendsAgain, SendsSystem, Told, Carried, Injected}
 use Rattle.spx_theory.specs.Numbered.{IsNumbered}
 use Rattle.spx_theory.specs.Peers.{AreJoined, ArePeersIn}
@@ -12,12 +12,12 @@ use Rattle.spx_theory.specs.Scan.{Maker, Role, Scan, asker, joined_by, mark_of, 
 use Rattle.ipx_net.specs.Ends.{told_of}
 use Rattle.ipx_net.specs.LogEntries.{entry_note, entry_notes}
 use Rattle.ipx_net.specs.Theorems.{AreNumbered}
-use Rattle.ipx_net.specs.ToldEnds.{StayAlone, StaysBut, change, joins, made_peers, paired_by, with_peer}
+use Rattle.ipx_net.specs.EndSummaryChanges.{OthersStay, StaysBut, change, joins, made_peers, paired_by, with_peer}
 use Rattle.ipx_net.specs.declared.endinfo.EndInfo.{EndInfo}
 use Rattle.ipx_net.specs.declared.entry.Entry.{Entry}
 use Rattle.ipx_net.proofs.Sightings.{seen_all-append}
 use Rattle.ipx_net.proofs.TellingCounts.{numbered_at, scan_on, taken_more}
-use Rattle.ipx_net.proofs.TellingStands.{change_own, change_where}
+use Rattle.ipx_net.proofs.TellingHolds.{change_own, change_where}
 
 -- ---- elements of lists that grow or change
 
@@ -250,18 +250,18 @@ paired_other who d (Some q) told is h =
     let at : (told_of (change (with_peer (Some who)) q one) q).peer ≡ Some who = ap (λ (x : EndInfo). x.peer) (change_own (with_peer (Some who)) q one within) in
     ap (λ (k : ℕ). (told_of (change (with_peer (Some who)) q one) k).peer) (sym same) ∙ at
 
-peer_alone : (p : Option ℕ) (w : ℕ) (told : List EndInfo) → StayAlone told (change (with_peer p) w told)
+peer_alone : (p : Option ℕ) (w : ℕ) (told : List EndInfo) → OthersStay told (change (with_peer p) w told)
 peer_alone p w told e = elim (change_where (with_peer p) w told e) [
   | inl same ↦ subst (StaysBut (told_of told e)) (sym same) (record { host = refl; state = refl; given = refl; out = refl; next = refl })
   | inr here ↦ subst (StaysBut (told_of told e)) (sym here.1) (record { host = refl; state = refl; given = refl; out = refl; next = refl })
 ]
 
-alone_then : (a b c : List EndInfo) → StayAlone a b → StayAlone b c → StayAlone a c
+alone_then : (a b c : List EndInfo) → OthersStay a b → OthersStay b c → OthersStay a c
 alone_then a b c one two = λ e.
     let x = one e in let y = two e in
     record { host = y.host ∙ x.host; state = y.state ∙ x.state; given = y.given ∙ x.given; out = y.out ∙ x.out; next = y.next ∙ x.next }
 
-paired_alone : (who : ℕ) (p : Option ℕ) (told : List EndInfo) → StayAlone told (made_peers who p told)
+paired_alone : (who : ℕ) (p : Option ℕ) (told : List EndInfo) → OthersStay told (made_peers who p told)
 paired_alone who None told = peer_alone None who told
 paired_alone who (Some d) told =
     let one : List EndInfo = change (with_peer (Some d)) who told in
@@ -278,7 +278,7 @@ paired_length who (Some d) told =
 pub record PairedTo (log : List Entry) (old : List EndInfo) (at : ℕ) (told : List EndInfo) : Type 0 where
   pub sound : (e c : ℕ) → (told_of told e).peer ≡ Some c → peer_of (entry_notes log) e ≡ Some c
   pub found : (e c : ℕ) → peer_of (entry_notes (take at log)) e ≡ Some c → (told_of told e).peer ≡ Some c
-  pub alone : StayAlone old told
+  pub alone : OthersStay old told
   pub count : length told ≡ length old
 
 pub paired_start : Found → (log : List Entry) (from : ℕ) (old : List EndInfo) → ((e : ℕ) → (told_of old e).peer ≡ peer_of (entry_notes (take from log)) e) → PairedTo log old from old

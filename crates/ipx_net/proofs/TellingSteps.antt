@@ -18,14 +18,14 @@ use Rattle.spx_theory.specs.World.{EndNow, InOrder, IsEndOf, HostState, World, e
 use Rattle.ipx_wire.specs.declared.address.Address.{Address}
 use Rattle.ipx_wire.specs.declared.address.Socket.{Socket}
 use Rattle.ipx_net_hosts.specs.Hosts.{HostsView}
-use Rattle.ipx_net_hosts.specs.EndTelling.{here_at, here_in, state_on_host, state_of}
+use Rattle.ipx_net_hosts.specs.EndStates.{here_at, here_in, state_on_host, state_of}
 use Rattle.ipx_net.specs.AnswerView.{AnswerView}
-use Rattle.ipx_net.specs.Ends.{TellsLog, TellsStand, TellsStands, told_of}
+use Rattle.ipx_net.specs.Ends.{TellsLog, SummaryHasState, SummariesHaveStates, told_of}
 use Rattle.ipx_net.specs.HostEvents.{RefusedOf}
 use Rattle.ipx_net.specs.NetEvents.{Happens}
 use Rattle.ipx_net.specs.NetView.{NetNow}
 use Rattle.ipx_net.specs.RouterEvents.{RouterDoes}
-use Rattle.ipx_net.specs.ToldEnds.{Resettled, Restood, StandAs, StandsSo, host_there, hosts_of, logged, state_by, touched_by}
+use Rattle.ipx_net.specs.EndSummaryChanges.{Resettled, ChangesState, SameHostAndState, HasHostAndState, host_there, hosts_of, logged, state_by, touched_by}
 use Rattle.ipx_net.specs.declared.endinfo.EndInfo.{EndInfo}
 use Rattle.ipx_net.specs.declared.event.Event.{Event}
 use Rattle.ipx_net.specs.declared.event.Event.TheVariants as Events
@@ -193,18 +193,18 @@ relog log a b count same t =
           };
     }
 
-pub restood_log : (v : HostsView) (k : Option ℕ) (gone : Bool) (a b : List EndInfo) (log : List Note) → Restood v k gone a b → TellsLog log a → TellsLog log b
+pub restood_log : (v : HostsView) (k : Option ℕ) (gone : Bool) (a b : List EndInfo) (log : List Note) → ChangesState v k gone a b → TellsLog log a → TellsLog log b
 restood_log v None gone a b log r t = subst (TellsLog log) (sym r) t
 restood_log v (Some host) gone a b log r t = relog log a b r.count r.log t
 
-restood_here : (v : HostsView) (k : Option ℕ) (gone : Bool) (a b : List EndInfo) → Restood v k gone a b → (h id who : ℕ) → k ≡ Some h → end_at (here_at v h) id ≡ Some who → who < length a
-    → StandsSo h (state_by gone (state_on_host v h id)) (told_of b who)
+restood_here : (v : HostsView) (k : Option ℕ) (gone : Bool) (a b : List EndInfo) → ChangesState v k gone a b → (h id who : ℕ) → k ≡ Some h → end_at (here_at v h) id ≡ Some who → who < length a
+    → HasHostAndState h (state_by gone (state_on_host v h id)) (told_of b who)
 restood_here v None gone a b r h id who is known within = absurd (cc is)
 restood_here v (Some g) gone a b r h id who is known within =
     let there : Resettled v h gone a b = subst (λ (i : ℕ). Resettled v i gone a b) (same_Some g h is) r in
     there.here id who known within
 
-restood_others : (v : HostsView) (k : Option ℕ) (gone : Bool) (a b : List EndInfo) → Restood v k gone a b → (who : ℕ) → ((h id : ℕ) → k ≡ Some h → end_at (here_at v h) id ≢ Some who)
+restood_others : (v : HostsView) (k : Option ℕ) (gone : Bool) (a b : List EndInfo) → ChangesState v k gone a b → (who : ℕ) → ((h id : ℕ) → k ≡ Some h → end_at (here_at v h) id ≢ Some who)
     → told_of b who ≡ told_of a who
 restood_others v None gone a b r who none = ap (λ (xs : List EndInfo). told_of xs who) r
 restood_others v (Some g) gone a b r who none = r.others who (λ id. none g id refl)
@@ -250,14 +250,14 @@ pub record Telling (k : Option ℕ) (w w' : World) (t0 t1 t2 t3 : List EndInfo) 
   pub count : length t0 ≡ length w.ends
   pub count' : length t2 ≡ length w'.ends
   pub only : OnlyAt k w w'
-  pub before : TellsStands w t0
-  pub cleared : Restood (hosts_of w) k true t0 t1
-  pub kept : StandAs t1 t2
-  pub settled : Restood (hosts_of w') k false t2 t3
+  pub before : SummariesHaveStates w t0
+  pub cleared : ChangesState (hosts_of w) k true t0 t1
+  pub kept : SameHostAndState t1 t2
+  pub settled : ChangesState (hosts_of w') k false t2 t3
 
-stands_now : (k : Option ℕ) (w w' : World) (t0 t1 t2 t3 : List EndInfo) → Telling k w w' t0 t1 t2 t3 → (who : ℕ) (n : EndNow) → slice_get w'.ends who ≡ Some n → n.released ≡ false → k ≡ Some n.host
-    → TellsStand w'.hosts n (told_of t3 who)
-stands_now k w w' t0 t1 t2 t3 t who n at standing is =
+is_present_now : (k : Option ℕ) (w w' : World) (t0 t1 t2 t3 : List EndInfo) → Telling k w w' t0 t1 t2 t3 → (who : ℕ) (n : EndNow) → slice_get w'.ends who ≡ Some n → n.released ≡ false → k ≡ Some n.host
+    → SummaryHasState w'.hosts n (told_of t3 who)
+is_present_now k w w' t0 t1 t2 t3 t who n at standing is =
     let within : who < length t2 = omega (arith, t.count', slice_get_within w'.ends who n at) in
     let s = restood_here (hosts_of w') k false t2 t3 t.settled n.host n.id who is (known_at w' t.order' who n at standing) within in
     record { host = s.host_is; state = s.state_is ∙ ap state_of (sym (held_standing w'.hosts n standing)) }
@@ -274,7 +274,7 @@ same_told k w w' t0 t1 t2 t3 t who none none' =
     )
 
 stayed : (k : Option ℕ) (w w' : World) (t0 t1 t2 t3 : List EndInfo) → Telling k w w' t0 t1 t2 t3 → (who : ℕ) (n' n : EndNow) → slice_get w'.ends who ≡ Some n' → slice_get w.ends who ≡ Some n
-    → n'.host ≡ n.host → n'.id ≡ n.id → n'.released ≡ n.released → (b : Bool) → n'.released ≡ b → TellsStand w'.hosts n' (told_of t3 who)
+    → n'.host ≡ n.host → n'.id ≡ n.id → n'.released ≡ n.released → (b : Bool) → n'.released ≡ b → SummaryHasState w'.hosts n' (told_of t3 who)
 stayed k w w' t0 t1 t2 t3 t who n' n at' at host id same true gone =
     let old = t.before who n at in
     let was : n.released ≡ true = sym same ∙ gone in
@@ -284,7 +284,7 @@ stayed k w w' t0 t1 t2 t3 t who n' n at' at host id same true gone =
       state = told.1 ∙ old.state ∙ ap state_of (held_released w.hosts n was) ∙ sym (ap state_of (held_released w'.hosts n' gone));
     }
 stayed k w w' t0 t1 t2 t3 t who n' n at' at host id same false standing = elim (at_or_not k n'.host) [
-  | inl is ↦ stands_now k w w' t0 t1 t2 t3 t who n' at' standing is
+  | inl is ↦ is_present_now k w w' t0 t1 t2 t3 t who n' at' standing is
   | inr not ↦
       let old = t.before who n at in
       let was : n.released ≡ false = sym same ∙ standing in
@@ -300,7 +300,7 @@ stayed k w w' t0 t1 t2 t3 t who n' n at' at host id same false standing = elim (
 ]
 
 gone_now : (k : Option ℕ) (w w' : World) (t0 t1 t2 t3 : List EndInfo) → Telling k w w' t0 t1 t2 t3 → (who : ℕ) (n' n : EndNow) → slice_get w'.ends who ≡ Some n' → slice_get w.ends who ≡ Some n
-    → n'.host ≡ n.host → n.released ≡ false → n'.released ≡ true → k ≡ Some n.host → TellsStand w'.hosts n' (told_of t3 who)
+    → n'.host ≡ n.host → n.released ≡ false → n'.released ≡ true → k ≡ Some n.host → SummaryHasState w'.hosts n' (told_of t3 who)
 gone_now k w w' t0 t1 t2 t3 t who n' n at' at host standing gone is =
     let within : who < length t0 = omega (arith, t.count, slice_get_within w.ends who n at) in
     let s = restood_here (hosts_of w) k true t0 t1 t.cleared n.host n.id who is (known_at w t.order who n at standing) within in
@@ -310,10 +310,10 @@ gone_now k w w' t0 t1 t2 t3 t who n' n at' at host standing gone is =
       state = ap (λ (e : EndInfo). e.state) last ∙ t.kept.state who ∙ s.state_is ∙ sym (ap state_of (held_released w'.hosts n' gone));
     }
 
-pub tells_stands : (k : Option ℕ) (w w' : World) (t0 t1 t2 t3 : List EndInfo) → Telling k w w' t0 t1 t2 t3 → TellsStands w' t3
-tells_stands k w w' t0 t1 t2 t3 t who n' at' = by (t.only.stay who n' at')
+pub tells_holds : (k : Option ℕ) (w w' : World) (t0 t1 t2 t3 : List EndInfo) → Telling k w w' t0 t1 t2 t3 → SummariesHaveStates w' t3
+tells_holds k w w' t0 t1 t2 t3 t who n' at' = by (t.only.stay who n' at')
   where
-    by : WasSo k w.ends who n' → TellsStand w'.hosts n' (told_of t3 who)
-    by (Fresh is standing) = stands_now k w w' t0 t1 t2 t3 t who n' at' standing is
+    by : WasSo k w.ends who n' → SummaryHasState w'.hosts n' (told_of t3 who)
+    by (Fresh is standing) = is_present_now k w w' t0 t1 t2 t3 t who n' at' standing is
     by (Stayed n at host id same) = stayed k w w' t0 t1 t2 t3 t who n' n at' at host id same n'.released refl
     by (Gone n at host standing gone is) = gone_now k w w' t0 t1 t2 t3 t who n' n at' at host standing gone is

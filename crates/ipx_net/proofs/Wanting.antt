@@ -23,7 +23,7 @@ use Rattle.ipx_net.specs.AnswerView.{AnswerView}
 use Rattle.ipx_net.specs.StepResultView.{StepResultView, step_result_view}
 use Rattle.ipx_net.specs.HostEvents.{DeliversSo}
 use Rattle.ipx_net.specs.RouterEvents.{told_growth}
-use Rattle.ipx_net.specs.EventWants.{HostWantsMemory, IsMade, TakeIsTold}
+use Rattle.ipx_net.specs.EventMemory.{HostNeedsMemory, IsMade, TakeIsLogged}
 use Rattle.ipx_net.specs.declared.step_result.StepResult.{StepResult}
 use Rattle.ipx_net.specs.declared.routers.RouterNow.{RouterNow}
 
@@ -53,13 +53,13 @@ end_is_held stations ends who e s h at standing there holds =
 pub take_is_told : (old new : HostsView) (now who : ℕ) (t : TakenView) (u : Option unit) (r : Result TakenView EndFault) → r ≡ Ok t
     → Noting old new now (unit_notes r u who ++ whole_notes r who) (λ w w'. TakesOf w who r w')
     → 0 < length (unit_notes (Ok t) u who ++ whole_notes (Ok t) who)
-    → TakeIsTold (end_held old.stations old.ends who) who
+    → TakeIsLogged (end_held old.stations old.ends who) who
 take_is_told old new now who t u r is noting some =
     let T = noting [] [] in
     let held : end_held old.stations old.ends who ≡ Some T.held = end_is_held old.stations old.ends who T.end' T.before T.held T.at T.stands T.there T.holds in
     let before : 0 < length (unit_notes r u who ++ whole_notes r who) = subst (λ x. 0 < length (unit_notes x u who ++ whole_notes x who)) (sym is) some in
     let after : 0 < length (unit_notes r (first_of T.held.link.held) who ++ whole_notes r who) = subst (λ (ns : List Note). 0 < length ns) T.log before in
-    subst (λ o. TakeIsTold o who) (sym held) (subst (λ x. 0 < length (unit_notes x (first_of T.held.link.held) who ++ whole_notes x who)) T.answers after)
+    subst (λ o. TakeIsLogged o who) (sym held) (subst (λ x. 0 < length (unit_notes x (first_of T.held.link.held) who ++ whole_notes x who)) T.answers after)
 
 -- ---- a delivery to a host
 
@@ -74,7 +74,7 @@ get_there (x ∷ xs) zero lt = (x, refl)
 get_there (x ∷ xs) (suc k) lt = get_there xs k (omega arith)
 
 module _ (old : HostsView) (host parcel now : ℕ) (bytes : List ℕ) where
-  pub want_of_link_there : host < length old.stations → IfSome (slice_get old.stations host) (λ s. IsAcceptable s.endpoint bytes) → HostWantsMemory old host parcel bytes now
+  pub want_of_link_there : host < length old.stations → IfSome (slice_get old.stations host) (λ s. IsAcceptable s.endpoint bytes) → HostNeedsMemory old host parcel bytes now
   want_of_link_there lt acceptable =
       let x = get_there old.stations host lt in
       inl (x.0, x.1, subst (λ (o : Option HostState). IfSome o (λ s. IsAcceptable s.endpoint bytes)) x.1 acceptable)
@@ -83,15 +83,15 @@ module _ (old : HostsView) (host parcel now : ℕ) (bytes : List ℕ) where
     after_there : slice_get new.stations host ≡ Some d.after
     after_there = ap (λ xs. slice_get xs host) d.stations ∙ get_set old.stations host d.before d.after d.there
 
-    pub want_of_entries : {T E : Type 0} (told : Result T E) (who : ℕ) → who ≡ length old.ends → IfSome (slice_get new.stations host) (λ s. OnErr told (0 < length (arrival_notes r s who parcel)))
-        → (e : E) → told ≡ Err e → HostWantsMemory old host parcel bytes now
-    want_of_entries told who count refused e is =
+    pub no_memory_for_entries : {T E : Type 0} (told : Result T E) (who : ℕ) → who ≡ length old.ends → IfSome (slice_get new.stations host) (λ s. OnErr told (0 < length (arrival_notes r s who parcel)))
+        → (e : E) → told ≡ Err e → HostNeedsMemory old host parcel bytes now
+    no_memory_for_entries told who count refused e is =
         let at_after : OnErr told (0 < length (arrival_notes r d.after who parcel)) = subst (λ (o : Option HostState). IfSome o (λ s. OnErr told (0 < length (arrival_notes r s who parcel)))) after_there refused in
         let some : 0 < length (arrival_notes r d.after who parcel) = subst (λ t. OnErr t (0 < length (arrival_notes r d.after who parcel))) is at_after in
         inr (r, new, d, subst (λ n. 0 < length (arrival_notes r d.after n parcel)) count some)
 
-  pub want_of_growth : (new : HostsView) (g : StepResultView) → DeliversSo old host parcel bytes now g new → 0 < length g.parcels + length g.notes → HostWantsMemory old host parcel bytes now
-  want_of_growth new g d made =
+  pub no_memory_for_growth : (new : HostsView) (g : StepResultView) → DeliversSo old host parcel bytes now g new → 0 < length g.parcels + length g.notes → HostNeedsMemory old host parcel bytes now
+  no_memory_for_growth new g d made =
       let P : List ParcelView → Type 0 = λ ps. 0 < length ps + length g.notes in
       let notes : 0 < 0 + length g.notes = subst P d.parcels made in
       let some : 0 < length g.notes = omega (arith, notes) in
@@ -104,8 +104,8 @@ on_err (Ok x) has = tt
 on_err (Err e) has = has
 
 -- a list for which there is no space after others is not empty
-pub some_behind : (asked told : Vec Reply) → vec_capacity asked < vec_len asked + vec_len told → 0 < length (sendings asked.items ++ sendings told.items)
-some_behind asked told full =
+pub some_after : (asked told : Vec Reply) → vec_capacity asked < vec_len asked + vec_len told → 0 < length (sendings asked.items ++ sendings told.items)
+some_after asked told full =
     let some : 0 < length told.items = omega (arith, full, asked.ok.0, asked.ok.1, told.ok.0) in
     rw (length-append (sendings asked.items) (sendings told.items), length-map told.items sending_of) (omega (arith, some))
 

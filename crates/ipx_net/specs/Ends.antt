@@ -7,15 +7,15 @@ use Rattle.spx_link.specs.LinkView.{LinkView}
 use Rattle.spx_link.specs.Machine.{End}
 use Rattle.spx_link.specs.SequenceMarks.{mark}
 use Rattle.spx_theory.specs.Close.{HoldsAll, IsEndInMachine}
-use Rattle.spx_theory.specs.EndsTold.{peer_of}
+use Rattle.spx_theory.specs.EndsSummarized.{peer_of}
 use Rattle.spx_theory.specs.Handed.{handed_in, handed_out, units_of}
 use Rattle.spx_theory.specs.Note.{AsksEnd, Note, Opened, Released, TakesUnit}
 use Rattle.spx_theory.specs.Peers.{Premises}
 use Rattle.spx_theory.specs.Scan.{scan}
-use Rattle.spx_theory.specs.Scene.{Stand, Stands}
+use Rattle.spx_theory.specs.Scene.{PresentEnd, IsPresent}
 use Rattle.spx_theory.specs.SentUnits.{sent_by}
 use Rattle.spx_theory.specs.World.{EndNow, HostState, World, held_of, scene_of}
-use Rattle.ipx_net_hosts.specs.EndTelling.{state_of}
+use Rattle.ipx_net_hosts.specs.EndStates.{state_of}
 use Rattle.ipx_net.specs.NetView.{NetView}
 use Rattle.ipx_net.specs.declared.endinfo.EndInfo.{EndInfo}
 
@@ -40,22 +40,22 @@ pub record TellsLog (log : List Note) (told : List EndInfo) : Type 0 where
   pub each : (who : ℕ) → TellsEnd log who (told_of told who)
 
 -- the host of an end and the state of its link, which it has until it is released
-pub record TellsStand (hosts : List HostState) (n : EndNow) (e : EndInfo) : Type 0 where
+pub record SummaryHasState (hosts : List HostState) (n : EndNow) (e : EndInfo) : Type 0 where
   pub host : e.host ≡ n.host
   pub state : e.state ≡ state_of (held_of hosts n)
 
-abbrev pub TellsStands : World → List EndInfo → Type 0
-TellsStands w told = (who : ℕ) (n : EndNow) → slice_get w.ends who ≡ Some n
-    → TellsStand w.hosts n (told_of told who)
+abbrev pub SummariesHaveStates : World → List EndInfo → Type 0
+SummariesHaveStates w told = (who : ℕ) (n : EndNow) → slice_get w.ends who ≡ Some n
+    → SummaryHasState w.hosts n (told_of told who)
 
 -- what the log says is always in the summaries; hosts and states are while the network goes on
 pub record TellsEnds (v : NetView) (told : List EndInfo) : Type 0 where
   pub log : TellsLog v.now.world.log told
-  pub stands : v.spent ≡ false → TellsStands v.now.world told
+  pub stands : v.spent ≡ false → SummariesHaveStates v.now.world told
 
 -- the next number in the summary is that of the link, if there is one
 abbrev pub TellsNext : World → List EndInfo → Type 0
-TellsNext w told = (who : ℕ) (s : Stand) (l : LinkView) → Stands (scene_of w) who s l
+TellsNext w told = (who : ℕ) (s : PresentEnd) (l : LinkView) → IsPresent (scene_of w) who s l
     → (told_of told who).next ≡ l.next
 
 -- ---- consequences for the hosts, states and peers in the summaries
@@ -72,7 +72,7 @@ TellsReleased w told = (who : ℕ) → who < length told
 
 -- the close of an end was asked for, and the peer in its summary has read all its units and has all its
 -- messages
-pub record IsToldClosed (w : World) (told : List EndInfo) (who : ℕ) : Type 0 where
+pub record IsSummaryClosed (w : World) (told : List EndInfo) (who : ℕ) : Type 0 where
   pub peer : ℕ
   pub peer_is : (told_of told who).peer ≡ Some peer
   pub asked : Contains w.log (AsksEnd who)
@@ -84,7 +84,7 @@ pub record IsToldClosed (w : World) (told : List EndInfo) (who : ℕ) : Type 0 w
 -- under the three premises each end whose summary says Confirmed is closed
 abbrev pub TellsClosed : World → List EndInfo → Type 0
 TellsClosed w told = Premises w.log → (who : ℕ)
-    → (told_of told who).state ≡ Some Confirmed → IsToldClosed w told who
+    → (told_of told who).state ≡ Some Confirmed → IsSummaryClosed w told who
 
 -- under them, an end that took its peer's end handed out everything that was handed in at the peer in its
 -- summary

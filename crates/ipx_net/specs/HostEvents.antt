@@ -8,7 +8,7 @@ use Rattle.spx_messages.specs.declared.arrived.Arrived.{Arrived}
 use Rattle.spx_messages.specs.declared.arrived.Arrived.TheVariants as Arriveds
 use Rattle.spx_messages.specs.declared.fault.EndFault.{EndFault}
 use Rattle.spx_messages.specs.EndpointView.{Held}
-use Rattle.spx_messages.specs.OneValue.{IsRoomStill}
+use Rattle.spx_messages.specs.OneValue.{IsBufferStill}
 use Rattle.spx_messages.specs.Taking.{TakenView, overlong}
 use Rattle.spx_messages.specs.Message.{MessageView}
 use Rattle.ipx_net_hosts.specs.Hosts.{DeliveredAt, HostsView}
@@ -82,7 +82,7 @@ made_by (Some r) first = first ∷ []
 abbrev pub PollingHost : ℕ → AnswerView → World → World → Type 0
 PollingHost host a old new = (result : Option (Node × ℕ)) × (p : PollsHost old host result new)
     × (a ≡ Parcels (made_by result (length old.parcels)))
-    × (spx_max_packet_size ≤ length p.room) × IsRoomStill p.room p.written
+    × (spx_max_packet_size ≤ length p.room) × IsBufferStill p.room p.written
 
 -- the end that a datagram was for: the one that it made, or the end of the link that it is for
 abbrev pub end_for : Arrived → HostState → ℕ → Option ℕ

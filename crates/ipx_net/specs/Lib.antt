@@ -12,10 +12,10 @@ pub mod HostEvents
 pub mod Speaking
 pub mod NetView
 pub mod Ends
-pub mod ToldEnds
+pub mod EndSummaryChanges
 pub mod RouterEvents
 pub mod NetEvents
-pub mod EventWants
+pub mod EventMemory
 pub mod NetFaults
 pub mod NetReach
 pub mod Theorems

@@ -21,30 +21,30 @@ use Rattle.ipx_net.specs.declared.place.Place.{Place}
 use Rattle.ipx_net.specs.declared.place.Place.TheVariants as Places
 
 -- the routers are unchanged
-abbrev pub BesideRouters : (AnswerView → World → World → Type 0)
+abbrev pub RoutersUnchanged : (AnswerView → World → World → Type 0)
     → AnswerView → NetNow → NetNow → Type 0
-BesideRouters P a old new = P a old.world new.world × (new.routers ≡ old.routers)
+RoutersUnchanged P a old new = P a old.world new.world × (new.routers ≡ old.routers)
 
 abbrev pub PollsOf : Member → AnswerView → NetNow → NetNow → Type 0
-PollsOf (Members.Host host) = BesideRouters (PollingHost host)
+PollsOf (Members.Host host) = RoutersUnchanged (PollingHost host)
 PollsOf (Members.Router router) = PollingRouter router
 
 abbrev pub DeliversTo : ℕ → Place → AnswerView → NetNow → NetNow → Type 0
-DeliversTo parcel (Places.Host host) = BesideRouters (DeliveringToHost parcel host)
+DeliversTo parcel (Places.Host host) = RoutersUnchanged (DeliveringToHost parcel host)
 DeliversTo parcel (Places.Port router port) = DeliveringToRouter parcel router port
 
 abbrev pub Happens : Event → AnswerView → NetNow → NetNow → Type 0
-Happens (Events.Dial host socket to buffers) = BesideRouters (Dialling host socket to buffers)
-Happens (Events.Send who message) = BesideRouters (Sending who (message_view message))
-Happens (Events.Take who) = BesideRouters (TakingFrom who)
-Happens (Events.Close who) = BesideRouters (Closing who)
-Happens (Events.Pace who window manual) = BesideRouters (Pacing who window manual)
-Happens (Events.Again who place) = BesideRouters (AskingAgain who place)
-Happens (Events.Release who) = BesideRouters (Releasing who)
-Happens (Events.Tick now) = BesideRouters (λ a old new. (a ≡ Done) × Ticks old now new)
+Happens (Events.Dial host socket to buffers) = RoutersUnchanged (Dialling host socket to buffers)
+Happens (Events.Send who message) = RoutersUnchanged (Sending who (message_view message))
+Happens (Events.Take who) = RoutersUnchanged (TakingFrom who)
+Happens (Events.Close who) = RoutersUnchanged (Closing who)
+Happens (Events.Pace who window manual) = RoutersUnchanged (Pacing who window manual)
+Happens (Events.Again who place) = RoutersUnchanged (AskingAgain who place)
+Happens (Events.Release who) = RoutersUnchanged (Releasing who)
+Happens (Events.Tick now) = RoutersUnchanged (λ a old new. (a ≡ Done) × Ticks old now new)
 Happens (Events.Poll member) = PollsOf member
 Happens (Events.Deliver parcel place) = DeliversTo parcel place
-Happens (Events.Inject segment next bytes) = BesideRouters (λ a old new.
+Happens (Events.Inject segment next bytes) = RoutersUnchanged (λ a old new.
     (a ≡ Parcels (length old.parcels ∷ [])) × InjectsInto old segment next bytes.items new)
 
 -- where an event ran out of memory, each end is there, and of each is known whether a message of it

@@ -2,7 +2,7 @@
 use Rattle.std.specs.Prelude.{ℕ, Bool, ◌==◌, if◌then◌else◌, nat_lt, nat_le, length, Option, Some, None, slice_get, option_map}
 use Rattle.ipx_wire.specs.declared.address.Network.{Network}
 use Rattle.spx_theory.specs.World.{ParcelView, HostState}
-use Rattle.ipx_net_hosts.specs.Hosts.{stands_now}
+use Rattle.ipx_net_hosts.specs.Hosts.{is_present_now}
 use Rattle.ipx_net.specs.NetView.{NetNow, NetView}
 use Rattle.ipx_net.specs.RouterMembers.{port_at}
 use Rattle.ipx_net.specs.declared.event.Event.{Event}
@@ -47,18 +47,18 @@ abbrev pub poll_fault : NetNow → Member → Option NetFault
 poll_fault n (Members.Host host) = member_fault (nat_lt host (length n.world.hosts))
 poll_fault n (Members.Router router) = member_fault (nat_lt router (length n.routers))
 
-abbrev pub stands_at : NetNow → ℕ → Bool
-stands_at n who = stands_now (slice_get n.world.ends who)
+abbrev pub is_present_at : NetNow → ℕ → Bool
+is_present_at n who = is_present_now (slice_get n.world.ends who)
 
 abbrev pub fault_before : NetNow → Event → Option NetFault
 fault_before n (Events.Dial host socket to buffers) =
     member_fault (nat_lt host (length n.world.hosts))
-fault_before n (Events.Send who message) = end_fault (stands_at n who)
-fault_before n (Events.Take who) = end_fault (stands_at n who)
-fault_before n (Events.Close who) = end_fault (stands_at n who)
-fault_before n (Events.Pace who window manual) = end_fault (stands_at n who)
-fault_before n (Events.Again who place) = end_fault (stands_at n who)
-fault_before n (Events.Release who) = end_fault (stands_at n who)
+fault_before n (Events.Send who message) = end_fault (is_present_at n who)
+fault_before n (Events.Take who) = end_fault (is_present_at n who)
+fault_before n (Events.Close who) = end_fault (is_present_at n who)
+fault_before n (Events.Pace who window manual) = end_fault (is_present_at n who)
+fault_before n (Events.Again who place) = end_fault (is_present_at n who)
+fault_before n (Events.Release who) = end_fault (is_present_at n who)
 fault_before n (Events.Tick now) = None
 fault_before n (Events.Poll member) = poll_fault n member
 fault_before n (Events.Deliver parcel place) =

@@ -11,7 +11,7 @@ pub record GoesOn (w : World) : Type 0 where
   pub order : InOrder w
   pub reached : Reached (scene_of w)
 
-pub record StandsStill (w : World) : Type 0 where
+pub record IsAtRest (w : World) : Type 0 where
   pub scene : Scene
   pub reached : Reached scene
   pub homes : scene.homes ≡ map home_at w.hosts
@@ -22,4 +22,4 @@ pub record StandsStill (w : World) : Type 0 where
 
 abbrev pub IsKept : World → Bool → Type 0
 IsKept w false = GoesOn w
-IsKept w true = StandsStill w
+IsKept w true = IsAtRest w

@@ -1,7 +1,7 @@
 -- An event has one outcome, unless memory ran out.
 use Rattle.std.specs.Prelude.{ℕ, ◌≡◌, ◌⊎◌, length, Some, slice_get}
 use Rattle.ipx_router.specs.Knowledge.{HoldsRoutes, HoldsServices, KeepsAllButOffers, routes_in, services_in}
-use Rattle.ipx_net_hosts.specs.Refusing.{want, want_of_link, want_of_queue}
+use Rattle.ipx_net_hosts.specs.Refusing.{want, no_memory_for_link, no_memory_for_queue}
 use Rattle.spx_messages.specs.Changes.{SameBut}
 use Rattle.spx_theory.specs.World.{HostState, end_at}
 use Rattle.ipx_net.specs.AnswerView.{AnswerView, Refused}
@@ -12,7 +12,7 @@ use Rattle.ipx_net.specs.declared.routers.RouterNow.{RouterNow}
 
 -- an end refused because memory ran out
 abbrev pub IsForMemory : AnswerView → Type 0
-IsForMemory a = (a ≡ Refused want) ⊎ (a ≡ Refused want_of_link) ⊎ (a ≡ Refused want_of_queue)
+IsForMemory a = (a ≡ Refused want) ⊎ (a ≡ Refused no_memory_for_link) ⊎ (a ≡ Refused no_memory_for_queue)
 
 -- two hosts with the same address and listeners, the same links under each id, and the same ends
 pub record AreAlike (x y : HostState) : Type 0 where

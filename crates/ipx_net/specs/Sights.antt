@@ -38,7 +38,7 @@ scan_of s =
     }
 
 -- space for so many more of each
-pub record HasRoom (more : ℕ) (s : LogIndex) : Type 0 where
+pub record HasSpace (more : ℕ) (s : LogIndex) : Type 0 where
   pub marks : vec_len s.marks + more ≤ vec_capacity s.marks
   pub sent : vec_len s.sent + more ≤ vec_capacity s.sent
   pub readings : vec_len s.readings + more ≤ vec_capacity s.readings

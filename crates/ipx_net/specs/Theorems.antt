@@ -2,10 +2,10 @@
 -- memory was refused, also of its links.
 use Rattle.std.specs.Prelude.{ℕ, ◌≡◌, ◌↔◌, true, false, List, ◌∷◌, ◌++◌, Some, Contains, slice_get}
 use Rattle.spx_theory.specs.Addresses.{AddressesTellPeers}
-use Rattle.spx_theory.specs.Allocation.{AloneReadsNothing}
-use Rattle.spx_theory.specs.Carried.{RoutersAlterHopsAlone}
+use Rattle.spx_theory.specs.Allocation.{PeerlessReadsNothing}
+use Rattle.spx_theory.specs.Carried.{RoutersAlterOnlyHops}
 use Rattle.spx_theory.specs.Close.{AcknowledgedIsRead, ConfirmedIsRead, EndTakenIsWhole}
-use Rattle.spx_theory.specs.EndsTold.{EndsAreTold}
+use Rattle.spx_theory.specs.EndsSummarized.{EndsAreSummarized}
 use Rattle.spx_theory.specs.EntriesOfEnds.{QueuedWereAsked}
 use Rattle.spx_theory.specs.HandedOut.{HandsOutWhatItTook, HoldsWhatIsLeft}
 use Rattle.spx_theory.specs.InStep.{PeersAreInStep}
@@ -42,14 +42,14 @@ pub record LinkTheorems (w : World) : Type 0 where
   -- so the theorems are not empty
   pub order : InOrder w
   pub numbers : NumbersAreInOrder (scene_of w)
-  pub told : EndsAreTold (scene_of w)
+  pub told : EndsAreSummarized (scene_of w)
   pub opened : AreWhereOpened w
   pub released : AreReleasedByLog w
   pub asked : QueuedWereAsked (scene_of w)
   -- under the three premises, or without any
   pub in_step : PeersAreInStep (scene_of w)
   pub left : HoldsWhatIsLeft (scene_of w)
-  pub alone : AloneReadsNothing (scene_of w)
+  pub alone : PeerlessReadsNothing (scene_of w)
   pub confirmed : ConfirmedIsRead (scene_of w)
   pub acknowledged : AcknowledgedIsRead (scene_of w)
   pub sends : LinksSendInOrder (scene_of w)
@@ -61,7 +61,7 @@ pub record LinkTheorems (w : World) : Type 0 where
 -- theorems of log, parcels, the addresses of hosts and joined messages, which also hold after memory was
 -- refused; and those of links, which hold before that
 pub record Theorems (v : NetView) : Type 0 where
-  pub alters : RoutersAlterHopsAlone (scene_of v.now.world)
+  pub alters : RoutersAlterOnlyHops (scene_of v.now.world)
   pub in_order : UnitsAreSentInOrder (scene_of v.now.world)
   pub headline : LogHeadline v.now.world.log
   -- each parcel is made by one entry, and so is each end

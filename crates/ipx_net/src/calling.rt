@@ -11,7 +11,7 @@ ghost use Rattle.ipx_net.specs.AnswerView as views;
 ghost use Rattle.ipx_net.specs.LogEntries.{taken_unit};
 ghost use Rattle.ipx_net.specs.StepResultView.{GrowsWorld, step_result_view};
 ghost use Rattle.ipx_net.specs.HostEvents.{AskingAgain, Closing, Dialling, Pacing, Releasing, Sending, TakingFrom};
-ghost use Rattle.ipx_net.specs.EventWants.{IsMade, TakeIsTold};
+ghost use Rattle.ipx_net.specs.EventMemory.{IsMade, TakeIsLogged};
 
 use crate::answer::Answer;
 use crate::entry::{Entry, TakenUnit};
@@ -231,7 +231,7 @@ pub fn take(
     ensures grows { IfOk result
         (λ g. GrowsWorld hosts.old hosts.new first now (step_result_view g) (TakingFrom who)) }
     ensures memory { IsMade result
-        → TakeIsTold (end_held hosts.old.stations hosts.old.ends who) who }
+        → TakeIsLogged (end_held hosts.old.stations hosts.old.ends who) who }
     ensures homes { SameHomes hosts.old hosts.new }
     ensures marks { IsMade result → KeepsMarks hosts.old hosts.new }
 {

@@ -8,7 +8,7 @@ ghost use Rattle.ipx_net_hosts.specs.Hosts.{MayAddEnd, SameHomes};
 ghost use Rattle.ipx_net.specs.LogEntries.{entry_notes};
 ghost use Rattle.ipx_net.specs.StepResultView.{step_result_view};
 ghost use Rattle.ipx_net.specs.HostEvents.{DeliversSo, end_for};
-ghost use Rattle.ipx_net.specs.EventWants.{HostWantsMemory, IsMade};
+ghost use Rattle.ipx_net.specs.EventMemory.{HostNeedsMemory, IsMade};
 
 use crate::answer::Answer;
 use crate::entry::Entry;
@@ -124,7 +124,7 @@ pub fn deliver_host(
     requires { host < length hosts.old.stations }
     ensures delivers { IfOk result (λ g.
         DeliversSo hosts.old host parcel bytes.now now (step_result_view g) hosts.new) }
-    ensures memory { IsMade result → HostWantsMemory hosts.old host parcel bytes.now now }
+    ensures memory { IsMade result → HostNeedsMemory hosts.old host parcel bytes.now now }
     ensures homes { SameHomes hosts.old hosts.new }
     ensures marks { MayAddEnd hosts.old hosts.new }
 {

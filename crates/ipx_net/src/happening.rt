@@ -6,7 +6,7 @@ ghost use Rattle.ipx_net.specs.StepResultView.{step_result_view};
 ghost use Rattle.ipx_net.specs.NetEvents.{DeliversTo, Happens, IsOwed, LeavesMarks, PollsOf, injected};
 ghost use Rattle.ipx_net.specs.NetFaults.{fault_before, network_at, place_fault, poll_fault};
 ghost use Rattle.ipx_net.specs.NetView.{net_of};
-ghost use Rattle.ipx_net.specs.EventWants.{EventWantsMemory, IsMade, PollWantsMemory};
+ghost use Rattle.ipx_net.specs.EventMemory.{EventNeedsMemory, IsMade, PollNeedsMemory};
 ghost use Rattle.ipx_net.specs.declared.event.Event.TheVariants as Events;
 
 use crate::answer::Answer;
@@ -68,7 +68,7 @@ fn poll(
         (net_of hosts.old routers.old indexed_log.now.parcels indexed_log.now.log now)
         (net_of hosts.new routers.new (indexed_log.now.parcels ++ (step_result_view g).parcels)
         (indexed_log.now.log ++ (step_result_view g).notes) now)) }
-    ensures memory { IsMade result → PollWantsMemory
+    ensures memory { IsMade result → PollNeedsMemory
         (net_of hosts.old routers.old indexed_log.now.parcels indexed_log.now.log now) member }
     ensures homes { SameHomes hosts.old hosts.new }
     ensures marks { KeepsMarks hosts.old hosts.new }
@@ -96,7 +96,7 @@ fn deliver(
         (net_of hosts.old routers.old indexed_log.now.parcels indexed_log.now.log now)
         (net_of hosts.new routers.new (indexed_log.now.parcels ++ (step_result_view g).parcels)
         (indexed_log.now.log ++ (step_result_view g).notes) now)) }
-    ensures memory { IsMade result → EventWantsMemory
+    ensures memory { IsMade result → EventNeedsMemory
         (net_of hosts.old routers.old indexed_log.now.parcels indexed_log.now.log now)
         (Events.Deliver parcel place) }
     ensures homes { SameHomes hosts.old hosts.new }
@@ -138,7 +138,7 @@ pub fn happen(
         (net_of hosts.old routers.old indexed_log.now.parcels indexed_log.now.log moment.old)
         (net_of hosts.new routers.new (indexed_log.now.parcels ++ (step_result_view g).parcels)
         (indexed_log.now.log ++ (step_result_view g).notes) moment.new)) }
-    ensures memory { IsMade result → EventWantsMemory
+    ensures memory { IsMade result → EventNeedsMemory
         (net_of hosts.old routers.old indexed_log.now.parcels indexed_log.now.log moment.old) event }
     ensures homes { SameHomes hosts.old hosts.new }
     ensures marks { IsMade result → LeavesMarks event hosts.old.ends hosts.new.ends }

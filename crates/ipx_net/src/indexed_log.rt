@@ -1,7 +1,7 @@
 //! The log of a network, and its parcels.
 
 ghost use Rattle.std.specs.Prelude.{◌≡◌, ◌+◌, ◌++◌, ◌<◌, ◌≤◌, ◌↔◌, IsTrue, OnErr, OnOk, length, vec_capacity, vec_len};
-ghost use Rattle.spx_theory.specs.EndsTold.{peer_of};
+ghost use Rattle.spx_theory.specs.EndsSummarized.{peer_of};
 ghost use Rattle.spx_theory.specs.Peers.{IsFresh};
 ghost use Rattle.ipx_net.specs.Begins.{BeginsAsRead};
 ghost use Rattle.ipx_net.specs.IndexedLogView.{IndexedLogView, blank, written_on};

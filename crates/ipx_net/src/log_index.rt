@@ -31,7 +31,7 @@ impl LogIndex {
     ghost use Rattle.spx_theory.specs.Note.{Accepted, Carried, Got, Joined, Opened, SendsUnit};
     ghost use Rattle.spx_theory.specs.Scan.{marked, seen, seen_all, unread};
     ghost use Rattle.ipx_net.specs.LogEntries.{entry_note, entry_notes};
-    ghost use Rattle.ipx_net.specs.Sights.{HasRoom, maker_view, scan_of};
+    ghost use Rattle.ipx_net.specs.Sights.{HasSpace, maker_view, scan_of};
 
     /// Of an empty log.
     pub fn new(alloc: Global) -> LogIndex
@@ -50,7 +50,7 @@ impl LogIndex {
     /// Reserves space for what these entries add.
     pub fn reserve(&mut self, entries: &[Entry]) -> Result<(), AllocError>
         ensures same { scan_of self.new ≡ scan_of self.old }
-        ensures room { OnOk result (HasRoom (length entries.now) self.new) }
+        ensures room { OnOk result (HasSpace (length entries.now) self.new) }
         ensures refused { OnErr result (0 < length entries.now) }
     {
         let more = entries.len();
@@ -63,9 +63,9 @@ impl LogIndex {
 
     /// Adds a parcel that no router forwarded.
     fn add_mark(&mut self, maker: Maker)
-        requires { HasRoom 1 self.old }
+        requires { HasSpace 1 self.old }
         ensures scan { scan_of self.new ≡ marked (maker_view maker) (scan_of self.old) }
-        ensures room { (more : ℕ) → HasRoom (more + 1) self.old → HasRoom more self.new }
+        ensures room { (more : ℕ) → HasSpace (more + 1) self.old → HasSpace more self.new }
     {
         let mark = ParcelOrigin::made(self.marks.len(), maker, self.sent.len());
         self.marks.push_reserved(mark);
@@ -74,10 +74,10 @@ impl LogIndex {
 
     /// Adds a unit that an end sends for the first time.
     fn add_unit(&mut self, who: usize)
-        requires { HasRoom 1 self.old }
+        requires { HasSpace 1 self.old }
         ensures scan { (parcel : ℕ)
             → scan_of self.new ≡ seen (scan_of self.old) (SendsUnit who parcel) }
-        ensures room { (more : ℕ) → HasRoom (more + 1) self.old → HasRoom more self.new }
+        ensures room { (more : ℕ) → HasSpace (more + 1) self.old → HasSpace more self.new }
     {
         self.places.add(who, self.sent.len());
         self.sent.push_reserved(who);
@@ -88,10 +88,10 @@ impl LogIndex {
 
     /// Adds a parcel that a router forwards.
     fn carry(&mut self, from: usize)
-        requires { HasRoom 1 self.old }
+        requires { HasSpace 1 self.old }
         ensures scan { (parcel : ℕ)
             → scan_of self.new ≡ seen (scan_of self.old) (Carried from parcel) }
-        ensures room { (more : ℕ) → HasRoom (more + 1) self.old → HasRoom more self.new }
+        ensures room { (more : ℕ) → HasSpace (more + 1) self.old → HasSpace more self.new }
     {
         let mark = mark_at(&self.marks, from);
         self.marks.push_reserved(ParcelOrigin {
@@ -103,9 +103,9 @@ impl LogIndex {
 
     /// Adds a packet that an end reads.
     fn add_reading(&mut self, who: usize, parcel: usize)
-        requires { HasRoom 1 self.old }
+        requires { HasSpace 1 self.old }
         ensures scan { scan_of self.new ≡ seen (scan_of self.old) (Got who parcel) }
-        ensures room { (more : ℕ) → HasRoom (more + 1) self.old → HasRoom more self.new }
+        ensures room { (more : ℕ) → HasSpace (more + 1) self.old → HasSpace more self.new }
     {
         let mark = mark_at(&self.marks, parcel);
         let to = self.sent.len();
@@ -121,10 +121,10 @@ impl LogIndex {
 
     /// Adds an end that its host opens.
     fn open(&mut self, buffers: u16)
-        requires { HasRoom 1 self.old }
+        requires { HasSpace 1 self.old }
         ensures scan { (who host : ℕ)
             → scan_of self.new ≡ seen (scan_of self.old) (Opened who host buffers) }
-        ensures room { (more : ℕ) → HasRoom (more + 1) self.old → HasRoom more self.new }
+        ensures room { (more : ℕ) → HasSpace (more + 1) self.old → HasSpace more self.new }
     {
         self.roles.push_reserved(Role::opened(buffers));
         self.places.open();
@@ -133,9 +133,9 @@ impl LogIndex {
 
     /// Adds an end that a request makes.
     fn accept(&mut self, who: usize, parcel: usize, buffers: u16)
-        requires { HasRoom 1 self.old }
+        requires { HasSpace 1 self.old }
         ensures scan { scan_of self.new ≡ seen (scan_of self.old) (Accepted who parcel buffers) }
-        ensures room { (more : ℕ) → HasRoom (more + 1) self.old → HasRoom more self.new }
+        ensures room { (more : ℕ) → HasSpace (more + 1) self.old → HasSpace more self.new }
     {
         let mark = mark_at(&self.marks, parcel);
         self.roles
@@ -147,7 +147,7 @@ impl LogIndex {
     /// Joins an end, to which the reply to its request has arrived.
     fn join(&mut self, who: usize, parcel: usize)
         ensures scan { scan_of self.new ≡ seen (scan_of self.old) (Joined who parcel) }
-        ensures room { (more : ℕ) → HasRoom (more + 1) self.old → HasRoom more self.new }
+        ensures room { (more : ℕ) → HasSpace (more + 1) self.old → HasSpace more self.new }
     {
         let mark = mark_at(&self.marks, parcel);
         join_role(&mut self.roles, who, mark.maker);
@@ -156,9 +156,9 @@ impl LogIndex {
 
     /// Reads one more entry.
     pub fn read(&mut self, entry: &Entry)
-        requires { HasRoom 1 self.old }
+        requires { HasSpace 1 self.old }
         ensures scan { scan_of self.new ≡ seen (scan_of self.old) (entry_note entry.now) }
-        ensures room { (more : ℕ) → HasRoom (more + 1) self.old → HasRoom more self.new }
+        ensures room { (more : ℕ) → HasSpace (more + 1) self.old → HasSpace more self.new }
     {
         match entry {
             Entry::Opened { buffers, .. } => self.open(*buffers),
@@ -185,7 +185,7 @@ impl LogIndex {
 
     /// Reads more entries, in order.
     pub fn read_all(&mut self, entries: &[Entry])
-        requires { HasRoom (length entries.now) self.old }
+        requires { HasSpace (length entries.now) self.old }
         ensures { scan_of self.new ≡ seen_all (scan_of self.old) (entry_notes entries.now) }
     {
         for entry in entries {

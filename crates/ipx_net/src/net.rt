@@ -11,7 +11,7 @@ ghost use Rattle.ipx_net.specs.LogEntries.{entry_notes};
 ghost use Rattle.ipx_net.specs.NetEvents.{Happens, IsOwed, LeavesMarks};
 ghost use Rattle.ipx_net.specs.NetFaults.{first_fault};
 ghost use Rattle.ipx_net.specs.Parcels.{parcel_views};
-ghost use Rattle.ipx_net.specs.EventWants.{EventWantsMemory};
+ghost use Rattle.ipx_net.specs.EventMemory.{EventNeedsMemory};
 ghost use Rattle.ipx_net.specs.Theorems.{Theorems};
 ghost use Rattle.ipx_net.specs.declared.fault.NetFault.TheVariants as NetFaults;
 
@@ -67,7 +67,7 @@ fn go_on(
     ensures marks { IfErr result
         (λ f. LeavesMarks event course.old.now.world.ends course.new.now.world.ends) }
     ensures spent { IfErr result (λ f. course.new.spent ≡ true) }
-    ensures memory { IfErr result (λ f. EventWantsMemory course.old.now event) }
+    ensures memory { IfErr result (λ f. EventNeedsMemory course.old.now event) }
     ensures tells { TellsEnds course.new told.new.infos.items }
 {
     let from = course.log().len();
@@ -101,7 +101,7 @@ fn take_in(
         → (first_fault course.old event ≡ Some f) × (course.new ≡ course.old)) }
     ensures memory { result ≡ Err NetFaults.OutOfMemory
         → (first_fault course.old event ≡ None) × (course.new.spent ≡ true) }
-    ensures wanted { result ≡ Err NetFaults.OutOfMemory → EventWantsMemory course.old.now event }
+    ensures wanted { result ≡ Err NetFaults.OutOfMemory → EventNeedsMemory course.old.now event }
     ensures log { result ≡ Err NetFaults.OutOfMemory
         → course.new.now.world.log ≡ course.old.now.world.log }
     ensures parcels { result ≡ Err NetFaults.OutOfMemory
@@ -163,7 +163,7 @@ impl Net {
             → (first_fault self.old event ≡ None) × (self.new.spent ≡ true) }
         // Only what makes an entry or a parcel, or makes a router's table grow, wants memory.
         ensures wanted { result ≡ Err NetFaults.OutOfMemory
-            → EventWantsMemory self.old.now event }
+            → EventNeedsMemory self.old.now event }
         ensures log { result ≡ Err NetFaults.OutOfMemory
             → self.new.now.world.log ≡ self.old.now.world.log }
         ensures parcels { result ≡ Err NetFaults.OutOfMemory

@@ -12,8 +12,8 @@ ghost use Rattle.ipx_net.specs.NetEvents.{Happens, IsOwed, LeavesMarks};
 ghost use Rattle.ipx_net.specs.NetFaults.{first_fault};
 ghost use Rattle.ipx_net.specs.Parcels.{parcel_views};
 ghost use Rattle.ipx_net.specs.Theorems.{Theorems};
-ghost use Rattle.ipx_net.specs.ToldEnds.{Restood, StandAs, hosts_of, polled_host, reached_host, touched_by};
-ghost use Rattle.ipx_net.specs.EventWants.{EventWantsMemory};
+ghost use Rattle.ipx_net.specs.EndSummaryChanges.{ChangesState, SameHostAndState, hosts_of, polled_host, reached_host, touched_by};
+ghost use Rattle.ipx_net.specs.EventMemory.{EventNeedsMemory};
 ghost use Rattle.ipx_net.specs.declared.fault.NetFault.TheVariants as NetFaults;
 
 use crate::answer::Answer;
@@ -33,12 +33,12 @@ use crate::told::EndSummaries;
 use ipx_net_hosts::Hosts;
 use ipx_router::{NewFault, Port};
 use spx_theory::{
-    acknowledged_end_is_read, addresses_tell_peers, alone_reads_nothing, between_is_read,
-    confirmed_is_read, end_taken_is_whole, ends_are_told, entries_tell_ends,
-    hands_out_what_it_took, headline_of_log, links_send_in_order, made_once, no_pair_is_stuck,
-    no_state_is_stuck, nothing_is_stuck_by_addresses, numbers_are_in_order, origins_are_read,
-    pairs_take_steps, peers_are_in_step, peers_are_read, peers_of_worlds_are_in_step,
-    premises_are_read, routers_alter_hops_alone, steps_are_deeds, units_are_cuts,
+    acknowledged_end_is_read, addresses_tell_peers, between_is_read, confirmed_is_read,
+    end_taken_is_whole, ends_are_summarized, entries_tell_ends, hands_out_what_it_took,
+    headline_of_log, links_send_in_order, made_once, no_pair_is_stuck, no_state_is_stuck,
+    nothing_is_stuck_by_addresses, numbers_are_in_order, origins_are_read, pairs_take_steps,
+    peerless_reads_nothing, peers_are_in_step, peers_are_read, peers_of_worlds_are_in_step,
+    premises_are_read, routers_alter_only_hops, steps_are_deeds, units_are_cuts,
     units_are_sent_in_order,
 };
 use std::alloc::Global;
@@ -157,7 +157,7 @@ impl NetState {
         ensures marks { IfErr result
             (λ f. LeavesMarks event self.old.now.world.ends self.new.now.world.ends) }
         ensures spent { IfErr result (λ f. self.new.spent ≡ true) }
-        ensures memory { IfErr result (λ f. EventWantsMemory self.old.now event) }
+        ensures memory { IfErr result (λ f. EventNeedsMemory self.old.now event) }
         ensures behind { OnOk result (take (length self.old.now.world.log) self.new.now.world.log
             ≡ self.old.now.world.log) }
         ensures told { told.new.infos.items ≡ told.old.infos.items }
@@ -199,7 +199,7 @@ impl NetState {
         ensures { Theorems self.now }
     {
         let _spent = &self.spent;
-        routers_alter_hops_alone();
+        routers_alter_only_hops();
         units_are_sent_in_order();
         headline_of_log();
         origins_are_read();
@@ -208,13 +208,13 @@ impl NetState {
         made_once();
         premises_are_read();
         peers_are_in_step();
-        alone_reads_nothing();
+        peerless_reads_nothing();
         addresses_tell_peers();
         pairs_take_steps();
         end_taken_is_whole();
         numbers_are_in_order();
         units_are_cuts();
-        ends_are_told();
+        ends_are_summarized();
         entries_tell_ends();
         hands_out_what_it_took();
         confirmed_is_read();
@@ -276,7 +276,7 @@ impl NetState {
     /// Updates the ends of a host: each to its present state, or all to released.
     pub fn stand(&self, told: &mut EndSummaries, host: Option<usize>, gone: bool)
         requires { self.now.spent ≡ false }
-        ensures { Restood (hosts_of self.now.now.world) host gone
+        ensures { ChangesState (hosts_of self.now.now.world) host gone
             told.old.infos.items told.new.infos.items }
     {
         if let Some(host) = host {
@@ -291,7 +291,7 @@ impl NetState {
             ≤ vec_capacity told.old.infos }
         requires before { TellsLog (take from self.now.now.world.log) told.old.infos.items }
         ensures log { TellsLog self.now.now.world.log told.new.infos.items }
-        ensures same { StandAs told.old.infos.items told.new.infos.items }
+        ensures same { SameHostAndState told.old.infos.items told.new.infos.items }
     {
         self.holds();
         told.read_from(self.indexed_log.log(), from);

@@ -2,7 +2,7 @@
 
 ghost use Rattle.ipx_net.specs.OneOutcome.{EventsHaveOneOutcome};
 
-use ipx_router::{answer_is_one, offers_are_one, start_is_one, telling_is_one};
+use ipx_router::{advertisements_are_determined, answer_is_one, offers_are_one, start_is_one};
 use spx_messages::{datagram_does_one_thing, poll_is_one};
 
 /// From one network each event has one answer, one log, and the same ends and parcels, unless
@@ -16,6 +16,6 @@ pub fn events_have_one_outcome()
     poll_is_one();
     answer_is_one();
     offers_are_one();
-    telling_is_one();
+    advertisements_are_determined();
     start_is_one();
 }

@@ -10,7 +10,7 @@ ghost use Rattle.ipx_net.specs.StepResultView.{GrowsWorld, step_result_view};
 ghost use Rattle.ipx_net.specs.HostEvents.{PollingHost};
 ghost use Rattle.ipx_net.specs.Parcels.{parcel_view};
 ghost use Rattle.ipx_net.specs.Speaking.{spoken_notes};
-ghost use Rattle.ipx_net.specs.EventWants.{IsMade, PollIsSent};
+ghost use Rattle.ipx_net.specs.EventMemory.{IsMade, PollIsSent};
 
 use crate::answer::Answer;
 use crate::entry::Entry;

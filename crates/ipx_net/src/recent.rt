@@ -11,7 +11,7 @@ const TOO_MANY: usize = 32_768;
 
 impl LogIndex {
     ghost use Rattle.std.specs.Prelude.{◌≡◌, ◌<◌, ◌↔◌, All, IsTrue, map, option_map, slice_get};
-    ghost use Rattle.spx_theory.specs.EndsTold.{peer_in};
+    ghost use Rattle.spx_theory.specs.EndsSummarized.{peer_in};
     ghost use Rattle.spx_theory.specs.Peers.{IsRecent, units_between};
     ghost use Rattle.ipx_net.specs.Sights.{reading_view, role_view, scan_of};
 

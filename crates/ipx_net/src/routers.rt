@@ -9,7 +9,7 @@ ghost use Rattle.spx_theory.specs.Routers.{told_notes};
 ghost use Rattle.ipx_net.specs.LogEntries.{entry_notes};
 ghost use Rattle.ipx_net.specs.Parcels.{parcel_view, parcel_views};
 ghost use Rattle.ipx_net.specs.RouterMembers.{IsPolled, letter_of, letters_of, network_of, port_at};
-ghost use Rattle.ipx_net.specs.EventWants.{RouterPollWantsMemory};
+ghost use Rattle.ipx_net.specs.EventMemory.{RouterPollNeedsMemory};
 
 use crate::entry::Entry;
 use crate::parcel::Parcel;
@@ -60,7 +60,7 @@ pub fn poll_router(
     ensures there { IfOk result
         (λ v. AreOnPorts (length member.old.router.ports) (sendings v.items)) }
     ensures own { IfOk result (λ v. AreOwn (sendings v.items)) }
-    ensures refused { OnErr result (RouterPollWantsMemory member.old now) }
+    ensures refused { OnErr result (RouterPollNeedsMemory member.old now) }
     ensures ports { member.new.router.ports ≡ member.old.router.ports }
 {
     let mut packets = questions(alloc, member)?;

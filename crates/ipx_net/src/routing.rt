@@ -7,7 +7,7 @@ ghost use Rattle.ipx_router.specs.declared.outcome.Outcome.TheVariants as Outcom
 ghost use Rattle.ipx_router.specs.RouterPackets.{sending_of, sendings};
 ghost use Rattle.ipx_net.specs.StepResultView.{step_result_view};
 ghost use Rattle.ipx_net.specs.RouterEvents.{MemberPolled, MemberReached, routed_growth, told_growth};
-ghost use Rattle.ipx_net.specs.EventWants.{IsMade, IsSent, RouterPollWantsMemory, RouterWantsMemory};
+ghost use Rattle.ipx_net.specs.EventMemory.{IsMade, IsSent, RouterPollNeedsMemory, RouterNeedsMemory};
 
 use crate::answer::Answer;
 use crate::entry::Entry;
@@ -99,7 +99,7 @@ pub fn poll_member(
     ensures polled { IfOk result
         (λ g. MemberPolled routers.old router first now (step_result_view g) routers.new) }
     ensures memory { IsMade result
-        → IfSome (slice_get routers.old router) (λ r. RouterPollWantsMemory r now) }
+        → IfSome (slice_get routers.old router) (λ r. RouterPollNeedsMemory r now) }
 {
     let member = &mut routers[router];
     let replies = poll_router(alloc, member, now)?;
@@ -145,7 +145,7 @@ pub fn deliver_member(
     ensures reached { IfOk result (λ g.
         MemberReached routers.old router port parcel bytes.now first now
         (step_result_view g) routers.new) }
-    ensures memory { IsMade result → RouterWantsMemory routers.old router port bytes.now now }
+    ensures memory { IsMade result → RouterNeedsMemory routers.old router port bytes.now now }
 {
     let member = &mut routers[router];
     let outcome = member.router.receive(alloc, port, bytes, now)?;

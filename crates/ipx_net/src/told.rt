@@ -2,14 +2,14 @@
 
 ghost use Rattle.std.specs.Prelude.{◌≡◌, ◌≢◌, ◌<◌, ◌≤◌, ◌+◌, ◌-◌, ◌^◌, ℕ, [], OnErr, OnOk, Some, length, set, slice_get, take, vec_capacity, vec_len};
 ghost use Rattle.ipx_net_hosts.specs.Hosts.{FitTogether};
-ghost use Rattle.ipx_net_hosts.specs.EndTelling.{here_at, state_on_host};
-ghost use Rattle.spx_theory.specs.EndsTold.{peer_of};
+ghost use Rattle.ipx_net_hosts.specs.EndStates.{here_at, state_on_host};
+ghost use Rattle.spx_theory.specs.EndsSummarized.{peer_of};
 ghost use Rattle.spx_theory.specs.Scan.{scan};
 ghost use Rattle.spx_theory.specs.World.{end_at};
 ghost use Rattle.ipx_net.specs.Ends.{nobody, told_of};
 ghost use Rattle.ipx_net.specs.LogEntries.{entry_note, entry_notes};
 ghost use Rattle.ipx_net.specs.Theorems.{AreNumbered};
-ghost use Rattle.ipx_net.specs.ToldEnds.{AreCounted, StandsSo, StayAlone, StayAs, change, joins, logged, one_given, one_out, one_sent, made_peers, paired_by, settled, standing, state_by, stood, told_with, with_peer};
+ghost use Rattle.ipx_net.specs.EndSummaryChanges.{AreCounted, HasHostAndState, OthersStay, StayAs, change, joins, logged, one_given, one_out, one_sent, made_peers, paired_by, settled, standing, state_by, stood, summaries_with, with_peer};
 
 use crate::endinfo::EndInfo;
 use crate::entry::Entry;
@@ -114,7 +114,7 @@ fn set_peer(infos: &mut [EndInfo], who: usize, peer: Option<usize>)
 }
 
 /// Sets the host of an end, and the state of its link.
-fn set_standing(infos: &mut [EndInfo], who: usize, host: usize, state: Option<State>)
+fn set_host_and_state(infos: &mut [EndInfo], who: usize, host: usize, state: Option<State>)
     ensures { infos.new ≡ change (standing host state) who infos.old }
 {
     let info = told_of(infos, who);
@@ -177,7 +177,7 @@ impl EndSummaries {
         requires few { (e : ℕ) → ((told_of self.old.infos.items e).given + 1 < 2 ^ 64)
             × ((told_of self.old.infos.items e).out + 1 < 2 ^ 64) }
         ensures told { self.new.infos.items
-            ≡ told_with (entry_note entry.now) self.old.infos.items }
+            ≡ summaries_with (entry_note entry.now) self.old.infos.items }
         ensures room { (more : ℕ)
             → vec_len self.old.infos + (more + 1) ≤ vec_capacity self.old.infos
             → vec_len self.new.infos + more ≤ vec_capacity self.new.infos }
@@ -244,7 +244,7 @@ impl EndSummaries {
         requires before { (e : ℕ) → (told_of self.old.infos.items e).peer
             ≡ peer_of (take from indexed_log.now.log) e }
         ensures peers { (e : ℕ) → (told_of self.new.infos.items e).peer ≡ peer_of indexed_log.now.log e }
-        ensures alone { StayAlone self.old.infos.items self.new.infos.items }
+        ensures alone { OthersStay self.old.infos.items self.new.infos.items }
         ensures count { length self.new.infos.items ≡ length self.old.infos.items }
     {
         peer_is_found();
@@ -261,12 +261,12 @@ impl EndSummaries {
     {
         if let Some(who) = hosts.known(host, id) {
             let state = if gone { None } else { hosts.state(host, id) };
-            set_standing(&mut self.infos, who, host, state);
+            set_host_and_state(&mut self.infos, who, host, state);
         }
     }
 
     /// Updates the end of a link of a host, by its index: to its present state, or to released.
-    fn stand_at(&mut self, hosts: &Hosts, host: usize, place: usize, gone: bool)
+    fn update_end_at(&mut self, hosts: &Hosts, host: usize, place: usize, gone: bool)
         ensures { self.new.infos.items ≡ settled hosts.now host gone
             (slice_get (here_at hosts.now host) place) self.old.infos.items }
     {
@@ -283,13 +283,13 @@ impl EndSummaries {
             ≡ logged (told_of self.old.infos.items who) }
         ensures here { (id who : ℕ) → end_at (here_at hosts.now host) id ≡ Some who
             → who < length self.old.infos.items
-            → StandsSo host (state_by gone (state_on_host hosts.now host id))
+            → HasHostAndState host (state_by gone (state_on_host hosts.now host id))
             (told_of self.new.infos.items who) }
         ensures others { (who : ℕ) → ((id : ℕ) → end_at (here_at hosts.now host) id ≢ Some who)
             → told_of self.new.infos.items who ≡ told_of self.old.infos.items who }
     {
         for place in 0..hosts.links(host) {
-            self.stand_at(hosts, host, place, gone);
+            self.update_end_at(hosts, host, place, gone);
         }
     }
 }

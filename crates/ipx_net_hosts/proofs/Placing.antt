@@ -23,8 +23,8 @@ use Rattle.spx_messages.specs.declared.message_fault.MessageFault.TheVariants as
 use Rattle.spx_theory.specs.Note.{Opened, Released}
 use Rattle.spx_theory.specs.EndCalls.{ChangesQuietly, DialsFrom, ReleasesOf}
 use Rattle.spx_theory.specs.HostSteps.{TakesOf, ends_after, here_after, marked_over, unit_notes, whole_notes}
-use Rattle.spx_theory.specs.World.{EndNow, HostState, StandsAt, end_at, held_in, held_of, home_at}
-use Rattle.ipx_net_hosts.specs.Hosts.{DeliveredAt, FitTogether, HostsView, LeftBy, LeftAs, LeftAt, Noting, Standing, is_lost, stands, stands_now}
+use Rattle.spx_theory.specs.World.{EndNow, HostState, IsPresentAt, end_at, held_in, held_of, home_at}
+use Rattle.ipx_net_hosts.specs.Hosts.{DeliveredAt, FitTogether, HostsView, LeftBy, LeftAs, LeftAt, Noting, StillPresent, is_lost, stands, is_present_now}
 use Rattle.ipx_net_hosts.specs.Refusing.{end_held, held_by, want}
 use Rattle.ipx_net_hosts.specs.HostStates.{ChangesAt, DialsAt, ReleasesAt, RefusalKeeps, StaysAt}
 use Rattle.ipx_net_hosts.specs.declared.refusal.Refusal.{Refusal}
@@ -44,22 +44,22 @@ there_read (z ∷ zs) (suc k) x d e = there_read zs k x d e
 abbrev pub made : List HostState → List EndNow → HostsView
 made ss es = record { stations = ss; ends = es }
 
-stands_still : (o : Option EndNow) → stands_now o ≡ true → (e : EndNow) × (o ≡ Some e) × (e.released ≡ false)
-stands_still None is = absurd (cc is)
-stands_still (Some e) is = (e, refl, not_true e.released is)
+holds_still : (o : Option EndNow) → is_present_now o ≡ true → (e : EndNow) × (o ≡ Some e) × (e.released ≡ false)
+holds_still None is = absurd (cc is)
+holds_still (Some e) is = (e, refl, not_true e.released is)
   where
     not_true : (b : Bool) → not b ≡ true → b ≡ false
     not_true true is = absurd (cc is)
     not_true false is = refl
 
-pub standing : (v : HostsView) (ss : List HostState) (es : List EndNow) (who : ℕ) (e : EndNow) → made ss es ≡ v → e ≡ get_or es who e → FitTogether v → stands v who ≡ true → Standing v who e.host e.id
+pub standing : (v : HostsView) (ss : List HostState) (es : List EndNow) (who : ℕ) (e : EndNow) → made ss es ≡ v → e ≡ get_or es who e → FitTogether v → stands v who ≡ true → StillPresent v who e.host e.id
 standing v ss es who e view read order is =
-    let s : (x : EndNow) × (slice_get v.ends who ≡ Some x) × (x.released ≡ false) = stands_still (slice_get v.ends who) is in
+    let s : (x : EndNow) × (slice_get v.ends who ≡ Some x) × (x.released ≡ false) = holds_still (slice_get v.ends who) is in
     let at : slice_get es who ≡ Some s.0 = ap (λ (u : HostsView). slice_get u.ends who) view ∙ s.1 in
     let same : s.0 ≡ e = sym (there_read es who s.0 e at) ∙ sym read in
     let here : slice_get v.ends who ≡ Some e = s.1 ∙ ap Some same in
     let free : e.released ≡ false = ap (λ (x : EndNow). x.released) (sym same) ∙ s.2 in
-    let w : StandsAt v.stations who e = (order [] [] 0).ends who e here free in
+    let w : IsPresentAt v.stations who e = (order [] [] 0).ends who e here free in
     record {
       end' = e;
       at = here;
@@ -73,10 +73,10 @@ standing v ss es who e view read order is =
       live = w.live;
     }
 
-pub host_within : (v : HostsView) (ss : List HostState) (es : List EndNow) (who host id : ℕ) → made ss es ≡ v → Standing v who host id → host < length ss
+pub host_within : (v : HostsView) (ss : List HostState) (es : List EndNow) (who host id : ℕ) → made ss es ≡ v → StillPresent v who host id → host < length ss
 host_within v ss es who host id view s = there_within ss host s.station (ap (λ (u : HostsView). slice_get u.stations host) view ∙ s.there)
 
-pub end_within : (v : HostsView) (ss : List HostState) (es : List EndNow) (who host id : ℕ) → made ss es ≡ v → Standing v who host id → who < length es
+pub end_within : (v : HostsView) (ss : List HostState) (es : List EndNow) (who host id : ℕ) → made ss es ≡ v → StillPresent v who host id → who < length es
 end_within v ss es who host id view s = there_within es who s.end' (ap (λ (u : HostsView). slice_get u.ends who) view ∙ s.at)
 
 -- a host refused
@@ -100,7 +100,7 @@ left_at v ss es host x y t view read within same =
     })
 
 -- the host of an end refused
-pub left : (v : HostsView) (ss : List HostState) (es : List EndNow) (who host id : ℕ) (x y : HostState) (t : ℕ) → made ss es ≡ v → x ≡ get_or ss host x → Standing v who host id
+pub left : (v : HostsView) (ss : List HostState) (es : List EndNow) (who host id : ℕ) (x y : HostState) (t : ℕ) → made ss es ≡ v → x ≡ get_or ss host x → StillPresent v who host id
     → StaysAt x y → LeftAs who v (made (set ss host y) es) t
 left v ss es who host id x y t view read s same =
     record {
@@ -109,7 +109,7 @@ left v ss es who host id x y t view read s same =
       left = subst (λ k. LeftAt k v (made (set ss host y) es) t) (sym s.host_is) (left_at v ss es host x y t view read (host_within v ss es who host id view s) same);
     }
 
-pub left_err : {A E : Type 0} (r : Result A E) (v : HostsView) (ss : List HostState) (es : List EndNow) (who host id : ℕ) (x y : HostState) (t : ℕ) → made ss es ≡ v → x ≡ get_or ss host x → Standing v who host id
+pub left_err : {A E : Type 0} (r : Result A E) (v : HostsView) (ss : List HostState) (es : List EndNow) (who host id : ℕ) (x y : HostState) (t : ℕ) → made ss es ≡ v → x ≡ get_or ss host x → StillPresent v who host id
     → OnErr r (StaysAt x y) → OnErr r (LeftAs who v (made (set ss host y) es) t)
 left_err (Ok a) v ss es who host id x y t view read s same = tt
 left_err (Err f) v ss es who host id x y t view read s same = left v ss es who host id x y t view read s same
@@ -144,13 +144,13 @@ dialled v ss es es' host who x y socket to buffers t id view read within range n
 -- ---- release
 
 pub released : (v : HostsView) (ss : List HostState) (es : List EndNow) (who host id : ℕ) (x y : HostState) (e : EndNow) (t : ℕ) → made ss es ≡ v → x ≡ get_or ss host x → e ≡ get_or es who e
-    → Standing v who host id → ReleasesAt x id y
+    → StillPresent v who host id → ReleasesAt x id y
     → Noting v (made (set ss host y) (set es who (record e { released = true }))) t (Released who ∷ []) (λ w w'. ReleasesOf w who w')
 released v ss es who host id x y e t view read end_read s r =
-    let P : HostsView → Type 0 = λ u. Standing u who host id → Noting u (made (set ss host y) (set es who (record e { released = true }))) t (Released who ∷ []) (λ w w'. ReleasesOf w who w') in
+    let P : HostsView → Type 0 = λ u. StillPresent u who host id → Noting u (made (set ss host y) (set es who (record e { released = true }))) t (Released who ∷ []) (λ w w'. ReleasesOf w who w') in
     subst P view core s
   where
-    core : Standing (made ss es) who host id → Noting (made ss es) (made (set ss host y) (set es who (record e { released = true }))) t (Released who ∷ []) (λ w w'. ReleasesOf w who w')
+    core : StillPresent (made ss es) who host id → Noting (made ss es) (made (set ss host y) (set es who (record e { released = true }))) t (Released who ∷ []) (λ w w'. ReleasesOf w who w')
     core s parcels log =
         let within : host < length ss = there_within ss host s.station s.there in
         let same : e ≡ s.end' = end_read ∙ there_read es who s.end' e s.at in
@@ -215,17 +215,17 @@ set_there (z ∷ zs) zero e x at same = ap (λ w. w ∷ zs) (same ∙ first z e 
 set_there (z ∷ zs) (suc k) e x at same = ap (λ ws. z ∷ ws) (set_there zs k e x at same)
 
 pub taken : (v : HostsView) (ss : List HostState) (es es' : List EndNow) (who host id : ℕ) (x y : HostState) (r : Result Taken EndFault) (u : Option Unit) (t : ℕ) → made ss es ≡ v → x ≡ get_or ss host x
-    → Standing v who host id
+    → StillPresent v who host id
     → IfSome (held_at x.endpoint id) (λ h. u ≡ first_of h.link.held)
     → IfSome (held_at x.endpoint id) (λ h. r ≢ Err want → (result_view r ≡ (take_end h).0) × ChangesAt x id (take_end h).1 y)
     → r ≢ Err want
     → ((e : EndNow) → slice_get es who ≡ Some e → es' ≡ set es who (marked_over (result_view r) e))
     → Noting v (made (set ss host y) es') t (unit_notes (result_view r) u who ++ whole_notes (result_view r) who) (λ w w'. TakesOf w who (result_view r) w')
 taken v ss es es' who host id x y r u t view read s unit takes not_want ends =
-    let P : HostsView → Type 0 = λ z. Standing z who host id → Noting z (made (set ss host y) es') t (unit_notes (result_view r) u who ++ whole_notes (result_view r) who) (λ w w'. TakesOf w who (result_view r) w') in
+    let P : HostsView → Type 0 = λ z. StillPresent z who host id → Noting z (made (set ss host y) es') t (unit_notes (result_view r) u who ++ whole_notes (result_view r) who) (λ w w'. TakesOf w who (result_view r) w') in
     subst P view core s
   where
-    core : Standing (made ss es) who host id → Noting (made ss es) (made (set ss host y) es') t (unit_notes (result_view r) u who ++ whole_notes (result_view r) who) (λ w w'. TakesOf w who (result_view r) w')
+    core : StillPresent (made ss es) who host id → Noting (made ss es) (made (set ss host y) es') t (unit_notes (result_view r) u who ++ whole_notes (result_view r) who) (λ w w'. TakesOf w who (result_view r) w')
     core s parcels log =
         let within : host < length ss = there_within ss host s.station s.there in
         let there : slice_get ss host ≡ Some x = slice_get_read ss (length ss) host x refl within read in
@@ -256,13 +256,13 @@ taken v ss es es' who host id x y r u t view read s unit takes not_want ends =
 -- ---- a link becomes another one, and nothing is noted
 
 quietly : (v : HostsView) (ss : List HostState) (es : List EndNow) (who host id : ℕ) (x y : HostState) (t : ℕ) (f : LinkView → LinkView) → made ss es ≡ v → x ≡ get_or ss host x
-    → Standing v who host id → IfSome (held_at x.endpoint id) (λ h. ChangesAt x id (record h { link = f h.link }) y)
+    → StillPresent v who host id → IfSome (held_at x.endpoint id) (λ h. ChangesAt x id (record h { link = f h.link }) y)
     → Noting v (made (set ss host y) es) t [] (λ w w'. ChangesQuietly w who f w')
 quietly v ss es who host id x y t f view read s changes =
-    let P : HostsView → Type 0 = λ z. Standing z who host id → Noting z (made (set ss host y) es) t [] (λ w w'. ChangesQuietly w who f w') in
+    let P : HostsView → Type 0 = λ z. StillPresent z who host id → Noting z (made (set ss host y) es) t [] (λ w w'. ChangesQuietly w who f w') in
     subst P view core s
   where
-    core : Standing (made ss es) who host id → Noting (made ss es) (made (set ss host y) es) t [] (λ w w'. ChangesQuietly w who f w')
+    core : StillPresent (made ss es) who host id → Noting (made ss es) (made (set ss host y) es) t [] (λ w w'. ChangesQuietly w who f w')
     core s parcels log =
         let within : host < length ss = there_within ss host s.station s.there in
         let there : slice_get ss host ≡ Some x = slice_get_read ss (length ss) host x refl within read in
@@ -289,7 +289,7 @@ quietly v ss es who host id x y t f view read s changes =
         }
 
 pub quietly_ok : {A E : Type 0} (r : Result A E) (v : HostsView) (ss : List HostState) (es : List EndNow) (who host id : ℕ) (x y : HostState) (t : ℕ) (f : LinkView → LinkView) → made ss es ≡ v
-    → x ≡ get_or ss host x → Standing v who host id → IfSome (held_at x.endpoint id) (λ h. OnOk r (ChangesAt x id (record h { link = f h.link }) y))
+    → x ≡ get_or ss host x → StillPresent v who host id → IfSome (held_at x.endpoint id) (λ h. OnOk r (ChangesAt x id (record h { link = f h.link }) y))
     → OnOk r (Noting v (made (set ss host y) es) t [] (λ w w'. ChangesQuietly w who f w'))
 quietly_ok (Ok a) v ss es who host id x y t f view read s changes = quietly v ss es who host id x y t f view read s changes
 quietly_ok (Err e) v ss es who host id x y t f view read s changes = tt
@@ -313,7 +313,7 @@ marks_lost es who e a read is x at =
 pub marks_kept : (es : List EndNow) (who : ℕ) (a : Result TakenView EndFault) → is_lost a ≡ false → a ≢ Err want → (x : EndNow) → slice_get es who ≡ Some x → es ≡ set es who (marked_over a x)
 marks_kept es who a is not_want x at = sym (set_there es who x (marked_over a x) at (kept_marks a x is not_want))
 
-pub stays_held : (v : HostsView) (ss : List HostState) (es : List EndNow) (who host id : ℕ) (x y : HostState) → made ss es ≡ v → x ≡ get_or ss host x → Standing v who host id
+pub stays_held : (v : HostsView) (ss : List HostState) (es : List EndNow) (who host id : ℕ) (x y : HostState) → made ss es ≡ v → x ≡ get_or ss host x → StillPresent v who host id
     → IfSome (held_at x.endpoint id) (λ _. StaysAt x y) → StaysAt x y
 stays_held v ss es who host id x y view read s stays =
     let there : slice_get ss host ≡ Some s.station = ap (λ (u : HostsView). slice_get u.stations host) view ∙ s.there in
@@ -325,7 +325,7 @@ pub unheld : (o : Option Held) (P : Type 0) → o ≡ None → IfSome o (λ _. P
 unheld None P is = tt
 unheld (Some h) P is = absurd (cc is)
 
-pub known_held : (v : HostsView) (ss : List HostState) (es : List EndNow) (who host id : ℕ) (x : HostState) (P : Type 0) → made ss es ≡ v → x ≡ get_or ss host x → Standing v who host id
+pub known_held : (v : HostsView) (ss : List HostState) (es : List EndNow) (who host id : ℕ) (x : HostState) (P : Type 0) → made ss es ≡ v → x ≡ get_or ss host x → StillPresent v who host id
     → IfSome (held_at x.endpoint id) (λ _. P) → P
 known_held v ss es who host id x P view read s holds =
     let there : slice_get ss host ≡ Some s.station = ap (λ (u : HostsView). slice_get u.stations host) view ∙ s.there in
@@ -333,7 +333,7 @@ known_held v ss es who host id x P view read s holds =
     at_held (held_at x.endpoint id) (λ _. P) s.held holds (ap (λ (z : HostState). held_at z.endpoint id) same ∙ s.live)
 
 -- what an end has is what its host holds under its id
-pub held_there : (v : HostsView) (ss : List HostState) (es : List EndNow) (who host id : ℕ) (x : HostState) → made ss es ≡ v → x ≡ get_or ss host x → Standing v who host id
+pub held_there : (v : HostsView) (ss : List HostState) (es : List EndNow) (who host id : ℕ) (x : HostState) → made ss es ≡ v → x ≡ get_or ss host x → StillPresent v who host id
     → held_at x.endpoint id ≡ end_held v.stations v.ends who
 held_there v ss es who host id x view read s =
     let there : slice_get ss host ≡ Some s.station = ap (λ (u : HostsView). slice_get u.stations host) view ∙ s.there in

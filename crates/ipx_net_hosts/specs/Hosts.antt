@@ -35,9 +35,9 @@ abbrev pub FitTogether : HostsView → Type 0
 FitTogether v = (parcels : List ParcelView) (log : List Note) (now : ℕ)
     → InOrder (world_of v parcels log now)
 
-abbrev pub stands_now : Option EndNow → Bool
-stands_now None = false
-stands_now (Some e) = not e.released
+abbrev pub is_present_now : Option EndNow → Bool
+is_present_now None = false
+is_present_now (Some e) = not e.released
 
 -- hosts keep their addresses, whatever is called and whatever is refused
 abbrev pub SameHomes : HostsView → HostsView → Type 0
@@ -62,10 +62,10 @@ MayAddEnd old new = FollowsMarks (marks_of old.ends) (marks_of new.ends)
 
 -- there is such an end, and it is not released
 abbrev pub stands : HostsView → ℕ → Bool
-stands v who = stands_now (slice_get v.ends who)
+stands v who = is_present_now (slice_get v.ends who)
 
 -- an end that is not released: its host, its id there, and what is held under that
-pub record Standing (v : HostsView) (who host id : ℕ) : Type 0 where
+pub record StillPresent (v : HostsView) (who host id : ℕ) : Type 0 where
   pub end' : EndNow
   pub at : slice_get v.ends who ≡ Some end'
   pub stands : end'.released ≡ false

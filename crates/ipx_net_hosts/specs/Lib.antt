@@ -1,5 +1,5 @@
 pub mod Hosts
 pub mod Refusing
 pub mod HostStates
-pub mod EndTelling
+pub mod EndStates
 pub mod HostBeginnings

@@ -27,14 +27,14 @@ end_held hosts ends who = held_by hosts (slice_get ends who)
 
 -- want of memory, by what it is wanted for: a link, a message that is cut or joined, units that are
 -- queued
-abbrev pub want_of_link : EndFault
-want_of_link = EndFaults.Links LinksFaults.OutOfMemory
+abbrev pub no_memory_for_link : EndFault
+no_memory_for_link = EndFaults.Links LinksFaults.OutOfMemory
 
 abbrev pub want : EndFault
 want = EndFaults.Message MessageFaults.OutOfMemory
 
-abbrev pub want_of_queue : EndFault
-want_of_queue = EndFaults.Offer OfferFaults.OutOfMemory
+abbrev pub no_memory_for_queue : EndFault
+no_memory_for_queue = EndFaults.Offer OfferFaults.OutOfMemory
 
 -- ---- dial: just where 16 links stand
 
@@ -50,7 +50,7 @@ dial_fault None = None
 dial_fault (Some s) = full_fault s.endpoint.links
 
 abbrev pub DialIsRefused : Option HostState → EndFault → Type 0
-DialIsRefused s f = (dial_fault s ≡ Some f) ⊎ ((f ≡ want_of_link) × (dial_fault s ≡ None))
+DialIsRefused s f = (dial_fault s ≡ Some f) ⊎ ((f ≡ no_memory_for_link) × (dial_fault s ≡ None))
 
 -- the same, where memory may be refused beside the endpoint
 abbrev pub DialIsLeft : Option HostState → Refusal → Type 0
@@ -64,7 +64,7 @@ close_fault None = Some EndFaults.NoSuchEnd
 close_fault (Some h) = option_map EndFaults.Offer (refusal h.link.state)
 
 abbrev pub CloseIsRefused : Option Held → EndFault → Type 0
-CloseIsRefused h f = (close_fault h ≡ Some f) ⊎ ((f ≡ want_of_queue) × (close_fault h ≡ None))
+CloseIsRefused h f = (close_fault h ≡ Some f) ⊎ ((f ≡ no_memory_for_queue) × (close_fault h ≡ None))
 
 -- ---- send: by the message, else by the state of the link
 
@@ -80,7 +80,7 @@ send_fault h m = option_or (message_fault h m) (close_fault h)
 abbrev pub SendIsRefused : Option Held → MessageView → EndFault → Type 0
 SendIsRefused h m f = (send_fault h m ≡ Some f)
     ⊎ ((f ≡ want) × (message_fault h m ≡ None))
-    ⊎ ((f ≡ want_of_queue) × (send_fault h m ≡ None))
+    ⊎ ((f ≡ no_memory_for_queue) × (send_fault h m ≡ None))
 
 -- ---- take: where a message grew too long; and where a unit joins a message, for want of memory
 

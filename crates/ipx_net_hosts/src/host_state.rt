@@ -17,7 +17,7 @@ ghost use Rattle.spx_messages.specs.Changes.{Listens};
 ghost use Rattle.ipx_net_hosts.specs.HostBeginnings.{BeginsAt};
 ghost use Rattle.ipx_net_hosts.specs.Refusing.{CloseIsRefused, DialIsLeft, Overruns, PushesTo, SendIsRefused, TakeIsRefused, close_fault, dial_fault, send_fault, want};
 ghost use Rattle.ipx_net_hosts.specs.HostStates.{ChangesAt, DialsAt, ReleasesAt, RefusalKeeps, StaysAt, reader_of, speaker};
-ghost use Rattle.ipx_net_hosts.specs.EndTelling.{state_of};
+ghost use Rattle.ipx_net_hosts.specs.EndStates.{state_of};
 
 use crate::refusal::Refusal;
 use ipx_wire::{Address, Fragment, Network, Node, OutOfMemory, Socket};

@@ -11,11 +11,11 @@ ghost use Rattle.spx_theory.specs.World.{end_at};
 ghost use Rattle.spx_messages.specs.EndpointView.{held_at};
 ghost use Rattle.ipx_net_hosts.specs.HostBeginnings.{AddsHost};
 ghost use Rattle.spx_messages.specs.Arrives.{IsAcceptable};
-ghost use Rattle.spx_messages.specs.OneValue.{IsRoomStill};
+ghost use Rattle.spx_messages.specs.OneValue.{IsBufferStill};
 ghost use Rattle.spx_messages.specs.Taking.{overlong, result_view};
 ghost use Rattle.ipx_net_hosts.specs.HostStates.{reader_of, speaker};
-ghost use Rattle.ipx_net_hosts.specs.EndTelling.{here_at, state_on_host};
-ghost use Rattle.ipx_net_hosts.specs.Hosts.{DeliveredAt, FitTogether, KeepsMarks, LeftAs, LeftBy, MayAddEnd, Noting, PolledAt, SameHomes, Standing, is_lost, stands};
+ghost use Rattle.ipx_net_hosts.specs.EndStates.{here_at, state_on_host};
+ghost use Rattle.ipx_net_hosts.specs.Hosts.{DeliveredAt, FitTogether, KeepsMarks, LeftAs, LeftBy, MayAddEnd, Noting, PolledAt, SameHomes, StillPresent, is_lost, stands};
 ghost use Rattle.ipx_net_hosts.specs.Refusing.{CloseIsRefused, DialIsLeft, Overruns, PushesTo, SendIsRefused, TakeIsRefused, close_fault, dial_fault, end_held, send_fault, want};
 
 use crate::end::EndNow;
@@ -87,7 +87,7 @@ impl Hosts {
     fn place(&self, who: usize) -> (usize, u16)
         requires order { FitTogether self.now }
         requires stands { stands self.now who ≡ true }
-        ensures { Standing self.now who result.0 result.1 }
+        ensures { StillPresent self.now who result.0 result.1 }
     {
         let end = &self.ends[who];
         (end.host, end.id)
@@ -259,7 +259,7 @@ impl Hosts {
         requires there { host < length self.old.stations }
         requires room { spx_max_packet_size ≤ length room.old }
         ensures polled { PolledAt self.old host now result room.old room.new self.new }
-        ensures still { IsRoomStill room.old room.new }
+        ensures still { IsBufferStill room.old room.new }
         ensures homes { SameHomes self.old self.new }
         ensures marks { KeepsMarks self.old self.new }
     {

@@ -22,7 +22,7 @@ use Rattle.ipx_tables.specs.Content.{Table}
 use Rattle.ipx_router.specs.Hearing.{AtEntry, GrowsByRoute, GrowsByService, HeardRoutes, HeardServices, IsFullForRoute, IsFullForService}
 use Rattle.ipx_router.specs.Knowledge.{routes_in, services_in}
 use Rattle.ipx_query.specs.declared.answer_heard.AnswerHeard.{AnswerHeard}
-use Rattle.ipx_query.specs.QueryAnswers.{HearsRip, HearsRipMessage, HearsSap, HearsSapMessage, RipBodyWantsMemory, SapBodyWantsMemory, TakesRoutes, TakesServices, lone_port, source_at}
+use Rattle.ipx_query.specs.QueryAnswers.{HearsRip, HearsRipMessage, HearsSap, HearsSapMessage, RipBodyOutOfMemory, SapBodyOutOfMemory, TakesRoutes, TakesServices, lone_port, source_at}
 
 -- the answer of entries that were learned, by how many were
 abbrev pub Outcome : Bool → Result (Unit {0}) TableFault → Option AnswerHeard → Type 0
@@ -50,12 +50,12 @@ module _ (own : Address) (node : Node) (now : ℕ) (old : Table Network RouteMet
   rip_heard (Ok n) (Err e) ok err says = tt
   rip_heard (Err f) (Err e) ok err says = tt
 
-  pub rip_wants : (heard : Result (Unit {0}) TableFault) (o : Result (Option AnswerHeard) OutOfMemory)
+  pub rip_needs : (heard : Result (Unit {0}) TableFault) (o : Result (Option AnswerHeard) OutOfMemory)
       → IfErr heard (λ f. (n : ℕ) × HeardRoutes (lone_port own) source now entries (routes_in old) n new × (f ≡ Full → AtEntry entries n (IsFullForRoute (lone_port own) source new)) × (f ≡ out_of_memory → AtEntry entries n (GrowsByRoute (lone_port own) source new)))
-      → OnErr o (heard ≡ Err out_of_memory) → OnErr o (RipBodyWantsMemory own node now old body new)
-  rip_wants heard (Ok x) err says = tt
-  rip_wants (Ok n) (Err e) err says = cc
-  rip_wants (Err f) (Err e) err says =
+      → OnErr o (heard ≡ Err out_of_memory) → OnErr o (RipBodyOutOfMemory own node now old body new)
+  rip_needs heard (Ok x) err says = tt
+  rip_needs (Ok n) (Err e) err says = cc
+  rip_needs (Err f) (Err e) err says =
       let wants : f ≡ out_of_memory = cc in
       (entries, tail, is, most, subst (λ (s : Source). (n : ℕ) × HeardRoutes (lone_port own) s now entries (routes_in old) n new × AtEntry entries n (GrowsByRoute (lone_port own) s new)) from (err.0, err.1, err.3 wants))
 
@@ -79,11 +79,11 @@ module _ (node : Node) (now : ℕ) (old : Table ServiceKey ServiceMetric) (body 
   sap_heard (Ok n) (Err e) ok err says = tt
   sap_heard (Err f) (Err e) ok err says = tt
 
-  pub sap_wants : (heard : Result (Unit {0}) TableFault) (o : Result (Option AnswerHeard) OutOfMemory)
+  pub sap_needs : (heard : Result (Unit {0}) TableFault) (o : Result (Option AnswerHeard) OutOfMemory)
       → IfErr heard (λ f. (n : ℕ) × HeardServices source now entries (services_in old) n new × (f ≡ Full → AtEntry entries n (IsFullForService source new)) × (f ≡ out_of_memory → AtEntry entries n (GrowsByService source new)))
-      → OnErr o (heard ≡ Err out_of_memory) → OnErr o (SapBodyWantsMemory node now old body new)
-  sap_wants heard (Ok x) err says = tt
-  sap_wants (Ok n) (Err e) err says = cc
-  sap_wants (Err f) (Err e) err says =
+      → OnErr o (heard ≡ Err out_of_memory) → OnErr o (SapBodyOutOfMemory node now old body new)
+  sap_needs heard (Ok x) err says = tt
+  sap_needs (Ok n) (Err e) err says = cc
+  sap_needs (Err f) (Err e) err says =
       let wants : f ≡ out_of_memory = cc in
       (nearest, entries, tail, is, most, subst (λ (s : Source). (n : ℕ) × HeardServices s now entries (services_in old) n new × AtEntry entries n (GrowsByService s new)) from (err.0, err.1, err.3 wants))

@@ -1,6 +1,6 @@
 -- What a host that asks routers receives: which packets are answers, and what it learns from them (RIP and
 -- SAP responses of the Novell IPX Router Specification). It learns entries as a router of one port does. The
--- entry points are `AskHears`, and `AskMisses` for out of memory.
+-- entry points are `AskHears`, and `QueryHearOutOfMemory` for out of memory.
 use Rattle.std.specs.Prelude.{◌≡◌, ℕ, ◌==◌, ◌||◌, ◌&&◌, Bool, true, nat_lt, List, [], ◌∷◌, length, map, Option, Some, None, MatchBool, MatchOption, if◌then◌else◌}
 use Rattle.std.specs.List.{list_any}
 use Rattle.ipx_wire.specs.declared.address.Address.{Address}
@@ -24,7 +24,7 @@ use Rattle.ipx_router.specs.declared.port.Port.{Port}
 use Rattle.ipx_router.specs.Classify.{is_node}
 use Rattle.ipx_router.specs.Hearing.{AtEntry, HeardRoutes, HeardServices, IsFullForRoute, IsFullForService}
 use Rattle.ipx_router.specs.Knowledge.{routes_in, services_in}
-use Rattle.ipx_router.specs.WantOfMemory.{HearingRoutesWantsMemory, HearingServicesWantsMemory}
+use Rattle.ipx_router.specs.OutOfMemoryCases.{HearingRoutesOutOfMemory, HearingServicesOutOfMemory}
 use Rattle.ipx_query.specs.declared.question.TableQuery.{TableQuery}
 use Rattle.ipx_query.specs.declared.question.TableQuery.TheVariants.{Networks, Services}
 use Rattle.ipx_query.specs.declared.queried_router.QueriedRouter.{QueriedRouter}
@@ -154,28 +154,28 @@ AskHears old bytes now new = MatchOption (ipx_fault bytes)
 
 -- an entry could not be learned, because its table had to grow: those before it were learned, and nothing
 -- else changed
-abbrev pub RipBodyWantsMemory : Address → Node → ℕ → Table Network RouteMetric → List ℕ
+abbrev pub RipBodyOutOfMemory : Address → Node → ℕ → Table Network RouteMetric → List ℕ
     → Table Network RouteMetric → Type 0
-RipBodyWantsMemory own node now old body new = (entries : List RipEntry) × (tail : List ℕ)
+RipBodyOutOfMemory own node now old body new = (entries : List RipEntry) × (tail : List ℕ)
     × IsRip (rip.Response entries) body tail × (new.most ≡ old.most)
-    × HearingRoutesWantsMemory (lone_port own) (routes_in old) (source_at node) now entries new
+    × HearingRoutesOutOfMemory (lone_port own) (routes_in old) (source_at node) now entries new
 
-abbrev pub SapBodyWantsMemory : Node → ℕ → Table ServiceKey ServiceMetric → List ℕ
+abbrev pub SapBodyOutOfMemory : Node → ℕ → Table ServiceKey ServiceMetric → List ℕ
     → Table ServiceKey ServiceMetric → Type 0
-SapBodyWantsMemory node now old body new = (nearest : Bool) × (entries : List ServiceEntry)
+SapBodyOutOfMemory node now old body new = (nearest : Bool) × (entries : List ServiceEntry)
     × (tail : List ℕ) × IsSap (sap.Response nearest entries) body tail × (new.most ≡ old.most)
-    × HearingServicesWantsMemory (services_in old) (source_at node) now entries new
+    × HearingServicesOutOfMemory (services_in old) (source_at node) now entries new
 
-abbrev pub BodyWantsMemory : TableQuery → AskView → Node → List ℕ → ℕ → AskView → Type 0
-BodyWantsMemory Networks old node body now new = (routes : Table Network RouteMetric)
-    × RipBodyWantsMemory old.own node now old.routes body routes
+abbrev pub BodyOutOfMemory : TableQuery → AskView → Node → List ℕ → ℕ → AskView → Type 0
+BodyOutOfMemory Networks old node body now new = (routes : Table Network RouteMetric)
+    × RipBodyOutOfMemory old.own node now old.routes body routes
     × (new ≡ record old { routes = routes })
-BodyWantsMemory (Services kind) old node body now new =
+BodyOutOfMemory (Services kind) old node body now new =
     (services : Table ServiceKey ServiceMetric)
-    × SapBodyWantsMemory node now old.services body services
+    × SapBodyOutOfMemory node now old.services body services
     × (new ≡ record old { services = services })
 
-abbrev pub AskMisses : AskView → List ℕ → ℕ → AskView → Type 0
-AskMisses old bytes now new = (d : PacketView) × (tail : List ℕ) × IsIpx d bytes tail
+abbrev pub QueryHearOutOfMemory : AskView → List ℕ → ℕ → AskView → Type 0
+QueryHearOutOfMemory old bytes now new = (d : PacketView) × (tail : List ℕ) × IsIpx d bytes tail
     × (is_answer old d.header ≡ true)
-    × BodyWantsMemory old.question old d.header.from.node d.body now new
+    × BodyOutOfMemory old.question old d.header.from.node d.body now new

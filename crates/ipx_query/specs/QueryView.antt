@@ -32,8 +32,8 @@ abbrev pub unasked : Node → QueriedRouter
 unasked node = record { node = node; rounds = 0; answered = false; ended = false }
 
 -- a table has the room of a router's own for each router that is asked, up to the greatest of 64 bits
-abbrev pub room_for : ℕ → ℕ → ℕ
-room_for most count = min (most * count) (2 ^ 64 - 1)
+abbrev pub space_for : ℕ → ℕ → ℕ
+space_for most count = min (most * count) (2 ^ 64 - 1)
 
 -- no router was asked yet, and nothing was learned
 pub record IsNewAsk (own : Address) (question : TableQuery) (nodes : List Node)
@@ -45,8 +45,8 @@ pub record IsNewAsk (own : Address) (question : TableQuery) (nodes : List Node)
   pub unheard : ask.heard_at ≡ 0
   pub no_routes : ask.routes.offers ≡ []
   pub no_services : ask.services.offers ≡ []
-  pub most_routes : ask.routes.most ≡ room_for 1024 (length nodes)
-  pub most_services : ask.services.most ≡ room_for 4096 (length nodes)
+  pub most_routes : ask.routes.most ≡ space_for 1024 (length nodes)
+  pub most_services : ask.services.most ≡ space_for 4096 (length nodes)
   pub whole : ask.cut ≡ false
 
 -- how long ago the first query was asked for; 0 if it was not yet

@@ -4,7 +4,7 @@ ghost use Rattle.std.specs.Prelude.{◌≡◌, IfOk, OnErr, Err, Some, MatchResu
 ghost use Rattle.ipx_tables.specs.Content.{IsTable};
 ghost use Rattle.ipx_tables.specs.Route.{network_cmp};
 ghost use Rattle.ipx_tables.specs.Service.{service_key_cmp};
-ghost use Rattle.ipx_query.specs.QueryAnswers.{HearsRip, HearsSap, RipBodyWantsMemory, SapBodyWantsMemory, source_at};
+ghost use Rattle.ipx_query.specs.QueryAnswers.{HearsRip, HearsSap, RipBodyOutOfMemory, SapBodyOutOfMemory, source_at};
 
 use crate::answer_heard::AnswerHeard;
 use crate::entries::{hear_routes, hear_services};
@@ -51,7 +51,7 @@ pub fn hear_rip(
     requires { IsTable network_cmp routes.old }
     ensures answer { IfOk result (λ a. HearsRip own node now routes.old body.now a routes.new) }
     ensures refused { OnErr result
-        (RipBodyWantsMemory own node now routes.old body.now routes.new) }
+        (RipBodyOutOfMemory own node now routes.old body.now routes.new) }
     ensures valid { IsTable network_cmp routes.new }
 {
     match read_rip(body) {
@@ -76,7 +76,7 @@ pub fn hear_sap(
     requires { IsTable service_key_cmp services.old }
     ensures answer { IfOk result (λ a. HearsSap node now services.old body.now a services.new) }
     ensures refused { OnErr result
-        (SapBodyWantsMemory node now services.old body.now services.new) }
+        (SapBodyOutOfMemory node now services.old body.now services.new) }
     ensures valid { IsTable service_key_cmp services.new }
 {
     match read_sap(body) {

@@ -6,7 +6,7 @@ ghost use Rattle.ipx_tables.specs.Listing.{IsListing};
 ghost use Rattle.ipx_tables.specs.Route.{network_cmp, route_before};
 ghost use Rattle.ipx_tables.specs.Service.{service_before, service_key_cmp};
 ghost use Rattle.ipx_router.specs.Knowledge.{routes_in, services_in};
-ghost use Rattle.ipx_query.specs.QueryAnswers.{BodyWantsMemory, HearsBody, ask_heard, is_answer, is_at_hand, is_from_asked, is_to_querier};
+ghost use Rattle.ipx_query.specs.QueryAnswers.{BodyOutOfMemory, HearsBody, ask_heard, is_answer, is_at_hand, is_from_asked, is_to_querier};
 ghost use Rattle.ipx_query.specs.QueryEnds.{ask_status, have_answered, have_ended, is_ask_over};
 ghost use Rattle.ipx_query.specs.AskQueries.{GivesToPlace, ask_begun, rounds_by};
 ghost use Rattle.ipx_query.specs.QueryView.{IsNewAsk, asked_for, unasked};
@@ -269,7 +269,7 @@ impl QueryCore {
     ) -> Result<(), OutOfMemory>
         ensures heard { OnOk result (HearsBody Networks self.old node body.now now self.new) }
         ensures refused { OnErr result
-            (BodyWantsMemory Networks self.old node body.now now self.new) }
+            (BodyOutOfMemory Networks self.old node body.now now self.new) }
     {
         match hear_rip(alloc, self.own, &mut self.routes, node, body, now) {
             Err(_) => Err(OutOfMemory),
@@ -290,7 +290,7 @@ impl QueryCore {
         ensures heard { (kind : ℕ) → OnOk result
             (HearsBody (Services kind) self.old node body.now now self.new) }
         ensures refused { (kind : ℕ) → OnErr result
-            (BodyWantsMemory (Services kind) self.old node body.now now self.new) }
+            (BodyOutOfMemory (Services kind) self.old node body.now now self.new) }
     {
         match hear_sap(alloc, &mut self.services, node, body, now) {
             Err(_) => Err(OutOfMemory),
@@ -312,7 +312,7 @@ impl QueryCore {
         ensures heard { OnOk result
             (HearsBody self.old.question self.old node body.now now self.new) }
         ensures refused { OnErr result
-            (BodyWantsMemory self.old.question self.old node body.now now self.new) }
+            (BodyOutOfMemory self.old.question self.old node body.now now self.new) }
     {
         match self.question {
             TableQuery::Networks => self.hear_networks(alloc, node, body, now),
@@ -322,7 +322,7 @@ impl QueryCore {
 }
 
 impl Core for QueryCore {
-    ghost use Rattle.ipx_query.specs.QueryAnswers.{AskHears, AskMisses};
+    ghost use Rattle.ipx_query.specs.QueryAnswers.{AskHears, QueryHearOutOfMemory};
     ghost use Rattle.ipx_query.specs.AskQueries.{AskGives};
 
     ghost port_count = { λ c. 1 };
@@ -331,7 +331,7 @@ impl Core for QueryCore {
 
     ghost gives = { AskGives };
 
-    ghost hear_out_of_memory = { λ old port bytes now new. AskMisses old bytes now new };
+    ghost hear_out_of_memory = { λ old port bytes now new. QueryHearOutOfMemory old bytes now new };
 
     ghost next_out_of_memory = { λ old now new. ⊥ };
 

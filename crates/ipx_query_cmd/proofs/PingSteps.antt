@@ -13,7 +13,7 @@ use Rattle.ipx_query.specs.PingRequests.{PingGives}
 use Rattle.ipx_query.specs.declared.ping_core.PingCore.{PingCore}
 use Rattle.ipx_site.specs.declared.host.HostConfig.{HostConfig}
 use Rattle.ipx_query_cmd.specs.PingLines.{least_time, most_time, news_text, news_times, ping_end_text, ping_news, whole_time}
-use Rattle.ipx_query_cmd.specs.PingRuns.{HasPinged, IsPingTurn, PingTurn, PingsOn, hears_reply, lines_told, ping_id, pinged_lines, times_told}
+use Rattle.ipx_query_cmd.specs.PingRuns.{HasPinged, IsPingTurn, PingTurn, PingsOn, hears_reply, lines_printed, ping_id, pinged_lines, times_printed}
 use Rattle.ipx_query_cmd.specs.QueryTargets.{querier_address}
 
 -- a course of exactly one turn
@@ -45,8 +45,8 @@ pings_more (u ∷ us) t from mid to a b c h k = (h.0, h.1, h.2, pings_more us t 
 -- written
 pub record PingsSoFar (to : Address) (ts : List PingTurn) (from now : ℕ) (a b : PingCore) (times more : List ℕ) (w v : Option (List ℕ)) : Type 0 where
   pub pings : PingsOn ts from now a b
-  pub kept : more ≡ times ++ times_told ts
-  pub told : Appends w v (lines_told to ts)
+  pub kept : more ≡ times ++ times_printed ts
+  pub told : Appends w v (lines_printed to ts)
 
 pub none_so_far : (to : Address) (from : ℕ) (a : PingCore) (times : List ℕ) (w : Option (List ℕ)) → PingsSoFar to [] from from a a times times w w
 none_so_far to from a times w = record { pings = (refl, omega arith); kept = sym (append-nil times); told = Appends-nil w }
@@ -57,9 +57,9 @@ pub one_more_turn : (to : Address) (ts : List PingTurn) (t : PingTurn) (from mid
 one_more_turn to ts t from mid now a b c times some more w v u h k kept told = record {
   pings = pings_more ts t from mid now a b c h.pings k;
   kept =
-      kept ∙ ap (λ xs. xs ++ news_times t.news) h.kept ∙ append_assoc times (times_told ts) (news_times t.news)
+      kept ∙ ap (λ xs. xs ++ news_times t.news) h.kept ∙ append_assoc times (times_printed ts) (news_times t.news)
       ∙ ap (λ xs. times ++ xs) (flat_map_more (λ (p : PingTurn). news_times p.news) [] ts t);
-  told = subst (Appends w u) (flat_map_more (λ (p : PingTurn). news_text to p.news) [] ts t) (Appends-trans w v u (lines_told to ts) (news_text to t.news) h.told told);
+  told = subst (Appends w u) (flat_map_more (λ (p : PingTurn). news_text to p.news) [] ts t) (Appends-trans w v u (lines_printed to ts) (news_text to t.news) h.told told);
 }
 
 -- what a host has done that was opened, and then pinged until it was over
@@ -72,12 +72,12 @@ has_pinged file to count ts old new from last now fresh none pings is over =
 
 -- and all that is printed of it
 pub all_lines : (to old new : Address) (ts : List PingTurn) (core : PingCore) (before times : List ℕ) (w v u : Option (List ℕ)) → old ≡ to → new ≡ old → before ≡ []
-    → times ≡ before ++ times_told ts → Appends w v (lines_told old ts) → Appends v u (ping_end_text new core times) → Appends w u (pinged_lines to ts core)
+    → times ≡ before ++ times_printed ts → Appends w v (lines_printed old ts) → Appends v u (ping_end_text new core times) → Appends w u (pinged_lines to ts core)
 all_lines to old new ts core before times w v u same again none kept told ended =
-    let all : times ≡ times_told ts = kept ∙ ap (λ xs. xs ++ times_told ts) none in
-    let first = subst (λ (at : Address). Appends w v (lines_told at ts)) same told in
+    let all : times ≡ times_printed ts = kept ∙ ap (λ xs. xs ++ times_printed ts) none in
+    let first = subst (λ (at : Address). Appends w v (lines_printed at ts)) same told in
     let last = subst (λ (at : Address). Appends v u (ping_end_text at core times)) (again ∙ same) ended in
-    Appends-trans w v u (lines_told to ts) (ping_end_text to core (times_told ts)) first (subst (λ (xs : List ℕ). Appends v u (ping_end_text to core xs)) all last)
+    Appends-trans w v u (lines_printed to ts) (ping_end_text to core (times_printed ts)) first (subst (λ (xs : List ℕ). Appends v u (ping_end_text to core xs)) all last)
 
 -- one more time
 min_three : (a b c : ℕ) → min a (min b c) ≡ min (min a b) c

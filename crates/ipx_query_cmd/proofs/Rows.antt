@@ -17,7 +17,7 @@ use Rattle.ipx_site.specs.declared.clock.SteadyClock.{SteadyClock}
 use Rattle.ipx_query_cmd.specs.QueryRuns.{AsksOn, PassBetween, hears_answer}
 use Rattle.ipx_table_dump.specs.TableRead.{ServiceSpelled}
 use Rattle.ipx_query_cmd.specs.KnownLines.{known_name_width}
-use Rattle.ipx_query_cmd.specs.OperatorLines.{ToldService, answering_nodes, name_width}
+use Rattle.ipx_query_cmd.specs.OperatorLines.{AdvertisedService, answering_nodes, name_width}
 use Rattle.ipx_query_cmd.specs.QueryTargets.{new_ips}
 
 -- one more text after those of the elements before
@@ -98,11 +98,11 @@ answers_more rs i d old new lt was is =
     is ∙ ap (λ t. t ++ if_answered (get_or rs i d)) was ∙ sym (answered_more (take i rs) (get_or rs i d)) ∙ ap answering_nodes (sym (take_more rs i d lt))
 
 -- the column is as wide as one more name needs
-wide_more : (xs : List ToldService) (x : ToldService) → name_width (xs ++ x ∷ []) ≡ max (name_width xs) (length (name_text x.0.name))
+wide_more : (xs : List AdvertisedService) (x : AdvertisedService) → name_width (xs ++ x ∷ []) ≡ max (name_width xs) (length (name_text x.0.name))
 wide_more [] x = omega arith
 wide_more (y ∷ xs) x = omega (arith, wide_more xs x)
 
-pub width_more : (xs : List ToldService) (i : ℕ) (d : ToldService) (old wide : ℕ) → i < length xs → old ≡ name_width (take i xs)
+pub width_more : (xs : List AdvertisedService) (i : ℕ) (d : AdvertisedService) (old wide : ℕ) → i < length xs → old ≡ name_width (take i xs)
     → wide ≡ length (name_text (get_or xs i d).0.name) → max old wide ≡ name_width (take (i + 1) xs)
 width_more xs i d old wide lt was is =
     rw (was, is) (sym (wide_more (take i xs) (get_or xs i d)) ∙ ap name_width (sym (take_more xs i d lt)))

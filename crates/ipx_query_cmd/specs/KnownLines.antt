@@ -7,7 +7,7 @@ use Rattle.ipx_router.specs.declared.port.Port.{Port}
 use Rattle.ipx_site.specs.Checked.{shown_text}
 use Rattle.ipx_table_dump.specs.TableParts.{OwnSpelled, own_networks_read}
 use Rattle.ipx_table_dump.specs.TableRead.{NetworkSpelled, ServiceSpelled, networks_read, services_read}
-use Rattle.ipx_query_cmd.specs.OperatorLines.{ToldNetwork, at_left, at_right, json_byte, network_digits, network_json, network_row, service_head, told_count, type_digits}
+use Rattle.ipx_query_cmd.specs.OperatorLines.{AdvertisedNetwork, at_left, at_right, json_byte, network_digits, network_json, network_row, service_head, count_with_noun, type_digits}
 
 -- the last line: how many there are, and in which file
 abbrev pub written_in : List ℕ → List ℕ → List ℕ
@@ -38,7 +38,7 @@ abbrev pub known_networks_table : List ℕ → List OwnSpelled → List NetworkS
 known_networks_table place owns bests =
     codes "network   hops  ticks  by\n" ++ (flat_map direct_network_row owns
     ++ (flat_map known_network_row bests
-    ++ written_in (told_count (length owns + length bests) (codes "1 network") (codes " networks")) place))
+    ++ written_in (count_with_noun (length owns + length bests) (codes "1 network") (codes " networks")) place))
 
 -- the networks of its ports, and the best route of each network that neighbours advertised, by the text of
 -- its table file at this path
@@ -58,12 +58,12 @@ port_json p =
 
 -- what is printed of a router with these ports, if these are the best routes that neighbours advertised: each
 -- is printed as a host prints an answer
-abbrev pub router_networks_text : Bool → List ℕ → List Port → List ToldNetwork → List ℕ
+abbrev pub router_networks_text : Bool → List ℕ → List Port → List AdvertisedNetwork → List ℕ
 router_networks_text json place ports listed =
     if json then flat_map port_json ports ++ flat_map network_json listed
     else codes "network   hops  ticks  by\n" ++ (flat_map port_row ports
     ++ (flat_map network_row listed
-    ++ written_in (told_count (length ports + length listed) (codes "1 network") (codes " networks")) place))
+    ++ written_in (count_with_noun (length ports + length listed) (codes "1 network") (codes " networks")) place))
 
 -- ---- services
 
@@ -103,7 +103,7 @@ abbrev pub known_services_table : List ℕ → List ServiceSpelled → List ℕ
 known_services_table place services =
     service_head (known_name_width services)
     ++ (flat_map (known_service_row (known_name_width services)) services
-    ++ written_in (told_count (length services) (codes "1 service") (codes " services")) place)
+    ++ written_in (count_with_noun (length services) (codes "1 service") (codes " services")) place)
 
 -- the best offer of each service of a type that neighbours advertised
 abbrev pub known_services_text : Bool → List ℕ → ℕ → List ℕ → List ℕ

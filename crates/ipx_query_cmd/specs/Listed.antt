@@ -8,12 +8,12 @@ use Rattle.ipx_router.specs.Knowledge.{routes_in, services_in}
 use Rattle.ipx_query.specs.QueryEnds.{ask_status}
 use Rattle.ipx_query.specs.QueryView.{AskView}
 use Rattle.ipx_query_cmd.specs.declared.answer_times.AnswerTime.{AnswerTime}
-use Rattle.ipx_query_cmd.specs.OperatorLines.{ToldNetwork, ToldService, answering_nodes, networks_text, services_text}
+use Rattle.ipx_query_cmd.specs.OperatorLines.{AdvertisedNetwork, AdvertisedService, answering_nodes, networks_text, services_text}
 
 -- a text lists the networks of the answers to a host, each with the best route at this time, and says which
 -- routers answered
 pub record ListsNetworks (json : Bool) (ask : AskView) (now : ℕ) (text : List ℕ) : Type 0 where
-  pub listed : List ToldNetwork
+  pub listed : List AdvertisedNetwork
   pub best : IsListing network_cmp route_before (routes_in ask.routes) now listed
   pub answers : List AnswerTime
   pub who : map (λ a. a.node) answers ≡ answering_nodes ask.routers
@@ -21,7 +21,7 @@ pub record ListsNetworks (json : Bool) (ask : AskView) (now : ℕ) (text : List 
 
 -- the same for services
 pub record ListsServices (json : Bool) (ask : AskView) (now : ℕ) (text : List ℕ) : Type 0 where
-  pub listed : List ToldService
+  pub listed : List AdvertisedService
   pub best : IsListing service_key_cmp service_before (services_in ask.services) now listed
   pub answers : List AnswerTime
   pub who : map (λ a. a.node) answers ≡ answering_nodes ask.routers

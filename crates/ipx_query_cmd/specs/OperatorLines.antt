@@ -19,11 +19,11 @@ use Rattle.ipx_query.specs.declared.queried_router.QueriedRouter.{QueriedRouter}
 use Rattle.ipx_query_cmd.specs.declared.answer_times.AnswerTime.{AnswerTime}
 
 -- a network or service, the router that advertised it, and its distance
-abbrev pub ToldNetwork : Type 0
-ToldNetwork = Network × Source × RouteMetric
+abbrev pub AdvertisedNetwork : Type 0
+AdvertisedNetwork = Network × Source × RouteMetric
 
-abbrev pub ToldService : Type 0
-ToldService = ServiceKey × Source × ServiceMetric
+abbrev pub AdvertisedService : Type 0
+AdvertisedService = ServiceKey × Source × ServiceMetric
 
 -- ---- columns and digits
 
@@ -56,12 +56,12 @@ abbrev pub answered_text : AnswerTime → List ℕ
 answered_text a =
     codes ", " ++ (node_digits a.node ++ (codes " answered in " ++ tenths_text a.tenths))
 
-abbrev pub told_count : ℕ → List ℕ → List ℕ → List ℕ
-told_count count one many =
+abbrev pub count_with_noun : ℕ → List ℕ → List ℕ → List ℕ
+count_with_noun count one many =
     if count == 1 then one else (decimal count ++ many)
 
-abbrev pub behind_text : List ℕ → List AnswerTime → List ℕ
-behind_text count answers = count ++ (flat_map answered_text answers ++ 10 ∷ [])
+abbrev pub after_text : List ℕ → List AnswerTime → List ℕ
+after_text count answers = count ++ (flat_map answered_text answers ++ 10 ∷ [])
 
 -- the routers that answered, in their order
 abbrev pub answering_nodes : List QueriedRouter → List Node
@@ -69,32 +69,32 @@ answering_nodes routers = map (λ r. r.node) (filter (λ r. r.answered) routers)
 
 -- ---- networks
 
-abbrev pub network_row : ToldNetwork → List ℕ
+abbrev pub network_row : AdvertisedNetwork → List ℕ
 network_row told =
     network_digits told.0 ++ (codes "  " ++ (at_right 4 (decimal told.2.hops) ++ (codes "  "
     ++ (at_right 5 (decimal told.2.ticks) ++ (codes "  "
     ++ (node_digits told.1.neighbour ++ codes "\n"))))))
 
-abbrev pub network_json : ToldNetwork → List ℕ
+abbrev pub network_json : AdvertisedNetwork → List ℕ
 network_json told =
     codes "{\"network\":\"" ++ (network_digits told.0
     ++ (codes "\",\"hops\":" ++ (decimal told.2.hops ++ (codes ",\"ticks\":"
     ++ (decimal told.2.ticks ++ (codes ",\"by\":\"" ++ (node_digits told.1.neighbour
     ++ codes "\"}\n")))))))
 
-abbrev pub networks_table : List ToldNetwork → List AnswerTime → List ℕ
+abbrev pub networks_table : List AdvertisedNetwork → List AnswerTime → List ℕ
 networks_table listed answers =
     codes "network   hops  ticks  by\n" ++ (flat_map network_row listed
-    ++ behind_text (told_count (length listed) (codes "1 network") (codes " networks")) answers)
+    ++ after_text (count_with_noun (length listed) (codes "1 network") (codes " networks")) answers)
 
-abbrev pub networks_text : Bool → List ToldNetwork → List AnswerTime → List ℕ
+abbrev pub networks_text : Bool → List AdvertisedNetwork → List AnswerTime → List ℕ
 networks_text json listed answers =
     if json then flat_map network_json listed else networks_table listed answers
 
 -- ---- services
 
 -- the width of the name column: that of the longest name, and at least that of its heading
-abbrev pub name_width : List ToldService → ℕ
+abbrev pub name_width : List AdvertisedService → ℕ
 name_width [] = 4
 name_width (told ∷ listed) = max (length (name_text told.0.name)) (name_width listed)
 
@@ -108,7 +108,7 @@ service_head width =
     codes "type  " ++ (at_left width (codes "name")
     ++ codes "  network   node          socket  hops  by\n")
 
-abbrev pub service_row : ℕ → ToldService → List ℕ
+abbrev pub service_row : ℕ → AdvertisedService → List ℕ
 service_row width told =
     type_digits told.0.kind ++ (codes "  " ++ (at_left width (name_text told.0.name)
     ++ (codes "  " ++ (place_columns told.2.at ++ (codes "    "
@@ -133,18 +133,18 @@ place_json at =
     ++ (node_digits at.node ++ (codes "\",\"socket\":\""
     ++ (socket_digits at.socket ++ codes "\"")))))
 
-abbrev pub service_json : ToldService → List ℕ
+abbrev pub service_json : AdvertisedService → List ℕ
 service_json told =
     codes "{\"type\":\"" ++ (type_digits told.0.kind ++ (codes "\",\"name\":\""
     ++ (json_name told.0.name ++ (codes "\"," ++ (place_json told.2.at ++ (codes ",\"hops\":"
     ++ (decimal told.2.hops ++ (codes ",\"by\":\"" ++ (node_digits told.1.neighbour
     ++ codes "\"}\n")))))))))
 
-abbrev pub services_table : List ToldService → List AnswerTime → List ℕ
+abbrev pub services_table : List AdvertisedService → List AnswerTime → List ℕ
 services_table listed answers =
     service_head (name_width listed) ++ (flat_map (service_row (name_width listed)) listed
-    ++ behind_text (told_count (length listed) (codes "1 service") (codes " services")) answers)
+    ++ after_text (count_with_noun (length listed) (codes "1 service") (codes " services")) answers)
 
-abbrev pub services_text : Bool → List ToldService → List AnswerTime → List ℕ
+abbrev pub services_text : Bool → List AdvertisedService → List AnswerTime → List ℕ
 services_text json listed answers =
     if json then flat_map service_json listed else services_table listed answers

@@ -4,7 +4,7 @@ use Rattle.std.specs.Prelude.{ℕ, ◌+◌, ◌/◌, ◌==◌, ◌&&◌, List, [
 use Rattle.std.specs.Fmt.{decimal}
 use Rattle.ipx_wire.specs.declared.address.Address.{Address}
 use Rattle.ipx_query.specs.declared.ping_core.PingCore.{PingCore}
-use Rattle.ipx_query_cmd.specs.OperatorLines.{network_digits, node_digits, socket_digits, tenths_text, told_count}
+use Rattle.ipx_query_cmd.specs.OperatorLines.{network_digits, node_digits, socket_digits, tenths_text, count_with_noun}
 use Rattle.ipx_query_cmd.specs.declared.ping_event.PingAnswer.{PingAnswer}
 use Rattle.ipx_query_cmd.specs.declared.ping_event.PingEvent.{PingEvent}
 use Rattle.ipx_query_cmd.specs.declared.ping_event.PingEvent.TheVariants.{Answered, Unanswered}
@@ -44,7 +44,7 @@ abbrev pub ping_line : Address → PingAnswer → List ℕ
 ping_line to answer =
     pinged_text to ++ (codes ": answer " ++ (decimal answer.number ++ (codes " in "
     ++ (tenths_text answer.tenths ++ (codes ", "
-    ++ (told_count answer.routers (codes "1 router") (codes " routers") ++ codes "\n"))))))
+    ++ (count_with_noun answer.routers (codes "1 router") (codes " routers") ++ codes "\n"))))))
 
 abbrev pub no_answer_line : Address → ℕ → List ℕ
 no_answer_line to number =

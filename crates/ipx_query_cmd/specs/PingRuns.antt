@@ -37,11 +37,11 @@ PingsOn (t ∷ ts) from to old new = (mid : PingCore) × (between : ℕ)
     × IsPingTurn t from between old mid × PingsOn ts between to mid new
 
 -- the lines of turns, and the times of the answers
-abbrev pub lines_told : Address → List PingTurn → List ℕ
-lines_told to turns = flat_map (λ t. news_text to t.news) turns
+abbrev pub lines_printed : Address → List PingTurn → List ℕ
+lines_printed to turns = flat_map (λ t. news_text to t.news) turns
 
-abbrev pub times_told : List PingTurn → List ℕ
-times_told turns = flat_map (λ t. news_times t.news) turns
+abbrev pub times_printed : List PingTurn → List ℕ
+times_printed turns = flat_map (λ t. news_times t.news) turns
 
 -- the id of each request of each run: a listener answers all of them from one connection
 abbrev pub ping_id : ℕ
@@ -56,4 +56,4 @@ pub record HasPinged (file : HostConfig) (to : Address) (count : ℕ) (turns : L
 
 -- all that is printed of it
 abbrev pub pinged_lines : Address → List PingTurn → PingCore → List ℕ
-pinged_lines to turns ping = lines_told to turns ++ ping_end_text to ping (times_told turns)
+pinged_lines to turns ping = lines_printed to turns ++ ping_end_text to ping (times_printed turns)

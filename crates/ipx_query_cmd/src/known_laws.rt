@@ -12,7 +12,7 @@ ghost use Rattle.ipx_router.specs.declared.port.Port.{Port};
 ghost use Rattle.ipx_router.specs.Knowledge.{routes_in};
 ghost use Rattle.ipx_table_dump.specs.TableText.{IsTables};
 ghost use Rattle.ipx_query_cmd.specs.KnownLines.{known_networks_text, router_networks_text};
-ghost use Rattle.ipx_query_cmd.specs.OperatorLines.{ToldNetwork};
+ghost use Rattle.ipx_query_cmd.specs.OperatorLines.{AdvertisedNetwork};
 
 use ipx_table_dump::{bests_are_read_back, own_networks_are_read_back};
 
@@ -21,7 +21,7 @@ use ipx_table_dump::{bests_are_read_back, own_networks_are_read_back};
 pub fn known_networks_are_the_bests()
     ensures { (json : Bool) (place : List ℕ) (ports : List Port) (routes : Table Network RouteMetric)
         (services : Table ServiceKey ServiceMetric) (now : ℕ) (text : List ℕ)
-        (listed : List ToldNetwork)
+        (listed : List AdvertisedNetwork)
         → IsTables ports routes services now text
         → IsListing network_cmp route_before (routes_in routes) now listed
         → known_networks_text json place text ≡ router_networks_text json place ports listed }

@@ -2,7 +2,7 @@
 
 ghost use Rattle.std.specs.Prelude.{◌≡◌, IfOk, string_bytes};
 ghost use Rattle.std.specs.List.{flat_map};
-ghost use Rattle.ipx_query_cmd.specs.OperatorLines.{answered_text, behind_text, tenths_text, told_count};
+ghost use Rattle.ipx_query_cmd.specs.OperatorLines.{answered_text, after_text, tenths_text, count_with_noun};
 
 use crate::answer_times::AnswerTime;
 use crate::columns::node_to_digits;
@@ -43,7 +43,7 @@ pub fn count_to_text(
     one: &str,
     many: &str,
 ) -> Result<String, AllocError>
-    ensures { IfOk result (λ t. string_bytes t ≡ told_count count one.now many.now) }
+    ensures { IfOk result (λ t. string_bytes t ≡ count_with_noun count one.now many.now) }
 {
     if count == 1 {
         return String::from_str(alloc, one);
@@ -57,7 +57,7 @@ pub fn answers_to_line(
     count: &str,
     answers: &[AnswerTime],
 ) -> Result<String, AllocError>
-    ensures { IfOk result (λ t. string_bytes t ≡ behind_text count.now answers.now) }
+    ensures { IfOk result (λ t. string_bytes t ≡ after_text count.now answers.now) }
 {
     let text = answers_to_text(alloc, answers)?;
     format!(in alloc; "{count}{text}\n")

@@ -12,9 +12,9 @@ use ipx_wire::Network;
 use std::alloc::{AllocError, Global};
 
 /// A network, the router that advertises it, and its distance.
-type ToldNetwork = (Network, Source, RouteMetric);
+type AdvertisedNetwork = (Network, Source, RouteMetric);
 
-fn network_to_row(alloc: Global, told: &ToldNetwork) -> Result<String, AllocError>
+fn network_to_row(alloc: Global, told: &AdvertisedNetwork) -> Result<String, AllocError>
     ensures { IfOk result (λ t. string_bytes t ≡ network_row told.now) }
 {
     let (network, source, metric) = *told;
@@ -25,7 +25,7 @@ fn network_to_row(alloc: Global, told: &ToldNetwork) -> Result<String, AllocErro
     format!(in alloc; "{network}  {hops}  {ticks}  {by}\n")
 }
 
-fn network_to_json(alloc: Global, told: &ToldNetwork) -> Result<String, AllocError>
+fn network_to_json(alloc: Global, told: &AdvertisedNetwork) -> Result<String, AllocError>
     ensures { IfOk result (λ t. string_bytes t ≡ network_json told.now) }
 {
     let (network, source, metric) = *told;
@@ -38,7 +38,7 @@ fn network_to_json(alloc: Global, told: &ToldNetwork) -> Result<String, AllocErr
     )
 }
 
-fn networks_to_rows(alloc: Global, listed: &[ToldNetwork]) -> Result<String, AllocError>
+fn networks_to_rows(alloc: Global, listed: &[AdvertisedNetwork]) -> Result<String, AllocError>
     ensures { IfOk result (λ t. string_bytes t ≡ flat_map network_row listed.now) }
 {
     let mut rows = String::new(alloc);
@@ -49,7 +49,7 @@ fn networks_to_rows(alloc: Global, listed: &[ToldNetwork]) -> Result<String, All
     Ok(rows)
 }
 
-fn networks_to_json(alloc: Global, listed: &[ToldNetwork]) -> Result<String, AllocError>
+fn networks_to_json(alloc: Global, listed: &[AdvertisedNetwork]) -> Result<String, AllocError>
     ensures { IfOk result (λ t. string_bytes t ≡ flat_map network_json listed.now) }
 {
     let mut lines = String::new(alloc);
@@ -62,7 +62,7 @@ fn networks_to_json(alloc: Global, listed: &[ToldNetwork]) -> Result<String, All
 
 fn networks_to_table(
     alloc: Global,
-    listed: &[ToldNetwork],
+    listed: &[AdvertisedNetwork],
     answers: &[AnswerTime],
 ) -> Result<String, AllocError>
     ensures { IfOk result (λ t. string_bytes t ≡ networks_table listed.now answers.now) }
@@ -77,7 +77,7 @@ fn networks_to_table(
 pub fn networks_to_text(
     alloc: Global,
     json: bool,
-    listed: &[ToldNetwork],
+    listed: &[AdvertisedNetwork],
     answers: &[AnswerTime],
 ) -> Result<String, AllocError>
     ensures { IfOk result (λ t. string_bytes t ≡ networks_text json listed.now answers.now) }

@@ -6,7 +6,7 @@ ghost use Rattle.ipx_carrier.specs.Mapping.{node_at};
 ghost use Rattle.ipx_site.specs.SitePorts.{access_by};
 ghost use Rattle.ipx_query.specs.PingEnds.{is_ping_over, new_ping};
 ghost use Rattle.ipx_query_cmd.specs.PingLines.{news_text, news_times, ping_end_text};
-ghost use Rattle.ipx_query_cmd.specs.PingRuns.{IsPingTurn, PingTurn, PingsOn, lines_told, ping_id, times_told};
+ghost use Rattle.ipx_query_cmd.specs.PingRuns.{IsPingTurn, PingTurn, PingsOn, lines_printed, ping_id, times_printed};
 ghost use Rattle.ipx_query_cmd.specs.QueryTargets.{querier_address};
 ghost use Rattle.ipx_query_cmd.specs.PingTargets.{guarded_pinger};
 
@@ -164,8 +164,8 @@ impl<'a, R: Net + Clock> PingingHost<'a, R> {
     pub fn ping<W: Write>(&mut self, alloc: Global, writer: &mut W) -> Result<u64, AskFault>
         ensures pings { OnOk result ((turns : List PingTurn)
             × PingsOn turns self.old.clock.last self.new.clock.last self.old.core self.new.core
-            × (self.new.times.items ≡ self.old.times.items ++ times_told turns)
-            × Appends (W.contents writer.old) (W.contents writer.new) (lines_told self.old.to turns)) }
+            × (self.new.times.items ≡ self.old.times.items ++ times_printed turns)
+            × Appends (W.contents writer.old) (W.contents writer.new) (lines_printed self.old.to turns)) }
         ensures over { IfOk result (λ now.
             (now ≡ self.new.clock.last) × (is_ping_over self.new.core now ≡ true)) }
         ensures to { self.new.to ≡ self.old.to }

@@ -8,13 +8,13 @@ ghost use Rattle.ipx_query_cmd.specs.PingRuns.{HasPinged, PingTurn, pinged_lines
 ghost use Rattle.ipx_site.specs.Host.{IsHostText};
 ghost use Rattle.ipx_site.specs.Loading.{IsFileText};
 ghost use Rattle.ipx_site.specs.declared.host.HostConfig.{HostConfig as AHostFile};
-ghost use Rattle.ipx_host.specs.Access.{far_address, is_nowhere};
+ghost use Rattle.ipx_host.specs.Access.{peer_address_of, is_nowhere};
 ghost use Rattle.ipx_host.specs.Target.{NamesAddress};
 ghost use Rattle.ipx_wire.specs.declared.address.Address.{Address as AnAddress};
 
 use crate::fault::{AskFault, tell_fault};
 use crate::pinging_host::PingingHost;
-use ipx_host::{Target, far_address, is_nowhere, tell_nowhere};
+use ipx_host::{Target, is_nowhere, peer_address_of, tell_nowhere};
 use ipx_site::{HostConfig, load_host};
 use ipx_wire::Address;
 use std::alloc::Global;
@@ -56,17 +56,17 @@ fn ping_at<R: Net + Files + Clock + Eprint, W: Write>(
     ensures pinged { result ≡ 0 → (text : List ℕ) × (file : AHostFile)
         × (turns : List PingTurn) × (ping : APingCore) × (now : ℕ)
         × IsFileText text × IsHostText text file
-        × (is_nowhere file (far_address file to) ≡ false)
-        × HasPinged file (far_address file to) count turns ping now × (ping_status ping ≡ 0)
+        × (is_nowhere file (peer_address_of file to) ≡ false)
+        × HasPinged file (peer_address_of file to) count turns ping now × (ping_status ping ≡ 0)
         × Appends (W.contents writer.old) (W.contents writer.new)
-        (pinged_lines (far_address file to) turns ping) }
+        (pinged_lines (peer_address_of file to) turns ping) }
     ensures untouched { result ≡ 2 → writer.new ≡ writer.old }
 {
     let file = match load_host(rt, alloc, path) {
         Ok(file) => file,
         Err(status) => return status,
     };
-    let to = far_address(&file, to);
+    let to = peer_address_of(&file, to);
     if is_nowhere(&file, to) {
         return tell_nowhere(rt, path, to.node);
     }
@@ -102,10 +102,10 @@ pub fn do_ping<R: Net + Files + Clock + Eprint, W: Write>(
     ensures pinged { result ≡ 0 → (text : List ℕ) × (file : AHostFile) × (to : AnAddress)
         × (turns : List PingTurn) × (ping : APingCore) × (now : ℕ)
         × IsFileText text × IsHostText text file × NamesAddress target.entry to
-        × (is_nowhere file (far_address file to) ≡ false)
-        × HasPinged file (far_address file to) count turns ping now × (ping_status ping ≡ 0)
+        × (is_nowhere file (peer_address_of file to) ≡ false)
+        × HasPinged file (peer_address_of file to) count turns ping now × (ping_status ping ≡ 0)
         × Appends (W.contents writer.old) (W.contents writer.new)
-        (pinged_lines (far_address file to) turns ping) }
+        (pinged_lines (peer_address_of file to) turns ping) }
     // On a fault of the words or of the file, nothing is written.
     ensures untouched { result ≡ 2 → writer.new ≡ writer.old }
 {

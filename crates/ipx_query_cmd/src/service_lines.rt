@@ -15,13 +15,13 @@ use ipx_wire::Address;
 use std::alloc::{AllocError, Global};
 
 /// A service, the router that advertises it, and its distance and address.
-type ToldService = (ServiceKey, Source, ServiceMetric);
+type AdvertisedService = (ServiceKey, Source, ServiceMetric);
 
 /// The least width of the name column: that of its heading.
 pub const HEAD: usize = 4;
 
 /// The width of the name column.
-fn name_width(alloc: Global, listed: &[ToldService]) -> Result<usize, AllocError>
+fn name_width(alloc: Global, listed: &[AdvertisedService]) -> Result<usize, AllocError>
     ensures { IfOk result (λ w. w ≡ name_width listed.now) }
 {
     let mut width = HEAD;
@@ -42,7 +42,11 @@ fn place_to_columns(alloc: Global, at: Address) -> Result<String, AllocError>
     format!(in alloc; "{network}  {node}  {socket}")
 }
 
-fn service_to_row(alloc: Global, width: usize, told: &ToldService) -> Result<String, AllocError>
+fn service_to_row(
+    alloc: Global,
+    width: usize,
+    told: &AdvertisedService,
+) -> Result<String, AllocError>
     ensures { IfOk result (λ t. string_bytes t ≡ service_row width told.now) }
 {
     let (key, source, metric) = *told;
@@ -64,7 +68,7 @@ fn place_to_json(alloc: Global, at: Address) -> Result<String, AllocError>
     format!(in alloc; "\"network\":\"{network}\",\"node\":\"{node}\",\"socket\":\"{socket}\"")
 }
 
-fn service_to_json(alloc: Global, told: &ToldService) -> Result<String, AllocError>
+fn service_to_json(alloc: Global, told: &AdvertisedService) -> Result<String, AllocError>
     ensures { IfOk result (λ t. string_bytes t ≡ service_json told.now) }
 {
     let (key, source, metric) = *told;
@@ -81,7 +85,7 @@ fn service_to_json(alloc: Global, told: &ToldService) -> Result<String, AllocErr
 fn services_to_rows(
     alloc: Global,
     width: usize,
-    listed: &[ToldService],
+    listed: &[AdvertisedService],
 ) -> Result<String, AllocError>
     ensures { IfOk result (λ t. string_bytes t ≡ flat_map (service_row width) listed.now) }
 {
@@ -93,7 +97,7 @@ fn services_to_rows(
     Ok(rows)
 }
 
-fn services_to_json(alloc: Global, listed: &[ToldService]) -> Result<String, AllocError>
+fn services_to_json(alloc: Global, listed: &[AdvertisedService]) -> Result<String, AllocError>
     ensures { IfOk result (λ t. string_bytes t ≡ flat_map service_json listed.now) }
 {
     let mut lines = String::new(alloc);
@@ -114,7 +118,7 @@ pub fn head_to_line(alloc: Global, width: usize) -> Result<String, AllocError>
 
 fn services_to_table(
     alloc: Global,
-    listed: &[ToldService],
+    listed: &[AdvertisedService],
     answers: &[AnswerTime],
 ) -> Result<String, AllocError>
     ensures { IfOk result (λ t. string_bytes t ≡ services_table listed.now answers.now) }
@@ -131,7 +135,7 @@ fn services_to_table(
 pub fn services_to_text(
     alloc: Global,
     json: bool,
-    listed: &[ToldService],
+    listed: &[AdvertisedService],
     answers: &[AnswerTime],
 ) -> Result<String, AllocError>
     ensures { IfOk result (λ t. string_bytes t ≡ services_text json listed.now answers.now) }

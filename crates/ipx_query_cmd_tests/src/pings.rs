@@ -39,7 +39,7 @@ fn lines_of_a_ping(rt: HostRuntime) -> Result<(), Fail> {
 
 /// The mean is rounded down to a tenth; without an answer there are no times.
 #[test]
-fn the_line_behind_all(rt: HostRuntime) -> Result<(), Fail> {
+fn the_line_after_all(rt: HostRuntime) -> Result<(), Fail> {
     let alloc = rt.alloc();
     let text = totals_to_line(alloc, 4, 3, &[312, 309, 310])?;
     let wanted = "4 sent, 3 answered, min 30.9 ms, avg 31.0 ms, max 31.2 ms\n";

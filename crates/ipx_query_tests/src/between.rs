@@ -16,7 +16,7 @@ use spx_messages::Endpoint;
 use std::alloc::Global;
 use std::test::Fail;
 
-const BEHIND: Node = Node([0, 0, 0x7f, 0, 0, 4]);
+const AFTER: Node = Node([0, 0, 0x7f, 0, 0, 4]);
 
 const LISTENER: Address = Address {
     network: Network(0x22),
@@ -36,7 +36,7 @@ fn port(network: u32, node: Node) -> Port
 
 /// The router between both networks.
 fn router(alloc: Global) -> Result<RouterCore, OutOfMemory> {
-    let ports = vec![in alloc; port(0x11, FIRST), port(0x22, BEHIND)]?;
+    let ports = vec![in alloc; port(0x11, FIRST), port(0x22, AFTER)]?;
     let Ok(router) = Router::new(alloc, ports) else {
         return Err(OutOfMemory);
     };
@@ -92,7 +92,7 @@ fn a_router_is_asked(rt: HostRuntime) -> Result<(), Fail> {
 fn a_listener_is_pinged(rt: HostRuntime) -> Result<(), Fail> {
     let alloc = rt.alloc();
     let mut router = router(alloc)?;
-    let mut endpoint = Endpoint::new(alloc, LISTENER.network, LISTENER.node, BEHIND);
+    let mut endpoint = Endpoint::new(alloc, LISTENER.network, LISTENER.node, AFTER);
     endpoint.listen(alloc, LISTENER.socket, 8)?;
     let mut listener = HostCore::new(endpoint);
     let mut host = PingCore::new(OWN, FIRST, LISTENER, 0x0102, 3);
@@ -102,7 +102,7 @@ fn a_listener_is_pinged(rt: HostRuntime) -> Result<(), Fail> {
         router.hear(alloc, 0, &request, now)?;
         let carried = given_to(alloc, &mut router, LISTENER.node, now)?;
         listener.hear(alloc, 0, &carried, now)?;
-        let reply = given_to(alloc, &mut listener, BEHIND, now)?;
+        let reply = given_to(alloc, &mut listener, AFTER, now)?;
         router.hear(alloc, 1, &reply, now)?;
         let answer = given_to(alloc, &mut router, OWN.node, now)?;
         host.hear(alloc, 0, &answer, now)?;

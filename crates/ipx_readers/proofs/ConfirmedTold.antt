@@ -10,9 +10,9 @@ use Rattle.spx_messages.specs.EndpointView.{Held}
 use Rattle.spx_theory.specs.Close.{HoldsAll}
 use Rattle.spx_theory.specs.Peers.{ArePeers, Premises}
 use Rattle.spx_theory.specs.Scan.{scan}
-use Rattle.spx_theory.specs.Scene.{Stand}
-use Rattle.spx_theory.specs.World.{EndNow, World, held_of, scene_of, stand_of, stand_with}
-use Rattle.ipx_net_hosts.specs.EndTelling.{state_of}
+use Rattle.spx_theory.specs.Scene.{PresentEnd}
+use Rattle.spx_theory.specs.World.{EndNow, World, held_of, scene_of, present_of, present_with}
+use Rattle.ipx_net_hosts.specs.EndStates.{state_of}
 use Rattle.ipx_net.specs.Ends.{TellsClosed, TellsEnds, nobody, told_of}
 use Rattle.ipx_net.specs.NetView.{NetView}
 use Rattle.ipx_net.specs.Theorems.{LinkTheorems, Theorems}
@@ -33,23 +33,23 @@ held_with : (o : Option Held) (s : State) → state_of o ≡ Some s → (h : Hel
 held_with None s is = cc is
 held_with (Some h) s is = (h, refl, cc is)
 
-stands_there : (hosts : List _) (ns : List EndNow) (k : ℕ) (n : EndNow) → slice_get ns k ≡ Some n → slice_get (map (stand_of hosts) ns) k ≡ Some (stand_of hosts n)
-stands_there hosts [] k n is = cc is
-stands_there hosts (m ∷ ns) zero n is = let same : m ≡ n = cc is in ap (λ x. Some (stand_of hosts x)) same
-stands_there hosts (m ∷ ns) (suc k) n is = stands_there hosts ns k n is
+holds_there : (hosts : List _) (ns : List EndNow) (k : ℕ) (n : EndNow) → slice_get ns k ≡ Some n → slice_get (map (present_of hosts) ns) k ≡ Some (present_of hosts n)
+holds_there hosts [] k n is = cc is
+holds_there hosts (m ∷ ns) zero n is = let same : m ≡ n = cc is in ap (λ x. Some (present_of hosts x)) same
+holds_there hosts (m ∷ ns) (suc k) n is = holds_there hosts ns k n is
 
 pub have_peers : (v : NetView) → Theorems v → v.spent ≡ false → Premises v.now.world.log → (told : List EndInfo) → TellsEnds v told
     → (who : ℕ) → (told_of told who).state ≡ Some Confirmed → (peer : ℕ) × ArePeers v.now.world.log who peer
 have_peers v th going premises told tells who is =
     let w : World = v.now.world in
     let links = th.links going in
-    let count : length (scan w.log).roles ≡ length w.ends = links.told.count ∙ length-map w.ends (stand_of w.hosts) in
+    let count : length (scan w.log).roles ≡ length w.ends = links.told.count ∙ length-map w.ends (present_of w.hosts) in
     let within : who < length told = told_within told who Confirmed is in
     let e = end_within w.ends who (omega (arith, within, tells.log.count, count)) in
     let n : EndNow = e.0 in
     let h = held_with (held_of w.hosts n) Confirmed (sym (tells.stands going who n e.1).state ∙ is) in
-    let link : (stand_of w.hosts n).link ≡ Some h.0.link = ap (λ (o : Option Held). (stand_with n o).link) h.1 in
-    let closed = links.confirmed premises who (stand_of w.hosts n) h.0.link (record { there = stands_there w.hosts w.ends who n e.1; link = link }) h.2 in
+    let link : (present_of w.hosts n).link ≡ Some h.0.link = ap (λ (o : Option Held). (present_with n o).link) h.1 in
+    let closed = links.confirmed premises who (present_of w.hosts n) h.0.link (record { there = holds_there w.hosts w.ends who n e.1; link = link }) h.2 in
     (closed.0, closed.3.peers)
 
 -- ---- the summary of one end

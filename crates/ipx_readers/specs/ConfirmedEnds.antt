@@ -4,7 +4,7 @@ use Rattle.std.specs.Prelude.{ℕ, ◌≡◌, ◌≢◌, false, List, None, Opti
 use Rattle.spx_link.specs.declared.state.State.TheVariants.{Confirmed}
 use Rattle.spx_theory.specs.Peers.{ArePeers, Premises}
 use Rattle.spx_theory.specs.World.{EndNow, held_of}
-use Rattle.ipx_net_hosts.specs.EndTelling.{state_of}
+use Rattle.ipx_net_hosts.specs.EndStates.{state_of}
 use Rattle.ipx_net.specs.Ends.{TellsEnds, told_of}
 use Rattle.ipx_net.specs.NetView.{NetView}
 use Rattle.ipx_net.specs.declared.endinfo.EndInfo.{EndInfo}

@@ -15,8 +15,8 @@ use Rattle.ipx_router.specs.declared.outcome.Reply.{Reply}
 use Rattle.ipx_router.specs.declared.packets.Recipient.{Recipient}
 use Rattle.ipx_router.specs.RouterPackets.{AreServicePackets, IsSapPacket, sending_of}
 use Rattle.ipx_router.specs.Adding.{AddsBodies, AreBodiesOf, IsLeftToAdd, IsLeftToCut}
-use Rattle.ipx_router.specs.Placing.{told_of_other_ports}
-use Rattle.ipx_router.specs.Told.{told_service}
+use Rattle.ipx_router.specs.Placing.{advertised_of_other_ports}
+use Rattle.ipx_router.specs.Told.{advertised_service}
 use Rattle.ipx_router.proofs.Cuts.{cut_done, cut_more}
 
 -- one more body
@@ -40,8 +40,8 @@ all_kept {A} test (item ∷ items) none = by (test item) none (all_kept test ite
     by false n rest = ap (λ (l : List A). item ∷ l) (rest n)
 
 -- if no service came by a port, all are advertised there
-pub told_all_alike : (number : ℕ) (heard : List (ServiceKey × Source × ServiceMetric)) → list_any (λ item. item.1.port == number) heard ≡ false → map told_service heard ≡ told_of_other_ports number heard
-told_all_alike number heard none = ap (map told_service) (sym (all_kept (λ (item : ServiceKey × Source × ServiceMetric). item.1.port == number) heard none))
+pub told_all_alike : (number : ℕ) (heard : List (ServiceKey × Source × ServiceMetric)) → list_any (λ item. item.1.port == number) heard ≡ false → map advertised_service heard ≡ advertised_of_other_ports number heard
+told_all_alike number heard none = ap (map advertised_service) (sym (all_kept (λ (item : ServiceKey × Source × ServiceMetric). item.1.port == number) heard none))
 
 module _ (to : Recipient) (bodies : List (Vec ℕ Global)) (old : List Reply) where
   -- packets of the bodies from this index on are still to be added

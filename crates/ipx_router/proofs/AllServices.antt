@@ -12,12 +12,12 @@ use Rattle.ipx_tables.specs.Listing.{IsListing}
 use Rattle.ipx_tables.specs.Service.{service_before, service_key_cmp}
 use Rattle.ipx_router.specs.declared.port.PortNow.{PortNow}
 use Rattle.ipx_router.specs.Knowledge.{Services}
-use Rattle.ipx_router.specs.Told.{told_service}
+use Rattle.ipx_router.specs.Told.{advertised_service}
 use Rattle.ipx_router.specs.Replying.{AreServicesAsked, is_of_kind}
 use Rattle.ipx_router.specs.Picking.{is_item_asked}
-use Rattle.ipx_router.specs.WantOfMemory.{HasToReply}
+use Rattle.ipx_router.specs.OutOfMemoryCases.{HasToReply}
 use Rattle.ipx_router.proofs.Picked.{services_picked}
-use Rattle.ipx_router.proofs.ToldServices.{told_services_all}
+use Rattle.ipx_router.proofs.AdvertisedServices.{told_services_all}
 
 module _ (at : PortNow) (kind : ℕ) where
   abbrev asked : ServiceKey × Source × ServiceMetric → Bool
@@ -25,7 +25,7 @@ module _ (at : PortNow) (kind : ℕ) where
 
   -- what is advertised of the best offers that are asked for
   abbrev pub asked_items : List (ServiceKey × Source × ServiceMetric) → List ServiceEntry
-  asked_items items = map told_service (filter asked items)
+  asked_items items = map advertised_service (filter asked items)
 
   -- the entries so far, with what is advertised of the offers that the walk has left, are all
   abbrev pub AreLeft : List (ServiceKey × Source × ServiceMetric) → List ServiceEntry → List ServiceEntry → Type 0
@@ -33,26 +33,26 @@ module _ (at : PortNow) (kind : ℕ) where
 
   module _ (item : ServiceKey × Source × ServiceMetric) (later : List (ServiceKey × Source × ServiceMetric)) (all entries : List ServiceEntry) (so_far : AreLeft (item ∷ later) all entries) where
     abbrev With : Bool → Type 0
-    With b = entries ++ map told_service (cond b (item ∷ filter asked later) (filter asked later)) ≡ all
+    With b = entries ++ map advertised_service (cond b (item ∷ filter asked later) (filter asked later)) ≡ all
 
     pub walk_pass : is_item_asked at false kind item ≡ false → AreLeft later all entries
     walk_pass passed = subst With passed so_far
 
-    pub walk_asked : is_item_asked at false kind item ≡ true → AreLeft later all (entries ++ told_service item ∷ [])
-    walk_asked told = append_assoc entries (told_service item ∷ []) (asked_items later) ∙ subst With told so_far
+    pub walk_asked : is_item_asked at false kind item ≡ true → AreLeft later all (entries ++ advertised_service item ∷ [])
+    walk_asked told = append_assoc entries (advertised_service item ∷ []) (asked_items later) ∙ subst With told so_far
 
   abbrev by_other_port : ServiceKey × Source × ServiceMetric → Bool
   by_other_port item = not (item.1.port == at.number)
 
   -- they are those of the kind among what is advertised of all best offers
-  of_kind : (items : List (ServiceKey × Source × ServiceMetric)) → filter (is_of_kind kind) (map told_service (filter by_other_port items)) ≡ asked_items items
+  of_kind : (items : List (ServiceKey × Source × ServiceMetric)) → filter (is_of_kind kind) (map advertised_service (filter by_other_port items)) ≡ asked_items items
   of_kind [] = refl
-  of_kind (item ∷ items) = by (by_other_port item) (is_of_kind kind (told_service item)) refl (of_kind items)
+  of_kind (item ∷ items) = by (by_other_port item) (is_of_kind kind (advertised_service item)) refl (of_kind items)
     where
-      by : (a b : Bool) → is_of_kind kind (told_service item) ≡ b → filter (is_of_kind kind) (map told_service (filter by_other_port items)) ≡ asked_items items
-          → filter (is_of_kind kind) (map told_service (cond a (item ∷ filter by_other_port items) (filter by_other_port items))) ≡ map told_service (cond (a && b) (item ∷ filter asked items) (filter asked items))
-      by true true e rest = ap (λ t. cond t (told_service item ∷ filter (is_of_kind kind) (map told_service (filter by_other_port items))) (filter (is_of_kind kind) (map told_service (filter by_other_port items)))) e ∙ ap (λ l. told_service item ∷ l) rest
-      by true false e rest = ap (λ t. cond t (told_service item ∷ filter (is_of_kind kind) (map told_service (filter by_other_port items))) (filter (is_of_kind kind) (map told_service (filter by_other_port items)))) e ∙ rest
+      by : (a b : Bool) → is_of_kind kind (advertised_service item) ≡ b → filter (is_of_kind kind) (map advertised_service (filter by_other_port items)) ≡ asked_items items
+          → filter (is_of_kind kind) (map advertised_service (cond a (item ∷ filter by_other_port items) (filter by_other_port items))) ≡ map advertised_service (cond (a && b) (item ∷ filter asked items) (filter asked items))
+      by true true e rest = ap (λ t. cond t (advertised_service item ∷ filter (is_of_kind kind) (map advertised_service (filter by_other_port items))) (filter (is_of_kind kind) (map advertised_service (filter by_other_port items)))) e ∙ ap (λ l. advertised_service item ∷ l) rest
+      by true false e rest = ap (λ t. cond t (advertised_service item ∷ filter (is_of_kind kind) (map advertised_service (filter by_other_port items))) (filter (is_of_kind kind) (map advertised_service (filter by_other_port items)))) e ∙ rest
       by false true e rest = rest
       by false false e rest = rest
 
@@ -61,7 +61,7 @@ module _ (at : PortNow) (kind : ℕ) where
     pub all_asked : AreServicesAsked services at false kind (asked_items heard)
     all_asked =
         subst (AreServicesAsked services at false kind) (of_kind heard)
-        (services_picked services at (map told_service (filter by_other_port heard)) (told_services_all services at heard listing one) kind)
+        (services_picked services at (map advertised_service (filter by_other_port heard)) (told_services_all services at heard listing one) kind)
 
     -- if there are entries, some service is to be sent
     pub some_asked : 0 < length (asked_items heard) → HasToReply services at false kind

@@ -40,7 +40,7 @@ use Rattle.ipx_router.specs.Hearing.{source_of}
 use Rattle.ipx_router.specs.Forward.{IsForwardingAnswer, by_route}
 use Rattle.ipx_router.specs.Answer.{AnswersByConcern, AnswersPacket, AnswersRip, AnswersRipMessage, AnswersSap, AnswersSapMessage, HearsRoutes, HearsServices, Receives}
 use Rattle.ipx_router.specs.Starting.{AreAsked, AreStarts, all_asked}
-use Rattle.ipx_router.specs.Telling.{AreTellings, AreTold, TellsIfDue, is_due}
+use Rattle.ipx_router.specs.Telling.{AreAdvertisements, AreAdvertised, TellsIfDue, is_due}
 use Rattle.ipx_router.proofs.Cuts.{rip_packet_own, route_packets_own, route_packets_port, sap_packet_own, service_packets_own, service_packets_port}
 
 -- a fact of answers that holds if entries were learned, if the packet was dropped, and for replies of the
@@ -141,19 +141,19 @@ starts_own number [] sent e = subst AreOwn (sym e) (All-nil IsOwn)
 starts_own number (port ∷ ports) sent s =
     subst AreOwn (sym s.2) (All-append IsOwn s.0 s.1 (asked_own number port s.0 s.3) (starts_own (number + 1) ports s.1 s.4))
 
-told_own : (ports : List Port) (routes : Routes) (services : Services) (at : PortNow) (sent : List SendingView) → AreTold ports routes services at sent → AreOwn sent
+told_own : (ports : List Port) (routes : Routes) (services : Services) (at : PortNow) (sent : List SendingView) → AreAdvertised ports routes services at sent → AreOwn sent
 told_own ports routes services at sent t =
     subst AreOwn (sym t.are) (All-append IsOwn t.route_packets t.service_packets
-    (route_packets_own (all_nodes at.number at.port rip_socket) t.told_routes t.route_packets t.in_route_packets)
-    (service_packets_own (all_nodes at.number at.port sap_socket) false t.told_services t.service_packets t.in_service_packets))
+    (route_packets_own (all_nodes at.number at.port rip_socket) t.advertised_routes t.route_packets t.in_route_packets)
+    (service_packets_own (all_nodes at.number at.port sap_socket) false t.advertised_services t.service_packets t.in_service_packets))
 
-tellings_own : (all : List Port) (routes : Routes) (services : Services) (now number : ℕ) (ports : List Port) (sent : List SendingView) → AreTellings all routes services now number ports sent → AreOwn sent
+tellings_own : (all : List Port) (routes : Routes) (services : Services) (now number : ℕ) (ports : List Port) (sent : List SendingView) → AreAdvertisements all routes services now number ports sent → AreOwn sent
 tellings_own all routes services now number [] sent e = subst AreOwn (sym e) (All-nil IsOwn)
 tellings_own all routes services now number (port ∷ ports) sent s =
     subst AreOwn (sym s.2) (All-append IsOwn s.0 s.1 (told_own all routes services _ s.0 s.3) (tellings_own all routes services now (number + 1) ports s.1 s.4))
 
 tells_own_by : (k : Known) (last : Option ℕ) (now : ℕ) (sent : List SendingView) (told : Option ℕ) (due : Bool)
-    → MatchBool due (AreTellings k.ports k.routes k.services now 1 k.ports sent × (told ≡ Some now)) ((sent ≡ []) × (told ≡ last)) → AreOwn sent
+    → MatchBool due (AreAdvertisements k.ports k.routes k.services now 1 k.ports sent × (told ≡ Some now)) ((sent ≡ []) × (told ≡ last)) → AreOwn sent
 tells_own_by k last now sent told true h = tellings_own k.ports k.routes k.services now 1 k.ports sent h.0
 tells_own_by k last now sent told false h = subst AreOwn (sym h.0) (All-nil IsOwn)
 

@@ -21,7 +21,7 @@ use Rattle.ipx_router.specs.Onward.{ForwardsNothing, IsOnward}
 use Rattle.ipx_router.specs.Classify.{concern_of}
 use Rattle.ipx_router.specs.Forward.{Forwards}
 use Rattle.ipx_router.specs.Answer.{AnswersByConcern, AnswersBytes, AnswersPacket}
-use Rattle.ipx_router.specs.WantOfMemory.{NoneIsOnward}
+use Rattle.ipx_router.specs.OutOfMemoryCases.{NoneIsOnward}
 use Rattle.ipx_router.specs.Forwarded.{ForwardsEachReading, ForwardsPacket, IsForwardOf}
 use Rattle.ipx_router.proofs.Fits.{rip_fits, sap_fits}
 

@@ -14,11 +14,11 @@ use Rattle.ipx_router.specs.declared.route.Route.{Route}
 use Rattle.ipx_router.specs.Knowledge.{Routes, Services}
 use Rattle.ipx_router.specs.Ports.{AreFromPorts}
 use Rattle.ipx_router.specs.RouteChoice.{IsHeardRoute, direct_route, over_port}
-use Rattle.ipx_router.specs.Told.{IsListOf, IsToldRoute, IsToldService, key_of_service, route_key, told_route}
-use Rattle.ipx_router.specs.Telling.{AreTellings, AreTold, HasToTell}
+use Rattle.ipx_router.specs.Told.{IsListOf, IsAdvertisedRoute, IsAdvertisedService, key_of_service, route_key, advertised_route}
+use Rattle.ipx_router.specs.Telling.{AreAdvertisements, AreAdvertised, HasToTell}
 use Rattle.ipx_router.specs.Placing.{no_way}
 use Rattle.ipx_router.proofs.Rising.{nothing_rises}
-use Rattle.ipx_router.proofs.ToldRoutes.{no_port}
+use Rattle.ipx_router.proofs.AdvertisedRoutes.{no_port}
 
 pub list_of_none : {X K : Type 0} (cmp : K → K → Ordering) (key_of : X → K) (F : X → Type 0) → ((x : X) → F x → ⊥) → IsListOf cmp key_of F []
 list_of_none cmp key_of F none = record {
@@ -33,7 +33,7 @@ module _ (port : Port) (routes : Routes) (services : Services) (now : ℕ) (rout
   abbrev at : PortNow
   at = record { number = 1; port = port; now = now }
 
-  none_by : (e : RipEntry) (t : IsToldRoute alone routes at e) (o : Option ℕ) → direct_route alone e.network ≡ o → MatchOption o (IsHeardRoute routes now e.network t.route) (λ place. t.route ≡ over_port place) → ⊥
+  none_by : (e : RipEntry) (t : IsAdvertisedRoute alone routes at e) (o : Option ℕ) → direct_route alone e.network ≡ o → MatchOption o (IsHeardRoute routes now e.network t.route) (λ place. t.route ≡ over_port place) → ⊥
   none_by e t None none heard =
       let from = routes_from (e.network, heard.0.0) _ heard.1.stands in
       let first : heard.0.0.port ≡ 1 = omega (arith, from.0, from.1) in
@@ -43,30 +43,30 @@ module _ (port : Port) (routes : Routes) (services : Services) (now : ℕ) (rout
       let first : place + 1 ≡ 1 = omega (arith, within) in
       t.elsewhere (ap (λ (r : Route). r.port) is ∙ first)
 
-  no_route : (e : RipEntry) → IsToldRoute alone routes at e → ⊥
+  no_route : (e : RipEntry) → IsAdvertisedRoute alone routes at e → ⊥
   no_route e t = none_by e t (direct_route alone e.network) refl t.leads
 
-  no_service : (e : ServiceEntry) → IsToldService services at e → ⊥
+  no_service : (e : ServiceEntry) → IsAdvertisedService services at e → ⊥
   no_service e t =
       let from = services_from (key_of_service e, t.best.0) _ t.heard.stands in
       let first : t.best.0.port ≡ 1 = omega (arith, from.0, from.1) in
       t.elsewhere first
 
-  nothing : AreTold alone routes services at []
+  nothing : AreAdvertised alone routes services at []
   nothing = record {
-    told_routes = [];
-    told_services = [];
+    advertised_routes = [];
+    advertised_services = [];
     route_packets = [];
     service_packets = [];
     are = refl;
-    of_routes = list_of_none network_cmp route_key (IsToldRoute alone routes at) no_route;
-    of_services = list_of_none service_key_cmp key_of_service (IsToldService services at) no_service;
+    of_routes = list_of_none network_cmp route_key (IsAdvertisedRoute alone routes at) no_route;
+    of_services = list_of_none service_key_cmp key_of_service (IsAdvertisedService services at) no_service;
     in_route_packets = refl;
     in_service_packets = refl;
   }
 
 pub nothing_to_tell : (ports : List Port) (routes : Routes) (services : Services) (now : ℕ) → length ports < 2 → AreFromPorts (length ports) routes → AreFromPorts (length ports) services
-    → AreTellings ports routes services now 1 ports []
+    → AreAdvertisements ports routes services now 1 ports []
 nothing_to_tell [] routes services now few routes_from services_from = refl
 nothing_to_tell (p ∷ []) routes services now few routes_from services_from = ([], [], refl, nothing p routes services now routes_from services_from, refl)
 nothing_to_tell (p ∷ q ∷ ports) routes services now few routes_from services_from = absurd (omega arith)
@@ -83,7 +83,7 @@ something_to_tell (p ∷ q ∷ ports) routes services now many =
       q,
       (omega arith, refl),
       inl (
-        told_route p.network no_way at,
+        advertised_route p.network no_way at,
         record {
           route = over_port 0;
           leads = subst (λ (o : Option ℕ). MatchOption o (IsHeardRoute routes now p.network (over_port 0)) (λ place. over_port 0 ≡ over_port place)) (sym first) refl;

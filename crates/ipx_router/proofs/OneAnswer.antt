@@ -23,7 +23,7 @@ use Rattle.ipx_tables.specs.declared.service.ServiceMetric.{ServiceMetric}
 use Rattle.ipx_tables.specs.declared.source.Source.{Source}
 use Rattle.ipx_tables.specs.Best.{IsBest}
 use Rattle.ipx_tables.specs.Content.{IsTable, Table, after_hear}
-use Rattle.ipx_tables.specs.Order.{TellsApart, strict_from_cmp}
+use Rattle.ipx_tables.specs.Order.{EqualOnlyIfSame, strict_from_cmp}
 use Rattle.ipx_tables.specs.Route.{network_cmp, route_before, route_dead}
 use Rattle.ipx_tables.specs.Service.{service_dead, service_key_cmp}
 use Rattle.ipx_router.specs.declared.classify.Concern.{Concern}
@@ -42,8 +42,8 @@ use Rattle.ipx_router.specs.RouterPackets.{AreRoutePackets, AreServicePackets, I
 use Rattle.ipx_router.specs.Classify.{concern_of}
 use Rattle.ipx_router.specs.RouteChoice.{IsHeardRoute, IsRouteOrNone, IsRouteTo, direct_route, over_neighbour, over_port}
 use Rattle.ipx_router.specs.Forward.{Forwards, IsForwardingAnswer, by_route, forward_header}
-use Rattle.ipx_router.specs.Told.{AreToldRoutes, IsToldRoute, IsToldService, key_of_service, route_key, told_route}
-use Rattle.ipx_router.specs.Replying.{AreNearest, AreRoutesAsked, AreServicesAsked, AreToldOf, IsNearest, RepliesRoutes, RepliesServices, asks_all, nearness}
+use Rattle.ipx_router.specs.Told.{AreAdvertisedRoutes, IsAdvertisedRoute, IsAdvertisedService, key_of_service, route_key, advertised_route}
+use Rattle.ipx_router.specs.Replying.{AreNearest, AreRoutesAsked, AreServicesAsked, AreAdvertisedOf, IsNearest, RepliesRoutes, RepliesServices, asks_all, nearness}
 use Rattle.ipx_router.specs.Hearing.{AtEntry, HeardRoutes, HeardServices, IsFullForRoute, IsFullForService, after_route, after_service, route_metric, service_metric, source_of}
 use Rattle.ipx_router.specs.Answer.{AnswersByConcern, AnswersBytes, AnswersPacket, AnswersRip, AnswersRipMessage, AnswersSap, AnswersSapMessage, HearsRoutes, HearsServices, Receives}
 use Rattle.ipx_router.proofs.Rising.{network_total}
@@ -105,14 +105,14 @@ forwards_one f ports routes at d a b x y =
     fate_one f at.port d (by_route d.header y.0) a b moved y.2
 
 -- what is advertised of a network is unique
-told_one : Facts → (ports : List Port) (routes : Routes) (at : PortNow) (x y : RipEntry) → x.network ≡ y.network → IsToldRoute ports routes at x → IsToldRoute ports routes at y → x ≡ y
+told_one : Facts → (ports : List Port) (routes : Routes) (at : PortNow) (x y : RipEntry) → x.network ≡ y.network → IsAdvertisedRoute ports routes at x → IsAdvertisedRoute ports routes at y → x ≡ y
 told_one f ports routes at x y same is_x is_y =
     let moved = subst (λ (n : Network). IsRouteTo ports routes at.now n is_x.route) same is_x.leads in
     let route = route_to_one f ports routes at.now y.network is_x.route is_y.route moved is_y.leads in
-    let entry : told_route x.network is_x.route.metric at ≡ told_route y.network is_y.route.metric at = λ i. told_route (same i) (route i).metric at in
+    let entry : advertised_route x.network is_x.route.metric at ≡ advertised_route y.network is_y.route.metric at = λ i. advertised_route (same i) (route i).metric at in
     is_x.is ∙ entry ∙ sym is_y.is
 
-told_of_one : Facts → (ports : List Port) (routes : Routes) (at : PortNow) (asked xs ys : List RipEntry) → AreToldOf (IsToldRoute ports routes at) asked xs → AreToldOf (IsToldRoute ports routes at) asked ys → xs ≡ ys
+told_of_one : Facts → (ports : List Port) (routes : Routes) (at : PortNow) (asked xs ys : List RipEntry) → AreAdvertisedOf (IsAdvertisedRoute ports routes at) asked xs → AreAdvertisedOf (IsAdvertisedRoute ports routes at) asked ys → xs ≡ ys
 told_of_one f ports routes at [] xs ys x y = x ∙ sym y
 told_of_one f ports routes at (e ∷ asked) xs ys x y = elim x [
   | inl told ↦ elim y [
@@ -130,11 +130,11 @@ told_of_one f ports routes at (e ∷ asked) xs ys x y = elim x [
 ]
 
 RoutesAsked : Bool → List Port → Routes → PortNow → List RipEntry → List RipEntry → Type 0
-RoutesAsked all ports routes at asked entries = MatchBool all (AreToldRoutes ports routes at entries) (AreToldOf (IsToldRoute ports routes at) asked entries)
+RoutesAsked all ports routes at asked entries = MatchBool all (AreAdvertisedRoutes ports routes at entries) (AreAdvertisedOf (IsAdvertisedRoute ports routes at) asked entries)
 
 routes_asked_by : Facts → (all : Bool) (ports : List Port) (routes : Routes) (at : PortNow) (asked xs ys : List RipEntry) → RoutesAsked all ports routes at asked xs → RoutesAsked all ports routes at asked ys → xs ≡ ys
 unfolding RoutesAsked
-routes_asked_by f true ports routes at asked xs ys x y = list_is_one network_total route_key (IsToldRoute ports routes at) xs ys x y
+routes_asked_by f true ports routes at asked xs ys x y = list_is_one network_total route_key (IsAdvertisedRoute ports routes at) xs ys x y
 routes_asked_by f false ports routes at asked xs ys x y = told_of_one f ports routes at asked xs ys x y
 
 routes_asked_one : Facts → (ports : List Port) (routes : Routes) (at : PortNow) (asked xs ys : List RipEntry) → AreRoutesAsked ports routes at asked xs → AreRoutesAsked ports routes at asked ys → xs ≡ ys
@@ -175,28 +175,28 @@ entry_of p = record {
   hops = p.0;
 }
 
-near_exact : TellsApart nearness
+near_exact : EqualOnlyIfSame nearness
 near_exact a b h = ap entry_of (exact_pairs nat_cmp _ exact_unsigned
     (exact_pairs (slice_cmp nat_cmp) _ exact_bytes
     (exact_pairs _ nat_cmp (exact_pairs nat_cmp _ exact_unsigned (exact_pairs (slice_cmp nat_cmp) nat_cmp exact_bytes exact_unsigned)) exact_unsigned))
     (a.hops, (a.name, ((a.at.network.0, (a.at.node.0, a.at.socket.0)), a.kind)))
     (b.hops, (b.name, ((b.at.network.0, (b.at.node.0, b.at.socket.0)), b.kind))) h)
 
-nearest_one : (IsTold : ServiceEntry → Type 0) (kind : ℕ) (e x : ServiceEntry) → IsNearest IsTold kind e → IsNearest IsTold kind x → e ≡ x
-nearest_one IsTold kind e x is_e is_x = (strict_from_cmp near_total near_exact).total e x (is_x.least e is_e.told is_e.near) (is_e.least x is_x.told is_x.near)
+nearest_one : (IsAdvertised : ServiceEntry → Type 0) (kind : ℕ) (e x : ServiceEntry) → IsNearest IsAdvertised kind e → IsNearest IsAdvertised kind x → e ≡ x
+nearest_one IsAdvertised kind e x is_e is_x = (strict_from_cmp near_total near_exact).total e x (is_x.least e is_e.told is_e.near) (is_e.least x is_x.told is_x.near)
 
-are_nearest_one : (IsTold : ServiceEntry → Type 0) (kind : ℕ) (xs ys : List ServiceEntry) → AreNearest IsTold kind xs → AreNearest IsTold kind ys → xs ≡ ys
-are_nearest_one IsTold kind [] [] x y = refl
-are_nearest_one IsTold kind [] (e ∷ es) x y =
+are_nearest_one : (IsAdvertised : ServiceEntry → Type 0) (kind : ℕ) (xs ys : List ServiceEntry) → AreNearest IsAdvertised kind xs → AreNearest IsAdvertised kind ys → xs ≡ ys
+are_nearest_one IsAdvertised kind [] [] x y = refl
+are_nearest_one IsAdvertised kind [] (e ∷ es) x y =
     let far = x e y.0.told in
     let near = y.0.near in
     cc
-are_nearest_one IsTold kind (e ∷ es) [] x y =
+are_nearest_one IsAdvertised kind (e ∷ es) [] x y =
     let far = y e x.0.told in
     let near = x.0.near in
     cc
-are_nearest_one IsTold kind (e ∷ es) (g ∷ gs) x y =
-    let first = nearest_one IsTold kind e g x.0 y.0 in
+are_nearest_one IsAdvertised kind (e ∷ es) (g ∷ gs) x y =
+    let first = nearest_one IsAdvertised kind e g x.0 y.0 in
     let rest : es ≡ gs = x.1 ∙ sym y.1 in
     λ i. first i ∷ rest i
 
@@ -204,7 +204,7 @@ pub key_total : IsTotalOrder service_key_cmp
 key_total = then_total (on_total (λ (k : ServiceKey). k.kind) nat_cmp_total) (on_total (λ (k : ServiceKey). k.name) nat_list_cmp_total)
 
 services_asked_one : (services : Services) (at : PortNow) (nearest : Bool) (kind : ℕ) (xs ys : List ServiceEntry) → AreServicesAsked services at nearest kind xs → AreServicesAsked services at nearest kind ys → xs ≡ ys
-services_asked_one services at true kind xs ys x y = are_nearest_one (IsToldService services at) kind xs ys x y
+services_asked_one services at true kind xs ys x y = are_nearest_one (IsAdvertisedService services at) kind xs ys x y
 services_asked_one services at false kind xs ys x y = list_is_one key_total key_of_service _ xs ys x y
 
 pub service_packets_one : Facts → (to : Recipient) (nearest : Bool) (entries : List ServiceEntry) (ss ts : List SendingView) → AreServicePackets to nearest entries ss → AreServicePackets to nearest entries ts → ss ≡ ts

@@ -18,24 +18,24 @@ use Rattle.ipx_router.specs.declared.port.PortNow.{PortNow}
 use Rattle.ipx_router.specs.declared.route.Route.{Route}
 use Rattle.ipx_router.specs.Knowledge.{Routes, Services}
 use Rattle.ipx_router.specs.RouteChoice.{IsHeardRoute, IsRouteOrNone, IsRouteTo, over_port}
-use Rattle.ipx_router.specs.Told.{AreToldServices, IsListOf, IsToldRoute, IsToldService, key_of_service, told_route}
-use Rattle.ipx_router.specs.Replying.{AreServicesAsked, AreToldOf, asks_all, is_of_kind}
-use Rattle.ipx_router.specs.Picking.{IsToldOf}
+use Rattle.ipx_router.specs.Told.{AreAdvertisedServices, IsListOf, IsAdvertisedRoute, IsAdvertisedService, key_of_service, advertised_route}
+use Rattle.ipx_router.specs.Replying.{AreServicesAsked, AreAdvertisedOf, asks_all, is_of_kind}
+use Rattle.ipx_router.specs.Picking.{IsAdvertisedOf}
 use Rattle.ipx_router.proofs.Members.{filter_has, filter_only}
-use Rattle.ipx_router.proofs.ToldRoutes.{OneBest, one_route}
+use Rattle.ipx_router.proofs.AdvertisedRoutes.{OneBest, one_route}
 
 -- ---- routes
 
 -- one more network is asked for, of which this entry or nothing is advertised
-pub asked_more : (IsTold : RipEntry → Type 0) (asked entries : List RipEntry) (e : RipEntry) (o : Option RipEntry) → AreToldOf IsTold asked entries → IsToldOf IsTold e.network o
-    → AreToldOf IsTold (asked ++ e ∷ []) (entries ++ cons_option o [])
-asked_more IsTold [] entries e None none nothing = inr (nothing, rw none refl)
-asked_more IsTold [] entries e (Some t) none told = inl (t, [], rw none refl, told.0, told.1, refl)
-asked_more IsTold (x ∷ asked) entries e o are told = elim are [
+pub asked_more : (IsAdvertised : RipEntry → Type 0) (asked entries : List RipEntry) (e : RipEntry) (o : Option RipEntry) → AreAdvertisedOf IsAdvertised asked entries → IsAdvertisedOf IsAdvertised e.network o
+    → AreAdvertisedOf IsAdvertised (asked ++ e ∷ []) (entries ++ cons_option o [])
+asked_more IsAdvertised [] entries e None none nothing = inr (nothing, rw none refl)
+asked_more IsAdvertised [] entries e (Some t) none told = inl (t, [], rw none refl, told.0, told.1, refl)
+asked_more IsAdvertised (x ∷ asked) entries e o are told = elim are [
   | inl first ↦
       let rest : List RipEntry = first.1 in
-      inl (first.0, rest ++ cons_option o [], ap (λ (es : List RipEntry). es ++ cons_option o []) first.2, first.3, first.4, asked_more IsTold asked rest e o first.5 told)
-  | inr none ↦ inr (none.0, asked_more IsTold asked entries e o none.1 told)
+      inl (first.0, rest ++ cons_option o [], ap (λ (es : List RipEntry). es ++ cons_option o []) first.2, first.3, first.4, asked_more IsAdvertised asked rest e o first.5 told)
+  | inr none ↦ inr (none.0, asked_more IsAdvertised asked entries e o none.1 told)
 ]
 
 -- one more entry that names a network
@@ -51,7 +51,7 @@ asks_all_by ys e later asked are all =
 
 module _ (one : OneBest) (ports : List Port) (routes : Routes) (at : PortNow) (network : Network) where
   -- nothing is advertised of a network that has no route
-  pub no_route_told : IsRouteOrNone ports routes at.now network None → IsToldOf (IsToldRoute ports routes at) network None
+  pub no_route_told : IsRouteOrNone ports routes at.now network None → IsAdvertisedOf (IsAdvertisedRoute ports routes at) network None
   no_route_told none t told same =
       let leads = subst (λ (n : Network). IsRouteTo ports routes at.now n told.route) same told.leads in
       let best = subst (λ (o : Option ℕ). MatchOption o (IsHeardRoute routes at.now network told.route) (λ place. told.route ≡ over_port place)) none.0 leads in
@@ -59,13 +59,13 @@ module _ (one : OneBest) (ports : List Port) (routes : Routes) (at : PortNow) (n
       true≢false (sym is.counts ∙ none.1 best.0.0 best.0.1 is.moment is.stands)
 
   -- nor of one whose route leaves by the port
-  pub itself_untold : (route : Route) → IsRouteTo ports routes at.now network route → route.port ≡ at.number → IsToldOf (IsToldRoute ports routes at) network None
+  pub itself_untold : (route : Route) → IsRouteTo ports routes at.now network route → route.port ≡ at.number → IsAdvertisedOf (IsAdvertisedRoute ports routes at) network None
   itself_untold route leads here t told same =
       let way = one_route one ports routes at.now network told.route route (subst (λ (n : Network). IsRouteTo ports routes at.now n told.route) same told.leads) leads in
       told.elsewhere (ap (λ (r : Route). r.port) way ∙ here)
 
   -- a route that leaves by another port is advertised
-  pub elsewhere_told : (route : Route) → IsRouteTo ports routes at.now network route → route.port ≢ at.number → IsToldOf (IsToldRoute ports routes at) network (Some (told_route network route.metric at))
+  pub elsewhere_told : (route : Route) → IsRouteTo ports routes at.now network route → route.port ≢ at.number → IsAdvertisedOf (IsAdvertisedRoute ports routes at) network (Some (advertised_route network route.metric at))
   elsewhere_told route leads other = (record { route = route; leads = leads; elsewhere = other; is = refl }, refl)
 
 -- ---- services
@@ -80,7 +80,7 @@ list_of_passing cmp key_of F p xs are = record {
   );
 }
 
-module _ (services : Services) (at : PortNow) (told : List ServiceEntry) (are : AreToldServices services at told) (kind : ℕ) where
+module _ (services : Services) (at : PortNow) (told : List ServiceEntry) (are : AreAdvertisedServices services at told) (kind : ℕ) where
   -- the services of a kind
   pub services_picked : AreServicesAsked services at false kind (filter (is_of_kind kind) told)
-  services_picked = list_of_passing service_key_cmp key_of_service (IsToldService services at) (is_of_kind kind) told are
+  services_picked = list_of_passing service_key_cmp key_of_service (IsAdvertisedService services at) (is_of_kind kind) told are

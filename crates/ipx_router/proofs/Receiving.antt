@@ -29,7 +29,7 @@ use Rattle.ipx_router.specs.Hearing.{AtEntry, GrowsByRoute, GrowsByService, Hear
 use Rattle.ipx_router.specs.Ports.{IsPort}
 use Rattle.ipx_router.specs.OutcomeView.{OutcomeView, Heard, Dropped, router_outcome}
 use Rattle.ipx_router.specs.Answer.{AnswersBytes, AnswersRip, AnswersRipMessage, AnswersSap, AnswersSapMessage, HearsRoutes, HearsServices, Receives}
-use Rattle.ipx_router.specs.WantOfMemory.{BytesWantMemory, BytesWantMemoryInPlace, HearingRoutesWantsMemory, HearingServicesWantsMemory, RipWantsMemory, SapWantsMemory, WantsMemory, WantsMemoryInPlace}
+use Rattle.ipx_router.specs.OutOfMemoryCases.{BytesOutOfMemory, BytesOutOfMemoryInPlace, HearingRoutesOutOfMemory, HearingServicesOutOfMemory, RipOutOfMemory, SapOutOfMemory, RunsOutOfMemory, RunsOutOfMemoryInPlace}
 use Rattle.ipx_router.specs.Forwarded.{ForwardsEachReading, ForwardsOneHopOn, ForwardsPacket}
 
 -- what tables say after old offers were removed is what is known then
@@ -47,15 +47,15 @@ module _ {O : Type 0} (old : RouterView) (port now : ℕ) (bytes : List ℕ) (ar
   receives_on view new rest told valid (Ok x) a = record { answers = (arrived, is, a); rest = rest; told = told; valid = valid }
   receives_on view new rest told valid (Err e) a = tt
 
-  pub wants_on : (new : RouterView) → (o : Result O OutOfMemory) → OnErr o (BytesWantMemory (known_at old now) (record { number = port; port = arrived; now = now }) bytes (tables new))
-      → OnErr o (WantsMemory old port bytes now new)
-  wants_on new (Ok x) a = tt
-  wants_on new (Err e) a = (arrived, is, a)
+  pub needs_on : (new : RouterView) → (o : Result O OutOfMemory) → OnErr o (BytesOutOfMemory (known_at old now) (record { number = port; port = arrived; now = now }) bytes (tables new))
+      → OnErr o (RunsOutOfMemory old port bytes now new)
+  needs_on new (Ok x) a = tt
+  needs_on new (Err e) a = (arrived, is, a)
 
-  pub wants_in_place : (new : RouterView) → (o : Result O OutOfMemory) → OnErr o (BytesWantMemoryInPlace (known_at old now) (record { number = port; port = arrived; now = now }) bytes (tables new))
-      → OnErr o (WantsMemoryInPlace old port bytes now new)
-  wants_in_place new (Ok x) a = tt
-  wants_in_place new (Err e) a = (arrived, is, a)
+  pub needs_in_place : (new : RouterView) → (o : Result O OutOfMemory) → OnErr o (BytesOutOfMemoryInPlace (known_at old now) (record { number = port; port = arrived; now = now }) bytes (tables new))
+      → OnErr o (RunsOutOfMemoryInPlace old port bytes now new)
+  needs_in_place new (Ok x) a = tt
+  needs_in_place new (Err e) a = (arrived, is, a)
 
   pub forwards_on : (view : O → OutcomeView) → (o : Result O OutOfMemory) → IfOk o (λ x. ForwardsPacket bytes (view x)) → IfOk o (λ x. ForwardsEachReading arrived bytes (view x))
       → IfOk o (λ x. ForwardsOneHopOn old port bytes (view x))
@@ -81,14 +81,14 @@ module _ (ports : List Port) (routes : Routes) (at : PortNow) (d : PacketView) (
   rip_heard (Ok n) (Err e) ok err says = tt
   rip_heard (Err f) (Err e) ok err says = tt
 
-  pub rip_wants : (heard : Result ℕ TableFault) (o : Result Outcome OutOfMemory)
+  pub rip_needs : (heard : Result ℕ TableFault) (o : Result Outcome OutOfMemory)
       → IfErr heard (λ f. (n : ℕ) × HeardRoutes ports source at.now entries routes n new × (f ≡ Full → AtEntry entries n (IsFullForRoute ports source new)) × (f ≡ out_of_memory → AtEntry entries n (GrowsByRoute ports source new)))
-      → OnErr o (heard ≡ Err out_of_memory) → OnErr o (RipWantsMemory ports routes at d new)
-  rip_wants heard (Ok x) err says = tt
-  rip_wants (Ok n) (Err e) err says = cc
-  rip_wants (Err f) (Err e) err says =
+      → OnErr o (heard ≡ Err out_of_memory) → OnErr o (RipOutOfMemory ports routes at d new)
+  rip_needs heard (Ok x) err says = tt
+  rip_needs (Ok n) (Err e) err says = cc
+  rip_needs (Err f) (Err e) err says =
       let wants : f ≡ out_of_memory = cc in
-      (rip.Response entries, tail, is, subst (λ (s : Source). HearingRoutesWantsMemory ports routes s at.now entries new) from (err.0, err.1, err.3 wants))
+      (rip.Response entries, tail, is, subst (λ (s : Source). HearingRoutesOutOfMemory ports routes s at.now entries new) from (err.0, err.1, err.3 wants))
 
 module _ (services : Services) (at : PortNow) (d : PacketView) (tail : List ℕ) (nearest : Bool) (entries : List ServiceEntry) (source : Source) (from : source ≡ source_of at d.header)
     (none : sap_fault d.body ≡ None) (is : IsSap (sap.Response nearest entries) d.body tail) (new : Table ServiceKey ServiceMetric) where
@@ -107,11 +107,11 @@ module _ (services : Services) (at : PortNow) (d : PacketView) (tail : List ℕ)
   sap_heard (Ok n) (Err e) ok err says = tt
   sap_heard (Err f) (Err e) ok err says = tt
 
-  pub sap_wants : (heard : Result ℕ TableFault) (o : Result Outcome OutOfMemory)
+  pub sap_needs : (heard : Result ℕ TableFault) (o : Result Outcome OutOfMemory)
       → IfErr heard (λ f. (n : ℕ) × HeardServices source at.now entries services n new × (f ≡ Full → AtEntry entries n (IsFullForService source new)) × (f ≡ out_of_memory → AtEntry entries n (GrowsByService source new)))
-      → OnErr o (heard ≡ Err out_of_memory) → OnErr o (SapWantsMemory services at d new)
-  sap_wants heard (Ok x) err says = tt
-  sap_wants (Ok n) (Err e) err says = cc
-  sap_wants (Err f) (Err e) err says =
+      → OnErr o (heard ≡ Err out_of_memory) → OnErr o (SapOutOfMemory services at d new)
+  sap_needs heard (Ok x) err says = tt
+  sap_needs (Ok n) (Err e) err says = cc
+  sap_needs (Err f) (Err e) err says =
       let wants : f ≡ out_of_memory = cc in
-      (sap.Response nearest entries, tail, is, subst (λ (s : Source). HearingServicesWantsMemory services s at.now entries new) from (err.0, err.1, err.3 wants))
+      (sap.Response nearest entries, tail, is, subst (λ (s : Source). HearingServicesOutOfMemory services s at.now entries new) from (err.0, err.1, err.3 wants))

@@ -12,12 +12,12 @@ use Rattle.ipx_router.specs.declared.packets.Recipient.{Recipient}
 use Rattle.ipx_router.specs.declared.port.Port.{Port}
 use Rattle.ipx_router.specs.declared.port.PortNow.{PortNow}
 use Rattle.ipx_router.specs.Knowledge.{Routes, Services}
-use Rattle.ipx_router.specs.Told.{AreToldRoutes, AreToldServices}
+use Rattle.ipx_router.specs.Told.{AreAdvertisedRoutes, AreAdvertisedServices}
 use Rattle.ipx_router.specs.RouterPackets.{AreRoutePackets, AreServicePackets, IsRipPacket, IsSapPacket, SendingView, all_nodes, sending_of, sendings}
 use Rattle.ipx_router.specs.Adding.{AddsPackets}
 use Rattle.ipx_router.specs.Ports.{AreOnPorts, IsPortNumber}
 use Rattle.ipx_router.specs.Starting.{AreAsked, AreStarts, all_asked}
-use Rattle.ipx_router.specs.Telling.{AreTellings, AreTold}
+use Rattle.ipx_router.specs.Telling.{AreAdvertisements, AreAdvertised}
 use Rattle.ipx_router.proofs.Cuts.{route_packets_port, service_packets_port, sendings_one}
 
 -- all leave by this port
@@ -42,17 +42,17 @@ asks_two number port old mid new r s e f p q = (
 )
 
 -- routes, followed by services
-pub tells_both : (ports : List Port) (routes : Routes) (services : Services) (at : PortNow) (old mid new : List Reply) (told_routes : List RipEntry) (told_services : List ServiceEntry) (for_routes for_services : Recipient)
+pub tells_both : (ports : List Port) (routes : Routes) (services : Services) (at : PortNow) (old mid new : List Reply) (advertised_routes : List RipEntry) (advertised_services : List ServiceEntry) (for_routes for_services : Recipient)
     → for_routes ≡ all_nodes at.number at.port rip_socket → for_services ≡ all_nodes at.number at.port sap_socket
-    → AreToldRoutes ports routes at told_routes → AreToldServices services at told_services
-    → AddsPackets (AreRoutePackets for_routes told_routes) old mid → AddsPackets (AreServicePackets for_services false told_services) mid new
-    → AddsPackets (AreTold ports routes services at) old new
+    → AreAdvertisedRoutes ports routes at advertised_routes → AreAdvertisedServices services at advertised_services
+    → AddsPackets (AreRoutePackets for_routes advertised_routes) old mid → AddsPackets (AreServicePackets for_services false advertised_services) mid new
+    → AddsPackets (AreAdvertised ports routes services at) old new
 tells_both ports routes services at old mid new rs ss tr ts er es of_r of_s p q = (
   p.0 ++ q.0,
   q.1 ∙ ap (λ (t : List SendingView). t ++ q.0) p.1 ∙ append_assoc (sendings old) p.0 q.0,
   record {
-    told_routes = rs;
-    told_services = ss;
+    advertised_routes = rs;
+    advertised_services = ss;
     route_packets = p.0;
     service_packets = q.0;
     are = refl;
@@ -77,11 +77,11 @@ module _ (ports : List Port) (i : ℕ) (port : Port) (at : drop i ports ≡ port
 
   module _ (routes : Routes) (services : Services) (now : ℕ) where
     abbrev Tellings : ℕ → List Port → List SendingView → Type 0
-    Tellings = AreTellings ports routes services now
+    Tellings = AreAdvertisements ports routes services now
 
-    pub tellings_more : ((later : List SendingView) → AreTellings ports routes services now (i + 1) (drop i ports) later → AreTellings ports routes services now 1 ports (sendings old ++ later))
-        → AddsPackets (AreTold ports routes services (record { number = i + 1; port = port; now = now })) old new
-        → (later : List SendingView) → AreTellings ports routes services now (i + 1 + 1) (drop (i + 1) ports) later → AreTellings ports routes services now 1 ports (sendings new ++ later)
+    pub tellings_more : ((later : List SendingView) → AreAdvertisements ports routes services now (i + 1) (drop i ports) later → AreAdvertisements ports routes services now 1 ports (sendings old ++ later))
+        → AddsPackets (AreAdvertised ports routes services (record { number = i + 1; port = port; now = now })) old new
+        → (later : List SendingView) → AreAdvertisements ports routes services now (i + 1 + 1) (drop (i + 1) ports) later → AreAdvertisements ports routes services now 1 ports (sendings new ++ later)
     tellings_more left adds later rest =
         let here : Tellings (i + 1) (port ∷ drop (i + 1) ports) (adds.0 ++ later) = (adds.0, later, refl, adds.2, rest) in
         subst (Tellings 1 ports) (sym (in_a_row adds.0 (sendings old) later (sendings new) adds.1))
@@ -110,13 +110,13 @@ starts_ports number (port ∷ ports) sent s =
     let more : length (port ∷ ports) ≡ length ports + 1 = omega arith in
     rw more (joined number (length ports) sent s.0 s.1 s.2 (asked_port number port s.0 s.3) (starts_ports (number + 1) ports s.1 s.4))
 
-told_port : (ports : List Port) (routes : Routes) (services : Services) (at : PortNow) (sent : List SendingView) → AreTold ports routes services at sent → ByPort at.number sent
+told_port : (ports : List Port) (routes : Routes) (services : Services) (at : PortNow) (sent : List SendingView) → AreAdvertised ports routes services at sent → ByPort at.number sent
 told_port ports routes services at sent t =
     subst (ByPort at.number) (sym t.are) (All-append (λ (s : SendingView). s.port ≡ at.number) t.route_packets t.service_packets
-    (route_packets_port (all_nodes at.number at.port rip_socket) t.told_routes t.route_packets t.in_route_packets)
-    (service_packets_port (all_nodes at.number at.port sap_socket) false t.told_services t.service_packets t.in_service_packets))
+    (route_packets_port (all_nodes at.number at.port rip_socket) t.advertised_routes t.route_packets t.in_route_packets)
+    (service_packets_port (all_nodes at.number at.port sap_socket) false t.advertised_services t.service_packets t.in_service_packets))
 
-tellings_ports : (all : List Port) (routes : Routes) (services : Services) (now number : ℕ) (ports : List Port) (sent : List SendingView) → AreTellings all routes services now number ports sent → ByPorts number (length ports) sent
+tellings_ports : (all : List Port) (routes : Routes) (services : Services) (now number : ℕ) (ports : List Port) (sent : List SendingView) → AreAdvertisements all routes services now number ports sent → ByPorts number (length ports) sent
 tellings_ports all routes services now number [] sent e = subst (ByPorts number 0) (sym e) (All-nil _)
 tellings_ports all routes services now number (port ∷ ports) sent s =
     let more : length (port ∷ ports) ≡ length ports + 1 = omega arith in
@@ -128,5 +128,5 @@ there count sent by = All-weaker (λ (s : SendingView). (1 ≤ s.port) × (s.por
 pub starts_there : (ports : List Port) (sent : List SendingView) → AreStarts 1 ports sent → AreOnPorts (length ports) sent
 starts_there ports sent s = there (length ports) sent (starts_ports 1 ports sent s)
 
-pub tellings_there : (all : List Port) (routes : Routes) (services : Services) (now : ℕ) (sent : List SendingView) → AreTellings all routes services now 1 all sent → AreOnPorts (length all) sent
+pub tellings_there : (all : List Port) (routes : Routes) (services : Services) (now : ℕ) (sent : List SendingView) → AreAdvertisements all routes services now 1 all sent → AreOnPorts (length all) sent
 tellings_there all routes services now sent s = there (length all) sent (tellings_ports all routes services now 1 all sent s)

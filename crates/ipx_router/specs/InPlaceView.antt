@@ -13,9 +13,9 @@ outcome_in room (in_place.Heard n) = Heard n
 outcome_in room (in_place.Dropped reason) = Dropped reason
 
 -- only a forwarded packet is changed: bytes after it stay, and if none is forwarded all bytes stay
-abbrev pub ChangesPacketAlone : List ℕ → List ℕ → InPlace → Type 0
-ChangesPacketAlone old new (in_place.Forward port next count) =
+abbrev pub ChangesOnlyPacket : List ℕ → List ℕ → InPlace → Type 0
+ChangesOnlyPacket old new (in_place.Forward port next count) =
     (count ≤ length old) × (drop count new ≡ drop count old)
-ChangesPacketAlone old new (in_place.Replies rs) = new ≡ old
-ChangesPacketAlone old new (in_place.Heard n) = new ≡ old
-ChangesPacketAlone old new (in_place.Dropped reason) = new ≡ old
+ChangesOnlyPacket old new (in_place.Replies rs) = new ≡ old
+ChangesOnlyPacket old new (in_place.Heard n) = new ≡ old
+ChangesOnlyPacket old new (in_place.Dropped reason) = new ≡ old

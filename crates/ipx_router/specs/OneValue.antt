@@ -18,8 +18,8 @@ pub record IsKnownAlike (k other : Known) : Type 0 where
 
 -- two routers that know the same and advertised last at the same time advertise the same packets now, and
 -- have the same time of the last advertisement after that
-abbrev pub IsOneTelling : Type 0
-IsOneTelling = (k other : Known) (last : Option ℕ) (now : ℕ) (a b : List SendingView)
+abbrev pub AdvertisementsAreDetermined : Type 0
+AdvertisementsAreDetermined = (k other : Known) (last : Option ℕ) (now : ℕ) (a b : List SendingView)
     (told_a told_b : Option ℕ) → IsKnownAlike k other → TellsIfDue k last now a told_a
     → TellsIfDue other last now b told_b → (a ≡ b) × (told_a ≡ told_b)
 

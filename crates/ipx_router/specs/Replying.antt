@@ -13,25 +13,25 @@ use Rattle.ipx_router.specs.declared.port.Port.{Port}
 use Rattle.ipx_router.specs.declared.port.PortNow.{PortNow}
 use Rattle.ipx_router.specs.Knowledge.{Routes, Services}
 use Rattle.ipx_router.specs.RouterPackets.{AreRoutePackets, AreServicePackets, SendingView}
-use Rattle.ipx_router.specs.Told.{AreToldRoutes, IsListOf, IsToldRoute, IsToldService, key_of_service}
+use Rattle.ipx_router.specs.Told.{AreAdvertisedRoutes, IsListOf, IsAdvertisedRoute, IsAdvertisedService, key_of_service}
 
 -- an entry for network FFFFFFFF asks for all
 abbrev pub asks_all : List RipEntry → Bool
 asks_all = list_any (λ e. e.network.0 == all_networks)
 
 -- what is advertised of the asked networks, in the order asked, without those of which nothing is advertised
-abbrev pub AreToldOf : (RipEntry → Type 0) → List RipEntry → List RipEntry → Type 0
-AreToldOf IsTold [] entries = entries ≡ []
-AreToldOf IsTold (e ∷ asked) entries =
+abbrev pub AreAdvertisedOf : (RipEntry → Type 0) → List RipEntry → List RipEntry → Type 0
+AreAdvertisedOf IsAdvertised [] entries = entries ≡ []
+AreAdvertisedOf IsAdvertised (e ∷ asked) entries =
     ((t : RipEntry) × (rest : List RipEntry) × (entries ≡ t ∷ rest)
-    × IsTold t × (t.network ≡ e.network) × AreToldOf IsTold asked rest)
-    ⊎ (((t : RipEntry) → IsTold t → t.network ≢ e.network) × AreToldOf IsTold asked entries)
+    × IsAdvertised t × (t.network ≡ e.network) × AreAdvertisedOf IsAdvertised asked rest)
+    ⊎ (((t : RipEntry) → IsAdvertised t → t.network ≢ e.network) × AreAdvertisedOf IsAdvertised asked entries)
 
 -- the advertised routes that a request asks for
 abbrev pub AreRoutesAsked : List Port → Routes → PortNow → List RipEntry → List RipEntry → Type 0
 AreRoutesAsked ports routes at asked entries = MatchBool (asks_all asked)
-    (AreToldRoutes ports routes at entries)
-    (AreToldOf (IsToldRoute ports routes at) asked entries)
+    (AreAdvertisedRoutes ports routes at entries)
+    (AreAdvertisedOf (IsAdvertisedRoute ports routes at) asked entries)
 
 -- the packets that answer a request
 pub record RepliesRoutes (ports : List Port) (routes : Routes) (at : PortNow) (to : Recipient)
@@ -59,17 +59,17 @@ abbrev pub is_near : ℕ → ServiceEntry → Bool
 is_near kind e = is_of_kind kind e && nat_lt e.hops 16
 
 -- the nearest advertised service of a kind
-pub record IsNearest (IsTold : ServiceEntry → Type 0) (kind : ℕ) (e : ServiceEntry) : Type 0 where
-  pub told : IsTold e
+pub record IsNearest (IsAdvertised : ServiceEntry → Type 0) (kind : ℕ) (e : ServiceEntry) : Type 0 where
+  pub told : IsAdvertised e
   pub near : is_near kind e ≡ true
-  pub least : (x : ServiceEntry) → IsTold x → is_near kind x ≡ true → is_nearer x e ≡ false
+  pub least : (x : ServiceEntry) → IsAdvertised x → is_near kind x ≡ true → is_nearer x e ≡ false
 
 abbrev pub NoneIsNear : (ServiceEntry → Type 0) → ℕ → Type 0
-NoneIsNear IsTold kind = (x : ServiceEntry) → IsTold x → is_near kind x ≡ false
+NoneIsNear IsAdvertised kind = (x : ServiceEntry) → IsAdvertised x → is_near kind x ≡ false
 
 abbrev pub AreNearest : (ServiceEntry → Type 0) → ℕ → List ServiceEntry → Type 0
-AreNearest IsTold kind [] = NoneIsNear IsTold kind
-AreNearest IsTold kind (e ∷ es) = IsNearest IsTold kind e × (es ≡ [])
+AreNearest IsAdvertised kind [] = NoneIsNear IsAdvertised kind
+AreNearest IsAdvertised kind (e ∷ es) = IsNearest IsAdvertised kind e × (es ≡ [])
 
 -- a query asks for a service: for each of the kind, or for those of the kind that are near
 abbrev pub is_asked : Bool → ℕ → ServiceEntry → Bool
@@ -78,9 +78,9 @@ is_asked nearest kind e = if nearest then is_near kind e else is_of_kind kind e
 -- the advertised services that a query asks for, by kind and name
 abbrev pub AreServicesAsked : Services → PortNow → Bool → ℕ → List ServiceEntry → Type 0
 AreServicesAsked services at nearest kind entries = MatchBool nearest
-    (AreNearest (IsToldService services at) kind entries)
+    (AreNearest (IsAdvertisedService services at) kind entries)
     (IsListOf service_key_cmp key_of_service
-    (λ e. IsToldService services at e × (is_of_kind kind e ≡ true)) entries)
+    (λ e. IsAdvertisedService services at e × (is_of_kind kind e ≡ true)) entries)
 
 -- the packets that answer a query
 pub record RepliesServices (services : Services) (at : PortNow) (to : Recipient)

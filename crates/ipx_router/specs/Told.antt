@@ -26,52 +26,52 @@ pub record IsListOf {X K : Type 0} (cmp : K → K → Ordering) (key_of : X → 
   pub stands : (x : X) → Contains xs x ↔ fact x
 
 -- hops as they are advertised: one more, and 16 at most
-abbrev pub told_hops : ℕ → ℕ
-told_hops hops = min (hops + 1) 16
+abbrev pub advertised_hops : ℕ → ℕ
+advertised_hops hops = min (hops + 1) 16
 
 -- ticks as they are advertised on a port of this cost
-abbrev pub told_ticks : ℕ → ℕ → ℕ
-told_ticks ticks cost = min (ticks + cost) 65535
+abbrev pub advertised_ticks : ℕ → ℕ → ℕ
+advertised_ticks ticks cost = min (ticks + cost) 65535
 
 -- a route as it is advertised on a port
-abbrev pub told_route : Network → RouteMetric → PortNow → RipEntry
-told_route network metric at =
+abbrev pub advertised_route : Network → RouteMetric → PortNow → RipEntry
+advertised_route network metric at =
     record {
       network = network;
-      hops = told_hops metric.hops;
-      ticks = told_ticks metric.ticks at.port.cost;
+      hops = advertised_hops metric.hops;
+      ticks = advertised_ticks metric.ticks at.port.cost;
     }
 
 -- what is advertised of a route that leaves by another port
-pub record IsToldRoute (ports : List Port) (routes : Routes) (at : PortNow)
+pub record IsAdvertisedRoute (ports : List Port) (routes : Routes) (at : PortNow)
     (entry : RipEntry) : Type 0 where
   pub route : Route
   pub leads : IsRouteTo ports routes at.now entry.network route
   pub elsewhere : route.port ≢ at.number
-  pub is : entry ≡ told_route entry.network route.metric at
+  pub is : entry ≡ advertised_route entry.network route.metric at
 
 abbrev pub route_key : RipEntry → Network
 route_key entry = entry.network
 
 -- the routes that are advertised on a port, by network
-abbrev pub AreToldRoutes : List Port → Routes → PortNow → List RipEntry → Type 0
-AreToldRoutes ports routes at = IsListOf network_cmp route_key (IsToldRoute ports routes at)
+abbrev pub AreAdvertisedRoutes : List Port → Routes → PortNow → List RipEntry → Type 0
+AreAdvertisedRoutes ports routes at = IsListOf network_cmp route_key (IsAdvertisedRoute ports routes at)
 
 abbrev pub key_of_service : ServiceEntry → ServiceKey
 key_of_service entry = record { kind = entry.kind; name = entry.name }
 
 -- a service as it is advertised
-abbrev pub told_service : ServiceKey × Source × ServiceMetric → ServiceEntry
-told_service item =
-    record { kind = item.0.kind; name = item.0.name; at = item.2.at; hops = told_hops item.2.hops }
+abbrev pub advertised_service : ServiceKey × Source × ServiceMetric → ServiceEntry
+advertised_service item =
+    record { kind = item.0.kind; name = item.0.name; at = item.2.at; hops = advertised_hops item.2.hops }
 
 -- what is advertised of a service whose best offer came by another port
-pub record IsToldService (services : Services) (at : PortNow) (entry : ServiceEntry) : Type 0 where
+pub record IsAdvertisedService (services : Services) (at : PortNow) (entry : ServiceEntry) : Type 0 where
   pub best : Source × ServiceMetric
   pub heard : IsBest service_before services (key_of_service entry) at.now best
   pub elsewhere : best.0.port ≢ at.number
-  pub is : entry ≡ told_service (key_of_service entry, best.0, best.1)
+  pub is : entry ≡ advertised_service (key_of_service entry, best.0, best.1)
 
 -- the services that are advertised on a port, by kind and name
-abbrev pub AreToldServices : Services → PortNow → List ServiceEntry → Type 0
-AreToldServices services at = IsListOf service_key_cmp key_of_service (IsToldService services at)
+abbrev pub AreAdvertisedServices : Services → PortNow → List ServiceEntry → Type 0
+AreAdvertisedServices services at = IsListOf service_key_cmp key_of_service (IsAdvertisedService services at)

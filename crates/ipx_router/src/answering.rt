@@ -11,7 +11,7 @@ ghost use Rattle.ipx_router.specs.Classify.{concern_of};
 ghost use Rattle.ipx_router.specs.Protocols.{concern_of_protocol};
 ghost use Rattle.ipx_router.specs.OutcomeView.{Dropped, Heard, IsOnPort, router_outcome};
 ghost use Rattle.ipx_router.specs.Answer.{AnswersByConcern, AnswersBytes, AnswersRip, AnswersSap};
-ghost use Rattle.ipx_router.specs.WantOfMemory.{BytesWantMemory, ConcernWantsMemory, RipWantsMemory, SapWantsMemory};
+ghost use Rattle.ipx_router.specs.OutOfMemoryCases.{BytesOutOfMemory, ConcernOutOfMemory, RipOutOfMemory, SapOutOfMemory};
 ghost use Rattle.ipx_router.specs.Forwarded.{ForwardsEachReading, ForwardsPacket, IsForwardOf};
 
 use crate::classify::{Concern, concern_with};
@@ -59,7 +59,7 @@ fn answer_rip(
         AnswersRip ports.now (routes_in routes.old) at (packet_view packet.entry) (router_outcome o)
         routes.new) }
     ensures refused { OnErr result
-        (RipWantsMemory ports.now (routes_in routes.old) at (packet_view packet.entry) routes.new) }
+        (RipOutOfMemory ports.now (routes_in routes.old) at (packet_view packet.entry) routes.new) }
     ensures most { routes.new.most ≡ routes.old.most }
     ensures valid { IsTable network_cmp routes.new }
     ensures sources { (count : ℕ) → IsPortNumber count at.number
@@ -92,7 +92,7 @@ fn answer_sap(
         AnswersSap (services_in services.old) at (packet_view packet.entry) (router_outcome o)
         services.new) }
     ensures refused { OnErr result
-        (SapWantsMemory (services_in services.old) at (packet_view packet.entry) services.new) }
+        (SapOutOfMemory (services_in services.old) at (packet_view packet.entry) services.new) }
     ensures most { services.new.most ≡ services.old.most }
     ensures valid { IsTable service_key_cmp services.new }
     ensures sources { (count : ℕ) → IsPortNumber count at.number
@@ -136,7 +136,7 @@ fn answer_control(
         AnswersByConcern (known_in ports.now routes.old services.old) at (packet_view packet.entry)
         (router_outcome o) (routes.new, services.new) (concern_of_protocol protocol)) }
     ensures refused { OnErr result
-        (ConcernWantsMemory (known_in ports.now routes.old services.old) at
+        (ConcernOutOfMemory (known_in ports.now routes.old services.old) at
         (packet_view packet.entry) (routes.new, services.new)
         (concern_of_protocol protocol)) }
     ensures one_hop_on { IfOk result (λ o.
@@ -167,7 +167,7 @@ fn answer_packet(
         AnswersByConcern (known_in ports.now routes.old services.old) at (packet_view packet.entry)
         (router_outcome o) (routes.new, services.new) (concern_of at.port packet.entry.header)) }
     ensures refused { OnErr result
-        (ConcernWantsMemory (known_in ports.now routes.old services.old) at
+        (ConcernOutOfMemory (known_in ports.now routes.old services.old) at
         (packet_view packet.entry) (routes.new, services.new)
         (concern_of at.port packet.entry.header)) }
     ensures one_hop_on { IfOk result (λ o.
@@ -203,7 +203,7 @@ pub fn answer_to(
         AnswersBytes (known_in ports.now routes.old services.old) at bytes.now (router_outcome o)
         (routes.new, services.new)) }
     ensures refused { OnErr result
-        (BytesWantMemory (known_in ports.now routes.old services.old) at bytes.now
+        (BytesOutOfMemory (known_in ports.now routes.old services.old) at bytes.now
         (routes.new, services.new)) }
     ensures packet { IfOk result (λ o. ForwardsPacket bytes.now (router_outcome o)) }
     ensures one_hop_on { IfOk result (λ o. ForwardsEachReading at.port bytes.now (router_outcome o)) }
@@ -233,7 +233,7 @@ pub fn receive_at(
         AnswersBytes (known_aged ports.now routes.old services.old at.now) at bytes.now (router_outcome o)
         (routes.new, services.new)) }
     ensures refused { OnErr result
-        (BytesWantMemory (known_aged ports.now routes.old services.old at.now) at bytes.now
+        (BytesOutOfMemory (known_aged ports.now routes.old services.old at.now) at bytes.now
         (routes.new, services.new)) }
     ensures packet { IfOk result (λ o. ForwardsPacket bytes.now (router_outcome o)) }
     ensures one_hop_on { IfOk result (λ o. ForwardsEachReading at.port bytes.now (router_outcome o)) }

@@ -8,8 +8,8 @@ ghost use Rattle.ipx_router.specs.Ports.{AreFromPorts, IsPortNumber};
 ghost use Rattle.ipx_router.specs.Forward.{Forwards, IfForward, IsForwarded, by_route, forward_header, forward_packet};
 ghost use Rattle.ipx_router.specs.Forwarded.{IsForwardOf};
 ghost use Rattle.ipx_router.specs.OutcomeView.{IsOnPort, router_outcome};
-ghost use Rattle.ipx_router.specs.InPlaceView.{ChangesPacketAlone, outcome_in};
-ghost use Rattle.ipx_router.specs.WantOfMemory.{HasToForward};
+ghost use Rattle.ipx_router.specs.InPlaceView.{ChangesOnlyPacket, outcome_in};
+ghost use Rattle.ipx_router.specs.OutOfMemoryCases.{HasToForward};
 
 use crate::outcome::{InPlace, Outcome, Reply};
 use crate::packets::are_bytes;
@@ -75,7 +75,7 @@ pub enum Forwarding {
     Dropped(Reason),
 }
 
-fn fate_by_route(header: IpxHeader, route: Option<Route>) -> Forwarding
+fn forwarding_by_route(header: IpxHeader, route: Option<Route>) -> Forwarding
     ensures fate { result ≡ by_route header route }
     ensures port { (count : ℕ) → IfSome route (λ r. IsPortNumber count r.port)
         → IfForward result (IsPortNumber count) }
@@ -115,7 +115,7 @@ pub fn forward(
     ensures there { IfOk result (λ o. IsOnPort (length ports.now) (router_outcome o)) }
 {
     let route = route_to(ports, routes, packet.header.to.network, at.now);
-    match fate_by_route(packet.header, route) {
+    match forwarding_by_route(packet.header, route) {
         Forwarding::Dropped(reason) => return Ok(Outcome::Dropped(reason)),
         Forwarding::Forward { port, next } => {
             let bytes = forwarded_bytes(alloc, at.port, datagram, &packet)?;
@@ -160,10 +160,10 @@ pub fn forward_front(
         → ipx_header_size + length body ≡ count
         → IsForwardOf at.port (packet_of header body) (outcome_in bytes.new result) }
     ensures there { IsOnPort (length ports.now) (outcome_in bytes.new result) }
-    ensures changes { ChangesPacketAlone bytes.old bytes.new result }
+    ensures changes { ChangesOnlyPacket bytes.old bytes.new result }
 {
     let route = route_to(ports, routes, header.to.network, at.now);
-    match fate_by_route(header, route) {
+    match forwarding_by_route(header, route) {
         Forwarding::Dropped(reason) => return InPlace::Dropped(reason),
         Forwarding::Forward { port, next } => {
             change_front(bytes, count, at.port, header);

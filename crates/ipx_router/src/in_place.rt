@@ -4,10 +4,10 @@ ghost use Rattle.std.specs.Prelude.{◌≡◌, ℕ, List, length, IfOk, IfNone, 
 ghost use Rattle.ipx_router.specs.Knowledge.{known_aged, known_in};
 ghost use Rattle.ipx_router.specs.Ports.{IsPortNumber, IsSound};
 ghost use Rattle.ipx_router.specs.OutcomeView.{IsOnPort, router_outcome};
-ghost use Rattle.ipx_router.specs.InPlaceView.{ChangesPacketAlone, outcome_in};
+ghost use Rattle.ipx_router.specs.InPlaceView.{ChangesOnlyPacket, outcome_in};
 ghost use Rattle.ipx_router.specs.Onward.{ForwardsNothing, IsOnward};
 ghost use Rattle.ipx_router.specs.Answer.{AnswersBytes};
-ghost use Rattle.ipx_router.specs.WantOfMemory.{BytesWantMemoryInPlace, NoneIsOnward};
+ghost use Rattle.ipx_router.specs.OutOfMemoryCases.{BytesOutOfMemoryInPlace, NoneIsOnward};
 ghost use Rattle.ipx_router.specs.Forwarded.{ForwardsEachReading, ForwardsPacket};
 
 use crate::answering::answer_to;
@@ -39,7 +39,7 @@ fn onward_packet(arrived: Port, bytes: &[u8]) -> Option<(IpxHeader, usize)>
 fn left_in_place(outcome: Outcome) -> InPlace
     requires { ForwardsNothing (router_outcome outcome) }
     ensures same { (room : List ℕ) → outcome_in room result ≡ router_outcome outcome }
-    ensures stays { (room : List ℕ) → ChangesPacketAlone room room result }
+    ensures stays { (room : List ℕ) → ChangesOnlyPacket room room result }
 {
     match outcome {
         Outcome::Forward(_) => unreachable!(),
@@ -66,13 +66,13 @@ fn answer_unchanged(
         AnswersBytes (known_in ports.now routes.old services.old) at bytes.now
         (outcome_in bytes.now o) (routes.new, services.new)) }
     ensures refused { OnErr result
-        (BytesWantMemoryInPlace (known_in ports.now routes.old services.old) at bytes.now
+        (BytesOutOfMemoryInPlace (known_in ports.now routes.old services.old) at bytes.now
         (routes.new, services.new)) }
     ensures packet { IfOk result (λ o. ForwardsPacket bytes.now (outcome_in bytes.now o)) }
     ensures one_hop_on { IfOk result (λ o.
         ForwardsEachReading at.port bytes.now (outcome_in bytes.now o)) }
     ensures there { IfOk result (λ o. IsOnPort (length ports.now) (outcome_in bytes.now o)) }
-    ensures stays { IfOk result (ChangesPacketAlone bytes.now bytes.now) }
+    ensures stays { IfOk result (ChangesOnlyPacket bytes.now bytes.now) }
     ensures most { (routes.new.most ≡ routes.old.most) × (services.new.most ≡ services.old.most) }
     ensures sound { IsSound ports.now (routes.new, services.new) }
 {
@@ -95,13 +95,13 @@ fn answer_in_place(
         AnswersBytes (known_in ports.now routes.old services.old) at bytes.old
         (outcome_in bytes.new o) (routes.new, services.new)) }
     ensures refused { OnErr result
-        (BytesWantMemoryInPlace (known_in ports.now routes.old services.old) at bytes.old
+        (BytesOutOfMemoryInPlace (known_in ports.now routes.old services.old) at bytes.old
         (routes.new, services.new)) }
     ensures packet { IfOk result (λ o. ForwardsPacket bytes.old (outcome_in bytes.new o)) }
     ensures one_hop_on { IfOk result (λ o.
         ForwardsEachReading at.port bytes.old (outcome_in bytes.new o)) }
     ensures there { IfOk result (λ o. IsOnPort (length ports.now) (outcome_in bytes.new o)) }
-    ensures changes { IfOk result (ChangesPacketAlone bytes.old bytes.new) }
+    ensures changes { IfOk result (ChangesOnlyPacket bytes.old bytes.new) }
     ensures stays { OnErr result (bytes.new ≡ bytes.old) }
     ensures most { (routes.new.most ≡ routes.old.most) × (services.new.most ≡ services.old.most) }
     ensures sound { IsSound ports.now (routes.new, services.new) }
@@ -130,13 +130,13 @@ pub fn receive_in_place_at(
         AnswersBytes (known_aged ports.now routes.old services.old at.now) at bytes.old
         (outcome_in bytes.new o) (routes.new, services.new)) }
     ensures refused { OnErr result
-        (BytesWantMemoryInPlace (known_aged ports.now routes.old services.old at.now) at bytes.old
+        (BytesOutOfMemoryInPlace (known_aged ports.now routes.old services.old at.now) at bytes.old
         (routes.new, services.new)) }
     ensures packet { IfOk result (λ o. ForwardsPacket bytes.old (outcome_in bytes.new o)) }
     ensures one_hop_on { IfOk result (λ o.
         ForwardsEachReading at.port bytes.old (outcome_in bytes.new o)) }
     ensures there { IfOk result (λ o. IsOnPort (length ports.now) (outcome_in bytes.new o)) }
-    ensures changes { IfOk result (ChangesPacketAlone bytes.old bytes.new) }
+    ensures changes { IfOk result (ChangesOnlyPacket bytes.old bytes.new) }
     ensures stays { OnErr result (bytes.new ≡ bytes.old) }
     ensures most { (routes.new.most ≡ routes.old.most) × (services.new.most ≡ services.old.most) }
     ensures sound { IsSound ports.now (routes.new, services.new) }

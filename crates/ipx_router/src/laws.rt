@@ -5,7 +5,7 @@ ghost use Rattle.ipx_router.specs.Knowledge.{HoldsRoutes, HoldsServices, routes_
 ghost use Rattle.ipx_router.specs.RouterView.{RouterView};
 ghost use Rattle.ipx_router.specs.OutcomeView.{OutcomeView};
 ghost use Rattle.ipx_router.specs.Answer.{Receives};
-ghost use Rattle.ipx_router.specs.OneValue.{IsOneHolding, IsOneStart, IsOneTelling};
+ghost use Rattle.ipx_router.specs.OneValue.{IsOneHolding, IsOneStart, AdvertisementsAreDetermined};
 
 use ipx_control::{
     bytes_are_one_rip, bytes_are_one_sap, rip_is_one_list_of_bytes, sap_is_one_list_of_bytes,
@@ -53,8 +53,8 @@ pub fn offers_are_one()
 /// The packets that a router advertises are determined, byte for byte and in order, and so is the
 /// time of the last advertisement. Two routers that know the same of each network and service, and
 /// advertised last at the same time, advertise the same. They also hold the same offers after it.
-pub fn telling_is_one()
-    ensures packets { IsOneTelling }
+pub fn advertisements_are_determined()
+    ensures packets { AdvertisementsAreDetermined }
     ensures holds { IsOneHolding }
 {
     bytes_are_one_packet();

@@ -4,16 +4,18 @@ ghost use Rattle.std.specs.Prelude.{◌≡◌, ◌≤◌, IfNone, IfOk, IfSome, 
 ghost use Rattle.ipx_control.specs.declared.rip.packet.RipEntry.{RipEntry};
 ghost use Rattle.ipx_router.specs.Knowledge.{routes_in, services_in};
 ghost use Rattle.ipx_router.specs.RouterPackets.{AreRoutePackets, sendings};
-ghost use Rattle.ipx_router.specs.Told.{AreToldRoutes, IsToldRoute, IsToldService};
+ghost use Rattle.ipx_router.specs.Told.{AreAdvertisedRoutes, IsAdvertisedRoute, IsAdvertisedService};
 ghost use Rattle.ipx_router.specs.Replying.{IsNearest, NoneIsNear, AreRoutesAsked, RepliesRoutes, RepliesServices, asks_all, is_asked, is_near, is_nearer, is_of_kind};
 ghost use Rattle.ipx_router.specs.Picking.{is_item_asked, nearer};
-ghost use Rattle.ipx_router.specs.WantOfMemory.{HasRouteToReply, HasToReply};
+ghost use Rattle.ipx_router.specs.OutOfMemoryCases.{HasRouteToReply, HasToReply};
 
 use crate::outcome::Reply;
 use crate::packets::{Recipient, add_route_packets, add_service_packets};
 use crate::packing::{RoutePackets, ServicePackets};
 use crate::port::{Port, PortNow};
-use crate::told::{is_over_other_neighbour, told_entry, told_of, told_ports, told_service_of};
+use crate::told::{
+    advertised_entry, advertised_ports, advertised_service_of, is_over_other_neighbour, told_of,
+};
 use ipx_control::{RipEntries, RipEntry, ServiceEntry};
 use ipx_tables::{
     RouteMetric, RouteTable, ServiceKey, ServiceMetric, ServiceTable, Source, one_best,
@@ -59,19 +61,19 @@ fn route_replies(
     to: Recipient,
 ) -> Result<Vec<Reply>, OutOfMemory>
     ensures replies { IfOk result (λ v. (entries : List RipEntry)
-        × AreToldRoutes ports.now (routes_in routes.now) at entries
+        × AreAdvertisedRoutes ports.now (routes_in routes.now) at entries
         × AreRoutePackets to entries (sendings v.items)) }
     ensures refused { OnErr result
-        ((t : RipEntry) × IsToldRoute ports.now (routes_in routes.now) at t) }
+        ((t : RipEntry) × IsAdvertisedRoute ports.now (routes_in routes.now) at t) }
 {
     one_best::<Network, RouteMetric>();
-    let own = told_ports(alloc, ports, at)?;
+    let own = advertised_ports(alloc, ports, at)?;
     let mut rest = own.as_slice();
     let mut packets = RoutePackets::new(alloc, to);
     for item in routes.bests(at.now) {
         if is_over_other_neighbour(ports, item, at) {
             let later = packets.put_below(alloc, rest, item.0)?;
-            packets.put(alloc, told_entry(item.0, item.2, at))?;
+            packets.put(alloc, advertised_entry(item.0, item.2, at))?;
             rest = later;
         }
     }
@@ -120,15 +122,15 @@ fn nearer_of(held: Option<ServiceEntry>, service: ServiceEntry) -> ServiceEntry
 /// The nearest advertised service of a kind. It walks over the best offers and makes no list.
 fn nearest_service(services: &ServiceTable, at: PortNow, kind: u16) -> Option<ServiceEntry>
     ensures found { IfSome result
-        (IsNearest (IsToldService (services_in services.now) at) kind) }
+        (IsNearest (IsAdvertisedService (services_in services.now) at) kind) }
     ensures none { IfNone result
-        (NoneIsNear (IsToldService (services_in services.now) at) kind) }
+        (NoneIsNear (IsAdvertisedService (services_in services.now) at) kind) }
 {
     one_best::<ServiceKey, ServiceMetric>();
     let mut nearest: Option<ServiceEntry> = None;
     for item in services.bests(at.now) {
         if is_best_asked(item, at, true, kind) {
-            nearest = Some(nearer_of(nearest, told_service_of(&item)));
+            nearest = Some(nearer_of(nearest, advertised_service_of(&item)));
         }
     }
     nearest
@@ -180,7 +182,7 @@ fn is_best_asked(
 ) -> bool
     ensures { result ≡ is_item_asked at nearest kind item }
 {
-    let service = told_service_of(&item);
+    let service = advertised_service_of(&item);
     item.1.port != at.number && is_asked_for(nearest, kind, &service)
 }
 
@@ -220,7 +222,7 @@ fn service_replies(
     let mut packets = ServicePackets::new(alloc, to);
     for item in services.bests(at.now) {
         if is_best_asked(item, at, false, kind) {
-            packets.put(alloc, told_service_of(&item))?;
+            packets.put(alloc, advertised_service_of(&item))?;
         }
     }
     packets.finish(alloc)

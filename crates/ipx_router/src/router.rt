@@ -6,12 +6,12 @@ ghost use Rattle.ipx_router.specs.Knowledge.{AreTables, HoldsKnown, KeepsAllButO
 ghost use Rattle.ipx_router.specs.RouterPackets.{AreOwn, sendings};
 ghost use Rattle.ipx_router.specs.Ports.{AreOnPorts, IsPort};
 ghost use Rattle.ipx_router.specs.OutcomeView.{IsOnPort, replies_of, router_outcome};
-ghost use Rattle.ipx_router.specs.InPlaceView.{ChangesPacketAlone, outcome_in};
+ghost use Rattle.ipx_router.specs.InPlaceView.{ChangesOnlyPacket, outcome_in};
 ghost use Rattle.ipx_router.specs.Answer.{Receives};
-ghost use Rattle.ipx_router.specs.WantOfMemory.{WantsMemory, WantsMemoryInPlace};
+ghost use Rattle.ipx_router.specs.OutOfMemoryCases.{RunsOutOfMemory, RunsOutOfMemoryInPlace};
 ghost use Rattle.ipx_router.specs.Forwarded.{ForwardsOneHopOn};
 ghost use Rattle.ipx_router.specs.Starting.{AreStarts};
-ghost use Rattle.ipx_router.specs.Telling.{HasToTell, IsNextTelling, TellsIfDue, is_due};
+ghost use Rattle.ipx_router.specs.Telling.{HasToTell, IsNextAdvertisement, TellsIfDue, is_due};
 
 use crate::answering::receive_at;
 use crate::fault::NewFault;
@@ -120,7 +120,7 @@ impl Router {
         requires first { 1 ≤ port }
         requires last { port ≤ length self.old.ports }
         ensures answer { IfOk result (λ o. Receives self.old port bytes.now now (router_outcome o) self.new) }
-        ensures refused { OnErr result (WantsMemory self.old port bytes.now now self.new) }
+        ensures refused { OnErr result (RunsOutOfMemory self.old port bytes.now now self.new) }
         ensures one_hop_on { IfOk result (λ o. ForwardsOneHopOn self.old port bytes.now (router_outcome o)) }
         ensures there { IfOk result (λ o. IsOnPort (length self.old.ports) (router_outcome o)) }
         // No packet that the router makes itself is an SPX packet.
@@ -161,12 +161,12 @@ impl Router {
         requires last { port ≤ length self.old.ports }
         ensures answer { IfOk result (λ o.
             Receives self.old port bytes.old now (outcome_in bytes.new o) self.new) }
-        ensures refused { OnErr result (WantsMemoryInPlace self.old port bytes.old now self.new) }
+        ensures refused { OnErr result (RunsOutOfMemoryInPlace self.old port bytes.old now self.new) }
         ensures one_hop_on { IfOk result (λ o.
             ForwardsOneHopOn self.old port bytes.old (outcome_in bytes.new o)) }
         ensures there { IfOk result (λ o. IsOnPort (length self.old.ports) (outcome_in bytes.new o)) }
         ensures own { IfOk result (λ o. AreOwn (replies_of (outcome_in bytes.new o))) }
-        ensures changes { IfOk result (ChangesPacketAlone bytes.old bytes.new) }
+        ensures changes { IfOk result (ChangesOnlyPacket bytes.old bytes.new) }
         ensures stays { OnErr result (bytes.new ≡ bytes.old) }
         ensures rest { KeepsAllButOffers self.old self.new }
         ensures valid { AreTables (tables self.new) }
@@ -247,7 +247,7 @@ impl Router {
     ///
     /// A caller that waits for datagrams wakes at this time, and calls `tell`.
     pub fn next_advertisement(&self) -> Option<u64>
-        ensures { IsNextTelling self.now.told result }
+        ensures { IsNextAdvertisement self.now.told result }
     {
         next_time(self.told)
     }

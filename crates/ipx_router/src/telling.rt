@@ -4,17 +4,17 @@ ghost use Rattle.std.specs.Prelude.{◌≡◌, ◌≤◌, true, length, map, OnE
 ghost use Rattle.ipx_tables.specs.Listing.{IsListing};
 ghost use Rattle.ipx_tables.specs.Route.{network_cmp, route_before};
 ghost use Rattle.ipx_tables.specs.Service.{service_before, service_key_cmp};
-ghost use Rattle.ipx_router.specs.Telling.{AreTellings, AreTold, HasToTell, IsNextTelling, TellsIfDue, is_due};
+ghost use Rattle.ipx_router.specs.Telling.{AreAdvertisements, AreAdvertised, HasToTell, IsNextAdvertisement, TellsIfDue, is_due};
 ghost use Rattle.ipx_router.specs.Knowledge.{HoldsKnown, Routes, Services, known_aged, known_in, routes_in, services_in};
 ghost use Rattle.ipx_router.specs.Ports.{AreOnPorts, IsSound};
 ghost use Rattle.ipx_router.specs.RouterPackets.{sendings};
-ghost use Rattle.ipx_router.specs.Told.{told_service};
+ghost use Rattle.ipx_router.specs.Told.{advertised_service};
 ghost use Rattle.ipx_router.specs.Adding.{AddsPackets, AreBodiesOf};
 
 use crate::outcome::Reply;
 use crate::packets::{add_route_packets, everyone};
 use crate::port::{Port, PortNow};
-use crate::told::{add_services_told, bodies_told_alike, routes_as_told};
+use crate::told::{add_advertised_services, bodies_advertised_alike, routes_as_advertised};
 use ipx_tables::{
     RouteMetric, RouteTable, ServiceKey, ServiceMetric, ServiceTable, Source, one_best,
 };
@@ -36,7 +36,7 @@ fn is_time(told: Option<u64>, now: u64) -> bool
 
 /// The time at which the next advertisement is due.
 pub fn next_time(told: Option<u64>) -> Option<u64>
-    ensures { IsNextTelling told result }
+    ensures { IsNextAdvertisement told result }
 {
     match told {
         None => Some(0),
@@ -55,17 +55,17 @@ fn tell_on(
     at: PortNow,
 ) -> Result<(), OutOfMemory>
     requires { IfSome bodies.now (λ v.
-        AreBodiesOf (map told_service heard_services.now) v.items) }
+        AreBodiesOf (map advertised_service heard_services.now) v.items) }
     ensures { OnOk result ((routes : Routes) (services : Services)
         → IsListing network_cmp route_before routes at.now heard_routes.now
         → IsListing service_key_cmp service_before services at.now heard_services.now
-        → AddsPackets (AreTold ports.now routes services at) told.old.items told.new.items) }
+        → AddsPackets (AreAdvertised ports.now routes services at) told.old.items told.new.items) }
 {
-    let known_routes = routes_as_told(alloc, ports, heard_routes, at)?;
+    let known_routes = routes_as_advertised(alloc, ports, heard_routes, at)?;
     let for_routes = everyone(at.number, at.port, Socket::RIP);
     add_route_packets(alloc, told, for_routes, &known_routes)?;
     one_best::<ServiceKey, ServiceMetric>();
-    add_services_told(alloc, told, heard_services, bodies, at)
+    add_advertised_services(alloc, told, heard_services, bodies, at)
 }
 
 /// The packets that advertise the learned routes and services on each port.
@@ -79,11 +79,11 @@ fn tell_heard(
 ) -> Result<Vec<Reply>, OutOfMemory>
     requires ports { length ports.now ≤ 16 }
     requires bodies { IfSome bodies.now (λ v.
-        AreBodiesOf (map told_service heard_services.now) v.items) }
+        AreBodiesOf (map advertised_service heard_services.now) v.items) }
     ensures { IfOk result (λ v. (routes : Routes) (services : Services)
         → IsListing network_cmp route_before routes now heard_routes.now
         → IsListing service_key_cmp service_before services now heard_services.now
-        → AreTellings ports.now routes services now 1 ports.now (sendings v.items)) }
+        → AreAdvertisements ports.now routes services now 1 ports.now (sendings v.items)) }
 {
     let mut told = Vec::new(alloc);
     for (i, port) in ports.iter().enumerate() {
@@ -115,7 +115,7 @@ fn tell_each(
     now: u64,
 ) -> Result<Vec<Reply>, OutOfMemory>
     requires { length ports.now ≤ 16 }
-    ensures tells { IfOk result (λ v. AreTellings ports.now
+    ensures tells { IfOk result (λ v. AreAdvertisements ports.now
         (routes_in routes.now) (services_in services.now) now 1 ports.now (sendings v.items)) }
     ensures there { IfOk result (λ v. AreOnPorts (length ports.now) (sendings v.items)) }
 {
@@ -125,7 +125,7 @@ fn tell_each(
     let Ok(heard_services) = services.list(alloc, now) else {
         return Err(OutOfMemory);
     };
-    let bodies = bodies_told_alike(alloc, ports.len() as u8, &heard_services)?;
+    let bodies = bodies_advertised_alike(alloc, ports.len() as u8, &heard_services)?;
     tell_heard(alloc, ports, &heard_routes, &heard_services, &bodies, now)
 }
 
@@ -139,7 +139,7 @@ fn tell_all(
     now: u64,
 ) -> Result<Vec<Reply>, OutOfMemory>
     requires { IsSound ports.now (routes.now, services.now) }
-    ensures tells { IfOk result (λ v. AreTellings ports.now
+    ensures tells { IfOk result (λ v. AreAdvertisements ports.now
         (routes_in routes.now) (services_in services.now) now 1 ports.now (sendings v.items)) }
     ensures refused { OnErr result (HasToTell (known_in ports.now routes.now services.now) now) }
     ensures there { IfOk result (λ v. AreOnPorts (length ports.now) (sendings v.items)) }

@@ -9,9 +9,9 @@ ghost use Rattle.ipx_tables.specs.Route.{network_cmp, route_before};
 ghost use Rattle.ipx_router.specs.Knowledge.{Routes, routes_in};
 ghost use Rattle.ipx_router.specs.RouterPackets.{AreServicePackets, all_nodes};
 ghost use Rattle.ipx_router.specs.Adding.{AddsPackets, AreBodiesOf};
-ghost use Rattle.ipx_router.specs.Told.{AreToldRoutes, IsToldRoute, route_key, told_route, told_service};
-ghost use Rattle.ipx_router.specs.Placing.{AddsHeard, AreToldPorts, IsToldPort, PutsEntry, is_told_item, is_told_port, told_of_other_ports};
-ghost use Rattle.ipx_router.specs.Picking.{IsToldOf};
+ghost use Rattle.ipx_router.specs.Told.{AreAdvertisedRoutes, IsAdvertisedRoute, route_key, advertised_route, advertised_service};
+ghost use Rattle.ipx_router.specs.Placing.{AddsHeard, AreAdvertisedPorts, IsAdvertisedPort, PutsEntry, is_advertised_item, is_advertised_port, advertised_of_other_ports};
+ghost use Rattle.ipx_router.specs.Picking.{IsAdvertisedOf};
 
 use crate::bodies::{add_bodies, service_bodies};
 use crate::networks::direct_port;
@@ -29,8 +29,8 @@ use std::alloc::Global;
 const FEWEST_ALIKE: u8 = 3;
 
 /// A route as it is advertised on a port.
-pub fn told_entry(network: Network, metric: RouteMetric, at: PortNow) -> RipEntry
-    ensures { result ≡ told_route network metric at }
+pub fn advertised_entry(network: Network, metric: RouteMetric, at: PortNow) -> RipEntry
+    ensures { result ≡ advertised_route network metric at }
 {
     let onward = metric.one_more();
     RipEntry {
@@ -65,21 +65,25 @@ fn put_entry(told: &mut Vec<RipEntry>, entry: RipEntry) -> Result<(), OutOfMemor
 
 /// Whether the network is that of another port.
 fn is_over_other_port(ports: &[Port], network: Network, at: PortNow) -> bool
-    ensures { result ≡ is_told_port ports.now at network }
+    ensures { result ≡ is_advertised_port ports.now at network }
 {
     direct_port(ports, network).is_some_and(|place| place + 1 != at.number as usize)
 }
 
 /// The networks of the other ports, as they are advertised.
-pub fn told_ports(alloc: Global, ports: &[Port], at: PortNow) -> Result<Vec<RipEntry>, OutOfMemory>
-    ensures told { IfOk result (λ v. AreToldPorts ports.now at (length ports.now) v.items) }
-    ensures refused { OnErr result ((x : RipEntry) × IsToldPort ports.now at x) }
+pub fn advertised_ports(
+    alloc: Global,
+    ports: &[Port],
+    at: PortNow,
+) -> Result<Vec<RipEntry>, OutOfMemory>
+    ensures told { IfOk result (λ v. AreAdvertisedPorts ports.now at (length ports.now) v.items) }
+    ensures refused { OnErr result ((x : RipEntry) × IsAdvertisedPort ports.now at x) }
 {
     let mut told = Vec::new(alloc);
     for port in ports {
         if is_over_other_port(ports, port.network, at) {
             let metric = RouteMetric { ticks: 0, hops: 0 };
-            put_entry(&mut told, told_entry(port.network, metric, at))?;
+            put_entry(&mut told, advertised_entry(port.network, metric, at))?;
         }
     }
     Ok(told)
@@ -91,7 +95,7 @@ pub fn is_over_other_neighbour(
     item: (Network, Source, RouteMetric),
     at: PortNow,
 ) -> bool
-    ensures { result ≡ is_told_item ports.now at item }
+    ensures { result ≡ is_advertised_item ports.now at item }
 {
     direct_port(ports, item.0).is_none() && item.1.port != at.number
 }
@@ -109,14 +113,14 @@ fn add_heard(
 {
     for item in heard {
         if is_over_other_neighbour(ports, *item, at) {
-            put_entry(told, told_entry(item.0, item.2, at))?;
+            put_entry(told, advertised_entry(item.0, item.2, at))?;
         }
     }
     Ok(())
 }
 
 /// The learned routes that are advertised on a port, in the order of their networks.
-pub fn routes_as_told(
+pub fn routes_as_advertised(
     alloc: Global,
     ports: &[Port],
     heard: &[(Network, Source, RouteMetric)],
@@ -124,9 +128,9 @@ pub fn routes_as_told(
 ) -> Result<Vec<RipEntry>, OutOfMemory>
     ensures { IfOk result (λ v. (routes : Routes)
         → IsListing network_cmp route_before routes at.now heard.now
-        → AreToldRoutes ports.now routes at v.items) }
+        → AreAdvertisedRoutes ports.now routes at v.items) }
 {
-    let mut told = told_ports(alloc, ports, at)?;
+    let mut told = advertised_ports(alloc, ports, at)?;
     add_heard(&mut told, ports, heard, at)?;
     one_best::<Network, RouteMetric>();
     Ok(told)
@@ -140,7 +144,7 @@ pub fn told_of(
     at: PortNow,
 ) -> Option<RipEntry>
     requires { length ports.now ≤ 16 }
-    ensures { IsToldOf (IsToldRoute ports.now (routes_in routes.now) at) network result }
+    ensures { IsAdvertisedOf (IsAdvertisedRoute ports.now (routes_in routes.now) at) network result }
 {
     one_best::<Network, RouteMetric>();
     let Some(route) = route_to(ports, routes, network, at.now) else {
@@ -149,12 +153,12 @@ pub fn told_of(
     if route.port == at.number {
         return None;
     }
-    Some(told_entry(network, route.metric, at))
+    Some(advertised_entry(network, route.metric, at))
 }
 
 /// A service as it is advertised.
-pub fn told_service_of(item: &(ServiceKey, Source, ServiceMetric)) -> ServiceEntry
-    ensures { result ≡ told_service item.now }
+pub fn advertised_service_of(item: &(ServiceKey, Source, ServiceMetric)) -> ServiceEntry
+    ensures { result ≡ advertised_service item.now }
 {
     let onward = item.2.one_more();
     ServiceEntry {
@@ -171,26 +175,26 @@ fn services_by_other_ports(
     heard: &[(ServiceKey, Source, ServiceMetric)],
     at: PortNow,
 ) -> Result<Vec<ServiceEntry>, OutOfMemory>
-    ensures { IfOk result (λ v. v.items ≡ told_of_other_ports at.number heard.now) }
+    ensures { IfOk result (λ v. v.items ≡ advertised_of_other_ports at.number heard.now) }
 {
     let told = heard
         .iter()
         .filter(|item| item.1.port != at.number)
-        .map(told_service_of)
+        .map(advertised_service_of)
         .collect::<Vec<ServiceEntry>>(alloc)?;
     Ok(told)
 }
 
 /// All learned services, as they are advertised on a port by which none of them came.
-fn all_services_as_told(
+fn all_services_as_advertised(
     alloc: Global,
     heard: &[(ServiceKey, Source, ServiceMetric)],
 ) -> Result<Vec<ServiceEntry>, OutOfMemory>
-    ensures { IfOk result (λ v. v.items ≡ map told_service heard.now) }
+    ensures { IfOk result (λ v. v.items ≡ map advertised_service heard.now) }
 {
     let told = heard
         .iter()
-        .map(told_service_of)
+        .map(advertised_service_of)
         .collect::<Vec<ServiceEntry>>(alloc)?;
     Ok(told)
 }
@@ -218,34 +222,34 @@ fn count_ports_without(ports: u8, heard: &[(ServiceKey, Source, ServiceMetric)])
 
 /// The bodies of the packets of all services, or `None` if too few of the ports advertise all of
 /// them for that to be faster.
-pub fn bodies_told_alike(
+pub fn bodies_advertised_alike(
     alloc: Global,
     ports: u8,
     heard: &[(ServiceKey, Source, ServiceMetric)],
 ) -> Result<Option<Vec<Vec<u8>>>, OutOfMemory>
     ensures { IfOk result (λ bodies. IfSome bodies (λ v.
-        AreBodiesOf (map told_service heard.now) v.items)) }
+        AreBodiesOf (map advertised_service heard.now) v.items)) }
 {
     if count_ports_without(ports, heard) < FEWEST_ALIKE {
         return Ok(None);
     }
-    let services = all_services_as_told(alloc, heard)?;
+    let services = all_services_as_advertised(alloc, heard)?;
     let bodies = service_bodies(alloc, &services)?;
     Ok(Some(bodies))
 }
 
 /// Adds the packets that advertise on a port the services that came by another one. If none came by
 /// this port, it uses the bodies.
-pub fn add_services_told(
+pub fn add_advertised_services(
     alloc: Global,
     told: &mut Vec<Reply>,
     heard: &[(ServiceKey, Source, ServiceMetric)],
     bodies: &Option<Vec<Vec<u8>>>,
     at: PortNow,
 ) -> Result<(), OutOfMemory>
-    requires { IfSome bodies.now (λ v. AreBodiesOf (map told_service heard.now) v.items) }
+    requires { IfSome bodies.now (λ v. AreBodiesOf (map advertised_service heard.now) v.items) }
     ensures { OnOk result (AddsPackets (AreServicePackets (all_nodes at.number at.port sap_socket)
-        false (told_of_other_ports at.number heard.now)) told.old.items told.new.items) }
+        false (advertised_of_other_ports at.number heard.now)) told.old.items told.new.items) }
 {
     let to = everyone(at.number, at.port, Socket::SAP);
     if let Some(bodies) = bodies {

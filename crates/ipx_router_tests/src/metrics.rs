@@ -21,7 +21,7 @@ pub fn service(hops: u16, network: u32, node: u8, socket: u16) -> ServiceMetric 
 }
 
 /// Of two different metrics exactly one is before the other.
-fn stands_before<M: Metric>(better: &M, worse: &M) -> bool {
+fn holds_before<M: Metric>(better: &M, worse: &M) -> bool {
     better.before(worse) && !worse.before(better) && !better.before(better)
 }
 
@@ -43,11 +43,11 @@ fn orders_of_metrics(rt: &impl Abort) {
     ];
     for i in 0..rising.len() {
         for j in i + 1..rising.len() {
-            assert!(rt; stands_before(&rising[i], &rising[j]), "{i} and {j}");
+            assert!(rt; holds_before(&rising[i], &rising[j]), "{i} and {j}");
         }
     }
-    assert!(rt; stands_before(&route(2, 9), &route(3, 1)));
-    assert!(rt; stands_before(&route(2, 1), &route(2, 2)));
+    assert!(rt; holds_before(&route(2, 9), &route(3, 1)));
+    assert!(rt; holds_before(&route(2, 1), &route(2, 2)));
 }
 
 fn dead_metrics(rt: &impl Abort) {

@@ -33,19 +33,19 @@ Stepped old e (Ok a) new = IsAnswered old e a new
 Stepped old e (Err f) new = IsFaulted old e f new
 
 -- an event whose answer has lines of its own: all but a take
-abbrev pub IsTold : Event → Type 0
-IsTold (Events.Dial host socket to buffers) = Unit {0}
-IsTold (Events.Send who message) = Unit {0}
-IsTold (Events.Take who) = ⊥
-IsTold (Events.Close who) = Unit {0}
-IsTold (Events.Pace who window manual) = Unit {0}
-IsTold (Events.Again who place) = Unit {0}
-IsTold (Events.Release who) = Unit {0}
-IsTold (Events.Tick now) = Unit {0}
-IsTold (Events.Poll member) = Unit {0}
-IsTold (Events.Deliver parcel place) = Unit {0}
-IsTold (Events.Inject segment next bytes) = Unit {0}
+abbrev pub HasLines : Event → Type 0
+HasLines (Events.Dial host socket to buffers) = Unit {0}
+HasLines (Events.Send who message) = Unit {0}
+HasLines (Events.Take who) = ⊥
+HasLines (Events.Close who) = Unit {0}
+HasLines (Events.Pace who window manual) = Unit {0}
+HasLines (Events.Again who place) = Unit {0}
+HasLines (Events.Release who) = Unit {0}
+HasLines (Events.Tick now) = Unit {0}
+HasLines (Events.Poll member) = Unit {0}
+HasLines (Events.Deliver parcel place) = Unit {0}
+HasLines (Events.Inject segment next bytes) = Unit {0}
 
 -- what the caller owes: what a step needs, and an event with lines
 abbrev pub IsActOwed : Event → Type 0
-IsActOwed e = IsOwed e × IsTold e
+IsActOwed e = IsOwed e × HasLines e

@@ -59,8 +59,8 @@ abbrev pub Drains : ℕ → NetView → Result Bool LineFault → NetView → Ty
 Drains end = Repeats most_times (TakesOnce end)
 
 -- if the end has a state, which a released one has not
-abbrev pub DrainsStanding : ℕ → NetView → Result Bool LineFault → NetView → Type 0
-DrainsStanding end old result new =
+abbrev pub DrainsPresent : ℕ → NetView → Result Bool LineFault → NetView → Type 0
+DrainsPresent end old result new =
     (infos : List EndInfo) × TellsEnds old infos
     × MatchOption (told_of infos end).state (DoesNothing old result new)
     (λ state. Drains end old result new)
@@ -69,7 +69,7 @@ DrainsStanding end old result new =
 abbrev pub DrainsAll : NetView → Result Bool LineFault → NetView → Type 0
 DrainsAll old result new =
     (infos : List EndInfo) × TellsEnds old infos
-    × DoesEach DrainsStanding (range_with_len 0 (length infos)) old result new
+    × DoesEach DrainsPresent (range_with_len 0 (length infos)) old result new
 
 abbrev pub DrainsIf : Bool → NetView → Result Bool LineFault → NetView → Type 0
 DrainsIf takes old result new =

@@ -23,8 +23,8 @@ abbrev pub name_at : List (List ℕ) → ℕ → List ℕ
 name_at names host = name_or_none (slice_get names host)
 
 -- an end, its host and its state
-abbrev pub standing_text : List (List ℕ) → ℕ → EndInfo → List ℕ
-standing_text names who info =
+abbrev pub present_text : List (List ℕ) → ℕ → EndInfo → List ℕ
+present_text names who info =
     codes "end " ++ (decimal who ++ (codes " " ++ (name_at names info.host
     ++ (codes " " ++ state_word info.state))))
 
@@ -37,7 +37,7 @@ end_counts_text info =
 -- and whether what it handed out is a prefix of what its peer handed in
 abbrev pub end_summary_line : List (List ℕ) → ℕ → EndInfo → Bool → List ℕ
 end_summary_line names who info begins =
-    standing_text names who info ++ (end_counts_text info
+    present_text names who info ++ (end_counts_text info
     ++ (codes " begins " ++ (yes_no begins ++ 10 ∷ [])))
 
 -- the lines of ends, numbered from this number on

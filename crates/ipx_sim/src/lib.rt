@@ -29,5 +29,5 @@ pub use names::{Names, ScriptTarget};
 pub use reading::read_line;
 pub use script_fault::ScriptFault;
 pub use sim::{do_sim, tell_too_long};
-pub use summing::{summary, write_counts, write_standing};
+pub use summing::{summary, write_counts, write_present};
 pub use words::state_word;

@@ -99,7 +99,7 @@ fn end_to_text(alloc: Global, end: Option<usize>) -> Result<String, AllocError>
 }
 
 /// What an end of a host did with a datagram.
-fn told_by_end(alloc: Global, end: Option<usize>, word: &str) -> Result<String, AllocError>
+fn end_line(alloc: Global, end: Option<usize>, word: &str) -> Result<String, AllocError>
     ensures { IfOk result (λ t. string_bytes t ≡ end_text end ++ word.now) }
 {
     let mut text = end_to_text(alloc, end)?;
@@ -136,8 +136,8 @@ fn arrived_to_text(
         Arrived::NoListener => String::from_str(alloc, "no-listener"),
         Arrived::NoRoom => String::from_str(alloc, "no-room"),
         Arrived::Stranger => String::from_str(alloc, "stranger"),
-        Arrived::Accepted(_) => told_by_end(alloc, end, "accepted"),
-        Arrived::Link(_, received) => told_by_end(alloc, end, received_word(received)),
+        Arrived::Accepted(_) => end_line(alloc, end, "accepted"),
+        Arrived::Link(_, received) => end_line(alloc, end, received_word(received)),
     }
 }
 

@@ -101,7 +101,7 @@ fn taken_to_line(alloc: Global, end: usize, taken: &Taken) -> Result<String, All
 
 /// Takes from an end once, and writes what was taken. Returns whether it was a unit, or what
 /// stopped it.
-fn take_told_once<W: Write>(
+fn print_taken_once<W: Write>(
     alloc: Global,
     net: &mut Net,
     end: usize,
@@ -124,7 +124,7 @@ fn take_told_once<W: Write>(
 
 /// Takes from an end until nothing is held, and writes what was taken. Returns whether there was a
 /// unit, or what stopped it.
-fn take_told<W: Write>(
+fn print_taken<W: Write>(
     alloc: Global,
     net: &mut Net,
     end: usize,
@@ -132,7 +132,7 @@ fn take_told<W: Write>(
 ) -> Result<Result<bool, LineFault>, ScriptFault> {
     let mut any = false;
     for _ in 0..u64::MAX {
-        match take_told_once(alloc, net, end, writer)? {
+        match print_taken_once(alloc, net, end, writer)? {
             Ok(true) => any = true,
             Ok(false) => return Ok(Ok(any)),
             Err(stop) => return Ok(Err(stop)),
@@ -249,7 +249,7 @@ impl Simulation {
         end: usize,
         writer: &mut W,
     ) -> Result<u8, ScriptFault> {
-        let done = take_told(alloc, &mut self.net, end, writer)?;
+        let done = print_taken(alloc, &mut self.net, end, writer)?;
         tell_taken(alloc, done, writer)
     }
 

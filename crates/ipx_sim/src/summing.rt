@@ -7,7 +7,7 @@ ghost use Rattle.std.specs.Int.{w16, to_be_bytes};
 ghost use Rattle.hex.specs.Hex.{encode_lower};
 ghost use Rattle.ipx_net.specs.Ends.{TellsEnds};
 ghost use Rattle.ipx_net.specs.declared.endinfo.EndInfo.{EndInfo};
-ghost use Rattle.ipx_sim.specs.Summary.{AreEndLines, Summarizes, end_counts_text, end_summary_line, fresh_line, name_at, standing_text};
+ghost use Rattle.ipx_sim.specs.Summary.{AreEndLines, Summarizes, end_counts_text, end_summary_line, fresh_line, name_at, present_text};
 
 use crate::words::{state_word, yes_no};
 use ipx_net::{EndInfo, Net};
@@ -25,14 +25,14 @@ fn name_of(names: &[String], host: usize) -> &str
 
 /// Writes an end, its host and its state, which is how the line of an end begins. The names are
 /// those of the hosts, in order.
-pub fn write_standing<W: Write>(
+pub fn write_present<W: Write>(
     writer: &mut W,
     names: &[String],
     who: usize,
     info: EndInfo,
 ) -> Written<()>
     ensures { OnOk result (Appends (W.contents writer.old) (W.contents writer.new)
-        (standing_text (map string_bytes names.now) who info)) }
+        (present_text (map string_bytes names.now) who info)) }
 {
     let name = name_of(names, info.host);
     let state = state_word(info.state);
@@ -70,7 +70,7 @@ fn write_end<W: Write>(
     ensures { OnOk result (Appends (W.contents writer.old) (W.contents writer.new)
         (end_summary_line (map string_bytes names.now) who info begins)) }
 {
-    write_standing(writer, names, who, info)?;
+    write_present(writer, names, who, info)?;
     write_counts(writer, info)?;
     let begins = yes_no(begins);
     write!(writer, " begins {begins}\n")

@@ -10,7 +10,7 @@ ghost use Rattle.ipx_net.specs.declared.event.Event.TheVariants as Events;
 ghost use Rattle.ipx_net.specs.declared.fault.NetFault.{NetFault};
 ghost use Rattle.ipx_sim.specs.Act.{Stepped, outcome_view};
 ghost use Rattle.ipx_sim.specs.ScriptDoing.{DoesEach};
-ghost use Rattle.ipx_sim.specs.Going.{Drains, DrainsAll, DrainsIf, DrainsStanding, TakesOnce, is_unit, take_result, taken_result};
+ghost use Rattle.ipx_sim.specs.Going.{Drains, DrainsAll, DrainsIf, DrainsPresent, TakesOnce, is_unit, take_result, taken_result};
 
 use crate::acting::step;
 use crate::stop::LineFault;
@@ -81,8 +81,8 @@ fn state_of(net: &Net, end: usize) -> Option<State>
 }
 
 /// Takes from an end as `drain` does, unless it was released.
-fn drain_standing(alloc: Global, net: &mut Net, end: usize) -> Result<bool, LineFault>
-    ensures { DrainsStanding end net.old result net.new }
+fn drain_present(alloc: Global, net: &mut Net, end: usize) -> Result<bool, LineFault>
+    ensures { DrainsPresent end net.old result net.new }
 {
     match state_of(net, end) {
         Some(_) => drain(alloc, net, end),
@@ -99,11 +99,11 @@ fn count_of(net: &Net) -> usize
 
 /// Takes from the first `count` ends, from end 0 on, each until nothing is held there.
 fn drain_each(alloc: Global, net: &mut Net, count: usize) -> Result<bool, LineFault>
-    ensures { DoesEach DrainsStanding (range_with_len 0 count) net.old result net.new }
+    ensures { DoesEach DrainsPresent (range_with_len 0 count) net.old result net.new }
 {
     let mut any = false;
     for end in 0..count {
-        any |= drain_standing(alloc, net, end)?;
+        any |= drain_present(alloc, net, end)?;
     }
     Ok(any)
 }

@@ -24,8 +24,8 @@ found x e P (Some h) unknown p = (h, refl, p)
 pub stands : {A : Type 0} (xs : List A) (i : ℕ) (x : A) → i < length xs → x ≡ get_or xs i x → slice_get xs i ≡ Some x
 stands xs i x there is = slice_get_read xs (length xs) i x refl there is
 
-pub stands_in : {A : Type 0} (ys xs : List A) (i : ℕ) (x : A) → ys ≡ xs → i < length ys → x ≡ get_or ys i x → slice_get xs i ≡ Some x
-stands_in ys xs i x same there is = subst (λ l. slice_get l i ≡ Some x) same (stands ys i x there is)
+pub holds_in : {A : Type 0} (ys xs : List A) (i : ℕ) (x : A) → ys ≡ xs → i < length ys → x ≡ get_or ys i x → slice_get xs i ≡ Some x
+holds_in ys xs i x same there is = subst (λ l. slice_get l i ≡ Some x) same (stands ys i x there is)
 
 -- written back as it was read
 pub same_again : {A : Type 0} (xs : List A) (i : ℕ) (x : A) → x ≡ get_or xs i x → set xs i x ≡ xs

@@ -1,7 +1,7 @@
 -- The lines at the end of a script over sockets: one for each end. Defined by this project.
 use Rattle.std.specs.Prelude.{ℕ, ◌+◌, List, [], ◌∷◌, ◌++◌, None}
 use Rattle.ipx_net.specs.declared.endinfo.EndInfo.{EndInfo}
-use Rattle.ipx_sim.specs.Summary.{end_counts_text, standing_text}
+use Rattle.ipx_sim.specs.Summary.{end_counts_text, present_text}
 use Rattle.ipx_sim_udp.specs.UdpCalls.{next_at, link_state_of}
 use Rattle.ipx_sim_udp.specs.declared.layout_binding.End.{End}
 use Rattle.ipx_sim_udp.specs.declared.layout_binding.UdpNet.{UdpNet}
@@ -20,7 +20,7 @@ info_of s end' =
 
 -- its line: as for a network in memory, without what only a log can tell
 abbrev pub udp_end_line : List (List ℕ) → ℕ → EndInfo → List ℕ
-udp_end_line names who info = standing_text names who info ++ (end_counts_text info ++ 10 ∷ [])
+udp_end_line names who info = present_text names who info ++ (end_counts_text info ++ 10 ∷ [])
 
 -- the lines of ends, numbered from this number on
 abbrev pub end_lines : UdpNet → List (List ℕ) → ℕ → List End → List ℕ

@@ -32,12 +32,12 @@ bad_script_line number = codes "line " ++ (decimal number ++ codes " bad\n")
 
 -- what a line after the layout prints, and its status. That is `ok` if it is done and says so, or what
 -- refused it if an end did or does not exist. At any other stop the script ends, and its end says why
-abbrev pub told_of_line : Result Bool UdpScriptFault → Option (List ℕ × ℕ)
-told_of_line (Ok true) = Some (ok_line, 0)
-told_of_line (Ok false) = Some (codes "", 0)
-told_of_line (Err (Stops.Refused f)) = Some (refused_line f, 1)
-told_of_line (Err Stops.NoSuchEnd) = Some (no_such_end_line, 1)
-told_of_line (Err Stops.Bad) = None
-told_of_line (Err Stops.Memory) = None
-told_of_line (Err Stops.Device) = None
-told_of_line (Err Stops.Write) = None
+abbrev pub line_and_status : Result Bool UdpScriptFault → Option (List ℕ × ℕ)
+line_and_status (Ok true) = Some (ok_line, 0)
+line_and_status (Ok false) = Some (codes "", 0)
+line_and_status (Err (Stops.Refused f)) = Some (refused_line f, 1)
+line_and_status (Err Stops.NoSuchEnd) = Some (no_such_end_line, 1)
+line_and_status (Err Stops.Bad) = None
+line_and_status (Err Stops.Memory) = None
+line_and_status (Err Stops.Device) = None
+line_and_status (Err Stops.Write) = None

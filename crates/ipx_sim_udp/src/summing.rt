@@ -6,7 +6,7 @@ ghost use Rattle.ipx_sim_udp.specs.Ending.{udp_end_line, end_lines, info_of};
 
 use crate::layout_binding::{End, UdpNet};
 use ipx_net::EndInfo;
-use ipx_sim::{write_counts, write_standing};
+use ipx_sim::{write_counts, write_present};
 use std::io::{Result as Written, Write};
 
 /// What is printed of an end.
@@ -27,7 +27,7 @@ fn write_end<W: Write>(writer: &mut W, names: &[String], who: usize, info: EndIn
     ensures { OnOk result (Appends (W.contents writer.old) (W.contents writer.new)
         (udp_end_line (map string_bytes names.now) who info)) }
 {
-    write_standing(writer, names, who, info)?;
+    write_present(writer, names, who, info)?;
     write_counts(writer, info)?;
     writer.write_all(b"\n")
 }

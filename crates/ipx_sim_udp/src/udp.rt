@@ -6,7 +6,7 @@ ghost use Rattle.ipx_sim.specs.ActLine.{refused_line};
 ghost use Rattle.ipx_sim.specs.ScriptPlaces.{map_view};
 ghost use Rattle.ipx_sim.specs.Script.{IsTooLong, too_long_line};
 ghost use Rattle.ipx_sim_udp.specs.UdpDoing.{DoesNamed, DoesLine, said};
-ghost use Rattle.ipx_sim_udp.specs.Stops.{bad_script_line, told_of_line};
+ghost use Rattle.ipx_sim_udp.specs.Stops.{bad_script_line, line_and_status};
 ghost use Rattle.ipx_sim_udp.specs.declared.stop.UdpScriptFault.{UdpScriptFault as AnyStop};
 
 use crate::layout_binding::UdpNet;
@@ -126,12 +126,12 @@ fn read_and_do(
 }
 
 /// What a line prints, and its status, if the script continues.
-fn told_of_line(
+fn line_and_status(
     alloc: Global,
     done: Result<bool, UdpScriptFault>,
 ) -> Result<(String, u8), UdpScriptFault>
-    ensures told { IfOk result (λ l. told_of_line done ≡ Some (string_bytes l.0, l.1)) }
-    ensures stops { told_of_line done ≡ None → IfErr result (λ stop. done ≡ Err stop) }
+    ensures told { IfOk result (λ l. line_and_status done ≡ Some (string_bytes l.0, l.1)) }
+    ensures stops { line_and_status done ≡ None → IfErr result (λ stop. done ≡ Err stop) }
     ensures few { IfOk result (λ l. l.1 ≤ 1) }
 {
     let told = match done {
@@ -157,11 +157,11 @@ fn run_line<W: Write>(
 ) -> Result<u8, UdpScriptFault>
     ensures tells { IfOk result (λ status. (done : Result Bool AnyStop) × (text : List ℕ)
         × DoesLine (map_view map.now) line.now site.old site.new done
-        × (told_of_line done ≡ Some (text, status))
+        × (line_and_status done ≡ Some (text, status))
         × Appends (W.contents writer.old) (W.contents writer.new) text) }
     ensures few { IfOk result (λ status. status ≤ 1) }
 {
-    let (text, status) = told_of_line(alloc, read_and_do(alloc, site, map, line))?;
+    let (text, status) = line_and_status(alloc, read_and_do(alloc, site, map, line))?;
     match writer.write_all(text.as_bytes()) {
         Ok(()) => Ok(status),
         Err(_) => Err(UdpScriptFault::Write),

@@ -5,7 +5,7 @@ use Rattle.ipx_site.specs.declared.querier.Querier.{Querier}
 use Rattle.ipx_site.specs.declared.token_buckets.Asking.{Asking}
 use Rattle.ipx_site.specs.TokenBucket.{back_after, has_token}
 use Rattle.ipx_site.specs.TokenBuckets.{TokenBucketsView, back_at, with_token_taken}
-use Rattle.ipx_site.specs.RateLimiter.{HearsSparingly, RateLimiterView}
+use Rattle.ipx_site.specs.RateLimiter.{HearsRateLimited, RateLimiterView}
 use Rattle.ipx_site.specs.QueryRate.{AreSuch, Coming, Course, IsHeardOf}
 use Rattle.ipx_site.proofs.Taken.{back_at_grows, back_at_own}
 
@@ -24,7 +24,7 @@ own t who now = back_at_own who now (back_after (back_at t.queriers who) now) t.
 
 module _ {C : Type 0} (hears : C → ℕ → List ℕ → ℕ → C → Type 0) where
   -- whatever comes
-  step : (who : Querier) (old : RateLimiterView C) (port : ℕ) (bytes : List ℕ) (now : ℕ) (new : RateLimiterView C) → HearsSparingly hears old port bytes now new → back_at old.buckets.queriers who ≤ max (back_at new.buckets.queriers who) now
+  step : (who : Querier) (old : RateLimiterView C) (port : ℕ) (bytes : List ℕ) (now : ℕ) (new : RateLimiterView C) → HearsRateLimited hears old port bytes now new → back_at old.buckets.queriers who ≤ max (back_at new.buckets.queriers who) now
   step who old port bytes now new h =
       let goal : TokenBucketsView → Type 0 = λ t. back_at old.buckets.queriers who ≤ max (back_at t.queriers who) now in
       let same : goal old.buckets = omega arith in

@@ -30,7 +30,7 @@ pub mod Spots
 pub mod KindLists
 pub mod PortsRun
 pub mod Marked
-pub mod MarksApart
+pub mod MarksSeparate
 pub mod Present
 pub mod StationFaults
 pub mod ListedClients

@@ -1,7 +1,7 @@
 -- When one of several things is to be done.
 use Rattle.std.proofs.Common.{◌≡◌, ◌⊎◌, ◌↔◌, ◌<◌, ◌≤◌, ◌+◌, ◌^◌, ◌∙◌, ℕ, true, Option, Some, None, inl, inr, refl, sym, subst}
 use Rattle.std.proofs.lemmas.Bool.{le-leb, leb-true}
-use Rattle.ipx_router.specs.Telling.{IsNextTelling, is_due}
+use Rattle.ipx_router.specs.Telling.{IsNextAdvertisement, is_due}
 use Rattle.ipx_site.specs.IdleTime.{IsTimeUntilDue}
 use Rattle.ipx_site.specs.Moments.{IsReached}
 
@@ -42,7 +42,7 @@ reached None t = (λ h. absurd h, λ (m, e, h). absurd (cc))
 reached (Some n) t = (λ h. (n, refl, h), λ (m, e, h). subst (λ o. IsReached o t) (sym e) h)
 
 -- it is time to advertise exactly if the time of the next advertisement is reached
-pub telling : (last o : Option ℕ) (t : ℕ) → IsNextTelling last o → t < 2 ^ 64 → IsReached o t ↔ (is_due last t ≡ true)
+pub telling : (last o : Option ℕ) (t : ℕ) → IsNextAdvertisement last o → t < 2 ^ 64 → IsReached o t ↔ (is_due last t ≡ true)
 telling last None t h less = (λ k. absurd k, λ e. absurd (cc (sym e ∙ h t less)))
 telling last (Some m) t h less = (λ k. h t ∙ le-leb m t k, λ e. leb-true m t (sym (h t) ∙ e))
 

@@ -7,7 +7,7 @@ use Rattle.ipx_site.specs.declared.token_bucket.RateLimit.{RateLimit}
 use Rattle.ipx_site.specs.declared.token_bucket.TokenBucket.{TokenBucket}
 use Rattle.ipx_site.specs.TokenBucket.{bucket_clock, bucket_has, bucket_taken, has_token}
 use Rattle.ipx_site.specs.TokenBuckets.{TokenBucketsView}
-use Rattle.ipx_site.specs.RateLimiter.{HearsSparingly, RateLimiterView}
+use Rattle.ipx_site.specs.RateLimiter.{HearsRateLimited, RateLimiterView}
 use Rattle.ipx_site.specs.QueryRate.{AreSuch, Coming, Course, most_in}
 
 -- a later state of a bucket, in which no token is back sooner
@@ -19,7 +19,7 @@ has burst back now h = grind (arith, nat_tests)
 
 -- a bucket, and the events that take a token of it between two times
 module _ {C : Type 0} (hears : C → ℕ → List ℕ → ℕ → C → Type 0) (of : TokenBucketsView → Option TokenBucket) (Is : Coming C → Type 0) (a b : ℕ)
-    (step : (old : RateLimiterView C) (port : ℕ) (bytes : List ℕ) (now : ℕ) (new : RateLimiterView C) → HearsSparingly hears old port bytes now new
+    (step : (old : RateLimiterView C) (port : ℕ) (bytes : List ℕ) (now : ℕ) (new : RateLimiterView C) → HearsRateLimited hears old port bytes now new
     → (bucket : TokenBucket) → of old.buckets ≡ Some bucket → (later : TokenBucket) × (of new.buckets ≡ Some later) × Later bucket later now)
     (take : (c : Coming C) → Is c → (bucket : TokenBucket) → of c.before.buckets ≡ Some bucket
     → (a ≤ c.now) × (c.now ≤ b) × (bucket_has bucket c.now ≡ true) × (of c.after.buckets ≡ Some (bucket_taken bucket c.now))) where

@@ -9,7 +9,7 @@ use Rattle.ipx_site.specs.declared.token_bucket.TokenBucket.{TokenBucket}
 use Rattle.ipx_site.specs.PortBuckets.{at_port, directed_has, directed_taken, is_free, no_tokens, query_has, query_taken}
 use Rattle.ipx_site.specs.TokenBucket.{bucket_has, bucket_taken}
 use Rattle.ipx_site.specs.TokenBuckets.{TokenBucketsView}
-use Rattle.ipx_site.specs.RateLimiter.{HearsSparingly, RateLimiterView}
+use Rattle.ipx_site.specs.RateLimiter.{HearsRateLimited, RateLimiterView}
 use Rattle.ipx_site.specs.QueryRate.{AreSuch, Coming, Course, IsHeardAt, IsToLeaveBy, most_in}
 use Rattle.ipx_site.proofs.PortRates.{Later, has, seldom}
 
@@ -50,7 +50,7 @@ module _ (pick : PortBuckets → Option TokenBucket) (port : ℕ) where
   module _ {C : Type 0} (hears : C → ℕ → List ℕ → ℕ → C → Type 0)
       (query : (bucket : TokenBucket) (now : ℕ) (p : PortBuckets) → pick p ≡ Some bucket → Keeps bucket now (query_taken now p))
       (directed : (bucket : TokenBucket) (now : ℕ) (p : PortBuckets) → pick p ≡ Some bucket → Keeps bucket now (directed_taken now p)) where
-    step : (old : RateLimiterView C) (at : ℕ) (bytes : List ℕ) (now : ℕ) (new : RateLimiterView C) → HearsSparingly hears old at bytes now new
+    step : (old : RateLimiterView C) (at : ℕ) (bytes : List ℕ) (now : ℕ) (new : RateLimiterView C) → HearsRateLimited hears old at bytes now new
         → (bucket : TokenBucket) → of old.buckets ≡ Some bucket → (later : TokenBucket) × (of new.buckets ≡ Some later) × Later bucket later now
     step old at bytes now new h bucket is =
         let ports : RateLimiterView C → List PortBuckets = λ v. v.buckets.ports in

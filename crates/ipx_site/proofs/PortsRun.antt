@@ -9,9 +9,9 @@ use Rattle.ipx_ethernet_ports.specs.declared.end_sockets.EndSockets as OfSockets
 use Rattle.ipx_ethernet_ports.specs.declared.sockets.EthernetSockets.{EthernetSockets}
 use Rattle.ipx_site.specs.declared.source_filter.SourceFilter.{SourceFilter}
 use Rattle.ipx_site.specs.declared.sockets.UdpSockets.{UdpSockets}
-use Rattle.ipx_site.specs.PortsView.{SitePortsRun, kept_in_ports, ways_in}
+use Rattle.ipx_site.specs.PortsView.{SitePortsRun, filtered_in_ports, ways_in}
 use Rattle.ipx_site.specs.RouterPorts.{by_kind}
-use Rattle.ipx_site.specs.SourceFilter.{kept_in}
+use Rattle.ipx_site.specs.SourceFilter.{drops_in}
 
 module _ {gd : OfDevice.Ghosts (SourceFilter UdpSockets)} {ge : OfSockets.Ghosts EthernetSockets} {gl : OfPlaces.Ghosts ServerSockets} (r s : SitePortsRun gd ge gl) (moment : ℕ) (same : s.datagrams ≡ r.datagrams) (later : s.ethernet ≡ record r.ethernet { moment = moment })
     (too : s.servers ≡ record r.servers { moment = moment }) where
@@ -21,8 +21,8 @@ module _ {gd : OfDevice.Ghosts (SourceFilter UdpSockets)} {ge : OfSockets.Ghosts
       ∙ ap (λ w. by_kind (peers_of r.datagrams.peers.items) (map (λ h. h.port) w.switches.items) s.port_indices.items) later
       ∙ ap (λ p. by_kind (peers_of r.datagrams.peers.items) (map (λ h. h.port) r.ethernet.switches.items) p.items) there
 
-  pub kept_stays : kept_in_ports s ≡ kept_in_ports r
+  pub kept_stays : filtered_in_ports s ≡ filtered_in_ports r
   kept_stays =
-      ap (λ d. kept_in d.device.kept + (s.ethernet.kept + s.ethernet.sockets.unknown_senders) + (s.servers.kept + s.servers.sockets.nowhere)) same
-      ∙ ap (λ w. kept_in r.datagrams.device.kept + (w.kept + w.sockets.unknown_senders) + (s.servers.kept + s.servers.sockets.nowhere)) later
-      ∙ ap (λ l. kept_in r.datagrams.device.kept + (r.ethernet.kept + r.ethernet.sockets.unknown_senders) + (l.kept + l.sockets.nowhere)) too
+      ap (λ d. drops_in d.device.kept + (s.ethernet.kept + s.ethernet.sockets.unknown_senders) + (s.servers.kept + s.servers.sockets.nowhere)) same
+      ∙ ap (λ w. drops_in r.datagrams.device.kept + (w.kept + w.sockets.unknown_senders) + (s.servers.kept + s.servers.sockets.nowhere)) later
+      ∙ ap (λ l. drops_in r.datagrams.device.kept + (r.ethernet.kept + r.ethernet.sockets.unknown_senders) + (l.kept + l.sockets.nowhere)) too

@@ -4,7 +4,7 @@ use Rattle.std.specs.Prelude.{position}
 use Rattle.std.specs.List.{before_first, flat_map, position_or_len}
 use Rattle.std.proofs.lemmas.Bool.{cases_lt, le-ltb}
 use Rattle.std.proofs.lemmas.List.{append-nil, append_assoc, flat_map_more, take_all, take_more}
-use Rattle.ipx_site.specs.Checked.{each_behind}
+use Rattle.ipx_site.specs.Checked.{each_after}
 
 position_found : {X : Type 0} (p : X → Bool) (xs : List X) (i : ℕ) → Some i ≡ position p xs → i ≡ position_or_len p xs
 position_found p xs i e =
@@ -33,13 +33,13 @@ texts_more f xs i d old part lt was is =
     rw (was, is) (flat_map_more f [] (take i xs) (get_or xs i d) ∙ ap (flat_map f) (sym (take_more xs i d lt)))
 
 -- the same if a text depends on the elements before it
-each_more : {X : Type 0} (f : List X → X → List ℕ) (earlier xs : List X) (x : X) → each_behind f earlier (xs ++ x ∷ []) ≡ each_behind f earlier xs ++ f (earlier ++ xs) x
+each_more : {X : Type 0} (f : List X → X → List ℕ) (earlier xs : List X) (x : X) → each_after f earlier (xs ++ x ∷ []) ≡ each_after f earlier xs ++ f (earlier ++ xs) x
 each_more f earlier [] x = append-nil (f earlier x) ∙ ap (λ t. f t x) (sym (append-nil earlier))
 each_more f earlier (y ∷ ys) x =
     ap (λ t. f earlier y ++ t) (each_more f (earlier ++ y ∷ []) ys x)
-    ∙ rw (append_assoc earlier (y ∷ []) ys) (sym (append_assoc (f earlier y) (each_behind f (earlier ++ y ∷ []) ys) (f (earlier ++ y ∷ ys) x)))
+    ∙ rw (append_assoc earlier (y ∷ []) ys) (sym (append_assoc (f earlier y) (each_after f (earlier ++ y ∷ []) ys) (f (earlier ++ y ∷ ys) x)))
 
-pub behind_more : {X : Type 0} (f : List X → X → List ℕ) (xs : List X) (i : ℕ) (d : X) (old part : List ℕ) → i < length xs → old ≡ each_behind f [] (take i xs)
-    → part ≡ f (take i xs) (get_or xs i d) → old ++ part ≡ each_behind f [] (take (i + 1) xs)
+pub behind_more : {X : Type 0} (f : List X → X → List ℕ) (xs : List X) (i : ℕ) (d : X) (old part : List ℕ) → i < length xs → old ≡ each_after f [] (take i xs)
+    → part ≡ f (take i xs) (get_or xs i d) → old ++ part ≡ each_after f [] (take (i + 1) xs)
 behind_more f xs i d old part lt was is =
-    rw (was, is) (sym (each_more f [] (take i xs) (get_or xs i d)) ∙ ap (each_behind f []) (sym (take_more xs i d lt)))
+    rw (was, is) (sym (each_more f [] (take i xs) (get_or xs i d)) ∙ ap (each_after f []) (sym (take_more xs i d lt)))

@@ -9,8 +9,8 @@ use Rattle.ipx_site.specs.IdleTime.{IsDue, deadlines, happened}
 use Rattle.ipx_site.specs.KindPorts.{ArePortsBound}
 use Rattle.ipx_site.specs.Loading.{IsFileText}
 use Rattle.ipx_site.specs.PortLimits.{limits_of}
-use Rattle.ipx_site.specs.PortsView.{kept_in_ports, ways_in}
-use Rattle.ipx_site.specs.RouterRounds.{IsRound, SleepsBehind}
+use Rattle.ipx_site.specs.PortsView.{filtered_in_ports, ways_in}
+use Rattle.ipx_site.specs.RouterRounds.{IsRound, SleepsAfter}
 use Rattle.ipx_site.specs.RoutingRuns.{Rounds, RoutesWell, RunsTo, StartsBy, StartsByFile, TakesRound}
 use Rattle.ipx_site.specs.Site.{IsSiteText}
 use Rattle.ipx_site.specs.SiteMarks.{marks_in, numbers_come}
@@ -28,8 +28,8 @@ when_well (Err e) failed P same p well = absurd (let no : true ≡ false = same 
 
 pub took_round : {R T E : Type 0} (old new : RunningRouter R) (r : Result T E)
     → (between : SteadyClock R) × (batch : Batch) × (marks : List Bool)
-    × IsRound old.clock between StopsThere NeverGoesBack (ways_in old.ports) (kept_in_ports old.ports) (kept_in_ports new.ports) old.asked new.asked old.core new.core new.ports.ethernet.moment batch
-    × SleepsBehind (IsDue (deadlines new.asked new.looked new.responses new.written new.core new.warnings (happened new.totals new.core new.ports))) (is_any_marked marks) between new.clock StopsThere new.ready.asked batch.fault batch.quiet
+    × IsRound old.clock between StopsThere NeverGoesBack (ways_in old.ports) (filtered_in_ports old.ports) (filtered_in_ports new.ports) old.asked new.asked old.core new.core new.ports.ethernet.moment batch
+    × SleepsAfter (IsDue (deadlines new.asked new.looked new.responses new.written new.core new.warnings (happened new.totals new.core new.ports))) (is_any_marked marks) between new.clock StopsThere new.ready.asked batch.fault batch.quiet
     × OnOk r (AreMarked (numbers_come new.ready) marks (marks_in new.ports))
     → is_err r ≡ new.ready.failed → new.ports.servers.moment ≡ new.ports.ethernet.moment → ways_in new.ports ≡ ways_in old.ports
     → peers_of new.ports.datagrams.peers.items ≡ peers_of old.ports.datagrams.peers.items → new.ports.port_indices.items ≡ old.ports.port_indices.items

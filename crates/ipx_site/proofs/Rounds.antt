@@ -6,8 +6,8 @@ use Rattle.ipx_carrier.specs.declared.report.Batch.{Batch}
 use Rattle.ipx_carrier.specs.Driving.{BurstsBy}
 use Rattle.ipx_site.specs.IdleTime.{Deadlines, EventCounts, IsTimeUntilDue, IsDue, deadlines}
 use Rattle.ipx_site.specs.declared.warnings.Warnings.{Warnings}
-use Rattle.ipx_site.specs.SiteCore.{SiteCore, SiteGives, SiteHears, SiteMisses, SiteWithholds}
-use Rattle.ipx_site.specs.RouterRounds.{AsksAgain, IsRound, SleepsBehind}
+use Rattle.ipx_site.specs.SiteCore.{SiteCore, SiteGives, SiteHears, SiteHearOutOfMemory, SiteNextOutOfMemory}
+use Rattle.ipx_site.specs.RouterRounds.{AsksAgain, IsRound, SleepsAfter}
 
 -- a core that repeats its requests keeps its ports
 pub same_ports : (now times times_after : ℕ) (old mid : SiteCore) → AsksAgain now times times_after old mid
@@ -18,32 +18,32 @@ same_ports now times times_after old mid (inr h) = ap (λ (v : SiteCore). length
 pub is_round : {K A : Type 0} (stops tells : K → ℕ → K → Type 0) (clock told tick clock_after : K) (transmissions here : Ways A)
     (i j n : ℕ) (now moment times times_after : ℕ) (old mid new : SiteCore) (b : Batch) → stops clock now told → tick ≡ told → moment ≡ now
     → AsksAgain now times times_after old mid → here ≡ transmissions → j ≡ i
-    → BurstsBy SiteHears SiteMisses SiteGives SiteWithholds tells (length mid.core.core.core.router.ports) here 32 b j n tick clock_after mid new
+    → BurstsBy SiteHears SiteHearOutOfMemory SiteGives SiteNextOutOfMemory tells (length mid.core.core.core.router.ports) here 32 b j n tick clock_after mid new
     → IsRound clock clock_after stops tells transmissions i n times times_after old new moment b
 is_round {A = A} stops tells clock told tick clock_after transmissions here i j n now moment times times_after old mid new b h e m asks f g bursts =
-    let at = subst (λ ports. BurstsBy SiteHears SiteMisses SiteGives SiteWithholds tells ports here 32 b j n tick clock_after mid new)
+    let at = subst (λ ports. BurstsBy SiteHears SiteHearOutOfMemory SiteGives SiteNextOutOfMemory tells ports here 32 b j n tick clock_after mid new)
     (same_ports now times times_after old mid asks) bursts in
-    let by = subst (λ (it : Ways A). BurstsBy SiteHears SiteMisses SiteGives SiteWithholds tells (length old.core.core.core.router.ports) it 32 b j n tick clock_after mid new) f at in
-    let kept = subst (λ it. BurstsBy SiteHears SiteMisses SiteGives SiteWithholds tells (length old.core.core.core.router.ports) transmissions 32 b it n tick clock_after mid new) g by in
+    let by = subst (λ (it : Ways A). BurstsBy SiteHears SiteHearOutOfMemory SiteGives SiteNextOutOfMemory tells (length old.core.core.core.router.ports) it 32 b j n tick clock_after mid new) f at in
+    let kept = subst (λ it. BurstsBy SiteHears SiteHearOutOfMemory SiteGives SiteNextOutOfMemory tells (length old.core.core.core.router.ports) transmissions 32 b it n tick clock_after mid new) g by in
     (now, tick, mid, subst (λ it. stops clock now it) (sym e) h, m, asks, kept)
 
 -- how long a router waits, by how its batch ended
 pub rests : {K : Type 0} (todo : ℕ → Type 0) (marked : Bool) (clock clock' : K) (stops : K → ℕ → K → Type 0) (asked : Option ℕ)
     (fault : Option RunFault) (quiet : Bool) → is_some fault ≡ true → asked ≡ Some 100 → clock' ≡ clock
-    → SleepsBehind todo marked clock clock' stops asked fault quiet
+    → SleepsAfter todo marked clock clock' stops asked fault quiet
 rests todo marked clock clock' stops asked (Some f) quiet e at same = (at, same)
 rests todo marked clock clock' stops asked None quiet e at same = absurd (cc)
 
 pub sleeps : {K : Type 0} (todo : ℕ → Type 0) (marked : Bool) (clock clock' : K) (stops : K → ℕ → K → Type 0) (asked : Option ℕ)
     (fault : Option RunFault) (quiet : Bool) → is_some fault ≡ false → quiet ≡ true → (now time : ℕ) → stops clock now clock'
-    → IsTimeUntilDue todo now time → asked ≡ Some (if marked then min time 100 else time) → SleepsBehind todo marked clock clock' stops asked fault quiet
+    → IsTimeUntilDue todo now time → asked ≡ Some (if marked then min time 100 else time) → SleepsAfter todo marked clock clock' stops asked fault quiet
 sleeps todo marked clock clock' stops asked (Some f) quiet e q now time told time_until_due at = absurd (cc)
 sleeps todo marked clock clock' stops asked None true e q now time told time_until_due at = (now, time, told, time_until_due, at)
 sleeps todo marked clock clock' stops asked None false e q now time told time_until_due at = absurd (cc)
 
 pub goes_on : {K : Type 0} (todo : ℕ → Type 0) (marked : Bool) (clock clock' : K) (stops : K → ℕ → K → Type 0) (asked : Option ℕ)
     (fault : Option RunFault) (quiet : Bool) → is_some fault ≡ false → quiet ≡ false → asked ≡ Some 0 → clock' ≡ clock
-    → SleepsBehind todo marked clock clock' stops asked fault quiet
+    → SleepsAfter todo marked clock clock' stops asked fault quiet
 goes_on todo marked clock clock' stops asked (Some f) quiet e q at same = absurd (cc)
 goes_on todo marked clock clock' stops asked None true e q at same = absurd (cc)
 goes_on todo marked clock clock' stops asked None false e q at same = (at, same)
@@ -59,11 +59,11 @@ round_then stops tells clock clock' transmissions kept kept' kept'' asked asked'
     subst (λ it. IsRound clock clock' stops tells transmissions kept kept'' asked asked'' old new' it b) (sym h) three
 
 pub sleeps_then : {K : Type 0} (a b : Deadlines) (marked : Bool) (clock clock' : K) (stops : K → ℕ → K → Type 0) (asked asked' : Option ℕ)
-    (fault : Option RunFault) (quiet : Bool) → b ≡ a → asked' ≡ asked → SleepsBehind (IsDue a) marked clock clock' stops asked fault quiet
-    → SleepsBehind (IsDue b) marked clock clock' stops asked' fault quiet
+    (fault : Option RunFault) (quiet : Bool) → b ≡ a → asked' ≡ asked → SleepsAfter (IsDue a) marked clock clock' stops asked fault quiet
+    → SleepsAfter (IsDue b) marked clock clock' stops asked' fault quiet
 sleeps_then a b marked clock clock' stops asked asked' fault quiet e f h =
-    let one = subst (λ it. SleepsBehind (IsDue it) marked clock clock' stops asked fault quiet) (sym e) h in
-    subst (λ it. SleepsBehind (IsDue b) marked clock clock' stops it fault quiet) (sym f) one
+    let one = subst (λ it. SleepsAfter (IsDue it) marked clock clock' stops asked fault quiet) (sym e) h in
+    subst (λ it. SleepsAfter (IsDue b) marked clock clock' stops it fault quiet) (sym f) one
 
 -- deadlines, part by part
 pub same_deadlines : (asked asked' : ℕ) (looked looked' : Option ℕ) (responses responses' : ℕ) (written written' : Option ℕ)

@@ -33,12 +33,12 @@ use Rattle.ipx_site.specs.declared.key.Key.TheVariants as Key
 use Rattle.ipx_site.specs.declared.site.PortConfig.{PortConfig}
 use Rattle.ipx_site.specs.declared.site.PortConfig.TheVariants.{Rfc1234, Frames, Ipxnet}
 use Rattle.ipx_site.specs.Fields.{HoldsOr}
-use Rattle.ipx_site.specs.StaticFields.{IsNear, numbered_port, own_place}
-use Rattle.ipx_site.specs.StaticLists.{AreStatics, AreEntriesOf, AreStaticEntries, again_place, is_one_source, is_same_word, says_again}
-use Rattle.ipx_site.specs.StaticStands.{FilesMayStand, IsToStand, MayStand}
+use Rattle.ipx_site.specs.StaticFields.{IsNear, numbered_port, port_index_on}
+use Rattle.ipx_site.specs.StaticLists.{AreStatics, AreEntriesOf, AreStaticEntries, again_place, is_one_source, is_same_word, is_repeat_of}
+use Rattle.ipx_site.specs.StaticsHold.{FilesMeetPremises, NeighbourMayAdvertise, MayAdvertise}
 use Rattle.ipx_site.specs.StaticTables.{IsEntryTable, IsPath}
 use Rattle.ipx_site.specs.PortKinds.{network_of_kind}
-use Rattle.ipx_site.specs.StaticNeighbours.{AreSilent, IsSilent, named_sources, route_in_word, service_in_word, with_source}
+use Rattle.ipx_site.specs.StaticNeighbours.{AreSilent, IsSilent, named_sources, route_of_item, service_of_item, with_source}
 use Rattle.ipx_site.specs.SitePorts.{router_port_of_kind, router_ports}
 use Rattle.ipx_site.specs.Values.{IsCount}
 use Rattle.ipx_site.proofs.Among.{each_fails, later, made_of, makes, none_among, of_left, of_right, one_or_later, or_parts}
@@ -74,7 +74,7 @@ network_kept (Rfc1234 p) = refl
 network_kept (Frames p) = refl
 network_kept (Ipxnet p) = refl
 
-none_own : (ports : List PortConfig) (n : Network) → own_place ports n ≡ None → list_any (λ (p : Port). p.network.0 == n.0) (router_ports ports) ≡ false
+none_own : (ports : List PortConfig) (n : Network) → port_index_on ports n ≡ None → list_any (λ (p : Port). p.network.0 == n.0) (router_ports ports) ≡ false
 none_own ports n none =
     let IsOff : Port → Type 0 = λ p. (p.network.0 == n.0) ≡ false in
     list_any_none (λ (p : Port). p.network.0 == n.0) (router_ports ports)
@@ -87,11 +87,11 @@ hops_low : (ms : Members) (hops : ℕ) → HoldsOr (IsCount 14) Key.Hops ms 1 ho
 hops_low ms hops (inl none) = omega (arith, none.1)
 hops_low ms hops (inr some) = omega (arith, some.2.2)
 
-abbrev IsTold : List Port → StaticItem → Type 0
-IsTold ports (Says.Route r) = (is_heard ports r ≡ true) × (r.hops < 16)
-IsTold ports (Says.Service s) = s.hops < 16
+abbrev IsAdvertised : List Port → StaticItem → Type 0
+IsAdvertised ports (Says.Route r) = (is_heard ports r ≡ true) × (r.hops < 16)
+IsAdvertised ports (Says.Service s) = s.hops < 16
 
-path_told : (ports : List PortConfig) (ms : Members) (cost : ℕ) (r : RipEntry) → IsPath ports ms cost r → IsTold (router_ports ports) (Says.Route r)
+path_told : (ports : List PortConfig) (ms : Members) (cost : ℕ) (r : RipEntry) → IsPath ports ms cost r → IsAdvertised (router_ports ports) (Says.Route r)
 path_told ports ms cost r path =
     let far = path.network in
     let written = far.0.2.2 in
@@ -101,9 +101,9 @@ path_told ports ms cost r path =
     (heard, hops_low ms r.hops path.hops)
 
 abbrev IsGood : List PortConfig → StaticKind → StaticEntry → Type 0
-IsGood ports Of.Route e = IsElsewhere (router_ports ports) e.by × IsTold (router_ports ports) e.word
+IsGood ports Of.Route e = IsElsewhere (router_ports ports) e.by × IsAdvertised (router_ports ports) e.word
     × ((r : RipEntry) × (e.word ≡ Says.Route r))
-IsGood ports Of.Service e = IsElsewhere (router_ports ports) e.by × IsTold (router_ports ports) e.word
+IsGood ports Of.Service e = IsElsewhere (router_ports ports) e.by × IsAdvertised (router_ports ports) e.word
     × ((s : ServiceEntry) × (e.word ≡ Says.Service s))
 
 good : (kind : StaticKind) (ports : List PortConfig) (ms : Members) (e : StaticEntry) → IsEntryTable kind ports ms e → IsGood ports kind e
@@ -158,15 +158,15 @@ AreAlike x y = (x.by ≡ y.by) × SayTheSame x.word y.word
 turned : (x y : StaticEntry) → AreAlike x y → AreAlike y x
 turned x y alike = (sym alike.0, other_way x.word y.word alike.1)
 
-again_is : (x y : StaticEntry) → AreAlike x y → says_again x y ≡ true
+again_is : (x y : StaticEntry) → AreAlike x y → is_repeat_of x y ≡ true
 again_is x y alike =
     and_from (is_one_source x.by y.by) (is_same_word x.word y.word) (source_is x.by y.by alike.0) (word_is x.word y.word alike.1)
 
 no_first : (earlier : List StaticEntry) (e : StaticEntry) → again_place earlier e ≡ None → (x y : StaticEntry) → Contains earlier x
     → e ≡ y → AreAlike x y → ⊥
 no_first earlier e alone x y before same alike =
-    let fails = each_fails (λ (other : StaticEntry). says_again other e) earlier alone x before in
-    let passes = subst (λ (z : StaticEntry). says_again x z ≡ true) (sym same) (again_is x y alike) in
+    let fails = each_fails (λ (other : StaticEntry). is_repeat_of other e) earlier alone x before in
+    let passes = subst (λ (z : StaticEntry). is_repeat_of x z ≡ true) (sym same) (again_is x y alike) in
     true≢false (sym passes ∙ fails)
 
 module _ (kind : StaticKind) (ports : List PortConfig) where
@@ -214,7 +214,7 @@ module _ (kind : StaticKind) (ports : List PortConfig) where
   kind_good ms es (inr some) = each_good [] some.0 es some.2
 
 abbrev IsRight : List PortConfig → StaticEntry → Type 0
-IsRight ports e = IsElsewhere (router_ports ports) e.by × IsTold (router_ports ports) e.word
+IsRight ports e = IsElsewhere (router_ports ports) e.by × IsAdvertised (router_ports ports) e.word
 
 unlike : (ports : List PortConfig) (x y : StaticEntry) → IsGood ports Of.Route x → IsGood ports Of.Service y → SayTheSame x.word y.word → ⊥
 unlike ports x y of_x of_y same =
@@ -284,11 +284,11 @@ named_has known (x ∷ es) e at =
 
 -- ---- what a neighbour advertises of each entry
 
-is_route : (w : StaticItem) (r : RipEntry) → route_in_word w ≡ Some r → w ≡ Says.Route r
+is_route : (w : StaticItem) (r : RipEntry) → route_of_item w ≡ Some r → w ≡ Says.Route r
 is_route (Says.Route a) r is = ap (λ (x : RipEntry). Says.Route x) (same_Some a r is)
 is_route (Says.Service s) r is = absurd (cc)
 
-is_service : (w : StaticItem) (s : ServiceEntry) → service_in_word w ≡ Some s → w ≡ Says.Service s
+is_service : (w : StaticItem) (s : ServiceEntry) → service_of_item w ≡ Some s → w ≡ Says.Service s
 is_service (Says.Service a) s is = ap (λ (x : ServiceEntry). Says.Service x) (same_Some a s is)
 is_service (Says.Route r) s is = absurd (cc)
 
@@ -320,11 +320,11 @@ of_entry {E} in_word word_of said_by reads es ns silent said m among y there =
 
 pub route_entry : (es : List StaticEntry) (ns : List StaticNeighbour) → AreSilent es ns → (m : StaticNeighbour) → Contains ns m → (y : RipEntry) → Contains m.routes.items y
     → (g : StaticEntry) × Contains es g × (g.by ≡ static_source m) × (g.word ≡ Says.Route y)
-route_entry es ns silent = of_entry route_in_word (λ (x : RipEntry). Says.Route x) (λ (m : StaticNeighbour). m.routes.items) is_route es ns silent (λ s m of. of.routes)
+route_entry es ns silent = of_entry route_of_item (λ (x : RipEntry). Says.Route x) (λ (m : StaticNeighbour). m.routes.items) is_route es ns silent (λ s m of. of.routes)
 
 pub service_entry : (es : List StaticEntry) (ns : List StaticNeighbour) → AreSilent es ns → (m : StaticNeighbour) → Contains ns m → (y : ServiceEntry) → Contains m.services.items y
     → (g : StaticEntry) × Contains es g × (g.by ≡ static_source m) × (g.word ≡ Says.Service y)
-service_entry es ns silent = of_entry service_in_word (λ (x : ServiceEntry). Says.Service x) (λ (m : StaticNeighbour). m.services.items) is_service es ns silent (λ s m of. of.services)
+service_entry es ns silent = of_entry service_of_item (λ (x : ServiceEntry). Says.Service x) (λ (m : StaticNeighbour). m.services.items) is_service es ns silent (λ s m of. of.services)
 
 module _ {E K M : Type 0} (in_word : StaticItem → Option E) (word_of : E → StaticItem) (key_of : E → K) (metric_of : E → M) (said_by : StaticNeighbour → List E)
     (reads : (w : StaticItem) (x : E) → in_word w ≡ Some x → w ≡ word_of x) (in_own : (x : E) → in_word (word_of x) ≡ Some x)
@@ -354,28 +354,28 @@ module _ {E K M : Type 0} (in_word : StaticItem → Option E) (word_of : E → S
       ap metric_of (same_Some y x equal)
 
 module _ (ports : List PortConfig) (ms : Members) (es : List StaticEntry) (h : AreStatics ports ms es) (ns : List StaticNeighbour) (silent : AreSilent es ns) where
-  word_stands : (e : StaticEntry) → Contains es e → (n : StaticNeighbour) → IsSilent es e.by n → (w : StaticItem) → e.word ≡ w → IsTold (router_ports ports) w
-      → MayStand (router_ports ports) ns n w
-  word_stands e at n is (Says.Route r) word told = (
-    says_it route_in_word (λ (x : RipEntry). Says.Route x) route_key route_metric (λ (m : StaticNeighbour). m.routes.items) is_route (λ x. refl) (λ x y key. key)
+  word_holds : (e : StaticEntry) → Contains es e → (n : StaticNeighbour) → IsSilent es e.by n → (w : StaticItem) → e.word ≡ w → IsAdvertised (router_ports ports) w
+      → MayAdvertise (router_ports ports) ns n w
+  word_holds e at n is (Says.Route r) word told = (
+    says_it route_of_item (λ (x : RipEntry). Says.Route x) route_key route_metric (λ (m : StaticNeighbour). m.routes.items) is_route (λ x. refl) (λ x y key. key)
         es (same_by_static ports ms es h) ns silent (λ s m of. of.routes) e.by n is e at refl r word,
-    λ m among by. says_no_other route_in_word (λ (x : RipEntry). Says.Route x) route_key route_metric (λ (m : StaticNeighbour). m.routes.items) is_route (λ x. refl) (λ x y key. key)
+    λ m among by. says_no_other route_of_item (λ (x : RipEntry). Says.Route x) route_key route_metric (λ (m : StaticNeighbour). m.routes.items) is_route (λ x. refl) (λ x y key. key)
         es (same_by_static ports ms es h) ns silent (λ s m of. of.routes) e at r word m among (by ∙ is.source),
     told.0,
     told.1,
   )
-  word_stands e at n is (Says.Service v) word told = (
-    says_it service_in_word (λ (x : ServiceEntry). Says.Service x) key_of_service service_metric (λ (m : StaticNeighbour). m.services.items) is_service (λ x. refl) (λ x y key. key)
+  word_holds e at n is (Says.Service v) word told = (
+    says_it service_of_item (λ (x : ServiceEntry). Says.Service x) key_of_service service_metric (λ (m : StaticNeighbour). m.services.items) is_service (λ x. refl) (λ x y key. key)
         es (same_by_static ports ms es h) ns silent (λ s m of. of.services) e.by n is e at refl v word,
-    λ m among by. says_no_other service_in_word (λ (x : ServiceEntry). Says.Service x) key_of_service service_metric (λ (m : StaticNeighbour). m.services.items) is_service (λ x. refl) (λ x y key. key)
+    λ m among by. says_no_other service_of_item (λ (x : ServiceEntry). Says.Service x) key_of_service service_metric (λ (m : StaticNeighbour). m.services.items) is_service (λ x. refl) (λ x y key. key)
         es (same_by_static ports ms es h) ns silent (λ s m of. of.services) e at v word m among (by ∙ is.source),
     told,
   )
 
-  entry_stands : (e : StaticEntry) → Contains es e → IsToStand (router_ports ports) ns e
-  entry_stands e at =
+  entry_holds : (e : StaticEntry) → Contains es e → NeighbourMayAdvertise (router_ports ports) ns e
+  entry_holds e at =
       let (n, among, is) = of_left (IsSilent es) (named_sources [] es) ns silent e.by (named_has [] es e at) in
-      (n, among, is.source, word_stands e at n is e.word refl (right ports ms es h e at).1)
+      (n, among, is.source, word_holds e at n is e.word refl (right ports ms es h e at).1)
 
   all_elsewhere : All (IsAnotherNode (router_ports ports)) ns
   all_elsewhere =
@@ -383,9 +383,9 @@ module _ (ports : List PortConfig) (ms : Members) (es : List StaticEntry) (h : A
       let each : All (λ e. P e.by) es = λ k d within. (right ports ms es h (get_or es k d) (Contains-get_or es k d within)).0 in
       neighbours_have P es (named_sources [] es) ns silent (sources_have P [] es (All-nil P) each)
 
-pub files_stand : FilesMayStand
+pub files_stand : FilesMeetPremises
 files_stand text s (ms, parsed, site) ns silent =
     let es = s.statics.items in (
       all_elsewhere s.ports.items ms es site.statics ns silent,
-      λ k d within. entry_stands s.ports.items ms es site.statics ns silent (get_or es k d) (Contains-get_or es k d within),
+      λ k d within. entry_holds s.ports.items ms es site.statics ns silent (get_or es k d) (Contains-get_or es k d within),
     )

@@ -20,7 +20,7 @@ use Rattle.ipx_site.specs.declared.statics.StaticEntry.{StaticEntry}
 use Rattle.ipx_site.specs.declared.statics.StaticItem.{StaticItem}
 use Rattle.ipx_site.specs.declared.statics.StaticItem.TheVariants.{Route, Service}
 use Rattle.ipx_site.specs.declared.site.RouterConfig.{RouterConfig}
-use Rattle.ipx_site.specs.StaticStands.{DependsOnRoute, DependsOnService, IsToStand, MayStand, RoutesOfFilesStand, RunsByFile, ServicesOfFilesStand}
+use Rattle.ipx_site.specs.StaticsHold.{DependsOnRoute, DependsOnService, NeighbourMayAdvertise, MayAdvertise, RoutesOfFilesHold, RunsByFile, ServicesOfFilesHold}
 use Rattle.ipx_site.specs.SitePorts.{router_ports}
 use Rattle.ipx_site.proofs.StandingEntries.{files_stand, route_entry, service_entry}
 
@@ -49,13 +49,13 @@ asked_as : (A B : ℕ → List ℕ → Type 0) → ((port : ℕ) (bytes : List �
 asked_as A B less [] asked h = h
 asked_as A B less (c ∷ cs) asked h = (h.0, comes_as A B less c.call h.1, asked_as A B less cs (asked_by c.moment c.call asked) h.2)
 
-pub routes_of_files : StaticRoutesHold → RoutesOfFilesStand
+pub routes_of_files : StaticRoutesHold → RoutesOfFilesHold
 routes_of_files law text s described start calls old new run h at e word quiet now within =
     let (ns, silent, words, unsaid) = run.to_hear in
     let ports = router_ports s.ports.items in
     let (others, entries) = files_stand text s described ns silent in
-    let (n, among, by, stands) = All-contains (IsToStand ports ns) s.statics.items h entries at in
-    let (there, alone, hears, near) = subst (λ (w : StaticItem). MayStand ports ns n w) word stands in
+    let (n, among, by, stands) = All-contains (NeighbourMayAdvertise ports ns) s.statics.items h entries at in
+    let (there, alone, hears, near) = subst (λ (w : StaticItem). MayAdvertise ports ns n w) word stands in
     let runs = run_of s start calls old new run ns words (ap (λ said. is_due said start) unsaid) others in
     let of_file : (x : RipEntry) → Contains n.routes.items x → (g : StaticEntry) × Contains s.statics.items g × (g.by ≡ h.by) × (g.word ≡ Route x) =
     λ x m. let (g, inside, source, says) = route_entry s.statics.items ns silent n among x m in (g, inside, source ∙ by, says) in
@@ -63,21 +63,21 @@ routes_of_files law text s described start calls old new run h at e word quiet n
     (law ns start calls old new runs n among e there
     (λ x m needed k within_ns same.
     let (g, inside, source, says) = of_file x m in
-    let (other, found, is, other_stands) = All-contains (IsToStand ports ns) s.statics.items g entries inside in
-    let (listed, said_alone, heard, close) = subst (λ (w : StaticItem). MayStand ports ns other w) says other_stands in
+    let (other, found, is, other_holds) = All-contains (NeighbourMayAdvertise ports ns) s.statics.items g entries inside in
+    let (listed, said_alone, heard, close) = subst (λ (w : StaticItem). MayAdvertise ports ns other w) says other_holds in
     said_alone k within_ns (same ∙ by ∙ sym source ∙ sym is))
     (subst (λ (ps : List Port). is_heard ps e ≡ true) (sym run.ports) hears) near
     (asked_as (λ port bytes. (x : RipEntry) → DependsOnRoute s old new h e x → TellsItself n x.network port bytes → ⊥)
     (λ port bytes. (x : RipEntry) → Contains n.routes.items x → DependsOn old new e x → TellsItself n x.network port bytes → ⊥)
     (λ port bytes such x m needed. let (g, inside, source, says) = of_file x m in such x (needed, g, inside, source, says)) calls start (quiet n by)) now within)
 
-pub services_of_files : StaticServicesHold → ServicesOfFilesStand
+pub services_of_files : StaticServicesHold → ServicesOfFilesHold
 services_of_files law text s described start calls old new run h at e word quiet now within =
     let (ns, silent, words, unsaid) = run.to_hear in
     let ports = router_ports s.ports.items in
     let (others, entries) = files_stand text s described ns silent in
-    let (n, among, by, stands) = All-contains (IsToStand ports ns) s.statics.items h entries at in
-    let (there, alone, near) = subst (λ (w : StaticItem). MayStand ports ns n w) word stands in
+    let (n, among, by, stands) = All-contains (NeighbourMayAdvertise ports ns) s.statics.items h entries at in
+    let (there, alone, near) = subst (λ (w : StaticItem). MayAdvertise ports ns n w) word stands in
     let runs = run_of s start calls old new run ns words (ap (λ said. is_due said start) unsaid) others in
     let of_file : (x : ServiceEntry) → Contains n.services.items x → (g : StaticEntry) × Contains s.statics.items g × (g.by ≡ h.by) × (g.word ≡ Service x) =
     λ x m. let (g, inside, source, says) = service_entry s.statics.items ns silent n among x m in (g, inside, source ∙ by, says) in
@@ -85,8 +85,8 @@ services_of_files law text s described start calls old new run h at e word quiet
     (law ns start calls old new runs n among e there
     (λ x m needed k within_ns same.
     let (g, inside, source, says) = of_file x m in
-    let (other, found, is, other_stands) = All-contains (IsToStand ports ns) s.statics.items g entries inside in
-    let (listed, said_alone, close) = subst (λ (w : StaticItem). MayStand ports ns other w) says other_stands in
+    let (other, found, is, other_holds) = All-contains (NeighbourMayAdvertise ports ns) s.statics.items g entries inside in
+    let (listed, said_alone, close) = subst (λ (w : StaticItem). MayAdvertise ports ns other w) says other_holds in
     said_alone k within_ns (same ∙ by ∙ sym source ∙ sym is))
     near
     (asked_as (λ port bytes. (x : ServiceEntry) → DependsOnService s old new h e x → OffersItself n (key_of_service x) port bytes → ⊥)

@@ -3,11 +3,11 @@
 use Rattle.std.proofs.Common.{◌≡◌, ◌≤◌, ◌+◌, ◌⊎◌, ◌∙◌, ℕ, List, [], ◌∷◌, refl, sym, ap, subst, inl, inr}
 use Rattle.ipx_metrics.specs.MeteredRouter.{CountedView, CountsHeard}
 use Rattle.ipx_static.specs.WithStatics.{HearsUnder, WithStaticsView}
-use Rattle.ipx_static.specs.StaticRuns.{Asked, AsksOnceMore, Comes, DoStaticCalls, DoesStaticCall, IsAskedEachMinute, OffersItself, StaticCall, StaticCallAt, StaticsAreCountedApart, TellsItself, asked_by, asked_in, uncounted}
+use Rattle.ipx_static.specs.StaticRuns.{Asked, AsksOnceMore, Comes, DoStaticCalls, DoesStaticCall, IsAskedEachMinute, OffersItself, StaticCall, StaticCallAt, StaticsAreCountedSeparately, TellsItself, asked_by, asked_in, uncounted}
 use Rattle.ipx_router.specs.Told.{key_of_service}
 use Rattle.ipx_site.specs.declared.site.RouterConfig.{RouterConfig}
-use Rattle.ipx_site.specs.StaticStands.{DependsOnRoute, DependsOnService, DoSiteCalls, DoesSiteCall, RoutesOfFilesStand, RoutesOfSitesStand, RunsAsSite, RunsByFile, ServicesOfFilesStand, ServicesOfSitesStand}
-use Rattle.ipx_site.specs.RateLimiter.{HearsSparingly, RateLimiterView}
+use Rattle.ipx_site.specs.StaticsHold.{DependsOnRoute, DependsOnService, DoSiteCalls, DoesSiteCall, RoutesOfFilesHold, RoutesOfSitesHold, RunsAsSite, RunsByFile, ServicesOfFilesHold, ServicesOfSitesHold}
+use Rattle.ipx_site.specs.RateLimiter.{HearsRateLimited, RateLimiterView}
 use Rattle.ipx_control.specs.declared.rip.packet.RipEntry.{RipEntry}
 use Rattle.ipx_control.specs.declared.sap.packet.ServiceEntry.{ServiceEntry}
 use Rattle.ipx_site.specs.SiteCore.{SiteCore, SiteHears}
@@ -17,8 +17,8 @@ abbrev DoesBelow : ℕ → StaticCall → WithStaticsView CountedView → WithSt
 DoesBelow now c old new = DoesStaticCall now c (uncounted old) (uncounted new)
     ⊎ ((port : ℕ) × (bytes : List ℕ) × (c ≡ Comes port bytes) × (new ≡ old))
 
-comes_below : StaticsAreCountedApart → (now port : ℕ) (bytes : List ℕ) (old new : RateLimiterView (WithStaticsView CountedView))
-    → HearsSparingly (HearsUnder CountsHeard) old port bytes now new → DoesBelow now (Comes port bytes) old.core new.core
+comes_below : StaticsAreCountedSeparately → (now port : ℕ) (bytes : List ℕ) (old new : RateLimiterView (WithStaticsView CountedView))
+    → HearsRateLimited (HearsUnder CountsHeard) old port bytes now new → DoesBelow now (Comes port bytes) old.core new.core
 comes_below apart now port bytes old new (inl (inl x)) = inl (apart now (Comes port bytes) old.core new.core x.1.2)
 comes_below apart now port bytes old new (inl (inr x)) = inr (port, bytes, refl, ap (λ (v : RateLimiterView (WithStaticsView CountedView)). v.core) x.3)
 comes_below apart now port bytes old new (inr (inl (inl x))) = inl (apart now (Comes port bytes) old.core new.core x.1.2)
@@ -26,11 +26,11 @@ comes_below apart now port bytes old new (inr (inl (inr x))) = inr (port, bytes,
 comes_below apart now port bytes old new (inr (inr x)) = inl (apart now (Comes port bytes) old.core new.core x.2)
 
 -- what fails a source check is dropped
-heard_below : StaticsAreCountedApart → (now port : ℕ) (bytes : List ℕ) (old new : SiteCore) → SiteHears old port bytes now new → DoesBelow now (Comes port bytes) old.core.core new.core.core
+heard_below : StaticsAreCountedSeparately → (now port : ℕ) (bytes : List ℕ) (old new : SiteCore) → SiteHears old port bytes now new → DoesBelow now (Comes port bytes) old.core.core new.core.core
 heard_below apart now port bytes old new (inl dropped) = inr (port, bytes, refl, ap (λ (v : SiteCore). v.core.core) dropped.2)
 heard_below apart now port bytes old new (inr heard) = comes_below apart now port bytes old.core new.core heard.1
 
-one_below : StaticsAreCountedApart → (now : ℕ) (c : StaticCall) (old new : SiteCore) → DoesSiteCall now c old new → DoesBelow now c old.core.core new.core.core
+one_below : StaticsAreCountedSeparately → (now : ℕ) (c : StaticCall) (old new : SiteCore) → DoesSiteCall now c old new → DoesBelow now c old.core.core new.core.core
 one_below apart now (Comes port bytes) old new h = heard_below apart now port bytes old new h
 one_below apart now (Asked given) old new h = inl (apart now (Asked given) old.core.core new.core.core h.0.0)
 one_below apart now AsksOnceMore old new h = inl (apart now AsksOnceMore old.core.core new.core.core (ap (λ (v : SiteCore). v.core.core) h))
@@ -41,7 +41,7 @@ AreLeft [] left = left ≡ []
 AreLeft (c ∷ cs) left = ((rest : List StaticCallAt) × (left ≡ c ∷ rest) × AreLeft cs rest)
     ⊎ ((port : ℕ) × (bytes : List ℕ) × (c.call ≡ Comes port bytes) × AreLeft cs left)
 
-all_below : StaticsAreCountedApart → (cs : List StaticCallAt) (old new : SiteCore) → DoSiteCalls cs old new
+all_below : StaticsAreCountedSeparately → (cs : List StaticCallAt) (old new : SiteCore) → DoSiteCalls cs old new
     → (left : List StaticCallAt) × AreLeft cs left × DoStaticCalls left (uncounted old.core.core) (uncounted new.core.core)
 all_below apart [] old new is = ([], refl, ap (λ (v : SiteCore). uncounted v.core.core) is)
 all_below apart (c ∷ cs) old new h =
@@ -70,7 +70,7 @@ each_minute IsSuch (c ∷ cs) left are asked h = elim are [
 ]
 
 -- the core below runs by the remaining calls
-run_below : StaticsAreCountedApart → (s : RouterConfig) (start : ℕ) (calls : List StaticCallAt) (old new : SiteCore) → RunsAsSite s start calls old new
+run_below : StaticsAreCountedSeparately → (s : RouterConfig) (start : ℕ) (calls : List StaticCallAt) (old new : SiteCore) → RunsAsSite s start calls old new
     → (left : List StaticCallAt) × AreLeft calls left × RunsByFile s start left (uncounted old.core.core) (uncounted new.core.core)
 run_below apart s start calls old new run =
     let (left, are, goes_on) = all_below apart calls run.first new run.goes_on in (
@@ -87,14 +87,14 @@ run_below apart s start calls old new run =
       },
     )
 
-pub routes_of_sites : StaticsAreCountedApart → RoutesOfFilesStand → RoutesOfSitesStand
+pub routes_of_sites : StaticsAreCountedSeparately → RoutesOfFilesHold → RoutesOfSitesHold
 routes_of_sites apart law text s described start calls old new run h at e word quiet now within =
     let (left, are, below) = run_below apart s start calls old new run in
     law text s described start left (uncounted old.core.core) (uncounted new.core.core) below h at e word
     (λ n by. each_minute (λ port bytes. (x : RipEntry) → DependsOnRoute s (uncounted old.core.core) (uncounted new.core.core) h e x → TellsItself n x.network port bytes → ⊥) calls left are start (quiet n by))
     now (subst (λ it. now ≤ it + 60000) (sym (last_asked calls left are start)) within)
 
-pub services_of_sites : StaticsAreCountedApart → ServicesOfFilesStand → ServicesOfSitesStand
+pub services_of_sites : StaticsAreCountedSeparately → ServicesOfFilesHold → ServicesOfSitesHold
 services_of_sites apart law text s described start calls old new run h at e word quiet now within =
     let (left, are, below) = run_below apart s start calls old new run in
     law text s described start left (uncounted old.core.core) (uncounted new.core.core) below h at e word

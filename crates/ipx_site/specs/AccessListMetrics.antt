@@ -7,7 +7,7 @@ use Rattle.ipx_site.specs.declared.access_list_metrics.FilterDropKind.TheVariant
 use Rattle.ipx_site.specs.declared.port_filter_drops.PortFilterDrops.{PortFilterDrops}
 use Rattle.ipx_site.specs.declared.router_ports.PortIndex.{PortIndex}
 use Rattle.ipx_site.specs.declared.router_ports.PortIndex.TheVariants.{Datagrams, Ethernet, IpxnetServer}
-use Rattle.ipx_site.specs.Checked.{each_behind}
+use Rattle.ipx_site.specs.Checked.{each_after}
 
 -- the HELP and TYPE lines of a metric family with this name, help text and type
 abbrev pub family_text : List ℕ → List ℕ → List ℕ → List ℕ
@@ -16,37 +16,37 @@ family_text name help kind =
     ++ (kind ++ codes "\n")))))))
 
 -- the metric of the port with this number
-abbrev pub port_figure : List ℕ → ℕ → ℕ → List ℕ
-port_figure name number count =
+abbrev pub port_metric_line : List ℕ → ℕ → ℕ → List ℕ
+port_metric_line name number count =
     name ++ (codes "{port=\"" ++ (decimal number ++ (codes "\"} " ++ (decimal count ++ codes "\n"))))
 
 -- the metric, if there is a count
-abbrev pub figure_if : List ℕ → ℕ → Option ℕ → List ℕ
-figure_if name number None = []
-figure_if name number (Some count) = port_figure name number count
+abbrev pub metric_if : List ℕ → ℕ → Option ℕ → List ℕ
+metric_if name number None = []
+metric_if name number (Some count) = port_metric_line name number count
 
 -- what the access list of a port dropped, by the index of an RFC 1234 port in its device; other ports have
 -- none
-abbrev pub kept_at_port_index : List PortFilterDrops → PortIndex → Option PortFilterDrops
-kept_at_port_index kept (Datagrams place) = slice_get kept place
-kept_at_port_index kept (Ethernet place) = None
-kept_at_port_index kept (IpxnetServer place) = None
+abbrev pub drops_at_port_index : List PortFilterDrops → PortIndex → Option PortFilterDrops
+drops_at_port_index kept (Datagrams place) = slice_get kept place
+drops_at_port_index kept (Ethernet place) = None
+drops_at_port_index kept (IpxnetServer place) = None
 
 abbrev pub access_list_count : FilterDropKind → PortFilterDrops → ℕ
 access_list_count UnknownSenders k = k.unknown_senders
 access_list_count Refused k = k.refused
 
 -- the metric of a port, with its number among all ports of the router
-abbrev pub access_list_figure : List ℕ → FilterDropKind → List PortFilterDrops → List PortIndex → PortIndex → List ℕ
-access_list_figure name count kept earlier port_index =
-    figure_if name (length earlier + 1) (option_map (access_list_count count) (kept_at_port_index kept port_index))
+abbrev pub access_list_metric : List ℕ → FilterDropKind → List PortFilterDrops → List PortIndex → PortIndex → List ℕ
+access_list_metric name count kept earlier port_index =
+    metric_if name (length earlier + 1) (option_map (access_list_count count) (drops_at_port_index kept port_index))
 
 abbrev pub access_list_metrics : List ℕ → FilterDropKind → List PortIndex → List PortFilterDrops → List ℕ
-access_list_metrics name count port_indices kept = each_behind (access_list_figure name count kept) [] port_indices
+access_list_metrics name count port_indices kept = each_after (access_list_metric name count kept) [] port_indices
 
 -- whether any port has an access list
 abbrev pub is_any_guarded : List PortIndex → List PortFilterDrops → Bool
-is_any_guarded port_indices kept = list_any (λ s. is_some (kept_at_port_index kept s)) port_indices
+is_any_guarded port_indices kept = list_any (λ s. is_some (drops_at_port_index kept s)) port_indices
 
 -- the datagrams from unknown senders, and those that were to go to no peer, at each port that has an access
 -- list

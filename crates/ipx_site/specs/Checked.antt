@@ -198,17 +198,17 @@ place_remark number earlier p = sharing_text number (position (is_one_place p) e
 -- ---- all that is printed
 
 -- what is printed of each item, which may depend on the items before it
-abbrev pub each_behind : {A : Type 0} → (List A → A → List ℕ) → List A → List A → List ℕ
-each_behind printed earlier [] = []
-each_behind printed earlier (x ∷ xs) =
-    printed earlier x ++ each_behind printed (earlier ++ x ∷ []) xs
+abbrev pub each_after : {A : Type 0} → (List A → A → List ℕ) → List A → List A → List ℕ
+each_after printed earlier [] = []
+each_after printed earlier (x ∷ xs) =
+    printed earlier x ++ each_after printed (earlier ++ x ∷ []) xs
 
 -- the remarks about the addresses that a port sends to, each after the words that say which port it is. There
 -- are none about clients that may register
 abbrev pub reached_remarks : List ℕ → PortConfig → List ℕ
-reached_remarks whose (Rfc1234 p) = each_behind (peer_remark whose p.address) [] p.peers.items
+reached_remarks whose (Rfc1234 p) = each_after (peer_remark whose p.address) [] p.peers.items
 reached_remarks whose (Frames p) =
-    each_behind (ethernet_end_remark (whose ++ codes "remote") (place_of_kind (Frames p))) [] p.ends.items
+    each_after (ethernet_end_remark (whose ++ codes "remote") (place_of_kind (Frames p))) [] p.ends.items
 reached_remarks whose (Ipxnet p) = flat_map (joined_remark whose (place_of_kind (Ipxnet p))) p.join.items
 
 -- the line of a port that follows earlier ones, and the remarks about it
@@ -261,5 +261,5 @@ static_line e = word_line e.by e.word
 -- all that is printed of a router's file: its ports, its static entries, and the file itself
 abbrev pub site_lines : List ℕ → RouterConfig → List ℕ
 site_lines path s =
-    each_behind port_lines [] s.ports.items
+    each_after port_lines [] s.ports.items
     ++ (flat_map static_line s.statics.items ++ file_line path s)

@@ -38,8 +38,8 @@ clients_come told there =
     take (max_client_lines - length (clients_gone told there)) (clients_without there told)
 
 -- the clients that are logged as connected after the look, given exactly these lines
-abbrev pub clients_told : List PortClient → List PortClient → List PortClient
-clients_told told there = clients_without told (clients_gone told there) ++ clients_come told there
+abbrev pub clients_logged : List PortClient → List PortClient → List PortClient
+clients_logged told there = clients_without told (clients_gone told there) ++ clients_come told there
 
 -- the clients of the port with this number
 abbrev pub port_clients : ℕ → List Client → List PortClient

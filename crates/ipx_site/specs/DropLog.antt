@@ -10,11 +10,11 @@ use Rattle.ipx_source_checks.specs.declared.drops.SourceDrops.{SourceDrops}
 use Rattle.ipx_site.specs.declared.drop_log.DropLog.{DropLog}
 use Rattle.ipx_site.specs.declared.drop_log.DropReason.{DropReason}
 use Rattle.ipx_site.specs.declared.drop_log.DropReason.TheVariants.{Bad, NotOurs, NoRoute, HopLimit, BadControl, ForwardedControl, LoopedSource}
-use Rattle.ipx_site.specs.Moments.{IsToldIfDue, untold}
+use Rattle.ipx_site.specs.Moments.{IsLoggedIfDue, untold}
 
 -- nothing has been logged
-abbrev pub no_drops_told : DropLog
-no_drops_told = record {
+abbrev pub no_drops_logged : DropLog
+no_drops_logged = record {
   bad = untold;
   not_ours = untold;
   no_route = untold;
@@ -25,15 +25,15 @@ no_drops_told = record {
 }
 
 -- the drops of each of seven reasons are logged exactly if they are due
-pub record AreDropsTold (outcomes : OutcomeCounters) (source : SourceDrops) (now : ℕ) (old new : DropLog) : Type 0 where
-  pub bad : IsToldIfDue outcomes.bad now old.bad new.bad
-  pub not_ours : IsToldIfDue outcomes.not_ours now old.not_ours new.not_ours
-  pub no_route : IsToldIfDue outcomes.no_route now old.no_route new.no_route
-  pub hop_limit : IsToldIfDue outcomes.hop_limit now old.hop_limit new.hop_limit
-  pub bad_control : IsToldIfDue outcomes.bad_control now old.bad_control new.bad_control
+pub record AreDropsLogged (outcomes : OutcomeCounters) (source : SourceDrops) (now : ℕ) (old new : DropLog) : Type 0 where
+  pub bad : IsLoggedIfDue outcomes.bad now old.bad new.bad
+  pub not_ours : IsLoggedIfDue outcomes.not_ours now old.not_ours new.not_ours
+  pub no_route : IsLoggedIfDue outcomes.no_route now old.no_route new.no_route
+  pub hop_limit : IsLoggedIfDue outcomes.hop_limit now old.hop_limit new.hop_limit
+  pub bad_control : IsLoggedIfDue outcomes.bad_control now old.bad_control new.bad_control
   pub forwarded_control :
-      IsToldIfDue source.forwarded_control.count now old.forwarded_control new.forwarded_control
-  pub looped_source : IsToldIfDue source.looped_source.count now old.looped_source new.looped_source
+      IsLoggedIfDue source.forwarded_control.count now old.forwarded_control new.forwarded_control
+  pub looped_source : IsLoggedIfDue source.looped_source.count now old.looped_source new.looped_source
 
 -- the last datagram of a reason was for all nodes of a network, to a socket other than those of RIP and SAP,
 -- which routers hear
@@ -60,10 +60,10 @@ warns_of LoopedSource last = true
 -- ---- relations for private functions
 
 -- what failed a source check is logged if it is due, and no other reason
-pub record AreSourceDropsTold (source : SourceDrops) (now : ℕ) (old new : DropLog) : Type 0 where
+pub record AreSourceDropsLogged (source : SourceDrops) (now : ℕ) (old new : DropLog) : Type 0 where
   pub forwarded_control :
-      IsToldIfDue source.forwarded_control.count now old.forwarded_control new.forwarded_control
-  pub looped_source : IsToldIfDue source.looped_source.count now old.looped_source new.looped_source
+      IsLoggedIfDue source.forwarded_control.count now old.forwarded_control new.forwarded_control
+  pub looped_source : IsLoggedIfDue source.looped_source.count now old.looped_source new.looped_source
   pub rest : new ≡ record old {
     forwarded_control = new.forwarded_control;
     looped_source = new.looped_source;

@@ -43,9 +43,9 @@ abbrev pub is_same_place : Place → Place → Bool
 is_same_place a b = pointwise nat_eq b.ip a.ip && (b.udp_port == a.udp_port)
 
 -- no place is listed twice
-abbrev pub are_places_apart : List Place → Bool
-are_places_apart [] = true
-are_places_apart (p ∷ ps) = not (list_any (is_same_place p) ps) && are_places_apart ps
+abbrev pub are_places_distinct : List Place → Bool
+are_places_distinct [] = true
+are_places_distinct (p ∷ ps) = not (list_any (is_same_place p) ps) && are_places_distinct ps
 
 -- an IP address, a colon and a UDP port, where a remote can be
 abbrev pub WritesPlace : List ℕ → Place → Type 0

@@ -80,14 +80,14 @@ happened totals core ports = record {
 }
 
 -- in the order of the log lines
-abbrev pub counts_told : EventCounts → List ℕ
-counts_told n = n.unknown_senders ∷ n.spoofed ∷ n.not_a_router ∷ n.rate_limited ∷ n.refused ∷ n.table_full
+abbrev pub counts_to_log : EventCounts → List ℕ
+counts_to_log n = n.unknown_senders ∷ n.spoofed ∷ n.not_a_router ∷ n.rate_limited ∷ n.refused ∷ n.table_full
     ∷ n.queue_full ∷ n.device ∷ n.memory ∷ n.file ∷ n.frame_unknown_senders ∷ n.unframed
     ∷ n.other_encapsulation ∷ n.directed ∷ []
 
 -- a line for one of a router's causes is due
 abbrev pub IsLineDue : Warnings → EventCounts → ℕ → Type 0
-IsLineDue t n now = IsOneDue t.causes (counts_told n) now
+IsLineDue t n now = IsOneDue t.causes (counts_to_log n) now
 
 -- all that the work of a router by itself depends on
 pub record Deadlines : Type 0 where

@@ -15,7 +15,7 @@ use Rattle.ipx_site.specs.declared.site.Kind.TheVariants as Of
 use Rattle.ipx_site.specs.Fields.{Holds, HoldsOr, IsFault, IsMissing, IsRight, IsRightOr, IsStray, IsWrong}
 use Rattle.ipx_site.specs.Keys.{first_unknown, ipxnet_keys, key_text}
 use Rattle.ipx_site.specs.Values.{AreAddressesOf, IsAccept, IsCount, IsDirected, IsIpAddress, IsNetwork}
-use Rattle.ipx_site.specs.EthernetValues.{AreEthernetEnds, IsStation, are_places_apart, made_station}
+use Rattle.ipx_site.specs.EthernetValues.{AreEthernetEnds, IsStation, are_places_distinct, made_station}
 
 -- the peers that may register; the key is required unless everybody may register
 abbrev pub ArePeersFor : Accept → Members → Vec (List ℕ) Global → Type 0
@@ -29,13 +29,13 @@ IsPeersFault accept ms table f = ((accept ≡ Who.Peers) × IsMissing Key.Peers 
 -- the routers whose ipxnet servers are joined with this one: the places in the file, each once, or none
 abbrev pub AreJoinedRouters : Members → Vec Place Global → Type 0
 AreJoinedRouters ms join = ((get_member (key_text Key.Join) ms ≡ None) × (join.items ≡ []))
-    ⊎ (Holds AreEthernetEnds Key.Join ms join × (are_places_apart join.items ≡ true))
+    ⊎ (Holds AreEthernetEnds Key.Join ms join × (are_places_distinct join.items ≡ true))
 
 -- the key for them gives no places, or one of them twice
 abbrev pub IsJoinFault : Members → ℕ → ConfigError → Type 0
 IsJoinFault ms table f = IsWrong AreEthernetEnds Key.Join ms table f
     ⊎ ((f ≡ Wrong table Key.Join) × ((join : Vec Place Global) × Holds AreEthernetEnds Key.Join ms join
-    × (are_places_apart join.items ≡ false)))
+    × (are_places_distinct join.items ≡ false)))
 
 -- a table describes an ipxnet port, if its kind is that
 pub record IsIpxnetTable (ms : Members) (p : IpxnetPortConfig) : Type 0 where

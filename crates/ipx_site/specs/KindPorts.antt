@@ -9,7 +9,7 @@ use Rattle.ipxnet_server.specs.ServerHears.{ServerView, joined_server}
 use Rattle.ipxnet_server.specs.declared.place.Place.{Place as ClientPlace}
 use Rattle.ipxnet_server.specs.declared.port.ServerPort.{ServerPort}
 use Rattle.ipx_ipxnet_ports.specs.ServerAddresses.{ips_heard}
-use Rattle.ipx_ethernet_ports.specs.EthernetAddresses.{places_behind}
+use Rattle.ipx_ethernet_ports.specs.EthernetAddresses.{remote_places}
 use Rattle.ipx_ethernet_ports.specs.declared.sockets.Place.{Place}
 use Rattle.ipx_carrier.specs.declared.datagrams.Datagrams as OfDevice
 use Rattle.ipx_ipxnet_ports.specs.declared.place_sockets.PlaceSockets as OfPlaces
@@ -55,18 +55,18 @@ abbrev pub ipxnet_ports : List PortConfig → List IpxnetPortConfig
 ipxnet_ports ports = flat_map ipxnet_in ports
 
 -- the index of a port among those of its kind, starting at 0, after earlier ports
-abbrev pub port_index_behind : List PortConfig → PortConfig → PortIndex
-port_index_behind earlier (Rfc1234 p) = Datagrams (length (datagram_ports earlier))
-port_index_behind earlier (Frames p) = Ethernet (length (ethernet_ports earlier))
-port_index_behind earlier (Ipxnet p) = IpxnetServer (length (ipxnet_ports earlier))
+abbrev pub port_index_after : List PortConfig → PortConfig → PortIndex
+port_index_after earlier (Rfc1234 p) = Datagrams (length (datagram_ports earlier))
+port_index_after earlier (Frames p) = Ethernet (length (ethernet_ports earlier))
+port_index_after earlier (Ipxnet p) = IpxnetServer (length (ipxnet_ports earlier))
 
-abbrev pub port_indices_behind : List PortConfig → List PortConfig → List PortIndex
-port_indices_behind earlier [] = []
-port_indices_behind earlier (p ∷ ps) = port_index_behind earlier p ∷ port_indices_behind (earlier ++ p ∷ []) ps
+abbrev pub port_indices_after : List PortConfig → List PortConfig → List PortIndex
+port_indices_after earlier [] = []
+port_indices_after earlier (p ∷ ps) = port_index_after earlier p ∷ port_indices_after (earlier ++ p ∷ []) ps
 
 -- the index of each port
 abbrev pub port_indices_of : List PortConfig → List PortIndex
-port_indices_of ports = port_indices_behind [] ports
+port_indices_of ports = port_indices_after [] ports
 
 -- the Ethernet port of a file's port, and its switch before any frame came
 abbrev pub ethernet_port_of : EthernetPortConfig → EthernetPort
@@ -104,6 +104,6 @@ pub record ArePortsBound {gd : OfDevice.Ghosts (SourceFilter UdpSockets)} {ge : 
   pub access_lists : AccessListPorts (datagram_ports ports) r.datagrams.device.access_lists.items
   pub sockets : map (λ s. s.udp_port) r.datagrams.device.device.sockets.items ≡ udp_ports (datagram_ports ports)
   pub switches : r.ethernet.switches.items ≡ map switch_of (ethernet_ports ports)
-  pub ends : places_behind r.ethernet.sockets.ethernet.items ≡ end_places (ethernet_ports ports)
+  pub ends : remote_places r.ethernet.sockets.ethernet.items ≡ end_places (ethernet_ports ports)
   pub servers : r.servers.servers.items ≡ map server_of_port (ipxnet_ports ports)
   pub registering : map ips_heard r.servers.sockets.sockets.items ≡ map registering_at (ipxnet_ports ports)

@@ -33,7 +33,7 @@ pub mod RouterRounds
 pub mod Checked
 pub mod AccessListMetrics
 pub mod StaticNeighbours
-pub mod StaticStands
+pub mod StaticsHold
 pub mod DropLog
 pub mod Senders
 pub mod RouterMetrics

@@ -28,8 +28,8 @@ abbrev pub IsDue : ThrottledLog → ℕ → ℕ → Type 0
 IsDue c count now = (c.told < count) × IsMinuteOver c.at now
 
 -- a cause that occurred `count` times, before and after a time: it is logged then exactly if it is due
-abbrev pub IsToldIfDue : ℕ → ℕ → ThrottledLog → ThrottledLog → Type 0
-IsToldIfDue count now before after = (IsDue before count now → (after.told ≡ count) × (after.at ≡ Some now))
+abbrev pub IsLoggedIfDue : ℕ → ℕ → ThrottledLog → ThrottledLog → Type 0
+IsLoggedIfDue count now before after = (IsDue before count now → (after.told ≡ count) × (after.at ≡ Some now))
     × ((IsDue before count now → ⊥) → after ≡ before)
 
 -- a cause that has not been logged
@@ -46,7 +46,7 @@ abbrev pub IsOneDue : List ThrottledLog → List ℕ → ℕ → Type 0
 IsOneDue causes happened now = IsOneDueOf (length causes) causes happened now
 
 -- each of them is logged then, exactly if it is due
-abbrev pub AreToldIfDue : List ℕ → ℕ → List ThrottledLog → List ThrottledLog → Type 0
-AreToldIfDue happened now before after = (length after ≡ length before)
-    × ((place : ℕ) → place < length before → IsToldIfDue (get_or happened place 0) now
+abbrev pub AreLoggedIfDue : List ℕ → ℕ → List ThrottledLog → List ThrottledLog → Type 0
+AreLoggedIfDue happened now before after = (length after ≡ length before)
+    × ((place : ℕ) → place < length before → IsLoggedIfDue (get_or happened place 0) now
     (get_or before place untold) (get_or after place untold))

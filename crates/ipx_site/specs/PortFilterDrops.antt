@@ -17,13 +17,13 @@ abbrev pub one_refused : PortFilterDrops → PortFilterDrops
 one_refused k = record k { refused = raised k.refused }
 
 -- the counts of this port change by `change`, and those of no other port
-abbrev pub kept_changed_at : List PortFilterDrops → ℕ → (PortFilterDrops → PortFilterDrops) → List PortFilterDrops
-kept_changed_at ports port change = slice_set ports port (change (slice_index_or ports port nothing_at_port))
+abbrev pub drops_changed_at : List PortFilterDrops → ℕ → (PortFilterDrops → PortFilterDrops) → List PortFilterDrops
+drops_changed_at ports port change = slice_set ports port (change (slice_index_or ports port nothing_at_port))
 
 -- unknown senders of a device are counted at the ports too: no more of them came, or one came by this port
 abbrev pub CountsUnknownSenderAt : ℕ → ℕ → ℕ → List PortFilterDrops → List PortFilterDrops → Type 0
 CountsUnknownSenderAt port before after old new = ((after ≡ before) × (new ≡ old))
-    ⊎ ((after ≡ raised before) × (new ≡ kept_changed_at old port one_unknown_sender))
+    ⊎ ((after ≡ raised before) × (new ≡ drops_changed_at old port one_unknown_sender))
 
 -- the totals of all ports
 abbrev pub unknown_senders_over : List PortFilterDrops → ℕ
@@ -41,4 +41,4 @@ UnknownSendersAddUp = (port before after : ℕ) (old new : List PortFilterDrops)
 -- the same after a datagram was not sent
 abbrev pub RefusedAddUp : Type 0
 RefusedAddUp = (port before : ℕ) (ports : List PortFilterDrops) → port < length ports → before + 1 < 2 ^ 64
-    → before ≡ refused_over ports → raised before ≡ refused_over (kept_changed_at ports port one_refused)
+    → before ≡ refused_over ports → raised before ≡ refused_over (drops_changed_at ports port one_refused)

@@ -11,7 +11,7 @@ use Rattle.ipx_site.specs.declared.source_filter.SourceFilter.{SourceFilter}
 use Rattle.ipx_site.specs.declared.router_ports.RouterPorts.{RouterPorts}
 use Rattle.ipx_site.specs.declared.sockets.UdpSockets.{UdpSockets}
 use Rattle.ipx_site.specs.RouterPorts.{PortCopy, by_kind}
-use Rattle.ipx_site.specs.SourceFilter.{kept_in}
+use Rattle.ipx_site.specs.SourceFilter.{drops_in}
 
 -- the ports of a site, over their sockets
 abbrev pub SitePortsRun : OfDevice.Ghosts (SourceFilter UdpSockets) → OfSockets.Ghosts EthernetSockets → OfPlaces.Ghosts ServerSockets → Type 0
@@ -22,6 +22,6 @@ ways_in r = by_kind (peers_of r.datagrams.peers.items) (map (λ h. h.port) r.eth
 
 -- what access lists dropped, frames that a switch dropped and those from no remote, what ipxnet servers
 -- dropped, and what came to them from unknown places
-abbrev pub kept_in_ports : {gd : OfDevice.Ghosts (SourceFilter UdpSockets)} {ge : OfSockets.Ghosts EthernetSockets} {gl : OfPlaces.Ghosts ServerSockets} → SitePortsRun gd ge gl → ℕ
-kept_in_ports r = kept_in r.datagrams.device.kept + (r.ethernet.kept + r.ethernet.sockets.unknown_senders)
+abbrev pub filtered_in_ports : {gd : OfDevice.Ghosts (SourceFilter UdpSockets)} {ge : OfSockets.Ghosts EthernetSockets} {gl : OfPlaces.Ghosts ServerSockets} → SitePortsRun gd ge gl → ℕ
+filtered_in_ports r = drops_in r.datagrams.device.kept + (r.ethernet.kept + r.ethernet.sockets.unknown_senders)
     + (r.servers.kept + r.servers.sockets.nowhere)

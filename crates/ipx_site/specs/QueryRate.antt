@@ -7,7 +7,7 @@ use Rattle.ipx_site.specs.declared.token_bucket.RateLimit.{RateLimit}
 use Rattle.ipx_site.specs.declared.token_bucket.TokenBucket.{TokenBucket}
 use Rattle.ipx_site.specs.PortBuckets.{at_port}
 use Rattle.ipx_site.specs.TokenBuckets.{own_tokens}
-use Rattle.ipx_site.specs.RateLimiter.{HearsDirected, HearsInTurn, HearsSparingly, RateLimiterView}
+use Rattle.ipx_site.specs.RateLimiter.{HearsDirected, HearsWithToken, HearsRateLimited, RateLimiterView}
 
 -- bytes that came in on a port at a time, and the core before and after it heard them
 pub record Coming (C : Type 0) : Type 0 where
@@ -33,17 +33,17 @@ module _ {C : Type 0} (hears : C → ℕ → List ℕ → ℕ → C → Type 0) 
   abbrev pub Course : ℕ → RateLimiterView C → List (Coming C) → Type 0
   Course from old [] = Unit {0}
   Course from old (c ∷ rest) = (from ≤ c.now) × (c.before.buckets ≡ old.buckets)
-      × HearsSparingly hears c.before c.port c.bytes c.now c.after × Course c.now c.after rest
+      × HearsRateLimited hears c.before c.port c.bytes c.now c.after × Course c.now c.after rest
 
   -- between two times, the core below hears this as a general query of this querier
   abbrev pub IsHeardOf : Querier → ℕ → ℕ → Coming C → Type 0
   IsHeardOf who a b c = (a ≤ c.now) × (c.now ≤ b)
-      × HearsInTurn hears c.before c.port c.bytes c.now c.after who
+      × HearsWithToken hears c.before c.port c.bytes c.now c.after who
 
   -- the same for any querier at a port
   abbrev pub IsHeardAt : ℕ → ℕ → ℕ → Coming C → Type 0
   IsHeardAt port a b c = (a ≤ c.now) × (c.now ≤ b) × (c.port ≡ port)
-      × ((who : Querier) × HearsInTurn hears c.before c.port c.bytes c.now c.after who)
+      × ((who : Querier) × HearsWithToken hears c.before c.port c.bytes c.now c.after who)
 
   -- the same for a directed broadcast that leaves by a port
   abbrev pub IsToLeaveBy : ℕ → ℕ → ℕ → Coming C → Type 0

@@ -64,8 +64,8 @@ asking_below asking_again s = record s { core = asking_again s.core }
 
 module _ {C : Type 0} (hears : C → ℕ → List ℕ → ℕ → C → Type 0) where
   -- the core below hears a general query of this querier, which then has one token less, as has its port
-  abbrev pub HearsInTurn : RateLimiterView C → ℕ → List ℕ → ℕ → RateLimiterView C → Querier → Type 0
-  HearsInTurn old port bytes now new who = IsGeneralQuery old.ports port bytes who
+  abbrev pub HearsWithToken : RateLimiterView C → ℕ → List ℕ → ℕ → RateLimiterView C → Querier → Type 0
+  HearsWithToken old port bytes now new who = IsGeneralQuery old.ports port bytes who
       × HasToken old.buckets who now × hears old.core port bytes now new.core
       × (new ≡ record old { core = new.core; buckets = with_token_taken old.buckets who now })
 
@@ -101,21 +101,21 @@ module _ {C : Type 0} (hears : C → ℕ → List ℕ → ℕ → C → Type 0) 
   -- a general query is heard or dropped, and so is a directed broadcast
   abbrev pub HearsQuery : RateLimiterView C → ℕ → List ℕ → ℕ → RateLimiterView C → Type 0
   HearsQuery old port bytes now new =
-      ((who : Querier) × HearsInTurn old port bytes now new who) ⊎ CountsFiltered old port bytes now new
+      ((who : Querier) × HearsWithToken old port bytes now new who) ⊎ CountsFiltered old port bytes now new
 
   abbrev pub HearsBroadcast : RateLimiterView C → ℕ → List ℕ → ℕ → RateLimiterView C → Type 0
   HearsBroadcast old port bytes now new =
       ((it : DirectedBroadcast) × HearsDirected old port bytes now new it) ⊎ DropsDirected old port bytes now new
 
   -- one of the three
-  abbrev pub HearsSparingly : RateLimiterView C → ℕ → List ℕ → ℕ → RateLimiterView C → Type 0
-  HearsSparingly old port bytes now new = HearsQuery old port bytes now new
+  abbrev pub HearsRateLimited : RateLimiterView C → ℕ → List ℕ → ℕ → RateLimiterView C → Type 0
+  HearsRateLimited old port bytes now new = HearsQuery old port bytes now new
       ⊎ (HearsBroadcast old port bytes now new ⊎ HearsBelow old port bytes now new)
 
 -- the core below runs out of memory as it hears, and no token was taken
-abbrev pub MissesBelow : {C : Type 0} → (C → ℕ → List ℕ → ℕ → C → Type 0)
+abbrev pub HearOutOfMemoryBelow : {C : Type 0} → (C → ℕ → List ℕ → ℕ → C → Type 0)
     → RateLimiterView C → ℕ → List ℕ → ℕ → RateLimiterView C → Type 0
-MissesBelow hear_out_of_memory old port bytes now new =
+HearOutOfMemoryBelow hear_out_of_memory old port bytes now new =
     hear_out_of_memory old.core port bytes now new.core × (new ≡ record old { core = new.core })
 
 -- it gives what the core below gives
@@ -125,7 +125,7 @@ GivesBelow gives old now given new =
     gives old.core now given new.core × (new ≡ record old { core = new.core })
 
 -- or that runs out of memory
-abbrev pub WithholdsBelow : {C : Type 0} → (C → ℕ → C → Type 0)
+abbrev pub NextOutOfMemoryBelow : {C : Type 0} → (C → ℕ → C → Type 0)
     → RateLimiterView C → ℕ → RateLimiterView C → Type 0
-WithholdsBelow next_out_of_memory old now new =
+NextOutOfMemoryBelow next_out_of_memory old now new =
     next_out_of_memory old.core now new.core × (new ≡ record old { core = new.core })

@@ -7,7 +7,7 @@ use Rattle.ipx_carrier.specs.declared.report.Batch.{Batch}
 use Rattle.ipx_carrier.specs.Driving.{BurstsBy}
 use Rattle.ipx_site.specs.IdleTime.{IsTimeUntilDue}
 use Rattle.ipx_site.specs.Moments.{IsToAskAgain}
-use Rattle.ipx_site.specs.SiteCore.{SiteAsksAgain, SiteCore, SiteGives, SiteHears, SiteMisses, SiteWithholds}
+use Rattle.ipx_site.specs.SiteCore.{SiteAsksAgain, SiteCore, SiteGives, SiteHears, SiteHearOutOfMemory, SiteNextOutOfMemory}
 
 -- its router gives the packets of its start once more if it is time to repeat them, and never otherwise
 abbrev pub AsksAgain : ℕ → ℕ → ℕ → SiteCore → SiteCore → Type 0
@@ -23,17 +23,17 @@ abbrev pub IsRound : {K A : Type 0} → K → K → (K → ℕ → K → Type 0)
 IsRound {K} clock clock_after stops tells transmissions kept kept_after times times_after old new moment b = (now : ℕ) × (tick : K)
     × (mid : SiteCore) × stops clock now tick
     × (moment ≡ now) × AsksAgain now times times_after old mid
-    × BurstsBy SiteHears SiteMisses SiteGives SiteWithholds tells
+    × BurstsBy SiteHears SiteHearOutOfMemory SiteGives SiteNextOutOfMemory tells
     (length old.core.core.core.router.ports) transmissions 32 b kept kept_after tick clock_after mid new
 
 -- how long it waits, and when. After a fault it waits 100 ms. After a batch that was not quiet it does not
 -- wait, but learns where something came. After a quiet batch it stops the clock and waits as long as there is
 -- nothing to do. If a port is still marked, which then fails, it waits at most 100 ms
-abbrev pub SleepsBehind : {K : Type 0} → (ℕ → Type 0) → Bool → K → K → (K → ℕ → K → Type 0) → Option ℕ → Option RunFault → Bool → Type 0
-SleepsBehind todo marked clock clock_after stops asked (Some f) quiet =
+abbrev pub SleepsAfter : {K : Type 0} → (ℕ → Type 0) → Bool → K → K → (K → ℕ → K → Type 0) → Option ℕ → Option RunFault → Bool → Type 0
+SleepsAfter todo marked clock clock_after stops asked (Some f) quiet =
     (asked ≡ Some 100) × (clock_after ≡ clock)
-SleepsBehind todo marked clock clock_after stops asked None false =
+SleepsAfter todo marked clock clock_after stops asked None false =
     (asked ≡ Some 0) × (clock_after ≡ clock)
-SleepsBehind todo marked clock clock_after stops asked None true = (now time : ℕ)
+SleepsAfter todo marked clock clock_after stops asked None true = (now time : ℕ)
     × stops clock now clock_after × IsTimeUntilDue todo now time
     × (asked ≡ Some (if marked then min time 100 else time))

@@ -9,8 +9,8 @@ use Rattle.ipx_site.specs.IdleTime.{IsDue, deadlines, happened}
 use Rattle.ipx_site.specs.KindPorts.{ArePortsBound}
 use Rattle.ipx_site.specs.Loading.{IsFileText}
 use Rattle.ipx_site.specs.PortLimits.{limits_of}
-use Rattle.ipx_site.specs.PortsView.{kept_in_ports, ways_in}
-use Rattle.ipx_site.specs.RouterRounds.{IsRound, SleepsBehind}
+use Rattle.ipx_site.specs.PortsView.{filtered_in_ports, ways_in}
+use Rattle.ipx_site.specs.RouterRounds.{IsRound, SleepsAfter}
 use Rattle.ipx_site.specs.Site.{IsSiteText}
 use Rattle.ipx_site.specs.SiteMarks.{marks_in, numbers_come}
 use Rattle.ipx_site.specs.SitePorts.{access_by, router_ports}
@@ -42,9 +42,9 @@ pub record TakesRound {R : Type 0} (old new : RunningRouter R) : Type 0 where
   pub batch : Batch
   pub marks : List Bool
   pub round : IsRound old.clock between StopsThere NeverGoesBack (ways_in old.ports)
-      (kept_in_ports old.ports) (kept_in_ports new.ports) old.asked new.asked old.core new.core
+      (filtered_in_ports old.ports) (filtered_in_ports new.ports) old.asked new.asked old.core new.core
       new.ports.ethernet.moment batch
-  pub sleeps : SleepsBehind (IsDue (deadlines new.asked new.looked new.responses new.written new.core
+  pub sleeps : SleepsAfter (IsDue (deadlines new.asked new.looked new.responses new.written new.core
       new.warnings (happened new.totals new.core new.ports))) (is_any_marked marks)
       between new.clock StopsThere new.ready.asked batch.fault batch.quiet
   pub marked : new.ready.failed ≡ false

@@ -3,19 +3,19 @@
 use Rattle.std.specs.Prelude.{◌≡◌, ℕ, false, List, Option}
 use Rattle.ipx_carrier.specs.Turns.{Given}
 use Rattle.ipx_metrics.specs.MeteredRouter.{CountedView, CountsAsItGives, CountsHeard, CountsMissed, CountsWithheld}
-use Rattle.ipx_static.specs.WithStatics.{WithStaticsView, GivesWithStatics, HearsUnder, MissesUnder, WithholdsWithStatics}
-use Rattle.ipx_source_checks.specs.SourceChecked.{GivesBelowChecks, HearsChecked, MissesChecked, SourceCheckedView, WithholdsBelowChecks}
-use Rattle.ipx_site.specs.RateLimiter.{GivesBelow, HearsSparingly, MissesBelow, RateLimiterView, WithholdsBelow}
+use Rattle.ipx_static.specs.WithStatics.{WithStaticsView, GivesWithStatics, HearsUnder, HearOutOfMemoryUnder, NextOutOfMemoryWithStatics}
+use Rattle.ipx_source_checks.specs.SourceChecked.{GivesBelowChecks, HearsChecked, HearOutOfMemoryChecked, SourceCheckedView, NextOutOfMemoryBelowChecks}
+use Rattle.ipx_site.specs.RateLimiter.{GivesBelow, HearsRateLimited, HearOutOfMemoryBelow, RateLimiterView, NextOutOfMemoryBelow}
 
 abbrev pub SiteCore : Type 0
 SiteCore = SourceCheckedView (RateLimiterView (WithStaticsView CountedView))
 
 -- it hears what comes in, or misses it if out of memory
 abbrev pub SiteHears : SiteCore → ℕ → List ℕ → ℕ → SiteCore → Type 0
-SiteHears = HearsChecked (HearsSparingly (HearsUnder CountsHeard))
+SiteHears = HearsChecked (HearsRateLimited (HearsUnder CountsHeard))
 
-abbrev pub SiteMisses : SiteCore → ℕ → List ℕ → ℕ → SiteCore → Type 0
-SiteMisses = MissesChecked (MissesBelow (MissesUnder CountsMissed))
+abbrev pub SiteHearOutOfMemory : SiteCore → ℕ → List ℕ → ℕ → SiteCore → Type 0
+SiteHearOutOfMemory = HearOutOfMemoryChecked (HearOutOfMemoryBelow (HearOutOfMemoryUnder CountsMissed))
 
 -- when it is to repeat its requests, its router gives the packets of its start again
 abbrev pub SiteAsksAgain : SiteCore → SiteCore → Type 0
@@ -30,6 +30,6 @@ SiteAsksAgain old new =
 abbrev pub SiteGives : SiteCore → ℕ → Option Given → SiteCore → Type 0
 SiteGives = GivesBelowChecks (GivesBelow (GivesWithStatics CountsHeard CountsAsItGives))
 
-abbrev pub SiteWithholds : SiteCore → ℕ → SiteCore → Type 0
-SiteWithholds = WithholdsBelowChecks
-    (WithholdsBelow (WithholdsWithStatics CountsHeard CountsMissed CountsWithheld))
+abbrev pub SiteNextOutOfMemory : SiteCore → ℕ → SiteCore → Type 0
+SiteNextOutOfMemory = NextOutOfMemoryBelowChecks
+    (NextOutOfMemoryBelow (NextOutOfMemoryWithStatics CountsHeard CountsMissed CountsWithheld))

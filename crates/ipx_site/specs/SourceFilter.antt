@@ -60,8 +60,8 @@ source_matches_sender network from h =
     && (not (is_unrouted network h) || is_node_of h.from.node from)
 
 -- the same for bytes; those that are no packet have no source
-abbrev pub IsOwnWord : Network → Option (List ℕ) → List ℕ → Type 0
-IsOwnWord network from bytes =
+abbrev pub SourceMatchesSender : Network → Option (List ℕ) → List ℕ → Type 0
+SourceMatchesSender network from bytes =
     (p : PacketView) → BeginsWith bytes p → source_matches_sender network from p.header ≡ true
 
 -- a packet is a response that advertises routes (RIP) or services (SAP)
@@ -86,11 +86,11 @@ abbrev pub IsVerdictOn : Option AccessList → Option (List ℕ) → List ℕ �
 IsVerdictOn None from bytes word = word ≡ UnknownSender
 IsVerdictOn (Some g) from bytes UnknownSender = is_listed g.hears from ≡ false
 IsVerdictOn (Some g) from bytes SpoofedSource =
-    (is_listed g.hears from ≡ true) × (IsOwnWord g.network from bytes → ⊥)
+    (is_listed g.hears from ≡ true) × (SourceMatchesSender g.network from bytes → ⊥)
 IsVerdictOn (Some g) from bytes NotARouter = (is_listed g.hears from ≡ true)
-    × IsOwnWord g.network from bytes × (MaySay g.network g.routers from bytes → ⊥)
+    × SourceMatchesSender g.network from bytes × (MaySay g.network g.routers from bytes → ⊥)
 IsVerdictOn (Some g) from bytes Heard = (is_listed g.hears from ≡ true)
-    × IsOwnWord g.network from bytes × MaySay g.network g.routers from bytes
+    × SourceMatchesSender g.network from bytes × MaySay g.network g.routers from bytes
 
 -- a datagram may be sent there by a port
 abbrev pub may_go : Option AccessList → List ℕ → Bool
@@ -98,19 +98,19 @@ may_go None to = false
 may_go (Some g) to = is_listed g.sends (Some to)
 
 -- nothing was dropped, for one reason and for all
-abbrev pub none_kept : DropCount
-none_kept = record { count = 0; last = None }
+abbrev pub zero_drops : DropCount
+zero_drops = record { count = 0; last = None }
 
-abbrev pub nothing_kept : FilterDrops
-nothing_kept = record { unknown_senders = none_kept; spoofed = none_kept; not_a_router = none_kept }
+abbrev pub no_filter_drops : FilterDrops
+no_filter_drops = record { unknown_senders = zero_drops; spoofed = zero_drops; not_a_router = zero_drops }
 
 -- one more was dropped, from this IP address
 abbrev pub one_more : DropCount → Option (List ℕ) → DropCount
 one_more k from = record { count = raised k.count; last = from }
 
 -- how many were dropped, for all reasons
-abbrev pub kept_in : FilterDrops → ℕ
-kept_in k = k.unknown_senders.count + k.spoofed.count + k.not_a_router.count
+abbrev pub drops_in : FilterDrops → ℕ
+drops_in k = k.unknown_senders.count + k.spoofed.count + k.not_a_router.count
 
 -- what is accepted is delivered. Anything else raises the count of its reason, and it is as if nothing came
 abbrev pub HandsUp : Verdict → Option (List ℕ) → ℕ → Option ℕ → FilterDrops → FilterDrops → Type 0

@@ -87,19 +87,19 @@ abbrev pub default_route : ℕ
 default_route = 0xffff_fffe
 
 -- the index of the first port that is on a network
-abbrev pub own_place : List PortConfig → Network → Option ℕ
-own_place ports n = position (λ p. (network_of_kind p).0 == n.0) ports
+abbrev pub port_index_on : List PortConfig → Network → Option ℕ
+port_index_on ports n = position (λ p. (network_of_kind p).0 == n.0) ports
 
 -- a network that no port is on, and not the default route
-abbrev pub IsFarNetwork : List PortConfig → Members → Network → Type 0
-IsFarNetwork ports ms n = Holds IsNetwork Key.Network ms n × (n.0 ≢ default_route)
-    × (own_place ports n ≡ None)
+abbrev pub IsRemoteNetwork : List PortConfig → Members → Network → Type 0
+IsRemoteNetwork ports ms n = Holds IsNetwork Key.Network ms n × (n.0 ≢ default_route)
+    × (port_index_on ports n ≡ None)
 
-abbrev pub IsFarNetworkFault : List PortConfig → Members → ℕ → ConfigError → Type 0
-IsFarNetworkFault ports ms table f = IsFault IsNetwork Key.Network ms table f
+abbrev pub IsRemoteNetworkFault : List PortConfig → Members → ℕ → ConfigError → Type 0
+IsRemoteNetworkFault ports ms table f = IsFault IsNetwork Key.Network ms table f
     ⊎ ((n : Network) × Holds IsNetwork Key.Network ms n
     × (((n.0 ≡ default_route) × (f ≡ Wrong table Key.Network))
-    ⊎ ((n.0 ≢ default_route) × ((k : ℕ) × (own_place ports n ≡ Some k)
+    ⊎ ((n.0 ≢ default_route) × ((k : ℕ) × (port_index_on ports n ≡ Some k)
     × (f ≡ Twin table n (k + 1))))))
 
 -- ---- the service

@@ -46,11 +46,11 @@ is_same_word (Route a) (Service b) = false
 is_same_word (Service a) (Route b) = false
 
 -- the index among earlier entries of the first one that this entry repeats
-abbrev pub says_again : StaticEntry → StaticEntry → Bool
-says_again a b = is_one_source a.by b.by && is_same_word a.word b.word
+abbrev pub is_repeat_of : StaticEntry → StaticEntry → Bool
+is_repeat_of a b = is_one_source a.by b.by && is_same_word a.word b.word
 
 abbrev pub again_place : List StaticEntry → StaticEntry → Option ℕ
-again_place earlier e = position (λ other. says_again other e) earlier
+again_place earlier e = position (λ other. is_repeat_of other e) earlier
 
 abbrev pub IsAgain : StaticKind → List StaticEntry → StaticEntry → ConfigError → Type 0
 IsAgain kind earlier e f = (k : ℕ) × (again_place earlier e ≡ Some k)

@@ -15,20 +15,20 @@ use Rattle.ipx_site.specs.declared.statics.StaticItem.TheVariants.{Route, Servic
 use Rattle.ipx_site.specs.StaticLists.{is_one_source}
 
 -- the route that an item is, and the service
-abbrev pub route_in_word : StaticItem → Option RipEntry
-route_in_word (Route r) = Some r
-route_in_word (Service s) = None
+abbrev pub route_of_item : StaticItem → Option RipEntry
+route_of_item (Route r) = Some r
+route_of_item (Service s) = None
 
-abbrev pub service_in_word : StaticItem → Option ServiceEntry
-service_in_word (Route r) = None
-service_in_word (Service s) = Some s
+abbrev pub service_of_item : StaticItem → Option ServiceEntry
+service_of_item (Route r) = None
+service_of_item (Service s) = Some s
 
 -- the same, if its entry is from this neighbour
 abbrev pub route_by : Source → StaticEntry → Option RipEntry
-route_by s e = if is_one_source e.by s then route_in_word e.word else None
+route_by s e = if is_one_source e.by s then route_of_item e.word else None
 
 abbrev pub service_by : Source → StaticEntry → Option ServiceEntry
-service_by s e = if is_one_source e.by s then service_in_word e.word else None
+service_by s e = if is_one_source e.by s then service_of_item e.word else None
 
 -- one more source is added, unless it is already there
 abbrev pub with_source : List Source → Source → List Source

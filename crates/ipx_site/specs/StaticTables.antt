@@ -16,19 +16,19 @@ use Rattle.ipx_site.specs.declared.key.Key.TheVariants as Key
 use Rattle.ipx_site.specs.declared.site.PortConfig.{PortConfig}
 use Rattle.ipx_site.specs.Keys.{first_unknown, route_keys, service_keys}
 use Rattle.ipx_site.specs.Fields.{Holds, HoldsOr, IsFault, IsUnknown, IsWrong}
-use Rattle.ipx_site.specs.StaticFields.{IsFarNetwork, IsFarNetworkFault, IsNear, IsNearFault, IsServiceName, IsServicePlace, IsServicePlaceFault, IsServiceType, IsServiceTypeFault}
+use Rattle.ipx_site.specs.StaticFields.{IsRemoteNetwork, IsRemoteNetworkFault, IsNear, IsNearFault, IsServiceName, IsServicePlace, IsServicePlaceFault, IsServiceType, IsServiceTypeFault}
 use Rattle.ipx_site.specs.Values.{IsCount}
 
 -- what a route gives: a network, its hops, and its ticks. By default the ticks are the cost of sending to the
 -- next hop
 pub record IsPath (ports : List PortConfig) (ms : Members) (cost : ℕ) (route : RipEntry) : Type 0 where
-  pub network : IsFarNetwork ports ms route.network
+  pub network : IsRemoteNetwork ports ms route.network
   pub hops : HoldsOr (IsCount 14) Key.Hops ms 1 route.hops
   pub ticks : HoldsOr (IsCount 65535) Key.Ticks ms cost route.ticks
 
 abbrev pub IsPathFault : List PortConfig → Members → ℕ → ConfigError → Type 0
-IsPathFault ports ms table f = IsFarNetworkFault ports ms table f
-    ⊎ ((n : Network) × IsFarNetwork ports ms n × (IsWrong (IsCount 14) Key.Hops ms table f
+IsPathFault ports ms table f = IsRemoteNetworkFault ports ms table f
+    ⊎ ((n : Network) × IsRemoteNetwork ports ms n × (IsWrong (IsCount 14) Key.Hops ms table f
     ⊎ ((hops : ℕ) × HoldsOr (IsCount 14) Key.Hops ms 1 hops
     × IsWrong (IsCount 65535) Key.Ticks ms table f)))
 

@@ -53,13 +53,13 @@ temporary_name name = name ++ codes ".new"
 
 -- files of these names do not overwrite each other: they differ, and neither is the temporary file of the
 -- other
-abbrev pub AreApart : List ℕ → List ℕ → Type 0
-AreApart one two = (one ≢ two) × (one ≢ temporary_name two) × (two ≢ temporary_name one)
+abbrev pub AreDistinctFiles : List ℕ → List ℕ → Type 0
+AreDistinctFiles one two = (one ≢ two) × (one ≢ temporary_name two) × (two ≢ temporary_name one)
 
 -- the same, and it does not overwrite a file of this other name, if there is one
 abbrev pub IsOtherFileName : Option (String Global) → Data → String Global → Type 0
 IsOtherFileName other d name = IsFileName d name
-    × MatchOption other ⊤ (λ it. AreApart (string_bytes it) (string_bytes name))
+    × MatchOption other ⊤ (λ it. AreDistinctFiles (string_bytes it) (string_bytes name))
 
 abbrev pub accept_text : Accept → List ℕ
 accept_text Peers = codes "peers"

@@ -1,7 +1,7 @@
 //! Prometheus metrics of the datagrams that access lists dropped at a router's ports.
 
 ghost use Rattle.std.specs.Prelude.{◌≡◌, ◌++◌, IfOk, OnErr, OnOk, is_some, option_map, string_bytes};
-ghost use Rattle.ipx_site.specs.AccessListMetrics.{figure_if, access_list_metrics, access_list_text, is_any_guarded, kept_at_port_index, access_list_count, refused_text, unknown_senders_text};
+ghost use Rattle.ipx_site.specs.AccessListMetrics.{metric_if, access_list_metrics, access_list_text, is_any_guarded, drops_at_port_index, access_list_count, refused_text, unknown_senders_text};
 
 use crate::family::{Family, put_family, put_of_port};
 use crate::port_filter_drops::PortFilterDrops;
@@ -28,8 +28,8 @@ pub enum FilterDropKind {
 }
 
 /// What the access list of a port dropped, or None if the port has no access list.
-fn kept_at(port_index: PortIndex, kept: &[PortFilterDrops]) -> Option<PortFilterDrops>
-    ensures { result ≡ kept_at_port_index kept.now port_index }
+fn filtered_at(port_index: PortIndex, kept: &[PortFilterDrops]) -> Option<PortFilterDrops>
+    ensures { result ≡ drops_at_port_index kept.now port_index }
 {
     match port_index {
         PortIndex::Datagrams(place) => kept.get(place).copied(),
@@ -38,9 +38,9 @@ fn kept_at(port_index: PortIndex, kept: &[PortFilterDrops]) -> Option<PortFilter
 }
 
 fn is_guarded(port_index: PortIndex, kept: &[PortFilterDrops]) -> bool
-    ensures { result ≡ is_some (kept_at_port_index kept.now port_index) }
+    ensures { result ≡ is_some (drops_at_port_index kept.now port_index) }
 {
-    kept_at(port_index, kept).is_some()
+    filtered_at(port_index, kept).is_some()
 }
 
 /// Whether any port has an access list.
@@ -63,9 +63,9 @@ fn count_of(kept: PortFilterDrops, count: FilterDropKind) -> u64
 
 /// One count of a port, or None if the port has no access list.
 fn count_at(port_index: PortIndex, kept: &[PortFilterDrops], count: FilterDropKind) -> Option<u64>
-    ensures { result ≡ option_map (access_list_count count) (kept_at_port_index kept.now port_index) }
+    ensures { result ≡ option_map (access_list_count count) (drops_at_port_index kept.now port_index) }
 {
-    match kept_at(port_index, kept) {
+    match filtered_at(port_index, kept) {
         Some(here) => Some(count_of(here, count)),
         None => None,
     }
@@ -79,7 +79,7 @@ fn put_count(
     count: Option<u64>,
 ) -> Result<(), AllocError>
     ensures { OnOk result (string_bytes text.new
-        ≡ string_bytes text.old ++ figure_if family.now.name.now number count) }
+        ≡ string_bytes text.old ++ metric_if family.now.name.now number count) }
 {
     match count {
         Some(count) => put_of_port(text, family, number, count),

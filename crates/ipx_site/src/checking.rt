@@ -3,7 +3,7 @@
 ghost use Rattle.std.specs.Prelude.{◌≡◌, ◌<◌, ◌≤◌, ℕ, List, [], IfOk, IfSome, IsOkAnd, length, position, string_bytes};
 ghost use Rattle.std.specs.Io.KnownBytes.{Appends};
 ghost use Rattle.std.specs.List.{flat_map};
-ghost use Rattle.ipx_site.specs.Checked.{count_text, each_behind, file_line, is_of_no_machine, is_one_place, joined_remark, peer_remark, place_remark, port_lines, reached_remarks, remark, site_lines, status_text, tables_place_text, ethernet_end_remark};
+ghost use Rattle.ipx_site.specs.Checked.{count_text, each_after, file_line, is_of_no_machine, is_one_place, joined_remark, peer_remark, place_remark, port_lines, reached_remarks, remark, site_lines, status_text, tables_place_text, ethernet_end_remark};
 ghost use Rattle.ipx_site.specs.Loading.{IsFileText};
 ghost use Rattle.ipx_site.specs.Site.{IsSiteText};
 ghost use Rattle.ipx_site.specs.declared.site.RouterConfig.{RouterConfig as ASiteFile};
@@ -65,7 +65,7 @@ pub fn peers_to_remarks(
     peers: &[[u8; 4]],
 ) -> Result<String, AllocError>
     ensures { IfOk result (λ t. string_bytes t
-        ≡ each_behind (peer_remark whose.now address) [] peers.now) }
+        ≡ each_after (peer_remark whose.now address) [] peers.now) }
 {
     let mut remarks = String::new(alloc);
     for (place, peer) in peers.iter().enumerate() {
@@ -104,7 +104,7 @@ fn ends_to_remarks(
     ends: &[Place],
 ) -> Result<String, AllocError>
     ensures { IfOk result (λ t. string_bytes t
-        ≡ each_behind (ethernet_end_remark whose.now own) [] ends.now) }
+        ≡ each_after (ethernet_end_remark whose.now own) [] ends.now) }
 {
     let mut remarks = String::new(alloc);
     for (place, end) in ends.iter().enumerate() {
@@ -208,7 +208,7 @@ fn port_to_lines(
 }
 
 fn ports_to_lines(alloc: Global, ports: &[PortConfig]) -> Result<String, AllocError>
-    ensures { IfOk result (λ t. string_bytes t ≡ each_behind port_lines [] ports.now) }
+    ensures { IfOk result (λ t. string_bytes t ≡ each_after port_lines [] ports.now) }
 {
     let mut lines = String::new(alloc);
     for (place, port) in ports.iter().enumerate() {

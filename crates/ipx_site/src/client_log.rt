@@ -1,7 +1,7 @@
 //! Logs the clients that connect to a router's ipxnet ports, and those that time out.
 
 ghost use Rattle.std.specs.Prelude.{◌≡◌, ◌≤◌, ◌+◌, ◌++◌, [], IfOk, None, OnErr, OnOk, Some, length};
-ghost use Rattle.ipx_site.specs.ClientLog.{all_clients, clients_come, clients_gone, clients_told, clients_without};
+ghost use Rattle.ipx_site.specs.ClientLog.{all_clients, clients_come, clients_gone, clients_logged, clients_without};
 ghost use Rattle.ipx_site.specs.ClientLog.{client_key, has_client_key, is_listed_client, max_client_lines, port_clients, port_index_clients};
 ghost use Rattle.ipx_site.specs.Moments.{HasPassed};
 
@@ -112,7 +112,7 @@ fn news_of(
 }
 
 /// The clients that are logged as connected after these changes.
-fn told_behind(
+fn logged_after(
     alloc: Global,
     told: &[PortClient],
     news: &ClientChanges,
@@ -236,14 +236,14 @@ impl ClientLog {
         ensures gone { IfOk result (λ n. n.gone.items ≡ clients_gone self.old.told.items there.now) }
         ensures came { IfOk result (λ n. n.came.items ≡ clients_come self.old.told.items there.now) }
         ensures told { OnOk result (self.new.told.items
-            ≡ clients_told self.old.told.items there.now) }
+            ≡ clients_logged self.old.told.items there.now) }
         ensures few { IfOk result (λ n.
             length n.gone.items + length n.came.items ≤ max_client_lines) }
         ensures looked { self.new.looked ≡ self.old.looked }
         ensures refused { OnErr result (self.new ≡ self.old) }
     {
         let news = news_of(alloc, &self.told, there)?;
-        self.told = told_behind(alloc, &self.told, &news)?;
+        self.told = logged_after(alloc, &self.told, &news)?;
         Ok(news)
     }
 
@@ -260,7 +260,7 @@ impl ClientLog {
         ensures early { (HasPassed 1000 self.old.looked now → ⊥) → self.new ≡ self.old }
         ensures looked { HasPassed 1000 self.old.looked now → self.new.looked ≡ Some now }
         ensures told { HasPassed 1000 self.old.looked now → OnOk result (self.new.told.items
-            ≡ clients_told self.old.told.items
+            ≡ clients_logged self.old.told.items
             (all_clients 1 ports.now.port_indices.items ports.now.servers.servers.items)) }
         ensures refused { OnErr result (self.new.told ≡ self.old.told) }
     {

@@ -1,8 +1,8 @@
 //! Log lines for dropped datagrams: one a minute for each reason, with the last datagram.
 
 ghost use Rattle.std.specs.Prelude.{◌≡◌};
-ghost use Rattle.ipx_site.specs.DropLog.{AreDropsTold, AreSourceDropsTold, is_for_all_nodes, is_of_all_nodes, no_drops_told, warns_of};
-ghost use Rattle.ipx_site.specs.Moments.{IsToldIfDue};
+ghost use Rattle.ipx_site.specs.DropLog.{AreDropsLogged, AreSourceDropsLogged, is_for_all_nodes, is_of_all_nodes, no_drops_logged, warns_of};
+ghost use Rattle.ipx_site.specs.Moments.{IsLoggedIfDue};
 
 use crate::sameness::is_same_node;
 use crate::throttled_log::ThrottledLog;
@@ -128,7 +128,7 @@ impl fmt::Display for DropSummary {
 }
 
 fn tell<R: Log>(rt: &R, cause: &mut ThrottledLog, count: u64, words: DropSummary, now: u64)
-    ensures { IsToldIfDue count now cause.old cause.new }
+    ensures { IsLoggedIfDue count now cause.old cause.new }
 {
     if let Some(more) = cause.tell(count, now) {
         if words.warns() {
@@ -147,7 +147,7 @@ fn words(reason: DropReason, last: Option<LastDrop>) -> DropSummary {
 impl DropLog {
     /// Nothing has been logged yet.
     pub fn new() -> DropLog
-        ensures { result ≡ no_drops_told }
+        ensures { result ≡ no_drops_logged }
     {
         DropLog {
             bad: ThrottledLog::new(),
@@ -170,7 +170,7 @@ impl DropLog {
         source: SourceDrops,
         now: u64,
     )
-        ensures { AreDropsTold outcomes.now source now self.old self.new }
+        ensures { AreDropsLogged outcomes.now source now self.old self.new }
     {
         let bad = words(DropReason::Bad, last.bad);
         let not_ours = words(DropReason::NotOurs, last.not_ours);
@@ -192,7 +192,7 @@ impl DropLog {
     }
 
     fn tell_source_drops<R: Log>(&mut self, rt: &R, source: SourceDrops, now: u64)
-        ensures { AreSourceDropsTold source now self.old self.new }
+        ensures { AreSourceDropsLogged source now self.old self.new }
     {
         let forwarded = source.forwarded_control;
         let looped = source.looped_source;

@@ -2,7 +2,7 @@
 
 ghost use Rattle.std.specs.Prelude.{◌≡◌, ◌++◌, ◌∷◌, [], IfOk, OnOk, map};
 ghost use Rattle.ipx_site.specs.KindPorts.{end_places, switch_of, ethernet_port_of, ethernet_ports};
-ghost use Rattle.ipx_ethernet_ports.specs.EthernetAddresses.{places_behind};
+ghost use Rattle.ipx_ethernet_ports.specs.EthernetAddresses.{remote_places};
 
 use crate::bind_fault::{BindFault, bind_error};
 use crate::site::{EthernetPortConfig, PortConfig};
@@ -45,8 +45,8 @@ fn bind_ethernet_port<R: Net>(
     number: usize,
     port: &EthernetPortConfig,
 ) -> Result<(), BindFault>
-    ensures { OnOk result (places_behind sockets.new.ethernet.items
-        ≡ places_behind sockets.old.ethernet.items ++ port.now.ends.items ∷ []) }
+    ensures { OnOk result (remote_places sockets.new.ethernet.items
+        ≡ remote_places sockets.old.ethernet.items ++ port.now.ends.items ∷ []) }
 {
     let Ok(ends) = Vec::from_slice(alloc, &port.ends) else {
         return Err(BindFault::OutOfMemory);
@@ -70,7 +70,7 @@ fn bind_ethernet_ports<R: Net>(
     ports: &[PortConfig],
 ) -> Result<EthernetSockets, BindFault>
     ensures { IfOk result (λ s.
-        places_behind s.ethernet.items ≡ end_places (ethernet_ports ports.now)) }
+        remote_places s.ethernet.items ≡ end_places (ethernet_ports ports.now)) }
 {
     let mut sockets = EthernetSockets::new(alloc);
     for (place, port) in ports.iter().enumerate() {
@@ -89,7 +89,7 @@ pub fn ethernet_ports_of<R: Net>(
 ) -> Result<EthernetPorts<EthernetSockets>, BindFault>
     ensures switches { IfOk result (λ w. w.switches.items ≡ map switch_of (ethernet_ports ports.now)) }
     ensures ends { IfOk result (λ w.
-        places_behind w.sockets.ethernet.items ≡ end_places (ethernet_ports ports.now)) }
+        remote_places w.sockets.ethernet.items ≡ end_places (ethernet_ports ports.now)) }
 {
     let Ok(switches) = switches_of(alloc, ports) else {
         return Err(BindFault::OutOfMemory);

@@ -1,7 +1,7 @@
 //! Metric families in the Prometheus text format.
 
 ghost use Rattle.std.specs.Prelude.{◌≡◌, ◌++◌, OnOk, string_bytes};
-ghost use Rattle.ipx_site.specs.AccessListMetrics.{family_text, port_figure};
+ghost use Rattle.ipx_site.specs.AccessListMetrics.{family_text, port_metric_line};
 
 use std::alloc::AllocError;
 
@@ -53,7 +53,7 @@ pub fn put_of_port(
     value: u64,
 ) -> Result<(), AllocError>
     ensures { OnOk result (string_bytes text.new
-        ≡ string_bytes text.old ++ port_figure family.now.name.now number value) }
+        ≡ string_bytes text.old ++ port_metric_line family.now.name.now number value) }
 {
     let name = family.name;
     write!(text, "{name}{{port=\"{number}\"}} {value}\n")

@@ -16,7 +16,7 @@ use crate::key::{Key, is_key, key_in, keys_of_kind, keys_of_other_kinds};
 use crate::neighbours::{among, neighbours_of};
 use crate::site::{Accept, Directed, Kind};
 use crate::values::{
-    accept_of, are_apart, count_of, directed_of, file_name_of, kind_of, parse_address,
+    accept_of, are_distinct, count_of, directed_of, file_name_of, kind_of, parse_address,
     parse_network, parse_peers, parse_socket, routers_of,
 };
 use ipx_wire::{Network, OutOfMemory, Socket};
@@ -248,7 +248,7 @@ pub fn other_file_name_in(
 {
     let name = file_name_in(alloc, table, key)?;
     match (&name, other) {
-        (Some(one), Some(two)) if !are_apart(one, two) => Err(ConfigError::Wrong(0, key)),
+        (Some(one), Some(two)) if !are_distinct(one, two) => Err(ConfigError::Wrong(0, key)),
         _ => Ok(name),
     }
 }

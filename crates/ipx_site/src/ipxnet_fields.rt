@@ -3,7 +3,7 @@
 ghost use Rattle.std.specs.Prelude.{◌≡◌, ◌⊎◌, IfErr, IfOk};
 ghost use Rattle.toml.specs.View.{table_view};
 ghost use Rattle.ipx_site.specs.IpxnetTable.{AreJoinedRouters, ArePeersFor, IsIpxnetFault, IsIpxnetTable, IsJoinFault, IsPeersFault};
-ghost use Rattle.ipx_site.specs.EthernetValues.{are_places_apart};
+ghost use Rattle.ipx_site.specs.EthernetValues.{are_places_distinct};
 
 use crate::ethernet_fields::{required_count_in, station_in};
 use crate::ethernet_values::{ends_of, station_at};
@@ -46,8 +46,8 @@ fn registering_in(
 }
 
 /// Whether no place is listed twice.
-fn are_apart(places: &[Place]) -> bool
-    ensures { result ≡ are_places_apart places.now }
+fn are_distinct(places: &[Place]) -> bool
+    ensures { result ≡ are_places_distinct places.now }
 {
     for (index, place) in places.iter().enumerate() {
         if places[index + 1..].contains(place) {
@@ -70,7 +70,7 @@ fn joined_routers_in(alloc: Global, table: &Table, number: usize) -> Result<Vec<
     let Some(routers) = ends_of(alloc, value)? else {
         return Err(ConfigError::Wrong(number, Key::Join));
     };
-    if are_apart(&routers) {
+    if are_distinct(&routers) {
         Ok(routers)
     } else {
         Err(ConfigError::Wrong(number, Key::Join))

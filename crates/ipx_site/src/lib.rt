@@ -108,7 +108,7 @@ pub use metrics_page::MetricsPage;
 pub use neighbour_metrics::put_neighbour_metrics;
 pub use poller::{Poller, WaitFault};
 pub use port_buckets::PortBuckets;
-pub use port_filter_drops::{PortFilterDrops, what_was_kept_adds_up};
+pub use port_filter_drops::{PortFilterDrops, filter_drops_add_up};
 pub use port_metrics::put_port_metrics;
 pub use querier::{Querier, general_query_from};
 pub use query_rate::{directed_rate_is_bounded, port_query_rate_is_bounded, query_rate_is_bounded};
@@ -128,8 +128,8 @@ pub use source_laws::control_is_of_its_sender;
 pub use start_lines::{dotted, others, reached_to_text};
 pub use starting::start_router;
 pub use static_laws::{
-    entries_of_files_may_stand, routes_of_files_stand, routes_of_sites_stand,
-    services_of_files_stand, services_of_sites_stand,
+    entries_of_files_meet_premises, routes_of_files_hold, routes_of_sites_hold,
+    services_of_files_hold, services_of_sites_hold,
 };
 pub use static_neighbours::silent_of;
 pub use statics::{StaticEntry, StaticItem};

@@ -33,7 +33,7 @@ enum Told {
     Heard(u64),
 }
 
-fn figure_of(teller: &Advertiser, told: Told) -> u64 {
+fn metric_of_neighbour(teller: &Advertiser, told: Told) -> u64 {
     match told {
         Told::Networks => teller.networks as u64,
         Told::Services => teller.services as u64,
@@ -42,7 +42,7 @@ fn figure_of(teller: &Advertiser, told: Told) -> u64 {
 }
 
 /// Writes a metric of each of these neighbours.
-fn put_told(
+fn put_neighbour_metric(
     text: &mut String,
     family: &Family,
     advertisers: &[(Source, Advertiser)],
@@ -53,7 +53,7 @@ fn put_told(
         let name = family.name;
         let port = source.port;
         let node = source.neighbour;
-        let figure = figure_of(teller, told);
+        let figure = metric_of_neighbour(teller, told);
         write!(text, "{name}{{port=\"{port}\",node=\"{node}\"}} {figure}\n")?;
     }
     Ok(())
@@ -68,7 +68,7 @@ pub fn put_neighbour_metrics(
     now: u64,
 ) -> Result<(), AllocError> {
     let advertisers = first_advertisers(alloc, router.routes(), router.services(), now)?;
-    put_told(text, &NETWORKS, &advertisers, Told::Networks)?;
-    put_told(text, &SERVICES, &advertisers, Told::Services)?;
-    put_told(text, &HEARD, &advertisers, Told::Heard(now))
+    put_neighbour_metric(text, &NETWORKS, &advertisers, Told::Networks)?;
+    put_neighbour_metric(text, &SERVICES, &advertisers, Told::Services)?;
+    put_neighbour_metric(text, &HEARD, &advertisers, Told::Heard(now))
 }

@@ -1,7 +1,7 @@
 //! What access lists drop, by port.
 
 ghost use Rattle.std.specs.Prelude.{◌≡◌};
-ghost use Rattle.ipx_site.specs.PortFilterDrops.{RefusedAddUp, UnknownSendersAddUp, kept_changed_at, nothing_at_port, one_refused, one_unknown_sender};
+ghost use Rattle.ipx_site.specs.PortFilterDrops.{RefusedAddUp, UnknownSendersAddUp, drops_changed_at, nothing_at_port, one_refused, one_unknown_sender};
 
 use ipx_carrier::saturating_increment;
 
@@ -40,7 +40,7 @@ impl PortFilterDrops {
 
 /// Counts an unknown sender at a port, if it is one of these ports.
 pub fn count_unknown_sender(ports: &mut [PortFilterDrops], port: usize)
-    ensures { ports.new ≡ kept_changed_at ports.old port one_unknown_sender }
+    ensures { ports.new ≡ drops_changed_at ports.old port one_unknown_sender }
 {
     if port < ports.len() {
         ports[port].raise_unknown_senders();
@@ -49,7 +49,7 @@ pub fn count_unknown_sender(ports: &mut [PortFilterDrops], port: usize)
 
 /// Counts a datagram to an address that the port does not send to, if it is one of these ports.
 pub fn count_refused(ports: &mut [PortFilterDrops], port: usize)
-    ensures { ports.new ≡ kept_changed_at ports.old port one_refused }
+    ensures { ports.new ≡ drops_changed_at ports.old port one_refused }
 {
     if port < ports.len() {
         ports[port].raise_refused();
@@ -58,7 +58,7 @@ pub fn count_refused(ports: &mut [PortFilterDrops], port: usize)
 
 /// A law: the counts of the ports add up to those of their device, for unknown senders and for
 /// datagrams not sent. It does nothing.
-pub fn what_was_kept_adds_up()
+pub fn filter_drops_add_up()
     ensures unknown_senders { UnknownSendersAddUp }
     ensures refused { RefusedAddUp }
 {}

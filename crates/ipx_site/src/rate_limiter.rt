@@ -2,8 +2,8 @@
 
 ghost use Rattle.std.specs.Prelude.{◌≡◌, ◌<◌, [], IfOk, OnErr, OnOk};
 ghost use Rattle.ipx_site.specs.DirectedBroadcasts.{IsDirectedBroadcast, no_directed_drops};
-ghost use Rattle.ipx_site.specs.RateLimiter.{HearsBroadcast, HearsQuery, IsGeneralQuery, MissesBelow};
-ghost use Rattle.ipx_site.specs.SourceFilter.{none_kept};
+ghost use Rattle.ipx_site.specs.RateLimiter.{HearsBroadcast, HearsQuery, IsGeneralQuery, HearOutOfMemoryBelow};
+ghost use Rattle.ipx_site.specs.SourceFilter.{zero_drops};
 
 use crate::directed_broadcast::{DirectedBroadcast, DirectedDrops, directed_broadcast_in};
 use crate::port_buckets::PortBuckets;
@@ -71,7 +71,7 @@ impl<C: Core + Drop> RateLimiter<C> {
         ensures core { IfOk result (λ s. s.core ≡ core) }
         ensures ports { IfOk result (λ s. s.ports ≡ ports.items) }
         ensures fresh { IfOk result (λ s. (s.buckets.queriers ≡ []) × (s.buckets.ports ≡ limits.items)
-            × (s.kept ≡ none_kept) × (s.directed ≡ no_directed_drops)) }
+            × (s.kept ≡ zero_drops) × (s.directed ≡ no_directed_drops)) }
     {
         let buckets = TokenBuckets::new(alloc, limits)?;
         Ok(RateLimiter {
@@ -117,7 +117,7 @@ impl<C: Core + Drop> RateLimiter<C> {
         requires asks { IsGeneralQuery self.old.ports port bytes.now querier }
         ensures heard { OnOk result (HearsQuery C.hears self.old port bytes.now now self.new) }
         ensures refused { OnErr result
-            (MissesBelow C.hear_out_of_memory self.old port bytes.now now self.new) }
+            (HearOutOfMemoryBelow C.hear_out_of_memory self.old port bytes.now now self.new) }
         ensures count { C.port_count self.new.core ≡ C.port_count self.old.core }
     {
         if !self.buckets.has_token(querier, now) {
@@ -143,7 +143,7 @@ impl<C: Core + Drop> RateLimiter<C> {
         requires directed { IsDirectedBroadcast self.old.ports port bytes.now broadcast }
         ensures heard { OnOk result (HearsBroadcast C.hears self.old port bytes.now now self.new) }
         ensures refused { OnErr result
-            (MissesBelow C.hear_out_of_memory self.old port bytes.now now self.new) }
+            (HearOutOfMemoryBelow C.hear_out_of_memory self.old port bytes.now now self.new) }
         ensures count { C.port_count self.new.core ≡ C.port_count self.old.core }
     {
         if !self.buckets.has_directed_token(broadcast.leaves_by, now) {
@@ -167,17 +167,17 @@ impl<C: RestartDiscovery + Drop> RestartDiscovery for RateLimiter<C> {
 }
 
 impl<C: Core + Drop> Core for RateLimiter<C> {
-    ghost use Rattle.ipx_site.specs.RateLimiter.{GivesBelow, HearsSparingly, MissesBelow, WithholdsBelow};
+    ghost use Rattle.ipx_site.specs.RateLimiter.{GivesBelow, HearsRateLimited, HearOutOfMemoryBelow, NextOutOfMemoryBelow};
 
     ghost port_count = { λ s. C.port_count s.core };
 
-    ghost hears = { HearsSparingly C.hears };
+    ghost hears = { HearsRateLimited C.hears };
 
     ghost gives = { GivesBelow C.gives };
 
-    ghost hear_out_of_memory = { MissesBelow C.hear_out_of_memory };
+    ghost hear_out_of_memory = { HearOutOfMemoryBelow C.hear_out_of_memory };
 
-    ghost next_out_of_memory = { WithholdsBelow C.next_out_of_memory };
+    ghost next_out_of_memory = { NextOutOfMemoryBelow C.next_out_of_memory };
 
     fn ports(&self) -> usize {
         self.core.ports()

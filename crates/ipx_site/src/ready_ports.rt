@@ -35,7 +35,7 @@ fn mark_port(ports: &mut UdpRouterPorts, number: usize)
 }
 
 /// Marks the ports where something came at the last wait.
-#[tactic(auto, using(crate::proofs::MarksApart::same_marks, crate::proofs::MarksApart::marks_on))]
+#[tactic(auto, using(crate::proofs::MarksSeparate::same_marks, crate::proofs::MarksSeparate::marks_on))]
 pub fn mark_ready(ports: &mut UdpRouterPorts, ready: &Poller)
     ensures marks { AreMarked (numbers_come ready.now) (marks_in ports.old) (marks_in ports.new) }
     ensures rest { DifferInMarks ports.old ports.new }

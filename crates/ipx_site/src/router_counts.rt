@@ -68,12 +68,12 @@ impl RouterCounts {
         self.unmapped = self.unmapped.saturating_add(batch.unmapped);
         match batch.fault {
             Some(RunFault::Device) => saturating_increment(&mut self.device_faults),
-            Some(RunFault::OutOfMemory) => self.want_memory(),
+            Some(RunFault::OutOfMemory) => self.count_out_of_memory(),
             None => {}
         }
     }
 
-    pub fn want_memory(&mut self)
+    pub fn count_out_of_memory(&mut self)
         ensures { self.new ≡ with_memory_fault self.old }
     {
         saturating_increment(&mut self.memory_faults);

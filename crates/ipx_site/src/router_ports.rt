@@ -110,14 +110,14 @@ impl<D: Datagrams + Drop, E: EndSockets + Drop, L: PlaceSockets + Drop> RouterPo
 
     /// Sets the time, in milliseconds, for all that Ethernet and ipxnet ports send and receive from
     /// now on.
-    pub fn set_moment(&mut self, moment: u64)
+    pub fn set_time(&mut self, moment: u64)
         ensures ethernet { self.new.ethernet ≡ record self.old.ethernet { moment = moment } }
         ensures servers { self.new.servers ≡ record self.old.servers { moment = moment } }
         ensures datagrams { self.new.datagrams ≡ self.old.datagrams }
         ensures port_indices { self.new.port_indices ≡ self.old.port_indices }
     {
-        self.ethernet.set_moment(moment);
-        self.servers.set_moment(moment);
+        self.ethernet.set_time(moment);
+        self.servers.set_time(moment);
     }
 }
 

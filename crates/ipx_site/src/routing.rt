@@ -245,7 +245,7 @@ fn tell_port<R: Log>(rt: &R, number: usize, line: &str, room: u32) {
 
 /// The size of a socket's receive buffer in bytes, after the system is asked for more. It is 0 if
 /// the system does not say.
-fn room_of(descriptor: Option<RawFd>) -> u32 {
+fn rcvbuf_of(descriptor: Option<RawFd>) -> u32 {
     match descriptor {
         Some(descriptor) => set_rcvbuf(descriptor),
         None => 0,
@@ -254,18 +254,18 @@ fn room_of(descriptor: Option<RawFd>) -> u32 {
 
 /// The size of the receive buffer of a port's socket in bytes, or 0 if the system did not say. For
 /// Ethernet and ipxnet ports it asks the system for more now.
-fn room_at(ports: &UdpRouterPorts, port_index: PortIndex) -> u32 {
+fn rcvbuf_at(ports: &UdpRouterPorts, port_index: PortIndex) -> u32 {
     match port_index {
         PortIndex::Datagrams(place) => ports.device().device().room(place).unwrap_or(0),
-        PortIndex::Ethernet(place) => room_of(ports.ethernet().sockets().descriptor(place)),
-        PortIndex::IpxnetServer(place) => room_of(ports.servers().sockets().descriptor(place)),
+        PortIndex::Ethernet(place) => rcvbuf_of(ports.ethernet().sockets().descriptor(place)),
+        PortIndex::IpxnetServer(place) => rcvbuf_of(ports.servers().sockets().descriptor(place)),
     }
 }
 
 fn tell_ports<R: Log>(rt: &R, lines: &[String], ports: &UdpRouterPorts) {
     for (place, line) in lines.iter().enumerate() {
         if let Some(port_index) = ports.port_indices().get(place) {
-            tell_port(rt, place + 1, line, room_at(ports, *port_index));
+            tell_port(rt, place + 1, line, rcvbuf_at(ports, *port_index));
         }
     }
 }

@@ -3,13 +3,13 @@
 ghost use Rattle.std.specs.Prelude.{◌≡◌, ◌↔◌, ℕ, Bool, List, IfOk, OnOk, Some, is_err, is_ok, length, map, string_bytes};
 ghost use Rattle.ipx_carrier.specs.ReadySet.{AreMarked, is_any_marked};
 ghost use Rattle.ipx_carrier.specs.Turns.{peers_of};
-ghost use Rattle.ipx_site.specs.DropLog.{AreDropsTold};
-ghost use Rattle.ipx_site.specs.IdleTime.{IsTimeUntilDue, IsDue, IsToSend, deadlines, counts_told, happened, happened_in, look_after};
-ghost use Rattle.ipx_site.specs.Moments.{AreToldIfDue, IsReached};
+ghost use Rattle.ipx_site.specs.DropLog.{AreDropsLogged};
+ghost use Rattle.ipx_site.specs.IdleTime.{IsTimeUntilDue, IsDue, IsToSend, deadlines, counts_to_log, happened, happened_in, look_after};
+ghost use Rattle.ipx_site.specs.Moments.{AreLoggedIfDue, IsReached};
 ghost use Rattle.ipx_site.specs.KnownFile.{TellsKnown};
 ghost use Rattle.ipx_site.specs.SitePorts.{access_by};
-ghost use Rattle.ipx_site.specs.PortsView.{kept_in_ports, ways_in};
-ghost use Rattle.ipx_site.specs.RouterRounds.{AsksAgain, IsRound, SleepsBehind};
+ghost use Rattle.ipx_site.specs.PortsView.{filtered_in_ports, ways_in};
+ghost use Rattle.ipx_site.specs.RouterRounds.{AsksAgain, IsRound, SleepsAfter};
 ghost use Rattle.ipx_site.specs.SiteMarks.{marks_in, numbers_come};
 ghost use Rattle.ipx_site.specs.Steady.{NeverGoesBack, StopsThere};
 
@@ -200,7 +200,7 @@ impl<'a, R: SystemClock> RunningRouter<'a, R> {
         ensures asked { self.new.asked ≡ self.old.asked }
     {
         if self.clients.tell(rt, alloc, &self.ports, now).is_err() {
-            self.totals.want_memory();
+            self.totals.count_out_of_memory();
         }
         if !is_over(self.looked, self.look_period(), now) {
             return;
@@ -212,7 +212,7 @@ impl<'a, R: SystemClock> RunningRouter<'a, R> {
             .look(rt, alloc, self.core.core().core().core().router(), now)
             .is_err()
         {
-            self.totals.want_memory();
+            self.totals.count_out_of_memory();
         }
     }
 
@@ -237,7 +237,7 @@ impl<'a, R: SystemClock> RunningRouter<'a, R> {
             return;
         };
         let Ok(text) = self.tables_text(alloc, now) else {
-            self.totals.want_memory();
+            self.totals.count_out_of_memory();
             return;
         };
         if !write_whole(rt, alloc, path.as_str(), text.as_str()) {
@@ -264,7 +264,7 @@ impl<'a, R: SystemClock> RunningRouter<'a, R> {
             return;
         };
         let Ok(text) = self.metrics_text(alloc, now) else {
-            self.totals.want_memory();
+            self.totals.count_out_of_memory();
             return;
         };
         if !write_whole(rt, alloc, path.as_str(), text.as_str()) {
@@ -279,11 +279,11 @@ impl<'a, R: SystemClock> RunningRouter<'a, R> {
         ensures clock { self.new.clock ≡ self.old.clock }
         ensures ready { self.new.ready ≡ self.old.ready }
         // Each warning that is due is logged, and no other.
-        ensures told { AreToldIfDue (counts_told (happened self.new.totals self.new.core
+        ensures told { AreLoggedIfDue (counts_to_log (happened self.new.totals self.new.core
             self.new.ports)) now
             self.old.warnings.causes self.new.warnings.causes }
         // So are its drops.
-        ensures drops { AreDropsTold self.new.core.core.core.core.outcomes self.new.core.drops now
+        ensures drops { AreDropsLogged self.new.core.core.core.core.outcomes self.new.core.drops now
             self.old.drops self.new.drops }
     {
         self.ask(now);
@@ -302,7 +302,7 @@ impl<'a, R: SystemClock> RunningRouter<'a, R> {
 
     /// The time at which it sends what waits in its queues: 0 if anything waits, and None
     /// otherwise.
-    fn sending_moment(&self) -> Option<u64>
+    fn sending_time(&self) -> Option<u64>
         ensures { (t : ℕ) → IsReached result t ↔ IsToSend self.now.core.core.core.core.queues }
     {
         if self.core.core().core().core().queued() > 0 {
@@ -328,7 +328,7 @@ impl<'a, R: SystemClock> RunningRouter<'a, R> {
             self.warnings.next(&self.metrics(now)),
         );
         let due = sooner(packets, sooner(words, sooner(look, metrics)));
-        time_to(sooner(self.sending_moment(), due), now)
+        time_to(sooner(self.sending_time(), due), now)
     }
 
     /// Does the work that is due, and takes turns as long as there is something to receive or to
@@ -336,7 +336,7 @@ impl<'a, R: SystemClock> RunningRouter<'a, R> {
     fn round<S: Log + Files>(&mut self, rt: &S, alloc: Global) -> Batch
         ensures core { IsRound self.old.clock self.new.clock
             StopsThere NeverGoesBack (ways_in self.old.ports)
-            (kept_in_ports self.old.ports) (kept_in_ports self.new.ports)
+            (filtered_in_ports self.old.ports) (filtered_in_ports self.new.ports)
             self.old.asked self.new.asked self.old.core self.new.core
             self.new.ports.ethernet.moment result }
         ensures ready { self.new.ready ≡ self.old.ready }
@@ -352,7 +352,7 @@ impl<'a, R: SystemClock> RunningRouter<'a, R> {
     {
         let now = self.clock.stop();
         self.keep(rt, alloc, now);
-        self.ports.set_moment(now);
+        self.ports.set_time(now);
         let batch = run_batch(
             alloc,
             &mut self.core,
@@ -368,7 +368,7 @@ impl<'a, R: SystemClock> RunningRouter<'a, R> {
     /// if there may be more to do. Otherwise it waits as long as there is nothing to do. If a port
     /// is still marked then, it keeps failing, and is tried again after a pause.
     fn rest(&mut self, batch: Batch) -> u64
-        ensures rests { SleepsBehind (IsDue (deadlines self.old.asked self.old.looked self.old.responses
+        ensures rests { SleepsAfter (IsDue (deadlines self.old.asked self.old.looked self.old.responses
             self.old.written self.old.core self.old.warnings
             (happened self.old.totals self.old.core self.old.ports)))
             (is_any_marked (marks_in self.old.ports))
@@ -404,10 +404,10 @@ impl<'a, R: SystemClock> RunningRouter<'a, R> {
         // nothing to do. Then the ports are marked at which something came.
         ensures core { (between : SteadyClock R) × (batch : Batch) × (marks : List Bool)
             × IsRound self.old.clock between StopsThere NeverGoesBack (ways_in self.old.ports)
-            (kept_in_ports self.old.ports) (kept_in_ports self.new.ports)
+            (filtered_in_ports self.old.ports) (filtered_in_ports self.new.ports)
             self.old.asked self.new.asked self.old.core self.new.core
             self.new.ports.ethernet.moment batch
-            × SleepsBehind (IsDue (deadlines self.new.asked self.new.looked self.new.responses
+            × SleepsAfter (IsDue (deadlines self.new.asked self.new.looked self.new.responses
             self.new.written self.new.core self.new.warnings
             (happened self.new.totals self.new.core self.new.ports)))
             (is_any_marked marks)

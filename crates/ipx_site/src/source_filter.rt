@@ -6,8 +6,8 @@ ghost use Rattle.ipx_carrier.specs.Device.{Passes, received_in};
 ghost use Rattle.ipx_carrier.specs.Counting.{raised};
 ghost use Rattle.ipx_carrier.specs.RunFaultNumbers.{device_failures};
 ghost use Rattle.ipx_carrier.specs.Waits.{LeavesPort};
-ghost use Rattle.ipx_site.specs.PortFilterDrops.{CountsUnknownSenderAt, kept_changed_at, nothing_at_port, one_refused};
-ghost use Rattle.ipx_site.specs.SourceFilter.{IsVerdictOn, TakesIn, is_listed, is_peer, kept_in, may_go, may_originate, none_kept, nothing_kept, one_more};
+ghost use Rattle.ipx_site.specs.PortFilterDrops.{CountsUnknownSenderAt, drops_changed_at, nothing_at_port, one_refused};
+ghost use Rattle.ipx_site.specs.SourceFilter.{IsVerdictOn, TakesIn, is_listed, is_peer, drops_in, may_go, may_originate, zero_drops, no_filter_drops, one_more};
 ghost use Rattle.ipx_site.specs.SitePorts.{access_by};
 
 use crate::last_sender::Senders;
@@ -70,7 +70,7 @@ pub struct FilterDrops {
 
 impl DropCount {
     pub fn none() -> DropCount
-        ensures { result ≡ none_kept }
+        ensures { result ≡ zero_drops }
     {
         DropCount {
             count: 0,
@@ -90,7 +90,7 @@ impl DropCount {
 impl FilterDrops {
     /// How many were dropped for all reasons.
     pub fn total(&self) -> u128
-        ensures total { result ≡ kept_in self.now }
+        ensures total { result ≡ drops_in self.now }
         ensures few { result < 2 ^ 66 }
     {
         let unknown_senders = u128::from(self.unknown_senders.count);
@@ -174,7 +174,7 @@ impl<D: Senders + Drop> SourceFilter<D> {
     pub fn new(device: D, access_lists: Vec<AccessList>) -> SourceFilter<D>
         ensures device { result.device ≡ device }
         ensures access_lists { result.access_lists.items ≡ access_lists.items }
-        ensures none { (result.kept ≡ nothing_kept) × (result.refused ≡ 0) }
+        ensures none { (result.kept ≡ no_filter_drops) × (result.refused ≡ 0) }
         ensures none_by_port { result.port_counters ≡ replicate 16 nothing_at_port }
     {
         SourceFilter {
@@ -273,7 +273,7 @@ impl<D: Senders + Drop> Datagrams for SourceFilter<D> {
     // Its access lists say which senders are accepted; others are unknown senders.
     ghost access = { λ p. map access_by p.access_lists.items };
 
-    ghost filtered = { λ p. kept_in p.kept };
+    ghost filtered = { λ p. drops_in p.kept };
 
     fn ports(&self) -> usize {
         self.device.ports()
@@ -300,7 +300,7 @@ impl<D: Senders + Drop> Datagrams for SourceFilter<D> {
             × (self.new.refused ≡ raised self.old.refused) }
         // It is counted at its port too.
         ensures port_counters { self.new.port_counters ≡ (if may_go (slice_get self.old.access_lists.items port) to
-            then self.old.port_counters else kept_changed_at self.old.port_counters port one_refused) }
+            then self.old.port_counters else drops_changed_at self.old.port_counters port one_refused) }
         ensures kept { self.new.kept ≡ self.old.kept }
         ensures waiting { D.waiting self.new.device ≡ D.waiting self.old.device }
         ensures fails { may_go (slice_get self.old.access_lists.items port) to ≡ true
@@ -338,7 +338,7 @@ impl<D: Senders + Drop> Datagrams for SourceFilter<D> {
         // A datagram from an unknown sender is counted at its port too.
         ensures port_counters { CountsUnknownSenderAt port self.old.kept.unknown_senders.count
             self.new.kept.unknown_senders.count self.old.port_counters self.new.port_counters }
-        ensures filtered { kept_in self.old.kept ≤ kept_in self.new.kept }
+        ensures filtered { drops_in self.old.kept ≤ drops_in self.new.kept }
         ensures refused { self.new.refused ≡ self.old.refused }
         ensures access_lists { self.new.access_lists ≡ self.old.access_lists }
         ensures failures { D.failed self.new.device
@@ -364,7 +364,7 @@ impl<D: Senders + Drop> Datagrams for SourceFilter<D> {
 
 impl<D: Senders + Drop> CountsFiltered for SourceFilter<D> {
     fn filtered(&self) -> u128
-        ensures total { result ≡ kept_in self.now.kept }
+        ensures total { result ≡ drops_in self.now.kept }
         ensures few { result < 2 ^ 66 }
     {
         let kept = self.kept();

@@ -3,7 +3,7 @@
 ghost use Rattle.std.specs.Prelude.{◌≡◌, ◌⊎◌, ◌<◌, IfErr, IfOk, IfSome, length, option_copied};
 ghost use Rattle.toml.specs.View.{table_view};
 ghost use Rattle.ipx_site.specs.Fields.{Gives};
-ghost use Rattle.ipx_site.specs.StaticFields.{IsFarNetwork, IsFarNetworkFault, IsNamedNode, IsNamedNodeFault, IsNear, IsNearFault, IsNextNode, IsNextNodeFault, IsPeerNode, IsPeerNodeFault, IsServiceName, IsServicePlace, IsServicePlaceFault, IsServiceType, IsServiceTypeFault, IsWrittenPlace, is_own_node, numbered_port, own_place};
+ghost use Rattle.ipx_site.specs.StaticFields.{IsRemoteNetwork, IsRemoteNetworkFault, IsNamedNode, IsNamedNodeFault, IsNear, IsNearFault, IsNextNode, IsNextNodeFault, IsPeerNode, IsPeerNodeFault, IsServiceName, IsServicePlace, IsServicePlaceFault, IsServiceType, IsServiceTypeFault, IsWrittenPlace, is_own_node, numbered_port, port_index_on};
 ghost use Rattle.ipx_site.specs.Values.{IsCount};
 ghost use Rattle.ipx_site.specs.EthernetValues.{IsStation};
 
@@ -133,28 +133,28 @@ pub fn next_hop_in(
 }
 
 /// The index of the first of these ports that is on a network.
-fn own_place(ports: &[PortConfig], network: Network) -> Option<usize>
-    ensures place { result ≡ own_place ports.now network }
+fn port_index_on(ports: &[PortConfig], network: Network) -> Option<usize>
+    ensures place { result ≡ port_index_on ports.now network }
     ensures within { IfSome result (λ k. k < length ports.now) }
 {
     ports.iter().position(|port| port.network() == network)
 }
 
 /// A network that no port is on, and not the default route.
-pub fn far_network_in(
+pub fn remote_network_in(
     table: &Table,
     number: usize,
     ports: &[PortConfig],
 ) -> Result<Network, ConfigError>
-    ensures network { IfOk result (IsFarNetwork ports.now (table_view table.now)) }
+    ensures network { IfOk result (IsRemoteNetwork ports.now (table_view table.now)) }
     ensures fault { IfErr result (λ f. (f ≡ ConfigError.OutOfMemory)
-        ⊎ IsFarNetworkFault ports.now (table_view table.now) number f) }
+        ⊎ IsRemoteNetworkFault ports.now (table_view table.now) number f) }
 {
     let network = network_in(table, number)?;
     if network == DEFAULT_ROUTE {
         return Err(ConfigError::Wrong(number, Key::Network));
     }
-    match own_place(ports, network) {
+    match port_index_on(ports, network) {
         Some(place) => Err(ConfigError::Twin(number, network, place + 1)),
         None => Ok(network),
     }

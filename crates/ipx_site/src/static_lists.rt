@@ -39,7 +39,7 @@ fn again_place(earlier: &[StaticEntry], entry: &StaticEntry) -> Option<usize>
     ensures place { result ≡ again_place earlier.now entry.now }
     ensures within { IfSome result (λ k. k < length earlier.now) }
 {
-    earlier.iter().position(|other| other.says_again(entry))
+    earlier.iter().position(|other| other.is_repeat_of(entry))
 }
 
 /// Refuses an entry that repeats an earlier one.

@@ -9,7 +9,7 @@ use crate::fields::{count_in, refuse_unknown};
 use crate::key::Key;
 use crate::site::PortConfig;
 use crate::static_fields::{
-    far_network_in, next_hop_in, service_name_in, service_place_in, service_type_in,
+    next_hop_in, remote_network_in, service_name_in, service_place_in, service_type_in,
 };
 use crate::statics::{StaticEntry, StaticItem, StaticKind};
 use ipx_control::{RipEntry, ServiceEntry};
@@ -43,7 +43,7 @@ fn path_in(
     ensures fault { IfErr result (λ f. (f ≡ ConfigError.OutOfMemory)
         ⊎ IsPathFault ports.now (table_view table.now) number f) }
 {
-    let network = far_network_in(table, number, ports)?;
+    let network = remote_network_in(table, number, ports)?;
     let hops = count_in(table, number, Key::Hops, MAX_HOPS, 1)?;
     let ticks = count_in(table, number, Key::Ticks, 65535, cost)?;
     Ok(RipEntry {

@@ -1,8 +1,8 @@
 //! Static routes and services, as a router's file gives them.
 
 ghost use Rattle.std.specs.Prelude.{◌≡◌, ◌≤◌};
-ghost use Rattle.ipx_site.specs.StaticLists.{entry_key, first_table, is_one_source, is_same_word, says_again};
-ghost use Rattle.ipx_site.specs.StaticNeighbours.{route_by, route_in_word, service_by, service_in_word};
+ghost use Rattle.ipx_site.specs.StaticLists.{entry_key, first_table, is_one_source, is_same_word, is_repeat_of};
+ghost use Rattle.ipx_site.specs.StaticNeighbours.{route_by, route_of_item, service_by, service_of_item};
 
 use crate::key::Key;
 use ipx_control::{RipEntry, ServiceEntry};
@@ -75,8 +75,8 @@ fn is_same_word(a: StaticItem, b: StaticItem) -> bool
     }
 }
 
-fn route_in_word(word: StaticItem) -> Option<RipEntry>
-    ensures { result ≡ route_in_word word }
+fn route_of_item(word: StaticItem) -> Option<RipEntry>
+    ensures { result ≡ route_of_item word }
 {
     match word {
         StaticItem::Route(route) => Some(route),
@@ -84,8 +84,8 @@ fn route_in_word(word: StaticItem) -> Option<RipEntry>
     }
 }
 
-fn service_in_word(word: StaticItem) -> Option<ServiceEntry>
-    ensures { result ≡ service_in_word word }
+fn service_of_item(word: StaticItem) -> Option<ServiceEntry>
+    ensures { result ≡ service_of_item word }
 {
     match word {
         StaticItem::Route(_) => None,
@@ -95,8 +95,8 @@ fn service_in_word(word: StaticItem) -> Option<ServiceEntry>
 
 impl StaticEntry {
     /// Whether another entry repeats this one: the same neighbour, and the same network or service.
-    pub(crate) fn says_again(&self, other: &StaticEntry) -> bool
-        ensures { result ≡ says_again self.now other.now }
+    pub(crate) fn is_repeat_of(&self, other: &StaticEntry) -> bool
+        ensures { result ≡ is_repeat_of self.now other.now }
     {
         is_one_source(self.by, other.by) && is_same_word(self.word, other.word)
     }
@@ -106,7 +106,7 @@ impl StaticEntry {
         ensures { result ≡ route_by by self.now }
     {
         if is_one_source(self.by, by) {
-            route_in_word(self.word)
+            route_of_item(self.word)
         } else {
             None
         }
@@ -117,7 +117,7 @@ impl StaticEntry {
         ensures { result ≡ service_by by self.now }
     {
         if is_one_source(self.by, by) {
-            service_in_word(self.word)
+            service_of_item(self.word)
         } else {
             None
         }

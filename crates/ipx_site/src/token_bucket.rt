@@ -30,7 +30,7 @@ pub fn is_token_there(burst: u128, back: u128, now: u128) -> bool
 }
 
 /// When a bucket is full again after a token was taken from it. It must have had one.
-pub fn back_behind(burst: u128, back: u128, now: u128) -> u128
+pub fn full_again_at(burst: u128, back: u128, now: u128) -> u128
     requires there { back_after back now ≤ now + 1000 * burst }
     requires fits { (burst < 2 ^ 16) × (now < 2 ^ 80) }
     ensures { result ≡ back_after back now }
@@ -76,6 +76,6 @@ impl TokenBucket {
         ensures { self.new ≡ bucket_taken self.old now }
     {
         let burst = self.limit.burst();
-        self.back = back_behind(burst, self.back, self.limit.clock(now));
+        self.back = full_again_at(burst, self.back, self.limit.clock(now));
     }
 }

@@ -6,7 +6,7 @@ ghost use Rattle.ipx_site.specs.TokenBuckets.{HasToken, asked_by, back_at, is_an
 
 use crate::port_buckets::{PortBuckets, has_directed, has_query, take_directed, take_query};
 use crate::querier::Querier;
-use crate::token_bucket::{back_behind, is_token_there};
+use crate::token_bucket::{full_again_at, is_token_there};
 use std::alloc::{AllocError, Global};
 use std::marker::Model;
 
@@ -98,7 +98,7 @@ impl TokenBuckets {
         requires { HasToken self.old querier now }
         ensures { self.new ≡ record self.old { queriers = asked_by querier now self.old.queriers } }
     {
-        let back = back_behind(OWN_TOKENS, self.back_of(querier), u128::from(now));
+        let back = full_again_at(OWN_TOKENS, self.back_of(querier), u128::from(now));
         self.known.retain(|known| is_another(querier, now, known));
         self.known.push_reserved(Asking { querier, back });
     }

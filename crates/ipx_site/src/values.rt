@@ -3,7 +3,7 @@
 ghost use Rattle.std.specs.Prelude.{◌≡◌, ◌↔◌, IfOk, IsTrue};
 ghost use Rattle.std.specs.List.{list_all};
 ghost use Rattle.toml.specs.View.{items_view, view};
-ghost use Rattle.ipx_site.specs.Values.{AreApart, AreAddresses, AreAddressesOf, AreRouterPeers, IsAccept, IsIpAddress, IsCount, IsDirected, IsKind, IsNetwork, IsSocket, IsFileName, ReadsAddresses, ReadsNetwork, can_name_file, temporary_name};
+ghost use Rattle.ipx_site.specs.Values.{AreDistinctFiles, AreAddresses, AreAddressesOf, AreRouterPeers, IsAccept, IsIpAddress, IsCount, IsDirected, IsKind, IsNetwork, IsSocket, IsFileName, ReadsAddresses, ReadsNetwork, can_name_file, temporary_name};
 ghost use Rattle.ipx_site.specs.Fields.{Reads};
 ghost use Rattle.ipx_site.specs.SourceFilter.{is_peer};
 
@@ -131,8 +131,8 @@ fn is_temporary_of(name: &str, other: &str) -> bool
 }
 
 /// Whether the files of two names can both be written without overwriting each other.
-pub fn are_apart(one: &str, two: &str) -> bool
-    ensures { IsTrue result ↔ AreApart one.now two.now }
+pub fn are_distinct(one: &str, two: &str) -> bool
+    ensures { IsTrue result ↔ AreDistinctFiles one.now two.now }
 {
     one != two && !is_temporary_of(one, two) && !is_temporary_of(two, one)
 }

@@ -1,8 +1,8 @@
 //! The warnings that a router logs, each at most once a minute.
 
 ghost use Rattle.std.specs.Prelude.{◌≡◌, ◌↔◌, ◌<◌, ◌^◌, ℕ, IsTrue, None, get_or, replicate};
-ghost use Rattle.ipx_site.specs.IdleTime.{IsLineDue, counts_of, counts_told, happened_in};
-ghost use Rattle.ipx_site.specs.Moments.{AreToldIfDue, IsDue, IsOneDue, IsReached, IsToldIfDue, untold};
+ghost use Rattle.ipx_site.specs.IdleTime.{IsLineDue, counts_of, counts_to_log, happened_in};
+ghost use Rattle.ipx_site.specs.Moments.{AreLoggedIfDue, IsDue, IsOneDue, IsReached, IsLoggedIfDue, untold};
 
 use crate::directed_broadcast::DirectedDrops;
 use crate::metrics::Metrics;
@@ -75,7 +75,7 @@ pub struct Warnings {
 }
 
 fn tell<R: Log>(rt: &R, cause: &mut ThrottledLog, count: u64, now: u64, what: &str)
-    ensures { IsToldIfDue count now cause.old cause.new }
+    ensures { IsLoggedIfDue count now cause.old cause.new }
 {
     if let Some(more) = cause.tell(count, now) {
         warn!(rt; target: "ipx", "{more} {what} ({count} since the start)");
@@ -84,8 +84,8 @@ fn tell<R: Log>(rt: &R, cause: &mut ThrottledLog, count: u64, now: u64, what: &s
 
 /// Logs how often it occurred since it was last logged, if it is due, with the IP address of the
 /// last sender, if known.
-fn tell_kept<R: Log>(rt: &R, cause: &mut ThrottledLog, kept: DropCount, now: u64, what: &str)
-    ensures { IsToldIfDue kept.count now cause.old cause.new }
+fn log_drops<R: Log>(rt: &R, cause: &mut ThrottledLog, kept: DropCount, now: u64, what: &str)
+    ensures { IsLoggedIfDue kept.count now cause.old cause.new }
 {
     let count = kept.count;
     let Some(ip) = kept.last else {
@@ -101,12 +101,12 @@ fn tell_kept<R: Log>(rt: &R, cause: &mut ThrottledLog, kept: DropCount, now: u64
 
 /// The same, with the IPX address of the last sender, if known.
 fn tell_warning<R: Log>(rt: &R, cause: &mut ThrottledLog, warning: Warning, now: u64)
-    ensures { IsToldIfDue warning.kept.count now cause.old cause.new }
+    ensures { IsLoggedIfDue warning.kept.count now cause.old cause.new }
 {
     let count = warning.kept.count;
     let what = warning.what;
     let Some(from) = warning.from else {
-        tell_kept(rt, cause, warning.kept, now, what);
+        log_drops(rt, cause, warning.kept, now, what);
         return;
     };
     if let Some(more) = cause.tell(count, now) {
@@ -118,7 +118,7 @@ fn tell_warning<R: Log>(rt: &R, cause: &mut ThrottledLog, warning: Warning, now:
 
 /// Logs the warnings that are due, each by the cause at its index.
 pub fn tell_each<R: Log>(rt: &R, causes: &mut [ThrottledLog], warnings: &[Warning], now: u64)
-    ensures { AreToldIfDue (counts_of warnings.now) now causes.old causes.new }
+    ensures { AreLoggedIfDue (counts_of warnings.now) now causes.old causes.new }
 {
     for (place, cause) in causes.iter_mut().enumerate() {
         if let Some(warning) = warnings.get(place) {
@@ -151,7 +151,7 @@ fn next_of(causes: &[ThrottledLog], warnings: &[Warning]) -> Option<u64>
 
 /// The warnings of a router.
 fn warnings_in(f: &Metrics) -> [Warning; CAUSES]
-    ensures { counts_of result ≡ counts_told (happened_in f.now) }
+    ensures { counts_of result ≡ counts_to_log (happened_in f.now) }
 {
     [
         Warning::from(f.kept.unknown_senders, "datagrams from unknown senders"),
@@ -195,7 +195,7 @@ impl Warnings {
 
     /// Logs those that are due.
     pub fn tell<R: Log>(&mut self, rt: &R, metrics: &Metrics, now: u64)
-        ensures { AreToldIfDue (counts_told (happened_in metrics.now)) now self.old.causes
+        ensures { AreLoggedIfDue (counts_to_log (happened_in metrics.now)) now self.old.causes
             self.new.causes }
     {
         tell_each(rt, &mut self.causes, &warnings_in(metrics), now);

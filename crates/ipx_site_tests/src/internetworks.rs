@@ -121,7 +121,7 @@ impl Senders for Post {
 
 /// A router or a host with a port on each of its networks. A host uses the router with this number.
 #[derive(Drop)]
-struct Stand {
+struct PresentEnd {
     core: Option<PriorityRouterCore>,
     router: usize,
     networks: Vec<usize>,
@@ -133,7 +133,7 @@ struct Stand {
 struct Internetwork {
     alloc: Global,
     networks: usize,
-    stands: Vec<Stand>,
+    stands: Vec<PresentEnd>,
     carried: u64,
     handed_on: u64,
     unknown_senders: u64,
@@ -189,7 +189,7 @@ impl Internetwork {
             })?;
         }
         let router = Router::new(self.alloc, ports)?;
-        self.stands.push(Stand {
+        self.stands.push(PresentEnd {
             core: Some(PriorityRouterCore::new(self.alloc, router)),
             router: number,
             networks,
@@ -204,7 +204,7 @@ impl Internetwork {
             for _host in 0..1 + dice.below(3) {
                 let router = dice.below(routers);
                 if self.stands[router].networks.contains(&network) {
-                    self.stands.push(Stand {
+                    self.stands.push(PresentEnd {
                         core: None,
                         router,
                         networks: vec![in self.alloc; network]?,
@@ -466,7 +466,7 @@ fn letter_from(alloc: Global, node: [u8; 4]) -> Result<Letter, Fail> {
 }
 
 #[test]
-fn what_waits_behind_forged_datagrams_is_heard(rt: HostRuntime) -> Result<(), Fail> {
+fn what_waits_after_forged_datagrams_is_heard(rt: HostRuntime) -> Result<(), Fail> {
     let alloc = rt.alloc();
     let mut came = VecDeque::new(alloc);
     for _letter in 0..FORGED {

@@ -108,7 +108,7 @@ fn a_batch_ends_quietly(rt: HostRuntime) -> Result<(), Fail> {
 }
 
 #[test]
-fn a_clock_stands_until_it_is_stopped_again(rt: HostRuntime) -> Result<(), Fail> {
+fn a_clock_is_frozen_until_it_is_stopped_again(rt: HostRuntime) -> Result<(), Fail> {
     let quiet = socket(&rt, 6)?;
     let mut ready = Poller::new(&rt, rt.alloc(), &quiet)?;
     let mut clock = SteadyClock::new(&rt)?;

@@ -33,9 +33,9 @@ module _ {C : Type 0} (hears : C → ℕ → List ℕ → ℕ → C → Type 0) 
       DropsFailed old port bytes new ⊎ HearsUnfailed old port bytes now new
 
 -- the core below runs out of memory as it hears bytes that fail no check
-abbrev pub MissesChecked : {C : Type 0} → (C → ℕ → List ℕ → ℕ → C → Type 0)
+abbrev pub HearOutOfMemoryChecked : {C : Type 0} → (C → ℕ → List ℕ → ℕ → C → Type 0)
     → SourceCheckedView C → ℕ → List ℕ → ℕ → SourceCheckedView C → Type 0
-MissesChecked hear_out_of_memory old port bytes now new =
+HearOutOfMemoryChecked hear_out_of_memory old port bytes now new =
     ((f : FailedCheck) → FailsAt old.ports port bytes f → ⊥)
     × hear_out_of_memory old.core port bytes now new.core × (new ≡ record old { core = new.core })
 
@@ -46,7 +46,7 @@ GivesBelowChecks gives old now given new =
     gives old.core now given new.core × (new ≡ record old { core = new.core })
 
 -- or that runs out of memory
-abbrev pub WithholdsBelowChecks : {C : Type 0} → (C → ℕ → C → Type 0)
+abbrev pub NextOutOfMemoryBelowChecks : {C : Type 0} → (C → ℕ → C → Type 0)
     → SourceCheckedView C → ℕ → SourceCheckedView C → Type 0
-WithholdsBelowChecks next_out_of_memory old now new =
+NextOutOfMemoryBelowChecks next_out_of_memory old now new =
     next_out_of_memory old.core now new.core × (new ≡ record old { core = new.core })

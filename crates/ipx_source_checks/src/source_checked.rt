@@ -83,7 +83,7 @@ impl<C: RestartDiscovery + Drop> RestartDiscovery for SourceChecked<C> {
 }
 
 impl<C: Core + Drop> Core for SourceChecked<C> {
-    ghost use Rattle.ipx_source_checks.specs.SourceChecked.{GivesBelowChecks, HearsChecked, MissesChecked, WithholdsBelowChecks};
+    ghost use Rattle.ipx_source_checks.specs.SourceChecked.{GivesBelowChecks, HearsChecked, HearOutOfMemoryChecked, NextOutOfMemoryBelowChecks};
 
     ghost port_count = { λ s. C.port_count s.core };
 
@@ -91,9 +91,9 @@ impl<C: Core + Drop> Core for SourceChecked<C> {
 
     ghost gives = { GivesBelowChecks C.gives };
 
-    ghost hear_out_of_memory = { MissesChecked C.hear_out_of_memory };
+    ghost hear_out_of_memory = { HearOutOfMemoryChecked C.hear_out_of_memory };
 
-    ghost next_out_of_memory = { WithholdsBelowChecks C.next_out_of_memory };
+    ghost next_out_of_memory = { NextOutOfMemoryBelowChecks C.next_out_of_memory };
 
     fn ports(&self) -> usize {
         self.core.ports()

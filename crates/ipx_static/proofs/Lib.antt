@@ -8,4 +8,4 @@ pub mod RoomForWords
 pub mod QuietPackets
 pub mod StandingRuns
 pub mod StandingOffers
-pub mod CountsApart
+pub mod CountsSeparate

@@ -11,7 +11,7 @@ use Rattle.std.proofs.lemmas.Option.{get_or_from_slice_get, slice_get_within}
 use Rattle.std.proofs.lemmas.Cmp.{nat_cmp_total, nat_list_cmp_total, on_total, then_total, tied_itself}
 use Rattle.ipx_tables.specs.declared.source.Source.{Source}
 use Rattle.ipx_tables.specs.Content.{Content, after_age, after_hear, is_same, is_young, pair_cmp, source_cmp, still}
-use Rattle.ipx_static.specs.StaticOffers.{Counts, SaysNoOther}
+use Rattle.ipx_static.specs.StaticOffers.{Counts, AdvertisesNoOther}
 
 source_total : IsTotalOrder source_cmp
 source_total = then_total (on_total (λ s. s.port) nat_cmp_total) (on_total (λ s. s.neighbour.0) nat_list_cmp_total)
@@ -100,7 +100,7 @@ module _ {K M E : Type 0} (cmp : K → K → Ordering) (total : IsTotalOrder cmp
 
     -- if these entries are from its source, they say nothing else of its key
     abbrev pub Agrees : Source → List E → Type 0
-    Agrees source xs = source ≡ own → SaysNoOther key_of metric_of xs e
+    Agrees source xs = source ≡ own → AdvertisesNoOther key_of metric_of xs e
 
     keeps_by : (x : E) (source : Source) → (source ≡ own → key_of x ≡ key_of e → metric_of x ≡ metric_of e) → (h same gone : Bool) (old : Option (M × ℕ))
         → is_same cmp (key_of x, source) (key_of e, own) ≡ same → dead (metric_of x) ≡ gone → HasWord old → HasWord (one_word h same gone (metric_of x, now) old)
@@ -129,7 +129,7 @@ module _ {K M E : Type 0} (cmp : K → K → Ordering) (total : IsTotalOrder cmp
     made : (c : Content K M) → hears e ≡ true → Has (heard_entry own c e)
     made c hears_it = subst HasWord (sym (step_is own c e (key_of e, own))) (made_by (hears e) (is_same cmp (key_of e, own) (key_of e, own)) (dead (metric_of e)) (c (key_of e, own)) hears_it (same_itself (key_of e, own)) alive)
 
-    makes : (xs : List E) (c : Content K M) → SaysNoOther key_of metric_of xs e → Contains xs e → hears e ≡ true → Has (fold (heard_entry own) c xs)
+    makes : (xs : List E) (c : Content K M) → AdvertisesNoOther key_of metric_of xs e → Contains xs e → hears e ≡ true → Has (fold (heard_entry own) c xs)
     makes [] c agree m hears_it = absurd (omega (arith, m.1))
     makes (x ∷ xs) c agree (zero, within, at) hears_it =
         keeps own xs (heard_entry own c x) (λ same y n. agree y (later x y xs n))
@@ -199,7 +199,7 @@ module _ {K M E : Type 0} (cmp : K → K → Ordering) (total : IsTotalOrder cmp
 
   -- these entries, if they are from that source, say nothing else of the list's keys
   abbrev pub AgreeWith : List E → Source → Source → List E → Type 0
-  AgreeWith entries own source xs = (x : E) → Contains entries x → source ≡ own → SaysNoOther key_of metric_of xs x
+  AgreeWith entries own source xs = (x : E) → Contains entries x → source ≡ own → AdvertisesNoOther key_of metric_of xs x
 
   pub all_stand_on : (entries : List E) (own source : Source) (xs : List E) (old new : Content K M) → ((p : K × Source) → new p ≡ fold (heard_entry source) (after_age old now) xs p)
       → AgreeWith entries own source xs → AllStand entries own old → AllStand entries own new

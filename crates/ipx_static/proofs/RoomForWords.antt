@@ -10,7 +10,7 @@ use Rattle.ipx_carrier.specs.declared.outcome_counters.OutcomeCounters.{OutcomeC
 use Rattle.ipx_carrier.specs.Counting.{raised}
 use Rattle.ipx_carrier.specs.OutcomeCounters.{outcome_counted}
 use Rattle.ipx_carrier.specs.PriorityRouterCore.{PriorityCoreView, PriorityHears, put_by_priority}
-use Rattle.ipx_static.specs.WithStatics.{WithStaticsView, HearsIfDue, HearsWords}
+use Rattle.ipx_static.specs.WithStatics.{WithStaticsView, HearsIfDue, HearsAdvertisements}
 use Rattle.ipx_static.proofs.EachWord.{ReceivesEach}
 
 -- the queues do not matter to the router and its counts
@@ -63,7 +63,7 @@ one_on old new port bytes now h less =
       | inr up ↦ let by = raised_by (full old) less in (omega (arith, is, up, by.0), omega (arith, is, up, by.1))
     ]
 
-pub all_on : (now : ℕ) (ws : List SendingView) (old new : PriorityCoreView) → HearsWords PriorityHears now ws old new → full old < 2 ^ 64 → (full old ≤ full new) × (full new < 2 ^ 64)
+pub all_on : (now : ℕ) (ws : List SendingView) (old new : PriorityCoreView) → HearsAdvertisements PriorityHears now ws old new → full old < 2 ^ 64 → (full old ≤ full new) × (full new < 2 ^ 64)
 all_on now [] old new is less = (omega (arith, ap full is), omega (arith, ap full is, less))
 all_on now (w ∷ ws) old new h less =
     let first = one_on old h.0 (w.port - 1) w.bytes now h.1 less in
@@ -71,10 +71,10 @@ all_on now (w ∷ ws) old new h less =
     (omega (arith, first.0, rest.0), rest.1)
 
 -- a response for which a table is full is answered so
-abbrev pub HasRoom : OutcomeView → Type 0
-HasRoom a = a ≢ Dropped TableFull
+abbrev pub HasSpace : OutcomeView → Type 0
+HasSpace a = a ≢ Dropped TableFull
 
-pub room_for_each : (now : ℕ) (ws : List SendingView) (old new : PriorityCoreView) → HearsWords PriorityHears now ws old new → full old + 1 < 2 ^ 64 → full new ≡ full old → ReceivesEach HasRoom now ws old.router new.router
+pub room_for_each : (now : ℕ) (ws : List SendingView) (old new : PriorityCoreView) → HearsAdvertisements PriorityHears now ws old new → full old + 1 < 2 ^ 64 → full new ≡ full old → ReceivesEach HasSpace now ws old.router new.router
 room_for_each now [] old new is less same = ap (λ (c : PriorityCoreView). c.router) is
 room_for_each now (w ∷ ws) old new h less same =
     let mid = h.0 in
@@ -84,8 +84,8 @@ room_for_each now (w ∷ ws) old new h less same =
     elim (full_or_not h.1.0 old.outcomes) [
       | inl room ↦
           let stays : full mid ≡ full old = outcomes ∙ room.1 in
-          let later : ReceivesEach HasRoom now ws mid.router new.router = room_for_each now ws mid new h.2 (omega (arith, less, stays)) (same ∙ sym stays) in
-          (h.1.0, h.1.1, h.1.2, room.0, subst (λ (r : RouterView). ReceivesEach HasRoom now ws r new.router) (heard_router old mid (w.port - 1) w.bytes now h.1) later)
+          let later : ReceivesEach HasSpace now ws mid.router new.router = room_for_each now ws mid new h.2 (omega (arith, less, stays)) (same ∙ sym stays) in
+          (h.1.0, h.1.1, h.1.2, room.0, subst (λ (r : RouterView). ReceivesEach HasSpace now ws r new.router) (heard_router old mid (w.port - 1) w.bytes now h.1) later)
       | inr up ↦ absurd (omega (arith, same, rest, outcomes, up, raised_one (full old) less))
     ]
 
@@ -93,7 +93,7 @@ room_for_each now (w ∷ ws) old new h less same =
 abbrev pub AsItMay : OutcomeView → Type 0
 AsItMay a = Unit {0}
 
-pub each_received : (now : ℕ) (ws : List SendingView) (old new : PriorityCoreView) → HearsWords PriorityHears now ws old new → ReceivesEach AsItMay now ws old.router new.router
+pub each_received : (now : ℕ) (ws : List SendingView) (old new : PriorityCoreView) → HearsAdvertisements PriorityHears now ws old new → ReceivesEach AsItMay now ws old.router new.router
 each_received now [] old new is = ap (λ (c : PriorityCoreView). c.router) is
 each_received now (w ∷ ws) old new h = (
   h.1.0,
@@ -107,9 +107,9 @@ pub of_true : (P Q : Type 0) (b : Bool) → b ≡ true → MatchBool b P Q → P
 of_true P Q true e h = h
 of_true P Q false e h = cc
 
-pub heard_words : (old new : WithStaticsView PriorityCoreView) (now : ℕ) → is_due old.said now ≡ true → HearsIfDue PriorityHears old now new → HearsWords PriorityHears now old.advertisements old.core new.core
+pub heard_words : (old new : WithStaticsView PriorityCoreView) (now : ℕ) → is_due old.said now ≡ true → HearsIfDue PriorityHears old now new → HearsAdvertisements PriorityHears now old.advertisements old.core new.core
 heard_words old new now due h =
-    (of_true (HearsWords PriorityHears now old.advertisements old.core new.core × (new ≡ record old { core = new.core; said = Some now })) (new ≡ old) (is_due old.said now) due h).0
+    (of_true (HearsAdvertisements PriorityHears now old.advertisements old.core new.core × (new ≡ record old { core = new.core; said = Some now })) (new ≡ old) (is_due old.said now) due h).0
 
 pub of_false : (P Q : Type 0) (b : Bool) → b ≡ false → MatchBool b P Q → Q
 of_false P Q true e h = cc

@@ -21,7 +21,7 @@ use Rattle.ipx_router.specs.Told.{key_of_service, route_key}
 use Rattle.ipx_carrier.specs.PriorityRouterCore.{PriorityCoreView, PriorityHears}
 use Rattle.ipx_static.specs.declared.neighbour.StaticNeighbour.{StaticNeighbour}
 use Rattle.ipx_static.specs.WithStatics.{WithStaticsView, HearsIfDue}
-use Rattle.ipx_static.specs.StaticOffers.{Counts, FindsRoom, HearsWithStatics, IsAnotherNode, IsSaidAlone, StaticRoutesAreOffers, StaticRoutesAreRefreshed, StaticServicesAreOffers, StaticServicesAreRefreshed, static_source}
+use Rattle.ipx_static.specs.StaticOffers.{Counts, FindsSpace, HearsWithStatics, IsAnotherNode, IsAdvertisedAlone, StaticRoutesAreOffers, StaticRoutesAreRefreshed, StaticServicesAreOffers, StaticServicesAreRefreshed, static_source}
 use Rattle.ipx_static.specs.StaticRuns.{DependsOn, IsAskedEachMinute, OffersItself, RunsWithStatics, StaticCallAt, StaticRoutesHold, StaticServicesHold, TellsItself, asked_in}
 use Rattle.ipx_static.specs.StaticAdvertisements.{AreWordsOf}
 use Rattle.ipx_static.proofs.OneKey.{front_list, leaves}
@@ -30,12 +30,12 @@ use Rattle.ipx_static.proofs.StandingRuns.{AnyRoom, any_of_each, room_of_each, s
 use Rattle.ipx_static.proofs.WordOffers.{Apart, each_service, near_enough, network_total, service_key_total}
 
 -- if the count stays over the whole run, it stays after the first time that the core is asked
-room_later : {old first new : PriorityCoreView} → FindsRoom old first → new.outcomes.table_full ≡ old.outcomes.table_full → FindsRoom first new
+room_later : {old first new : PriorityCoreView} → FindsSpace old first → new.outcomes.table_full ≡ old.outcomes.table_full → FindsSpace first new
 room_later r same = record { room = same ∙ sym r.room; countable = omega (arith, r.room, r.countable) }
 
 module _ (law : StaticRoutesAreOffers) (again : StaticRoutesAreRefreshed) (apart : Apart) (ns : List StaticNeighbour) (start : ℕ) (calls : List StaticCallAt) (old new : WithStaticsView PriorityCoreView)
     (run : RunsWithStatics ns start calls old new) (n : StaticNeighbour) (there : Contains ns n) (e : RipEntry)
-    (alone : (x : RipEntry) → Contains n.routes.items x → DependsOn old new e x → IsSaidAlone route_key route_metric (λ m. m.routes.items) ns n x) where
+    (alone : (x : RipEntry) → Contains n.routes.items x → DependsOn old new e x → IsAdvertisedAlone route_key route_metric (λ m. m.routes.items) ns n x) where
   -- one of the routes on which that one depends
   record Needed_routes : Type 0 where
     pub entry : RipEntry
@@ -63,7 +63,7 @@ module _ (law : StaticRoutesAreOffers) (again : StaticRoutesAreRefreshed) (apart
 
   -- if there is room, each of them is an offer after the advertisements are received
   says_routes : (v w : WithStaticsView PriorityCoreView) (now : ℕ) → v.core.router.ports ≡ old.core.router.ports → v.advertisements ≡ old.advertisements → is_due v.said now ≡ true → HearsIfDue PriorityHears v now w
-      → FindsRoom v.core w.core → (i : Needed_routes) → value_of_routes i w.core.router ≡ Some (metric_of_routes i, now)
+      → FindsSpace v.core w.core → (i : Needed_routes) → value_of_routes i w.core.router ≡ Some (metric_of_routes i, now)
   says_routes v w now same_ports same_words due heard room i =
       law ns now v w (hears_routes v w now same_ports same_words due heard) room n there i.entry i.among (alone i.entry i.among i.needed) (subst (λ (ps : List Port). is_heard ps i.entry ≡ true) (sym same_ports) i.heard) i.near
 
@@ -95,7 +95,7 @@ module _ (law : StaticRoutesAreOffers) (again : StaticRoutesAreRefreshed) (apart
   stand_routes each now within = elim (same_or_not old.core new.core) [
     | inl same ↦
         whole_run metric_of_routes old.core.router.ports old.advertisements value_of_routes Quiet_routes left_routes (λ i before after now told h. h.1.routes (i.entry.network, static_source n))
-        FindsRoom room_of_each (λ v w now same_ports same_words due heard room stand. says_routes v w now same_ports same_words due heard room)
+        FindsSpace room_of_each (λ v w now same_ports same_words due heard room stand. says_routes v w now same_ports same_words due heard room)
         start run.given calls old run.first new refl refl run.due run.begins first_routes run.goes_on (room_later run.room same) each now within
     | inr filled ↦
         whole_run metric_of_routes old.core.router.ports old.advertisements value_of_routes Quiet_routes left_routes (λ i before after now told h. h.1.routes (i.entry.network, static_source n))
@@ -109,7 +109,7 @@ routes_stand law again apart ns start calls old new run n there e among alone he
 
 module _ (law : StaticServicesAreOffers) (again : StaticServicesAreRefreshed) (apart : Apart) (ns : List StaticNeighbour) (start : ℕ) (calls : List StaticCallAt) (old new : WithStaticsView PriorityCoreView)
     (run : RunsWithStatics ns start calls old new) (n : StaticNeighbour) (there : Contains ns n) (e : ServiceEntry)
-    (alone : (x : ServiceEntry) → Contains n.services.items x → DependsOn old new e x → IsSaidAlone key_of_service service_metric (λ m. m.services.items) ns n x) where
+    (alone : (x : ServiceEntry) → Contains n.services.items x → DependsOn old new e x → IsAdvertisedAlone key_of_service service_metric (λ m. m.services.items) ns n x) where
   -- one of the services on which that one depends
   record Needed_services : Type 0 where
     pub entry : ServiceEntry
@@ -136,7 +136,7 @@ module _ (law : StaticServicesAreOffers) (again : StaticServicesAreRefreshed) (a
 
   -- if there is room, each of them is an offer after the advertisements are received
   says_services : (v w : WithStaticsView PriorityCoreView) (now : ℕ) → v.core.router.ports ≡ old.core.router.ports → v.advertisements ≡ old.advertisements → is_due v.said now ≡ true → HearsIfDue PriorityHears v now w
-      → FindsRoom v.core w.core → (i : Needed_services) → value_of_services i w.core.router ≡ Some (metric_of_services i, now)
+      → FindsSpace v.core w.core → (i : Needed_services) → value_of_services i w.core.router ≡ Some (metric_of_services i, now)
   says_services v w now same_ports same_words due heard room i =
       law ns now v w (hears_services v w now same_ports same_words due heard) room n there i.entry i.among (alone i.entry i.among i.needed) i.near
 
@@ -168,7 +168,7 @@ module _ (law : StaticServicesAreOffers) (again : StaticServicesAreRefreshed) (a
   stand_services each now within = elim (same_or_not old.core new.core) [
     | inl same ↦
         whole_run metric_of_services old.core.router.ports old.advertisements value_of_services Quiet_services left_services (λ i before after now told h. h.1.services (key_of_service i.entry, static_source n))
-        FindsRoom room_of_each (λ v w now same_ports same_words due heard room stand. says_services v w now same_ports same_words due heard room)
+        FindsSpace room_of_each (λ v w now same_ports same_words due heard room stand. says_services v w now same_ports same_words due heard room)
         start run.given calls old run.first new refl refl run.due run.begins first_services run.goes_on (room_later run.room same) each now within
     | inr filled ↦
         whole_run metric_of_services old.core.router.ports old.advertisements value_of_services Quiet_services left_services (λ i before after now told h. h.1.services (key_of_service i.entry, static_source n))

@@ -12,8 +12,8 @@ use Rattle.ipx_router.specs.Telling.{is_due}
 use Rattle.ipx_carrier.specs.RouterQueues.{TellsNow}
 use Rattle.ipx_carrier.specs.PriorityRouterCore.{PriorityCoreView, PriorityGives, PriorityHears}
 use Rattle.ipx_carrier.specs.Turns.{Given}
-use Rattle.ipx_static.specs.WithStatics.{WithStaticsView, GivesWithStatics, HearsIfDue, HearsUnder, HearsWords}
-use Rattle.ipx_static.specs.StaticOffers.{Counts, FindsRoom}
+use Rattle.ipx_static.specs.WithStatics.{WithStaticsView, GivesWithStatics, HearsIfDue, HearsUnder, HearsAdvertisements}
+use Rattle.ipx_static.specs.StaticOffers.{Counts, FindsSpace}
 use Rattle.ipx_static.specs.StaticRuns.{Asked, AsksOnceMore, ComesAs, DoStaticCalls, DoesStaticCall, StaticCall, StaticCallAt, IsAskedEachMinute, asked_by, asked_in, Comes}
 use Rattle.ipx_static.proofs.RoomForWords.{all_on, full, heard_router, of_false, of_true, one_on}
 
@@ -23,7 +23,7 @@ bool_cases false = inr refl
 
 -- ---- what calls leave of the ports, and of the count of full tables
 
-words_ports : (now : ℕ) (ws : List SendingView) (old new : PriorityCoreView) → HearsWords PriorityHears now ws old new → new.router.ports ≡ old.router.ports
+words_ports : (now : ℕ) (ws : List SendingView) (old new : PriorityCoreView) → HearsAdvertisements PriorityHears now ws old new → new.router.ports ≡ old.router.ports
 words_ports now [] old new is = ap (λ (c : PriorityCoreView). c.router.ports) is
 words_ports now (w ∷ ws) old new h =
     words_ports now ws h.0 new h.2 ∙ ap (λ (r : RouterView). r.ports) (heard_router old h.0 (w.port - 1) w.bytes now h.1) ∙ h.1.2.rest.ports
@@ -37,10 +37,10 @@ gives_full old new now given h = ap full h.2.1 ∙ ap full h.1.5
 due_full : (old new : WithStaticsView PriorityCoreView) (now : ℕ) → HearsIfDue PriorityHears old now new → full old.core < 2 ^ 64 → (full old.core ≤ full new.core) × (full new.core < 2 ^ 64)
 due_full old new now h less = elim (bool_cases (is_due old.said now)) [
   | inl due ↦
-      let said = of_true (HearsWords PriorityHears now old.advertisements old.core new.core × (new ≡ record old { core = new.core; said = Some now })) (new ≡ old) (is_due old.said now) due h in
+      let said = of_true (HearsAdvertisements PriorityHears now old.advertisements old.core new.core × (new ≡ record old { core = new.core; said = Some now })) (new ≡ old) (is_due old.said now) due h in
       all_on now old.advertisements old.core new.core said.0 less
   | inr not_due ↦
-      let is = of_false (HearsWords PriorityHears now old.advertisements old.core new.core × (new ≡ record old { core = new.core; said = Some now })) (new ≡ old) (is_due old.said now) not_due h in
+      let is = of_false (HearsAdvertisements PriorityHears now old.advertisements old.core new.core × (new ≡ record old { core = new.core; said = Some now })) (new ≡ old) (is_due old.said now) not_due h in
       let same = ap (λ (v : WithStaticsView PriorityCoreView). full v.core) is in
       (omega (arith, same), omega (arith, same, less))
 ]
@@ -69,19 +69,19 @@ pub record IsOfEach (Room : PriorityCoreView → PriorityCoreView → Type 0) : 
   pub first : (now : ℕ) (c : StaticCall) (cs : List StaticCallAt) (v mid new : WithStaticsView PriorityCoreView) → DoesStaticCall now c v mid → DoStaticCalls cs mid new → Room v.core new.core → Room v.core mid.core
   pub later : (now : ℕ) (c : StaticCall) (cs : List StaticCallAt) (v mid new : WithStaticsView PriorityCoreView) → DoesStaticCall now c v mid → DoStaticCalls cs mid new → Room v.core new.core → Room mid.core new.core
 
-words_room : (v mid : WithStaticsView PriorityCoreView) (now : ℕ) (given : Option Given) (h : GivesWithStatics PriorityHears PriorityGives v now given mid) → FindsRoom v.core mid.core → FindsRoom v.core h.0.core
+words_room : (v mid : WithStaticsView PriorityCoreView) (now : ℕ) (given : Option Given) (h : GivesWithStatics PriorityHears PriorityGives v now given mid) → FindsSpace v.core mid.core → FindsSpace v.core h.0.core
 words_room v mid now given h r =
     let bound = due_full v h.0 now h.1 (omega (arith, r.countable)) in
     let gives = gives_full h.0.core mid.core now given h.2 in
     record { room = omega (arith, r.room, gives); countable = r.countable }
 
-first_same : (now : ℕ) (c : StaticCall) (cs : List StaticCallAt) (v mid new : WithStaticsView PriorityCoreView) → DoesStaticCall now c v mid → DoStaticCalls cs mid new → FindsRoom v.core new.core → full mid.core ≡ full v.core
+first_same : (now : ℕ) (c : StaticCall) (cs : List StaticCallAt) (v mid new : WithStaticsView PriorityCoreView) → DoesStaticCall now c v mid → DoStaticCalls cs mid new → FindsSpace v.core new.core → full mid.core ≡ full v.core
 first_same now c cs v mid new one more r =
     let first = call_full now c v mid one (omega (arith, r.countable)) in
     let rest = calls_full cs mid new more first.1 in
     omega (arith, first.0, rest, r.room)
 
-pub room_of_each : IsOfEach FindsRoom
+pub room_of_each : IsOfEach FindsSpace
 room_of_each = record {
   words = words_room;
   first = λ now c cs v mid new one more r. record { room = first_same now c cs v mid new one more r; countable = r.countable };
@@ -115,15 +115,15 @@ module _ {M I : Type 0} (metric : I → M) (ports : List Port) (advertisements :
     (says : (old new : WithStaticsView PriorityCoreView) (now : ℕ) → old.core.router.ports ≡ ports → old.advertisements ≡ advertisements → is_due old.said now ≡ true → HearsIfDue PriorityHears old now new
     → Room old.core new.core → ((i : I) → Counts (metric i) now (value i old.core.router)) → (i : I) → value i new.core.router ≡ Some (metric i, now)) where
   -- one was learned since the advertisements last came
-  abbrev Stands : ℕ → I → RouterView → Type 0
-  Stands last i r = (heard : ℕ) × (last ≤ heard) × (value i r ≡ Some (metric i, heard))
+  abbrev IsPresent : ℕ → I → RouterView → Type 0
+  IsPresent last i r = (heard : ℕ) × (last ≤ heard) × (value i r ≡ Some (metric i, heard))
 
   -- and so was each, which is under a minute before the core was last asked
   pub record Stays (v : WithStaticsView PriorityCoreView) (asked : ℕ) : Type 0 where
     pub last : ℕ
     pub is_last : v.said ≡ Some last
     pub lately : asked - last < 60000
-    pub stands : (i : I) → Stands last i v.core.router
+    pub stands : (i : I) → IsPresent last i v.core.router
     pub same_ports : v.core.router.ports ≡ ports
     pub same_words : v.advertisements ≡ advertisements
 
@@ -139,8 +139,8 @@ module _ {M I : Type 0} (metric : I → M) (ports : List Port) (advertisements :
       (st.0, st.2, young_within now asked s.last st.0 s.lately st.1 within)
 
   -- asked after advertisements, or if none were due
-  asked_behind : (v mid : WithStaticsView PriorityCoreView) (now : ℕ) (given : Option Given) → Stays v now → PriorityGives v.core now given mid.core → mid ≡ record v { core = mid.core } → Stays mid now
-  asked_behind v mid now given s h is =
+  asked_after : (v mid : WithStaticsView PriorityCoreView) (now : ℕ) (given : Option Given) → Stays v now → PriorityGives v.core now given mid.core → mid ≡ record v { core = mid.core } → Stays mid now
+  asked_after v mid now given s h is =
       let router = gives_router v.core mid.core now given h in
       record {
         last = s.last;
@@ -159,7 +159,7 @@ module _ {M I : Type 0} (metric : I → M) (ports : List Port) (advertisements :
       → (h : GivesWithStatics PriorityHears PriorityGives v now given mid) → ((i : I) → value i h.0.core.router ≡ Some (metric i, now)) → Stays mid now
   asked_due v mid now given same_ports same_words due h spoken =
       let heard = h.0 in
-      let said = of_true (HearsWords PriorityHears now v.advertisements v.core heard.core × (heard ≡ record v { core = heard.core; said = Some now })) (heard ≡ v) (is_due v.said now) due h.1 in
+      let said = of_true (HearsAdvertisements PriorityHears now v.advertisements v.core heard.core × (heard ≡ record v { core = heard.core; said = Some now })) (heard ≡ v) (is_due v.said now) due h.1 in
       let s : Stays heard now = record {
         last = now;
         is_last = ap (λ (v : WithStaticsView PriorityCoreView). v.said) said.1;
@@ -168,7 +168,7 @@ module _ {M I : Type 0} (metric : I → M) (ports : List Port) (advertisements :
         same_ports = words_ports now v.advertisements v.core heard.core said.0 ∙ same_ports;
         same_words = ap (λ (v : WithStaticsView PriorityCoreView). v.advertisements) said.1 ∙ same_words;
       } in
-      asked_behind heard mid now given s h.2 h.3
+      asked_after heard mid now given s h.2 h.3
 
   under_a_minute : (now last : ℕ) → nat_le 60000 (now - last) ≡ false → now - last < 60000
   under_a_minute now last h = omega (arith, leb-false 60000 (now - last) h)
@@ -178,7 +178,7 @@ module _ {M I : Type 0} (metric : I → M) (ports : List Port) (advertisements :
       → GivesWithStatics PriorityHears PriorityGives v now given mid → Stays mid now
   asked_early v mid asked now given s not_due h =
       let heard = h.0 in
-      let is = of_false (HearsWords PriorityHears now v.advertisements v.core heard.core × (heard ≡ record v { core = heard.core; said = Some now })) (heard ≡ v) (is_due v.said now) not_due h.1 in
+      let is = of_false (HearsAdvertisements PriorityHears now v.advertisements v.core heard.core × (heard ≡ record v { core = heard.core; said = Some now })) (heard ≡ v) (is_due v.said now) not_due h.1 in
       let here : Stays v now = record {
         last = s.last;
         is_last = s.is_last;
@@ -187,7 +187,7 @@ module _ {M I : Type 0} (metric : I → M) (ports : List Port) (advertisements :
         same_ports = s.same_ports;
         same_words = s.same_words;
       } in
-      asked_behind heard mid now given (subst (λ (v : WithStaticsView PriorityCoreView). Stays v now) (sym is) here) h.2 h.3
+      asked_after heard mid now given (subst (λ (v : WithStaticsView PriorityCoreView). Stays v now) (sym is) here) h.2 h.3
 
   comes_in : (v mid : WithStaticsView PriorityCoreView) (asked now port : ℕ) (bytes : List ℕ) → Stays v asked → now ≤ asked + 60000 → IsSuch port bytes
       → HearsUnder PriorityHears v port bytes now mid → Stays mid asked

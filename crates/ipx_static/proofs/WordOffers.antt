@@ -42,10 +42,10 @@ use Rattle.ipx_router.specs.RouterView.{RouterView}
 use Rattle.ipx_router.specs.Told.{key_of_service, route_key}
 use Rattle.ipx_static.specs.StaticAdvertisements.{AreWordsOf, heard_on}
 use Rattle.ipx_static.specs.declared.neighbour.StaticNeighbour.{StaticNeighbour}
-use Rattle.ipx_static.specs.StaticOffers.{Counts, IsAnotherNode, IsSaidAlone, static_source}
+use Rattle.ipx_static.specs.StaticOffers.{Counts, IsAnotherNode, IsAdvertisedAlone, static_source}
 use Rattle.ipx_static.proofs.OneKey.{AgreeWith, Agrees, AllStand, Has, Hears, all_stand_on, front_list, keeps_offer, makes_offer, never_unknown, there_in}
 use Rattle.ipx_static.proofs.EachWord.{ReceivesEach, all_make, all_of, none_of}
-use Rattle.ipx_static.proofs.RoomForWords.{AsItMay, HasRoom}
+use Rattle.ipx_static.proofs.RoomForWords.{AsItMay, HasSpace}
 
 bool_cases : (b : Bool) → (b ≡ true) ⊎ (b ≡ false)
 bool_cases true = inl refl
@@ -260,10 +260,10 @@ module _ (one : OneIpx) (no_fault : NoIpxFault) (apart : Apart) (ports : List Po
     Takes_route s xs before after = Hears network_cmp network_total network_exact apart route_dead route_key route_metric (is_heard ports) now e alive_route (static_source n) s xs (routes_in before.routes) (routes_in after.routes)
 
     -- if no table was full, all entries of each response are learned
-    pub route_offers : IsSaidAlone route_key route_metric (λ m. m.routes.items) ns n e → ReceivesEach HasRoom now advertisements old new → Has_route new
+    pub route_offers : IsAdvertisedAlone route_key route_metric (λ m. m.routes.items) ns n e → ReceivesEach HasSpace now advertisements old new → Has_route new
     route_offers alone heard =
         let Fits : Source → List RipEntry → Type 0 = Agrees network_cmp network_total network_exact apart route_dead route_key route_metric (is_heard ports) now e alive_route (static_source n) in
-        all_make e n ports now HasRoom (λ r. Unit {0}) Has_route Fits Takes_route
+        all_make e n ports now HasSpace (λ r. Unit {0}) Has_route Fits Takes_route
         (λ s xs before after h fits b. tt)
         (λ s xs before after h fits has. keeps_offer network_cmp network_total network_exact apart route_dead route_key route_metric (is_heard ports) now e alive_route (static_source n) s xs (routes_in before.routes) (routes_in after.routes) h fits has)
         (λ s xs ys less fits mine x m. fits mine x (less x m))
@@ -281,14 +281,14 @@ module _ (one : OneIpx) (no_fault : NoIpxFault) (apart : Apart) (ports : List Po
         ns others advertisements old new same_ports are heard (λ m mem. (λ is. alone m mem is, λ is x none. absurd (omega (arith, none.1)))) there (inl among) tt
 
     -- if all that the neighbour advertises counts, each response of it is learned whole
-    pub route_refreshed : ((x : RipEntry) → Contains n.routes.items x → IsSaidAlone route_key route_metric (λ m. m.routes.items) ns n x)
+    pub route_refreshed : ((x : RipEntry) → Contains n.routes.items x → IsAdvertisedAlone route_key route_metric (λ m. m.routes.items) ns n x)
         → ((x : RipEntry) → Contains n.routes.items x → is_heard ports x ≡ true → x.hops < 16 → Counts (route_metric x) now (routes_in old.routes (x.network, static_source n)))
         → ReceivesEach AsItMay now advertisements old new → Has_route new
     route_refreshed alone stand heard =
         let Fits : Source → List RipEntry → Type 0 = AgreeWith network_cmp network_total network_exact apart route_dead route_key route_metric (is_heard ports) now n.routes.items (static_source n) in
-        let Stand : RouterView → Type 0 = λ r. AllStand network_cmp network_total network_exact apart route_dead route_key route_metric (is_heard ports) now n.routes.items (static_source n) (routes_in r.routes) in
+        let PresentEnd : RouterView → Type 0 = λ r. AllStand network_cmp network_total network_exact apart route_dead route_key route_metric (is_heard ports) now n.routes.items (static_source n) (routes_in r.routes) in
         let Learns : Source → List RipEntry → RouterView → RouterView → Type 0 = λ s xs before after. (ys : List RipEntry) × ((x : RipEntry) → Contains ys x → Contains xs x) × Takes_route s ys before after in
-        all_make e n ports now AsItMay Stand Has_route Fits Learns
+        all_make e n ports now AsItMay PresentEnd Has_route Fits Learns
         (λ s xs before after l fits all. all_stand_on network_cmp network_total network_exact apart route_dead route_key route_metric (is_heard ports) now n.routes.items (static_source n) s l.0 (routes_in before.routes) (routes_in after.routes) l.2 (λ x m is y k key. fits x m is y (l.1 y k) key) all)
         (λ s xs before after l fits has. keeps_offer network_cmp network_total network_exact apart route_dead route_key route_metric (is_heard ports) now e alive_route (static_source n) s l.0 (routes_in before.routes) (routes_in after.routes) l.2 (λ is y k key. fits e among is y (l.1 y k) key) has)
         (λ s xs ys less fits x m is y k key. fits x m is y (less y k) key)
@@ -318,10 +318,10 @@ module _ (one : OneIpx) (no_fault : NoIpxFault) (apart : Apart) (ports : List Po
     Takes_service s xs before after = Hears service_key_cmp service_key_total service_key_exact apart service_dead key_of_service service_metric each_service now e alive_service (static_source n) s xs (services_in before.services) (services_in after.services)
 
     -- if no table was full, all entries of each response are learned
-    pub service_offers : IsSaidAlone key_of_service service_metric (λ m. m.services.items) ns n e → ReceivesEach HasRoom now advertisements old new → Has_service new
+    pub service_offers : IsAdvertisedAlone key_of_service service_metric (λ m. m.services.items) ns n e → ReceivesEach HasSpace now advertisements old new → Has_service new
     service_offers alone heard =
         let Fits : Source → List ServiceEntry → Type 0 = Agrees service_key_cmp service_key_total service_key_exact apart service_dead key_of_service service_metric each_service now e alive_service (static_source n) in
-        all_make e n ports now HasRoom (λ r. Unit {0}) Has_service Fits Takes_service
+        all_make e n ports now HasSpace (λ r. Unit {0}) Has_service Fits Takes_service
         (λ s xs before after h fits b. tt)
         (λ s xs before after h fits has. keeps_offer service_key_cmp service_key_total service_key_exact apart service_dead key_of_service service_metric each_service now e alive_service (static_source n) s xs (services_in before.services) (services_in after.services) h fits has)
         (λ s xs ys less fits mine x m. fits mine x (less x m))
@@ -339,14 +339,14 @@ module _ (one : OneIpx) (no_fault : NoIpxFault) (apart : Apart) (ports : List Po
         ns others advertisements old new same_ports are heard (λ m mem. (λ is x none. absurd (omega (arith, none.1)), λ is. alone m mem is)) there (inr among) tt
 
     -- if all that the neighbour advertises counts, each response of it is learned whole
-    pub service_refreshed : ((x : ServiceEntry) → Contains n.services.items x → IsSaidAlone key_of_service service_metric (λ m. m.services.items) ns n x)
+    pub service_refreshed : ((x : ServiceEntry) → Contains n.services.items x → IsAdvertisedAlone key_of_service service_metric (λ m. m.services.items) ns n x)
         → ((x : ServiceEntry) → Contains n.services.items x → x.hops < 16 → Counts (service_metric x) now (services_in old.services (key_of_service x, static_source n)))
         → ReceivesEach AsItMay now advertisements old new → Has_service new
     service_refreshed alone stand heard =
         let Fits : Source → List ServiceEntry → Type 0 = AgreeWith service_key_cmp service_key_total service_key_exact apart service_dead key_of_service service_metric each_service now n.services.items (static_source n) in
-        let Stand : RouterView → Type 0 = λ r. AllStand service_key_cmp service_key_total service_key_exact apart service_dead key_of_service service_metric each_service now n.services.items (static_source n) (services_in r.services) in
+        let PresentEnd : RouterView → Type 0 = λ r. AllStand service_key_cmp service_key_total service_key_exact apart service_dead key_of_service service_metric each_service now n.services.items (static_source n) (services_in r.services) in
         let Learns : Source → List ServiceEntry → RouterView → RouterView → Type 0 = λ s xs before after. (ys : List ServiceEntry) × ((x : ServiceEntry) → Contains ys x → Contains xs x) × Takes_service s ys before after in
-        all_make e n ports now AsItMay Stand Has_service Fits Learns
+        all_make e n ports now AsItMay PresentEnd Has_service Fits Learns
         (λ s xs before after l fits all. all_stand_on service_key_cmp service_key_total service_key_exact apart service_dead key_of_service service_metric each_service now n.services.items (static_source n) s l.0 (services_in before.services) (services_in after.services) l.2 (λ x m is y k key. fits x m is y (l.1 y k) key) all)
         (λ s xs before after l fits has. keeps_offer service_key_cmp service_key_total service_key_exact apart service_dead key_of_service service_metric each_service now e alive_service (static_source n) s l.0 (services_in before.services) (services_in after.services) l.2 (λ is y k key. fits e among is y (l.1 y k) key) has)
         (λ s xs ys less fits x m is y k key. fits x m is y (less y k) key)

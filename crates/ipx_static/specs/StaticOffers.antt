@@ -33,38 +33,38 @@ pub record HearsWithStatics (ns : List StaticNeighbour) (now : ℕ) (old new : W
   pub heard : HearsIfDue PriorityHears old now new
 
 -- a router finds no table full: its count of that stays, and is not at the greatest
-pub record FindsRoom (old new : PriorityCoreView) : Type 0 where
+pub record FindsSpace (old new : PriorityCoreView) : Type 0 where
   pub room : new.outcomes.table_full ≡ old.outcomes.table_full
   pub countable : old.outcomes.table_full + 1 < 2 ^ 64
 
 -- all entries of a list with the key of an entry have its metric
-abbrev pub SaysNoOther : {E K M : Type 0} → (E → K) → (E → M) → List E → E → Type 0
-SaysNoOther {E} key_of metric_of entries e =
+abbrev pub AdvertisesNoOther : {E K M : Type 0} → (E → K) → (E → M) → List E → E → Type 0
+AdvertisesNoOther {E} key_of metric_of entries e =
     (x : E) → Contains entries x → key_of x ≡ key_of e → metric_of x ≡ metric_of e
 
 -- no static neighbour with the same source advertises another metric for the key of an entry
-abbrev pub IsSaidAlone : {E K M : Type 0} → (E → K) → (E → M) → (StaticNeighbour → List E)
+abbrev pub IsAdvertisedAlone : {E K M : Type 0} → (E → K) → (E → M) → (StaticNeighbour → List E)
     → List StaticNeighbour → StaticNeighbour → E → Type 0
-IsSaidAlone key_of metric_of said_by ns n e = (m : StaticNeighbour) → Contains ns m
-    → static_source m ≡ static_source n → SaysNoOther key_of metric_of (said_by m) e
+IsAdvertisedAlone key_of metric_of said_by ns n e = (m : StaticNeighbour) → Contains ns m
+    → static_source m ≡ static_source n → AdvertisesNoOther key_of metric_of (said_by m) e
 
 -- then, if no table is full, each static route that the router may learn is an offer of its neighbour,
 -- learned at this time. This holds for routes of under 16 hops, if no other static entry of that source says
 -- something else of the network
 abbrev pub StaticRoutesAreOffers : Type 0
 StaticRoutesAreOffers = (ns : List StaticNeighbour) (now : ℕ) (old new : WithStaticsView PriorityCoreView)
-    → HearsWithStatics ns now old new → FindsRoom old.core new.core
+    → HearsWithStatics ns now old new → FindsSpace old.core new.core
     → (n : StaticNeighbour) → Contains ns n → (e : RipEntry) → Contains n.routes.items e
-    → IsSaidAlone route_key route_metric (λ m. m.routes.items) ns n e
+    → IsAdvertisedAlone route_key route_metric (λ m. m.routes.items) ns n e
     → is_heard old.core.router.ports e ≡ true → e.hops < 16
     → routes_in new.core.router.routes (e.network, static_source n) ≡ Some (route_metric e, now)
 
 -- the same for each of its services
 abbrev pub StaticServicesAreOffers : Type 0
 StaticServicesAreOffers = (ns : List StaticNeighbour) (now : ℕ) (old new : WithStaticsView PriorityCoreView)
-    → HearsWithStatics ns now old new → FindsRoom old.core new.core
+    → HearsWithStatics ns now old new → FindsSpace old.core new.core
     → (n : StaticNeighbour) → Contains ns n → (e : ServiceEntry) → Contains n.services.items e
-    → IsSaidAlone key_of_service service_metric (λ m. m.services.items) ns n e
+    → IsAdvertisedAlone key_of_service service_metric (λ m. m.services.items) ns n e
     → e.hops < 16
     → services_in new.core.router.services (key_of_service e, static_source n) ≡ Some (service_metric e, now)
 
@@ -79,7 +79,7 @@ abbrev pub StaticRoutesAreRefreshed : Type 0
 StaticRoutesAreRefreshed = (ns : List StaticNeighbour) (now : ℕ) (old new : WithStaticsView PriorityCoreView)
     → HearsWithStatics ns now old new → (n : StaticNeighbour) → Contains ns n
     → ((x : RipEntry) → Contains n.routes.items x
-    → IsSaidAlone route_key route_metric (λ m. m.routes.items) ns n x)
+    → IsAdvertisedAlone route_key route_metric (λ m. m.routes.items) ns n x)
     → ((x : RipEntry) → Contains n.routes.items x → is_heard old.core.router.ports x ≡ true → x.hops < 16
     → Counts (route_metric x) now (routes_in old.core.router.routes (x.network, static_source n)))
     → (e : RipEntry) → Contains n.routes.items e → is_heard old.core.router.ports e ≡ true → e.hops < 16
@@ -90,7 +90,7 @@ abbrev pub StaticServicesAreRefreshed : Type 0
 StaticServicesAreRefreshed = (ns : List StaticNeighbour) (now : ℕ) (old new : WithStaticsView PriorityCoreView)
     → HearsWithStatics ns now old new → (n : StaticNeighbour) → Contains ns n
     → ((x : ServiceEntry) → Contains n.services.items x
-    → IsSaidAlone key_of_service service_metric (λ m. m.services.items) ns n x)
+    → IsAdvertisedAlone key_of_service service_metric (λ m. m.services.items) ns n x)
     → ((x : ServiceEntry) → Contains n.services.items x → x.hops < 16
     → Counts (service_metric x) now (services_in old.core.router.services (key_of_service x, static_source n)))
     → (e : ServiceEntry) → Contains n.services.items e → e.hops < 16

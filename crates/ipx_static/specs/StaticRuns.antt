@@ -1,5 +1,5 @@
 -- A router with static neighbours, over a run of calls. The entry points are `StaticRoutesHold` and
--- `StaticServicesHold`, and `StaticsAreCountedApart` for a router that counts.
+-- `StaticServicesHold`, and `StaticsAreCountedSeparately` for a router that counts.
 use Rattle.std.specs.Prelude.{◌≡◌, ◌≢◌, ◌⊎◌, ◌<◌, ◌≤◌, ◌+◌, ℕ, Bool, false, true, List, [], ◌∷◌, All, Contains, Option}
 use Rattle.ipx_wire.specs.declared.address.Network.{Network}
 use Rattle.ipx_wire.specs.Ipx.{IsIpx, PacketView}
@@ -19,7 +19,7 @@ use Rattle.ipx_carrier.specs.Turns.{Given}
 use Rattle.ipx_metrics.specs.MeteredRouter.{CountedView, CountsAsItGives, CountsHeard, without_counts}
 use Rattle.ipx_static.specs.declared.neighbour.StaticNeighbour.{StaticNeighbour}
 use Rattle.ipx_static.specs.WithStatics.{WithStaticsView, GivesWithStatics, HearsUnder}
-use Rattle.ipx_static.specs.StaticOffers.{Counts, FindsRoom, IsAnotherNode, IsSaidAlone, static_source}
+use Rattle.ipx_static.specs.StaticOffers.{Counts, FindsSpace, IsAnotherNode, IsAdvertisedAlone, static_source}
 use Rattle.ipx_static.specs.StaticAdvertisements.{AreWordsOf}
 
 -- bytes are received on a port; or the core is asked for a packet, and gives one or none; or it is to ask its
@@ -91,7 +91,7 @@ pub record RunsWithStatics (ns : List StaticNeighbour) (start : ℕ) (calls : Li
   pub first : WithStaticsView PriorityCoreView
   pub begins : DoesStaticCall start (Asked given) old first
   pub goes_on : DoStaticCalls calls first new
-  pub room : FindsRoom old.core first.core
+  pub room : FindsSpace old.core first.core
 
 -- the entries of a neighbour on which an entry depends: itself, and all of them if a table was full in
 -- between. A response is read up to the first entry that does not fit
@@ -107,7 +107,7 @@ StaticRoutesHold = (ns : List StaticNeighbour) (start : ℕ) (calls : List Stati
     (old new : WithStaticsView PriorityCoreView) → RunsWithStatics ns start calls old new
     → (n : StaticNeighbour) → Contains ns n → (e : RipEntry) → Contains n.routes.items e
     → ((x : RipEntry) → Contains n.routes.items x → DependsOn old new e x
-    → IsSaidAlone route_key route_metric (λ m. m.routes.items) ns n x)
+    → IsAdvertisedAlone route_key route_metric (λ m. m.routes.items) ns n x)
     → is_heard old.core.router.ports e ≡ true → e.hops < 16
     → IsAskedEachMinute (λ port bytes. (x : RipEntry) → Contains n.routes.items x
     → DependsOn old new e x → TellsItself n x.network port bytes → ⊥) calls start
@@ -120,7 +120,7 @@ StaticServicesHold = (ns : List StaticNeighbour) (start : ℕ) (calls : List Sta
     (old new : WithStaticsView PriorityCoreView) → RunsWithStatics ns start calls old new
     → (n : StaticNeighbour) → Contains ns n → (e : ServiceEntry) → Contains n.services.items e
     → ((x : ServiceEntry) → Contains n.services.items x → DependsOn old new e x
-    → IsSaidAlone key_of_service service_metric (λ m. m.services.items) ns n x)
+    → IsAdvertisedAlone key_of_service service_metric (λ m. m.services.items) ns n x)
     → e.hops < 16
     → IsAskedEachMinute (λ port bytes. (x : ServiceEntry) → Contains n.services.items x
     → DependsOn old new e x → OffersItself n (key_of_service x) port bytes → ⊥) calls start
@@ -139,6 +139,6 @@ DoesCountedCall now (Asked given) old new = GivesWithStatics CountsHeard CountsA
 DoesCountedCall now AsksOnceMore old new = new ≡ record old { core = record old.core { started = false } }
 
 -- the call does the same to it without its counts: so all of the above holds for it too
-abbrev pub StaticsAreCountedApart : Type 0
-StaticsAreCountedApart = (now : ℕ) (call : StaticCall) (old new : WithStaticsView CountedView)
+abbrev pub StaticsAreCountedSeparately : Type 0
+StaticsAreCountedSeparately = (now : ℕ) (call : StaticCall) (old new : WithStaticsView CountedView)
     → DoesCountedCall now call old new → DoesStaticCall now call (uncounted old) (uncounted new)

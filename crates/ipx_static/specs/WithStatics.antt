@@ -1,6 +1,6 @@
 -- A core over a core that receives, each minute, what neighbours that advertise nothing themselves would
 -- advertise. Defined by this project. The entry points are `HearsUnder` and `GivesWithStatics`, and
--- `MissesUnder` and `WithholdsWithStatics` for out of memory.
+-- `HearOutOfMemoryUnder` and `NextOutOfMemoryWithStatics` for out of memory.
 use Rattle.std.specs.Prelude.{◌≡◌, ◌⊎◌, ℕ, ◌-◌, true, List, [], ◌∷◌, ◌++◌, Option, Some, MatchBool}
 use Rattle.ipx_router.specs.RouterPackets.{SendingView}
 use Rattle.ipx_router.specs.Telling.{is_due}
@@ -25,15 +25,15 @@ module _ {C : Type 0} (hears : C → ℕ → List ℕ → ℕ → C → Type 0) 
       hears old.core port bytes now new.core × (new ≡ record old { core = new.core })
 
   -- a core receives packets at a given time, one after another, each on its port
-  abbrev pub HearsWords : ℕ → List SendingView → C → C → Type 0
-  HearsWords now [] old new = new ≡ old
-  HearsWords now (w ∷ ws) old new =
-      (mid : C) × hears old (w.port - 1) w.bytes now mid × HearsWords now ws mid new
+  abbrev pub HearsAdvertisements : ℕ → List SendingView → C → C → Type 0
+  HearsAdvertisements now [] old new = new ≡ old
+  HearsAdvertisements now (w ∷ ws) old new =
+      (mid : C) × hears old (w.port - 1) w.bytes now mid × HearsAdvertisements now ws mid new
 
   -- the core below receives all advertisements, at first, and once a minute has passed since the last time
   abbrev pub HearsIfDue : WithStaticsView C → ℕ → WithStaticsView C → Type 0
   HearsIfDue old now new = MatchBool (is_due old.said now)
-      (HearsWords now old.advertisements old.core new.core
+      (HearsAdvertisements now old.advertisements old.core new.core
       × (new ≡ record old { core = new.core; said = Some now }))
       (new ≡ old)
 
@@ -44,26 +44,26 @@ module _ {C : Type 0} (hears : C → ℕ → List ℕ → ℕ → C → Type 0) 
       × gives heard.core now given new.core × (new ≡ record heard { core = new.core })
 
 -- the core below runs out of memory for what comes in
-abbrev pub MissesUnder : {C : Type 0} → (C → ℕ → List ℕ → ℕ → C → Type 0)
+abbrev pub HearOutOfMemoryUnder : {C : Type 0} → (C → ℕ → List ℕ → ℕ → C → Type 0)
     → WithStaticsView C → ℕ → List ℕ → ℕ → WithStaticsView C → Type 0
-MissesUnder hear_out_of_memory old port bytes now new =
+HearOutOfMemoryUnder hear_out_of_memory old port bytes now new =
     hear_out_of_memory old.core port bytes now new.core × (new ≡ record old { core = new.core })
 
 module _ {C : Type 0} (hears hear_out_of_memory : C → ℕ → List ℕ → ℕ → C → Type 0) where
   -- a core receives packets, before one for which it runs out of memory
-  abbrev pub MissesAWord : ℕ → List SendingView → C → C → Type 0
-  MissesAWord now advertisements old new = (before later : List SendingView) × (w : SendingView) × (mid : C)
-      × (advertisements ≡ before ++ w ∷ later) × HearsWords hears now before old mid
+  abbrev pub AdvertisementOutOfMemory : ℕ → List SendingView → C → C → Type 0
+  AdvertisementOutOfMemory now advertisements old new = (before later : List SendingView) × (w : SendingView) × (mid : C)
+      × (advertisements ≡ before ++ w ∷ later) × HearsAdvertisements hears now before old mid
       × hear_out_of_memory mid (w.port - 1) w.bytes now new
 
   -- memory ran out for an advertisement that was due, and all are due again in a minute
-  abbrev pub MissesIfDue : WithStaticsView C → ℕ → WithStaticsView C → Type 0
-  MissesIfDue old now new = (is_due old.said now ≡ true)
-      × MissesAWord now old.advertisements old.core new.core
+  abbrev pub HearOutOfMemoryIfDue : WithStaticsView C → ℕ → WithStaticsView C → Type 0
+  HearOutOfMemoryIfDue old now new = (is_due old.said now ≡ true)
+      × AdvertisementOutOfMemory now old.advertisements old.core new.core
       × (new ≡ record old { core = new.core; said = Some now })
 
   -- that happens, or the core below runs out of memory as it is asked after them
-  abbrev pub WithholdsWithStatics : (C → ℕ → C → Type 0) → WithStaticsView C → ℕ → WithStaticsView C → Type 0
-  WithholdsWithStatics next_out_of_memory old now new = MissesIfDue old now new
+  abbrev pub NextOutOfMemoryWithStatics : (C → ℕ → C → Type 0) → WithStaticsView C → ℕ → WithStaticsView C → Type 0
+  NextOutOfMemoryWithStatics next_out_of_memory old now new = HearOutOfMemoryIfDue old now new
       ⊎ ((heard : WithStaticsView C) × HearsIfDue hears old now heard
       × next_out_of_memory heard.core now new.core × (new ≡ record heard { core = new.core }))

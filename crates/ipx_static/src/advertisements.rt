@@ -75,7 +75,7 @@ fn header_from(from: Speaker, kind: u8, socket: Socket) -> IpxHeader
 }
 
 /// A RIP response of these routes.
-fn routes_word(alloc: Global, from: Speaker, routes: &[RipEntry]) -> Result<Reply, OutOfMemory>
+fn routes_reply(alloc: Global, from: Speaker, routes: &[RipEntry]) -> Result<Reply, OutOfMemory>
     requires { length routes.now ≤ 50 }
     ensures { IfOk result (λ r. IsRipPacket (heard_on from.port from.node rip_socket)
         (routes_response routes.now) (sending_of r)) }
@@ -92,7 +92,7 @@ fn routes_word(alloc: Global, from: Speaker, routes: &[RipEntry]) -> Result<Repl
 }
 
 /// A SAP response of these services.
-fn services_word(
+fn services_reply(
     alloc: Global,
     from: Speaker,
     services: &[ServiceEntry],
@@ -126,7 +126,7 @@ fn add_route_words(
     let mut rest = routes;
     while !rest.is_empty() {
         let (part, later) = rest.split_at(rest.len().min(RIP_MAX_ENTRIES));
-        advertisements.push(routes_word(alloc, from, part)?)?;
+        advertisements.push(routes_reply(alloc, from, part)?)?;
         rest = later;
     }
     Ok(())
@@ -146,7 +146,7 @@ fn add_service_words(
     let mut rest = services;
     while !rest.is_empty() {
         let (part, later) = rest.split_at(rest.len().min(SAP_MAX_SERVICES));
-        advertisements.push(services_word(alloc, from, part)?)?;
+        advertisements.push(services_reply(alloc, from, part)?)?;
         rest = later;
     }
     Ok(())

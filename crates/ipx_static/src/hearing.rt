@@ -3,8 +3,8 @@
 ghost use Rattle.std.specs.Prelude.{◌≡◌, OnOk, OnErr};
 ghost use Rattle.ipx_router.specs.Ports.{AreOnPorts};
 ghost use Rattle.ipx_router.specs.RouterPackets.{sendings};
-ghost use Rattle.ipx_router.specs.Telling.{IsNextTelling, is_due};
-ghost use Rattle.ipx_static.specs.WithStatics.{HearsWords, MissesAWord};
+ghost use Rattle.ipx_router.specs.Telling.{IsNextAdvertisement, is_due};
+ghost use Rattle.ipx_static.specs.WithStatics.{HearsAdvertisements, AdvertisementOutOfMemory};
 
 use ipx_carrier::Core;
 use ipx_router::Reply;
@@ -26,7 +26,7 @@ pub fn is_time(said: Option<u64>, now: u64) -> bool
 
 /// The time from which on they are due.
 pub fn next_time(said: Option<u64>) -> Option<u64>
-    ensures { IsNextTelling said result }
+    ensures { IsNextAdvertisement said result }
 {
     match said {
         None => Some(0),
@@ -44,9 +44,9 @@ pub fn hear_words<C: Core>(
 ) -> Result<(), OutOfMemory>
     requires { AreOnPorts (C.port_count core.old) (sendings advertisements.now) }
     ensures heard { OnOk result
-        (HearsWords C.hears now (sendings advertisements.now) core.old core.new) }
+        (HearsAdvertisements C.hears now (sendings advertisements.now) core.old core.new) }
     ensures refused { OnErr result
-        (MissesAWord C.hears C.hear_out_of_memory now (sendings advertisements.now) core.old core.new) }
+        (AdvertisementOutOfMemory C.hears C.hear_out_of_memory now (sendings advertisements.now) core.old core.new) }
     ensures ports { C.port_count core.new ≡ C.port_count core.old }
 {
     for word in advertisements {

@@ -6,12 +6,12 @@ ghost use Rattle.ipx_static.specs.StaticOffers.{
   StaticServicesAreOffers,
   StaticServicesAreRefreshed,
 };
-ghost use Rattle.ipx_static.specs.StaticRuns.{StaticsAreCountedApart, StaticRoutesHold, StaticServicesHold};
+ghost use Rattle.ipx_static.specs.StaticRuns.{StaticsAreCountedSeparately, StaticRoutesHold, StaticServicesHold};
 
 use ipx_control::{
     bytes_are_one_rip, bytes_are_one_sap, rip_fault_is_of_no_rip, sap_fault_is_of_no_sap,
 };
-use ipx_tables::sources_are_apart;
+use ipx_tables::sources_are_distinct;
 use ipx_wire::{bytes_are_one_packet, ipx_fault_is_of_no_packet};
 
 /// A router that receives all advertisements, and has room, has each static route as an offer of
@@ -23,7 +23,7 @@ pub fn static_routes_are_offers()
     ipx_fault_is_of_no_packet();
     bytes_are_one_rip();
     rip_fault_is_of_no_rip();
-    sources_are_apart();
+    sources_are_distinct();
 }
 
 /// It has each static service too.
@@ -34,7 +34,7 @@ pub fn static_services_are_offers()
     ipx_fault_is_of_no_packet();
     bytes_are_one_sap();
     sap_fault_is_of_no_sap();
-    sources_are_apart();
+    sources_are_distinct();
 }
 
 /// A router that receives the advertisements again refreshes each static route that counts, however
@@ -46,7 +46,7 @@ pub fn static_routes_are_refreshed()
     ipx_fault_is_of_no_packet();
     bytes_are_one_rip();
     rip_fault_is_of_no_rip();
-    sources_are_apart();
+    sources_are_distinct();
 }
 
 /// It refreshes each static service too.
@@ -57,7 +57,7 @@ pub fn static_services_are_refreshed()
     ipx_fault_is_of_no_packet();
     bytes_are_one_sap();
     sap_fault_is_of_no_sap();
-    sources_are_apart();
+    sources_are_distinct();
 }
 
 /// If no table is full as a packet is first asked for, each static route stays an offer that
@@ -68,7 +68,7 @@ pub fn static_routes_hold()
 {
     static_routes_are_offers();
     static_routes_are_refreshed();
-    sources_are_apart();
+    sources_are_distinct();
 }
 
 /// Each static service stays one too.
@@ -77,11 +77,11 @@ pub fn static_services_hold()
 {
     static_services_are_offers();
     static_services_are_refreshed();
-    sources_are_apart();
+    sources_are_distinct();
 }
 
 /// A router that counts receives static advertisements, and gives packets, as one that does not
 /// count by port.
-pub fn statics_are_counted_apart()
-    ensures { StaticsAreCountedApart }
+pub fn statics_are_counted_separately()
+    ensures { StaticsAreCountedSeparately }
 {}

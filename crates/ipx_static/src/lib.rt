@@ -16,7 +16,7 @@ mod with_statics;
 pub use laws::{
     static_routes_are_offers, static_routes_are_refreshed, static_routes_hold,
     static_services_are_offers, static_services_are_refreshed, static_services_hold,
-    statics_are_counted_apart,
+    statics_are_counted_separately,
 };
 pub use neighbour::StaticNeighbour;
 pub use restart_discovery::RestartDiscovery;

@@ -2,8 +2,8 @@
 
 ghost use Rattle.std.specs.Prelude.{◌≡◌, None, All, IfOk, OnOk, OnErr};
 ghost use Rattle.ipx_router.specs.Ports.{IsPortNumber};
-ghost use Rattle.ipx_router.specs.Telling.{IsNextTelling};
-ghost use Rattle.ipx_static.specs.WithStatics.{HearsIfDue, MissesIfDue};
+ghost use Rattle.ipx_router.specs.Telling.{IsNextAdvertisement};
+ghost use Rattle.ipx_static.specs.WithStatics.{HearsIfDue, HearOutOfMemoryIfDue};
 ghost use Rattle.ipx_static.specs.StaticAdvertisements.{AreWordsOf};
 
 use crate::advertisements::words_of;
@@ -71,7 +71,7 @@ impl<C: Core + Drop> WithStatics<C> {
     ///
     /// If you wait for datagrams, wake by then, and ask for a packet.
     pub fn next_refresh(&self) -> Option<u64>
-        ensures { IsNextTelling self.now.said result }
+        ensures { IsNextAdvertisement self.now.said result }
     {
         next_time(self.said)
     }
@@ -79,7 +79,7 @@ impl<C: Core + Drop> WithStatics<C> {
     /// Lets the core below receive the advertisements, if they are due.
     fn refresh(&mut self, alloc: Global, now: u64) -> Result<(), OutOfMemory>
         ensures heard { OnOk result (HearsIfDue C.hears self.old now self.new) }
-        ensures refused { OnErr result (MissesIfDue C.hears C.hear_out_of_memory self.old now self.new) }
+        ensures refused { OnErr result (HearOutOfMemoryIfDue C.hears C.hear_out_of_memory self.old now self.new) }
         ensures ports { C.port_count self.new.core ≡ C.port_count self.old.core }
     {
         if !is_time(self.said, now) {
@@ -101,7 +101,7 @@ impl<C: RestartDiscovery + Drop> RestartDiscovery for WithStatics<C> {
 }
 
 impl<C: Core + Drop> Core for WithStatics<C> {
-    ghost use Rattle.ipx_static.specs.WithStatics.{GivesWithStatics, HearsUnder, MissesUnder, WithholdsWithStatics};
+    ghost use Rattle.ipx_static.specs.WithStatics.{GivesWithStatics, HearsUnder, HearOutOfMemoryUnder, NextOutOfMemoryWithStatics};
 
     ghost port_count = { λ s. C.port_count s.core };
 
@@ -109,9 +109,9 @@ impl<C: Core + Drop> Core for WithStatics<C> {
 
     ghost gives = { GivesWithStatics C.hears C.gives };
 
-    ghost hear_out_of_memory = { MissesUnder C.hear_out_of_memory };
+    ghost hear_out_of_memory = { HearOutOfMemoryUnder C.hear_out_of_memory };
 
-    ghost next_out_of_memory = { WithholdsWithStatics C.hears C.hear_out_of_memory C.next_out_of_memory };
+    ghost next_out_of_memory = { NextOutOfMemoryWithStatics C.hears C.hear_out_of_memory C.next_out_of_memory };
 
     fn ports(&self) -> usize {
         self.core.ports()

@@ -13,7 +13,7 @@ use ipx_wire::{Network, Node, OutOfMemory};
 use std::alloc::Global;
 use std::test::Fail;
 
-const BEHIND: Network = Network(0xaa);
+const AFTER: Network = Network(0xaa);
 
 pub fn port(network: u32, last: u8) -> Port
     ensures { result.network.0 ≡ network }
@@ -51,7 +51,7 @@ fn given(alloc: Global, core: &mut WithStatics<MeteredRouter>, now: u64) -> Resu
 
 /// How many hops AA is away, and through which source.
 pub fn way(core: &WithStatics<MeteredRouter>, now: u64) -> Option<(Source, u16)> {
-    let best = core.core().router().routes().best(&BEHIND, now)?;
+    let best = core.core().router().routes().best(&AFTER, now)?;
     Some((best.0, best.1.hops))
 }
 

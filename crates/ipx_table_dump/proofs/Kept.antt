@@ -14,9 +14,9 @@ use Rattle.ipx_tables.specs.Best.{IsBest}
 use Rattle.ipx_tables.specs.Content.{Content, is_young, pair_cmp, pair_of, said_of, source_cmp}
 use Rattle.ipx_tables.specs.Inventory.{IsInventory}
 use Rattle.ipx_tables.specs.Listing.{IsListing, listed_key}
-use Rattle.ipx_tables.specs.Order.{TellsApart}
+use Rattle.ipx_tables.specs.Order.{EqualOnlyIfSame}
 use Rattle.ipx_tables.specs.Sorted.{IsRising}
-use Rattle.ipx_table_dump.specs.Standing.{is_among_best}
+use Rattle.ipx_table_dump.specs.StillPresent.{is_among_best}
 
 source_total : IsTotalOrder source_cmp
 source_total = then_total (on_total (λ s. s.port) nat_cmp_total) (on_total (λ s. s.neighbour.0) nat_list_cmp_total)
@@ -51,9 +51,9 @@ module _ {K : Type 0} (M : Type 0) {cmp : K → K → Ordering} (o : IsTotalOrde
   BestsRise (b ∷ bs) = AreBestsAbove (place b) bs × BestsRise bs
 
   -- an offer with the key and source of a best one is in a list, and each such offer is that one
-  abbrev StandsIn : Item K M → List (Offer K M) → Type 0
-  StandsIn b [] = ⊥
-  StandsIn b (x ∷ os) = (pair_cmp cmp (place b) (pair_of x) ≡ Equal) ⊎ StandsIn b os
+  abbrev HoldsIn : Item K M → List (Offer K M) → Type 0
+  HoldsIn b [] = ⊥
+  HoldsIn b (x ∷ os) = (pair_cmp cmp (place b) (pair_of x) ≡ Equal) ⊎ HoldsIn b os
 
   abbrev IsEach : List (Offer K M) → Item K M → Type 0
   IsEach os b = AllByRecursion (λ x. pair_cmp cmp (place b) (pair_of x) ≡ Equal → item x ≡ b) os
@@ -70,7 +70,7 @@ module _ {K : Type 0} (M : Type 0) {cmp : K → K → Ordering} (o : IsTotalOrde
       let rest = past_first b bs os all.1 in
       λ i. cond (is_eq (all.0 i) || is_among_best cmp bs x) (x ∷ rest i) (rest i)
 
-  not_in : (b : Item K M) (os : List (Offer K M)) → AreAbove (place b) os → StandsIn b os → ⊥
+  not_in : (b : Item K M) (os : List (Offer K M)) → AreAbove (place b) os → HoldsIn b os → ⊥
   not_in b [] all there = there
   not_in b (x ∷ os) all there = elim there [
     | inl tie ↦ let no_tie : Less ≡ Equal = sym all.0 ∙ tie in cc
@@ -94,14 +94,14 @@ module _ {K : Type 0} (M : Type 0) {cmp : K → K → Ordering} (o : IsTotalOrde
   bests_tied p q (b ∷ bs) tie all = (sym (pairs.congr p q (place b) tie) ∙ all.0, bests_tied p q bs tie all.1)
 
   -- what is in a list and is above its head is in its tail
-  in_tail : (x : Offer K M) (os : List (Offer K M)) (bs : List (Item K M)) → AreBestsAbove (pair_of x) bs → AllByRecursion (λ b. StandsIn b (x ∷ os) × IsEach (x ∷ os) b) bs → AllByRecursion (λ b. StandsIn b os × IsEach os b) bs
+  in_tail : (x : Offer K M) (os : List (Offer K M)) (bs : List (Item K M)) → AreBestsAbove (pair_of x) bs → AllByRecursion (λ b. HoldsIn b (x ∷ os) × IsEach (x ∷ os) b) bs → AllByRecursion (λ b. HoldsIn b os × IsEach os b) bs
   in_tail x os [] above all = tt
   in_tail x os (b ∷ bs) above all =
       let back : pair_cmp cmp (place b) (pair_of x) ≡ Greater = pairs.antisymm (place b) (pair_of x) ∙ ap ordering_reverse above.0 in
-      let there : StandsIn b os = elim all.0.0 [ inl tie ↦ let no_tie : Greater ≡ Equal = sym back ∙ tie in cc | inr later ↦ later ] in
+      let there : HoldsIn b os = elim all.0.0 [ inl tie ↦ let no_tie : Greater ≡ Equal = sym back ∙ tie in cc | inr later ↦ later ] in
       ((there, all.0.1.1), in_tail x os bs above.1 all.1)
 
-  pub merged : (os : List (Offer K M)) (bs : List (Item K M)) → Rise os → BestsRise bs → AllByRecursion (λ b. StandsIn b os × IsEach os b) bs → map item (filter (is_among_best cmp bs) os) ≡ bs
+  pub merged : (os : List (Offer K M)) (bs : List (Item K M)) → Rise os → BestsRise bs → AllByRecursion (λ b. HoldsIn b os × IsEach os b) bs → map item (filter (is_among_best cmp bs) os) ≡ bs
   merged [] [] ro rb all = refl
   merged [] (b ∷ bs) ro rb all = absurd all.0.0
   merged (x ∷ os) [] ro rb all = merged os [] ro.1 tt tt
@@ -165,15 +165,15 @@ module _ {K : Type 0} (M : Type 0) {cmp : K → K → Ordering} (o : IsTotalOrde
       | false ↦ kept_rise os rising.1
     ]
 
-    kept_in : (b : Item K M) (os : List (Offer K M)) (i : ℕ) → i < length os → ((d : Offer K M) → pair_cmp cmp (place b) (pair_of (get_or os i d)) ≡ Equal) → ((d : Offer K M) → p (get_or os i d) ≡ true) → StandsIn b (filter p os)
-    kept_in b [] i within tie young = absurd (omega (arith, within))
-    kept_in b (x ∷ os) zero within tie young = subst (λ t. StandsIn b (cond t (x ∷ filter p os) (filter p os))) (sym (young x)) (inl (tie x))
-    kept_in b (x ∷ os) (suc i) within tie young =
-        let later : StandsIn b (filter p os) = kept_in b os i (omega (arith, within)) tie young in
-        elim (p x) as (λ t. StandsIn b (cond t (x ∷ filter p os) (filter p os))) [ true ↦ inr later | false ↦ later ]
+    drops_in : (b : Item K M) (os : List (Offer K M)) (i : ℕ) → i < length os → ((d : Offer K M) → pair_cmp cmp (place b) (pair_of (get_or os i d)) ≡ Equal) → ((d : Offer K M) → p (get_or os i d) ≡ true) → HoldsIn b (filter p os)
+    drops_in b [] i within tie young = absurd (omega (arith, within))
+    drops_in b (x ∷ os) zero within tie young = subst (λ t. HoldsIn b (cond t (x ∷ filter p os) (filter p os))) (sym (young x)) (inl (tie x))
+    drops_in b (x ∷ os) (suc i) within tie young =
+        let later : HoldsIn b (filter p os) = drops_in b os i (omega (arith, within)) tie young in
+        elim (p x) as (λ t. HoldsIn b (cond t (x ∷ filter p os) (filter p os))) [ true ↦ inr later | false ↦ later ]
 
-  module _ (exact : TellsApart cmp) (sources : TellsApart source_cmp) where
-    one_pair : TellsApart (pair_cmp cmp)
+  module _ (exact : EqualOnlyIfSame cmp) (sources : EqualOnlyIfSame source_cmp) where
+    one_pair : EqualOnlyIfSame (pair_cmp cmp)
     one_pair = exact_pairs cmp source_cmp exact sources
 
     some_is : {A : Type 0} (x y : A) → Some x ≡ Some y → x ≡ y
@@ -200,26 +200,26 @@ module _ {K : Type 0} (M : Type 0) {cmp : K → K → Ordering} (o : IsTotalOrde
         is_each b t stands os said.1,
       )
 
-      stands_in : {before : M → M → Bool} (b : Item K M) → IsBest before c b.0 now (b.1, b.2) → StandsIn b (filter young all)
-      stands_in b is =
+      holds_in : {before : M → M → Bool} (b : Item K M) → IsBest before c b.0 now (b.1, b.2) → HoldsIn b (filter young all)
+      holds_in b is =
           let at = i.no_other (place b) (b.2, is.moment) is.stands in
           let tie : (d : Offer K M) → pair_cmp cmp (pair_of (get_or all at.0 d)) (place b) ≡ Equal = at.1.ties in
-          kept_in young b all at.0 at.1.in_range
+          drops_in young b all at.0 at.1.in_range
           (λ d. pairs.antisymm (place b) (pair_of (get_or all at.0 d)) ∙ ap ordering_reverse (tie d))
           (λ d.
           let same : pair_of (get_or all at.0 d) ≡ place b = one_pair (pair_of (get_or all at.0 d)) (place b) (tie d) in
           let told : said_of (get_or all at.0 d) ≡ (b.2, is.moment) = some_is (said_of (get_or all at.0 d)) (b.2, is.moment) (sym (i.as_said at.0 d at.1.in_range) ∙ ap c same ∙ is.stands) in
           ap (λ v. is_young now v.1) told ∙ is.counts)
 
-      each_stands : {before : M → M → Bool} (bs : List (Item K M)) → All (λ b. IsBest before c b.0 now (b.1, b.2)) bs → AllByRecursion (λ b. StandsIn b (filter young all) × IsEach (filter young all) b) bs
-      each_stands {before = before} [] are = tt
-      each_stands {before = before} (b ∷ bs) are =
+      each_holds : {before : M → M → Bool} (bs : List (Item K M)) → All (λ b. IsBest before c b.0 now (b.1, b.2)) bs → AllByRecursion (λ b. HoldsIn b (filter young all) × IsEach (filter young all) b) bs
+      each_holds {before = before} [] are = tt
+      each_holds {before = before} (b ∷ bs) are =
           let is : IsBest before c b.0 now (b.1, b.2) = are 0 b (omega arith) in
           let said : AllByRecursion Said (filter young all) = kept_all young Said all (said_from all i.as_said) in
-          ((stands_in b is, is_each b is.moment is.stands (filter young all) said), each_stands bs (λ k d lt. are (suc k) d (omega (arith, lt))))
+          ((holds_in b is, is_each b is.moment is.stands (filter young all) said), each_holds bs (λ k d lt. are (suc k) d (omega (arith, lt))))
 
       pub bests_kept : {before : M → M → Bool} (bests : List (Item K M)) → IsListing cmp before c now bests → map item (filter (is_among_best cmp bests) (filter young all)) ≡ bests
-      bests_kept bests l = merged (filter young all) bests (kept_rise young all (rise_from all i.in_order)) (bests_rise bests l.in_order) (each_stands bests l.are_best)
+      bests_kept bests l = merged (filter young all) bests (kept_rise young all (rise_from all i.in_order)) (bests_rise bests l.in_order) (each_holds bests l.are_best)
 
 pub map_twice : {A B C : Type 0} (f : B → C) (g : A → B) (xs : List A) → map (λ x. f (g x)) xs ≡ map f (map g xs)
 map_twice f g [] = refl

@@ -11,7 +11,7 @@ use Rattle.ipx_tables.specs.declared.service.ServiceMetric.{ServiceMetric}
 use Rattle.ipx_tables.specs.Route.{network_cmp}
 use Rattle.ipx_tables.specs.Service.{service_key_cmp}
 use Rattle.ipx_router.specs.declared.port.Port.{Port}
-use Rattle.ipx_table_dump.specs.Standing.{is_among_best}
+use Rattle.ipx_table_dump.specs.StillPresent.{is_among_best}
 use Rattle.ipx_table_dump.specs.TableParts.{own_in_words, port_network_in, own_networks_read, owns_in_words, title_in, titles_read}
 use Rattle.ipx_table_dump.specs.TableText.{KnownThen, head_line, own_line, own_lines, route_offer_line, service_lines, service_offer_line, tables_text, advertiser_line, advertiser_lines}
 use Rattle.ipx_table_dump.proofs.LineWords.{best_route_read, best_service_read, neighbours_head_read, networks_head_read, own_read, read_of, services_head_read, spare_route_read, spare_service_read, advertiser_read}
@@ -40,8 +40,8 @@ owns_of_lines number (p ∷ ports) rest =
     ∙ own_read port_network_in number p (own_lines (number + 1) ports ++ rest)
     ∙ ap (λ r. own_in_words number p ∷ r) (owns_of_lines (number + 1) ports rest)
 
-no_own_behind : (now : ℕ) (k : KnownThen) → read_of port_network_in (service_lines now k.best_services k.services ++ advertiser_lines now k.advertisers) ≡ []
-no_own_behind now k =
+no_own_after : (now : ℕ) (k : KnownThen) → read_of port_network_in (service_lines now k.best_services k.services ++ advertiser_lines now k.advertisers) ≡ []
+no_own_after now k =
     let line = service_line_of k now in
     ap (read_of port_network_in) (append_assoc (head_line (codes "services") (length k.services)) (flat_map line k.services) (advertiser_lines now k.advertisers))
     ∙ services_head_read port_network_in (length k.services) (flat_map line k.services ++ advertiser_lines now k.advertisers)
@@ -60,7 +60,7 @@ owns_read_back ports now k =
     ∙ networks_head_read port_network_in (length ports + length k.networks) ((own_lines 1 ports ++ routes) ++ behind)
     ∙ ap (read_of port_network_in) (append_assoc (own_lines 1 ports) routes behind)
     ∙ owns_of_lines 1 ports (routes ++ behind)
-    ∙ ap (λ r. owns_in_words 1 ports ++ r) (skip_all port_network_in line (λ o rest. no_own_of_route (is_among_best network_cmp k.best_networks o) now o rest) k.networks behind ∙ no_own_behind now k)
+    ∙ ap (λ r. owns_in_words 1 ports ++ r) (skip_all port_network_in line (λ o rest. no_own_of_route (is_among_best network_cmp k.best_networks o) now o rest) k.networks behind ∙ no_own_after now k)
     ∙ append-nil (owns_in_words 1 ports)
 
 -- ---- titles
@@ -73,8 +73,8 @@ no_title_of_service : (b : Bool) (now : ℕ) (o : Offer ServiceKey ServiceMetric
 no_title_of_service true now o rest = best_service_read title_in now o rest
 no_title_of_service false now o rest = spare_service_read title_in now o rest
 
-titles_behind : (now : ℕ) (k : KnownThen) → read_of title_in (service_lines now k.best_services k.services ++ advertiser_lines now k.advertisers) ≡ codes "services" ∷ codes "neighbours" ∷ []
-titles_behind now k =
+titles_after : (now : ℕ) (k : KnownThen) → read_of title_in (service_lines now k.best_services k.services ++ advertiser_lines now k.advertisers) ≡ codes "services" ∷ codes "neighbours" ∷ []
+titles_after now k =
     let line = service_line_of k now in
     let advertisers = flat_map (advertiser_line now) k.advertisers in
     ap (read_of title_in) (append_assoc (head_line (codes "services") (length k.services)) (flat_map line k.services) (advertiser_lines now k.advertisers))
@@ -95,4 +95,4 @@ titles_read_back ports now k =
     ∙ ap (λ r. codes "networks" ∷ r) (ap (read_of title_in) (append_assoc (own_lines 1 ports) routes behind)
     ∙ skip_owns title_in (λ number p rest. own_read title_in number p rest) 1 ports (routes ++ behind)
     ∙ skip_all title_in line (λ o rest. no_title_of_route (is_among_best network_cmp k.best_networks o) now o rest) k.networks behind
-    ∙ titles_behind now k)
+    ∙ titles_after now k)

@@ -13,7 +13,7 @@ use Rattle.ipx_tables.specs.declared.offer.Offer.{Offer}
 use Rattle.ipx_tables.specs.Content.{is_same, source_cmp}
 use Rattle.ipx_tables.specs.Listing.{listed_key}
 use Rattle.ipx_tables.specs.Sorted.{IsRising}
-use Rattle.ipx_table_dump.specs.Standing.{is_among_best}
+use Rattle.ipx_table_dump.specs.StillPresent.{is_among_best}
 
 not_less : (r : Ordering) → r ≡ Less → is_eq r ≡ false
 not_less r h = ap is_eq h
@@ -21,10 +21,10 @@ not_less r h = ap is_eq h
 not_greater : (r : Ordering) → r ≡ Greater → is_eq r ≡ false
 not_greater r h = ap is_eq h
 
-apart_first : (a b : Ordering) → is_eq a ≡ false → is_eq (ordering_then a b) ≡ false
-apart_first Less b h = refl
-apart_first Equal b h = cc
-apart_first Greater b h = refl
+separate_first : (a b : Ordering) → is_eq a ≡ false → is_eq (ordering_then a b) ≡ false
+separate_first Less b h = refl
+separate_first Equal b h = cc
+separate_first Greater b h = refl
 
 tied_first : (a b : Ordering) → a ≡ Equal → is_eq (ordering_then a b) ≡ is_eq b
 tied_first a b h = ap (λ r. is_eq (ordering_then r b)) h
@@ -53,13 +53,13 @@ module _ {K : Type 0} (M : Type 0) {cmp : K → K → Ordering} (o : IsTotalOrde
   pub none_listed : (bs : List (Best K M)) (offer : Offer K M) → AreOthers bs offer.key → is_among_best cmp bs offer ≡ false
   none_listed [] offer others = refl
   none_listed (b ∷ bs) offer others =
-      let head : is_same cmp (b.0, b.1) (offer.key, offer.source) ≡ false = apart_first (cmp b.0 offer.key) (source_cmp b.1 offer.source) (others 0 b (omega arith)) in
+      let head : is_same cmp (b.0, b.1) (offer.key, offer.source) ≡ false = separate_first (cmp b.0 offer.key) (source_cmp b.1 offer.source) (others 0 b (omega arith)) in
       let rest : is_among_best cmp bs offer ≡ false = none_listed bs offer (λ j d lt. others (suc j) d (omega (arith, lt))) in
       λ i. head i || rest i
 
   -- after the best offer of a key, all are of other keys
-  others_behind : (b : Best K M) (bs : List (Best K M)) (key : K) → IsRising cmp listed_key (b ∷ bs) → cmp b.0 key ≡ Equal → AreOthers bs key
-  others_behind b bs key rising tie j d lt =
+  others_after : (b : Best K M) (bs : List (Best K M)) (key : K) → IsRising cmp listed_key (b ∷ bs) → cmp b.0 key ≡ Equal → AreOthers bs key
+  others_after b bs key rising tie j d lt =
       let x = get_or bs j d in
       let above : cmp b.0 x.0 ≡ Less = rising 0 (suc j) d (omega arith) (omega (arith, lt)) in
       let below : cmp x.0 b.0 ≡ Greater = o.antisymm x.0 b.0 ∙ ap ordering_reverse above in
@@ -69,14 +69,14 @@ module _ {K : Type 0} (M : Type 0) {cmp : K → K → Ordering} (o : IsTotalOrde
       → (d : Best K M) → is_eq (source_cmp (get_or bs at d).1 offer.source) ≡ is_among_best cmp bs offer
   listed_at [] at offer rising within tie d = absurd (omega (arith, within))
   listed_at (b ∷ bs) zero offer rising within tie d =
-      let rest : is_among_best cmp bs offer ≡ false = none_listed bs offer (others_behind b bs offer.key rising (tie b)) in
+      let rest : is_among_best cmp bs offer ≡ false = none_listed bs offer (others_after b bs offer.key rising (tie b)) in
       let head : is_same cmp (b.0, b.1) (offer.key, offer.source) ≡ is_eq (source_cmp b.1 offer.source) = tied_first (cmp b.0 offer.key) (source_cmp b.1 offer.source) (tie b) in
       sym ((λ i. head i || rest i) ∙ or_false (is_eq (source_cmp b.1 offer.source)))
   listed_at (b ∷ bs) (suc at) offer rising within tie d =
       let x = get_or bs at d in
       let above : cmp b.0 x.0 ≡ Less = rising 0 (suc at) d (omega arith) within in
       let under : cmp b.0 offer.key ≡ Less = sym (alike_right o x.0 offer.key b.0 (tie d)) ∙ above in
-      let head : is_same cmp (b.0, b.1) (offer.key, offer.source) ≡ false = apart_first (cmp b.0 offer.key) (source_cmp b.1 offer.source) (not_less _ under) in
+      let head : is_same cmp (b.0, b.1) (offer.key, offer.source) ≡ false = separate_first (cmp b.0 offer.key) (source_cmp b.1 offer.source) (not_less _ under) in
       let rest = listed_at bs at offer (λ i j e lt in_range. rising (suc i) (suc j) e (omega (arith, lt)) (omega (arith, in_range))) (omega (arith, within)) tie d in
       rest ∙ (λ i. sym head i || is_among_best cmp bs offer)
 

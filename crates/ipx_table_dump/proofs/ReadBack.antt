@@ -12,7 +12,7 @@ use Rattle.ipx_tables.specs.declared.source.Source.{Source}
 use Rattle.ipx_tables.specs.Route.{network_cmp}
 use Rattle.ipx_tables.specs.Service.{service_key_cmp}
 use Rattle.ipx_router.specs.declared.port.Port.{Port}
-use Rattle.ipx_table_dump.specs.Standing.{is_among_best}
+use Rattle.ipx_table_dump.specs.StillPresent.{is_among_best}
 use Rattle.ipx_table_dump.specs.TableRead.{best_network_in, network_in_words, networks_read, best_service_in, service_in_words, services_read}
 use Rattle.ipx_table_dump.specs.TableText.{KnownThen, head_line, own_line, own_lines, route_offer_line, service_lines, service_offer_line, tables_text, advertiser_line, advertiser_lines}
 use Rattle.ipx_table_dump.proofs.LineWords.{best_route_read, best_service_read, neighbours_head_read, networks_head_read, own_read, read_of, services_head_read, spare_route_read, spare_service_read, advertiser_read}
@@ -50,8 +50,8 @@ no_network_of_service : (b : Bool) (now : ℕ) (o : Offer ServiceKey ServiceMetr
 no_network_of_service true now o rest = best_service_read best_network_in now o rest
 no_network_of_service false now o rest = spare_service_read best_network_in now o rest
 
-no_network_behind : (now : ℕ) (k : KnownThen) → read_of best_network_in (service_lines now k.best_services k.services ++ advertiser_lines now k.advertisers) ≡ []
-no_network_behind now k =
+no_network_after : (now : ℕ) (k : KnownThen) → read_of best_network_in (service_lines now k.best_services k.services ++ advertiser_lines now k.advertisers) ≡ []
+no_network_after now k =
     let line = λ (o : Offer ServiceKey ServiceMetric). service_offer_line (is_among_best service_key_cmp k.best_services o) now o in
     ap (read_of best_network_in) (append_assoc (head_line (codes "services") (length k.services)) (flat_map line k.services) (advertiser_lines now k.advertisers))
     ∙ services_head_read best_network_in (length k.services) (flat_map line k.services ++ advertiser_lines now k.advertisers)
@@ -72,7 +72,7 @@ networks_read_back ports now k =
     ∙ ap (read_of best_network_in) (append_assoc (own_lines 1 ports) routes behind)
     ∙ skip_owns best_network_in (λ number p rest. own_read best_network_in number p rest) 1 ports (routes ++ behind)
     ∙ networks_of_lines k.best_networks now k.networks behind
-    ∙ ap (λ r. map (λ o. network_in_words (o.key, o.source, o.metric)) (filter (is_among_best network_cmp k.best_networks) k.networks) ++ r) (no_network_behind now k)
+    ∙ ap (λ r. map (λ o. network_in_words (o.key, o.source, o.metric)) (filter (is_among_best network_cmp k.best_networks) k.networks) ++ r) (no_network_after now k)
     ∙ append-nil _
 
 -- ---- services

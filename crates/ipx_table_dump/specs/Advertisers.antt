@@ -26,16 +26,16 @@ latest [] = 0
 latest (saying ∷ said) = max saying.heard (latest said)
 
 -- the counts of a neighbour: how many networks and services, and when the last of them was heard
-abbrev pub told_by : List Advertisement → Source → Advertiser
-told_by said s = record {
+abbrev pub advertised_by : List Advertisement → Source → Advertiser
+advertised_by said s = record {
   networks = count_by (λ a. is_advertisement_of s a && a.of_network) said;
   services = count_by (λ a. is_advertisement_of s a && not a.of_network) said;
   heard = latest (filter (is_advertisement_of s) said);
 }
 
 -- no advertisements
-abbrev pub nothing_told : Advertiser
-nothing_told = record { networks = 0; services = 0; heard = 0 }
+abbrev pub nothing_advertised : Advertiser
+nothing_advertised = record { networks = 0; services = 0; heard = 0 }
 
 -- the counts of a neighbour after one more advertisement
 abbrev pub with_advertisement : Advertiser → Advertisement → Advertiser
@@ -47,7 +47,7 @@ with_advertisement t a = record {
 
 -- the counts of a neighbour, or None if it has no advertisement
 abbrev pub advertiser_of : List Advertisement → Source → Option Advertiser
-advertiser_of said s = if list_any (is_advertisement_of s) said then Some (told_by said s) else None
+advertiser_of said s = if list_any (is_advertisement_of s) said then Some (advertised_by said s) else None
 
 -- each neighbour with an advertisement appears once, by port and node, with its counts
 pub record AreAdvertisers (said : List Advertisement) (listed : List (Source × Advertiser)) : Type 0 where

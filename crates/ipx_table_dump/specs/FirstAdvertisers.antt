@@ -11,7 +11,7 @@ use Rattle.ipx_tables.specs.Route.{network_cmp}
 use Rattle.ipx_tables.specs.Service.{service_key_cmp}
 use Rattle.ipx_router.specs.Knowledge.{routes_in, services_in}
 use Rattle.ipx_table_dump.specs.declared.advertisers.Advertiser.{Advertiser}
-use Rattle.ipx_table_dump.specs.Standing.{AreStanding}
+use Rattle.ipx_table_dump.specs.StillPresent.{ArePresent}
 use Rattle.ipx_table_dump.specs.Advertisers.{AreAdvertisers, advertisements}
 
 -- they are the first 256 neighbours with offers that count at this time, by port and node, each with its
@@ -21,7 +21,7 @@ pub record AreFirstAdvertisers (routes : Table Network RouteMetric)
   pub networks_then : List (Offer Network RouteMetric)
   pub services_then : List (Offer ServiceKey ServiceMetric)
   pub advertisers : List (Source × Advertiser)
-  pub heard_networks : AreStanding network_cmp (routes_in routes) now networks_then
-  pub heard_services : AreStanding service_key_cmp (services_in services) now services_then
+  pub heard_networks : ArePresent network_cmp (routes_in routes) now networks_then
+  pub heard_services : ArePresent service_key_cmp (services_in services) now services_then
   pub told : AreAdvertisers (advertisements true networks_then ++ advertisements false services_then) advertisers
   pub first : listed ≡ take 256 advertisers

@@ -1,4 +1,4 @@
-pub mod Standing
+pub mod StillPresent
 pub mod Advertisers
 pub mod TableText
 pub mod TableRead

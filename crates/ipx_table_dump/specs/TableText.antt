@@ -18,7 +18,7 @@ use Rattle.ipx_router.specs.declared.port.Port.{Port}
 use Rattle.ipx_router.specs.Knowledge.{routes_in, services_in}
 use Rattle.ipx_inspect.specs.ShowLine.{address_text, name_text, word_text}
 use Rattle.ipx_table_dump.specs.declared.advertisers.Advertiser.{Advertiser}
-use Rattle.ipx_table_dump.specs.Standing.{AreStanding, is_among_best}
+use Rattle.ipx_table_dump.specs.StillPresent.{ArePresent, is_among_best}
 use Rattle.ipx_table_dump.specs.Advertisers.{AreAdvertisers, advertisements}
 
 -- the whole seconds between two times in milliseconds
@@ -106,9 +106,9 @@ tables_text ports now k =
 -- what tables know at this time
 pub record IsKnownThen (routes : Table Network RouteMetric) (services : Table ServiceKey ServiceMetric)
     (now : ℕ) (k : KnownThen) : Type 0 where
-  pub heard_networks : AreStanding network_cmp (routes_in routes) now k.networks
+  pub heard_networks : ArePresent network_cmp (routes_in routes) now k.networks
   pub best_networks : IsListing network_cmp route_before (routes_in routes) now k.best_networks
-  pub heard_services : AreStanding service_key_cmp (services_in services) now k.services
+  pub heard_services : ArePresent service_key_cmp (services_in services) now k.services
   pub best_services : IsListing service_key_cmp service_before (services_in services) now
       k.best_services
   pub advertisers : AreAdvertisers (advertisements true k.networks ++ advertisements false k.services) k.advertisers

@@ -4,10 +4,10 @@ ghost use Rattle.std.specs.Prelude.{◌≡◌, ◌+◌, ◌^◌, ◌<◌, IfOk};
 ghost use Rattle.std.specs.BTreeMap.{get};
 ghost use Rattle.std.specs.Option.{unwrap_or};
 ghost use Rattle.ipx_tables.specs.Content.{source_cmp};
-ghost use Rattle.ipx_table_dump.specs.Advertisers.{AreAdvertisers, nothing_told, with_advertisement};
+ghost use Rattle.ipx_table_dump.specs.Advertisers.{AreAdvertisers, nothing_advertised, with_advertisement};
 
 use crate::advertisements::Advertisement;
-use ipx_tables::{Source, sources_are_apart};
+use ipx_tables::{Source, sources_are_distinct};
 use std::alloc::{AllocError, Global};
 use std::collections::BTreeMap;
 
@@ -48,8 +48,8 @@ fn with_advertisement(before: Advertiser, saying: &Advertisement) -> Advertiser
 }
 
 /// The counts of a neighbour so far.
-fn told_before(advertisers: &BTreeMap<Source, Advertiser>, source: Source) -> Advertiser
-    ensures { result ≡ unwrap_or (get source_cmp advertisers.now source) nothing_told }
+fn counted_before(advertisers: &BTreeMap<Source, Advertiser>, source: Source) -> Advertiser
+    ensures { result ≡ unwrap_or (get source_cmp advertisers.now source) nothing_advertised }
 {
     advertisers.get(&source).copied().unwrap_or(NOTHING)
 }
@@ -61,10 +61,10 @@ pub fn advertisers_of(
 ) -> Result<BTreeMap<Source, Advertiser>, AllocError>
     ensures { IfOk result (λ m. AreAdvertisers said.now m.entries) }
 {
-    sources_are_apart();
+    sources_are_distinct();
     let mut advertisers = BTreeMap::new(alloc);
     for saying in said {
-        let before = told_before(&advertisers, saying.source);
+        let before = counted_before(&advertisers, saying.source);
         advertisers.insert(saying.source, with_advertisement(before, saying))?;
     }
     let _many = advertisers.len();

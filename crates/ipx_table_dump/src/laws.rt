@@ -16,7 +16,7 @@ ghost use Rattle.ipx_table_dump.specs.TableParts.{has_all_titles, own_networks_r
 ghost use Rattle.ipx_table_dump.specs.TableRead.{network_in_words, networks_read, service_in_words, services_read};
 ghost use Rattle.ipx_table_dump.specs.TableText.{IsTables};
 
-use ipx_tables::{route_listing_is_one, service_listing_is_one, sources_are_apart};
+use ipx_tables::{route_listing_is_one, service_listing_is_one, sources_are_distinct};
 
 /// From the text of what a router knows, the best offer of each network and service is read back,
 /// in the order of the tables. Nothing else is read.
@@ -34,7 +34,7 @@ pub fn bests_are_read_back()
         → IsListing service_key_cmp service_before (services_in services) now listed
         → services_read text ≡ map service_in_words listed }
 {
-    sources_are_apart();
+    sources_are_distinct();
     route_listing_is_one();
     service_listing_is_one();
 }

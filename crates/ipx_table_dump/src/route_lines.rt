@@ -5,7 +5,7 @@ ghost use Rattle.std.specs.List.{flat_map};
 ghost use Rattle.ipx_tables.specs.Listing.{listed_key};
 ghost use Rattle.ipx_tables.specs.Route.{network_cmp};
 ghost use Rattle.ipx_tables.specs.Sorted.{IsRising};
-ghost use Rattle.ipx_table_dump.specs.Standing.{is_among_best};
+ghost use Rattle.ipx_table_dump.specs.StillPresent.{is_among_best};
 ghost use Rattle.ipx_table_dump.specs.TableText.{network_lines, own_line, own_lines, route_offer_line};
 
 use crate::standing::is_among_best;

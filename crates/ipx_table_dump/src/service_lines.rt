@@ -6,7 +6,7 @@ ghost use Rattle.ipx_tables.specs.Listing.{listed_key};
 ghost use Rattle.ipx_tables.specs.Service.{service_key_cmp};
 ghost use Rattle.ipx_tables.specs.Sorted.{IsRising};
 ghost use Rattle.ipx_inspect.specs.ShowLine.{address_text, name_text, word_text};
-ghost use Rattle.ipx_table_dump.specs.Standing.{is_among_best};
+ghost use Rattle.ipx_table_dump.specs.StillPresent.{is_among_best};
 ghost use Rattle.ipx_table_dump.specs.TableText.{service_lines, service_offer_line};
 
 use crate::standing::is_among_best;

@@ -4,7 +4,7 @@ ghost use Rattle.std.specs.Prelude.{◌≡◌, IfOk};
 ghost use Rattle.ipx_tables.specs.Content.{content, is_young};
 ghost use Rattle.ipx_tables.specs.Listing.{listed_key};
 ghost use Rattle.ipx_tables.specs.Sorted.{IsRising};
-ghost use Rattle.ipx_table_dump.specs.Standing.{AreStanding, is_among_best};
+ghost use Rattle.ipx_table_dump.specs.StillPresent.{ArePresent, is_among_best};
 
 use ipx_tables::{Metric, Offer, Offers, Source};
 use std::alloc::{AllocError, Global};
@@ -25,7 +25,7 @@ pub fn offers_at<K: Ord + Copy, M: Metric + Copy>(
     table: &Offers<K, M>,
     now: u64,
 ) -> Result<Vec<Offer<K, M>>, AllocError>
-    ensures { IfOk result (λ v. AreStanding K.cmp (content K.cmp table.now.offers) now v.items) }
+    ensures { IfOk result (λ v. ArePresent K.cmp (content K.cmp table.now.offers) now v.items) }
 {
     let mut offers = Vec::new(alloc);
     for offer in table.offers() {

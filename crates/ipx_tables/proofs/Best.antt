@@ -12,7 +12,7 @@ use Rattle.std.proofs.lemmas.List.MinMax.{ranks_by}
 use Rattle.ipx_tables.specs.declared.source.Source.{Source}
 use Rattle.ipx_tables.specs.declared.offer.Offer.{Offer}
 use Rattle.ipx_tables.specs.Order.{IsStrictTotal}
-use Rattle.ipx_tables.specs.Content.{content, said_of, IsApart, pair_of, is_young, is_same, source_cmp}
+use Rattle.ipx_tables.specs.Content.{content, said_of, HasDistinctKeys, pair_of, is_young, is_same, source_cmp}
 use Rattle.ipx_tables.specs.Best.{metric_cmp, rank_cmp, is_better, IsBest, NoneCounts}
 use Rattle.ipx_tables.specs.OfferScan.{is_candidate, source_and_metric, offer_beats, better_of, best_from}
 use Rattle.ipx_tables.proofs.Lists.{source_total, same_equiv, found_same}
@@ -148,23 +148,23 @@ module _ {K M : Type 0} {cmp : K → K → Ordering} (o : IsTotalOrder cmp) {bef
     | true ↦ λ e g.
         let both = parts (cmp x.key key) (source_cmp x.source s) e in
         let same_metric = (some_pair (x.metric, x.heard) (m, t) g).0 in
-        let same_moment = (some_pair (x.metric, x.heard) (m, t) g).1 in
-        let counts : is_young now x.heard ≡ true = ap (is_young now) same_moment ∙ y in
+        let same_time = (some_pair (x.metric, x.heard) (m, t) g).1 in
+        let counts : is_young now x.heard ≡ true = ap (is_young now) same_time ∙ y in
         let candidate : is_candidate cmp key now x ≡ true = both_true _ _ both.0 counts in
         ap (λ v. is_better before (s, v) (source_and_metric r)) (sym same_metric) ∙ sym (as_good x.source s x.metric (source_and_metric r) both.1) ∙ b.0 candidate
     | false ↦ λ e g. beats_found os r b.1 s m t g y
   ] refl h
 
   -- it is in the table, and valid
-  abbrev pub Stands : List (Offer K M) → Offer K M → Type 0
-  Stands os r = (t : ℕ) × ((content cmp os (key, r.source) ≡ Some (r.metric, t)) × (is_young now t ≡ true))
+  abbrev pub IsPresent : List (Offer K M) → Offer K M → Type 0
+  IsPresent os r = (t : ℕ) × ((content cmp os (key, r.source) ≡ Some (r.metric, t)) × (is_young now t ≡ true))
 
   -- an earlier offer is of another pair
-  apart_other : (x : Offer K M) (os : List (Offer K M)) (p : K × Source) {v : M × ℕ} → content cmp os (pair_of x) ≡ None → content cmp os p ≡ Some v → is_same cmp (pair_of x) p ≡ false
-  apart_other x os p n h = let alike = found_same (same_equiv o) said_of os (pair_of x) p in
+  separate_other : (x : Offer K M) (os : List (Offer K M)) (p : K × Source) {v : M × ℕ} → content cmp os (pair_of x) ≡ None → content cmp os p ≡ Some v → is_same cmp (pair_of x) p ≡ false
+  separate_other x os p n h = let alike = found_same (same_equiv o) said_of os (pair_of x) p in
       elim (is_same cmp (pair_of x) p) as (λ b. is_same cmp (pair_of x) p ≡ b → b ≡ false) [ true ↦ λ e. let two = alike e in cc | false ↦ λ e. refl ] refl
 
-  pub from_found : (os : List (Offer K M)) (r : Offer K M) → IsApart (is_same cmp) os → IsFrom (is_candidate cmp key now) (offer_beats before) r os → Stands os r
+  pub from_found : (os : List (Offer K M)) (r : Offer K M) → HasDistinctKeys (is_same cmp) os → IsFrom (is_candidate cmp key now) (offer_beats before) r os → IsPresent os r
   from_found [] r a f = absurd f
   from_found (x ∷ os) r a (inl f) =
       let both = split_true _ _ f.0 in
@@ -172,20 +172,20 @@ module _ {K M : Type 0} {cmp : K → K → Ordering} (o : IsTotalOrder cmp) {bef
       let said : content cmp (x ∷ os) (key, x.source) ≡ Some (x.metric, x.heard) = ap (λ v. cond v (Some (x.metric, x.heard)) (content cmp os (key, x.source))) same in
       (x.heard, (ap (λ (v : Offer K M). content cmp (x ∷ os) (key, v.source)) f.1 ∙ said ∙ ap (λ (v : Offer K M). Some (v.metric, x.heard)) (sym f.1), both.1))
   from_found (x ∷ os) r a (inr f) = let rest = from_found os r a.1 f in
-      (rest.0, (ap (λ v. cond v (Some (x.metric, x.heard)) (content cmp os (key, r.source))) (apart_other x os (key, r.source) a.0 rest.1.0) ∙ rest.1.0, rest.1.1))
+      (rest.0, (ap (λ v. cond v (Some (x.metric, x.heard)) (content cmp os (key, r.source))) (separate_other x os (key, r.source) a.0 rest.1.0) ∙ rest.1.0, rest.1.1))
 
   pub none_found : (os : List (Offer K M)) → AllByRecursion (λ o. is_candidate cmp key now o ≡ false) os → NoneCounts (content cmp os) key now
   none_found [] n s m t h = cc
   none_found (x ∷ os) n s m t h = elim (is_same cmp (pair_of x) (key, s)) as (λ v. is_same cmp (pair_of x) (key, s) ≡ v → cond v (Some (x.metric, x.heard)) (content cmp os (key, s)) ≡ Some (m, t) → is_young now t ≡ false) [
     | true ↦ λ e g.
         let both = parts (cmp x.key key) (source_cmp x.source s) e in
-        let same_moment = (some_pair (x.metric, x.heard) (m, t) g).1 in
-        ap (is_young now) (sym same_moment) ∙ false_right _ _ both.0 n.0
+        let same_time = (some_pair (x.metric, x.heard) (m, t) g).1 in
+        ap (is_young now) (sym same_time) ∙ false_right _ _ both.0 n.0
     | false ↦ λ e g. none_found os n.1 s m t g
   ] refl h
 
   -- what a scan gives is the best
-  pub scanned : (os : List (Offer K M)) → IsApart (is_same cmp) os → (r : Option (Offer K M)) → r ≡ best_from (is_candidate cmp key now) (offer_beats before) None os → IfSome r (λ v. IsBest before (content cmp os) key now (source_and_metric v)) × IfNone r (NoneCounts (content cmp os) key now)
+  pub scanned : (os : List (Offer K M)) → HasDistinctKeys (is_same cmp) os → (r : Option (Offer K M)) → r ≡ best_from (is_candidate cmp key now) (offer_beats before) None os → IfSome r (λ v. IsBest before (content cmp os) key now (source_and_metric v)) × IfNone r (NoneCounts (content cmp os) key now)
   scanned os a None h = (tt, none_found os (best_none (is_candidate cmp key now) (offer_beats before) w os None (sym h)).1)
   scanned os a (Some r) h = elim (best_is_from (is_candidate cmp key now) (offer_beats before) w os None r (sym h)) [
     | inl none ↦ cc

@@ -12,7 +12,7 @@ use Rattle.std.proofs.lemmas.List.Elements.{All-append, All-take, All-drop, All-
 use Rattle.std.proofs.lemmas.List.Sums.{length-filter}
 use Rattle.ipx_tables.specs.declared.source.Source.{Source}
 use Rattle.ipx_tables.specs.declared.offer.Offer.{Offer}
-use Rattle.ipx_tables.specs.Content.{IsApart, is_young, still, is_same, content, heard_key, pair_cmp, pair_of}
+use Rattle.ipx_tables.specs.Content.{HasDistinctKeys, is_young, still, is_same, content, heard_key, pair_cmp, pair_of}
 use Rattle.ipx_tables.specs.Expiry.{IsOldest, NoneOldBefore}
 use Rattle.ipx_tables.specs.Marks.{IsEarliest}
 use Rattle.ipx_tables.specs.Sorted.{IsRising, IsAtKey, IsGapFor}
@@ -56,7 +56,7 @@ filter_none_old (o ∷ os) moment now none lt =
     ap (λ b. cond b (o ∷ filter (λ o. is_young now o.heard) os) (filter (λ o. is_young now o.heard) os)) (young_before moment now o.heard (none 0 o (omega arith)) lt) ∙ ap (λ l. o ∷ l) rest
 
 -- ageing before the first offer expires removes none
-module _ {K M : Type 0} {cmp : K → K → Ordering} (o : IsTotalOrder cmp) (os : List (Offer K M)) (apart : IsApart (is_same cmp) os) (moment now : ℕ) (none : NoneOldBefore moment os) (lt : now < moment) where
+module _ {K M : Type 0} {cmp : K → K → Ordering} (o : IsTotalOrder cmp) (os : List (Offer K M)) (apart : HasDistinctKeys (is_same cmp) os) (moment now : ℕ) (none : NoneOldBefore moment os) (lt : now < moment) where
   pub aged_none : (p : K × Source) → content cmp os p ≡ still now (content cmp os p)
   aged_none p = ap (λ l. content cmp l p) (sym (filter_none_old os moment now none lt)) ∙ found_filter (same_equiv o) os now apart p
 

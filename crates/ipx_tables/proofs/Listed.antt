@@ -4,7 +4,7 @@ use Rattle.std.specs.List.{Contains}
 use Rattle.std.specs.Cmp.{IsEquivalence}
 use Rattle.ipx_tables.specs.declared.source.Source.{Source}
 use Rattle.ipx_tables.specs.declared.offer.Offer.{Offer}
-use Rattle.ipx_tables.specs.Content.{said_of, found, IsApart, pair_of}
+use Rattle.ipx_tables.specs.Content.{said_of, found, HasDistinctKeys, pair_of}
 use Rattle.ipx_tables.proofs.Lists.{found_same, none_told}
 use Rattle.ipx_tables.proofs.Best.{some_pair}
 
@@ -18,7 +18,7 @@ pub record IsFound {K M : Type 0} (same : K × Source → K × Source → Bool) 
 
 module _ {K M : Type 0} {same : K × Source → K × Source → Bool} (e : IsEquivalence same) where
   -- each offer of the list is found
-  pub member_found : {B : Type 0} (told : Offer K M → B) (os : List (Offer K M)) (j : ℕ) (d : Offer K M) → IsApart same os → j < length os → found same told os (pair_of (get_or os j d)) ≡ Some (told (get_or os j d))
+  pub member_found : {B : Type 0} (told : Offer K M → B) (os : List (Offer K M)) (j : ℕ) (d : Offer K M) → HasDistinctKeys same os → j < length os → found same told os (pair_of (get_or os j d)) ≡ Some (told (get_or os j d))
   member_found told [] j d a lt = absurd (omega (arith, lt))
   member_found told (o ∷ os) zero d a lt = ap (λ b. cond b (Some (told o)) (found same told os (pair_of o))) (e.refl (pair_of o))
   member_found {B} told (o ∷ os) (suc j) d a lt =

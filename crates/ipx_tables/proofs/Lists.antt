@@ -9,7 +9,7 @@ use Rattle.std.proofs.lemmas.Cmp.{eq_by_cmp_equiv, then_total, on_total, nat_cmp
 use Rattle.ipx_tables.specs.declared.source.Source.{Source}
 use Rattle.ipx_tables.specs.declared.offer.Offer.{Offer}
 use Rattle.ipx_tables.specs.OfferScan.{IsAt}
-use Rattle.ipx_tables.specs.Content.{said_of, found, IsApart, pair_of, is_young, still, source_cmp, pair_cmp, is_same, content}
+use Rattle.ipx_tables.specs.Content.{said_of, found, HasDistinctKeys, pair_of, is_young, still, source_cmp, pair_cmp, is_same, content}
 
 module _ {K M : Type 0} {same : K × Source → K × Source → Bool} (e : IsEquivalence same) where
   at_tail : (o : Offer K M) (os : List (Offer K M)) (p : K × Source) (i : ℕ) → IsAt same (o ∷ os) p (suc i) → IsAt same os p i
@@ -33,7 +33,7 @@ module _ {K M : Type 0} {same : K × Source → K × Source → Bool} (e : IsEqu
     none_told (o ∷ os) p h = grind (arith, none_told os p)
 
     -- the offer of p is replaced
-    pub found_set : (os : List (Offer K M)) (p : K × Source) (x : Offer K M) (i : ℕ) → IsApart same os → IsAt same os p i → same (pair_of x) p ≡ true → (q : K × Source) → found same told (set os i x) q ≡ cond (same p q) (Some (told x)) (found same told os q)
+    pub found_set : (os : List (Offer K M)) (p : K × Source) (x : Offer K M) (i : ℕ) → HasDistinctKeys same os → IsAt same os p i → same (pair_of x) p ≡ true → (q : K × Source) → found same told (set os i x) q ≡ cond (same p q) (Some (told x)) (found same told os q)
     found_set [] p x i a h s q = absurd (omega (arith, h.in_range))
     found_set (o ∷ os) p x zero a h s q = grind (arith, h.here o, e.congr (pair_of o) p q, e.congr (pair_of x) p q)
     found_set (o ∷ os) p x (suc i) a h s q = grind (arith, found_set os p x i a.1 (at_tail o os p i h) s q, not_same os p (pair_of o) i (at_tail o os p i h) a.0, e.symm p (pair_of o), e.congr (pair_of o) q p, e.symm q p)
@@ -44,7 +44,7 @@ module _ {K M : Type 0} {same : K × Source → K × Source → Bool} (e : IsEqu
     found_same (o ∷ os) p q h = grind (arith, found_same os p q h, e.congr p q (pair_of o) h, e.symm p (pair_of o), e.symm q (pair_of o))
 
     -- the offer of p is removed
-    pub found_remove : (os : List (Offer K M)) (p : K × Source) (i : ℕ) → IsApart same os → IsAt same os p i → (q : K × Source) → found same told (remove os i) q ≡ cond (same p q) None (found same told os q)
+    pub found_remove : (os : List (Offer K M)) (p : K × Source) (i : ℕ) → HasDistinctKeys same os → IsAt same os p i → (q : K × Source) → found same told (remove os i) q ≡ cond (same p q) None (found same told os q)
     found_remove [] p i a h q = absurd (omega (arith, h.in_range))
     found_remove (o ∷ os) p zero a h q =
         let rest : found same told os q ≡ cond (same p q) None (found same told (o ∷ os) q) = grind (arith, h.here o, e.congr (pair_of o) p q, found_same os (pair_of o) q, none_told os (pair_of o) a.0) in
@@ -62,26 +62,26 @@ module _ {K M : Type 0} {same : K × Source → K × Source → Bool} (e : IsEqu
         rest
 
     -- only young offers are kept
-    pub told_filter : (os : List (Offer K M)) (now : ℕ) → IsApart same os → (q : K × Source) → found same told (filter (λ o. is_young now o.heard) os) q ≡ cond (is_some (still now (found same said_of os q))) (found same told os q) None
+    pub told_filter : (os : List (Offer K M)) (now : ℕ) → HasDistinctKeys same os → (q : K × Source) → found same told (filter (λ o. is_young now o.heard) os) q ≡ cond (is_some (still now (found same said_of os q))) (found same told os q) None
     told_filter [] now a q = refl
     told_filter (o ∷ os) now a q = grind (arith, told_filter os now a.1 q, found_same os (pair_of o) q, none_told os (pair_of o) a.0, said_same os (pair_of o) q, a.0)
 
   -- only young offers are kept
-  pub found_filter : (os : List (Offer K M)) (now : ℕ) → IsApart same os → (q : K × Source) → found same said_of (filter (λ o. is_young now o.heard) os) q ≡ still now (found same said_of os q)
+  pub found_filter : (os : List (Offer K M)) (now : ℕ) → HasDistinctKeys same os → (q : K × Source) → found same said_of (filter (λ o. is_young now o.heard) os) q ≡ still now (found same said_of os q)
   found_filter [] now a q = refl
   found_filter (o ∷ os) now a q = grind (arith, found_filter os now a.1 q, found_same said_of os (pair_of o) q, a.0)
 
   -- what is not found is not found after a removal
-  pub apart_remove : (os : List (Offer K M)) (p : K × Source) (i : ℕ) → IsApart same os → IsAt same os p i → IsApart same (remove os i)
-  apart_remove [] p i a h = absurd (omega (arith, h.in_range))
-  apart_remove (o ∷ os) p zero a h = a.1
-  apart_remove (o ∷ os) p (suc i) a h = (grind (arith, found_remove said_of os p i a.1 (at_tail o os p i h) (pair_of o), a.0), apart_remove os p i a.1 (at_tail o os p i h))
+  pub separate_remove : (os : List (Offer K M)) (p : K × Source) (i : ℕ) → HasDistinctKeys same os → IsAt same os p i → HasDistinctKeys same (remove os i)
+  separate_remove [] p i a h = absurd (omega (arith, h.in_range))
+  separate_remove (o ∷ os) p zero a h = a.1
+  separate_remove (o ∷ os) p (suc i) a h = (grind (arith, found_remove said_of os p i a.1 (at_tail o os p i h) (pair_of o), a.0), separate_remove os p i a.1 (at_tail o os p i h))
 
-  pub apart_filter : (os : List (Offer K M)) (now : ℕ) → IsApart same os → IsApart same (filter (λ o. is_young now o.heard) os)
-  apart_filter [] now a = tt
-  apart_filter (o ∷ os) now a = elim (is_young now o.heard) as (λ b. IsApart same (cond b (o ∷ filter (λ o. is_young now o.heard) os) (filter (λ o. is_young now o.heard) os))) [
-    | true ↦ (grind (arith, found_filter os now a.1 (pair_of o), a.0), apart_filter os now a.1)
-    | false ↦ apart_filter os now a.1
+  pub separate_filter : (os : List (Offer K M)) (now : ℕ) → HasDistinctKeys same os → HasDistinctKeys same (filter (λ o. is_young now o.heard) os)
+  separate_filter [] now a = tt
+  separate_filter (o ∷ os) now a = elim (is_young now o.heard) as (λ b. HasDistinctKeys same (cond b (o ∷ filter (λ o. is_young now o.heard) os) (filter (λ o. is_young now o.heard) os))) [
+    | true ↦ (grind (arith, found_filter os now a.1 (pair_of o), a.0), separate_filter os now a.1)
+    | false ↦ separate_filter os now a.1
   ]
 
 pub source_total : IsTotalOrder source_cmp
@@ -95,7 +95,7 @@ module _ {K : Type 0} {cmp : K → K → Ordering} (o : IsTotalOrder cmp) where
   same_equiv = eq_by_cmp_equiv pair_total
 
 -- what learning an offer does, as the list changes
-module _ {K M : Type 0} {cmp : K → K → Ordering} (o : IsTotalOrder cmp) (dead : M → Bool) (os : List (Offer K M)) (apart : IsApart (is_same cmp) os) (key : K) (source : Source) (metric : M) (now : ℕ) where
+module _ {K M : Type 0} {cmp : K → K → Ordering} (o : IsTotalOrder cmp) (dead : M → Bool) (os : List (Offer K M)) (apart : HasDistinctKeys (is_same cmp) os) (key : K) (source : Source) (metric : M) (now : ℕ) where
   -- the value of the pair is replaced
   abbrev pub told_after : {B : Type 0} → (Offer K M → B) → K × Source → Option B
   told_after told q = cond (is_same cmp (key, source) q) (cond (dead metric) None (Some (told (record { key = key; source = source; metric = metric; heard = now })))) (found (is_same cmp) told os q)

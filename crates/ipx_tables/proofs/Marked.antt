@@ -11,7 +11,7 @@ use Rattle.std.proofs.lemmas.List.Sorted.{All-permutation, length_permutation}
 use Rattle.std.proofs.lemmas.Option.{slice_get-get_or}
 use Rattle.ipx_tables.specs.declared.marks.Mark.{Mark}
 use Rattle.ipx_tables.specs.Content.{is_young}
-use Rattle.ipx_tables.specs.Marks.{AreByMoment, HaveOwnPlaces, IsNoLater, IsRightMark, is_late_for, is_late_mark, places_of, right_for, right_mark}
+use Rattle.ipx_tables.specs.Marks.{AreByTime, HaveDistinctSlots, IsNoLater, IsRightMark, is_late_for, is_late_mark, places_of, right_for, right_mark}
 use Rattle.ipx_tables.specs.SlotOrder.{is_some_young, is_young_in}
 use Rattle.ipx_tables.proofs.Trays.{filter_map_alike}
 
@@ -31,7 +31,7 @@ pub young_later : (now a b : ℕ) → a ≤ b → is_young now a ≡ true → is
 young_later now a b le young = lt-ltb (now - b) 180000 (omega (arith, le, ltb-true (now - a) 180000 young))
 
 -- the marks of expired times come first
-pub old_are_first : (marks : List Mark) (now : ℕ) → AreByMoment marks → IsPartitionedBy (λ m. not (is_young now m.moment)) marks
+pub old_are_first : (marks : List Mark) (now : ℕ) → AreByTime marks → IsPartitionedBy (λ m. not (is_young now m.moment)) marks
 old_are_first marks now up i j d le lt old =
     contra (is_young now (get_or marks i d).moment) (is_young now (get_or marks j d).moment) (young_later now (get_or marks i d).moment (get_or marks j d).moment (up i j d le lt)) old
 
@@ -99,28 +99,28 @@ came_some None is done = absurd (true≢false (sym is))
 came_some (Some a) is done = done
 
 module _ (marks : List Mark) (n : ℕ) where
-  kept_apart : (m : Mark) → (m.place ≡ n → ⊥) → not (m.place == n) ≡ true
-  kept_apart m ne = not_from_false (eqb m.place n) (ne_eqb m.place n ne)
+  kept_separate : (m : Mark) → (m.place ≡ n → ⊥) → not (m.place == n) ≡ true
+  kept_separate m ne = not_from_false (eqb m.place n) (ne_eqb m.place n ne)
 
   -- the mark of a slot is removed
-  pub mark_removed : (i : ℕ) → HaveOwnPlaces marks → i < length marks → ((d : Mark) → (get_or marks i d).place ≡ n) → filter (λ m. not (m.place == n)) marks ≡ remove marks i
+  pub mark_removed : (i : ℕ) → HaveDistinctSlots marks → i < length marks → ((d : Mark) → (get_or marks i d).place ≡ n) → filter (λ m. not (m.place == n)) marks ≡ remove marks i
   mark_removed i own lt is =
-      filter_remove (λ (m : Mark). not (m.place == n)) marks i lt (λ d. ap not (eq-eqb (get_or marks i d).place n (is d))) (λ j d low ne. kept_apart (get_or marks j d) (λ same. elim (cases_lt j i) [
+      filter_remove (λ (m : Mark). not (m.place == n)) marks i lt (λ d. ap not (eq-eqb (get_or marks i d).place n (is d))) (λ j d low ne. kept_separate (get_or marks j d) (λ same. elim (cases_lt j i) [
         | inl below ↦ own j i d below lt (same ∙ sym (is d))
-        | inr not_below ↦ own i j d (cases_apart i j ne (omega (arith, not_below))) low (is d ∙ sym same)
+        | inr not_below ↦ own i j d (cases_separate i j ne (omega (arith, not_below))) low (is d ∙ sym same)
       ]))
     where
-      cases_apart : (i j : ℕ) → (j ≡ i → ⊥) → i < j + 1 → i < j
-      cases_apart i j ne le = elim (cases_lt i j) [
+      cases_separate : (i j : ℕ) → (j ≡ i → ⊥) → i < j + 1 → i < j
+      cases_separate i j ne le = elim (cases_lt i j) [
         | inl less ↦ less
         | inr more ↦ absurd (ne (omega (arith, le, more)))
       ]
 
   pub no_mark : ((i : ℕ) (d : Mark) → i < length marks → (get_or marks i d).place ≡ n → ⊥) → filter (λ m. not (m.place == n)) marks ≡ marks
-  no_mark absent = filter_all (λ (m : Mark). not (m.place == n)) marks (λ j d lt. kept_apart (get_or marks j d) (absent j d lt))
+  no_mark absent = filter_all (λ (m : Mark). not (m.place == n)) marks (λ j d lt. kept_separate (get_or marks j d) (absent j d lt))
 
 -- a filter keeps the order
-pub by_moment_filter : (p : Mark → Bool) (marks : List Mark) → AreByMoment marks → AreByMoment (filter p marks)
+pub by_moment_filter : (p : Mark → Bool) (marks : List Mark) → AreByTime marks → AreByTime (filter p marks)
 by_moment_filter p marks up i j d le lt = elim (cases_lt i j) [
   | inl less ↦ AllPairs-filter (λ (a : Mark) (b : Mark). a.moment ≤ b.moment) p marks (λ i j d l m. up i j d (omega (arith, l)) m) i j d less lt
   | inr not_less ↦

@@ -10,7 +10,7 @@ use Rattle.std.proofs.lemmas.List.{get_or-map, get_or_append_left, get_or_defaul
 use Rattle.std.proofs.lemmas.List.Elements.{All-cons, All-filter}
 use Rattle.std.proofs.lemmas.List.Sorted.{All-permutation, IsPermutation-cons, IsPermutation-insert, IsPermutation-map, IsPermutation-refl, IsPermutation-remove, IsPermutation-sym, IsPermutation-trans, length_permutation}
 use Rattle.ipx_tables.specs.declared.marks.Mark.{Mark}
-use Rattle.ipx_tables.specs.Marks.{AreByMoment, AreMarked, HaveOwnPlaces, IsEarliest, IsNoLater, IsRightMark, places_of}
+use Rattle.ipx_tables.specs.Marks.{AreByTime, AreMarked, HaveDistinctSlots, IsEarliest, IsNoLater, IsRightMark, places_of}
 use Rattle.ipx_tables.specs.SlotOrder.{is_young_in, lying_in}
 use Rattle.ipx_tables.proofs.Marked.{all_passed, all_places, by_moment_filter, filter_remove, not_true, places_all}
 use Rattle.ipx_tables.proofs.Permuted.{permuted_filter}
@@ -20,8 +20,8 @@ use Rattle.ipx_tables.proofs.Trays.{AreReal, filter_map_alike, lying_is, many_ly
 abbrev pub others : ℕ → List Mark → List Mark
 others n marks = filter (λ m. not (m.place == n)) marks
 
-pub others_apart : (n : ℕ) (marks : List Mark) → All (λ m. m.place ≡ n → ⊥) (others n marks)
-others_apart n marks j d lt same =
+pub others_separate : (n : ℕ) (marks : List Mark) → All (λ m. m.place ≡ n → ⊥) (others n marks)
+others_separate n marks j d lt same =
     let differ : eqb (get_or (others n marks) j d).place n ≡ false = not_true _ (all_passed (λ (m : Mark). not (m.place == n)) marks j d lt) in
     true≢false (sym (eq-eqb (get_or (others n marks) j d).place n same) ∙ differ)
 
@@ -29,23 +29,23 @@ module _ {X : Type 0} (moment : X → ℕ) where
   pub no_marks : (slots : List X) (used : List ℕ) (marks : List Mark) (room : ℕ) → slots ≡ [] → used ≡ [] → marks ≡ [] → AreMarked moment slots used marks room
   no_marks slots used marks room none no_used unmarked = record {
     each = rw (no_used, unmarked) (IsPermutation-refl []);
-    by_moment = λ i j d le lt. absurd (omega (arith, ap length unmarked, lt));
+    by_time = λ i j d le lt. absurd (omega (arith, ap length unmarked, lt));
     no_later = λ j d lt. absurd (omega (arith, ap length unmarked, lt));
     fits = omega (arith, ap length none);
   }
 
   -- a mark that is inserted
-  pub put_marked : (slots : List X) (used : List ℕ) (rest new : List Mark) (m : Mark) (room : ℕ) → IsPermutation used (m.place ∷ places_of rest) → IsPermutation (m ∷ rest) new → AreByMoment new → IsNoLater moment slots m → All (IsNoLater moment slots) rest → length slots ≤ room → AreMarked moment slots used new room
+  pub put_marked : (slots : List X) (used : List ℕ) (rest new : List Mark) (m : Mark) (room : ℕ) → IsPermutation used (m.place ∷ places_of rest) → IsPermutation (m ∷ rest) new → AreByTime new → IsNoLater moment slots m → All (IsNoLater moment slots) rest → length slots ≤ room → AreMarked moment slots used new room
   put_marked slots used rest new m room each put up one all fits = record {
     each = IsPermutation-trans used (places_of (m ∷ rest)) (places_of new) each (IsPermutation-map (λ (m : Mark). m.place) (m ∷ rest) new put);
-    by_moment = up;
+    by_time = up;
     no_later = All-permutation (IsNoLater moment slots) (m ∷ rest) new put (All-cons (IsNoLater moment slots) m rest one all);
     fits = fits;
   }
 
   -- an item that is put into a slot does not affect the marks of other slots
-  pub apart_no_later : (slots : List X) (marks : List Mark) (number : ℕ) (x : X) → All (λ m. m.place ≡ number → ⊥) marks → All (IsNoLater moment slots) marks → All (IsNoLater moment (set slots number x)) marks
-  apart_no_later slots marks number x apart all j d lt e =
+  pub separate_no_later : (slots : List X) (marks : List Mark) (number : ℕ) (x : X) → All (λ m. m.place ≡ number → ⊥) marks → All (IsNoLater moment slots) marks → All (IsNoLater moment (set slots number x)) marks
+  separate_no_later slots marks number x apart all j d lt e =
       omega (arith, all j d lt e, ap moment (get_or-set_other slots number (get_or marks j d).place x e (apart j d lt)))
 
   pub own_no_later : (slots : List X) (m : Mark) (number : ℕ) (x : X) → number < length slots → m.place ≡ number → m.moment ≡ moment x → IsNoLater moment (set slots number x) m
@@ -65,12 +65,12 @@ module _ {X : Type 0} (moment : X → ℕ) where
     pub longer_marked : AreReal slots used → (x : X) (more : ℕ) → length slots + 1 ≤ more → AreMarked moment (slots ++ x ∷ []) used marks more
     longer_marked real x more fits = record {
       each = are.each;
-      by_moment = are.by_moment;
+      by_time = are.by_time;
       no_later = λ j d lt e. omega (arith, are.no_later j d lt e, ap moment (get_or_append_left slots (x ∷ []) e (get_or marks j d).place (marks_real real j d lt)));
       fits = omega (arith, fits, length_push slots x);
     }
 
-    pub own_places : IsDistinct eqb used → HaveOwnPlaces marks
+    pub own_places : IsDistinct eqb used → HaveDistinctSlots marks
     own_places distinct i j d lt within same =
         let moved : IsDistinct eqb (places_of marks) = IsDistinct-IsPermutation eqb nat_eq_equiv.symm used (places_of marks) are.each distinct in
         let at : (k : ℕ) → k < length marks → get_or (places_of marks) k d.place ≡ (get_or marks k d).place = λ k low. get_or-map (λ (m : Mark). m.place) marks k d d.place low in
@@ -79,10 +79,10 @@ module _ {X : Type 0} (moment : X → ℕ) where
         true≢false (sym (eq-eqb (get_or (places_of marks) i d.place) (get_or (places_of marks) j d.place) alike) ∙ differ)
 
     -- marks that are removed with their slot numbers
-    pub fewer_marked : (left : List ℕ) (rest : List Mark) (more : ℕ) → IsPermutation left (places_of rest) → AreByMoment rest → All (IsNoLater moment slots) rest → room ≤ more → AreMarked moment slots left rest more
+    pub fewer_marked : (left : List ℕ) (rest : List Mark) (more : ℕ) → IsPermutation left (places_of rest) → AreByTime rest → All (IsNoLater moment slots) rest → room ≤ more → AreMarked moment slots left rest more
     fewer_marked left rest more each up all fits = record {
       each = each;
-      by_moment = up;
+      by_time = up;
       no_later = all;
       fits = omega (arith, are.fits, fits);
     }
@@ -101,33 +101,33 @@ module _ {X : Type 0} (moment : X → ℕ) where
       pub many_others : length (others number marks) + 1 ≡ length used
       many_others = omega (arith, length_permutation used (number ∷ places_of (others number marks)) each_but_one, length-map (others number marks) (λ m. m.place))
 
-      pub others_by_moment : AreByMoment (others number marks)
-      others_by_moment = by_moment_filter (λ m. not (m.place == number)) marks are.by_moment
+      pub others_by_moment : AreByTime (others number marks)
+      others_by_moment = by_moment_filter (λ m. not (m.place == number)) marks are.by_time
 
       pub unmarked : (more : ℕ) → room ≤ more → AreMarked moment slots (remove used i) (others number marks) more
       unmarked more fits = fewer_marked (remove used i) (others number marks) more rest_each others_by_moment (All-filter (λ m. not (m.place == number)) (IsNoLater moment slots) marks are.no_later) fits
 
       -- another item replaces that of a slot, with a mark of its own
-      pub set_marked : (new : List Mark) (m : Mark) (x : X) (more : ℕ) → number < length slots → m.place ≡ number → m.moment ≡ moment x → IsPermutation (m ∷ others number marks) new → AreByMoment new → room ≤ more → AreMarked moment (set slots number x) used new more
+      pub set_marked : (new : List Mark) (m : Mark) (x : X) (more : ℕ) → number < length slots → m.place ≡ number → m.moment ≡ moment x → IsPermutation (m ∷ others number marks) new → AreByTime new → room ≤ more → AreMarked moment (set slots number x) used new more
       set_marked new m x more there same at put up fits =
           put_marked (set slots number x) used (others number marks) new m more (subst (λ n. IsPermutation used (n ∷ places_of (others number marks))) (sym same) each_but_one) put up (own_no_later slots m number x there same at)
-          (apart_no_later slots (others number marks) number x (others_apart number marks) (All-filter (λ m. not (m.place == number)) (IsNoLater moment slots) marks are.no_later)) (omega (arith, are.fits, fits, length-set slots number x))
+          (separate_no_later slots (others number marks) number x (others_separate number marks) (All-filter (λ m. not (m.place == number)) (IsNoLater moment slots) marks are.no_later)) (omega (arith, are.fits, fits, length-set slots number x))
 
     -- an item is put into a slot whose number was not in use
-    pub insert_marked : (i number : ℕ) (new : List Mark) (m : Mark) (x : X) (more : ℕ) → number < length slots → ((j e : ℕ) → j < length used → get_or used j e ≡ number → ⊥) → m.place ≡ number → m.moment ≡ moment x → IsPermutation (m ∷ marks) new → AreByMoment new → room ≤ more → AreMarked moment (set slots number x) (insert used i number) new more
+    pub insert_marked : (i number : ℕ) (new : List Mark) (m : Mark) (x : X) (more : ℕ) → number < length slots → ((j e : ℕ) → j < length used → get_or used j e ≡ number → ⊥) → m.place ≡ number → m.moment ≡ moment x → IsPermutation (m ∷ marks) new → AreByTime new → room ≤ more → AreMarked moment (set slots number x) (insert used i number) new more
     insert_marked i number new m x more there unused same at put up fits =
         let more_each : IsPermutation (insert used i number) (number ∷ places_of marks) = IsPermutation-trans (insert used i number) (number ∷ used) (number ∷ places_of marks) (IsPermutation-sym (number ∷ used) (insert used i number) (IsPermutation-insert used i number)) (IsPermutation-cons number used (places_of marks) are.each) in
         put_marked (set slots number x) (insert used i number) marks new m more (subst (λ n. IsPermutation (insert used i number) (n ∷ places_of marks)) (sym same) more_each) put up (own_no_later slots m number x there same at)
-        (apart_no_later slots marks number x (marks_all (λ n. n ≡ number → ⊥) (λ j e lt. unused j e lt)) are.no_later) (omega (arith, are.fits, fits, length-set slots number x))
+        (separate_no_later slots marks number x (marks_all (λ n. n ≡ number → ⊥) (λ j e lt. unused j e lt)) are.no_later) (omega (arith, are.fits, fits, length-set slots number x))
 
     -- the marks of expired items are removed with their slot numbers
-    pub young_marked : (now : ℕ) (new : List Mark) (more : ℕ) → IsPermutation (filter (is_young_in moment now slots) (places_of marks)) (places_of new) → AreByMoment new → All (IsNoLater moment slots) new → room ≤ more → AreMarked moment slots (filter (is_young_in moment now slots) used) new more
+    pub young_marked : (now : ℕ) (new : List Mark) (more : ℕ) → IsPermutation (filter (is_young_in moment now slots) (places_of marks)) (places_of new) → AreByTime new → All (IsNoLater moment slots) new → room ≤ more → AreMarked moment slots (filter (is_young_in moment now slots) used) new more
     young_marked now new more each up all fits =
         let p : ℕ → Bool = is_young_in moment now slots in
         fewer_marked (filter p used) new more (IsPermutation-trans (filter p used) (filter p (places_of marks)) (places_of new) (permuted_filter p used (places_of marks) are.each) each) up all fits
 
     -- marks that are reordered, or corrected
-    pub settled_marked : (new : List Mark) (more : ℕ) → IsPermutation (places_of marks) (places_of new) → AreByMoment new → All (IsNoLater moment slots) new → room ≤ more → AreMarked moment slots used new more
+    pub settled_marked : (new : List Mark) (more : ℕ) → IsPermutation (places_of marks) (places_of new) → AreByTime new → All (IsNoLater moment slots) new → room ≤ more → AreMarked moment slots used new more
     settled_marked new more each up all fits = fewer_marked used new more (IsPermutation-trans used (places_of marks) (places_of new) are.each each) up all fits
 
     -- if there is no mark, there is no item
@@ -153,7 +153,7 @@ module _ {X : Type 0} (moment : X → ℕ) where
       all_later =
           let P : ℕ → Type 0 = λ n. (e : X) → first.moment ≤ moment (get_or slots n e) in
           let head : (d : Mark) → (get_or marks 0 d).moment ≡ first.moment = λ d. ap (λ (m : Mark). m.moment) (get_or_default marks 0 d first some ∙ sym is) in
-          All-permutation P (places_of marks) used (IsPermutation-sym used (places_of marks) are.each) (all_places P marks (λ j d lt e. omega (arith, are.no_later j d lt e, are.by_moment 0 j d (omega arith) lt, head d)))
+          All-permutation P (places_of marks) used (IsPermutation-sym used (places_of marks) are.each) (all_places P marks (λ j d lt e. omega (arith, are.no_later j d lt e, are.by_time 0 j d (omega arith) lt, head d)))
 
       -- if the first mark is right, the item in its slot is the earliest
       pub first_earliest : AreReal slots used → IsRightMark moment slots (get_or marks 0 first) → (x : X) → x ≡ get_or slots first.place x → IsEarliest moment (lying_in slots used) x

@@ -7,7 +7,7 @@ use Rattle.std.proofs.lemmas.Bool.{cases_lt}
 use Rattle.std.proofs.lemmas.List.{get_or_default}
 use Rattle.ipx_tables.specs.declared.source.Source.{Source}
 use Rattle.ipx_tables.specs.declared.offer.Offer.{Offer}
-use Rattle.ipx_tables.specs.Content.{content, said_of, found, pair_of, pair_cmp, is_same, IsApart}
+use Rattle.ipx_tables.specs.Content.{content, said_of, found, pair_of, pair_cmp, is_same, HasDistinctKeys}
 use Rattle.ipx_tables.specs.OfferScan.{IsAt}
 use Rattle.ipx_tables.specs.Sorted.{IsRising, IsAtKey, IsGapFor}
 use Rattle.ipx_tables.proofs.Lists.{same_equiv, pair_total}
@@ -23,11 +23,11 @@ module _ {K M : Type 0} {cmp : K → K → Ordering} (o : IsTotalOrder cmp) wher
   pub tail_rising : (x : Offer K M) (xs : List (Offer K M)) → IsRising (pair_cmp cmp) pair_of (x ∷ xs) → IsRising (pair_cmp cmp) pair_of xs
   tail_rising x xs rising i j d lt within = rising (suc i) (suc j) d (omega arith) (omega (arith, within))
 
-  pub apart_rising : (os : List (Offer K M)) → IsRising (pair_cmp cmp) pair_of os → IsApart (is_same cmp) os
-  apart_rising [] rising = tt
-  apart_rising (x ∷ xs) rising = (
+  pub separate_rising : (os : List (Offer K M)) → IsRising (pair_cmp cmp) pair_of os → HasDistinctKeys (is_same cmp) os
+  separate_rising [] rising = tt
+  separate_rising (x ∷ xs) rising = (
     none_found (same_equiv o) xs (pair_of x) (λ j d lt. ap is_eq ((pair_total o).antisymm (pair_of (get_or xs j d)) (pair_of x) ∙ ap ordering_reverse (rising 0 (suc j) d (omega arith) (omega (arith, lt))))),
-    apart_rising xs (tail_rising x xs rising),
+    separate_rising xs (tail_rising x xs rising),
   )
 
   -- nothing is said of a pair that has a gap
@@ -43,7 +43,7 @@ module _ {K M : Type 0} {cmp : K → K → Ordering} (o : IsTotalOrder cmp) wher
 
   -- an offer that was read is the one of its key and source
   pub said_at : (os : List (Offer K M)) → IsRising (pair_cmp cmp) pair_of os → (i : ℕ) (x : Offer K M) → i < length os → x ≡ get_or os i x → content cmp os (pair_of x) ≡ Some (said_of x)
-  said_at os rising i x within read = subst (λ (v : Offer K M). content cmp os (pair_of v) ≡ Some (said_of v)) (sym read) (member_found (same_equiv o) said_of os i x (apart_rising os rising) within)
+  said_at os rising i x within read = subst (λ (v : Offer K M). content cmp os (pair_of v) ≡ Some (said_of v)) (sym read) (member_found (same_equiv o) said_of os i x (separate_rising os rising) within)
 
   -- it is at its own index
   pub at_itself : (os : List (Offer K M)) (i : ℕ) (x : Offer K M) → i < length os → x ≡ get_or os i x → IsAt (is_same cmp) os (pair_of x) i

@@ -133,7 +133,7 @@ module _ {X : Type 0} where
         ])
         ∙ ap (λ l. set l i x) (sym (lying_is slots numbers x real))
 
-module _ {X : Type 0} (slots : List X) (used free : List ℕ) (used_room free_room : ℕ) (are : AreSlots slots used free used_room free_room) where
+module _ {X : Type 0} (slots : List X) (used free : List ℕ) (used_space free_space : ℕ) (are : AreSlots slots used free used_space free_space) where
   pub used_real : AreReal slots used
   used_real = All-front (λ n. n < length slots) used free are.real
 
@@ -198,7 +198,7 @@ module _ {X : Type 0} (slots : List X) (used free : List ℕ) (used_room free_ro
   some_free few = omega (arith, few, are.all)
 
   -- reordered numbers are those of the same slots
-  pub moved_slots : (new_used new_free : List ℕ) (new_slots : List X) (a b : ℕ) → IsPermutation (used ++ free) (new_used ++ new_free) → length new_slots ≡ length slots → used_room ≤ a → free_room ≤ b → AreSlots new_slots new_used new_free a b
+  pub moved_slots : (new_used new_free : List ℕ) (new_slots : List X) (a b : ℕ) → IsPermutation (used ++ free) (new_used ++ new_free) → length new_slots ≡ length slots → used_space ≤ a → free_space ≤ b → AreSlots new_slots new_used new_free a b
   moved_slots new_used new_free new_slots a b moved long more_used more_free =
       let many = length_permutation (used ++ free) (new_used ++ new_free) moved in
       record {

@@ -8,18 +8,18 @@ use Rattle.std.specs.declared.cmp.Ordering.TheVariants.{Less, Equal, Greater}
 use Rattle.std.proofs.lemmas.Cmp.{tied_itself}
 use Rattle.std.proofs.lemmas.Map.Lookups.{exact_unsigned, exact_bytes, exact_pairs}
 use Rattle.ipx_tables.specs.declared.source.Source.{Source}
-use Rattle.ipx_tables.specs.Order.{IsStrictTotal, TellsApart, strict_from_cmp}
+use Rattle.ipx_tables.specs.Order.{IsStrictTotal, EqualOnlyIfSame, strict_from_cmp}
 use Rattle.ipx_tables.specs.Content.{Content, source_cmp}
 use Rattle.ipx_tables.specs.Best.{metric_cmp, rank_cmp, is_better, IsBest}
 use Rattle.ipx_tables.specs.Sorted.{IsRising}
 use Rattle.ipx_tables.specs.Listing.{listed_key, IsListing}
 use Rattle.ipx_tables.proofs.Best.{metric_equal, rank_total}
 
-pub source_exact : TellsApart source_cmp
+pub source_exact : EqualOnlyIfSame source_cmp
 source_exact a b h = ap (λ (p : ℕ × List ℕ). let s : Source = record { port = p.0; neighbour = record { 0 = p.1 } } in s) (exact_pairs nat_cmp (slice_cmp nat_cmp) exact_unsigned exact_bytes (a.port, a.neighbour.0) (b.port, b.neighbour.0) h)
 
 module _ {M : Type 0} {before : M → M → Bool} (strict : IsStrictTotal before) where
-  pub rank_exact : TellsApart (rank_cmp before)
+  pub rank_exact : EqualOnlyIfSame (rank_cmp before)
   rank_exact a b h = ap (λ (p : M × Source). (p.1, p.0)) (exact_pairs (metric_cmp before) source_cmp (metric_equal strict) source_exact (a.1, a.0) (b.1, b.0) h)
 
   pub rank_strict : IsStrictTotal (is_better before)
@@ -84,7 +84,7 @@ module _ {X K : Type 0} {cmp : K → K → Ordering} (o : IsTotalOrder cmp) (key
       let rest : xs ≡ ys = rising_same xs ys (tail_rising x xs up_x) (tail_rising y ys up_y) (tail_in x y xs ys up_x same h) (tail_in y x ys xs up_y (sym same) k) in
       cc
 
-module _ {K M : Type 0} {before : M → M → Bool} (strict : IsStrictTotal before) {cmp : K → K → Ordering} (o : IsTotalOrder cmp) (exact : TellsApart cmp) (c : Content K M) (now : ℕ) where
+module _ {K M : Type 0} {before : M → M → Bool} (strict : IsStrictTotal before) {cmp : K → K → Ordering} (o : IsTotalOrder cmp) (exact : EqualOnlyIfSame cmp) (c : Content K M) (now : ℕ) where
   -- two items of one key are equal
   one_item : (x y : K × Source × M) → cmp y.0 x.0 ≡ Equal → IsBest before c x.0 now (x.1, x.2) → IsBest before c y.0 now (y.1, y.2) → y ≡ x
   one_item x y ties is_x is_y =

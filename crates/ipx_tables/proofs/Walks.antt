@@ -15,7 +15,7 @@ use Rattle.std.proofs.lemmas.List.MinMax.{ranks_by}
 use Rattle.ipx_tables.specs.declared.source.Source.{Source}
 use Rattle.ipx_tables.specs.declared.offer.Offer.{Offer}
 use Rattle.ipx_tables.specs.Order.{IsStrictTotal}
-use Rattle.ipx_tables.specs.Content.{content, heard_key, said_of, IsApart, is_same, is_young, pair_cmp, pair_of, source_cmp}
+use Rattle.ipx_tables.specs.Content.{content, heard_key, said_of, HasDistinctKeys, is_same, is_young, pair_cmp, pair_of, source_cmp}
 use Rattle.ipx_tables.specs.Best.{is_better, NoneCounts}
 use Rattle.ipx_tables.specs.OfferScan.{better_of, offer_beats}
 use Rattle.ipx_tables.specs.Sorted.{IsRising, IsAtKey}
@@ -24,7 +24,7 @@ use Rattle.ipx_tables.specs.Walk.{IsLone, item_of, item_beats, put_first, bests_
 use Rattle.ipx_tables.proofs.Lists.{same_equiv}
 use Rattle.ipx_tables.proofs.Best.{as_good, rank_total}
 use Rattle.ipx_tables.proofs.Listed.{member_found, found_member}
-use Rattle.ipx_tables.proofs.Ordered.{apart_rising, tail_rising}
+use Rattle.ipx_tables.proofs.Ordered.{separate_rising, tail_rising}
 
 pub is_equal : (r : Ordering) → is_eq r ≡ true → r ≡ Equal
 is_equal Less h = cc
@@ -86,8 +86,8 @@ module _ {K M : Type 0} {cmp : K → K → Ordering} (o : IsTotalOrder cmp) {bef
   put_kept : (a b : K × Source × M) (bs : List (K × Source × M)) → is_eq (cmp a.0 b.0) ≡ true → item_beats cmp before b a ≡ false → put_first cmp before a (b ∷ bs) ≡ a ∷ bs
   put_kept a b bs tie lost = ap (λ t. cond t (cond (item_beats cmp before b a) (b ∷ bs) (a ∷ bs)) (a ∷ b ∷ bs)) tie ∙ ap (λ t. cond t (b ∷ bs) (a ∷ bs)) lost
 
-  put_apart : (a b : K × Source × M) (bs : List (K × Source × M)) → is_eq (cmp a.0 b.0) ≡ false → put_first cmp before a (b ∷ bs) ≡ a ∷ b ∷ bs
-  put_apart a b bs other = ap (λ t. cond t (cond (item_beats cmp before b a) (b ∷ bs) (a ∷ bs)) (a ∷ b ∷ bs)) other
+  put_separate : (a b : K × Source × M) (bs : List (K × Source × M)) → is_eq (cmp a.0 b.0) ≡ false → put_first cmp before a (b ∷ bs) ≡ a ∷ b ∷ bs
+  put_separate a b bs other = ap (λ t. cond t (cond (item_beats cmp before b a) (b ∷ bs) (a ∷ bs)) (a ∷ b ∷ bs)) other
 
   -- what beats an item also beats what that item beats
   beats_through : (r x h : K × Source × M) → item_beats cmp before r x ≡ true → item_beats cmp before x h ≡ true → item_beats cmp before r h ≡ true
@@ -115,9 +115,9 @@ module _ {K M : Type 0} {cmp : K → K → Ordering} (o : IsTotalOrder cmp) {bef
             | false ↦ λ under. put_kept h x rs tie under ∙ sym (put_kept h r rs (along ∙ same) (w.chain r x h lost under))
           ] refl
         ] refl
-        | false ↦ λ other. ap (put_first cmp before h) (put_apart x r rs other) ∙ elim (item_beats cmp before x h) as (λ b. item_beats cmp before x h ≡ b → put_first cmp before h (x ∷ r ∷ rs) ≡ put_first cmp before (cond b x h) (r ∷ rs)) [
-          | true ↦ λ over. put_beaten h x (r ∷ rs) tie over ∙ sym (put_apart x r rs other)
-          | false ↦ λ under. put_kept h x (r ∷ rs) tie under ∙ sym (put_apart h r rs (along ∙ other))
+        | false ↦ λ other. ap (put_first cmp before h) (put_separate x r rs other) ∙ elim (item_beats cmp before x h) as (λ b. item_beats cmp before x h ≡ b → put_first cmp before h (x ∷ r ∷ rs) ≡ put_first cmp before (cond b x h) (r ∷ rs)) [
+          | true ↦ λ over. put_beaten h x (r ∷ rs) tie over ∙ sym (put_separate x r rs other)
+          | false ↦ λ under. put_kept h x (r ∷ rs) tie under ∙ sym (put_separate h r rs (along ∙ other))
         ] refl
       ] refl
 
@@ -152,7 +152,7 @@ module _ {K M : Type 0} {cmp : K → K → Ordering} (o : IsTotalOrder cmp) {bef
     -- an item whose key no other has goes first
     put_above : (a : K × Source × M) (bs : List (K × Source × M)) → AllByRecursion (λ z. is_eq (cmp a.0 z.0) ≡ false) bs → put_first cmp before a bs ≡ a ∷ bs
     put_above a [] all = refl
-    put_above a (b ∷ bs) all = put_apart a b bs all.0
+    put_above a (b ∷ bs) all = put_separate a b bs all.0
 
     module _ (os : List (Offer K M)) (rising : IsRising (pair_cmp cmp) pair_of os) (at : ℕ) (x : Offer K M) (within : at < length os) (read : x ≡ get_or os at x) where
       step : bests (drop at os) ≡ cond (is_young now x.heard) (put_first cmp before (item_of x) (bests (drop (at + 1) os))) (bests (drop (at + 1) os))
@@ -367,11 +367,11 @@ module _ {K M : Type 0} {cmp : K → K → Ordering} (o : IsTotalOrder cmp) {bef
 
     -- the walk gives the listing
     module _ (os : List (Offer K M)) (rising : IsRising (pair_cmp cmp) pair_of os) where
-      apart : IsApart (is_same cmp) os
-      apart = apart_rising o os rising
+      apart : HasDistinctKeys (is_same cmp) os
+      apart = separate_rising o os rising
 
-      abbrev Stands : K × Source × M → Type 0
-      Stands item = (t : ℕ) × ((content cmp os (item.0, item.1) ≡ Some (item.2, t)) × (is_young now t ≡ true))
+      abbrev IsPresent : K × Source × M → Type 0
+      IsPresent item = (t : ℕ) × ((content cmp os (item.0, item.1) ≡ Some (item.2, t)) × (is_young now t ≡ true))
 
       -- each item is a valid offer
       pub walked : (P : K × Source × M → Type 0) → ((j : ℕ) (d : Offer K M) → j < length os → is_young now (get_or os j d).heard ≡ true → P (item_of (get_or os j d))) → All P (bests os)
@@ -381,8 +381,8 @@ module _ {K M : Type 0} {cmp : K → K → Ordering} (o : IsTotalOrder cmp) {bef
       pub walked_as_heard : All (λ item. heard_key cmp os (item.0, item.1) ≡ Some item.0) (bests os)
       walked_as_heard = walked (λ item. heard_key cmp os (item.0, item.1) ≡ Some item.0) (λ j d lt young. member_found (same_equiv o) (λ (x : Offer K M). x.key) os j d apart lt)
 
-      stands : All Stands (bests os)
-      stands = walked Stands (λ j d lt young. ((get_or os j d).heard, (member_found (same_equiv o) said_of os j d apart lt, young)))
+      stands : All IsPresent (bests os)
+      stands = walked IsPresent (λ j d lt young. ((get_or os j d).heard, (member_found (same_equiv o) said_of os j d apart lt, young)))
 
       least : (k : ℕ) (d : K × Source × M) → k < length (bests os) → (source : Source) (metric : M) (t : ℕ) → content cmp os ((get_or (bests os) k d).0, source) ≡ Some (metric, t) → is_young now t ≡ true → is_better before (source, metric) ((get_or (bests os) k d).1, (get_or (bests os) k d).2) ≡ false
       least k d lt source metric t said young =

@@ -45,9 +45,9 @@ found same told [] p = None
 found same told (o ∷ os) p = cond (same (pair_of o) p) (Some (told o)) (found same told os p)
 
 -- no two offers have one key and source
-abbrev pub IsApart : {K M : Type 0} → (K × Source → K × Source → Bool) → List (Offer K M) → Type 0
-IsApart same [] = Unit {0}
-IsApart same (o ∷ os) = (found same said_of os (pair_of o) ≡ None) × IsApart same os
+abbrev pub HasDistinctKeys : {K M : Type 0} → (K × Source → K × Source → Bool) → List (Offer K M) → Type 0
+HasDistinctKeys same [] = Unit {0}
+HasDistinctKeys same (o ∷ os) = (found same said_of os (pair_of o) ≡ None) × HasDistinctKeys same os
 
 module _ {K : Type 0} (cmp : K → K → Ordering) where
   -- by key, and then by source
@@ -79,7 +79,7 @@ module _ {K : Type 0} (cmp : K → K → Ordering) where
 
   -- no key and source is listed twice, and there are at most `most` offers
   pub record IsTable {M : Type 0} (t : Table K M) : Type 0 where
-    pub apart : IsApart is_same t.offers
+    pub apart : HasDistinctKeys is_same t.offers
     pub within : length t.offers ≤ t.most
 
 -- the content after old offers were removed

@@ -10,12 +10,12 @@ abbrev pub places_of : List Mark → List ℕ
 places_of marks = map (λ m. m.place) marks
 
 -- no mark is earlier than the one before it
-abbrev pub AreByMoment : List Mark → Type 0
-AreByMoment marks = IsNonDecreasingBy (λ m. m.moment) marks
+abbrev pub AreByTime : List Mark → Type 0
+AreByTime marks = IsNonDecreasingBy (λ m. m.moment) marks
 
 -- no two marks are of one slot
-abbrev pub HaveOwnPlaces : List Mark → Type 0
-HaveOwnPlaces marks = (i j : ℕ) (d : Mark) → i < j → j < length marks
+abbrev pub HaveDistinctSlots : List Mark → Type 0
+HaveDistinctSlots marks = (i j : ℕ) (d : Mark) → i < j → j < length marks
     → (slice_index_or marks i d).place ≡ (slice_index_or marks j d).place → ⊥
 
 module _ {X : Type 0} (moment : X → ℕ) where
@@ -50,7 +50,7 @@ module _ {X : Type 0} (moment : X → ℕ) where
     -- there is space for a mark of each slot
     pub record AreMarked (used : List ℕ) (marks : List Mark) (room : ℕ) : Type 0 where
       pub each : IsPermutation used (places_of marks)
-      pub by_moment : AreByMoment marks
+      pub by_time : AreByTime marks
       pub no_later : All IsNoLater marks
       pub fits : length slots ≤ room
 

@@ -13,10 +13,10 @@ pub record IsStrictTotal {M : Type 0} (before : M → M → Bool) : Type 0 where
   pub total : (x y : M) → before x y ≡ false → before y x ≡ false → x ≡ y
 
 -- no two different values compare as equal
-abbrev pub TellsApart : {K : Type 0} → (K → K → Ordering) → Type 0
-TellsApart {K} cmp = (a b : K) → cmp a b ≡ Equal → a ≡ b
+abbrev pub EqualOnlyIfSame : {K : Type 0} → (K → K → Ordering) → Type 0
+EqualOnlyIfSame {K} cmp = (a b : K) → cmp a b ≡ Equal → a ≡ b
 
-module _ {M : Type 0} {R : M → M → Ordering} (o : IsTotalOrder R) (exact : TellsApart R) where
+module _ {M : Type 0} {R : M → M → Ordering} (o : IsTotalOrder R) (exact : EqualOnlyIfSame R) where
   is_less : (r : Ordering) → is_lt r ≡ true → r ≡ Less
   is_less Less h = refl
   is_less Equal h = cc

@@ -8,13 +8,13 @@ use Rattle.std.proofs.lemmas.Cmp.{nat_cmp_total, on_total, then_total}
 use Rattle.std.proofs.lemmas.Map.Lookups.{exact_unsigned, exact_pairs}
 use Rattle.ipx_wire.specs.declared.address.Network.{Network}
 use Rattle.ipx_tables.specs.declared.route.RouteMetric.{RouteMetric}
-use Rattle.ipx_tables.specs.Order.{IsStrictTotal, TellsApart, strict_from_cmp}
+use Rattle.ipx_tables.specs.Order.{IsStrictTotal, EqualOnlyIfSame, strict_from_cmp}
 
 -- by number
 abbrev pub network_cmp : Network → Network → Ordering
 network_cmp = on (λ n. n.0) nat_cmp
 
-pub network_exact : TellsApart network_cmp
+pub network_exact : EqualOnlyIfSame network_cmp
 network_exact a b h =
     ap (λ (n : ℕ). let network : Network = record { 0 = n } in network)
     (exact_unsigned a.0 b.0 h)
@@ -35,7 +35,7 @@ route_dead m = nat_le 16 m.hops
 abbrev pub route_one_more : RouteMetric → RouteMetric
 route_one_more m = record { ticks = m.ticks; hops = min (m.hops + 1) 16 }
 
-route_exact : TellsApart route_cmp
+route_exact : EqualOnlyIfSame route_cmp
 route_exact a b h =
     ap (λ (p : ℕ × ℕ). let m : RouteMetric = record { ticks = p.0; hops = p.1 } in m)
     (exact_pairs nat_cmp nat_cmp exact_unsigned exact_unsigned

@@ -10,13 +10,13 @@ use Rattle.std.proofs.lemmas.Map.Lookups.{exact_unsigned, exact_bytes, exact_pai
 use Rattle.ipx_wire.specs.declared.address.Address.{Address}
 use Rattle.ipx_tables.specs.declared.service.ServiceKey.{ServiceKey}
 use Rattle.ipx_tables.specs.declared.service.ServiceMetric.{ServiceMetric}
-use Rattle.ipx_tables.specs.Order.{IsStrictTotal, TellsApart, strict_from_cmp}
+use Rattle.ipx_tables.specs.Order.{IsStrictTotal, EqualOnlyIfSame, strict_from_cmp}
 
 -- by type, and then by the bytes of the name
 abbrev pub service_key_cmp : ServiceKey → ServiceKey → Ordering
 service_key_cmp a b = ordering_then (nat_cmp a.kind b.kind) (slice_cmp nat_cmp a.name b.name)
 
-pub service_key_exact : TellsApart service_key_cmp
+pub service_key_exact : EqualOnlyIfSame service_key_cmp
 service_key_exact a b h =
     ap (λ (p : ℕ × List ℕ).
     let key : ServiceKey = record { kind = p.0; name = p.1 } in key)
@@ -57,7 +57,7 @@ whole p =
       };
     }
 
-service_exact : TellsApart service_cmp
+service_exact : EqualOnlyIfSame service_cmp
 service_exact a b h =
     ap whole
     (exact_pairs nat_cmp _ exact_unsigned

@@ -15,13 +15,13 @@ lying_in (x ∷ xs) numbers = map (λ n. slice_index_or (x ∷ xs) n x) numbers
 
 -- each slot number is listed once, either as in use or as free, and both lists have space for all slot
 -- numbers
-pub record AreSlots {X : Type 0} (slots : List X) (used free : List ℕ) (used_room free_room : ℕ)
+pub record AreSlots {X : Type 0} (slots : List X) (used free : List ℕ) (used_space free_space : ℕ)
     : Type 0 where
   pub all : length used + length free ≡ length slots
   pub real : All (λ n. n < length slots) (used ++ free)
   pub once : IsDistinct ◌==◌ (used ++ free)
-  pub used_fits : length slots ≤ used_room
-  pub free_fits : length slots ≤ free_room
+  pub used_fits : length slots ≤ used_space
+  pub free_fits : length slots ≤ free_space
 
 -- an item, if there is one, is valid
 abbrev pub is_some_young : {X : Type 0} → (X → ℕ) → ℕ → Option X → Bool

@@ -1,7 +1,7 @@
 //! Laws of tables, which follow from their contracts.
 
 ghost use Rattle.std.specs.Prelude.{◌≡◌, ◌↔◌, ℕ, List, Some, None, length};
-ghost use Rattle.ipx_tables.specs.Order.{IsStrictTotal, TellsApart};
+ghost use Rattle.ipx_tables.specs.Order.{IsStrictTotal, EqualOnlyIfSame};
 ghost use Rattle.ipx_tables.specs.Content.{Content, Table, IsTable, content, source_cmp};
 ghost use Rattle.ipx_tables.specs.TableCalls.{Call, after_calls, IsLastWord};
 ghost use Rattle.ipx_tables.specs.Best.{IsBest, is_better, rank_cmp};
@@ -17,20 +17,20 @@ use ipx_wire::Network;
 
 /// After any accepted calls of a table, it holds an offer exactly if that is the last word of its
 /// key and source. The offer was learned last, is not unreachable, and no later `age` found it old.
-pub fn last_word_stands<K: Ord + Copy, M: Metric + Copy>()
+pub fn last_word_is_held<K: Ord + Copy, M: Metric + Copy>()
     ensures { (calls : List (Call K M)) (p : K × Source) (metric : M) (moment : ℕ)
         → (after_calls K.cmp M.dead (λ q. None) calls p ≡ Some (metric, moment))
         ↔ IsLastWord K.cmp M.dead calls p metric moment }
 {}
 
 /// No two sources compare as equal.
-pub fn sources_are_apart()
-    ensures { TellsApart source_cmp }
+pub fn sources_are_distinct()
+    ensures { EqualOnlyIfSame source_cmp }
 {}
 
 /// Of two different offers of a key, exactly one is better.
 pub fn one_is_better<M: Metric + Copy>()
-    ensures apart { TellsApart (rank_cmp M.before) }
+    ensures apart { EqualOnlyIfSame (rank_cmp M.before) }
     ensures strict { IsStrictTotal (is_better M.before) }
 {}
 
@@ -42,7 +42,7 @@ pub fn one_best<K: Ord + Copy, M: Metric + Copy>()
 
 /// If no two keys compare as equal, a table has one listing.
 pub fn one_listing<K: Ord + Copy, M: Metric + Copy>()
-    ensures { TellsApart K.cmp
+    ensures { EqualOnlyIfSame K.cmp
         → (c : Content K M) (now : ℕ) (a b : List (K × Source × M))
         → IsListing K.cmp M.before c now a → IsListing K.cmp M.before c now b → a ≡ b }
 {}

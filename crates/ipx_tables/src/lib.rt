@@ -28,8 +28,8 @@ mod walk;
 pub use fault::TableFault;
 pub use inventory::Inventory;
 pub use laws::{
-    content_counts, last_word_stands, one_best, one_is_better, one_listing, route_listing_is_one,
-    service_listing_is_one, sources_are_apart,
+    content_counts, last_word_is_held, one_best, one_is_better, one_listing, route_listing_is_one,
+    service_listing_is_one, sources_are_distinct,
 };
 pub use metric::Metric;
 pub use offer::Offer;

@@ -5,7 +5,7 @@ ghost use Rattle.std.specs.List.{All, AllWithin, filter, list_any};
 ghost use Rattle.std.specs.List.Sorted.{IsPermutation};
 ghost use Rattle.std.specs.VecDeque.{deque_capacity, deque_len};
 ghost use Rattle.ipx_tables.specs.Content.{is_young};
-ghost use Rattle.ipx_tables.specs.Marks.{AreByMoment, HaveOwnPlaces, IsNoLater, IsRightMark, is_late_mark, places_of, right_mark};
+ghost use Rattle.ipx_tables.specs.Marks.{AreByTime, HaveDistinctSlots, IsNoLater, IsRightMark, is_late_mark, places_of, right_mark};
 ghost use Rattle.ipx_tables.specs.SlotOrder.{is_young_in};
 
 use crate::moments::{Timed, counts};
@@ -20,9 +20,9 @@ pub struct Mark {
 
 /// Inserts a mark after those that are not later. There is space for it.
 pub fn put_mark(marks: &mut VecDeque<Mark>, mark: Mark)
-    requires by_moment { AreByMoment marks.old.items }
+    requires by_time { AreByTime marks.old.items }
     requires room { deque_len marks.old < deque_capacity marks.old }
-    ensures by_moment { AreByMoment marks.new.items }
+    ensures by_time { AreByTime marks.new.items }
     ensures put { IsPermutation (mark ∷ marks.old.items) marks.new.items }
     ensures capacity { deque_capacity marks.old ≤ deque_capacity marks.new }
 {
@@ -59,7 +59,7 @@ fn place_of_mark(marks: &VecDeque<Mark>, place: u32) -> Option<usize>
 
 /// Removes the mark of a slot.
 pub fn remove_expiry(marks: &mut VecDeque<Mark>, place: u32)
-    requires { HaveOwnPlaces marks.old.items }
+    requires { HaveDistinctSlots marks.old.items }
     ensures items { marks.new.items ≡ filter (λ m. not (m.place == place)) marks.old.items }
     ensures capacity { deque_capacity marks.new ≡ deque_capacity marks.old }
 {
@@ -70,7 +70,7 @@ pub fn remove_expiry(marks: &mut VecDeque<Mark>, place: u32)
 
 /// The number of marks whose times are expired. They are the first ones.
 fn old_marks(marks: &VecDeque<Mark>, now: u64) -> usize
-    requires { AreByMoment marks.now.items }
+    requires { AreByTime marks.now.items }
     ensures bound { result ≤ length marks.now.items }
     ensures old { AllWithin (λ m. is_young now m.moment ≡ false) marks.now.items 0 result }
     ensures young { AllWithin (λ m. is_young now m.moment ≡ true)
@@ -81,7 +81,7 @@ fn old_marks(marks: &VecDeque<Mark>, now: u64) -> usize
 
 /// Removes the marks whose times are expired.
 fn cut_off_old(marks: &mut VecDeque<Mark>, now: u64)
-    requires { AreByMoment marks.old.items }
+    requires { AreByTime marks.old.items }
     ensures items { marks.new.items ≡ filter (λ m. is_young now m.moment) marks.old.items }
     ensures capacity { deque_capacity marks.new ≡ deque_capacity marks.old }
 {
@@ -134,7 +134,7 @@ fn put_right<T: Timed + Copy>(marks: &mut [Mark], slots: &[T])
 /// Corrects all marks, and sorts them.
 fn settle_row<T: Timed + Copy>(marks: &mut [Mark], slots: &[T])
     requires { All (λ m. m.place < length slots.now) marks.old }
-    ensures by_moment { AreByMoment marks.new }
+    ensures by_time { AreByTime marks.new }
     ensures places { IsPermutation (places_of marks.old) (places_of marks.new) }
     ensures right { All (IsRightMark T.moment slots.now) marks.new }
 {
@@ -145,7 +145,7 @@ fn settle_row<T: Timed + Copy>(marks: &mut [Mark], slots: &[T])
 /// Corrects all marks, and sorts them.
 fn settle_all<T: Timed + Copy>(marks: &mut VecDeque<Mark>, slots: &[T])
     requires { All (λ m. m.place < length slots.now) marks.old.items }
-    ensures by_moment { AreByMoment marks.new.items }
+    ensures by_time { AreByTime marks.new.items }
     ensures places { IsPermutation (places_of marks.old.items) (places_of marks.new.items) }
     ensures right { All (IsRightMark T.moment slots.now) marks.new.items }
     ensures capacity { deque_capacity marks.new ≡ deque_capacity marks.old }
@@ -156,9 +156,9 @@ fn settle_all<T: Timed + Copy>(marks: &mut VecDeque<Mark>, slots: &[T])
 /// If the first mark is late, corrects all marks.
 pub fn settle_first<T: Timed + Copy>(marks: &mut VecDeque<Mark>, slots: &[T])
     requires real { All (λ m. m.place < length slots.now) marks.old.items }
-    requires by_moment { AreByMoment marks.old.items }
+    requires by_time { AreByTime marks.old.items }
     requires no_later { All (IsNoLater T.moment slots.now) marks.old.items }
-    ensures by_moment { AreByMoment marks.new.items }
+    ensures by_time { AreByTime marks.new.items }
     ensures places { IsPermutation (places_of marks.old.items) (places_of marks.new.items) }
     ensures no_later { All (IsNoLater T.moment slots.now) marks.new.items }
     ensures right { (d : Mark) → 0 < length marks.new.items
@@ -174,9 +174,9 @@ pub fn settle_first<T: Timed + Copy>(marks: &mut VecDeque<Mark>, slots: &[T])
 /// If one of the expired marks is late, corrects all marks.
 fn settle_old<T: Timed + Copy>(marks: &mut VecDeque<Mark>, slots: &[T], now: u64)
     requires real { All (λ m. m.place < length slots.now) marks.old.items }
-    requires by_moment { AreByMoment marks.old.items }
+    requires by_time { AreByTime marks.old.items }
     requires no_later { All (IsNoLater T.moment slots.now) marks.old.items }
-    ensures by_moment { AreByMoment marks.new.items }
+    ensures by_time { AreByTime marks.new.items }
     ensures places { IsPermutation (places_of marks.old.items) (places_of marks.new.items) }
     ensures no_later { All (IsNoLater T.moment slots.now) marks.new.items }
     ensures right { All (λ m. is_young now m.moment ≡ false → IsRightMark T.moment slots.now m)
@@ -192,9 +192,9 @@ fn settle_old<T: Timed + Copy>(marks: &mut VecDeque<Mark>, slots: &[T], now: u64
 /// Removes the marks of expired items. They are at the front, after late marks were corrected.
 pub fn remove_expired<T: Timed + Copy>(marks: &mut VecDeque<Mark>, slots: &[T], now: u64)
     requires real { All (λ m. m.place < length slots.now) marks.old.items }
-    requires by_moment { AreByMoment marks.old.items }
+    requires by_time { AreByTime marks.old.items }
     requires no_later { All (IsNoLater T.moment slots.now) marks.old.items }
-    ensures by_moment { AreByMoment marks.new.items }
+    ensures by_time { AreByTime marks.new.items }
     ensures places { IsPermutation
         (filter (is_young_in T.moment now slots.now) (places_of marks.old.items))
         (places_of marks.new.items) }

@@ -145,7 +145,7 @@ impl<K: Ord + Copy, M: Copy> OfferStore<K, M> {
         ensures refused { OnErr result (self.new ≡ self.old) }
         ensures rising { IsRising (pair_cmp K.cmp) pair_of self.new }
     {
-        self.offers.make_room(offer)?;
+        self.offers.make_space(offer)?;
         self.offers.insert(at, offer);
         self.next = at.saturating_add(1);
         Ok(())

@@ -215,7 +215,7 @@ impl<K: Ord + Copy, M: Metric + Copy> Offers<K, M> {
             → NoneCounts (content K.cmp self.now.offers) key now) → IsOk result }
         ensures valid { IsTable K.cmp self.now }
     {
-        let mut listed = with_room(alloc, self.offer_store.len());
+        let mut listed = with_space(alloc, self.offer_store.len());
         for item in self.bests(now) {
             listed.push(item)?;
         }
@@ -224,7 +224,7 @@ impl<K: Ord + Copy, M: Metric + Copy> Offers<K, M> {
 }
 
 /// An empty list, with space for so many items if that much memory is available at once.
-fn with_room<T>(alloc: Global, count: usize) -> Vec<T>
+fn with_space<T>(alloc: Global, count: usize) -> Vec<T>
     ensures { result.items ≡ [] }
 {
     match Vec::with_capacity(alloc, count) {

@@ -99,7 +99,7 @@ impl<T: Timed + Copy> SlotOrder<T> {
     }
 
     /// Makes a free slot if there is none. The content of a free slot does not matter.
-    pub fn make_room(&mut self, item: T) -> Result<(), AllocError>
+    pub fn make_space(&mut self, item: T) -> Result<(), AllocError>
         ensures items { self.new.items ≡ self.old.items }
         ensures room { OnOk result (length self.new.items < self.new.room) }
     {

@@ -3,7 +3,7 @@ use Rattle.std.proofs.Common.{◌≡◌, ℕ, true, false, inl, inr, List, [], �
 use Rattle.ipx_tool.specs.declared.words.Task.{Task}
 use Rattle.ipx_tool.specs.declared.words.Task.TheVariants.{Show, ShowFrames, Udp, Route, CheckSite, Listen, CheckHost, Networks, Services, ServicesOf}
 use Rattle.ipx_tool.specs.Words.{AsksFor, Finds}
-use Rattle.ipx_tool.proofs.WordsApart.{check_or_frame, frame_or_json, not_plain, once_or_frame, port_or_check, port_or_frame, port_or_json, port_or_once, second}
+use Rattle.ipx_tool.proofs.WordsSeparate.{check_or_frame, frame_or_json, not_plain, once_or_frame, port_or_check, port_or_frame, port_or_json, port_or_once, second}
 
 -- `--port` and a text ask for the same in one word and in two
 pub joined : (command text : List ℕ) (task : Task) → AsksFor (command ∷ codes "--port" ∷ text ∷ []) task

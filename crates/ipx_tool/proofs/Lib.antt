@@ -1,7 +1,7 @@
 pub mod JoinedWords
 pub mod ListedWords
 pub mod OneCommand
-pub mod OptionsBehind
+pub mod OptionsAfter
 pub mod PingWords
 pub mod TypedWords
-pub mod WordsApart
+pub mod WordsSeparate

@@ -46,40 +46,40 @@ module _ {A : Type 0} (text : A → List ℕ) where
       let same = length-map ws text in
       none_so_many (map text ws) (λ e. two (sym same ∙ e)) (λ e. three (sym same ∙ e)) (λ e. four (sym same ∙ e)) (λ e. five (sym same ∙ e)) (λ e. six (sym same ∙ e)) (λ e. eight (sym same ∙ e))
 
-  pub behind_two : (ws : List A) (b : A) → 2 ≤ length ws → length ws < 3 → b ≡ get_or ws 1 b → text b ∷ [] ≡ drop 1 (map text ws)
-  behind_two (a ∷ x ∷ []) b most least second = λ i. text (second i) ∷ []
-  behind_two _ b most least second = absurd (omega arith)
+  pub after_two : (ws : List A) (b : A) → 2 ≤ length ws → length ws < 3 → b ≡ get_or ws 1 b → text b ∷ [] ≡ drop 1 (map text ws)
+  after_two (a ∷ x ∷ []) b most least second = λ i. text (second i) ∷ []
+  after_two _ b most least second = absurd (omega arith)
 
-  pub behind_three : (ws : List A) (b c : A) → 3 ≤ length ws → length ws < 4 → b ≡ get_or ws 1 b → c ≡ get_or ws 2 c
+  pub after_three : (ws : List A) (b c : A) → 3 ≤ length ws → length ws < 4 → b ≡ get_or ws 1 b → c ≡ get_or ws 2 c
       → text b ∷ text c ∷ [] ≡ drop 1 (map text ws)
-  behind_three (a ∷ x ∷ y ∷ []) b c most least second third = λ i. text (second i) ∷ text (third i) ∷ []
-  behind_three _ b c most least second third = absurd (omega arith)
+  after_three (a ∷ x ∷ y ∷ []) b c most least second third = λ i. text (second i) ∷ text (third i) ∷ []
+  after_three _ b c most least second third = absurd (omega arith)
 
-  pub behind_four : (ws : List A) (b c d : A) → 4 ≤ length ws → length ws < 5 → b ≡ get_or ws 1 b → c ≡ get_or ws 2 c
+  pub after_four : (ws : List A) (b c d : A) → 4 ≤ length ws → length ws < 5 → b ≡ get_or ws 1 b → c ≡ get_or ws 2 c
       → d ≡ get_or ws 3 d → text b ∷ text c ∷ text d ∷ [] ≡ drop 1 (map text ws)
-  behind_four (a ∷ x ∷ y ∷ z ∷ []) b c d most least second third fourth =
+  after_four (a ∷ x ∷ y ∷ z ∷ []) b c d most least second third fourth =
       λ i. text (second i) ∷ text (third i) ∷ text (fourth i) ∷ []
-  behind_four _ b c d most least second third fourth = absurd (omega arith)
+  after_four _ b c d most least second third fourth = absurd (omega arith)
 
-  pub behind_five : (ws : List A) (b c d e : A) → 5 ≤ length ws → length ws < 6 → b ≡ get_or ws 1 b → c ≡ get_or ws 2 c
+  pub after_five : (ws : List A) (b c d e : A) → 5 ≤ length ws → length ws < 6 → b ≡ get_or ws 1 b → c ≡ get_or ws 2 c
       → d ≡ get_or ws 3 d → e ≡ get_or ws 4 e → text b ∷ text c ∷ text d ∷ text e ∷ [] ≡ drop 1 (map text ws)
-  behind_five (a ∷ w ∷ x ∷ y ∷ z ∷ []) b c d e most least second third fourth fifth =
+  after_five (a ∷ w ∷ x ∷ y ∷ z ∷ []) b c d e most least second third fourth fifth =
       λ i. text (second i) ∷ text (third i) ∷ text (fourth i) ∷ text (fifth i) ∷ []
-  behind_five _ b c d e most least second third fourth fifth = absurd (omega arith)
+  after_five _ b c d e most least second third fourth fifth = absurd (omega arith)
 
-  pub behind_six : (ws : List A) (b c d e f : A) → 6 ≤ length ws → length ws < 7 → b ≡ get_or ws 1 b → c ≡ get_or ws 2 c
+  pub after_six : (ws : List A) (b c d e f : A) → 6 ≤ length ws → length ws < 7 → b ≡ get_or ws 1 b → c ≡ get_or ws 2 c
       → d ≡ get_or ws 3 d → e ≡ get_or ws 4 e → f ≡ get_or ws 5 f
       → text b ∷ text c ∷ text d ∷ text e ∷ text f ∷ [] ≡ drop 1 (map text ws)
-  behind_six (a ∷ v ∷ w ∷ x ∷ y ∷ z ∷ []) b c d e f most least second third fourth fifth sixth =
+  after_six (a ∷ v ∷ w ∷ x ∷ y ∷ z ∷ []) b c d e f most least second third fourth fifth sixth =
       λ i. text (second i) ∷ text (third i) ∷ text (fourth i) ∷ text (fifth i) ∷ text (sixth i) ∷ []
-  behind_six _ b c d e f most least second third fourth fifth sixth = absurd (omega arith)
+  after_six _ b c d e f most least second third fourth fifth sixth = absurd (omega arith)
 
-  pub behind_eight : (ws : List A) (b c d e f g h : A) → 8 ≤ length ws → length ws < 9 → b ≡ get_or ws 1 b → c ≡ get_or ws 2 c
+  pub after_eight : (ws : List A) (b c d e f g h : A) → 8 ≤ length ws → length ws < 9 → b ≡ get_or ws 1 b → c ≡ get_or ws 2 c
       → d ≡ get_or ws 3 d → e ≡ get_or ws 4 e → f ≡ get_or ws 5 f → g ≡ get_or ws 6 g → h ≡ get_or ws 7 h
       → text b ∷ text c ∷ text d ∷ text e ∷ text f ∷ text g ∷ text h ∷ [] ≡ drop 1 (map text ws)
-  behind_eight (a ∷ t ∷ u ∷ v ∷ w ∷ x ∷ y ∷ z ∷ []) b c d e f g h most least second third fourth fifth sixth seventh eighth =
+  after_eight (a ∷ t ∷ u ∷ v ∷ w ∷ x ∷ y ∷ z ∷ []) b c d e f g h most least second third fourth fifth sixth seventh eighth =
       λ i. text (second i) ∷ text (third i) ∷ text (fourth i) ∷ text (fifth i) ∷ text (sixth i) ∷ text (seventh i) ∷ text (eighth i) ∷ []
-  behind_eight _ b c d e f g h most least second third fourth fifth sixth seventh eighth = absurd (omega arith)
+  after_eight _ b c d e f g h most least second third fourth fifth sixth seventh eighth = absurd (omega arith)
 
 -- what is found for words is found for the same words
 pub found_for : {words same : List (List ℕ)} (found : Option Task) → words ≡ same → Finds (AsksFor words) found → Finds (AsksFor same) found

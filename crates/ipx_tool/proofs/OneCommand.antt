@@ -6,7 +6,7 @@ use Rattle.ipx_wire.specs.declared.address.Node.{Node}
 use Rattle.ipx_tool.specs.declared.words.Task.{Task}
 use Rattle.ipx_tool.specs.declared.words.Task.TheVariants.{Hop, Show, ShowFrames, Check, Sim, Udp, Route, CheckSite, Listen, CheckHost, Send, Networks, Services, ServicesOf, Ping, PingTimes}
 use Rattle.ipx_tool.specs.Words.{AskForOne, AsksFor, WritesNumber, IsSame, target_words}
-use Rattle.ipx_tool.proofs.WordsApart.{first, not_plain, once_or_check, second, third}
+use Rattle.ipx_tool.proofs.WordsSeparate.{first, not_plain, once_or_check, second, third}
 use Rattle.ipx_tool.proofs.PingWords.{same_others}
 
 abbrev name : Task → List ℕ

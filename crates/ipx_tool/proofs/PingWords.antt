@@ -4,8 +4,8 @@ use Rattle.std.proofs.lemmas.List.{length-append}
 use Rattle.ipx_host.specs.declared.target.Target.{Target}
 use Rattle.ipx_tool.specs.declared.words.Task.{Task}
 use Rattle.ipx_tool.specs.declared.words.Task.TheVariants.{Hop, Show, ShowFrames, Check, Sim, Udp, Route, CheckSite, Listen, CheckHost, Send, Networks, Services, ServicesOf, Ping, PingTimes}
-use Rattle.ipx_tool.specs.Words.{ArePlain, AsksFor, Finds, IsPingTimes, IsPlain, WritesNumber, StandsAmong, target_words}
-use Rattle.ipx_tool.proofs.WordsApart.{fifth, first, fourth, not_plain, second, third}
+use Rattle.ipx_tool.specs.Words.{ArePlain, AsksFor, Finds, IsPingTimes, IsPlain, WritesNumber, IsOptionAmong, target_words}
+use Rattle.ipx_tool.proofs.WordsSeparate.{fifth, first, fourth, not_plain, second, third}
 
 -- none of these words is that one
 abbrev pub Without : List ℕ → List (List ℕ) → Type 0
@@ -29,7 +29,7 @@ same_place o t u (x ∷ xs) ys [] ws none free e = absurd (none.0 (first e))
 same_place o t u (x ∷ xs) ys (v ∷ vs) ws none free e =
     let rest = same_place o t u xs ys vs ws none.1 free.1 (ap (drop 1) e) in (λ i. first e i ∷ rest.0 i, rest.1, rest.2)
 
-pub same_others : (text told : List ℕ) (others these rest left : List (List ℕ)) → StandsAmong (codes "-c") text others rest → StandsAmong (codes "-c") told these left
+pub same_others : (text told : List ℕ) (others these rest left : List (List ℕ)) → IsOptionAmong (codes "-c") text others rest → IsOptionAmong (codes "-c") told these left
     → ArePlain others → ArePlain these → rest ≡ left → (others ≡ these) × (text ≡ told)
 same_others text told others these rest left (front, back, o, w) (before, after, p, v) plain also same =
     let none = plain_without front (plain_front front back (subst ArePlain o plain)) in

@@ -3,7 +3,7 @@ use Rattle.std.proofs.Common.{◌≢◌, ℕ, true, false, true≢false, inl, in
 use Rattle.ipx_tool.specs.declared.words.Task.{Task}
 use Rattle.ipx_tool.specs.declared.words.Task.TheVariants.{ShowFrames, Udp, CheckSite, Listen, CheckHost, Networks, Services, ServicesOf}
 use Rattle.ipx_tool.specs.Words.{AreTypeWords, AsksFor, Finds, IsOfType, IsPlain}
-use Rattle.ipx_tool.proofs.WordsApart.{first, fourth, not_plain, second, third}
+use Rattle.ipx_tool.proofs.WordsSeparate.{first, fourth, not_plain, second, third}
 
 -- a command and two words that are none of these options ask for services of a type alone
 pub record NoOptions (file kind : List ℕ) : Type 0 where
@@ -12,9 +12,9 @@ pub record NoOptions (file kind : List ℕ) : Type 0 where
   pub check : file ≢ codes "--check"
   pub json : file ≢ codes "--json"
   pub frame : file ≢ codes "--frame"
-  pub once_behind : kind ≢ codes "--once"
-  pub check_behind : kind ≢ codes "--check"
-  pub json_behind : kind ≢ codes "--json"
+  pub once_after : kind ≢ codes "--once"
+  pub check_after : kind ≢ codes "--check"
+  pub json_after : kind ≢ codes "--json"
 
 typed : (command file kind : List ℕ) (task : Task) → NoOptions file kind
     → AsksFor (command ∷ file ∷ kind ∷ []) task → IsOfType command file kind false task
@@ -22,17 +22,17 @@ typed command file kind (Udp port) none (inl asks) = absurd (cc)
 typed command file kind (Udp port) none (inr (text, is, inl e)) = absurd (none.port (second e))
 typed command file kind (Udp port) none (inr (text, is, inr e)) = absurd (cc)
 typed command file kind (Listen other true) none (inl e, plain) = absurd (none.once (second e))
-typed command file kind (Listen other true) none (inr e, plain) = absurd (none.once_behind (third e))
+typed command file kind (Listen other true) none (inr e, plain) = absurd (none.once_after (third e))
 typed command file kind (CheckSite other) none (inl e, plain) = absurd (none.check (second e))
-typed command file kind (CheckSite other) none (inr e, plain) = absurd (none.check_behind (third e))
+typed command file kind (CheckSite other) none (inr e, plain) = absurd (none.check_after (third e))
 typed command file kind (CheckHost other) none (inl e, plain) = absurd (none.check (second e))
-typed command file kind (CheckHost other) none (inr e, plain) = absurd (none.check_behind (third e))
+typed command file kind (CheckHost other) none (inr e, plain) = absurd (none.check_after (third e))
 typed command file kind (ShowFrames node) none (text, is, inl e) = absurd (none.frame (second e))
 typed command file kind (ShowFrames node) none (text, is, inr e) = absurd (cc)
 typed command file kind (Networks other true) none (inl e, plain) = absurd (none.json (second e))
-typed command file kind (Networks other true) none (inr e, plain) = absurd (none.json_behind (third e))
+typed command file kind (Networks other true) none (inr e, plain) = absurd (none.json_after (third e))
 typed command file kind (Services other true) none (inl e, plain) = absurd (none.json (second e))
-typed command file kind (Services other true) none (inr e, plain) = absurd (none.json_behind (third e))
+typed command file kind (Services other true) none (inr e, plain) = absurd (none.json_after (third e))
 typed command file kind (ServicesOf other another false) none (e, plain, also) =
     (first e, sym (second e), sym (third e), refl, subst IsPlain (sym (second e)) plain, subst IsPlain (sym (third e)) also)
 typed command file kind (ServicesOf other another true) none (inl e, plain, also) = absurd (cc)

@@ -26,8 +26,8 @@ abbrev pub target_words : Target → List (List ℕ)
 target_words to = to.network.now ∷ to.node.now ∷ to.socket.now ∷ []
 
 -- among other words are an option and its value, next to each other
-abbrev pub StandsAmong : List ℕ → List ℕ → List (List ℕ) → List (List ℕ) → Type 0
-StandsAmong option value others words = (front : List (List ℕ)) × (back : List (List ℕ))
+abbrev pub IsOptionAmong : List ℕ → List ℕ → List (List ℕ) → List (List ℕ) → Type 0
+IsOptionAmong option value others words = (front : List (List ℕ)) × (back : List (List ℕ))
     × (others ≡ front ++ back) × (words ≡ front ++ option ∷ value ∷ back)
 
 -- a command, a file and a type, with `--json` before, between or after these two, or without it
@@ -76,7 +76,7 @@ AsksFor words (Ping file target) = (words ≡ codes "ping" ∷ file.now ∷ targ
 AsksFor words (PingTimes file target count) = (a : List ℕ) × (b : List ℕ) × (c : List ℕ)
     × (d : List ℕ) × (e : List ℕ) × (f : List ℕ)
     × (words ≡ codes "ping" ∷ a ∷ b ∷ c ∷ d ∷ e ∷ f ∷ []) × (text : List ℕ) × WritesNumber text count
-    × StandsAmong (codes "-c") text (file.now ∷ target_words target) (a ∷ b ∷ c ∷ d ∷ e ∷ f ∷ [])
+    × IsOptionAmong (codes "-c") text (file.now ∷ target_words target) (a ∷ b ∷ c ∷ d ∷ e ∷ f ∷ [])
     × ArePlain (file.now ∷ target_words target)
 
 -- what is found satisfies it; if nothing is found, nothing satisfies it

@@ -36,7 +36,7 @@ fn option_arg<'a>(alloc: Global, option: &OptionShape) -> Arg<'a> {
 }
 
 /// An option that cannot be given together with any of the others.
-fn option_alone<'a>(
+fn exclusive_option<'a>(
     alloc: Global,
     option: &OptionShape,
     others: &[OptionShape],
@@ -76,7 +76,7 @@ fn with_option<'a>(
     option: &OptionShape,
     others: &[OptionShape],
 ) -> Result<Command<'a>, AllocError> {
-    command.arg(option_alone(alloc, option, others)?)
+    command.arg(exclusive_option(alloc, option, others)?)
 }
 
 fn with_options<'a>(

@@ -45,5 +45,5 @@ spx_clear_in_place h n old new room is =
     subst HasFreeBitsClear (sym (spx_in_place h n old new room is)) (spx_clear h (take n (drop 12 old)))
 
 -- what follows the header stays
-pub behind_header : (h : IpxHeader) (n : ℕ) (old new : List ℕ) → IsHeaderInRange h → new ≡ header_bytes h n ++ drop 30 old → drop 30 new ≡ drop 30 old
-behind_header h n old new range is = rw is (drop_at (header_bytes h n) (drop 30 old) 30 (length-header h n range))
+pub after_header : (h : IpxHeader) (n : ℕ) (old new : List ℕ) → IsHeaderInRange h → new ≡ header_bytes h n ++ drop 30 old → drop 30 new ≡ drop 30 old
+after_header h n old new range is = rw is (drop_at (header_bytes h n) (drop 30 old) 30 (length-header h n range))

@@ -16,8 +16,8 @@ use Rattle.ipxnet_server.specs.declared.peer_servers.RemoteClient.{RemoteClient}
 use Rattle.ipxnet_server.specs.declared.recipients.Recipients.{Recipients}
 use Rattle.ipxnet_server.specs.declared.recipients.Recipients.TheVariants.{Nobody, One, Here, Joined, JoinedAt}
 use Rattle.ipxnet_server.specs.ServerClients.{are_one_place, is_server_full, client_at, client_of_node, has_client_node, is_client_at, max_recent_registrations, recent_registrations}
-use Rattle.ipxnet_server.specs.ServerHears.{IsAnswer, ServerView, all_hear, all_hear_joined, client_hears, core_hears, far_hear, far_source, goes_to_core, is_dropped, is_for_server, is_from_server, is_joined_taker, is_node_here, is_node_taken, is_not_behind, is_of_client, is_registration, is_taker, is_to_all_nodes, is_to_service, joined_hears, joined_takers, server_hears, server_hears_elsewhere, server_hears_from, server_hears_here, server_socket, may_reach_core, max_client_bytes, newcomer_drop, newcomer_hears, node_given, one_hears_joined, ping_answer, registration_answer, registration_hears, takers_of, tells_node, tells_router}
-use Rattle.ipxnet_server.specs.PeerServers.{far_client_of, is_joined_place}
+use Rattle.ipxnet_server.specs.ServerHears.{IsAnswer, ServerView, all_hear, all_hear_joined, client_hears, core_hears, hear_remote, remote_source, goes_to_core, is_dropped, is_for_server, is_from_server, is_joined_taker, is_node_here, is_node_taken, is_not_behind, is_of_client, is_registration, is_taker, is_to_all_nodes, is_to_service, joined_hears, joined_takers, server_hears, server_hears_elsewhere, server_hears_from, server_hears_here, server_socket, may_reach_core, max_client_bytes, registration_drop, new_client_hears, node_given, one_hears_joined, ping_answer, registration_answer, registration_hears, takers_of, tells_node, tells_router}
+use Rattle.ipxnet_server.specs.PeerServers.{remote_client_of, is_joined_place}
 use Rattle.ipxnet_server.specs.ServerInside.{IsSoundHearing, StaysAmongClients}
 use Rattle.ipx_wire.specs.declared.address.Node.{Node}
 use Rattle.ipx_wire.specs.Assigned.{broadcast_node}
@@ -122,19 +122,19 @@ module _ (l : ServerView) (from : Place) (size : ℕ) (thirty : ipx_header_size 
       member = λ e. refl;
     }
 
-    newcomer : (o : Option ServerDrop) → size ≡ ipx_header_size → (o ≡ None → client_of_node (node_given l from) l.clients ≡ None) → Sound (newcomer_hears l.port (node_given l from) o)
+    newcomer : (o : Option ServerDrop) → size ≡ ipx_header_size → (o ≡ None → client_of_node (node_given l from) l.clients ≡ None) → Sound (new_client_hears l.port (node_given l from) o)
     newcomer None is free = registered (registration_answer l.port (node_given l from)) is (λ e. free refl)
     newcomer (Some d) is free = dropped d
 
-    free_node : (node : Node) (now : ℕ) → newcomer_drop l node now ≡ None → client_of_node node l.clients ≡ None
+    free_node : (node : Node) (now : ℕ) → registration_drop l node now ≡ None → client_of_node node l.clients ≡ None
     free_node node now e =
         let rest : Option ServerDrop = if nat_le max_recent_registrations (recent_registrations now l.clients) then Some TooManyNew else if is_server_full l.most now l.clients then Some Full else None in
         let taken : is_node_taken l node ≡ false = first_none (is_node_taken l node) (NodeTaken node) rest e in
-        let here : is_node_here l.port l.clients node ≡ false = left_false (is_node_here l.port l.clients node) (is_some (far_client_of node l.far)) taken in
+        let here : is_node_here l.port l.clients node ≡ false = left_false (is_node_here l.port l.clients node) (is_some (remote_client_of node l.far)) taken in
         is_none (client_of_node node l.clients) (right_false (bytes_eq node.0 l.port.own.0 || bytes_eq node.0 broadcast_node) (is_some (client_of_node node l.clients)) here)
 
     registering : (now : ℕ) (o : Option Client) → client_at from l.clients ≡ o → size ≡ ipx_header_size → Sound (registration_hears l from now o)
-    registering now None known is = newcomer (newcomer_drop l (node_given l from) now) is (free_node (node_given l from) now)
+    registering now None known is = newcomer (registration_drop l (node_given l from) now) is (free_node (node_given l from) now)
     registering now (Some c) known is = registered (registration_answer l.port c.node) is (λ none. cc)
 
     module _ (c : Client) (known : client_at from l.clients ≡ Some c) where
@@ -196,10 +196,10 @@ module _ (l : ServerView) (from : Place) (size : ℕ) (thirty : ipx_header_size 
           either Sound (not (is_from_server l.port p.header)) _ _ (dropped (FromElsewhere p.header.from.network))
           (either Sound (tells_router p) _ _ (dropped Response) to_core)
 
-      far : (node : Node) → Sound (far_hear l node size)
+      far : (node : Node) → Sound (hear_remote l node size)
       far node =
           either Sound (length l.routers == 0) _ _ (dropped (NoSuchNode node))
-          (either Sound (nat_lt max_client_bytes size) _ _ (dropped (TooLong size)) (to_joined (far_client_of node l.far)))
+          (either Sound (nat_lt max_client_bytes size) _ _ (dropped (TooLong size)) (to_joined (remote_client_of node l.far)))
 
       client : (h : IpxHeader) (o : Option Client) → client_of_node h.to.node l.clients ≡ o → Sound (client_hears l from h size o)
       client h None found = far h.to.node
@@ -254,12 +254,12 @@ module _ (l : ServerView) (from : Place) (size : ℕ) (thirty : ipx_header_size 
     one_enters h (Some k) found =
         either_by Sound (are_one_place k.place from) _ _ (λ e. dropped ToItself)
         (λ apart. either Sound (nat_lt max_client_bytes size) _ _ (dropped (TooLong size))
-        (entering (far_source l.port h) (One k.place) apart (λ place. refl) (λ place e. taker_known h.to.node place l.clients k found (place_is k.place place e))))
+        (entering (remote_source l.port h) (One k.place) apart (λ place. refl) (λ place e. taker_known h.to.node place l.clients k found (place_is k.place place e))))
 
     all_enter : (h : IpxHeader) → Sound (all_hear_joined l.port from h size)
     all_enter h =
         either Sound (nat_lt max_client_bytes size) _ _ (dropped (TooLong size))
-        (entering (far_source l.port h) (Here from) (ap not (same_place from)) (λ place. refl) (λ place e. cc))
+        (entering (remote_source l.port h) (Here from) (ap not (same_place from)) (λ place. refl) (λ place e. cc))
 
     enters : (h : IpxHeader) → Sound (joined_hears l from h size)
     enters h =
@@ -305,7 +305,7 @@ reaches_all port from p size =
     (either_by (ReachesCore port p) (is_to_service p.header && may_reach_core port p) _ _
     (λ e. λ goes. right_true (is_to_service p.header) (may_reach_core port p) e) (λ e. λ goes. cc)))
 
-reaches_far : (l : ServerView) (node : Node) (p : PacketView) (size : ℕ) → ReachesCore l.port p (far_hear l node size)
+reaches_far : (l : ServerView) (node : Node) (p : PacketView) (size : ℕ) → ReachesCore l.port p (hear_remote l node size)
 reaches_far l node p size =
     either (ReachesCore l.port p) (length l.routers == 0) _ _ (λ goes. cc)
     (either (ReachesCore l.port p) (nat_lt max_client_bytes size) _ _ (λ goes. cc) (λ goes. cc))
@@ -327,12 +327,12 @@ reaches_from l from p size (Some c) =
     (either (ReachesCore l.port p) (p.header.to.socket.0 == server_socket) _ _ (λ goes. cc)
     (either (ReachesCore l.port p) (is_to_all_nodes p.header) _ _ (λ goes. cc) (reaches_core l.port p))))
 
-reaches_newcomer : (port : ServerPort) (node : Node) (p : PacketView) (o : Option ServerDrop) → ReachesCore port p (newcomer_hears port node o)
+reaches_newcomer : (port : ServerPort) (node : Node) (p : PacketView) (o : Option ServerDrop) → ReachesCore port p (new_client_hears port node o)
 reaches_newcomer port node p None = λ goes. cc
 reaches_newcomer port node p (Some d) = λ goes. cc
 
 reaches_registering : (l : ServerView) (from : Place) (p : PacketView) (now : ℕ) (o : Option Client) → ReachesCore l.port p (registration_hears l from now o)
-reaches_registering l from p now None = reaches_newcomer l.port (node_given l from) p (newcomer_drop l (node_given l from) now)
+reaches_registering l from p now None = reaches_newcomer l.port (node_given l from) p (registration_drop l (node_given l from) now)
 reaches_registering l from p now (Some c) = λ goes. cc
 
 reaches_joined_one : (l : ServerView) (from : Place) (p : PacketView) (size : ℕ) (o : Option Client) → ReachesCore l.port p (one_hears_joined l.port from p.header size o)

@@ -30,9 +30,9 @@ behind R (suc n) (x ∷ xs) pairs = behind R n xs (tails R x xs pairs)
 pub fewer : {X : Type 0} (p : X → Bool) (xs : List X) → length (filter p xs) ≤ length xs
 fewer p xs = omega (arith, length-filter_both p (λ x. not (p x)) (λ x. refl) xs)
 
-pub behind_all : {X : Type 0} (xs : List X) (x : X) → take (length xs) xs ++ x ∷ drop (length xs) xs ≡ xs ++ x ∷ []
-behind_all [] x = refl
-behind_all (y ∷ xs) x = ap (λ l. y ∷ l) (behind_all xs x)
+pub after_all : {X : Type 0} (xs : List X) (x : X) → take (length xs) xs ++ x ∷ drop (length xs) xs ≡ xs ++ x ∷ []
+after_all [] x = refl
+after_all (y ∷ xs) x = ap (λ l. y ∷ l) (after_all xs x)
 
 -- ---- clients
 

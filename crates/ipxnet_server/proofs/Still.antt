@@ -18,8 +18,8 @@ use Rattle.ipxnet_server.specs.declared.recipients.Recipients.TheVariants.{One}
 use Rattle.ipx_wire.specs.Assigned.{broadcast_node}
 use Rattle.ipx_wire.specs.declared.address.Node.{Node}
 use Rattle.ipxnet_server.specs.ServerClients.{are_one_place, client_at, client_heard, client_of_node, clients_heard, is_client_at}
-use Rattle.ipxnet_server.specs.ServerHears.{ServerView, all_get, client_gets, is_dropped, is_of_client, is_taker, joined_takers, server_gives, server_hearing, server_told, max_client_bytes, node_given, takers_of}
-use Rattle.ipxnet_server.specs.PeerServers.{far_client_of}
+use Rattle.ipxnet_server.specs.ServerHears.{ServerView, all_get, client_gets, is_dropped, is_of_client, is_taker, joined_takers, server_gives, server_hearing, server_learned, max_client_bytes, node_given, takers_of}
+use Rattle.ipxnet_server.specs.PeerServers.{remote_client_of}
 use Rattle.ipxnet_server.proofs.Hears.{taker_known}
 use Rattle.ipxnet_server.proofs.Once.{fewer, found_passes, same_place}
 
@@ -136,7 +136,7 @@ hearing_clients (ToJoined takers) from now l e = refl
 hearing_clients (FromJoined told takers) from now l e = cc
 hearing_clients (Dropped d) from now l e = cc
 
-told_clients : (told : Option Node) (from : Place) (now : ℕ) (l : ServerView) → (server_told told from now l).clients ≡ l.clients
+told_clients : (told : Option Node) (from : Place) (now : ℕ) (l : ServerView) → (server_learned told from now l).clients ≡ l.clients
 told_clients None from now l = refl
 told_clients (Some node) from now l = refl
 
@@ -190,7 +190,7 @@ gives_by : (long broad to_service : Bool) (drop : ServerDrop) (l : ServerView) (
     → (if long then Err drop else if broad then Ok (all_get to_service) else client_gets l node o) ≡ Ok (One place) → is_some (client_at place l.clients) ≡ true
 gives_by true broad to_service drop l node o place found e = cc
 gives_by false true to_service drop l node o place found e = all_not_one to_service place (cc e)
-gives_by false false to_service drop l node None place found e = none_gives (length l.routers == 0) node (far_client_of node l.far) place e
+gives_by false false to_service drop l node None place found e = none_gives (length l.routers == 0) node (remote_client_of node l.far) place e
 gives_by false false to_service drop l node (Some c) place found e = taker_known node place l.clients c found (cc e)
 
 pub gives_client : (l : ServerView) (node : Node) (to_service : Bool) (size : ℕ) (place : Place) → server_gives l node to_service size ≡ Ok (One place) → is_some (client_at place l.clients) ≡ true

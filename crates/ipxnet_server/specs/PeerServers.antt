@@ -17,26 +17,26 @@ max_remote_clients = 1024
 abbrev pub is_joined_place : Place → List Place → Bool
 is_joined_place place routers = list_any (λ r. are_one_place r place) routers
 
-abbrev pub has_far_node : Node → RemoteClient → Bool
-has_far_node node f = bytes_eq f.node.0 node.0
+abbrev pub has_remote_node : Node → RemoteClient → Bool
+has_remote_node node f = bytes_eq f.node.0 node.0
 
 -- the client of a node, at a joined router
-abbrev pub far_client_of : Node → List RemoteClient → Option RemoteClient
-far_client_of node far = find (has_far_node node) far
+abbrev pub remote_client_of : Node → List RemoteClient → Option RemoteClient
+remote_client_of node far = find (has_remote_node node) far
 
 -- the clients that were heard less than a day ago; if the clock went back, no time has passed
-abbrev pub was_far_heard : ℕ → RemoteClient → Bool
-was_far_heard now f = nat_lt (now - f.heard) forgotten_after
+abbrev pub was_remote_heard : ℕ → RemoteClient → Bool
+was_remote_heard now f = nat_lt (now - f.heard) forgotten_after
 
-abbrev pub far_clients_left : ℕ → List RemoteClient → List RemoteClient
-far_clients_left now far = filter (was_far_heard now) far
+abbrev pub remote_clients_left : ℕ → List RemoteClient → List RemoteClient
+remote_clients_left now far = filter (was_remote_heard now) far
 
 -- the client of a node is heard through a router. It is then known once, as the last one, and if there are
 -- too many the first one goes
-abbrev pub far_clients_heard : Node → Place → ℕ → List RemoteClient → List RemoteClient
-far_clients_heard node router now far =
-    drop (length (filter (λ f. not (has_far_node node f)) far) + 1 - max_remote_clients)
-    (filter (λ f. not (has_far_node node f)) far)
+abbrev pub remote_clients_heard : Node → Place → ℕ → List RemoteClient → List RemoteClient
+remote_clients_heard node router now far =
+    drop (length (filter (λ f. not (has_remote_node node f)) far) + 1 - max_remote_clients)
+    (filter (λ f. not (has_remote_node node f)) far)
     ++ record { node = node; router = router; heard = now } ∷ []
 
 -- a node that a router makes for a client at an address: its own, with the client's UDP port at the end
@@ -45,7 +45,7 @@ made_node own place = record { 0 = take 4 own.0 ++ big_bytes 2 place.udp_port }
 
 -- the node that a new client at an address gets: that of the address, or one that the router makes if a
 -- client of a joined router has that
-abbrev pub newcomer_node : Node → List RemoteClient → Place → Node
-newcomer_node own far place =
-    if is_some (far_client_of (node_of_place place) far) then made_node own place
+abbrev pub new_client_node : Node → List RemoteClient → Place → Node
+new_client_node own far place =
+    if is_some (remote_client_of (node_of_place place) far) then made_node own place
     else node_of_place place

@@ -19,8 +19,8 @@ forgotten_after = 86400000
 abbrev pub replaced_after : ℕ
 replaced_after = 3600000
 
-abbrev pub newcomer_time : ℕ
-newcomer_time = 1000
+abbrev pub recent_client_time : ℕ
+recent_client_time = 1000
 
 abbrev pub max_recent_registrations : ℕ
 max_recent_registrations = 10
@@ -66,11 +66,11 @@ abbrev pub clients_left : ℕ → List Client → List Client
 clients_left now known = filter (was_heard_within forgotten_after now) known
 
 -- how many registered first less than a second ago; if the clock went back, no time has passed
-abbrev pub is_newcomer : ℕ → Client → Bool
-is_newcomer now c = nat_lt (now - c.since) newcomer_time
+abbrev pub is_recent_client : ℕ → Client → Bool
+is_recent_client now c = nat_lt (now - c.since) recent_client_time
 
 abbrev pub recent_registrations : ℕ → List Client → ℕ
-recent_registrations now known = count_by (is_newcomer now) known
+recent_registrations now known = count_by (is_recent_client now) known
 
 -- the first one, which was heard before all others in the order of calls, was heard within the last hour
 abbrev pub is_first_heard : ℕ → List Client → Bool

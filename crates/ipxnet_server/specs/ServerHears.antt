@@ -21,7 +21,7 @@ use Rattle.ipxnet_server.specs.declared.peer_servers.RemoteClient.{RemoteClient}
 use Rattle.ipxnet_server.specs.declared.port.ServerPort.{ServerPort}
 use Rattle.ipxnet_server.specs.ServerClients.{are_one_place, is_server_full, client_at, client_of_node, clients_heard, clients_left, max_recent_registrations, recent_registrations}
 use Rattle.ipxnet_server.specs.ServerCounted.{drop_counted, no_drops}
-use Rattle.ipxnet_server.specs.PeerServers.{far_client_of, far_clients_heard, far_clients_left, is_joined_place, newcomer_node}
+use Rattle.ipxnet_server.specs.PeerServers.{remote_client_of, remote_clients_heard, remote_clients_left, is_joined_place, new_client_node}
 
 -- a server: its port, the most clients that it may have, its clients in the order in which they were last
 -- heard, and its counts. Also the addresses of joined routers, and their clients
@@ -105,28 +105,28 @@ is_node_here port known node = bytes_eq node.0 port.own.0 || bytes_eq node.0 bro
 -- client's here while each has the node of its address
 abbrev pub is_node_taken : ServerView → Node → Bool
 is_node_taken l node =
-    is_node_here l.port l.clients node || is_some (far_client_of node l.far)
+    is_node_here l.port l.clients node || is_some (remote_client_of node l.far)
 
 -- why a registration that would get this node is refused
-abbrev pub newcomer_drop : ServerView → Node → ℕ → Option ServerDrop
-newcomer_drop l node now =
+abbrev pub registration_drop : ServerView → Node → ℕ → Option ServerDrop
+registration_drop l node now =
     if is_node_taken l node then Some (NodeTaken node)
     else if nat_le max_recent_registrations (recent_registrations now l.clients) then Some TooManyNew
     else if is_server_full l.most now l.clients then Some Full
     else None
 
-abbrev pub newcomer_hears : ServerPort → Node → Option ServerDrop → Disposition
-newcomer_hears port node None = Registered (registration_answer port node)
-newcomer_hears port node (Some drop) = Dropped drop
+abbrev pub new_client_hears : ServerPort → Node → Option ServerDrop → Disposition
+new_client_hears port node None = Registered (registration_answer port node)
+new_client_hears port node (Some drop) = Dropped drop
 
 -- the node that a new client of a server gets
 abbrev pub node_given : ServerView → Place → Node
-node_given l from = newcomer_node l.port.own l.far from
+node_given l from = new_client_node l.port.own l.far from
 
 -- a registration, from an address where this client is known
 abbrev pub registration_hears : ServerView → Place → ℕ → Option Client → Disposition
 registration_hears l from now None =
-    newcomer_hears l.port (node_given l from) (newcomer_drop l (node_given l from) now)
+    new_client_hears l.port (node_given l from) (registration_drop l (node_given l from) now)
 registration_hears l from now (Some c) = Registered (registration_answer l.port c.node)
 
 -- to all nodes here
@@ -150,15 +150,15 @@ joined_takers None = Joined
 joined_takers (Some f) = JoinedAt f.router
 
 -- to one node here that no client has
-abbrev pub far_hear : ServerView → Node → ℕ → Disposition
-far_hear l node size =
+abbrev pub hear_remote : ServerView → Node → ℕ → Disposition
+hear_remote l node size =
     if length l.routers == 0 then Dropped (NoSuchNode node)
     else if nat_lt max_client_bytes size then Dropped (TooLong size)
-    else ToJoined (joined_takers (far_client_of node l.far))
+    else ToJoined (joined_takers (remote_client_of node l.far))
 
 -- to one node here, which this client has
 abbrev pub client_hears : ServerView → Place → IpxHeader → ℕ → Option Client → Disposition
-client_hears l from h size None = far_hear l h.to.node size
+client_hears l from h size None = hear_remote l h.to.node size
 client_hears l from h size (Some c) =
     if are_one_place c.place from then Dropped ToItself
     else if nat_lt max_client_bytes size then Dropped (TooLong size)
@@ -192,8 +192,8 @@ is_not_behind port known node =
     bytes_eq node.0 (replicate 6 0) || is_node_here port known node
 
 -- the node of a remote client that a joined router's packet is from; none if it comes from another network
-abbrev pub far_source : ServerPort → IpxHeader → Option Node
-far_source port h = if is_from_server port h then Some h.from.node else None
+abbrev pub remote_source : ServerPort → IpxHeader → Option Node
+remote_source port h = if is_from_server port h then Some h.from.node else None
 
 -- from a remote client to its own node: it shows where that is, and is for nobody
 abbrev pub tells_node : ServerPort → IpxHeader → Bool
@@ -205,13 +205,13 @@ one_hears_joined port from h size None = Dropped (NoSuchNode h.to.node)
 one_hears_joined port from h size (Some c) =
     if are_one_place c.place from then Dropped ToItself
     else if nat_lt max_client_bytes size then Dropped (TooLong size)
-    else FromJoined (far_source port h) (One c.place)
+    else FromJoined (remote_source port h) (One c.place)
 
 -- from a joined router to all nodes
 abbrev pub all_hear_joined : ServerPort → Place → IpxHeader → ℕ → Disposition
 all_hear_joined port from h size =
     if nat_lt max_client_bytes size then Dropped (TooLong size)
-    else FromJoined (far_source port h) (Here from)
+    else FromJoined (remote_source port h) (Here from)
 
 -- from the address of a joined router: neither the core nor any joined router gets it
 abbrev pub joined_hears : ServerView → Place → IpxHeader → ℕ → Disposition
@@ -349,7 +349,7 @@ all_get to_service = if to_service then Nobody else All
 abbrev pub client_gets : ServerView → Node → Option Client → Result Recipients ServerDrop
 client_gets l node None =
     if length l.routers == 0 then Err (NoSuchNode node)
-    else Ok (joined_takers (far_client_of node l.far))
+    else Ok (joined_takers (remote_client_of node l.far))
 client_gets l node (Some c) = Ok (One c.place)
 
 abbrev pub server_gives : ServerView → Node → Bool → ℕ → Result Recipients ServerDrop
@@ -363,7 +363,7 @@ server_gives l node to_service size =
 -- clients that were silent for a day are forgotten
 abbrev pub server_aged : ℕ → ServerView → ServerView
 server_aged now l =
-    record l { clients = clients_left now l.clients; far = far_clients_left now l.far }
+    record l { clients = clients_left now l.clients; far = remote_clients_left now l.far }
 
 -- one more was dropped, and nothing else changes
 abbrev pub server_dropping : ServerDrop → ServerView → ServerView
@@ -375,9 +375,9 @@ server_knowing from now l =
     record l { clients = clients_heard l.most (node_given l from) from now l.clients }
 
 -- the joined router at an address showed where a node is, or nothing
-abbrev pub server_told : Option Node → Place → ℕ → ServerView → ServerView
-server_told None from now l = l
-server_told (Some node) from now l = record l { far = far_clients_heard node from now l.far }
+abbrev pub server_learned : Option Node → Place → ℕ → ServerView → ServerView
+server_learned None from now l = l
+server_learned (Some node) from now l = record l { far = remote_clients_heard node from now l.far }
 
 abbrev pub server_hearing : Disposition → Place → ℕ → ServerView → ServerView
 server_hearing (Registered answer) from now l = server_knowing from now l
@@ -387,7 +387,7 @@ server_hearing (ToOthers giver) from now l = server_knowing from now l
 server_hearing (ToOthersAndCore giver) from now l = server_knowing from now l
 server_hearing ToCore from now l = server_knowing from now l
 server_hearing (ToJoined takers) from now l = server_knowing from now l
-server_hearing (FromJoined told takers) from now l = server_told told from now l
+server_hearing (FromJoined told takers) from now l = server_learned told from now l
 server_hearing (Dropped drop) from now l = server_dropping drop l
 
 -- a packet of the core is sent to these, or dropped

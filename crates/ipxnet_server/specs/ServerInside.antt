@@ -30,7 +30,7 @@ pub record JoinedView : Type 0 where
   pub far : List RemoteClient
 
 -- what holds for these: none if no router is joined, no more than allowed, and memory for all
-pub record AreFarClients (routers : List Place) (far : List RemoteClient) (room : ℕ) : Type 0 where
+pub record AreRemoteClients (routers : List Place) (far : List RemoteClient) (room : ℕ) : Type 0 where
   pub none : routers ≡ [] → far ≡ []
   pub within : length far ≤ max_remote_clients
   pub all : room ≡ max_remote_clients

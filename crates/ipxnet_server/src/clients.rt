@@ -3,7 +3,7 @@
 ghost use Rattle.std.specs.Prelude.{◌≡◌, ◌≤◌, ◌<◌, ◌+◌, ◌-◌, [], None, IfOk, drop, filter, find, length, not, option_copied};
 ghost use Rattle.std.specs.Vec.{vec_capacity, vec_len};
 ghost use Rattle.ipxnet_server.specs.ServerClients.{EachClientOnce, is_server_full, client_at, client_heard, client_of_node, clients_heard, clients_left};
-ghost use Rattle.ipxnet_server.specs.ServerClients.{has_client_node, is_client_at, is_newcomer, max_server_clients, recent_registrations};
+ghost use Rattle.ipxnet_server.specs.ServerClients.{has_client_node, is_client_at, is_recent_client, max_server_clients, recent_registrations};
 
 use crate::place::Place;
 use ipx_wire::Node;
@@ -24,7 +24,7 @@ pub const REPLACED_AFTER_MS: u64 = 3_600_000;
 pub const MAX_RECENT_REGISTRATIONS: usize = 10;
 
 /// For how many milliseconds a client is new.
-const NEWCOMER_MS: u64 = 1000;
+const RECENT_CLIENT_MS: u64 = 1000;
 
 /// A client that registered.
 #[derive(Clone, Copy, Debug, PartialEq, Eq)]
@@ -76,7 +76,7 @@ fn leave_out_silent(known: &mut Vec<Client>, now: u64)
 }
 
 /// Removes the client that was heard before all others, if there is no room for another.
-fn make_room(known: &mut Vec<Client>, most: usize)
+fn make_space(known: &mut Vec<Client>, most: usize)
     requires some { 1 ≤ most }
     requires few { vec_len known.old ≤ most }
     ensures items { known.new.items ≡ drop (length known.old.items + 1 - most) known.old.items }
@@ -104,9 +104,9 @@ fn find_node(known: &[Client], node: Node) -> Option<&Client>
 
 /// Whether a client registered less than a second ago.
 fn is_new(now: u64, client: &Client) -> bool
-    ensures { result ≡ is_newcomer now client.now }
+    ensures { result ≡ is_recent_client now client.now }
 {
-    now.saturating_sub(client.since) < NEWCOMER_MS
+    now.saturating_sub(client.since) < RECENT_CLIENT_MS
 }
 
 impl Clients {
@@ -206,7 +206,7 @@ impl Clients {
     {
         let client = self.heard_at(node, place, now);
         leave_out(&mut self.known, place);
-        make_room(&mut self.known, self.most);
+        make_space(&mut self.known, self.most);
         let last = self.known.len();
         self.known.insert(last, client).unwrap();
     }

@@ -4,7 +4,7 @@ ghost use Rattle.std.specs.Prelude.{◌≡◌, Some, false, nat_lt};
 ghost use Rattle.ipx_wire.specs.declared.ipx.fault.IpxFault.{IpxFault};
 ghost use Rattle.ipx_wire.specs.Ipx.{BeginsWith, PacketView, ipx_fault, packet_view};
 ghost use Rattle.ipxnet_server.specs.ServerHears.{all_get, all_hear, core_hears, has_socket, is_for_server, is_from_server, is_registration, is_to_all_nodes, is_to_service, joined_takers};
-ghost use Rattle.ipxnet_server.specs.ServerHears.{all_hear_joined, far_source, server_header, server_hears_elsewhere, may_reach_core, max_client_bytes, one_hears_joined, registration_answer, tells_node, tells_router};
+ghost use Rattle.ipxnet_server.specs.ServerHears.{all_hear_joined, remote_source, server_header, server_hears_elsewhere, may_reach_core, max_client_bytes, one_hears_joined, registration_answer, tells_node, tells_router};
 
 use crate::clients::Client;
 use crate::disposition::Disposition;
@@ -210,8 +210,8 @@ pub fn joined_takers_of(far: Option<RemoteClient>) -> Recipients
 }
 
 /// The node that a joined router's packet is from, if it comes from the network of the port.
-fn far_node(port: ServerPort, header: IpxHeader) -> Option<Node>
-    ensures { result ≡ far_source port header }
+fn remote_node(port: ServerPort, header: IpxHeader) -> Option<Node>
+    ensures { result ≡ remote_source port header }
 {
     if is_from_here(port, header) {
         Some(header.from.node)
@@ -234,7 +234,7 @@ pub fn joined_to_all(port: ServerPort, from: Place, header: IpxHeader, size: usi
     if is_too_long(size) {
         return Disposition::Dropped(ServerDrop::TooLong(size));
     }
-    Disposition::FromJoined(far_node(port, header), Recipients::Here(from))
+    Disposition::FromJoined(remote_node(port, header), Recipients::Here(from))
 }
 
 /// What becomes of a packet of a joined router for one node, which this client has.
@@ -252,7 +252,7 @@ pub fn joined_to_one(
         Some(client) if client.place == from => Disposition::Dropped(ServerDrop::ToItself),
         Some(_) if is_too_long(size) => Disposition::Dropped(ServerDrop::TooLong(size)),
         Some(client) => {
-            Disposition::FromJoined(far_node(port, header), Recipients::One(client.place))
+            Disposition::FromJoined(remote_node(port, header), Recipients::One(client.place))
         }
     }
 }

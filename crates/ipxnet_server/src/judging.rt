@@ -3,8 +3,8 @@
 ghost use Rattle.std.specs.Prelude.{◌≡◌, []};
 ghost use Rattle.ipx_wire.specs.Ipx.{packet_view};
 ghost use Rattle.ipxnet_server.specs.ServerClients.{client_of_node, node_of_place};
-ghost use Rattle.ipxnet_server.specs.ServerHears.{client_hears, far_hear, is_node_here, is_node_taken, is_not_behind, joined_hears, server_hears};
-ghost use Rattle.ipxnet_server.specs.ServerHears.{server_hears_from, server_hears_here, newcomer_drop, node_given, registration_hears};
+ghost use Rattle.ipxnet_server.specs.ServerHears.{client_hears, hear_remote, is_node_here, is_node_taken, is_not_behind, joined_hears, server_hears};
+ghost use Rattle.ipxnet_server.specs.ServerHears.{server_hears_from, server_hears_here, registration_drop, node_given, registration_hears};
 
 use crate::clients::{Client, MAX_RECENT_REGISTRATIONS};
 use crate::disposition::Disposition;
@@ -50,7 +50,7 @@ impl IpxnetServer {
 
     /// Why a registration that would get this node is refused.
     fn refuses(&self, node: Node, now: u64) -> Option<ServerDrop>
-        ensures { result ≡ newcomer_drop self.now node now }
+        ensures { result ≡ registration_drop self.now node now }
     {
         if self.is_taken(node) {
             return Some(ServerDrop::NodeTaken(node));
@@ -79,8 +79,8 @@ impl IpxnetServer {
     }
 
     /// What becomes of a packet for one node here that no client has.
-    fn to_far(&self, node: Node, size: usize) -> Disposition
-        ensures { result ≡ far_hear self.now node size }
+    fn to_remote(&self, node: Node, size: usize) -> Disposition
+        ensures { result ≡ hear_remote self.now node size }
     {
         if self.routers().is_empty() {
             return Disposition::Dropped(ServerDrop::NoSuchNode(node));
@@ -97,7 +97,7 @@ impl IpxnetServer {
             (client_of_node header.to.node self.now.clients) }
     {
         match self.clients.of_node(header.to.node) {
-            None => self.to_far(header.to.node, size),
+            None => self.to_remote(header.to.node, size),
             Some(client) if client.place == from => Disposition::Dropped(ServerDrop::ToItself),
             Some(_) if is_too_long(size) => Disposition::Dropped(ServerDrop::TooLong(size)),
             Some(client) => Disposition::ToClient(client.place),

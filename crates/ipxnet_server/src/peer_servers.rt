@@ -3,7 +3,7 @@
 ghost use Rattle.std.specs.Prelude.{◌≡◌, ◌≤◌, ◌<◌, ◌+◌, ◌-◌, [], IfOk, None, drop, filter, find, length, not, option_copied, true};
 ghost use Rattle.std.specs.Vec.{vec_capacity, vec_len};
 ghost use Rattle.ipxnet_server.specs.ServerClients.{node_of_place};
-ghost use Rattle.ipxnet_server.specs.PeerServers.{far_client_of, far_clients_heard, far_clients_left, has_far_node, is_joined_place, made_node, max_remote_clients, newcomer_node};
+ghost use Rattle.ipxnet_server.specs.PeerServers.{remote_client_of, remote_clients_heard, remote_clients_left, has_remote_node, is_joined_place, made_node, max_remote_clients, new_client_node};
 
 use crate::clients::FORGOTTEN_AFTER_MS;
 use crate::place::Place;
@@ -36,13 +36,13 @@ pub struct Joined {
 
 impl Model for Joined {
     ghost use Rattle.std.specs.Vec.{vec_capacity};
-    ghost use Rattle.ipxnet_server.specs.ServerInside.{AreFarClients, JoinedView};
+    ghost use Rattle.ipxnet_server.specs.ServerInside.{AreRemoteClients, JoinedView};
 
     ghost Value = { JoinedView };
 
     ghost view = { λ j. record { routers = j.routers.items; far = j.far.items } };
 
-    ghost invariant = { λ j. AreFarClients j.routers.items j.far.items (vec_capacity j.far) };
+    ghost invariant = { λ j. AreRemoteClients j.routers.items j.far.items (vec_capacity j.far) };
 }
 
 /// Whether one of these is at an address.
@@ -54,7 +54,7 @@ fn is_one(routers: &[Place], place: Place) -> bool
 
 /// Removes the client of a node.
 fn leave_out(far: &mut Vec<RemoteClient>, node: Node)
-    ensures items { far.new.items ≡ filter (λ f. not (has_far_node node f)) far.old.items }
+    ensures items { far.new.items ≡ filter (λ f. not (has_remote_node node f)) far.old.items }
     ensures fewer { vec_len far.new ≤ vec_len far.old }
     ensures capacity { vec_capacity far.new ≡ vec_capacity far.old }
 {
@@ -63,7 +63,7 @@ fn leave_out(far: &mut Vec<RemoteClient>, node: Node)
 
 /// Removes the clients that were silent for a day.
 fn leave_out_silent(far: &mut Vec<RemoteClient>, now: u64)
-    ensures items { far.new.items ≡ far_clients_left now far.old.items }
+    ensures items { far.new.items ≡ remote_clients_left now far.old.items }
     ensures fewer { vec_len far.new ≤ vec_len far.old }
     ensures capacity { vec_capacity far.new ≡ vec_capacity far.old }
 {
@@ -71,7 +71,7 @@ fn leave_out_silent(far: &mut Vec<RemoteClient>, now: u64)
 }
 
 /// Removes the client that was heard before all others, if there is no room for another.
-fn make_room(far: &mut Vec<RemoteClient>)
+fn make_space(far: &mut Vec<RemoteClient>)
     requires { vec_len far.old ≤ max_remote_clients }
     ensures items { far.new.items
         ≡ drop (length far.old.items + 1 - max_remote_clients) far.old.items }
@@ -85,7 +85,7 @@ fn make_room(far: &mut Vec<RemoteClient>)
 
 /// The client of a node.
 fn find_node(far: &[RemoteClient], node: Node) -> Option<&RemoteClient>
-    ensures { option_copied result ≡ find (has_far_node node) far.now }
+    ensures { option_copied result ≡ find (has_remote_node node) far.now }
 {
     far.iter().find(|client| client.node == node)
 }
@@ -117,7 +117,7 @@ impl Joined {
     }
 
     /// Their clients, in the order in which they were last heard.
-    pub fn far_clients(&self) -> &[RemoteClient]
+    pub fn remote_clients(&self) -> &[RemoteClient]
         ensures far { result.now ≡ self.now.far }
         ensures few { length self.now.far ≤ max_remote_clients }
         ensures none { self.now.routers ≡ [] → self.now.far ≡ [] }
@@ -134,7 +134,7 @@ impl Joined {
 
     /// The client of a node.
     pub fn of_node(&self, node: Node) -> Option<RemoteClient>
-        ensures client { result ≡ far_client_of node self.now.far }
+        ensures client { result ≡ remote_client_of node self.now.far }
         ensures alone { self.now.routers ≡ [] → result ≡ None }
     {
         find_node(&self.far, node).copied()
@@ -142,7 +142,7 @@ impl Joined {
 
     /// The node that a new client at an address gets from a router with this node.
     pub fn node_for(&self, own: Node, place: Place) -> Node
-        ensures node { result ≡ newcomer_node own self.now.far place }
+        ensures node { result ≡ new_client_node own self.now.far place }
         ensures alone { self.now.routers ≡ [] → result ≡ node_of_place place }
     {
         let node = place.node();
@@ -154,7 +154,7 @@ impl Joined {
 
     /// Forgets the clients that were silent for a day.
     pub fn age(&mut self, now: u64)
-        ensures { self.new ≡ record self.old { far = far_clients_left now self.old.far } }
+        ensures { self.new ≡ record self.old { far = remote_clients_left now self.old.far } }
     {
         leave_out_silent(&mut self.far, now);
     }
@@ -164,11 +164,11 @@ impl Joined {
     pub fn put(&mut self, node: Node, router: Place, now: u64)
         requires { is_joined_place router self.old.routers ≡ true }
         ensures { self.new ≡ record self.old {
-          far = far_clients_heard node router now self.old.far;
+          far = remote_clients_heard node router now self.old.far;
         } }
     {
         leave_out(&mut self.far, node);
-        make_room(&mut self.far);
+        make_space(&mut self.far);
         let last = self.far.len();
         let client = RemoteClient {
             node,

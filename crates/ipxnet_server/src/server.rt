@@ -12,7 +12,7 @@ ghost use Rattle.ipxnet_server.specs.declared.recipients.Recipients.{Recipients}
 ghost use Rattle.ipxnet_server.specs.declared.recipients.Recipients.TheVariants.{One};
 ghost use Rattle.ipxnet_server.specs.ServerClients.{EachClientOnce, client_at, client_heard, client_of_node, clients_left, max_server_clients, node_of_place};
 ghost use Rattle.ipxnet_server.specs.ServerHears.{IsAnswer, answer_of, goes_to_core, is_dropped, is_joined_taker, is_of_client, is_taker, is_to_service};
-ghost use Rattle.ipxnet_server.specs.ServerHears.{joined_server, server_aged, server_gives, server_giving, server_hearing, server_knowing, server_told};
+ghost use Rattle.ipxnet_server.specs.ServerHears.{joined_server, server_aged, server_gives, server_giving, server_hearing, server_knowing, server_learned};
 ghost use Rattle.ipxnet_server.specs.ServerHears.{server_hears, may_reach_core, new_server, node_given, takers_join, takers_of, takers_reach};
 ghost use Rattle.ipxnet_server.specs.ServerInside.{IsSoundHearing};
 ghost use Rattle.ipxnet_server.specs.PeerServers.{is_joined_place, max_remote_clients};
@@ -135,12 +135,12 @@ impl IpxnetServer {
     }
 
     /// The clients of joined routers, in the order in which they were last heard.
-    pub fn far_clients(&self) -> &[RemoteClient]
+    pub fn remote_clients(&self) -> &[RemoteClient]
         ensures all { result.now ≡ self.now.far }
         ensures few { length self.now.far ≤ max_remote_clients }
         ensures none { self.now.routers ≡ [] → self.now.far ≡ [] }
     {
-        self.joined.far_clients()
+        self.joined.remote_clients()
     }
 
     /// Whether bytes with these takers are sent to the joined router at an address.
@@ -183,9 +183,9 @@ impl IpxnetServer {
     }
 
     /// The joined router at an address showed where a node is, or nothing.
-    fn know_far(&mut self, told: Option<Node>, from: Place, now: u64)
+    fn learn_remote(&mut self, told: Option<Node>, from: Place, now: u64)
         requires { is_joined_place from self.old.routers ≡ true }
-        ensures { self.new ≡ server_told told from now self.old }
+        ensures { self.new ≡ server_learned told from now self.old }
     {
         if let Some(node) = told {
             self.joined.put(node, from, now);
@@ -203,7 +203,7 @@ impl IpxnetServer {
     {
         match heard {
             Disposition::Dropped(drop) => self.counts.count(drop),
-            Disposition::FromJoined(told, _) => self.know_far(told, from, now),
+            Disposition::FromJoined(told, _) => self.learn_remote(told, from, now),
             Disposition::Registered(_)
             | Disposition::Pinged(_, _)
             | Disposition::ToClient(_)

@@ -77,7 +77,7 @@ fn to_one_at_a_site(rt: HostRuntime) -> Result<(), Fail> {
         router: SOUTH,
         heard: 7,
     };
-    assert_eq!(rt; here.far_clients(), [known].as_slice());
+    assert_eq!(rt; here.remote_clients(), [known].as_slice());
     let heard = here.hear(FIRST, &far, 0);
     assert_eq!(rt; heard, Disposition::ToJoined(Recipients::JoinedAt(SOUTH)));
     assert_eq!(rt; passed(&here, heard.takers()), [true, false]);
@@ -178,7 +178,7 @@ fn what_a_site_may_not_send(rt: HostRuntime) -> Result<(), Fail> {
         here.hear(SOUTH, &REGISTRATION, 0),
         Disposition::Dropped(ServerDrop::NotBehind(Node([0; 6])))
     );
-    assert!(rt; here.far_clients().is_empty());
+    assert!(rt; here.remote_clients().is_empty());
     assert_eq!(rt; here.clients().len(), 2);
     let wanted = ServerCounts {
         not_behind: 5,
@@ -258,7 +258,7 @@ fn packets_of_the_core(rt: HostRuntime) -> Result<(), Fail> {
         here.hear(SOUTH, &forwarded, 0),
         Disposition::FromJoined(None, Recipients::One(FIRST))
     );
-    assert_eq!(rt; here.far_clients().len(), 1);
+    assert_eq!(rt; here.remote_clients().len(), 1);
     Ok(())
 }
 
@@ -293,16 +293,16 @@ fn far_clients_that_go(rt: HostRuntime) -> Result<(), Fail> {
     let day = 86_400_000;
     here.hear(SOUTH, &packet(Node::BROADCAST, 2, THIRD_NODE), 5);
     here.hear(SOUTH, b"abc", day + 4);
-    assert_eq!(rt; here.far_clients().len(), 1);
+    assert_eq!(rt; here.remote_clients().len(), 1);
     here.hear(SOUTH, b"abc", day + 5);
-    assert!(rt; here.far_clients().is_empty());
+    assert!(rt; here.remote_clients().is_empty());
     for number in 0..1025u16 {
         let mut node = NOBODY;
         node.0[4..].copy_from_slice(&number.to_be_bytes());
         here.hear(SOUTH, &packet(Node::BROADCAST, 2, node), 0);
     }
-    assert_eq!(rt; here.far_clients().len(), 1024);
-    assert_eq!(rt; here.far_clients()[0].node, NOBODY);
+    assert_eq!(rt; here.remote_clients().len(), 1024);
+    assert_eq!(rt; here.remote_clients()[0].node, NOBODY);
     Ok(())
 }
 

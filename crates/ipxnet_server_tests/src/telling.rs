@@ -112,8 +112,8 @@ fn packets_of_another_network(rt: HostRuntime) -> Result<(), Fail> {
     register_all(&mut server);
     let dropped = Disposition::Dropped(ServerDrop::FromElsewhere(Network(0x99)));
     let to_router = packet(PORT.own, 0x453, FIRST_NODE);
-    let to_far = packet_for(0x77, Node([0, 0, 0, 0, 0, 1]), 0x4001, FIRST_NODE);
-    for bytes in [to_router, to_far] {
+    let to_remote = packet_for(0x77, Node([0, 0, 0, 0, 0, 1]), 0x4001, FIRST_NODE);
+    for bytes in [to_router, to_remote] {
         let mut forged = bytes;
         assert_eq!(rt; server.hear(FIRST, &forged, 0), Disposition::ToCore);
         forged[20..22].copy_from_slice(&[0xd0, 0x5b]);

@@ -62,7 +62,7 @@ abbrev pub one_word : (h same dead : Bool) → Word → Option Word → Option W
 one_word h same dead new old = cond h (cond same (cond dead None (Some new)) old) old
 
 -- the offer is in the table, and was learned since
-pub record Stands (v : RouteMetric) (low : ℕ) (o : Option Word) : Type 0 where
+pub record IsPresent (v : RouteMetric) (low : ℕ) (o : Option Word) : Type 0 where
   pub moment : ℕ
   pub is : o ≡ Some (v, moment)
   pub since : low ≤ moment
@@ -102,7 +102,7 @@ module _ (ports : List Port) (source : Source) (now : ℕ) (p : Network × Sourc
 
     keeps_by : (e : RipEntry) → Agrees e → (h same dead : Bool) (old : Option Word)
         → is_same network_cmp (e.network, source) p ≡ same → route_dead (route_metric e) ≡ dead
-        → Stands v low old → Stands v low (one_word h same dead (route_metric e, now) old)
+        → IsPresent v low old → IsPresent v low (one_word h same dead (route_metric e, now) old)
     keeps_by e agrees false same dead old b k s = s
     keeps_by e agrees true false dead old b k s = s
     keeps_by e agrees true true true old b k s =
@@ -110,14 +110,14 @@ module _ (ports : List Port) (source : Source) (now : ℕ) (p : Network × Sourc
     keeps_by e agrees true true false old b k s = record { moment = now; is = ap (λ m. Some (m, now)) (agrees b); since = past }
 
     pub keeps : (es : List RipEntry) (c : Routes) → ((e : RipEntry) → Contains es e → Agrees e)
-        → Stands v low (c p) → Stands v low (after_routes ports source now c es p)
+        → IsPresent v low (c p) → IsPresent v low (after_routes ports source now c es p)
     keeps [] c agree s = s
     keeps (e ∷ es) c agree s =
         keeps es (after_route ports source now c e) (λ f m. agree f (later e f es m))
-        (subst (Stands v low) (sym (step_is c e)) (keeps_by e (agree e (here e es)) (is_heard ports e) (is_same network_cmp (e.network, source) p) (route_dead (route_metric e)) (c p) refl refl s))
+        (subst (IsPresent v low) (sym (step_is c e)) (keeps_by e (agree e (here e es)) (is_heard ports e) (is_same network_cmp (e.network, source) p) (route_dead (route_metric e)) (c p) refl refl s))
 
     made_by : (e : RipEntry) → route_metric e ≡ v → (h same dead : Bool) (old : Option Word) → h ≡ true → same ≡ true
-        → route_dead (route_metric e) ≡ dead → Stands v low (one_word h same dead (route_metric e, now) old)
+        → route_dead (route_metric e) ≡ dead → IsPresent v low (one_word h same dead (route_metric e, now) old)
     made_by e is true true true old a b k = let no : true ≡ false = sym k ∙ ap route_dead is ∙ alive in cc
     made_by e is true true false old a b k = record { moment = now; is = ap (λ m. Some (m, now)) is; since = past }
     made_by e is false same dead old a b k = cc
@@ -126,10 +126,10 @@ module _ (ports : List Port) (source : Source) (now : ℕ) (p : Network × Sourc
     pub makes : (es : List RipEntry) (c : Routes) → ((e : RipEntry) → Contains es e → Agrees e)
         → (e : RipEntry) → Contains es e → route_metric e ≡ v → is_heard ports e ≡ true
         → is_same network_cmp (e.network, source) p ≡ true
-        → Stands v low (after_routes ports source now c es p)
+        → IsPresent v low (after_routes ports source now c es p)
     makes [] c agree e m is hears same = absurd (omega (arith, m.1))
     makes (f ∷ es) c agree e (zero, within, at) is hears same =
         keeps es (after_route ports source now c f) (λ g n. agree g (later f g es n))
-        (subst (Stands v low) (sym (step_is c f)) (made_by f (ap route_metric at ∙ is) (is_heard ports f) (is_same network_cmp (f.network, source) p) (route_dead (route_metric f)) (c p) (ap (is_heard ports) at ∙ hears) (ap (λ (g : RipEntry). is_same network_cmp (g.network, source) p) at ∙ same) refl))
+        (subst (IsPresent v low) (sym (step_is c f)) (made_by f (ap route_metric at ∙ is) (is_heard ports f) (is_same network_cmp (f.network, source) p) (route_dead (route_metric f)) (c p) (ap (is_heard ports) at ∙ hears) (ap (λ (g : RipEntry). is_same network_cmp (g.network, source) p) at ∙ same) refl))
     makes (f ∷ es) c agree e (suc k, within, at) is hears same =
         makes es (after_route ports source now c f) (λ g n. agree g (later f g es n)) e (k, omega (arith, within), at) is hears same

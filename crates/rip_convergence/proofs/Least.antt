@@ -6,7 +6,7 @@ use Rattle.ipx_router.specs.declared.route.Route.{Route}
 use Rattle.rip_convergence.specs.Histories.{Clock, Internet, Owns, TellsRoute, Routing, HasAsGood, IsHistory}
 use Rattle.rip_convergence.specs.Ways.{IsLeastWay, LeastWaysExtend}
 use Rattle.rip_convergence.specs.TableLaws.{LawsOfTables}
-use Rattle.rip_convergence.proofs.Order.{told_apart}
+use Rattle.rip_convergence.proofs.Order.{told_separate}
 use Rattle.ipx_router.specs.RouteChoice.{direct_route}
 use Rattle.rip_convergence.proofs.Settling.{some_same}
 use Rattle.rip_convergence.proofs.Roots.{hops_told, are_ways}
@@ -19,7 +19,7 @@ module _ (laws : LawsOfTables) (net : Internet) (d : Network) (window : ℕ) (cl
   settle t r s a b least tells late g =
       elim (history.sourced t r g.best (omega (arith, late)) g.has) [
         | inl mine ↦ absurd (own_is mine)
-        | inr w ↦ g.has ∙ ap (λ c. Some c) (told_apart laws net d r w.who s g.best b w.route a w.tells tells (least.least g.best (are_ways net d window clock x start history.sourced t r g.best (omega (arith, late)) g.has)) g.not_worse)
+        | inr w ↦ g.has ∙ ap (λ c. Some c) (told_separate laws net d r w.who s g.best b w.route a w.tells tells (least.least g.best (are_ways net d window clock x start history.sourced t r g.best (omega (arith, late)) g.has)) g.not_worse)
       ]
     where
       own_is : Owns net d r g.best → ⊥

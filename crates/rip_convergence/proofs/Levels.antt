@@ -14,7 +14,7 @@ use Rattle.ipx_router.specs.declared.route.Route.{Route}
 use Rattle.rip_convergence.specs.Histories.{Clock, Internet, IsHistory, Owns, Routing, TellsRoute, as_offer, better_route}
 use Rattle.rip_convergence.specs.Ways.{CostsUpTo, CostsWithin, Way, own, over}
 use Rattle.rip_convergence.specs.TableLaws.{LawsOfTables}
-use Rattle.rip_convergence.proofs.Order.{better_ticks, told_apart}
+use Rattle.rip_convergence.proofs.Order.{better_ticks, told_separate}
 use Rattle.rip_convergence.proofs.Roots.{are_ways, hops_told}
 use Rattle.rip_convergence.proofs.Settling as settling
 use Rattle.rip_convergence.proofs.Settling.{bool_cases}
@@ -78,7 +78,7 @@ module _ (net : Internet) (d : Network) (most : ℕ) (costs : CostsUpTo most net
     order : settling.Order (Owns net d) (TellsRoute net d) better_route IsFew level window
     order = record {
       irreflexive = λ a. laws.strict.irreflexive (as_offer a);
-      total = λ r s u a b c e. told_apart laws net d r s u a b c e;
+      total = λ r s u a b c e. told_separate laws net d r s u a b c e;
       rises = rises;
       in_order = λ r s a b tells c. in_order c b;
     }

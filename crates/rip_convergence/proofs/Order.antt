@@ -21,9 +21,9 @@ pub source_total : IsTotalOrder source_cmp
 source_total = then_total (on_total (λ s. s.port) nat_cmp_total) (on_total (λ s. s.neighbour.0) nat_list_cmp_total)
 
 -- of two advertised routes, one is better unless they are the same
-pub told_apart : (laws : LawsOfTables) (net : Internet) (d : Network) (r s u : ℕ) (a b c e : Route) → TellsRoute net d s c r a
+pub told_separate : (laws : LawsOfTables) (net : Internet) (d : Network) (r s u : ℕ) (a b c e : Route) → TellsRoute net d s c r a
     → TellsRoute net d u e r b → better_route a b ≡ false → better_route b a ≡ false → a ≡ b
-told_apart laws net d r s u a b c e one two lesser other =
+told_separate laws net d r s u a b c e one two lesser other =
     let la : as_offer a ≡ one.best = ap as_offer one.is in
     let lb : as_offer b ≡ two.best = ap as_offer two.is in
     let same : as_offer a ≡ as_offer b = laws.strict.total (as_offer a) (as_offer b) lesser other in

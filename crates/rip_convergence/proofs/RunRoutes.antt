@@ -13,11 +13,11 @@ use Rattle.ipx_router.specs.declared.route.Route.{Route}
 use Rattle.ipx_router.specs.Hearing.{is_heard, route_metric}
 use Rattle.ipx_router.specs.Knowledge.{Routes}
 use Rattle.ipx_router.specs.RouteChoice.{IsHeardRoute, IsRouteOrNone, IsRouteTo, direct_route, over_neighbour, over_port}
-use Rattle.ipx_router.specs.Told.{told_route}
+use Rattle.ipx_router.specs.Told.{advertised_route}
 use Rattle.rip_convergence.specs.TableLaws.{LawsOfTables}
-use Rattle.rip_convergence.specs.Histories.{Clock, HasAsGood, Internet, IsHistory, Owns, Routing, TellsRoute, WasTold, better_route, is_foreign, told_metric}
-use Rattle.rip_convergence.specs.RouterRuns.{AllIsHeard, AreRoutes, Hearing, IsRun, NodesDiffer, NothingForged, Saying, TellsTo, WasSaid}
-use Rattle.rip_convergence.proofs.Hearing.{Stands, Word, keeps, makes, said_by, same_itself, same_parts, still_is, still_was}
+use Rattle.rip_convergence.specs.Histories.{Clock, HasAsGood, Internet, IsHistory, Owns, Routing, TellsRoute, WasAdvertised, better_route, is_foreign, advertised_metric}
+use Rattle.rip_convergence.specs.RouterRuns.{AllIsHeard, AreRoutes, Hearing, IsRun, NodesDiffer, NothingForged, Saying, TellsTo, IsInAdvertisement}
+use Rattle.rip_convergence.proofs.Hearing.{IsPresent, Word, keeps, makes, said_by, same_itself, same_parts, still_is, still_was}
 use Rattle.rip_convergence.proofs.Settling.{bool_cases, some_same}
 
 abbrev pub By : Routes → ℕ → Network → Route → Option ℕ → Type 0
@@ -49,7 +49,7 @@ module _ (laws : LawsOfTables) (net : Internet) (d : Network) (clock : Clock) (c
     told : TellsTo net clock c heard n r source
     e : RipEntry
     named : e.network ≡ p.0
-    said : WasSaid net clock c heard n r source told e
+    said : IsInAdvertisement net clock c heard n r source told e
     metric : route_metric e ≡ w.0
     at : clock n ≡ w.1
     ours : List Port
@@ -108,10 +108,10 @@ module _ (laws : LawsOfTables) (net : Internet) (d : Network) (clock : Clock) (c
       route_is laws o.ours (c t r) (clock t) d (x t r) b (are.of_router t r o.ours o.router)
       (subst (By (c t r) (clock t) d b) (sym o.direct) o.is)
 
-  pub sourced : (t r : ℕ) (b : Route) → clock 0 + 180000 ≤ clock t → x t r ≡ Some b → Owns net d r b ⊎ WasTold net d 180000 clock x t r b
+  pub sourced : (t r : ℕ) (b : Route) → clock 0 + 180000 ≤ clock t → x t r ≡ Some b → Owns net d r b ⊎ WasAdvertised net d 180000 clock x t r b
   sourced t r b late has = by_router (slice_get net r) refl
     where
-      by_offer : (ours : List Port) → slice_get net r ≡ Some ours → direct_route ours d ≡ None → IsHeardRoute (c t r) (clock t) d b → WasTold net d 180000 clock x t r b
+      by_offer : (ours : List Port) → slice_get net r ≡ Some ours → direct_route ours d ≡ None → IsHeardRoute (c t r) (clock t) d b → WasAdvertised net d 180000 clock x t r b
       by_offer ours at none h =
           let young = ltb-true (clock t - h.1.moment) 180000 h.1.counts in
           elim (kept t r (d, h.0.0) (h.0.1, h.1.moment) refl h.1.stands) [
@@ -121,14 +121,14 @@ module _ (laws : LawsOfTables) (net : Internet) (d : Network) (clock : Clock) (c
                 let t' = w.told in
                 let same_ours : w.ours ≡ t'.meet.ours = some_same w.ours t'.meet.ours (sym w.router ∙ t'.meet.hearer) in
                 let ours_same : ours ≡ t'.meet.ours = some_same ours t'.meet.ours (sym at ∙ t'.meet.hearer) in
-                let leads : IsRouteTo t'.meet.theirs (c t'.told_at t'.s) (clock t'.told_at) d w.said.route = subst (λ n. IsRouteTo t'.meet.theirs (c t'.told_at t'.s) (clock t'.told_at) n w.said.route) w.named w.said.leads in
+                let leads : IsRouteTo t'.meet.theirs (c t'.advertised_at t'.s) (clock t'.advertised_at) d w.said.route = subst (λ n. IsRouteTo t'.meet.theirs (c t'.advertised_at t'.s) (clock t'.advertised_at) n w.said.route) w.named w.said.leads in
                 record {
                   who = t'.s;
                   route = w.said.route;
-                  step = t'.told_at;
+                  step = t'.advertised_at;
                   before = omega (arith, t'.before, heard_before.1);
-                  recent = omega (arith, young, w.at, t'.same_moment);
-                  had = route_is laws t'.meet.theirs (c t'.told_at t'.s) (clock t'.told_at) d (x t'.told_at t'.s) w.said.route (are.of_router t'.told_at t'.s t'.meet.theirs t'.meet.teller) leads;
+                  recent = omega (arith, young, w.at, t'.same_time);
+                  had = route_is laws t'.meet.theirs (c t'.advertised_at t'.s) (clock t'.advertised_at) d (x t'.advertised_at t'.s) w.said.route (are.of_router t'.advertised_at t'.s t'.meet.theirs t'.meet.teller) leads;
                   tells = record {
                     q = t'.q;
                     p = t'.p;
@@ -145,11 +145,11 @@ module _ (laws : LawsOfTables) (net : Internet) (d : Network) (clock : Clock) (c
                 }
           ]
 
-      by_ports : (ours : List Port) → slice_get net r ≡ Some ours → (o : Option ℕ) → direct_route ours d ≡ o → By (c t r) (clock t) d b o → Owns net d r b ⊎ WasTold net d 180000 clock x t r b
+      by_ports : (ours : List Port) → slice_get net r ≡ Some ours → (o : Option ℕ) → direct_route ours d ≡ o → By (c t r) (clock t) d b o → Owns net d r b ⊎ WasAdvertised net d 180000 clock x t r b
       by_ports ours at (Some place) direct is = inl (record { ours = ours; place = place; router = at; direct = direct; is = is })
       by_ports ours at None direct h = inr (by_offer ours at direct h)
 
-      by_router : (o : Option (List Port)) → slice_get net r ≡ o → Owns net d r b ⊎ WasTold net d 180000 clock x t r b
+      by_router : (o : Option (List Port)) → slice_get net r ≡ o → Owns net d r b ⊎ WasAdvertised net d 180000 clock x t r b
       by_router None at = let no : None ≡ Some b = sym (are.no_router t r at) ∙ has in cc
       by_router (Some ours) at =
           by_ports ours at (direct_route ours d) refl
@@ -181,44 +181,44 @@ module _ (laws : LawsOfTables) (net : Internet) (d : Network) (clock : Clock) (c
         let two : Source = record { port = tells.p; neighbour = tells.meet.far.node } in
         let sources : one ≡ two = sym t'.is ∙ parts.1 ∙ tells.from in
         let who = differ t'.s t'.q s tells.q (heard n).router t'.p r tells.p t'.meet tells.meet at (ap (λ (z : Source). z.port) sources) (ap (λ (z : Source). z.neighbour) sources) in
-        let has : x t'.told_at s ≡ Some a = still_has t'.told_at (omega (arith, within, t'.before)) (omega (arith, recent, t'.same_moment)) in
-        let leads : IsRouteTo t'.meet.theirs (c t'.told_at t'.s) (clock t'.told_at) d h.1.route = subst (λ n. IsRouteTo t'.meet.theirs (c t'.told_at t'.s) (clock t'.told_at) n h.1.route) parts.0 h.1.leads in
-        let was = route_is laws t'.meet.theirs (c t'.told_at t'.s) (clock t'.told_at) d (x t'.told_at t'.s) h.1.route (are.of_router t'.told_at t'.s t'.meet.theirs t'.meet.teller) leads in
-        let route : h.1.route ≡ a = some_same h.1.route a (sym was ∙ ap (x t'.told_at) who.0 ∙ has) in
+        let has : x t'.advertised_at s ≡ Some a = still_has t'.advertised_at (omega (arith, within, t'.before)) (omega (arith, recent, t'.same_time)) in
+        let leads : IsRouteTo t'.meet.theirs (c t'.advertised_at t'.s) (clock t'.advertised_at) d h.1.route = subst (λ n. IsRouteTo t'.meet.theirs (c t'.advertised_at t'.s) (clock t'.advertised_at) n h.1.route) parts.0 h.1.leads in
+        let was = route_is laws t'.meet.theirs (c t'.advertised_at t'.s) (clock t'.advertised_at) d (x t'.advertised_at t'.s) h.1.route (are.of_router t'.advertised_at t'.s t'.meet.theirs t'.meet.teller) leads in
+        let route : h.1.route ≡ a = some_same h.1.route a (sym was ∙ ap (x t'.advertised_at) who.0 ∙ has) in
         let theirs : t'.meet.theirs ≡ tells.meet.theirs = some_same t'.meet.theirs tells.meet.theirs (sym t'.meet.teller ∙ ap (slice_get net) who.0 ∙ tells.meet.teller) in
         let far : t'.meet.far ≡ tells.meet.far = some_same t'.meet.far tells.meet.far (sym t'.meet.at_far.1 ∙ ap (λ ports. slice_get ports (t'.q - 1)) theirs ∙ ap (λ k. slice_get tells.meet.theirs (k - 1)) who.1 ∙ tells.meet.at_far.1) in
-        ap route_metric h.1.is ∙ ap (λ (f : Port). told_metric f.cost h.1.route.metric) far ∙ ap (λ (m : Route). told_metric tells.meet.far.cost m.metric) route ∙ sym tells.metric
+        ap route_metric h.1.is ∙ ap (λ (f : Port). advertised_metric f.cost h.1.route.metric) far ∙ ap (λ (m : Route). advertised_metric tells.meet.far.cost m.metric) route ∙ sym tells.metric
 
-    aged_stands : (k n : ℕ) (o : Option Word) → clock t < clock k + 180000 → n ≤ t → Stands v (clock k) o → Stands v (clock k) (still (clock n) o)
-    aged_stands k n o recent high st =
+    aged_holds : (k n : ℕ) (o : Option Word) → clock t < clock k + 180000 → n ≤ t → IsPresent v (clock k) o → IsPresent v (clock k) (still (clock n) o)
+    aged_holds k n o recent high st =
         let young : is_young (clock n) st.moment ≡ true = lt-ltb (clock n - st.moment) 180000 (omega (arith, recent, later_on n t high, st.since)) in
         record { moment = st.moment; is = ap (still (clock n)) st.is ∙ still_is (clock n) (v, st.moment) young; since = st.since }
 
-    stands_on : (k n : ℕ) → clock t < clock k + 180000 → k < n → suc n ≤ t → Stands v (clock k) (c n r pt) → Stands v (clock k) (c (suc n) r pt)
+    stands_on : (k n : ℕ) → clock t < clock k + 180000 → k < n → suc n ≤ t → IsPresent v (clock k) (c n r pt) → IsPresent v (clock k) (c (suc n) r pt)
     stands_on k n recent low high st = elim (bool_cases (r == (heard n).router)) [
       | inl same ↦
           let eq : r ≡ (heard n).router = eqb-true r (heard n).router same in
           let ours = run.hearer n in
           let since = later_on k n (omega (arith, low)) in
-          let there : Stands v (clock k) (c n (heard n).router pt) = subst (λ z. Stands v (clock k) (c n z pt)) eq st in
-          let kept_on = keeps ours.0 (heard n).source (clock n) pt v tells.alive (clock k) since (heard n).entries (after_age (c n (heard n).router) (clock n)) (agree n (omega (arith, high)) (omega (arith, recent, since)) (sym eq)) (aged_stands k n (c n (heard n).router pt) recent (omega (arith, high)) there) in
-          subst (λ z. Stands v (clock k) (c (suc n) z pt)) (sym eq) (subst (Stands v (clock k)) (sym (run.hears n ours.0 ours.1 pt)) kept_on)
+          let there : IsPresent v (clock k) (c n (heard n).router pt) = subst (λ z. IsPresent v (clock k) (c n z pt)) eq st in
+          let kept_on = keeps ours.0 (heard n).source (clock n) pt v tells.alive (clock k) since (heard n).entries (after_age (c n (heard n).router) (clock n)) (agree n (omega (arith, high)) (omega (arith, recent, since)) (sym eq)) (aged_holds k n (c n (heard n).router pt) recent (omega (arith, high)) there) in
+          subst (λ z. IsPresent v (clock k) (c (suc n) z pt)) (sym eq) (subst (IsPresent v (clock k)) (sym (run.hears n ours.0 ours.1 pt)) kept_on)
       | inr other ↦ elim (run.others n r pt (λ eq. let no : true ≡ false = sym (eq-eqb r (heard n).router eq) ∙ other in cc)) [
-        | inl stays ↦ subst (Stands v (clock k)) (sym stays) st
-        | inr aged ↦ subst (Stands v (clock k)) (sym aged) (aged_stands k n (c n r pt) recent (omega (arith, high)) st)
+        | inl stays ↦ subst (IsPresent v (clock k)) (sym stays) st
+        | inr aged ↦ subst (IsPresent v (clock k)) (sym aged) (aged_holds k n (c n r pt) recent (omega (arith, high)) st)
       ]
     ]
 
-    stands_to : (k n : ℕ) → clock t < clock k + 180000 → Stands v (clock k) (c (suc k) r pt) → k < n → n ≤ t → Stands v (clock k) (c n r pt)
-    stands_to k zero recent base low high = absurd (omega (arith, low))
-    stands_to k (suc n) recent base low high = elim (bool_cases (nat_lt k n)) [
-      | inl before ↦ stands_on k n recent (ltb-true k n before) high (stands_to k n recent base (ltb-true k n before) (omega (arith, high)))
+    holds_to : (k n : ℕ) → clock t < clock k + 180000 → IsPresent v (clock k) (c (suc k) r pt) → k < n → n ≤ t → IsPresent v (clock k) (c n r pt)
+    holds_to k zero recent base low high = absurd (omega (arith, low))
+    holds_to k (suc n) recent base low high = elim (bool_cases (nat_lt k n)) [
+      | inl before ↦ stands_on k n recent (ltb-true k n before) high (holds_to k n recent base (ltb-true k n before) (omega (arith, high)))
       | inr other ↦
           let is : k ≡ n = omega (arith, low, ltb-false k n other) in
-          subst (λ m. Stands v (clock k) (c (suc m) r pt)) is base
+          subst (λ m. IsPresent v (clock k) (c (suc m) r pt)) is base
     ]
 
-    as_good : Stands v 0 (c t r pt) → (moment : ℕ) → c t r pt ≡ Some (v, moment) → is_young (clock t) moment ≡ true → HasAsGood net d 180000 clock x t r b
+    as_good : IsPresent v 0 (c t r pt) → (moment : ℕ) → c t r pt ≡ Some (v, moment) → is_young (clock t) moment ≡ true → HasAsGood net d 180000 clock x t r b
     as_good st moment stands young = by_route (x t r) refl
       where
         by_route : (o : Option Route) → x t r ≡ o → HasAsGood net d 180000 clock x t r b
@@ -242,7 +242,7 @@ module _ (laws : LawsOfTables) (net : Internet) (d : Network) (clock : Clock) (c
     pub good : HasAsGood net d 180000 clock x t r b
     good =
         let at : PortNow = record { number = tells.q; port = tells.meet.far; now = 0 } in
-        let e : RipEntry = told_route d a.metric at in
+        let e : RipEntry = advertised_route d a.metric at in
         let w = often t s tells.q r tells.p late tells.meet e refl (λ m high recent. record { route = a; leads = leads m (still_has m high recent); elsewhere = tells.elsewhere; is = refl }) in
         let k = w.0 in
         let recent = w.2 in
@@ -253,8 +253,8 @@ module _ (laws : LawsOfTables) (net : Internet) (d : Network) (clock : Clock) (c
         let source : (heard k).source ≡ tells.best.0 = w.4 ∙ sym tells.from in
         let same : is_same network_cmp (d, (heard k).source) pt ≡ true = ap (λ z. is_same network_cmp (d, z) pt) source ∙ same_itself pt in
         let made = makes ours.0 (heard k).source (clock k) pt v tells.alive (clock k) (omega arith) (heard k).entries (after_age (c k (heard k).router) (clock k)) (agree k (omega (arith, w.1)) recent w.3) e m (sym tells.metric) hears same in
-        let base : Stands v (clock k) (c (suc k) r pt) = subst (λ z. Stands v (clock k) (c (suc k) z pt)) w.3 (subst (Stands v (clock k)) (sym (run.hears k ours.0 ours.1 pt)) made) in
-        let st = stands_to k t recent base w.1 (omega arith) in
+        let base : IsPresent v (clock k) (c (suc k) r pt) = subst (λ z. IsPresent v (clock k) (c (suc k) z pt)) w.3 (subst (IsPresent v (clock k)) (sym (run.hears k ours.0 ours.1 pt)) made) in
+        let st = holds_to k t recent base w.1 (omega arith) in
         as_good (record { moment = st.moment; is = st.is; since = omega arith }) st.moment st.is (lt-ltb (clock t - st.moment) 180000 (omega (arith, recent, st.since)))
 
   pub history : (from : ℕ) → NodesDiffer net → AllIsHeard net clock c heard d from → IsHistory net d 180000 clock x (clock 0) from

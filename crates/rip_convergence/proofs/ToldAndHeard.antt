@@ -37,10 +37,10 @@ use Rattle.ipx_router.specs.RouterPackets.{AreCutOf, AreRoutePackets, AreService
 use Rattle.ipx_router.specs.Ports.{IsPort}
 use Rattle.ipx_router.specs.RouteChoice.{direct_route}
 use Rattle.ipx_router.specs.RouterView.{RouterView}
-use Rattle.ipx_router.specs.Telling.{AreTellings, AreTold, is_due}
-use Rattle.ipx_router.specs.Told.{IsToldRoute}
+use Rattle.ipx_router.specs.Telling.{AreAdvertisements, AreAdvertised, is_due}
+use Rattle.ipx_router.specs.Told.{IsAdvertisedRoute}
 use Rattle.rip_convergence.specs.PacketLaws.{LawsOfPackets}
-use Rattle.rip_convergence.specs.HeardTellings.{ReceivesInTurn, TellingsAreHeard, leaving_by}
+use Rattle.rip_convergence.specs.LearnedAdvertisements.{ReceivesInTurn, AdvertisementsAreLearned, leaving_by}
 use Rattle.rip_convergence.proofs.Hearing.{Word, one_word, step_is, still_is, still_was}
 use Rattle.rip_convergence.proofs.RunRoutes.{By}
 use Rattle.rip_convergence.proofs.Settling.{bool_cases, some_same}
@@ -87,15 +87,15 @@ one_on : (number k port : ℕ) → port ≡ number + suc k → port ≡ number +
 one_on number k port e = omega (arith, e)
 
 module _ (ports : List Port) (routes : Routes) (services : Services) (now : ℕ) where
-  told_by_port : (at : PortNow) (sent : List SendingView) → AreTold ports routes services at sent → ByPort at.number sent
+  told_by_port : (at : PortNow) (sent : List SendingView) → AreAdvertised ports routes services at sent → ByPort at.number sent
   told_by_port at sent t =
       subst (ByPort at.number) (sym t.are)
       (by_port_both at.number t.route_packets t.service_packets
-      (cut_by_port 50 (λ part. IsRipPacket (all_nodes at.number at.port rip_socket) (rip.Response part)) at.number (λ part s is. let own : IsRipPacket (all_nodes at.number at.port rip_socket) (rip.Response part) s = is in own.port) t.told_routes t.route_packets t.in_route_packets)
-      (cut_by_port 7 (λ part. IsSapPacket (all_nodes at.number at.port sap_socket) (sap.Response false part)) at.number (λ part s is. let own : IsSapPacket (all_nodes at.number at.port sap_socket) (sap.Response false part) s = is in own.port) t.told_services t.service_packets t.in_service_packets))
+      (cut_by_port 50 (λ part. IsRipPacket (all_nodes at.number at.port rip_socket) (rip.Response part)) at.number (λ part s is. let own : IsRipPacket (all_nodes at.number at.port rip_socket) (rip.Response part) s = is in own.port) t.advertised_routes t.route_packets t.in_route_packets)
+      (cut_by_port 7 (λ part. IsSapPacket (all_nodes at.number at.port sap_socket) (sap.Response false part)) at.number (λ part s is. let own : IsSapPacket (all_nodes at.number at.port sap_socket) (sap.Response false part) s = is in own.port) t.advertised_services t.service_packets t.in_service_packets))
 
   -- what is advertised on later ports does not leave by an earlier one
-  none_later : (number port : ℕ) → port < number → (later : List Port) (sent : List SendingView) → AreTellings ports routes services now number later sent → leaving_by port sent ≡ []
+  none_later : (number port : ℕ) → port < number → (later : List Port) (sent : List SendingView) → AreAdvertisements ports routes services now number later sent → leaving_by port sent ≡ []
   none_later number port less [] sent t = ap (leaving_by port) t
   none_later number port less (near ∷ later) sent t =
       ap (leaving_by port) t.2 ∙ filter-append (λ s. s.port == port) t.0 t.1
@@ -103,11 +103,11 @@ module _ (ports : List Port) (routes : Routes) (services : Services) (now : ℕ)
       ∙ none_later (number + 1) port (omega (arith, less)) later t.1 t.4
 
   abbrev IsToldBy : ℕ → Port → List SendingView → Type 0
-  IsToldBy number port = AreTold ports routes services (record { number = number; port = port; now = now })
+  IsToldBy number port = AreAdvertised ports routes services (record { number = number; port = port; now = now })
 
   -- what leaves by a first port is what is advertised on it
   told_first : (number : ℕ) (far : Port) (later : List Port) (sent first rest : List SendingView) → sent ≡ first ++ rest
-      → IsToldBy number far first → AreTellings ports routes services now (number + 1) later rest → IsToldBy number far (leaving_by number sent)
+      → IsToldBy number far first → AreAdvertisements ports routes services now (number + 1) later rest → IsToldBy number far (leaving_by number sent)
   told_first number far later sent first rest is one more =
       subst (IsToldBy number far)
       (sym (ap (leaving_by number) is ∙ filter-append (λ s. s.port == number) first rest
@@ -122,7 +122,7 @@ module _ (ports : List Port) (routes : Routes) (services : Services) (now : ℕ)
       ∙ ap (λ xs. xs ++ leaving_by port rest) (none_leave number port apart first (told_by_port (record { number = number; port = near; now = now }) first one))
 
   told_here : (number port : ℕ) (near far : Port) (later : List Port) (sent first rest : List SendingView) → sent ≡ first ++ rest
-      → IsToldBy number near first → AreTellings ports routes services now (number + 1) later rest → number ≡ port → near ≡ far → IsToldBy port far (leaving_by port sent)
+      → IsToldBy number near first → AreAdvertisements ports routes services now (number + 1) later rest → number ≡ port → near ≡ far → IsToldBy port far (leaving_by port sent)
   told_here number port near far later sent first rest is one more same there =
       subst (λ n. IsToldBy n far (leaving_by n sent)) same
       (subst (λ z. IsToldBy number z (leaving_by number sent)) there (told_first number near later sent first rest is one more))
@@ -133,7 +133,7 @@ module _ (ports : List Port) (routes : Routes) (services : Services) (now : ℕ)
       subst (IsToldBy port far) (sym (left_later number port near sent first rest is one apart)) there
 
   told_on : (later : List Port) (number k port : ℕ) → port ≡ number + k → (far : Port) (sent : List SendingView) → slice_get later k ≡ Some far
-      → AreTellings ports routes services now number later sent → IsToldBy port far (leaving_by port sent)
+      → AreAdvertisements ports routes services now number later sent → IsToldBy port far (leaving_by port sent)
   told_on [] number k port e far sent there t = absurd (nothing_there far there)
   told_on (near ∷ later) number zero port e far sent there t =
       told_here number port near far later sent t.0 t.1 t.2 t.3 t.4 (no_further number port e) (some_same near far there)
@@ -362,7 +362,7 @@ route_moved : (c b : Routes) (now : ℕ) (d : Network) (a : Route) → ((best : 
 route_moved c b now d a moved None h = (h.0, moved h.0 h.1, h.2)
 route_moved c b now d a moved (Some place) h = h
 
-told_moved : (ports : List Port) (c b : Routes) (at : PortNow) (e : RipEntry) → ((best : Source × RouteMetric) → IsBest route_before c e.network at.now best → IsBest route_before b e.network at.now best) → IsToldRoute ports c at e → IsToldRoute ports b at e
+told_moved : (ports : List Port) (c b : Routes) (at : PortNow) (e : RipEntry) → ((best : Source × RouteMetric) → IsBest route_before c e.network at.now best → IsBest route_before b e.network at.now best) → IsAdvertisedRoute ports c at e → IsAdvertisedRoute ports b at e
 told_moved ports c b at e moved told = record {
   route = told.route;
   leads = route_moved c b at.now e.network told.route moved (direct_route ports e.network) told.leads;
@@ -374,24 +374,24 @@ of_true : (P Q : Type 0) (b : Bool) → b ≡ true → MatchBool b P Q → P
 of_true P Q true e h = h
 of_true P Q false e h = cc
 
-pub heard : LawsOfPackets → TellingsAreHeard
+pub heard : LawsOfPackets → AdvertisementsAreLearned
 heard laws net s q r p meet teller old new now sent told theirs ours apart due tells received =
     let known = known_at teller now in
     let at : PortNow = record { number = q; port = meet.far; now = now } in
     let source : Source = record { port = p; neighbour = meet.far.node } in
-    let tellings = (of_true (AreTellings teller.ports known.routes known.services now 1 teller.ports sent × (told ≡ Some now)) ((sent ≡ []) × (told ≡ teller.told)) (is_due teller.told now) due tells).0 in
+    let tellings = (of_true (AreAdvertisements teller.ports known.routes known.services now 1 teller.ports sent × (told ≡ Some now)) ((sent ≡ []) × (told ≡ teller.told)) (is_due teller.told now) due tells).0 in
     let there : slice_get teller.ports (q - 1) ≡ Some meet.far = ap (λ ports. slice_get ports (q - 1)) theirs ∙ meet.at_far.1 in
     let t = told_on teller.ports known.routes known.services now teller.ports 1 (q - 1) q (omega (arith, meet.at_far.0)) meet.far sent there tellings in
     let at_near : IsPort old.ports p meet.near = subst (λ ports. IsPort ports p meet.near) (sym ours) meet.at_near in
     let packets = leaving_by q sent in
-    let learns = learns_all meet.near meet.far meet.one_network apart q laws p now t.route_packets t.service_packets t.told_routes t.told_services old new at_near t.in_route_packets t.in_service_packets (subst (λ ss. ReceivesInTurn p now old ss new) t.are received) in (
-      t.told_routes,
+    let learns = learns_all meet.near meet.far meet.one_network apart q laws p now t.route_packets t.service_packets t.advertised_routes t.advertised_services old new at_near t.in_route_packets t.in_service_packets (subst (λ ss. ReceivesInTurn p now old ss new) t.are received) in (
+      t.advertised_routes,
       record {
-        none = λ none. (cut_of_none (all_nodes q meet.far rip_socket) t.told_routes t.route_packets (none_first t.route_packets t.service_packets (sym t.are ∙ none)) t.in_route_packets, subst (λ ss. ReceivesInTurn p now old ss new) none received);
+        none = λ none. (cut_of_none (all_nodes q meet.far rip_socket) t.advertised_routes t.route_packets (none_first t.route_packets t.service_packets (sym t.are ∙ none)) t.in_route_packets, subst (λ ss. ReceivesInTurn p now old ss new) none received);
         some = λ some x. sym (fresh_some p now packets old new received some x) ∙ learns.1 x;
       },
       λ e. (
-        λ there. subst (λ ports. IsToldRoute ports (routes_in teller.routes) at e) theirs (told_moved teller.ports known.routes (routes_in teller.routes) at e (λ best. best_of_aged (routes_in teller.routes) e.network now best) ((t.of_routes.stands e).0 there)),
-        λ told. (t.of_routes.stands e).1 (told_moved teller.ports (routes_in teller.routes) known.routes at e (λ best. best_when_aged (routes_in teller.routes) e.network now best) (subst (λ ports. IsToldRoute ports (routes_in teller.routes) at e) (sym theirs) told)),
+        λ there. subst (λ ports. IsAdvertisedRoute ports (routes_in teller.routes) at e) theirs (told_moved teller.ports known.routes (routes_in teller.routes) at e (λ best. best_of_aged (routes_in teller.routes) e.network now best) ((t.of_routes.stands e).0 there)),
+        λ told. (t.of_routes.stands e).1 (told_moved teller.ports (routes_in teller.routes) known.routes at e (λ best. best_when_aged (routes_in teller.routes) e.network now best) (subst (λ ports. IsAdvertisedRoute ports (routes_in teller.routes) at e) (sym theirs) told)),
       ),
     )

@@ -14,10 +14,10 @@ use Rattle.ipx_router.specs.declared.route.Route.{Route}
 use Rattle.ipx_router.specs.Hearing.{after_routes}
 use Rattle.ipx_router.specs.Knowledge.{Routes}
 use Rattle.ipx_router.specs.RouteChoice.{IsHeardRoute, IsRouteOrNone, direct_route, over_neighbour, over_port}
-use Rattle.ipx_router.specs.Told.{IsToldRoute, told_route}
+use Rattle.ipx_router.specs.Told.{IsAdvertisedRoute, advertised_route}
 use Rattle.rip_convergence.specs.Fair.{IsFairRun}
 use Rattle.rip_convergence.specs.Histories.{Meet, Owns, Routing, TellsRoute, as_offer, better_route}
-use Rattle.rip_convergence.specs.RouterRuns.{AllIsHeard, AreRoutes, Hearing, IsRun, NodesDiffer, NothingForged, Saying, TellsTo, WasSaid}
+use Rattle.rip_convergence.specs.RouterRuns.{AllIsHeard, AreRoutes, Hearing, IsRun, NodesDiffer, NothingForged, Saying, TellsTo, IsInAdvertisement}
 use Rattle.rip_convergence.specs.TableLaws.{LawsOfTables}
 use Rattle.rip_convergence.specs.TwoRouters.{FairRunsExist, ForgedRouteGoes, IsFromOther, by_half_minutes, forged_route, from_other, gone_network, own_node, ports_of_two, two_routers}
 use Rattle.rip_convergence.specs.Ways.{CostsWithin, IsLeastWay, Way, own, over}
@@ -168,7 +168,7 @@ own_direct : (i : ℕ) (d : Network) → d.0 ≡ i + 2 → direct_route (ports_o
 own_direct i d is = simp (ne_eqb 1 d.0 (λ e. omega (arith, e, is)), eq-eqb (i + 2) d.0 (sym is)) refl
 
 -- each advertises its own network
-told_own : (i : ℕ) (c : Routes) (now : ℕ) → IsToldRoute (ports_of_two i) c (at_port i now) (entry i)
+told_own : (i : ℕ) (c : Routes) (now : ℕ) → IsAdvertisedRoute (ports_of_two i) c (at_port i now) (entry i)
 told_own i c now = record {
   route = over_port 1;
   leads = subst (By c now (entry i).network (over_port 1)) (sym (own_direct i (entry i).network refl)) refl;
@@ -177,7 +177,7 @@ told_own i c now = record {
 }
 
 -- and nothing else, since everything that it learned came by the same port
-told_only : (i : ℕ) (c : Routes) (now : ℕ) → ((p : Network × Source) (w : Word) → c p ≡ Some w → p.1 ≡ from_other i) → (e : RipEntry) → IsToldRoute (ports_of_two i) c (at_port i now) e → e ≡ entry i
+told_only : (i : ℕ) (c : Routes) (now : ℕ) → ((p : Network × Source) (w : Word) → c p ≡ Some w → p.1 ≡ from_other i) → (e : RipEntry) → IsAdvertisedRoute (ports_of_two i) c (at_port i now) e → e ≡ entry i
 told_only i c now only e told = by_direct (direct_is i e.network)
   where
     elsewhere : told.route.port ≡ 1 → ⊥
@@ -189,8 +189,8 @@ told_only i c now only e told = by_direct (direct_is i e.network)
     by_direct : DirectIs i e.network → e ≡ entry i
     by_direct (inl h) = absurd (elsewhere (ap (λ (z : Route). z.port) (leads_by (Some 0) h.1)))
     by_direct (inr (inl h)) =
-        told.is ∙ ap (λ (z : Route). told_route e.network z.metric (at_port i now)) (leads_by (Some 1) h.1)
-        ∙ ap (λ (n : ℕ). told_route (record { 0 = n }) (over_port 1).metric (at_port i now)) h.0
+        told.is ∙ ap (λ (z : Route). advertised_route e.network z.metric (at_port i now)) (leads_by (Some 1) h.1)
+        ∙ ap (λ (n : ℕ). advertised_route (record { 0 = n }) (over_port 1).metric (at_port i now)) h.0
     by_direct (inr (inr h)) =
         let best : IsHeardRoute c now e.network told.route = leads_by None h in
         absurd (elsewhere (ap (λ (z : Route). z.port) best.2 ∙ ap (λ (z : Source). z.port) (only (e.network, best.0.0) (best.0.1, best.1.moment) best.1.stands)))
@@ -279,11 +279,11 @@ module _ (laws : LawsOfTables) (first : ℕ → Routes) (from : IsFromOther firs
         p = 1;
         meet = meeting (turn n) (turn_low n);
         is = refl;
-        told_at = n;
+        advertised_at = n;
         before = omega arith;
-        same_moment = refl;
+        same_time = refl;
       } in
-      (t, subst (WasSaid two_routers by_half_minutes table heard n (turn n) (from_other (turn n)) t) (only_one (entry (1 - turn n)) e there) (told_own (1 - turn n) (table n (1 - turn n)) (by_half_minutes n)))
+      (t, subst (IsInAdvertisement two_routers by_half_minutes table heard n (turn n) (from_other (turn n)) t) (only_one (entry (1 - turn n)) e there) (told_own (1 - turn n) (table n (1 - turn n)) (by_half_minutes n)))
 
   module _ (d : Network) where
     abbrev route_at : ℕ → ℕ → Option (List Port) → Option Route
@@ -300,15 +300,15 @@ module _ (laws : LawsOfTables) (first : ℕ → Routes) (from : IsFromOther firs
     }
 
     heard_at : (k n s q r p : ℕ) (meet : Meet two_routers s q r p) (e : RipEntry) → k < n → by_half_minutes n < by_half_minutes k + 180000 → turn k ≡ r
-        → IsToldRoute meet.theirs (table k s) (record { number = q; port = meet.far; now = by_half_minutes k }) e
+        → IsAdvertisedRoute meet.theirs (table k s) (record { number = q; port = meet.far; now = by_half_minutes k }) e
         → (k : ℕ) × (k < n) × (by_half_minutes n < by_half_minutes k + 180000) × ((heard k).router ≡ r)
         × ((heard k).source ≡ record { port = p; neighbour = meet.far.node }) × Contains (heard k).entries e
     heard_at k n s q r p meet e before recent is told =
         let they = they_meet s q r p meet in
         let sender : 1 - turn k ≡ s = ap (λ z. 1 - z) is ∙ sym they.teller in
-        let by_ports = subst (λ ports. IsToldRoute ports (table k s) (record { number = q; port = meet.far; now = by_half_minutes k }) e) they.theirs told in
-        let by_number = subst (λ number. IsToldRoute (ports_of_two s) (table k s) (record { number = number; port = meet.far; now = by_half_minutes k }) e) they.q_is by_ports in
-        let by_port = subst (λ port. IsToldRoute (ports_of_two s) (table k s) (record { number = 1; port = port; now = by_half_minutes k }) e) they.far by_number in
+        let by_ports = subst (λ ports. IsAdvertisedRoute ports (table k s) (record { number = q; port = meet.far; now = by_half_minutes k }) e) they.theirs told in
+        let by_number = subst (λ number. IsAdvertisedRoute (ports_of_two s) (table k s) (record { number = number; port = meet.far; now = by_half_minutes k }) e) they.q_is by_ports in
+        let by_port = subst (λ port. IsAdvertisedRoute (ports_of_two s) (table k s) (record { number = 1; port = port; now = by_half_minutes k }) e) they.far by_number in
         let entry_is : e ≡ entry s = told_only s (table k s) (by_half_minutes k) (only_other k s) e by_port in
         let node : own_node (1 - turn k) ≡ meet.far.node = ap own_node sender ∙ sym (ap (λ (z : Port). z.node) they.far) in
         let source : (heard k).source ≡ record { port = p; neighbour = meet.far.node } = ap (λ z. let x : Source = record { port = 1; neighbour = z } in x) node ∙ ap (λ z. let x : Source = record { port = z; neighbour = meet.far.node } in x) (sym they.p_is) in

@@ -12,7 +12,7 @@ use Rattle.ipx_router.specs.declared.port.Port.{Port}
 use Rattle.ipx_router.specs.declared.route.Route.{Route}
 use Rattle.ipx_router.specs.Ports.{IsPort}
 use Rattle.ipx_router.specs.RouteChoice.{direct_route, over_neighbour, over_port}
-use Rattle.ipx_router.specs.Told.{told_hops, told_ticks}
+use Rattle.ipx_router.specs.Told.{advertised_hops, advertised_ticks}
 
 -- the routers of a network, by index: the ports of each
 abbrev pub Internet : Type 0
@@ -32,8 +32,8 @@ pub record Meet (net : Internet) (s q r p : ℕ) : Type 0 where
   pub two : s ≢ r
 
 -- a route's metric as it is advertised on a port of this cost
-abbrev pub told_metric : ℕ → RouteMetric → RouteMetric
-told_metric cost m = record { ticks = told_ticks m.ticks cost; hops = told_hops m.hops }
+abbrev pub advertised_metric : ℕ → RouteMetric → RouteMetric
+advertised_metric cost m = record { ticks = advertised_ticks m.ticks cost; hops = advertised_hops m.hops }
 
 -- the network is a port's own: the route that always exists
 pub record Owns (net : Internet) (d : Network) (r : ℕ) (b : Route) : Type 0 where
@@ -60,7 +60,7 @@ pub record TellsRoute (net : Internet) (d : Network) (s : ℕ) (a : Route) (r : 
   pub no_port : direct_route meet.ours d ≡ None
   pub best : Source × RouteMetric
   pub from : best.0 ≡ record { port = p; neighbour = meet.far.node }
-  pub metric : best.1 ≡ told_metric meet.far.cost a.metric
+  pub metric : best.1 ≡ advertised_metric meet.far.cost a.metric
   pub alive : route_dead best.1 ≡ false
   pub is : b ≡ over_neighbour best
 
@@ -86,7 +86,7 @@ Clock = ℕ → ℕ
 
 module _ (net : Internet) (d : Network) (window : ℕ) (clock : Clock) (x : Routing) where
   -- a route was advertised at a step before, within the window, by a router whose route it then came from
-  pub record WasTold (t r : ℕ) (b : Route) : Type 0 where
+  pub record WasAdvertised (t r : ℕ) (b : Route) : Type 0 where
     pub who : ℕ
     pub route : Route
     pub step : ℕ
@@ -104,7 +104,7 @@ module _ (net : Internet) (d : Network) (window : ℕ) (clock : Clock) (x : Rout
   -- nothing is made up: after a window every route is the router's own or was advertised within the window
   abbrev pub IsSourced : ℕ → Type 0
   IsSourced from = (t r : ℕ) (b : Route) → from + window ≤ clock t → x t r ≡ Some b
-      → Owns net d r b ⊎ WasTold t r b
+      → Owns net d r b ⊎ WasAdvertised t r b
 
   -- what a router had to advertise through a whole window was advertised, learned and kept
   abbrev pub IsHeardThroughout : ℕ → Type 0

@@ -5,5 +5,5 @@ pub mod Ways
 pub mod RouterRuns
 pub mod Fair
 pub mod ReceiveSteps
-pub mod HeardTellings
+pub mod LearnedAdvertisements
 pub mod TwoRouters

@@ -10,7 +10,7 @@ use Rattle.ipx_router.specs.declared.port.Port.{Port}
 use Rattle.ipx_router.specs.Hearing.{after_routes}
 use Rattle.ipx_router.specs.Knowledge.{Routes}
 use Rattle.ipx_router.specs.RouteChoice.{IsRouteOrNone}
-use Rattle.ipx_router.specs.Told.{IsToldRoute}
+use Rattle.ipx_router.specs.Told.{IsAdvertisedRoute}
 use Rattle.rip_convergence.specs.Histories.{Clock, Internet, IsHistory, Meet, Routing}
 
 -- the router that learns, the source, and the entries that it took
@@ -46,27 +46,27 @@ module _ (net : Internet) (clock : Clock) (c : Saying) (heard : ℕ → Hearing)
     pub p : ℕ
     pub meet : Meet net s q r p
     pub is : source ≡ record { port = p; neighbour = meet.far.node }
-    pub told_at : ℕ
-    pub before : told_at ≤ n
-    pub same_moment : clock told_at ≡ clock n
+    pub advertised_at : ℕ
+    pub before : advertised_at ≤ n
+    pub same_time : clock advertised_at ≡ clock n
 
   -- an entry is what that router then advertised
-  abbrev pub WasSaid : (n r : ℕ) (source : Source) → TellsTo n r source → RipEntry → Type 0
-  WasSaid n r source t = IsToldRoute t.meet.theirs (c t.told_at t.s)
-      (record { number = t.q; port = t.meet.far; now = clock t.told_at })
+  abbrev pub IsInAdvertisement : (n r : ℕ) (source : Source) → TellsTo n r source → RipEntry → Type 0
+  IsInAdvertisement n r source t = IsAdvertisedRoute t.meet.theirs (c t.advertised_at t.s)
+      (record { number = t.q; port = t.meet.far; now = clock t.advertised_at })
 
   -- nothing is forged of the network: each entry of it that is learned was advertised
   abbrev pub NothingForged : Network → Type 0
   NothingForged d = (n : ℕ) (e : RipEntry) → Contains (heard n).entries e → e.network ≡ d
       → (t : TellsTo n (heard n).router (heard n).source)
-      × WasSaid n (heard n).router (heard n).source t e
+      × IsInAdvertisement n (heard n).router (heard n).source t e
 
   -- if a neighbour has the same to advertise of the network through a whole window, from a time on, it is
   -- learned at least once in that window
   abbrev pub AllIsHeard : Network → ℕ → Type 0
   AllIsHeard d from = (n s q r p : ℕ) → from + 180000 ≤ clock n → (meet : Meet net s q r p)
       → (e : RipEntry) → e.network ≡ d → ((m : ℕ) → m ≤ n → clock n < clock m + 180000
-      → IsToldRoute meet.theirs (c m s)
+      → IsAdvertisedRoute meet.theirs (c m s)
       (record { number = q; port = meet.far; now = clock m }) e)
       → (k : ℕ) × (k < n) × (clock n < clock k + 180000) × ((heard k).router ≡ r)
       × ((heard k).source ≡ record { port = p; neighbour = meet.far.node })

@@ -5,7 +5,7 @@ use Rattle.ipx_tables.specs.declared.route.RouteMetric.{RouteMetric}
 use Rattle.ipx_tables.specs.declared.source.Source.{Source}
 use Rattle.ipx_tables.specs.Best.{IsBest, is_better}
 use Rattle.ipx_tables.specs.Content.{source_cmp}
-use Rattle.ipx_tables.specs.Order.{IsStrictTotal, TellsApart}
+use Rattle.ipx_tables.specs.Order.{IsStrictTotal, EqualOnlyIfSame}
 use Rattle.ipx_tables.specs.Route.{route_before}
 use Rattle.ipx_router.specs.Knowledge.{Routes}
 
@@ -16,4 +16,4 @@ pub record LawsOfTables : Type 0 where
   -- of two different offers exactly one is better
   pub strict : IsStrictTotal (is_better route_before)
   -- no two sources compare as equal
-  pub apart : TellsApart source_cmp
+  pub apart : EqualOnlyIfSame source_cmp

@@ -4,7 +4,7 @@ ghost use Rattle.rip_convergence.specs.PacketLaws.{LawsOfPackets};
 ghost use Rattle.rip_convergence.specs.TableLaws.{LawsOfTables};
 
 use ipx_control::{bytes_are_one_rip, rip_fault_is_of_no_rip};
-use ipx_tables::{RouteMetric, one_best, one_is_better, sources_are_apart};
+use ipx_tables::{RouteMetric, one_best, one_is_better, sources_are_distinct};
 use ipx_wire::{Network, bytes_are_one_packet, ipx_fault_is_of_no_packet};
 
 /// The laws of tables on which the theorems depend.
@@ -13,7 +13,7 @@ pub fn laws_below()
 {
     one_best::<Network, RouteMetric>();
     one_is_better::<RouteMetric>();
-    sources_are_apart();
+    sources_are_distinct();
 }
 
 /// The laws of packets on which it depends what a neighbour learns.

@@ -11,7 +11,7 @@ ghost use Rattle.rip_convergence.specs.Fair.{
 };
 ghost use Rattle.rip_convergence.specs.RouterRuns.{RunsAreHistories};
 ghost use Rattle.rip_convergence.specs.ReceiveSteps.{ReceivingIsAStep};
-ghost use Rattle.rip_convergence.specs.HeardTellings.{TellingsAreHeard};
+ghost use Rattle.rip_convergence.specs.LearnedAdvertisements.{AdvertisementsAreLearned};
 ghost use Rattle.rip_convergence.specs.TwoRouters.{FairRunsExist, ForgedRouteGoes};
 
 use crate::below::{laws_below, packet_laws};
@@ -82,8 +82,8 @@ pub fn receiving_is_a_step()
 
 /// If `receive` of a router on the same network reads what `tell` gives for a port, it learns
 /// exactly the entries that are advertised on that port.
-pub fn tellings_are_heard()
-    ensures { TellingsAreHeard }
+pub fn advertisements_are_learned()
+    ensures { AdvertisementsAreLearned }
 {
     packet_laws();
 }

@@ -8,7 +8,7 @@ mod below;
 mod laws;
 
 pub use laws::{
-    fair_runs_exist, forged_route_goes, receiving_is_a_step, runs_are_histories, runs_forget,
-    runs_settle, runs_settle_at_any_cost, runs_solve, runs_take_least_ways, runs_take_ways,
-    solutions_are_one, tellings_are_heard,
+    advertisements_are_learned, fair_runs_exist, forged_route_goes, receiving_is_a_step,
+    runs_are_histories, runs_forget, runs_settle, runs_settle_at_any_cost, runs_solve,
+    runs_take_least_ways, runs_take_ways, solutions_are_one,
 };

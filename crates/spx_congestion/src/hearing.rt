@@ -159,14 +159,14 @@ impl Pacer {
         if self.repair.is_on() {
             self.timer = Some(now);
             self.widen();
-        } else if self.says_missing() {
+        } else if self.first_is_missing() {
             self.enter(now);
         }
     }
 
     /// Whether the duplicates say that the first outstanding unit is missing (RFC 6582: and not
     /// that one went again which had come).
-    fn says_missing(&self) -> bool {
+    fn first_is_missing(&self) -> bool {
         let wanted = self.out.saturating_sub(1).max(1).min(MISSING);
         self.dup_acks >= wanted && self.base >= self.safe
     }

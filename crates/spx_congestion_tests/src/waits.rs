@@ -138,7 +138,7 @@ fn the_end_is_given_up(rt: HostRuntime) -> Result<(), Fail> {
 
 /// With a unit before it the end is waited for as any unit is.
 #[test]
-fn the_end_behind_a_unit(rt: HostRuntime) -> Result<(), Fail> {
+fn the_end_after_a_unit(rt: HostRuntime) -> Result<(), Fail> {
     let mut paced = Paced::joined(rt.alloc(), 2000)?;
     paced.plan(5000);
     paced.send(1, 5000);

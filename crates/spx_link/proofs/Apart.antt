@@ -8,7 +8,7 @@ use Rattle.std.proofs.Math.Seq.{map-set_same}
 use Rattle.spx_link.specs.Limits.{most_links, no_id}
 use Rattle.spx_link.specs.LinkView.{LinkView}
 use Rattle.spx_link.specs.Links.{LinksView, link_of, link_at, Releases}
-use Rattle.spx_link.specs.Sound.{own_of, ids_of, is_among, is_id, AreIdsApart, AreIdsSound}
+use Rattle.spx_link.specs.Sound.{own_of, ids_of, is_among, is_id, AreIdsDistinct, AreIdsSound}
 use Rattle.spx_link.proofs.Found.{has, eq_true, eq_from, eq_false}
 
 -- ---- without an id
@@ -73,13 +73,13 @@ among_others id m (n ∷ ns) h =
     let both = or_neither (n == m) (is_among ns m) h in
     among_step id m n ns (n == id) both.0 (among_others id m ns both.1)
 
-apart_step : (id n : ℕ) (ns : List ℕ) (b : Bool) → is_among (others_of id ns) n ≡ false → AreIdsApart (others_of id ns) → AreIdsApart (cond (not b) (n ∷ others_of id ns) (others_of id ns))
-apart_step id n ns true here below = below
-apart_step id n ns false here below = (here, below)
+separate_step : (id n : ℕ) (ns : List ℕ) (b : Bool) → is_among (others_of id ns) n ≡ false → AreIdsDistinct (others_of id ns) → AreIdsDistinct (cond (not b) (n ∷ others_of id ns) (others_of id ns))
+separate_step id n ns true here below = below
+separate_step id n ns false here below = (here, below)
 
-apart_others : (id : ℕ) (ns : List ℕ) → AreIdsApart ns → AreIdsApart (others_of id ns)
-apart_others id [] h = tt
-apart_others id (n ∷ ns) h = apart_step id n ns (n == id) (among_others id n ns h.0) (apart_others id ns h.1)
+separate_others : (id : ℕ) (ns : List ℕ) → AreIdsDistinct ns → AreIdsDistinct (others_of id ns)
+separate_others id [] h = tt
+separate_others id (n ∷ ns) h = separate_step id n ns (n == id) (among_others id n ns h.0) (separate_others id ns h.1)
 
 -- where none is taken out, all stay
 whole_step : (id n : ℕ) (ns : List ℕ) → (n == id) ≡ false → others_of id ns ≡ ns → cond (not (n == id)) (n ∷ others_of id ns) (others_of id ns) ≡ n ∷ ns
@@ -92,7 +92,7 @@ whole id (n ∷ ns) h =
     whole_step id n ns both.0 (whole id ns both.1)
 
 -- one goes
-fewer_step : (id n : ℕ) (ns : List ℕ) (b : Bool) → (n == id) ≡ b → AreIdsApart (n ∷ ns) → (b || is_among ns id) ≡ true → (is_among ns id ≡ true → length (others_of id ns) + 1 ≡ length ns) → length (cond (not b) (n ∷ others_of id ns) (others_of id ns)) + 1 ≡ length (n ∷ ns)
+fewer_step : (id n : ℕ) (ns : List ℕ) (b : Bool) → (n == id) ≡ b → AreIdsDistinct (n ∷ ns) → (b || is_among ns id) ≡ true → (is_among ns id ≡ true → length (others_of id ns) + 1 ≡ length ns) → length (cond (not b) (n ∷ others_of id ns) (others_of id ns)) + 1 ≡ length (n ∷ ns)
 fewer_step id n ns true e apart among below =
     let same : n ≡ id = eq_from n id e in
     let none : is_among ns id ≡ false = subst (λ m. is_among ns m ≡ false) same apart.0 in
@@ -102,7 +102,7 @@ fewer_step id n ns false e apart among below =
     let one : length (others_of id ns) + 1 ≡ length ns = below among in
     omega (arith, one)
 
-fewer : (id : ℕ) (ns : List ℕ) → AreIdsApart ns → is_among ns id ≡ true → length (others_of id ns) + 1 ≡ length ns
+fewer : (id : ℕ) (ns : List ℕ) → AreIdsDistinct ns → is_among ns id ≡ true → length (others_of id ns) + 1 ≡ length ns
 fewer id [] apart among = cc
 fewer id (n ∷ ns) apart among = fewer_step id n ns (n == id) refl apart among (fewer id ns apart.1)
 
@@ -152,13 +152,13 @@ sound_set last ls k x y read same sound =
 pub few_links : (last : ℕ) (ls : List LinkView) → AreIdsSound last (ids_of ls) → length ls ≤ most_links
 few_links last ls sound = omega (arith, sound.few, length-map ls own_of)
 
-push_apart : (ns : List ℕ) (id : ℕ) → AreIdsApart ns → is_among ns id ≡ false → AreIdsApart (ns ++ id ∷ [])
-push_apart [] id apart free = (refl, tt)
-push_apart (n ∷ ns) id apart free =
+push_separate : (ns : List ℕ) (id : ℕ) → AreIdsDistinct ns → is_among ns id ≡ false → AreIdsDistinct (ns ++ id ∷ [])
+push_separate [] id apart free = (refl, tt)
+push_separate (n ∷ ns) id apart free =
     let both = or_neither (n == id) (is_among ns id) free in
     let other : (id == n) ≡ false = eq_false id n (λ e. cc (both.0, eq_true n id (sym e))) in (
       list_any-append (λ m. m == n) ns (id ∷ []) ∙ ap (λ b. b || ((id == n) || false)) apart.0 ∙ ap (λ b. b || false) other,
-      push_apart ns id apart.1 both.1,
+      push_separate ns id apart.1 both.1,
     )
 
 pub sound_push : (last : ℕ) (ls : List LinkView) (y : LinkView) → AreIdsSound last (ids_of ls) → length ls < most_links → link_of ls y.own ≡ None → is_id y.own ≡ true → AreIdsSound y.own (ids_of (ls ++ y ∷ []))
@@ -166,7 +166,7 @@ sound_push last ls y sound room free id =
     let both = and_both (nat_lt 0 y.own) (nat_lt y.own no_id) id in
     let below = both.1 in
     subst (AreIdsSound y.own) (sym (map-append own_of ls (y ∷ []))) record {
-      apart = push_apart (ids_of ls) y.own sound.apart (not_among_ids ls y.own free);
+      apart = push_separate (ids_of ls) y.own sound.apart (not_among_ids ls y.own free);
       in_range = list_all-append is_id (ids_of ls) (y.own ∷ []) ∙ ap (λ b. b && (is_id y.own && true)) sound.in_range ∙ ap (λ b. b && true) id;
       few = omega (arith, length-append (ids_of ls) (y.own ∷ []), length-map ls own_of);
       last = grind (arith, nat_tests);
@@ -183,7 +183,7 @@ length_others id (n ∷ ns) = length_others_step id n ns (n == id) (length_other
 pub sound_without : (last : ℕ) (ls : List LinkView) (id : ℕ) → AreIdsSound last (ids_of ls) → AreIdsSound last (ids_of (without id ls))
 sound_without last ls id sound =
     subst (AreIdsSound last) (sym (ids_of-without id ls)) record {
-      apart = apart_others id (ids_of ls) sound.apart;
+      apart = separate_others id (ids_of ls) sound.apart;
       in_range = all_others id (ids_of ls) sound.in_range;
       few = omega (arith, length_others id (ids_of ls), sound.few);
       last = sound.last;
@@ -202,17 +202,17 @@ releases s id l sound live =
 
 -- ---- the least id
 
-stands_step : (l x : LinkView) (ls : List LinkView) (k : ℕ) (b : Bool) → (l.own == x.own) ≡ b → AreIdsApart (ids_of (l ∷ ls)) → link_of ls x.own ≡ Some x → cond b (Some l) (link_of ls x.own) ≡ Some x
-stands_step l x ls k true e apart below =
+holds_step : (l x : LinkView) (ls : List LinkView) (k : ℕ) (b : Bool) → (l.own == x.own) ≡ b → AreIdsDistinct (ids_of (l ∷ ls)) → link_of ls x.own ≡ Some x → cond b (Some l) (link_of ls x.own) ≡ Some x
+holds_step l x ls k true e apart below =
     let same : x.own ≡ l.own = sym (eq_from l.own x.own e) in
     let among : is_among (ids_of ls) l.own ≡ true = subst (λ n. is_among (ids_of ls) n ≡ true) same (among_ids ls x.own x below) in
     cc (apart.0, among)
-stands_step l x ls k false e apart below = below
+holds_step l x ls k false e apart below = below
 
 -- the link at a place is the one that is found by its id
-pub stands : (ls : List LinkView) (k : ℕ) (x : LinkView) → AreIdsApart (ids_of ls) → k < length ls → slice_index_or ls k x ≡ x → link_of ls x.own ≡ Some x
+pub stands : (ls : List LinkView) (k : ℕ) (x : LinkView) → AreIdsDistinct (ids_of ls) → k < length ls → slice_index_or ls k x ≡ x → link_of ls x.own ≡ Some x
 stands [] k x apart within read = absurd (omega arith)
 stands (l ∷ ls) zero x apart within read = ap (λ b. cond b (Some l) (link_of ls x.own)) (eq_true l.own x.own (ap own_of read)) ∙ ap Some read
 stands (l ∷ ls) (suc k) x apart within read =
     let inside : k < length ls = omega arith in
-    stands_step l x ls k (l.own == x.own) refl apart (stands ls k x apart.1 inside read)
+    holds_step l x ls k (l.own == x.own) refl apart (stands ls k x apart.1 inside read)

@@ -11,7 +11,7 @@ use Rattle.spx_link.specs.declared.outgoing.Chosen.{Chosen}
 use Rattle.spx_link.proofs.Apart.{live_in_range, sound_push, releases, sound_without, without}
 use Rattle.spx_link.proofs.Found.{has, adds, changed, if_found, link_of_place, place_of_position}
 use Rattle.spx_link.proofs.Lesser.{some_of}
-use Rattle.spx_link.proofs.Stands.{slice_get_after_set}
+use Rattle.spx_link.proofs.IsPresent.{slice_get_after_set}
 use Rattle.std.proofs.lemmas.Bool.Decides.{nat_tests}
 use Rattle.std.proofs.lemmas.Option.{slice_get_read}
 use Rattle.std.proofs.Common.{arith, length-set}

@@ -11,7 +11,7 @@ use Rattle.spx_link.specs.declared.received.Received.{Received}
 use Rattle.spx_link.specs.declared.received.Received.TheVariants as R
 use Rattle.spx_link.specs.declared.state.State.{State}
 use Rattle.spx_link.specs.declared.state.State.TheVariants as S
-use Rattle.spx_link.specs.Courses.{is_open, is_apart, HasNoEndWhileOpen, IsWhole, IsWholeOnceConfirmed, HasTaken}
+use Rattle.spx_link.specs.Courses.{is_open, is_unconnected, HasNoEndWhileOpen, IsWhole, IsWholeOnceConfirmed, HasTaken}
 use Rattle.spx_link.specs.Effects.{IfRequest, numbers_after_poll, numbers_after_received, numbers_after_sent}
 use Rattle.spx_link.specs.LinkView.{LinkView, numbers_of}
 use Rattle.spx_link.specs.SequenceMarks.{mark, acknowledged}
@@ -268,29 +268,29 @@ opening_joins_or_stays l h body opening =
 
 -- ---- Opening or Lost
 
-apart_cases : (s : State) → is_apart s ≡ true → (s ≡ S.Opening) ⊎ (s ≡ S.Lost)
-apart_cases S.Opening e = inl refl
-apart_cases S.Live e = absurd (cc)
-apart_cases S.Ending e = absurd (cc)
-apart_cases S.PeerEnded e = absurd (cc)
-apart_cases S.Confirmed e = absurd (cc)
-apart_cases S.Lost e = inr refl
+separate_cases : (s : State) → is_unconnected s ≡ true → (s ≡ S.Opening) ⊎ (s ≡ S.Lost)
+separate_cases S.Opening e = inl refl
+separate_cases S.Live e = absurd (cc)
+separate_cases S.Ending e = absurd (cc)
+separate_cases S.PeerEnded e = absurd (cc)
+separate_cases S.Confirmed e = absurd (cc)
+separate_cases S.Lost e = inr refl
 
-apart_by : (l : LinkView) (now : ℕ) → (l.state ≡ S.Opening) ⊎ (l.state ≡ S.Lost) → IfRequest (poll_link l now).0
-apart_by l now (inl opening) = opening_requests l now opening
-apart_by l now (inr lost) = subst IfRequest (sym (lost_alone l now lost)) tt
+separate_by : (l : LinkView) (now : ℕ) → (l.state ≡ S.Opening) ⊎ (l.state ≡ S.Lost) → IfRequest (poll_link l now).0
+separate_by l now (inl opening) = opening_requests l now opening
+separate_by l now (inr lost) = subst IfRequest (sym (lost_alone l now lost)) tt
 
-pub apart_asks : (l : LinkView) (now : ℕ) → is_apart l.state ≡ true → IfRequest (poll_link l now).0
-apart_asks l now e = apart_by l now (apart_cases l.state e)
+pub separate_asks : (l : LinkView) (now : ℕ) → is_unconnected l.state ≡ true → IfRequest (poll_link l now).0
+separate_asks l now e = separate_by l now (separate_cases l.state e)
 
-apart_polled : (s t : State) → (t ≡ s) ⊎ (t ≡ S.Lost) → is_apart s ≡ true → is_apart t ≡ true
-apart_polled s t (inl same) e = ap is_apart same ∙ e
-apart_polled s t (inr lost) e = ap is_apart lost
+separate_polled : (s t : State) → (t ≡ s) ⊎ (t ≡ S.Lost) → is_unconnected s ≡ true → is_unconnected t ≡ true
+separate_polled s t (inl same) e = ap is_unconnected same ∙ e
+separate_polled s t (inr lost) e = ap is_unconnected lost
 
-pub apart_stays : (l : LinkView) (now : ℕ) → is_apart l.state ≡ true → is_apart (poll_link l now).1.state ≡ true
-apart_stays l now e = apart_polled l.state (poll_link l now).1.state (poll_state l now) e
+pub separate_stays : (l : LinkView) (now : ℕ) → is_unconnected l.state ≡ true → is_unconnected (poll_link l now).1.state ≡ true
+separate_stays l now e = separate_polled l.state (poll_link l now).1.state (poll_state l now) e
 
-not_joined : (s : State) → is_apart s ≡ true → is_joined s ≡ false
+not_joined : (s : State) → is_unconnected s ≡ true → is_joined s ≡ false
 not_joined S.Opening e = refl
 not_joined S.Live e = absurd (cc)
 not_joined S.Ending e = absurd (cc)
@@ -302,11 +302,11 @@ one_of : (a : Received) → (a ≡ R.Joined) ⊎ (a ≡ R.Stranger) → (a ≡ R
 one_of a (inl joined) read = joined
 one_of a (inr is) read = absurd (read is)
 
-pub apart_joins : (l : LinkView) (h : SpxHeader) (body : List ℕ) → is_apart l.state ≡ true → ((receive_link l h body).0 ≡ R.Stranger → ⊥) → (receive_link l h body).0 ≡ R.Joined
-apart_joins l h body e read =
+pub separate_joins : (l : LinkView) (h : SpxHeader) (body : List ℕ) → is_unconnected l.state ≡ true → ((receive_link l h body).0 ≡ R.Stranger → ⊥) → (receive_link l h body).0 ≡ R.Joined
+separate_joins l h body e read =
     one_of (receive_link l h body).0 (joined_or_stranger (receive_link l h body).0 l.state (λ some other. ((receive_says l h body).own some other).0) (not_joined l.state e)) read
 
-refuses_at : (s : State) → is_apart s ≡ true → refusal s ≡ None → ⊥
+refuses_at : (s : State) → is_unconnected s ≡ true → refusal s ≡ None → ⊥
 refuses_at S.Opening e none = absurd (cc)
 refuses_at S.Live e none = absurd (cc)
 refuses_at S.Ending e none = absurd (cc)
@@ -314,5 +314,5 @@ refuses_at S.PeerEnded e none = absurd (cc)
 refuses_at S.Confirmed e none = absurd (cc)
 refuses_at S.Lost e none = absurd (cc)
 
-pub apart_refuses : (l : LinkView) → is_apart l.state ≡ true → refusal l.state ≡ None → ⊥
-apart_refuses l e = refuses_at l.state e
+pub separate_refuses : (l : LinkView) → is_unconnected l.state ≡ true → refusal l.state ≡ None → ⊥
+separate_refuses l e = refuses_at l.state e

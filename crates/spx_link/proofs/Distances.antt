@@ -8,14 +8,14 @@ use Rattle.spx_link.specs.SequenceMarks.{acknowledged, mark, distance, outstandi
 pub mark_carried : (n k : ℕ) → mark (mark n + k) ≡ mark (n + k)
 mark_carried n k = omega arith
 
-pub marks_apart : (a b : ℕ) → a < b → b < a + 65536 → mark a ≢ mark b
-marks_apart a b l h e = omega arith
+pub marks_separate : (a b : ℕ) → a < b → b < a + 65536 → mark a ≢ mark b
+marks_separate a b l h e = omega arith
 
 pub distance_ahead : (a b k : ℕ) → a ≡ b + k → k < 65536 → distance (mark a) (mark b) ≡ k
 distance_ahead a b k e h = omega arith
 
-pub distance_behind : (a b k : ℕ) → a + k ≡ b → 0 < k → k ≤ 65536 → distance (mark a) (mark b) + k ≡ 65536
-distance_behind a b k e h l = omega arith
+pub distance_after : (a b k : ℕ) → a + k ≡ b → 0 < k → k ≤ 65536 → distance (mark a) (mark b) + k ≡ 65536
+distance_after a b k e h l = omega arith
 
 pub distance_base : (base out sent : ℕ) → base + out ≡ sent → out ≤ 65536 → distance (mark sent) out ≡ mark base
 distance_base base out sent e h = omega arith
@@ -33,7 +33,7 @@ acknowledgement_back bound sent ack before a b = omega arith
 pub acknowledgement_stale : (bound base out sent ack before : ℕ) → bound ≤ 32768 → base + out ≡ sent → ack < base → before ≤ ack + bound → sent < before + 32768 → out < distance (mark ack) (distance (mark sent) out)
 acknowledgement_stale bound base out sent ack before r e a b c =
     let from : distance (mark sent) out ≡ mark base = distance_base base out sent e (omega arith) in
-    let far : distance (mark ack) (mark base) + (base - ack) ≡ 65536 = distance_behind ack base (base - ack) (omega arith) (omega arith) (omega arith) in
+    let far : distance (mark ack) (mark base) + (base - ack) ≡ 65536 = distance_after ack base (base - ack) (omega arith) (omega arith) (omega arith) in
     rw from (omega arith)
 
 read_between : (base out sent ack beyond : ℕ) → base + out ≡ sent → ack ≤ sent → (base ≤ ack → base + beyond ≡ ack) → (ack < base → out < beyond) → max base ack + (out - (if nat_le beyond out then beyond else 0)) ≡ sent
@@ -68,7 +68,7 @@ allocation_current sent allows a b =
 
 pub allocation_stale : (sent allows before : ℕ) → before ≤ allows → allows < sent → sent < before + 32768 → 32769 ≤ distance (mark (allows + 65535) + 1) (mark sent)
 allocation_stale sent allows before a b c =
-    let far : distance (mark allows) (mark sent) + (sent - allows) ≡ 65536 = distance_behind allows sent (sent - allows) (omega arith) (omega arith) (omega arith) in
+    let far : distance (mark allows) (mark sent) + (sent - allows) ≡ 65536 = distance_after allows sent (sent - allows) (omega arith) (omega arith) (omega arith) in
     rw (allocation_is sent allows) (omega arith)
 
 allow_between : (sent room limit allows beyond : ℕ) → sent + room ≡ limit → allows ≤ sent + 16383 → (sent ≤ allows → sent + beyond ≡ allows) → (allows < sent → 32769 ≤ beyond) → sent + (if nat_lt room beyond && nat_le beyond 16383 then beyond else room) ≡ max limit allows
@@ -89,11 +89,11 @@ stale_between : (back bound beyond : ℕ) → (back ≤ 65536 → beyond + back 
 stale_between back bound beyond behind h = grind arith
 
 pub sequence_stale : (bound read n sent before : ℕ) → n < read → read ≤ sent → before ≤ n + bound → sent < before + 32768 → 65536 ≤ distance (mark n) (mark read) + bound + 32767
-sequence_stale bound read n sent before a b c d = stale_between (read - n) bound (distance (mark n) (mark read)) (λ h. distance_behind n read (read - n) (omega arith) (omega arith) h) (omega arith)
+sequence_stale bound read n sent before a b c d = stale_between (read - n) bound (distance (mark n) (mark read)) (λ h. distance_after n read (read - n) (omega arith) (omega arith) h) (omega arith)
 
 pub sequence_first : (read n sent : ℕ) → n < read → read ≤ sent → sent < n + 1 + 32768 → 32768 ≤ distance (mark n) (mark read)
 sequence_first read n sent a b c =
-    let far : distance (mark n) (mark read) + (read - n) ≡ 65536 = distance_behind n read (read - n) (omega arith) (omega arith) (omega arith) in
+    let far : distance (mark n) (mark read) + (read - n) ≡ 65536 = distance_after n read (read - n) (omega arith) (omega arith) (omega arith) in
     omega arith
 
 next_between : (read n beyond : ℕ) → (read ≤ n → read + beyond ≡ n) → (n < read → 1 ≤ beyond) → (beyond ≡ 0) ↔ (n ≡ read)
@@ -116,10 +116,10 @@ sequence_window bound free read n sent before r f a b c d =
 
 -- ---- at the bound of 8,192
 
-pub behind_base : (base out sent ack before : ℕ) → base + out ≡ sent → ack < base → before ≤ ack + 8192 → sent < before + 32768 → 24577 ≤ distance (mark ack) (distance (mark sent) out)
-behind_base base out sent ack before e a b c =
+pub after_base : (base out sent ack before : ℕ) → base + out ≡ sent → ack < base → before ≤ ack + 8192 → sent < before + 32768 → 24577 ≤ distance (mark ack) (distance (mark sent) out)
+after_base base out sent ack before e a b c =
     let from : distance (mark sent) out ≡ mark base = distance_base base out sent e (omega arith) in
-    let far : distance (mark ack) (mark base) + (base - ack) ≡ 65536 = distance_behind ack base (base - ack) (omega arith) (omega arith) (omega arith) in
+    let far : distance (mark ack) (mark base) + (base - ack) ≡ 65536 = distance_after ack base (base - ack) (omega arith) (omega arith) (omega arith) in
     rw from (omega arith)
 
 parts_between : (sent allows beyond : ℕ) → allows ≤ sent + 8192 → (sent ≤ allows → sent + beyond ≡ allows) → (allows < sent → 32769 ≤ beyond) → (allows < sent → 32769 ≤ beyond) × (sent ≤ allows → beyond ≤ 8192) × ((beyond ≤ 16383) ↔ (sent ≤ allows))
@@ -131,8 +131,8 @@ allocation_parts sent allows before a b c =
     (λ le. allocation_current sent allows le (omega arith))
     (λ lt. allocation_stale sent allows before b lt c)
 
-pub behind_read : (read n sent before : ℕ) → n < read → read ≤ sent → before ≤ n + 8192 → sent < before + 32768 → 24577 ≤ distance (mark n) (mark read)
-behind_read read n sent before a b c d = omega (arith, sequence_stale 8192 read n sent before a b c d)
+pub after_read : (read n sent before : ℕ) → n < read → read ≤ sent → before ≤ n + 8192 → sent < before + 32768 → 24577 ≤ distance (mark n) (mark read)
+after_read read n sent before a b c d = omega (arith, sequence_stale 8192 read n sent before a b c d)
 
 pub free_at_bound : (free read n sent before : ℕ) → free ≤ 8192 → read ≤ sent → n < read + 65536 → before ≤ n + 8192 → sent < before + 32768 → (distance (mark n) (mark read) < free) ↔ ((read ≤ n) × (n < read + free))
 free_at_bound free read n sent before f a b c d = sequence_window 8192 free read n sent before (omega arith) f a b c d

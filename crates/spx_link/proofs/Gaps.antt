@@ -33,9 +33,9 @@ place_is {A} old now place count is least long none = by (slice_get_cases now pl
         absurd never
 
 -- behind all others
-pub put_behind : (u : Unit) (xs : List (Option Unit)) → put (length xs) u xs ≡ xs ++ Some u ∷ []
-put_behind u [] = refl
-put_behind u (x ∷ xs) = ap (λ (ys : List (Option Unit)). x ∷ ys) (put_behind u xs)
+pub put_after : (u : Unit) (xs : List (Option Unit)) → put (length xs) u xs ≡ xs ++ Some u ∷ []
+put_after u [] = refl
+put_after u (x ∷ xs) = ap (λ (ys : List (Option Unit)). x ∷ ys) (put_after u xs)
 
 -- what stands behind all others, and another in its place
 pub last_read : (xs : List (Option Unit)) (y : Option Unit) → slice_get (xs ++ y ∷ []) (length xs) ≡ Some y

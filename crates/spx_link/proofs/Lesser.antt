@@ -10,7 +10,7 @@ use Rattle.std.specs.Prelude.{⊤}
 use Rattle.spx_link.specs.Leasts.{IsLeastId, HasGreaterId, IsFrom, lesser_of}
 use Rattle.spx_link.specs.LinkView.{LinkView}
 use Rattle.spx_link.specs.Links.{LinksView, link_at, IsAbove, IsAcceptedFrom, IsLeast}
-use Rattle.spx_link.specs.Sound.{ids_of, AreIdsApart}
+use Rattle.spx_link.specs.Sound.{ids_of, AreIdsDistinct}
 use Rattle.spx_link.proofs.Apart.{stands}
 use Rattle.spx_link.proofs.Found.{own_of_found, place_of_found}
 
@@ -76,7 +76,7 @@ none_found P s none q found =
     let place = place_of_found s.links q found.0 found.1 in
     none place.0 found.0 place.1 (subst P (sym place.2) found.2)
 
-least_found : (P : LinkView → Type 0) (s : LinksView) (id : ℕ) → AreIdsApart (ids_of s.links) → IsLeastId P s.links (Some id) → IsLeast (IsFound P s) id
+least_found : (P : LinkView → Type 0) (s : LinksView) (id : ℕ) → AreIdsDistinct (ids_of s.links) → IsLeastId P s.links (Some id) → IsLeast (IsFound P s) id
 least_found P s id apart least =
     let x = least.0.1 in
     let Q : ℕ → Type 0 = λ n. link_at s n ≡ Some x in
@@ -100,7 +100,7 @@ found_above s id q found =
     let R : ℕ → Type 0 = λ n. id < n in
     record { live = ap is_some found.1; above = subst R (own_of_found s.links q found.0 found.1) found.2 }
 
-pub next_above : (s : LinksView) (id : ℕ) (r : Option ℕ) → AreIdsApart (ids_of s.links) → IsLeastId (HasGreaterId id) s.links r → MatchOption r ((q : ℕ) → ¬ IsAbove s id q) (IsLeast (IsAbove s id))
+pub next_above : (s : LinksView) (id : ℕ) (r : Option ℕ) → AreIdsDistinct (ids_of s.links) → IsLeastId (HasGreaterId id) s.links r → MatchOption r ((q : ℕ) → ¬ IsAbove s id q) (IsLeast (IsAbove s id))
 next_above s id None apart none = λ q above. none_found (HasGreaterId id) s none q (above_found s id q above)
 next_above s id (Some n) apart least =
     let found = least_found (HasGreaterId id) s n apart least in
@@ -112,7 +112,7 @@ accepted_found s remote peer q a = (a.link, a.at, record { accepted = a.accepted
 found_accepted : (s : LinksView) (remote : Address) (peer q : ℕ) → IsFound (IsFrom remote peer) s q → IsAcceptedFrom s remote peer q
 found_accepted s remote peer q f = record { link = f.0; at = f.1; accepted = f.2.accepted; remote = f.2.remote; peer = f.2.peer }
 
-pub first_accepted : (s : LinksView) (remote : Address) (peer : ℕ) (r : Option ℕ) → AreIdsApart (ids_of s.links) → IsLeastId (IsFrom remote peer) s.links r → MatchOption r ((q : ℕ) → ¬ IsAcceptedFrom s remote peer q) (IsLeast (IsAcceptedFrom s remote peer))
+pub first_accepted : (s : LinksView) (remote : Address) (peer : ℕ) (r : Option ℕ) → AreIdsDistinct (ids_of s.links) → IsLeastId (IsFrom remote peer) s.links r → MatchOption r ((q : ℕ) → ¬ IsAcceptedFrom s remote peer q) (IsLeast (IsAcceptedFrom s remote peer))
 first_accepted s remote peer None apart none = λ q a. none_found (IsFrom remote peer) s none q (accepted_found s remote peer q a)
 first_accepted s remote peer (Some n) apart least =
     let found = least_found (IsFrom remote peer) s n apart least in

@@ -7,6 +7,7 @@ pub mod Distances
 pub mod Ended
 pub mod Found
 pub mod Gaps
+pub mod IsPresent
 pub mod Keeping
 pub mod Laying
 pub mod Lesser
@@ -21,6 +22,5 @@ pub mod Rounds
 pub mod Samples
 pub mod Searching
 pub mod Sooner
-pub mod Stands
 pub mod Unpaced
 pub mod Waiting

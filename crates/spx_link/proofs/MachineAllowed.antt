@@ -4,7 +4,7 @@ use Rattle.std.specs.Prelude.{Contains}
 use Rattle.std.proofs.lemmas.Bool.{cases_lt, cond_both}
 use Rattle.std.proofs.lemmas.List.Elements.{Contains-append_right}
 use Rattle.spx_link.proofs.MachineGrowth.{run_grows}
-use Rattle.spx_link.specs.Machine.{Packet, End, Machine, Act, Step, Moves, IsStep, IsRun, Grows, mailed, sent_next, learned, put_mark, is_wanted, risen, read_unit, got, start}
+use Rattle.spx_link.specs.Machine.{Packet, End, Machine, Act, Step, Moves, IsStep, IsRun, Grows, mailed, sent_next, learned, put_mark, is_awaited, risen, read_unit, got, start}
 use Rattle.spx_link.specs.Machine.Act.{Sends, SendsAgain, SendsNoUnit, Gets, Takes, Gains}
 use Rattle.spx_link.specs.Machine.Step.{One, Two}
 
@@ -17,8 +17,8 @@ abbrev AllowedBy : Act → End → ℕ → Type 0
 AllowedBy act d n = (p : Packet) × (act ≡ Gets p) × Contains d.bag p × (n < p.allows)
 
 -- a packet stays in a bag
-kept_in : (newer old new : List Packet) (p : Packet) → new ≡ newer ++ old → Contains old p → Contains new p
-kept_in newer old new p e h = subst (λ (bag : List Packet). Contains bag p) (sym e) (Contains-append_right newer old p h)
+drops_in : (newer old new : List Packet) (p : Packet) → new ≡ newer ++ old → Contains old p → Contains new p
+drops_in newer old new p e h = subst (λ (bag : List Packet). Contains bag p) (sym e) (Contains-append_right newer old p h)
 
 later_allowed : (side : Act → Step) (s : Step) (steps : List Step) (bag : List Packet) (n : ℕ) → Allowed side steps bag n → Allowed side (s ∷ steps) bag n
 later_allowed side s steps bag n h = (h.0, Contains-append_right (s ∷ []) steps (side (Gets h.0)) h.1, h.2, h.3)
@@ -26,12 +26,12 @@ later_allowed side s steps bag n h = (h.0, Contains-append_right (s ∷ []) step
 first_allowed : (side : Act → Step) (act : Act) (steps : List Step) (d last : End) (n : ℕ) → Grows d last → AllowedBy act d n → Allowed side (side act ∷ steps) last.bag n
 first_allowed side act steps d last n grown h =
     let here : Contains (side act ∷ steps) (side act) = (0, omega arith, refl) in
-    (h.0, subst (λ (a : Act). Contains (side act ∷ steps) (side a)) h.1 here, kept_in grown.bag.0 d.bag last.bag h.0 grown.bag.1 h.2, h.3)
+    (h.0, subst (λ (a : Act). Contains (side act ∷ steps) (side a)) h.1 here, drops_in grown.bag.0 d.bag last.bag h.0 grown.bag.1 h.2, h.3)
 
 read_unit-limit : (position : Option ℕ) (c : End) → (read_unit position c).limit ≡ c.limit
 read_unit-limit None c = refl
 read_unit-limit (Some n) c =
-    cond_both (is_wanted c n) (risen (put_mark (n - c.read) c.kept) c) c (λ x. x.limit ≡ c.limit) (λ yes. refl) (λ no. refl)
+    cond_both (is_awaited c n) (risen (put_mark (n - c.read) c.kept) c) c (λ x. x.limit ≡ c.limit) (λ yes. refl) (λ no. refl)
 
 got_allowed : (p : Packet) (c d : End) (n : ℕ) → Contains d.bag p → n < (got p c).limit → (n < c.limit) ⊎ AllowedBy (Gets p) d n
 got_allowed p c d n there h =

@@ -3,7 +3,7 @@ use Rattle.std.proofs.Common.{ℕ, ◌+◌, ◌≤◌, ◌≡◌, ◌-◌, Bool,
 use Rattle.std.proofs.lemmas.Bool.{cond_both}
 use Rattle.std.proofs.lemmas.List.{append-nil}
 use Rattle.spx_link.specs.declared.unit.Unit.{Unit}
-use Rattle.spx_link.specs.Machine.{Packet, End, Machine, Act, Step, Moves, IsStep, IsRun, Grows, packet_now, mailed, one_more_sent, sent_next, learned, put_mark, is_wanted, risen, read_unit, got}
+use Rattle.spx_link.specs.Machine.{Packet, End, Machine, Act, Step, Moves, IsStep, IsRun, Grows, packet_now, mailed, one_more_sent, sent_next, learned, put_mark, is_awaited, risen, read_unit, got}
 use Rattle.spx_link.specs.Machine.Act.{Sends, SendsAgain, SendsNoUnit, Gets, Takes, Gains}
 use Rattle.spx_link.specs.Machine.Step.{One, Two}
 
@@ -72,7 +72,7 @@ read_unit_grows : (position : Option ℕ) (c : End) → Grows c (read_unit posit
 read_unit_grows None c = unchanged c
 read_unit_grows (Some n) c =
     let kept : List Bool = put_mark (n - c.read) c.kept in
-    cond_both (is_wanted c n) (risen kept c) c (Grows c) (λ yes. risen_grows kept c) (λ no. unchanged c)
+    cond_both (is_awaited c n) (risen kept c) c (Grows c) (λ yes. risen_grows kept c) (λ no. unchanged c)
 
 got_grows : (p : Packet) (c : End) → Grows c (got p c)
 got_grows p c = grows_on c (learned p c) (got p c) (learned_grows p c) (read_unit_grows p.position (learned p c))

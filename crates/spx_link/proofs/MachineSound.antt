@@ -3,7 +3,7 @@ use Rattle.std.proofs.Common.{ℕ, ◌+◌, ◌<◌, ◌≤◌, ◌≡◌, ◌-�
 use Rattle.std.proofs.lemmas.Bool.{cond_both, and_parts}
 use Rattle.std.proofs.lemmas.List.Elements.{All-cons, All-weaker, All-nil, All-contains}
 use Rattle.spx_link.specs.declared.unit.Unit.{Unit}
-use Rattle.spx_link.specs.Machine.{Packet, End, Machine, Act, Step, Moves, IsStep, IsRun, WasSent, AreSound, packet_now, mailed, sent_next, learned, put_mark, lead, is_wanted, risen, read_unit, got, new_end, start}
+use Rattle.spx_link.specs.Machine.{Packet, End, Machine, Act, Step, Moves, IsStep, IsRun, WasSent, AreSound, packet_now, mailed, sent_next, learned, put_mark, lead, is_awaited, risen, read_unit, got, new_end, start}
 use Rattle.spx_link.specs.Machine.Act.{Sends, SendsAgain, SendsNoUnit, Gets, Takes, Gains}
 use Rattle.spx_link.specs.Machine.Step.{One, Two}
 
@@ -138,7 +138,7 @@ risen_sound c d kept s fits =
 pub read_unit_sound : (c d : End) (position : Option ℕ) → AreSound c d → ((n : ℕ) → position ≡ Some n → n < d.sent) → AreSound (read_unit position c) d
 read_unit_sound c d None s below = s
 read_unit_sound c d (Some n) s below =
-    cond_both (is_wanted c n) (risen (put_mark (n - c.read) c.kept) c) c (λ x. AreSound x d)
+    cond_both (is_awaited c n) (risen (put_mark (n - c.read) c.kept) c) c (λ x. AreSound x d)
     (λ yes.
     let above : c.read ≤ n = leb-true _ _ (and_parts _ _ yes).0 in
     let long : length (put_mark (n - c.read) c.kept) ≡ max (n - c.read + 1) (length c.kept) = length-put_mark (n - c.read) c.kept in

@@ -8,13 +8,13 @@ use Rattle.spx_link.proofs.Apart.{among_ids}
 use Rattle.spx_link.proofs.Lesser.{some_of}
 use Rattle.spx_link.proofs.Pigeons.{as_many_places}
 
-rounds_apart : (last i j : ℕ) → i < j → j < 16 → (last + j) % 65534 + 1 ≡ (last + i) % 65534 + 1 → ⊥
-rounds_apart last i j below within e = omega arith
+rounds_separate : (last i j : ℕ) → i < j → j < 16 → (last + j) % 65534 + 1 ≡ (last + i) % 65534 + 1 → ⊥
+rounds_separate last i j below within e = omega arith
 
 pub not_all_live : (links : List LinkView) (last : ℕ) → length links < 16 → ((k : ℕ) → k < 16 → IsSome (link_of links (id_after last k))) → ⊥
 not_all_live links last few live =
     let f : ℕ → ℕ = λ k. id_after last k in
-    let many = as_many_places f 16 (ids_of links) (λ i j below within e. rounds_apart last i j below within e) (λ k h. let l = some_of (link_of links (id_after last k)) (live k h) in among_ids links (id_after last k) l.0 l.1) in
+    let many = as_many_places f 16 (ids_of links) (λ i j below within e. rounds_separate last i j below within e) (λ k h. let l = some_of (link_of links (id_after last k)) (live k h) in among_ids links (id_after last k) l.0 l.1) in
     omega (arith, many, length-map links own_of, few)
 
 pub none_of : {A : Type 0} (o : Option A) → is_some o ≡ false → o ≡ None

@@ -8,7 +8,7 @@ use Rattle.spx_link.specs.Due.{IsQuiet, IsNextDue, IsNextDueOfAll, earliest, aga
 use Rattle.spx_link.specs.LinkView.{LinkView, is_working}
 use Rattle.spx_link.specs.Links.{LinksView, link_at}
 use Rattle.spx_link.specs.Poll as P
-use Rattle.spx_link.specs.Sound.{ids_of, AreIdsApart}
+use Rattle.spx_link.specs.Sound.{ids_of, AreIdsDistinct}
 use Rattle.spx_link.proofs.Apart.{stands}
 use Rattle.spx_link.proofs.Carrying.{by_test}
 use Rattle.spx_link.proofs.Found.{place_of_found}
@@ -113,25 +113,25 @@ found_before s id now l before at =
 -- ---- the link that is due then
 
 -- at a place of the list
-pub record Stands (ls : List LinkView) (t : ℕ) : Type 0 where
+pub record IsPresent (ls : List LinkView) (t : ℕ) : Type 0 where
   pub place : ℕ
   pub link : LinkView
   pub within : place < length ls
   pub read : slice_index_or ls place link ≡ link
   pub due : due_link link ≡ Some t
 
-one_more : (l : LinkView) (ls : List LinkView) (t : ℕ) → Stands ls t → Stands (l ∷ ls) t
+one_more : (l : LinkView) (ls : List LinkView) (t : ℕ) → IsPresent ls t → IsPresent (l ∷ ls) t
 one_more l ls t s = record { place = suc s.place; link = s.link; within = omega (arith, s.within); read = s.read; due = s.due }
 
-some_stands_at : (l : LinkView) (ls : List LinkView) (t : ℕ) (a b : Option ℕ) → ((n : ℕ) → soonest ls ≡ Some n → Stands ls n) → due_link l ≡ a → soonest ls ≡ b → sooner a b ≡ Some t → Stands (l ∷ ls) t
-some_stands_at l ls t None b rest here later is = one_more l ls t (rest t (later ∙ is))
-some_stands_at l ls t (Some a) None rest here later is = record { place = 0; link = l; within = omega arith; read = refl; due = here ∙ is }
-some_stands_at l ls t (Some a) (Some b) rest here later is = first_of_two (nat_lt a b) refl
+some_holds_at : (l : LinkView) (ls : List LinkView) (t : ℕ) (a b : Option ℕ) → ((n : ℕ) → soonest ls ≡ Some n → IsPresent ls n) → due_link l ≡ a → soonest ls ≡ b → sooner a b ≡ Some t → IsPresent (l ∷ ls) t
+some_holds_at l ls t None b rest here later is = one_more l ls t (rest t (later ∙ is))
+some_holds_at l ls t (Some a) None rest here later is = record { place = 0; link = l; within = omega arith; read = refl; due = here ∙ is }
+some_holds_at l ls t (Some a) (Some b) rest here later is = first_of_two (nat_lt a b) refl
   where
     least : min a b ≡ t
     least = cc
 
-    first_of_two : (first : Bool) → nat_lt a b ≡ first → Stands (l ∷ ls) t
+    first_of_two : (first : Bool) → nat_lt a b ≡ first → IsPresent (l ∷ ls) t
     first_of_two true e =
         let less : a < b = grind (arith, nat_tests) in
         let same : a ≡ t = omega (arith, least) in
@@ -141,25 +141,25 @@ some_stands_at l ls t (Some a) (Some b) rest here later is = first_of_two (nat_l
         let same : b ≡ t = omega (arith, least) in
         one_more l ls t (rest t (later ∙ ap Some same))
 
-some_stands : (ls : List LinkView) (t : ℕ) → soonest ls ≡ Some t → Stands ls t
-some_stands [] t e = absurd (cc)
-some_stands (l ∷ ls) t e = some_stands_at l ls t (due_link l) (soonest ls) (λ n later. some_stands ls n later) refl refl e
+some_holds : (ls : List LinkView) (t : ℕ) → soonest ls ≡ Some t → IsPresent ls t
+some_holds [] t e = absurd (cc)
+some_holds (l ∷ ls) t e = some_holds_at l ls t (due_link l) (soonest ls) (λ n later. some_holds ls n later) refl refl e
 
 acts_from : (l : LinkView) (t : ℕ) → due_link l ≡ Some t → (now : ℕ) → t ≤ now → IsQuiet l now → ⊥
 acts_from l t is = let P : Option ℕ → Type 0 = λ o. IsNextDue l o in (subst P is (next_due l)).1
 
-all_by : (s : LinksView) (o : Option ℕ) → AreIdsApart (ids_of s.links) → soonest s.links ≡ o → IsNextDueOfAll s o
+all_by : (s : LinksView) (o : Option ℕ) → AreIdsDistinct (ids_of s.links) → soonest s.links ≡ o → IsNextDueOfAll s o
 all_by s None apart is =
     λ id now l at less.
     let P : Option ℕ → Type 0 = λ o. Before now o in
     found_before s id now l (subst P (sym is) less) at
 all_by s (Some t) apart is =
-    let one = some_stands s.links t is in (
+    let one = some_holds s.links t is in (
       λ id now l at less.
           let P : Option ℕ → Type 0 = λ o. Before now o in
           found_before s id now l (subst P (sym is) less) at,
       (one.link.own, one.link, stands s.links one.place one.link apart one.within one.read, acts_from one.link t one.due),
     )
 
-pub next_due_of_all : (s : LinksView) → AreIdsApart (ids_of s.links) → IsNextDueOfAll s (soonest s.links)
+pub next_due_of_all : (s : LinksView) → AreIdsDistinct (ids_of s.links) → IsNextDueOfAll s (soonest s.links)
 next_due_of_all s apart = all_by s (soonest s.links) apart refl

@@ -16,13 +16,13 @@ is_open Confirmed = false
 is_open Lost = false
 
 -- the states that read no packet except one that joins
-abbrev pub is_apart : State → Bool
-is_apart Opening = true
-is_apart Live = false
-is_apart Ending = false
-is_apart PeerEnded = false
-is_apart Confirmed = false
-is_apart Lost = true
+abbrev pub is_unconnected : State → Bool
+is_unconnected Opening = true
+is_unconnected Live = false
+is_unconnected Ending = false
+is_unconnected PeerEnded = false
+is_unconnected Confirmed = false
+is_unconnected Lost = true
 
 -- in an open state no end is queued
 abbrev pub HasNoEndWhileOpen : LinkView → Type 0

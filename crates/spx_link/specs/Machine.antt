@@ -99,8 +99,8 @@ lead (false ∷ xs) = 0
 lead (true ∷ xs) = suc (lead xs)
 
 -- a position from `read` to `taken + buffers - 1` that is not kept yet
-abbrev pub is_wanted : End → ℕ → Bool
-is_wanted c n =
+abbrev pub is_awaited : End → ℕ → Bool
+is_awaited c n =
     nat_le c.read n && (nat_lt n (c.taken + c.buffers) && not (is_marked (n - c.read) c.kept))
 
 -- with these positions kept from `read` on, `read` becomes the least position that is not kept
@@ -110,7 +110,7 @@ risen kept c = record c { read = c.read + lead kept; kept = drop (lead kept) kep
 -- it kept the unit of this position, unless it was kept before or no buffer is free
 abbrev pub read_unit : Option ℕ → End → End
 read_unit None c = c
-read_unit (Some n) c = if is_wanted c n then risen (put_mark (n - c.read) c.kept) c else c
+read_unit (Some n) c = if is_awaited c n then risen (put_mark (n - c.read) c.kept) c else c
 
 -- it got a packet
 abbrev pub got : Packet → End → End

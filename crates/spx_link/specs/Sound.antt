@@ -14,16 +14,16 @@ ids_of ls = map own_of ls
 abbrev pub is_among : List ℕ → ℕ → Bool
 is_among ns n = list_any (λ m. m == n) ns
 
-abbrev pub AreIdsApart : List ℕ → Type 0
-AreIdsApart [] = ⊤
-AreIdsApart (n ∷ ns) = (is_among ns n ≡ false) × AreIdsApart ns
+abbrev pub AreIdsDistinct : List ℕ → Type 0
+AreIdsDistinct [] = ⊤
+AreIdsDistinct (n ∷ ns) = (is_among ns n ≡ false) × AreIdsDistinct ns
 
 abbrev pub is_id : ℕ → Bool
 is_id n = nat_lt 0 n && nat_lt n no_id
 
 -- the id assigned last, and the live ids
 pub record AreIdsSound (given : ℕ) (ids : List ℕ) : Type 0 where
-  pub apart : AreIdsApart ids
+  pub apart : AreIdsDistinct ids
   pub in_range : list_all is_id ids ≡ true
   pub few : length ids ≤ most_links
   pub last : given < no_id

@@ -9,7 +9,7 @@ ghost use Rattle.spx_link.specs.declared.unit.Unit as units;
 ghost use Rattle.spx_link.specs.declared.received.Received.TheVariants.{Joined, Stranger};
 ghost use Rattle.spx_link.specs.declared.state.State.TheVariants.{Opening};
 ghost use Rattle.spx_link.specs.Courses.{HasNoEndWhileOpen, HasTaken, IsWholeOnceConfirmed};
-ghost use Rattle.spx_link.specs.Courses.{is_apart};
+ghost use Rattle.spx_link.specs.Courses.{is_unconnected};
 ghost use Rattle.spx_link.specs.Effects.{IfRequest};
 ghost use Rattle.spx_link.specs.LinkView.{LinkView};
 ghost use Rattle.spx_link.specs.Offer.{accepted_from, again_link, dialed, end_link, lose_link};
@@ -105,12 +105,12 @@ pub fn opening_links_join_or_stay()
 
 /// A link that is Opening or Lost sends only requests. A poll keeps it Opening or Lost, it reads
 /// only a packet that joins it, and units cannot be offered to it.
-pub fn links_apart_send_nothing()
-    ensures asks { (l : LinkView) (now : ℕ) → is_apart l.state ≡ true
+pub fn unconnected_links_send_nothing()
+    ensures asks { (l : LinkView) (now : ℕ) → is_unconnected l.state ≡ true
         → IfRequest (poll_link l now).0 }
-    ensures stays { (l : LinkView) (now : ℕ) → is_apart l.state ≡ true
-        → is_apart (poll_link l now).1.state ≡ true }
-    ensures joins { (l : LinkView) (h : SpxHeader) (body : List ℕ) → is_apart l.state ≡ true
+    ensures stays { (l : LinkView) (now : ℕ) → is_unconnected l.state ≡ true
+        → is_unconnected (poll_link l now).1.state ≡ true }
+    ensures joins { (l : LinkView) (h : SpxHeader) (body : List ℕ) → is_unconnected l.state ≡ true
         → (receive_link l h body).0 ≢ Stranger → (receive_link l h body).0 ≡ Joined }
-    ensures refuses { (l : LinkView) → is_apart l.state ≡ true → refusal l.state ≢ None }
+    ensures refuses { (l : LinkView) → is_unconnected l.state ≡ true → refusal l.state ≢ None }
 {}

@@ -234,6 +234,6 @@ pub fn accepted_owes_its_reply()
 {}
 
 /// A link is stored under its own id.
-pub fn links_stand_under_their_ids()
+pub fn links_have_their_ids()
     ensures { (s : LinksView) (id : ℕ) (l : LinkView) → link_at s id ≡ Some l → l.own ≡ id }
 {}

@@ -8,7 +8,7 @@
 //! range in which it holds. `windows` states them at this project's bound, 8,192.
 
 ghost use Rattle.std.specs.Prelude.{ℕ, ◌≡◌, ◌≢◌, ◌↔◌, ◌+◌, ◌<◌, ◌≤◌, max};
-ghost use Rattle.spx_link.specs.Limits.{most_room, most_units};
+ghost use Rattle.spx_link.specs.Limits.{max_allocation_ahead, most_units};
 ghost use Rattle.spx_link.specs.SequenceMarks.{acknowledged, mark, distance, outstanding_after, room_after};
 
 /// What marks say about positions.
@@ -63,7 +63,7 @@ pub fn allocation()
     ensures stale { (sent allows before : ℕ) → before ≤ allows → allows < sent
         → sent < before + 32768 → 32769 ≤ distance (mark (allows + 65535) + 1) (mark sent) }
     // Both together: afterwards the positions below the greater of limit and allows may be sent.
-    ensures read { (bound sent room limit allows before : ℕ) → bound ≤ most_room
+    ensures read { (bound sent room limit allows before : ℕ) → bound ≤ max_allocation_ahead
         → sent + room ≡ limit → allows ≤ sent + bound → before ≤ allows → sent < before + 32768
         → sent + room_after (mark sent) room (mark (allows + 65535)) ≡ max limit allows }
 {}
@@ -105,7 +105,7 @@ pub fn windows()
         → sent < before + 32768
         → let beyond : ℕ = distance (mark (allows + 65535) + 1) (mark sent) in
         (allows < sent → 32769 ≤ beyond) × (sent ≤ allows → beyond ≤ most_units)
-        × ((beyond ≤ most_room) ↔ (sent ≤ allows)) }
+        × ((beyond ≤ max_allocation_ahead) ↔ (sent ≤ allows)) }
     // A unit before the next one is a repeat (32,768 or more), or appears 24,577 or more ahead of
     // it.
     ensures sequence { (read n sent before : ℕ) → n < read → read ≤ sent

@@ -33,11 +33,11 @@ mod unit;
 
 pub use by_clock::{places_are_manual_only, unpaced_links_go_by_the_clock};
 pub use courses::{
-    confirmed_links_are_whole, links_apart_send_nothing, open_links_queue_no_end,
-    opening_links_join_or_stay, taken_and_held_are_expected,
+    confirmed_links_are_whole, open_links_queue_no_end, opening_links_join_or_stay,
+    taken_and_held_are_expected, unconnected_links_send_nothing,
 };
 pub use effects::{
-    accepted_owes_its_reply, links_stand_under_their_ids, lost_gives_nothing, new_links_are_empty,
+    accepted_owes_its_reply, links_have_their_ids, lost_gives_nothing, new_links_are_empty,
     new_links_have_their_ends, opening_gives_requests, others_change_no_number, others_keep_units,
     poll_changes, poll_gives, poll_keeps_units, receive_changes, receive_changes_states,
     receive_drops_units, receive_keeps_units, receive_reads_its_own, take_changes,

@@ -3,7 +3,7 @@
 //! order or never.
 
 ghost use Rattle.std.specs.Prelude.{ℕ, ◌<◌, ◌≤◌, List, All, Contains};
-ghost use Rattle.spx_link.specs.Limits.{most_room};
+ghost use Rattle.spx_link.specs.Limits.{max_allocation_ahead};
 ghost use Rattle.spx_link.specs.Machine.{AreSound, End, Grows, IsChain, IsRun, IsStep, IsWithin};
 ghost use Rattle.spx_link.specs.Machine.{Machine, Packet, Step, WasSent, got, new_end, start};
 ghost use Rattle.spx_link.specs.Machine.Act.{Gets};
@@ -65,10 +65,10 @@ pub fn allowances()
 /// The 16-bit numbers of a fresh packet identify its positions, if neither end has more than 16,383
 /// buffers.
 pub fn fresh_packets()
-    ensures one { (steps : List Step) (a b : ℕ) (m : Machine) (p : Packet) → a ≤ most_room
-        → b ≤ most_room → IsRun steps (start a b) m → Contains m.two.bag p → IsRecentPacket m.one m.two p
+    ensures one { (steps : List Step) (a b : ℕ) (m : Machine) (p : Packet) → a ≤ max_allocation_ahead
+        → b ≤ max_allocation_ahead → IsRun steps (start a b) m → Contains m.two.bag p → IsRecentPacket m.one m.two p
         → TellsPositions m.one p }
-    ensures two { (steps : List Step) (a b : ℕ) (m : Machine) (p : Packet) → a ≤ most_room
-        → b ≤ most_room → IsRun steps (start a b) m → Contains m.one.bag p → IsRecentPacket m.two m.one p
+    ensures two { (steps : List Step) (a b : ℕ) (m : Machine) (p : Packet) → a ≤ max_allocation_ahead
+        → b ≤ max_allocation_ahead → IsRun steps (start a b) m → Contains m.one.bag p → IsRecentPacket m.two m.one p
         → TellsPositions m.two p }
 {}

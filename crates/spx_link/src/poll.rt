@@ -107,7 +107,7 @@ impl Link {
         Some(confirmation)
     }
 
-    #[tactic(auto, using(crate::proofs::Stands::slice_get_after_set))]
+    #[tactic(auto, using(crate::proofs::IsPresent::slice_get_after_set))]
     fn poll_unit(&mut self, now: u64) -> Option<Chosen>
         ensures gives { option_map (carried self.new) result ≡ (spec.poll_unit self.old now).0 }
         ensures leaves { self.new ≡ (spec.poll_unit self.old now).1 }
@@ -137,7 +137,7 @@ impl Link {
         }
     }
 
-    #[tactic(auto, using(crate::proofs::Stands::slice_get_after_set))]
+    #[tactic(auto, using(crate::proofs::IsPresent::slice_get_after_set))]
     fn send_again(&mut self, place: u16, now: u64) -> Option<Chosen>
         requires sent { place < self.old.out }
         requires queued { place < length self.old.queue }

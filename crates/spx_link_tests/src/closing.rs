@@ -80,7 +80,7 @@ fn no_end_before_it_is_live(rt: HostRuntime) -> Result<(), Fail> {
 
 /// A unit after the peer's end is not kept, and owes nothing.
 #[test]
-fn behind_the_end(rt: HostRuntime) -> Result<(), Fail> {
+fn after_the_end(rt: HostRuntime) -> Result<(), Fail> {
     let mut b = joined(&rt, rt.alloc(), 7)?;
     assert_eq!(rt; b.receive(&end_packet(), &[], 0)?, Received::PeerEnded);
     assert_eq!(rt; b.sent(0), Some(Sent::Confirm));

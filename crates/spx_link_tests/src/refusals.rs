@@ -17,7 +17,7 @@ fn nothing_is_queued_before_it_is_live(rt: HostRuntime) -> Result<(), Fail> {
 
 /// The end is sent, and nothing after it.
 #[test]
-fn nothing_is_queued_behind_the_end(rt: HostRuntime) -> Result<(), Fail> {
+fn nothing_is_queued_after_the_end(rt: HostRuntime) -> Result<(), Fail> {
     let mut ending = joined(&rt, rt.alloc(), 7)?;
     ending.end()?;
     assert_eq!(rt; ending.end(), Err(OfferFault::Ended));

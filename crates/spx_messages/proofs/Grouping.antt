@@ -107,8 +107,8 @@ only_one us ms rest to =
 abbrev JoinsTo : List Unit → Joining → Type 0
 JoinsTo us j = UnitsJoinTo us j.messages j.rest
 
-data_behind : (us : List Unit) (u : Unit) → is_end u ≡ false → filter is_data (us ++ u ∷ []) ≡ filter is_data us ++ u ∷ []
-data_behind us u goes_on = filter-append is_data us (u ∷ []) ∙ ap (λ vs. filter is_data us ++ vs) (data_first u [] goes_on)
+data_after : (us : List Unit) (u : Unit) → is_end u ≡ false → filter is_data (us ++ u ∷ []) ≡ filter is_data us ++ u ∷ []
+data_after us u goes_on = filter-append is_data us (u ∷ []) ∙ ap (λ vs. filter is_data us ++ vs) (data_first u [] goes_on)
 
 end_behind : (us : List Unit) (u : Unit) → is_end u ≡ true → filter is_data (us ++ u ∷ []) ≡ filter is_data us
 end_behind us u ends = filter-append is_data us (u ∷ []) ∙ ap (λ vs. filter is_data us ++ vs) (data_later u [] ends) ∙ append-nil (filter is_data us)
@@ -121,7 +121,7 @@ one_group_more us u j goes_on ends to =
     record {
       groups = to.groups ++ single;
       others = [];
-      are = data_behind us u goes_on
+      are = data_after us u goes_on
           ∙ ap (λ vs. vs ++ u ∷ []) to.are
           ∙ append_assoc (all_of to.groups) to.others (u ∷ [])
           ∙ ap (λ vs. all_of to.groups ++ vs) (sym (append-nil group))
@@ -142,7 +142,7 @@ one_unit_more : (us : List Unit) (u : Unit) (j : Joining) → is_end u ≡ false
 one_unit_more us u j goes_on not_yet to = record {
   groups = to.groups;
   others = to.others ++ u ∷ [];
-  are = data_behind us u goes_on ∙ ap (λ vs. vs ++ u ∷ []) to.are ∙ append_assoc (all_of to.groups) to.others (u ∷ []);
+  are = data_after us u goes_on ∙ ap (λ vs. vs ++ u ∷ []) to.are ∙ append_assoc (all_of to.groups) to.others (u ∷ []);
   ended = to.ended;
   unended = All-append (λ (v : Unit). v.last ≡ false) to.others (u ∷ []) to.unended
       (All-cons (λ (v : Unit). v.last ≡ false) u [] not_yet (All-none (λ (v : Unit). v.last ≡ false)));

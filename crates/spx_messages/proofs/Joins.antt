@@ -158,15 +158,15 @@ get_front [] ys k within = absurd (omega (arith, within))
 get_front (x ∷ xs) ys zero within = refl
 get_front (x ∷ xs) ys (suc k) within = get_front xs ys k (omega (arith, within))
 
-get_behind : {A : Type 0} (xs ys : List A) (k i : ℕ) → k ≡ length xs + i → slice_get (xs ++ ys) k ≡ slice_get ys i
-get_behind [] ys k i is = ap (slice_get ys) (omega (arith, is))
-get_behind (x ∷ xs) ys zero i is = absurd (omega (arith, is))
-get_behind (x ∷ xs) ys (suc k) i is = get_behind xs ys k i (omega (arith, is))
+get_after : {A : Type 0} (xs ys : List A) (k i : ℕ) → k ≡ length xs + i → slice_get (xs ++ ys) k ≡ slice_get ys i
+get_after [] ys k i is = ap (slice_get ys) (omega (arith, is))
+get_after (x ∷ xs) ys zero i is = absurd (omega (arith, is))
+get_after (x ∷ xs) ys (suc k) i is = get_after xs ys k i (omega (arith, is))
 
-take_behind : {A : Type 0} (xs ys : List A) (k i : ℕ) → k ≡ length xs + i → take k (xs ++ ys) ≡ xs ++ take i ys
-take_behind [] ys k i is = ap (λ n. take n ys) (omega (arith, is))
-take_behind (x ∷ xs) ys zero i is = absurd (omega (arith, is))
-take_behind (x ∷ xs) ys (suc k) i is = ap (λ zs. x ∷ zs) (take_behind xs ys k i (omega (arith, is)))
+take_after : {A : Type 0} (xs ys : List A) (k i : ℕ) → k ≡ length xs + i → take k (xs ++ ys) ≡ xs ++ take i ys
+take_after [] ys k i is = ap (λ n. take n ys) (omega (arith, is))
+take_after (x ∷ xs) ys zero i is = absurd (omega (arith, is))
+take_after (x ∷ xs) ys (suc k) i is = ap (λ zs. x ∷ zs) (take_after xs ys k i (omega (arith, is)))
 
 units_fit : (before ms : List MessageView) (k : ℕ) → AreSendable ms → Fits before None (units_of_messages ms) k 65535
 units_fit before [] k all u is = absurd (no_unit u is)
@@ -186,9 +186,9 @@ units_fit before (m ∷ ms) k all u is =
     cases (inr behind) later =
         let place : k ≡ length (cut_of m) + (k - length (cut_of m)) = omega (arith, behind) in
         let i : ℕ = k - length (cut_of m) in
-        let there : slice_get (units_of_messages ms) i ≡ Some u = sym (get_behind (cut_of m) (units_of_messages ms) k i place) ∙ is in
+        let there : slice_get (units_of_messages ms) i ≡ Some u = sym (get_after (cut_of m) (units_of_messages ms) k i place) ∙ is in
         let joins : join_all (so_far before None) (take k (cut_of m ++ units_of_messages ms)) ≡ join_all (so_far (before ++ m ∷ []) None) (take i (units_of_messages ms)) =
-        ap (join_all (so_far before None)) (take_behind (cut_of m) (units_of_messages ms) k i place)
+        ap (join_all (so_far before None)) (take_after (cut_of m) (units_of_messages ms) k i place)
         ∙ join_all-append (so_far before None) (cut_of m) (take i (units_of_messages ms))
         ∙ ap (λ j. join_all j (take i (units_of_messages ms))) (cut_join before m (All-head IsSendable m ms all).stream) in
         subst (λ (j : Joining). length (added j.rest u).body ≤ 65535) (sym joins) (later i there)

@@ -82,8 +82,8 @@ written key id xs k y is same =
     let place = place_of_position (has key id) xs k is in
     find-set (has key id) xs k y place.0 place.1 (eq_true (key y) id same)
 
-pub written_apart : {X : Type 0} (key : X → ℕ) (id q : ℕ) (xs : List X) (k : ℕ) (x y : X) → position (has key id) xs ≡ Some k → x ≡ get_or xs k x → key y ≡ id → q ≢ id → find (has key q) (set xs k y) ≡ find (has key q) xs
-written_apart key id q xs k x y is read same apart =
+pub written_separate : {X : Type 0} (key : X → ℕ) (id q : ℕ) (xs : List X) (k : ℕ) (x y : X) → position (has key id) xs ≡ Some k → x ≡ get_or xs k x → key y ≡ id → q ≢ id → find (has key q) (set xs k y) ≡ find (has key q) xs
+written_separate key id q xs k x y is read same apart =
     let ours : key x ≡ id = eq_from (key x) id (found_passes (has key id) xs x (found_at_place (has key id) xs k x is read)) in
     find_past (has key q) xs k y x
     (ap (has key q) (sym read) ∙ eq_false (key x) q (λ e. apart (sym e ∙ ours)))
@@ -101,6 +101,6 @@ pub pushed : {X : Type 0} (key : X → ℕ) (id : ℕ) (xs : List X) (y : X) →
 pushed key id xs y free same =
     find-append (has key id) xs (y ∷ []) ∙ ap (λ o. option_or o (find (has key id) (y ∷ []))) free ∙ find_last (has key id) y true (eq_true (key y) id same)
 
-pub pushed_apart : {X : Type 0} (key : X → ℕ) (id q : ℕ) (xs : List X) (y : X) → key y ≡ id → q ≢ id → find (has key q) (xs ++ y ∷ []) ≡ find (has key q) xs
-pushed_apart key id q xs y same apart =
+pub pushed_separate : {X : Type 0} (key : X → ℕ) (id q : ℕ) (xs : List X) (y : X) → key y ≡ id → q ≢ id → find (has key q) (xs ++ y ∷ []) ≡ find (has key q) xs
+pushed_separate key id q xs y same apart =
     find-append (has key q) xs (y ∷ []) ∙ ap (option_or (find (has key q) xs)) (find_last (has key q) y false (eq_false (key y) q (λ e. apart (sym e ∙ same)))) ∙ or_none (find (has key q) xs)

@@ -10,7 +10,7 @@ use Rattle.spx_link.specs.Poll.{OutgoingView, poll_link}
 use Rattle.spx_messages.specs.WrittenPackets.{Home, IsWrittenPacket}
 use Rattle.spx_messages.specs.Changes.{SameBut}
 use Rattle.spx_messages.specs.EndpointView.{EndpointView, Held, held_at}
-use Rattle.spx_messages.specs.OneValue.{IsRoomStill, IsOnePoll}
+use Rattle.spx_messages.specs.OneValue.{IsBufferStill, IsOnePoll}
 use Rattle.spx_messages.specs.Polls.{FirstLinkGives, Polls, RestsAt, home_of, next_node, polled_held}
 use Rattle.spx_messages.proofs.Once.{below_or_not, none_or_some, same_self}
 
@@ -91,7 +91,7 @@ module _ (old : EndpointView) (now : ℕ) where
             let here : id ≡ q = omega (arith, h, k) in
             subst (λ (j : ℕ). held_at other j ≡ held_at new j) here (y.becomes ∙ sym x.becomes)
 
-    gave_one : 576 ≤ length room → IsRoomStill room a → IsRoomStill room b → Gave id held given node_a n room a new → Gave id held given node_b m room b other
+    gave_one : 576 ≤ length room → IsBufferStill room a → IsBufferStill room b → Gave id held given node_a n room a new → Gave id held given node_b m room b other
         → (node_a ≡ node_b) × (n ≡ m) × (a ≡ b) × ((q : ℕ) → held_at other q ≡ held_at new q) × (other.said ≡ new.said)
     gave_one fits still_a still_b x y =
         let front : take n a ≡ take m b = written_one f (home_of old) held.link given (take n a) (take m b) (front_in_range n a still_a.bytes) (front_in_range m b still_b.bytes) x.is y.is x.clear y.clear in
@@ -126,7 +126,7 @@ module _ (old : EndpointView) (now : ℕ) (node_a node_b : Node) (n m : ℕ) (ro
       let both : Some x.given ≡ Some y.given = sym x.gives ∙ ap (λ (h : Held). (poll_link h.link now).0) (link_one x y) ∙ y.gives in
       cc both
 
-  first_one : ByteLaws → 576 ≤ length room → IsRoomStill room a → IsRoomStill room b → (x : FirstA) (y : FirstB)
+  first_one : ByteLaws → 576 ≤ length room → IsBufferStill room a → IsBufferStill room b → (x : FirstA) (y : FirstB)
       → (node_a ≡ node_b) × (n ≡ m) × (a ≡ b) × ((q : ℕ) → held_at other q ≡ held_at new q) × (other.said ≡ new.said)
   first_one f fits still_a still_b x y =
       let moved = subst (λ (k : ℕ). Gave old now k x.held x.given node_a n room a new) (id_one x y) (gave old now node_a n room a new x) in

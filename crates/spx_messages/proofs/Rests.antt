@@ -2,7 +2,7 @@
 use Rattle.std.proofs.Common.{◌≡◌, ◌≢◌, ℕ, List, [], ◌∷◌, ◌++◌, not, ◌==◌, filter, position, ap, None, Some, get_or, set}
 use Rattle.spx_messages.specs.declared.parts.Part.{Part}
 use Rattle.spx_messages.specs.EndpointView.{rest_in, rest_of}
-use Rattle.spx_messages.proofs.Keyed.{has, gone, stays, written, written_apart, pushed, pushed_apart, found_at_place, found_nowhere, found_passes, eq_from}
+use Rattle.spx_messages.proofs.Keyed.{has, gone, stays, written, written_separate, pushed, pushed_separate, found_at_place, found_nowhere, found_passes, eq_from}
 
 abbrev pub id_of : Part → ℕ
 id_of p = p.id
@@ -33,11 +33,11 @@ rest_nowhere parts id is = ap rest_of (found_nowhere (has id_of id) parts is)
 pub rest_written : (parts : List Part) (id k : ℕ) (y : Part) → IsPlace parts id k → y.id ≡ id → rest_in (set parts k y) id ≡ y.inbox
 rest_written parts id k y is same = ap rest_of (written id_of id parts k y is same)
 
-pub rest_written_apart : (parts : List Part) (id q k : ℕ) (x y : Part) → IsPlace parts id k → x ≡ get_or parts k x → y.id ≡ id → q ≢ id → rest_in (set parts k y) q ≡ rest_in parts q
-rest_written_apart parts id q k x y is read same apart = ap rest_of (written_apart id_of id q parts k x y is read same apart)
+pub rest_written_separate : (parts : List Part) (id q k : ℕ) (x y : Part) → IsPlace parts id k → x ≡ get_or parts k x → y.id ≡ id → q ≢ id → rest_in (set parts k y) q ≡ rest_in parts q
+rest_written_separate parts id q k x y is read same apart = ap rest_of (written_separate id_of id q parts k x y is read same apart)
 
 pub rest_pushed : (parts : List Part) (id : ℕ) (y : Part) → position (λ (p : Part). p.id == id) parts ≡ None → y.id ≡ id → rest_in (parts ++ y ∷ []) id ≡ y.inbox
 rest_pushed parts id y free same = ap rest_of (pushed id_of id parts y (found_nowhere (has id_of id) parts free) same)
 
-pub rest_pushed_apart : (parts : List Part) (id q : ℕ) (y : Part) → y.id ≡ id → q ≢ id → rest_in (parts ++ y ∷ []) q ≡ rest_in parts q
-rest_pushed_apart parts id q y same apart = ap rest_of (pushed_apart id_of id q parts y same apart)
+pub rest_pushed_separate : (parts : List Part) (id q : ℕ) (y : Part) → y.id ≡ id → q ≢ id → rest_in (parts ++ y ∷ []) q ≡ rest_in parts q
+rest_pushed_separate parts id q y same apart = ap rest_of (pushed_separate id_of id q parts y same apart)

@@ -9,7 +9,7 @@ use Rattle.spx_messages.specs.EndpointView.{EndpointView}
 use Rattle.spx_messages.specs.Polls.{Polls}
 
 -- any slice of bytes after a call: it holds bytes, and as many as before
-pub record IsRoomStill (room written : List ℕ) : Type 0 where
+pub record IsBufferStill (room written : List ℕ) : Type 0 where
   pub bytes : IsBytes written
   pub size : length written ≡ length room
 
@@ -27,6 +27,6 @@ pub record IsSamePoll (a b : Option (Node × ℕ)) (written_a written_b : List �
 abbrev pub IsOnePoll : Type 0
 IsOnePoll = (old new other : EndpointView) (now : ℕ) (a b : Option (Node × ℕ))
     (room written_a written_b : List ℕ) → spx_max_packet_size ≤ length room
-    → IsRoomStill room written_a → IsRoomStill room written_b
+    → IsBufferStill room written_a → IsBufferStill room written_b
     → Polls old now a room written_a new → Polls old now b room written_b other
     → IsSamePoll a b written_a written_b new other

@@ -12,7 +12,7 @@ use Rattle.spx_theory.specs.Peers.{end_of}
 use Rattle.spx_theory.specs.PairLog.{Half}
 use Rattle.spx_theory.specs.Tracks.{Formed, Follows}
 use Rattle.spx_theory.specs.Spelling.{Carries}
-use Rattle.spx_theory.specs.Scene.{Stand}
+use Rattle.spx_theory.specs.Scene.{PresentEnd}
 use Rattle.spx_theory.proofs.Lists.{get_before, get_last, get_here, read_there}
 use Rattle.spx_theory.proofs.Tied.{mark_at, Letter, Tied}
 
@@ -26,7 +26,7 @@ pub mark_here : (marks : List Mark) (m : Mark) → mark_at (marks ++ m ∷ []) (
 mark_here marks m = read_there (marks ++ m ∷ []) (length marks) m nowhere (get_here marks m)
 
 -- of one half: a parcel is added, which is one of its own (o) or another's
-pub record Adds (c d : ℕ) (ends : List Stand) (parcels : List (List ℕ)) (bytes : List ℕ) (marks : List Mark) (m : Mark) (sent more : List ℕ) (x y x' y' : Half) : Type 0 where
+pub record Adds (c d : ℕ) (ends : List PresentEnd) (parcels : List (List ℕ)) (bytes : List ℕ) (marks : List Mark) (m : Mark) (sent more : List ℕ) (x y x' y' : Half) : Type 0 where
   pub later : Later x.end y.end x'.end y'.end
   pub units : x'.end.units ≡ x.end.units
   pub buffers : x'.end.buffers ≡ x.end.buffers
@@ -36,7 +36,7 @@ pub record Adds (c d : ℕ) (ends : List Stand) (parcels : List (List ℕ)) (byt
   pub count : x'.end.sent ≡ times c (sent ++ more)
   pub by : end_of m.maker ≡ Some c → (q : Packet) × (mine ≡ Some q)
   pub letter : (q : Packet) → mine ≡ Some q → Letter c d (parcels ++ bytes ∷ []) (marks ++ m ∷ []) (sent ++ more) x' y' (length marks) q
-  pub link : (e : Stand) (l : LinkView) → slice_get ends c ≡ Some e → e.link ≡ Some l → Follows l x'.end y'.end
+  pub link : (e : PresentEnd) (l : LinkView) → slice_get ends c ≡ Some e → e.link ≡ Some l → Follows l x'.end y'.end
 
 pub letter_stays : (c d : ℕ) (parcels : List (List ℕ)) (bytes : List ℕ) (marks : List Mark) (m : Mark) (sent more : List ℕ) (x y x' y' : Half)
     → length marks ≡ length parcels → Later x.end y.end x'.end y'.end → x'.end.units ≡ x.end.units → ((p : Packet) → Contains x.end.bag p → Contains x'.end.bag p)
@@ -57,7 +57,7 @@ letter_stays c d parcels bytes marks m sent more x y x' y' same later units bag 
           (s.0, subst (λ us. Carries q.position us h body) (sym units) s.1);
     }
 
-pub adds : (c d : ℕ) (ends ends' : List Stand) (parcels : List (List ℕ)) (bytes : List ℕ) (marks : List Mark) (m : Mark) (sent more : List ℕ) (x y x' y' : Half)
+pub adds : (c d : ℕ) (ends ends' : List PresentEnd) (parcels : List (List ℕ)) (bytes : List ℕ) (marks : List Mark) (m : Mark) (sent more : List ℕ) (x y x' y' : Half)
     → length marks ≡ length parcels → Adds c d ends' parcels bytes marks m sent more x y x' y' → Tied c d ends parcels marks sent x y
     → Tied c d ends' (parcels ++ bytes ∷ []) (marks ++ m ∷ []) (sent ++ more) x' y'
 adds c d ends ends' parcels bytes marks m sent more x y x' y' same a t =

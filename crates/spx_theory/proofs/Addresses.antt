@@ -8,15 +8,15 @@ use Rattle.spx_theory.specs.Addresses.{AddressesTellPeers, IdsDiffer, IdsTellPee
 use Rattle.ipx_wire.specs.declared.address.Address.{Address}
 use Rattle.spx_theory.specs.Names.{Names}
 use Rattle.spx_theory.specs.Named.{PeersAreThere}
-use Rattle.spx_theory.specs.Scene.{Scene, Stand}
-use Rattle.spx_theory.specs.EndsTold.{StaysAtHost}
+use Rattle.spx_theory.specs.Scene.{Scene, PresentEnd}
+use Rattle.spx_theory.specs.EndsSummarized.{StaysAtHost}
 use Rattle.spx_messages.specs.WrittenPackets.{Home}
 use Rattle.spx_theory.specs.Deeds.{Deed, DoesDeed, Dials, Accepts, Reads, OwesReply, Paces, AsksAgain, Gives, Rests, Sends, Takes, Overruns, Closes, Releases, Carries, Tells, Injects, IsBegun, Reached, begun, happened}
 use Rattle.spx_theory.proofs.Lists.{get_before}
 use Rattle.spx_theory.proofs.Folding.{seen_all-append}
 use Rattle.spx_theory.proofs.PairPremises.{Grew, all_grew}
 use Rattle.spx_theory.proofs.Along.{LogGrows, log_grows, facts_along}
-use Rattle.spx_theory.proofs.Identities.{Identity, IdentityIs, HasPartner, HaveNetworks, IsTold, OneEnd, address_at, same_home}
+use Rattle.spx_theory.proofs.Identities.{Identity, IdentityIs, HasPartner, HaveNetworks, IsAdvertised, OneEnd, address_at, same_home}
 use Rattle.spx_theory.proofs.EndsStaying.{ends_stay}
 use Rattle.spx_theory.proofs.OwnIds.{ids_differ}
 use Rattle.spx_theory.proofs.Identified.{Identified, IdentityOf, identity_of}
@@ -72,8 +72,8 @@ known_begun s is =
 -- if ids differ after a deed, they differ before it
 ids_before : (old s : Scene) (deed : Deed) → DoesDeed deed old s → IdsDiffer s → IdsDiffer old
 ids_before old s deed does differ j k e f h at at' here here' own =
-    let a : (x : Stand) × (slice_get s.ends j ≡ Some x) × StaysAtHost e x = ends_stay old s deed does j e at in
-    let b : (x : Stand) × (slice_get s.ends k ≡ Some x) × StaysAtHost f x = ends_stay old s deed does k f at' in
+    let a : (x : PresentEnd) × (slice_get s.ends j ≡ Some x) × StaysAtHost e x = ends_stay old s deed does j e at in
+    let b : (x : PresentEnd) × (slice_get s.ends k ≡ Some x) × StaysAtHost f x = ends_stay old s deed does k f at' in
     let homes : s.homes ≡ old.homes = same_homes old s deed does in
     differ j k a.0 b.0 h a.1 b.1 (ap (slice_get s.homes) a.2.host ∙ ap (λ hs. slice_get hs e.host) homes ∙ here) (ap (slice_get s.homes) b.2.host ∙ ap (λ hs. slice_get hs f.host) homes ∙ here')
     (a.2.own ∙ own ∙ sym b.2.own)
@@ -100,7 +100,7 @@ identified_along laws {s} (happened old deed reached does) differ nothing =
     next_identified laws s.homes (subst HaveNetworks (sym same) (have_networks reached)) old s deed does (sym same) (facts_along laws reached) nothing before (one_end s.homes old (sym same) before was)
 
 -- ---- if a partner has this end as its partner, it is the peer
-peers_of : (homes : List Home) (s : Scene) (f : IdentifiedAt homes s) (r : Reading) (t : IsTold f.identities r) (b : Bool) → t.one.role.called ≡ b → ArePeersIn (scan s.log) r.who t.other
+peers_of : (homes : List Home) (s : Scene) (f : IdentifiedAt homes s) (r : Reading) (t : IsAdvertised f.identities r) (b : Bool) → t.one.role.called ≡ b → ArePeersIn (scan s.log) r.who t.other
 peers_of homes s f r t true is =
     let q : HasPartner homes f.identities r.who t.one = ((f.are r.who t.one t.here).partner t.joined).1 in
     let both : Some q.other ≡ Some t.other = sym q.partner ∙ t.partner in
@@ -135,7 +135,7 @@ peers_of homes s f r t false is =
 pub ids_tell_peers : (laws : LawsBelow) (s : Scene) → Reached s → IdsTellPeers s
 ids_tell_peers laws s reached differ nothing k r at first =
     let f : IdentifiedAt s.homes s = identified_along laws reached differ nothing in
-    let t : IsTold f.identities r = f.told k r at first in
+    let t : IsAdvertised f.identities r = f.told k r at first in
     (t.other, peers_of s.homes s f r t t.one.role.called refl, t.maker)
 
 pub addresses_tell_peers : (laws : LawsBelow) (s : Scene) → Reached s → AddressesTellPeers s
@@ -163,13 +163,13 @@ peers_are_there laws s reached differ nothing c d peers e f l stands at =
     let other : q.other ≡ d = cc both in
     let shown = t.shows q.other q.identity q.at in
     let stand : shown.stand ≡ f = same_element s.ends d shown.stand f (ap (slice_get s.ends) (sym other) ∙ shown.there) at in
-    let host : q.identity.host ≡ f.host = shown.host ∙ ap (λ (z : Stand). z.host) stand in
+    let host : q.identity.host ≡ f.host = shown.host ∙ ap (λ (z : PresentEnd). z.host) stand in
     let remote : l.remote ≡ address_at q.home q.identity.names = ap (λ (n : Names). n.remote) (sym own.named) ∙ q.remote in (
       q.home,
       ap (slice_get s.homes) (sym host) ∙ q.home_is,
       record {
         network = ap (λ (a : Address). a.network) remote;
         node = ap (λ (a : Address). a.node) remote;
-        peer = ap (λ (n : Names). n.peer) (sym own.named) ∙ q.peer ∙ shown.own ∙ ap (λ (z : Stand). z.own) stand;
+        peer = ap (λ (n : Names). n.peer) (sym own.named) ∙ q.peer ∙ shown.own ∙ ap (λ (z : PresentEnd). z.own) stand;
       },
     )

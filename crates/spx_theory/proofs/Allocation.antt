@@ -9,7 +9,7 @@ use Rattle.spx_theory.specs.Scan.{Scan, Role, scan, role_of}
 use Rattle.spx_theory.specs.Peers.{AreJoined, ArePeersIn, Premises}
 use Rattle.spx_theory.specs.Scene.{Scene}
 use Rattle.spx_theory.specs.Deeds.{Reached}
-use Rattle.spx_theory.specs.Allocation.{IsAllowed, WithinAllocation, AloneReadsNothing}
+use Rattle.spx_theory.specs.Allocation.{IsAllowed, WithinAllocation, PeerlessReadsNothing}
 use Rattle.spx_theory.specs.SentUnits.{sent_by}
 use Rattle.spx_theory.proofs.Growing.{IsAllowing, is_allowed, role_stays}
 use Rattle.spx_theory.proofs.GivenUnits.{GaveUnit, cut}
@@ -124,7 +124,7 @@ within_allocation laws s reached premises before after who parcel is =
       | inr none ↦ alone_within laws reached who (alone_reads s.log who premises none) before g
     ]
 
-pub alone_reads_nothing : (laws : LawsBelow) (s : Scene) → Reached s → AloneReadsNothing s
-alone_reads_nothing laws s reached premises who none =
+pub peerless_reads_nothing : (laws : LawsBelow) (s : Scene) → Reached s → PeerlessReadsNothing s
+peerless_reads_nothing laws s reached premises who none =
     let a : AloneAt who s = alone_along laws who reached (alone_reads s.log who premises none) in
     (a.taken, a.out, λ e l stands. let link = a.link e l stands.there stands.link in (link.expected, link.held))

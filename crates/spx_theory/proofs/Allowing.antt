@@ -4,7 +4,7 @@ use Rattle.std.specs.Prelude.{slice_get}
 use Rattle.std.proofs.lemmas.List.{append-nil, append_assoc}
 use Rattle.std.proofs.lemmas.Bool.{cases_lt, cond_both}
 use Rattle.std.proofs.lemmas.Option.{slice_get_within}
-use Rattle.spx_link.specs.Machine.{End, Packet, got, learned, read_unit, is_wanted, risen, put_mark}
+use Rattle.spx_link.specs.Machine.{End, Packet, got, learned, read_unit, is_awaited, risen, put_mark}
 use Rattle.spx_theory.specs.Note.{Note, HandsIn, TakesUnit, AsksEnd, Got, SendsUnit, SendsAgain, SendsSystem, Told, Carried, Injected}
 use Rattle.spx_theory.specs.Scan.{Scan, Mark, seen, scan, unread}
 use Rattle.spx_theory.specs.Handed.{taken_by, taken_of}
@@ -88,7 +88,7 @@ learned_limit q x = same q.position (learned q x)
   where
     same : (o : Option ℕ) (e : End) → (read_unit o e).limit ≡ e.limit
     same None e = refl
-    same (Some n) e = cond_both (is_wanted e n) (risen (put_mark (n - e.read) e.kept) e) e (λ (z : End). z.limit ≡ e.limit) (λ yes. refl) (λ no. refl)
+    same (Some n) e = cond_both (is_awaited e n) (risen (put_mark (n - e.read) e.kept) e) e (λ (z : End). z.limit ≡ e.limit) (λ yes. refl) (λ no. refl)
 
 got_limit : (c parcel : ℕ) (x y : Half) (o : Option Packet) → mail_of y parcel ≡ o → Limits c x y (got_mail o x) (Got c parcel)
 got_limit c parcel x y None is = inl refl

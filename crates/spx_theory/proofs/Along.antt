@@ -10,7 +10,7 @@ use Rattle.spx_theory.proofs.OfTwo.{PairPremises}
 use Rattle.spx_theory.specs.PairLog.{Pair, pair_between}
 use Rattle.spx_theory.specs.Scene.{Scene}
 use Rattle.spx_theory.specs.Deeds.{Deed, DoesDeed, Dials, Accepts, Reads, OwesReply, Paces, AsksAgain, Gives, Rests, Sends, Takes, Overruns, Closes, Releases, Carries, Tells, Injects, IsBegun, Reached, begun, happened}
-use Rattle.spx_theory.specs.InStep.{Mirrors, IfStands}
+use Rattle.spx_theory.specs.InStep.{Mirrors, IfPresent}
 use Rattle.spx_theory.proofs.Facts.{Facts}
 use Rattle.spx_theory.proofs.NextFacts.{FactsAt, next_facts}
 use Rattle.spx_theory.proofs.Held.{Held, HeldAt}
@@ -110,8 +110,8 @@ module _ (laws : LawsBelow) (c d a b : ℕ) (differ : c ≢ d) (small : a ≤ mo
 -- ---- the first clauses of the headline: links are the machine of the log, and what counts as acknowledged
 -- was read
 pub record InStep (s : Scene) (c d : ℕ) (p : Pair) : Type 0 where
-  pub one : IfStands s c (λ l. Mirrors l p.one.end)
-  pub two : IfStands s d (λ l. Mirrors l p.two.end)
+  pub one : IfPresent s c (λ l. Mirrors l p.one.end)
+  pub two : IfPresent s d (λ l. Mirrors l p.two.end)
   pub acknowledged : p.one.end.base ≤ p.two.end.read
   pub acknowledged_back : p.two.end.base ≤ p.one.end.read
 

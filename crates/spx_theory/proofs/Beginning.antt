@@ -3,7 +3,7 @@ use Rattle.std.proofs.Common.{◌≡◌, ◌≢◌, ℕ, [], map, Some, sym, ◌
 use Rattle.std.specs.Prelude.{slice_get}
 use Rattle.spx_messages.specs.WrittenPackets.{Home}
 use Rattle.spx_theory.specs.Deeds.{IsBegun, Reached, begun}
-use Rattle.spx_theory.specs.World.{World, EndNow, end_at, stand_of, home_at, bytes_of, segment_of, scene_of, InOrder}
+use Rattle.spx_theory.specs.World.{World, EndNow, end_at, present_of, home_at, bytes_of, segment_of, scene_of, InOrder}
 use Rattle.spx_theory.specs.Reach.{HasNoLinks, IsNewWorld, CameTo, new, stepped}
 use Rattle.spx_theory.proofs.Places.{map_got}
 use Rattle.spx_theory.proofs.WorldSteps.{step_kept, step_reaches}
@@ -33,7 +33,7 @@ new_is_begun w n =
       homes = λ k h at.
           let it = map_got home_at w.hosts k h at in
           subst (λ (x : Home). x.network.0 ≢ 0) it.2 (n.hosts k it.0 it.1).network;
-      ends = ap (map (stand_of w.hosts)) n.ends;
+      ends = ap (map (present_of w.hosts)) n.ends;
       parcels = ap (map bytes_of) n.parcels;
       segments = ap (map segment_of) n.parcels;
       log = n.log;

@@ -73,11 +73,11 @@ formed_more xs us f low =
     record {
       stream = λ k u at. elim (cases_lt k (length xs)) [
         | inl below ↦ f.stream k u (get_front k u below at)
-        | inr above ↦ omega (arith, low (k - length xs) u (get_behind k u above at))
+        | inr above ↦ omega (arith, low (k - length xs) u (get_after k u above at))
       ];
       end = λ k u at is. elim (cases_lt k (length xs)) [
         | inl below ↦ absurd (cc ((f.end k u (get_front k u below at) is).0))
-        | inr above ↦ absurd (omega (arith, is, low (k - length xs) u (get_behind k u above at)))
+        | inr above ↦ absurd (omega (arith, is, low (k - length xs) u (get_after k u above at)))
       ];
       there = λ e. absurd (cc e);
     }
@@ -85,8 +85,8 @@ formed_more xs us f low =
     get_front : (k : ℕ) (u : Unit) → k < length xs → slice_get (xs ++ us) k ≡ Some u → slice_get xs k ≡ Some u
     get_front k u below at = sym (ap (λ ys. slice_get ys k) (take_at xs us (length xs) refl)) ∙ (slice_get-take (length xs) k (xs ++ us) below ∙ at)
 
-    get_behind : (k : ℕ) (u : Unit) → length xs ≤ k → slice_get (xs ++ us) k ≡ Some u → slice_get us (k - length xs) ≡ Some u
-    get_behind k u above at = ap (λ ys. slice_get ys (k - length xs)) (sym (drop_at xs us (length xs) refl)) ∙ slice_get-drop (length xs) (k - length xs) (xs ++ us) ∙ ap (slice_get (xs ++ us)) (omega (arith, above)) ∙ at
+    get_after : (k : ℕ) (u : Unit) → length xs ≤ k → slice_get (xs ++ us) k ≡ Some u → slice_get us (k - length xs) ≡ Some u
+    get_after k u above at = ap (λ ys. slice_get ys (k - length xs)) (sym (drop_at xs us (length xs) refl)) ∙ slice_get-drop (length xs) (k - length xs) (xs ++ us) ∙ ap (slice_get (xs ++ us)) (omega (arith, above)) ∙ at
 
 pub formed_end : (xs : List Unit) → Formed xs false → Formed (xs ++ the_end ∷ []) true
 formed_end xs f =

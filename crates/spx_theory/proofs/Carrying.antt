@@ -13,7 +13,7 @@ use Rattle.spx_theory.specs.Scan.{Scan, Mark, seen, seen_all, scan, unread, one_
 use Rattle.spx_theory.specs.Scene.{Scene}
 use Rattle.spx_theory.specs.PacketsOnWay.{IsOneOn, one_on, note_of, notes_of, out_notes}
 use Rattle.spx_theory.specs.Deeds.{Deed, DoesDeed, Dials, Accepts, Reads, OwesReply, Paces, AsksAgain, Gives, Rests, Sends, Takes, Overruns, Closes, Releases, Carries, Tells, Injects, Reached, begun, happened}
-use Rattle.spx_theory.specs.Carried.{behind_routers, IsCarried, RoutersAlterHopsAlone}
+use Rattle.spx_theory.specs.Carried.{after_routers, IsCarried, RoutersAlterOnlyHops}
 use Rattle.spx_theory.proofs.Lists.{get_last, get_before, get_here}
 use Rattle.spx_theory.proofs.Tied.{mark_at}
 use Rattle.spx_theory.proofs.Adding.{mark_before, mark_here}
@@ -34,7 +34,7 @@ net_twice : (own n here : Network) → n.0 ≢ 0 → (b : Bool) → b ≡ (own.0
 net_twice own n here h true e = rw (not_zero n.0 h) refl
 net_twice own n here h false e = rw (sym e) refl
 
-twice : (network here : Network) (passed : ℕ) (p : PacketView) → network.0 ≢ 0 → one_on here (behind_routers passed network p) ≡ behind_routers (passed + 1) network p
+twice : (network here : Network) (passed : ℕ) (p : PacketView) → network.0 ≢ 0 → one_on here (after_routers passed network p) ≡ after_routers (passed + 1) network p
 twice network here passed p h =
     rw (add_assoc p.header.hops passed 1, net_twice p.header.from.network network here h (p.header.from.network.0 == 0) refl) refl
 
@@ -58,7 +58,7 @@ carried laws parcels segments from k network old new m c at on =
         | inl own ↦
             let same : network ≡ c.network = cc (sym at ∙ ap (slice_get segments) (sym own.2) ∙ c.lies) in
             let one : m.passed + 1 ≡ 1 = omega (arith, own.0) in
-            let becomes : IsIpx (behind_routers 1 c.network on.packet) new [] = subst (λ (n : Network). IsIpx (one_on n on.packet) new []) same on.becomes in
+            let becomes : IsIpx (after_routers 1 c.network on.packet) new [] = subst (λ (n : Network). IsIpx (one_on n on.packet) new []) same on.becomes in
             inr (
               omega arith,
               (λ zero'. on.network_is (ap (λ (n : Network). n.0) same ∙ zero')),
@@ -66,14 +66,14 @@ carried laws parcels segments from k network old new m c at on =
                 packet = on.packet;
                 tail = on.tail;
                 is = subst (λ bs. IsIpx on.packet bs on.tail) own.1 on.is;
-                becomes = subst (λ n. IsIpx (behind_routers n c.network on.packet) new []) (sym one) becomes;
+                becomes = subst (λ n. IsIpx (after_routers n c.network on.packet) new []) (sym one) becomes;
                 most = omega (arith, on.hops, own.0);
               },
             )
         | inr far ↦
             let before = far.2 in
-            let same : on.packet ≡ behind_routers m.passed c.network before.packet = (laws.one_packet on.packet (behind_routers m.passed c.network before.packet) old on.tail [] on.is before.becomes).0 in
-            let becomes : IsIpx (one_on network (behind_routers m.passed c.network before.packet)) new [] = subst (λ (p : PacketView). IsIpx (one_on network p) new []) same on.becomes in
+            let same : on.packet ≡ after_routers m.passed c.network before.packet = (laws.one_packet on.packet (after_routers m.passed c.network before.packet) old on.tail [] on.is before.becomes).0 in
+            let becomes : IsIpx (one_on network (after_routers m.passed c.network before.packet)) new [] = subst (λ (p : PacketView). IsIpx (one_on network p) new []) same on.becomes in
             inr (
               omega arith,
               far.1,
@@ -245,7 +245,7 @@ origins laws {s} (begun is) =
     (subst (λ l. Origins [] [] (scan l).marks) (sym is.log) (record { count = refl; places = refl; each = λ k bytes at. absurd (cc at) })))
 origins laws {s} (happened old deed reached does) = next_origins laws old s deed does (origins laws reached)
 
-pub routers_alter_hops_alone : (laws : LawsBelow) (s : Scene) → Reached s → RoutersAlterHopsAlone s
-routers_alter_hops_alone laws s reached k bytes at =
+pub routers_alter_only_hops : (laws : LawsBelow) (s : Scene) → Reached s → RoutersAlterOnlyHops s
+routers_alter_only_hops laws s reached k bytes at =
     let c = (origins laws reached).each k bytes at in
     (c.origin, c.network, c.there, c.lies, elim c.from [ inl own ↦ inl (own.0, own.1) | inr far ↦ inr (far.0, far.2) ])

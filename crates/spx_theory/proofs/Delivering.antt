@@ -17,12 +17,12 @@ use Rattle.spx_messages.specs.Changes.{SameBut}
 use Rattle.spx_messages.specs.EndpointView.{Held, EndpointView, held_at}
 use Rattle.spx_messages.specs.declared.arrived.Arrived.{Arrived}
 use Rattle.spx_messages.specs.Arrives.{IsOurs, IsAccepted, IsAskedAgain, IsHeard}
-use Rattle.spx_theory.specs.World.{World, HostState, EndNow, stand_with, stand_of, home_at, bytes_of, segment_of, scene_of, InOrder}
+use Rattle.spx_theory.specs.World.{World, HostState, EndNow, present_with, present_of, home_at, bytes_of, segment_of, scene_of, InOrder}
 use Rattle.spx_theory.specs.HostSteps.{Delivers, heard_notes, read_notes, arrival_notes, buffers_of}
 use Rattle.spx_theory.specs.DeedRuns.{Deeds}
 use Rattle.spx_theory.proofs.Places.{get_map, get_set_here, map_more, map_same, map_length}
 use Rattle.spx_theory.proofs.Doing.{no_deed, one_deed}
-use Rattle.spx_theory.proofs.Standing.{none_held, held_same, held_stands, held_there, ends_same, made, scene_after}
+use Rattle.spx_theory.proofs.StillPresent.{none_held, held_same, held_holds, held_there, ends_same, made, scene_after}
 use Rattle.spx_theory.proofs.Finding.{Found, found, found_changed, home_there, free_id}
 use Rattle.spx_theory.specs.Note as Notes
 use Rattle.spx_messages.specs.declared.arrived.Arrived.TheVariants as Arriveds
@@ -32,9 +32,9 @@ pub left_alone : (old new : World) (host : ℕ) (s s' : HostState) → slice_get
     → new.ends ≡ old.ends → new.parcels ≡ old.parcels → new.log ≡ old.log ++ [] → Deeds (scene_of old) (scene_of new)
 left_alone old new host s s' there hosts same ends parcels log =
     no_deed (scene_of old) (scene_of new)
-    (scene_after old new host s s' (map (stand_of old.hosts) old.ends) [] there hosts same.self
-    (ap (map (stand_of (set old.hosts host s'))) ends ∙ ends_same old.hosts old.ends host s s' there same.held) parcels log
-    ∙ ap (made (map home_at old.hosts) (map (stand_of old.hosts) old.ends) (map bytes_of old.parcels) (map segment_of old.parcels)) (append-nil old.log))
+    (scene_after old new host s s' (map (present_of old.hosts) old.ends) [] there hosts same.self
+    (ap (map (present_of (set old.hosts host s'))) ends ∙ ends_same old.hosts old.ends host s s' there same.held) parcels log
+    ∙ ap (made (map home_at old.hosts) (map (present_of old.hosts) old.ends) (map bytes_of old.parcels) (map segment_of old.parcels)) (append-nil old.log))
 
 is_for : (e : EndpointView) (p : PacketView) (local : Socket) (remote : Address) → IsOurs e p → local ≡ p.header.to.socket → remote ≡ p.header.from
     → IsFor (record { network = e.network; node = e.node }) local remote p
@@ -45,17 +45,17 @@ asked_again : (old new : World) (parcel host id : ℕ) (r : Received) (o : InOrd
 asked_again old new parcel host id r o d a =
     let f : Found old host d.before id a.held = found old o host d.before id a.held d.there a.at in
     let notes : heard_notes d.after.here d.after.endpoint.heard r parcel ≡ [] = ap (λ x. heard_notes d.after.here x r parcel) a.heard in
-    let ends : map (stand_of (set old.hosts host d.after)) new.ends ≡ set (map (stand_of old.hosts) old.ends) f.who (stand_with f.end' (Some (record a.held { link = owe_reply_link a.held.link }))) =
-    ap (map (stand_of (set old.hosts host d.after))) d.ends
+    let ends : map (present_of (set old.hosts host d.after)) new.ends ≡ set (map (present_of old.hosts) old.ends) f.who (present_with f.end' (Some (record a.held { link = owe_reply_link a.held.link }))) =
+    ap (map (present_of (set old.hosts host d.after))) d.ends
     ∙ found_changed old o host d.before d.after id a.held (record a.held { link = owe_reply_link a.held.link }) d.there f a.changes.held a.changes.others in
     one_deed (OwesReply f.who) (scene_of old) (scene_of new) (record {
-      stand = stand_with f.end' (Some a.held);
+      stand = present_with f.end' (Some a.held);
       link = a.held.link;
       stands = f.stand;
       after =
-          scene_after old new host d.before d.after (set (map (stand_of old.hosts) old.ends) f.who (stand_with f.end' (Some (record a.held { link = owe_reply_link a.held.link })))) [] d.there d.hosts a.changes.self
+          scene_after old new host d.before d.after (set (map (present_of old.hosts) old.ends) f.who (present_with f.end' (Some (record a.held { link = owe_reply_link a.held.link })))) [] d.there d.hosts a.changes.self
           ends d.parcels (d.log ∙ ap (λ ns. old.log ++ ns) notes)
-          ∙ ap (made (map home_at old.hosts) (set (map (stand_of old.hosts) old.ends) f.who (stand_with f.end' (Some (record a.held { link = owe_reply_link a.held.link })))) (map bytes_of old.parcels) (map segment_of old.parcels)) (append-nil old.log);
+          ∙ ap (made (map home_at old.hosts) (set (map (present_of old.hosts) old.ends) f.who (present_with f.end' (Some (record a.held { link = owe_reply_link a.held.link })))) (map bytes_of old.parcels) (map segment_of old.parcels)) (append-nil old.log);
     })
 
 heard : (old new : World) (parcel host id : ℕ) (r : Received) (o : InOrder old) (d : Delivers old parcel host (Arriveds.Link id r) new)
@@ -67,11 +67,11 @@ heard old new parcel host id r o d a =
     let notes : heard_notes d.after.here d.after.endpoint.heard r parcel ≡ notes_of (receive_link l a.header a.body).0 f.who parcel =
     ap (λ x. heard_notes x d.after.endpoint.heard r parcel) d.here ∙ ap (λ x. heard_notes d.before.here x r parcel) a.heard ∙ ap (λ x. read_notes x r parcel) f.known
     ∙ ap (λ x. notes_of x f.who parcel) (sym a.answer) in
-    let ends : map (stand_of (set old.hosts host d.after)) new.ends ≡ set (map (stand_of old.hosts) old.ends) f.who (stand_with f.end' (Some after)) =
-    ap (map (stand_of (set old.hosts host d.after))) d.ends
+    let ends : map (present_of (set old.hosts host d.after)) new.ends ≡ set (map (present_of old.hosts) old.ends) f.who (present_with f.end' (Some after)) =
+    ap (map (present_of (set old.hosts host d.after))) d.ends
     ∙ found_changed old o host d.before d.after id a.held after d.there f a.changes.held a.changes.others in
     one_deed (Reads f.who parcel) (scene_of old) (scene_of new) (record {
-      stand = stand_with f.end' (Some a.held);
+      stand = present_with f.end' (Some a.held);
       link = l;
       bytes = d.letter.bytes;
       packet = a.packet;
@@ -83,7 +83,7 @@ heard old new parcel host id r o d a =
       home = λ h at. subst (λ (z : Home). IsFor z l.local l.remote a.packet) (home_there old.hosts host f.end'.host d.before h d.there f.host at)
           (is_for d.before.endpoint a.packet l.local l.remote a.comes.ours a.local a.remote);
       read = λ strange. a.read (sym a.answer ∙ strange);
-      after = scene_after old new host d.before d.after (set (map (stand_of old.hosts) old.ends) f.who (stand_with f.end' (Some after))) (notes_of (receive_link l a.header a.body).0 f.who parcel)
+      after = scene_after old new host d.before d.after (set (map (present_of old.hosts) old.ends) f.who (present_with f.end' (Some after))) (notes_of (receive_link l a.header a.body).0 f.who parcel)
           d.there d.hosts a.changes.self ends d.parcels (d.log ∙ ap (λ ns. old.log ++ ns) notes);
     })
 
@@ -95,19 +95,19 @@ accepted old new parcel host id o d a =
     let e : EndNow = record { host = host; id = id; released = false; overlong = false } in
     let hosts' : List HostState = set old.hosts host d.after in
     let none : held_at d.before.endpoint id ≡ None = none_held d.before.endpoint id a.free.free in
-    let olds : map (stand_of hosts') old.ends ≡ map (stand_of old.hosts) old.ends =
-    map_same (stand_of old.hosts) (stand_of hosts') old.ends
-    (λ j x at. ap (stand_with x) (held_same old.hosts host d.before d.after x d.there
+    let olds : map (present_of hosts') old.ends ≡ map (present_of old.hosts) old.ends =
+    map_same (present_of old.hosts) (present_of hosts') old.ends
+    (λ j x at. ap (present_with x) (held_same old.hosts host d.before d.after x d.there
     (λ stands here. a.adds.others x.id (λ same. absurd (cc (sym (ap (held_at d.before.endpoint) same ∙ none) ∙ (held_there old o j x d.before host at stands here d.there).1)))))) in
-    let one : stand_of hosts' e ≡ stand_with e (Some (record { link = l; rest = None })) =
-    ap (stand_with e) (held_stands hosts' e d.after refl (get_set_here old.hosts host d.before d.after d.there) ∙ a.adds.held) in
-    let ends : map (stand_of hosts') new.ends ≡ map (stand_of old.hosts) old.ends ++ stand_with e (Some (record { link = l; rest = None })) ∷ [] =
-    ap (map (stand_of hosts')) d.ends ∙ map_more (stand_of hosts') old.ends (e ∷ []) ∙ ap (λ xs. xs ++ stand_of hosts' e ∷ []) olds
-    ∙ ap (λ x. map (stand_of old.hosts) old.ends ++ x ∷ []) one in
-    let count : ℕ = length (map (stand_of old.hosts) old.ends) in
+    let one : present_of hosts' e ≡ present_with e (Some (record { link = l; rest = None })) =
+    ap (present_with e) (held_holds hosts' e d.after refl (get_set_here old.hosts host d.before d.after d.there) ∙ a.adds.held) in
+    let ends : map (present_of hosts') new.ends ≡ map (present_of old.hosts) old.ends ++ present_with e (Some (record { link = l; rest = None })) ∷ [] =
+    ap (map (present_of hosts')) d.ends ∙ map_more (present_of hosts') old.ends (e ∷ []) ∙ ap (λ xs. xs ++ present_of hosts' e ∷ []) olds
+    ∙ ap (λ x. map (present_of old.hosts) old.ends ++ x ∷ []) one in
+    let count : ℕ = length (map (present_of old.hosts) old.ends) in
     let notes : arrival_notes (Arriveds.Accepted id) d.after (length old.ends) parcel ≡ Notes.Accepted count parcel a.buffers ∷ Notes.Got count parcel ∷ [] =
     ap (λ x. Notes.Accepted (length old.ends) parcel (buffers_of x) ∷ Notes.Got (length old.ends) parcel ∷ []) a.adds.held
-    ∙ ap (λ n. Notes.Accepted n parcel a.buffers ∷ Notes.Got n parcel ∷ []) (sym (map_length (stand_of old.hosts) old.ends)) in
+    ∙ ap (λ n. Notes.Accepted n parcel a.buffers ∷ Notes.Got n parcel ∷ []) (sym (map_length (present_of old.hosts) old.ends)) in
     one_deed (Accepts host id socket parcel a.buffers old.moment) (scene_of old) (scene_of new) (record {
       bytes = d.letter.bytes;
       packet = a.packet;
@@ -123,7 +123,7 @@ accepted old new parcel host id o d a =
       above = omega (arith, a.free.is);
       below = omega (arith, a.free.is);
       range = (o.hosts host d.before d.there).range socket a.buffers a.listens;
-      after = scene_after old new host d.before d.after (map (stand_of old.hosts) old.ends ++ stand_with e (Some (record { link = l; rest = None })) ∷ [])
+      after = scene_after old new host d.before d.after (map (present_of old.hosts) old.ends ++ present_with e (Some (record { link = l; rest = None })) ∷ [])
           (Notes.Accepted count parcel a.buffers ∷ Notes.Got count parcel ∷ []) d.there d.hosts a.adds.self ends d.parcels (d.log ∙ ap (λ ns. old.log ++ ns) notes);
     })
 

@@ -3,7 +3,7 @@ use Rattle.std.proofs.Common.{◌≡◌, ◌⊎◌, ℕ, zero, suc, List, [], �
 use Rattle.std.specs.Prelude.{slice_get}
 use Rattle.spx_link.specs.LinkView.{LinkView}
 use Rattle.spx_link.specs.Poll.{poll_link}
-use Rattle.spx_theory.specs.Scene.{Scene, Stand, linked}
+use Rattle.spx_theory.specs.Scene.{Scene, PresentEnd, linked}
 use Rattle.spx_theory.specs.Deeds.{Deed, DoesDeed, Rests, Reached, happened}
 use Rattle.spx_theory.specs.DeedRuns.{DoesAll, Deeds}
 use Rattle.spx_theory.proofs.Places.{get_past, set_past}
@@ -31,13 +31,13 @@ reached_after old new r deeds = reached_all deeds.0 old new r deeds.1
 
 -- ---- many polls that give nothing
 
-abbrev pub RestsOr : ℕ → Stand → Stand → Type 0
+abbrev pub RestsOr : ℕ → PresentEnd → PresentEnd → Type 0
 RestsOr now x y = (y ≡ x) ⊎ ((l : LinkView) × (x.link ≡ Some l) × ((poll_link l now).0 ≡ None) × (y ≡ linked x (poll_link l now).1))
 
-abbrev pub with_ends : Scene → List Stand → Scene
+abbrev pub with_ends : Scene → List PresentEnd → Scene
 with_ends s ends = record s { ends = ends }
 
-step_on : (s : Scene) (now : ℕ) (done : List Stand) (x y : Stand) (xs : List Stand) → RestsOr now x y → Deeds (with_ends s (done ++ x ∷ xs)) (with_ends s (done ++ y ∷ xs))
+step_on : (s : Scene) (now : ℕ) (done : List PresentEnd) (x y : PresentEnd) (xs : List PresentEnd) → RestsOr now x y → Deeds (with_ends s (done ++ x ∷ xs)) (with_ends s (done ++ y ∷ xs))
 step_on s now done x y xs rests = elim rests [
   | inl same ↦ no_deed (with_ends s (done ++ x ∷ xs)) (with_ends s (done ++ y ∷ xs)) (ap (λ z. with_ends s (done ++ z ∷ xs)) same)
   | inr asked ↦ one_deed (Rests (length done) now) (with_ends s (done ++ x ∷ xs)) (with_ends s (done ++ y ∷ xs)) (record {
@@ -49,8 +49,8 @@ step_on s now done x y xs rests = elim rests [
   })
 ]
 
-rest_on : (s : Scene) (now : ℕ) (done xs ys : List Stand) → length xs ≡ length ys
-    → ((j : ℕ) (x y : Stand) → slice_get xs j ≡ Some x → slice_get ys j ≡ Some y → RestsOr now x y) → Deeds (with_ends s (done ++ xs)) (with_ends s (done ++ ys))
+rest_on : (s : Scene) (now : ℕ) (done xs ys : List PresentEnd) → length xs ≡ length ys
+    → ((j : ℕ) (x y : PresentEnd) → slice_get xs j ≡ Some x → slice_get ys j ≡ Some y → RestsOr now x y) → Deeds (with_ends s (done ++ xs)) (with_ends s (done ++ ys))
 rest_on s now done [] [] same each = no_deed (with_ends s (done ++ [])) (with_ends s (done ++ [])) refl
 rest_on s now done [] (y ∷ ys) same each = absurd (omega (arith, same))
 rest_on s now done (x ∷ xs) [] same each = absurd (omega (arith, same))
@@ -64,6 +64,6 @@ rest_on s now done (x ∷ xs) (y ∷ ys) same each =
     then (with_ends s (done ++ x ∷ xs)) (with_ends s (done ++ y ∷ xs)) (with_ends s (done ++ y ∷ ys)) (step_on s now done x y xs (each zero x y refl refl)) to
 
 -- each end is polled and gives nothing, or stays as it is
-pub all_rest : (s : Scene) (now : ℕ) (ys : List Stand) → length s.ends ≡ length ys
-    → ((j : ℕ) (x y : Stand) → slice_get s.ends j ≡ Some x → slice_get ys j ≡ Some y → RestsOr now x y) → Deeds s (with_ends s ys)
+pub all_rest : (s : Scene) (now : ℕ) (ys : List PresentEnd) → length s.ends ≡ length ys
+    → ((j : ℕ) (x y : PresentEnd) → slice_get s.ends j ≡ Some x → slice_get ys j ≡ Some y → RestsOr now x y) → Deeds s (with_ends s ys)
 all_rest s now ys same each = rest_on s now [] s.ends ys same each

@@ -9,15 +9,15 @@ use Rattle.spx_link.specs.Poll.{poll_link}
 use Rattle.spx_link.specs.Receive.{receive_link}
 use Rattle.spx_theory.specs.Note.{Note, Opened, Accepted, Got, HandsIn, AsksEnd, TakesUnit, Released, Told, Carried, Injected}
 use Rattle.spx_theory.specs.Scan.{Scan, times, seen, seen_all, scan, unread}
-use Rattle.spx_theory.specs.Scene.{Scene, Stand, Stands, linked}
+use Rattle.spx_theory.specs.Scene.{Scene, PresentEnd, IsPresent, linked}
 use Rattle.spx_theory.specs.Deeds.{Deed, DoesDeed, Dials, Accepts, Reads, OwesReply, Paces, AsksAgain, Gives, Rests, Sends, Takes, Overruns, Closes, Releases, Carries, Tells, Injects}
 use Rattle.spx_theory.specs.PacketsOnWay.{note_of, notes_of, out_notes}
 use Rattle.spx_theory.specs.SentUnits.{sent_by}
-use Rattle.spx_theory.specs.EndsTold.{StaysAtHost}
+use Rattle.spx_theory.specs.EndsSummarized.{StaysAtHost}
 use Rattle.spx_theory.proofs.Lists.{get_before, times-append}
 use Rattle.spx_theory.proofs.Folding.{seen_all-append}
 use Rattle.spx_theory.proofs.Held.{outs_seen, set_other, set_here}
-use Rattle.spx_theory.proofs.EndsTelling.{SentBy, given_more, given_sent, read_sent}
+use Rattle.spx_theory.proofs.EndStateLemmas.{SentBy, given_more, given_sent, read_sent}
 use Rattle.spx_theory.proofs.Fields.{log_of}
 
 -- ---- a released end sends no more
@@ -28,14 +28,14 @@ quiet s s' ns who log same = ap (λ l. sent_by who l) log ∙ ap (λ (t : Scan).
 silent : (s s' : Scene) (who : ℕ) → s'.log ≡ s.log → sent_by who s'.log ≡ sent_by who s.log
 silent s s' who log = ap (λ l. sent_by who l) log
 
-no_more : (s : Scene) (j : ℕ) (old new : Stand) (k : LinkView) (more : List ℕ) (n : Note) → slice_get s.ends j ≡ Some old → new.link ≡ Some k → SentBy j more (scan s.log) (seen (scan s.log) n)
-    → (who : ℕ) (e : Stand) → slice_get (set s.ends j new) who ≡ Some e → e.link ≡ None → sent_by who (s.log ++ n ∷ []) ≡ sent_by who s.log
+no_more : (s : Scene) (j : ℕ) (old new : PresentEnd) (k : LinkView) (more : List ℕ) (n : Note) → slice_get s.ends j ≡ Some old → new.link ≡ Some k → SentBy j more (scan s.log) (seen (scan s.log) n)
+    → (who : ℕ) (e : PresentEnd) → slice_get (set s.ends j new) who ≡ Some e → e.link ≡ None → sent_by who (s.log ++ n ∷ []) ≡ sent_by who s.log
 no_more s j old new k more n there is by who e at gone =
     elim (cases_eq j who) [
       | inl same ↦
           let here : slice_get (set s.ends j new) j ≡ Some new = set_here s.ends j new old there in
           let found : new ≡ e = cc (sym here ∙ ap (slice_get (set s.ends j new)) same ∙ at) in
-          absurd (cc (sym is ∙ ap (λ (x : Stand). x.link) found ∙ gone))
+          absurd (cc (sym is ∙ ap (λ (x : PresentEnd). x.link) found ∙ gone))
       | inr other ↦
           let none : times who more ≡ 0 = by.others who other in
           let counts : times who (seen (scan s.log) n).sent ≡ times who (scan s.log).sent + times who more = ap (times who) by.sent ∙ times-append who (scan s.log).sent more in
@@ -43,7 +43,7 @@ no_more s j old new k more n there is by who e at gone =
           now ∙ omega (arith, counts, none)
     ]
 
-pub gone_sends_nothing : (s s' : Scene) (deed : Deed) → DoesDeed deed s s' → (who : ℕ) (e : Stand) → slice_get s'.ends who ≡ Some e → e.link ≡ None → sent_by who s'.log ≡ sent_by who s.log
+pub gone_sends_nothing : (s s' : Scene) (deed : Deed) → DoesDeed deed s s' → (who : ℕ) (e : PresentEnd) → slice_get s'.ends who ≡ Some e → e.link ≡ None → sent_by who s'.log ≡ sent_by who s.log
 gone_sends_nothing s s' (Dials host id socket to buffers now) does j e at gone = quiet s s' (Opened (length s.ends) host buffers ∷ []) j (ap log_of does.after) refl
 gone_sends_nothing s s' (Accepts host id socket parcel buffers now) does j e at gone = quiet s s' (Accepted (length s.ends) parcel buffers ∷ Got (length s.ends) parcel ∷ []) j (ap log_of does.after) refl
 gone_sends_nothing s s' (Reads who parcel) does j e at gone =
@@ -71,31 +71,31 @@ gone_sends_nothing s s' (Injects segment bytes) does j e at gone = quiet s s' (I
 
 -- ---- ends stay
 
-abbrev IsStill : List Stand → ℕ → Stand → Type 0
-IsStill ends who e = (f : Stand) × (slice_get ends who ≡ Some f) × StaysAtHost e f
+abbrev IsStill : List PresentEnd → ℕ → PresentEnd → Type 0
+IsStill ends who e = (f : PresentEnd) × (slice_get ends who ≡ Some f) × StaysAtHost e f
 
-stays_same : (ends : List Stand) (who : ℕ) (e : Stand) → slice_get ends who ≡ Some e → IsStill ends who e
+stays_same : (ends : List PresentEnd) (who : ℕ) (e : PresentEnd) → slice_get ends who ≡ Some e → IsStill ends who e
 stays_same ends who e at = (e, at, record { host = refl; own = refl; gone = λ is. refl })
 
-stays_before : (ends : List Stand) (new : Stand) (who : ℕ) (e : Stand) → slice_get ends who ≡ Some e → IsStill (ends ++ new ∷ []) who e
+stays_before : (ends : List PresentEnd) (new : PresentEnd) (who : ℕ) (e : PresentEnd) → slice_get ends who ≡ Some e → IsStill (ends ++ new ∷ []) who e
 stays_before ends new who e at = (e, get_before ends (new ∷ []) e who at, record { host = refl; own = refl; gone = λ is. refl })
 
-stays_set : (s : Scene) (j : ℕ) (old new : Stand) (l : LinkView) → Stands s j old l → new.host ≡ old.host → new.own ≡ old.own → (who : ℕ) (e : Stand) → slice_get s.ends who ≡ Some e → IsStill (set s.ends j new) who e
+stays_set : (s : Scene) (j : ℕ) (old new : PresentEnd) (l : LinkView) → IsPresent s j old l → new.host ≡ old.host → new.own ≡ old.own → (who : ℕ) (e : PresentEnd) → slice_get s.ends who ≡ Some e → IsStill (set s.ends j new) who e
 stays_set s j old new l stands host own who e at =
     elim (cases_eq j who) [
       | inl same ↦
           let is : old ≡ e = cc (sym stands.there ∙ ap (slice_get s.ends) same ∙ at) in (
             new,
             ap (slice_get (set s.ends j new)) (sym same) ∙ set_here s.ends j new old stands.there,
-            record { host = host ∙ ap (λ (x : Stand). x.host) is; own = own ∙ ap (λ (x : Stand). x.own) is; gone = λ gone. absurd (cc (sym stands.link ∙ ap (λ (x : Stand). x.link) is ∙ gone)) },
+            record { host = host ∙ ap (λ (x : PresentEnd). x.host) is; own = own ∙ ap (λ (x : PresentEnd). x.own) is; gone = λ gone. absurd (cc (sym stands.link ∙ ap (λ (x : PresentEnd). x.link) is ∙ gone)) },
           )
       | inr other ↦ (e, set_other s.ends j who new e other at, record { host = refl; own = refl; gone = λ is. refl })
     ]
 
-abbrev IsStillIn : ℕ → Stand → Scene → Type 0
+abbrev IsStillIn : ℕ → PresentEnd → Scene → Type 0
 IsStillIn who e z = IsStill z.ends who e
 
-pub ends_stay : (s s' : Scene) (deed : Deed) → DoesDeed deed s s' → (who : ℕ) (e : Stand) → slice_get s.ends who ≡ Some e → (f : Stand) × (slice_get s'.ends who ≡ Some f) × StaysAtHost e f
+pub ends_stay : (s s' : Scene) (deed : Deed) → DoesDeed deed s s' → (who : ℕ) (e : PresentEnd) → slice_get s.ends who ≡ Some e → (f : PresentEnd) × (slice_get s'.ends who ≡ Some f) × StaysAtHost e f
 ends_stay s s' (Dials host id socket to buffers now) does j e at = subst (IsStillIn j e) (sym does.after) (stays_before s.ends _ j e at)
 ends_stay s s' (Accepts host id socket parcel buffers now) does j e at = subst (IsStillIn j e) (sym does.after) (stays_before s.ends _ j e at)
 ends_stay s s' (Reads who parcel) does j e at = subst (IsStillIn j e) (sym does.after) (stays_set s who does.stand _ does.link does.stands refl refl j e at)

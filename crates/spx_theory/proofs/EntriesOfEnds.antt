@@ -14,7 +14,7 @@ use Rattle.spx_link.specs.Offer.{take_link, end_link, offer_link, owe_reply_link
 use Rattle.spx_messages.specs.Message.{MessageView}
 use Rattle.spx_messages.specs.Cut.{cut_of}
 use Rattle.spx_theory.specs.Note.{Note, Opened, Accepted, Joined, HandsIn, HandsOut, TakesUnit, AsksEnd, Got, Released, SendsUnit, SendsAgain, SendsSystem, Told, Carried, Injected}
-use Rattle.spx_theory.specs.Scene.{Scene, Stand, Stands, linked}
+use Rattle.spx_theory.specs.Scene.{Scene, PresentEnd, IsPresent, linked}
 use Rattle.spx_theory.specs.Deeds.{Deed, DoesDeed, Dials, Accepts, Reads, OwesReply, Paces, AsksAgain, Gives, Rests, Sends, Takes, Overruns, Closes, Releases, Carries, Tells, Injects, Reached, begun, happened}
 use Rattle.spx_theory.specs.PacketsOnWay.{note_of, notes_of, out_notes}
 use Rattle.spx_theory.specs.EntriesOfEnds.{EntriesTellEnds}
@@ -83,7 +83,7 @@ outs_plain who [] = tt
 outs_plain who (m ∷ ms) = (refl, outs_plain who ms)
 
 -- ---- one end, as the entries say
-pub record IsSaid (log : List Note) (who : ℕ) (e : Stand) : Type 0 where
+pub record IsSaid (log : List Note) (who : ℕ) (e : PresentEnd) : Type 0 where
   pub host : (host buffers : ℕ) → Contains log (Opened who host buffers) → e.host ≡ host
   pub gone : Contains log (Released who) → e.link ≡ None
   pub released : e.link ≡ None → Contains log (Released who)
@@ -102,13 +102,13 @@ old_of : (log ns : List Note) (who : ℕ) (n : Note) → IsUnsaid who ns → abo
 old_of log ns who n none is has = elim (Contains-append_cases log ns n has) [ inl old ↦ old | inr new ↦ absurd (none n new is) ]
 
 -- the link keeps whether its end is queued, or stays released
-pub record KeepsEnding (old new : Stand) : Type 0 where
+pub record KeepsEnding (old new : PresentEnd) : Type 0 where
   pub host : new.host ≡ old.host
   pub gone : new.link ≡ None → old.link ≡ None
   pub still : old.link ≡ None → new.link ≡ None
   pub queued : (k : LinkView) → new.link ≡ Some k → (l : LinkView) × (old.link ≡ Some l) × (k.end_queued ≡ l.end_queued)
 
-stays_said : (log ns : List Note) (who : ℕ) (old new : Stand) → IsUnsaid who ns → KeepsEnding old new → IsSaid log who old → IsSaid (log ++ ns) who new
+stays_said : (log ns : List Note) (who : ℕ) (old new : PresentEnd) → IsUnsaid who ns → KeepsEnding old new → IsSaid log who old → IsSaid (log ++ ns) who new
 stays_said log ns who old new none keeps said =
     record {
       host = λ host buffers has. keeps.host ∙ said.host host buffers (old_of log ns who (Opened who host buffers) none refl has);
@@ -118,7 +118,7 @@ stays_said log ns who old new none keeps said =
       asked = λ k is ended. let was = keeps.queued k is in Contains-append_left log ns (AsksEnd who) (said.asked was.0 was.1 (sym was.2 ∙ ended));
     }
 
-same_ending : (e : Stand) → KeepsEnding e e
+same_ending : (e : PresentEnd) → KeepsEnding e e
 same_ending e = record { host = refl; gone = λ is. is; still = λ is. is; queued = λ k is. (k, is, refl) }
 
 -- ---- the next scene
@@ -136,7 +136,7 @@ one_there count j m at within n who has is =
     let k : j ≡ who = cc both in
     subst (λ i. i < count) k within
 
-there_on : (ends ends' : List Stand) (log ns : List Note) → ((n : Note) (who : ℕ) → Contains log n → about n ≡ Some who → who < length ends) → length ends ≤ length ends' → AreThere (length ends') ns
+there_on : (ends ends' : List PresentEnd) (log ns : List Note) → ((n : Note) (who : ℕ) → Contains log n → about n ≡ Some who → who < length ends) → length ends ≤ length ends' → AreThere (length ends') ns
     → (n : Note) (who : ℕ) → Contains (log ++ ns) n → about n ≡ Some who → who < length ends'
 there_on ends ends' log ns old grows new n who has is =
     elim (Contains-append_cases log ns n has) [
@@ -145,8 +145,8 @@ there_on ends ends' log ns old grows new n who has is =
     ]
 
 -- the invariant of all ends and the log
-pub record AreSaidBy (ends : List Stand) (log : List Note) : Type 0 where
-  pub each : (who : ℕ) (e : Stand) → slice_get ends who ≡ Some e → IsSaid log who e
+pub record AreSaidBy (ends : List PresentEnd) (log : List Note) : Type 0 where
+  pub each : (who : ℕ) (e : PresentEnd) → slice_get ends who ≡ Some e → IsSaid log who e
   -- entries are about ends that exist
   pub there : (n : Note) (who : ℕ) → Contains log n → about n ≡ Some who → who < length ends
 
@@ -154,37 +154,37 @@ abbrev pub AreSaid : Scene → Type 0
 AreSaid s = AreSaidBy s.ends s.log
 
 -- an end is replaced, and entries are about no other
-said_set : (ends : List Stand) (log ns : List Note) (j : ℕ) (old new : Stand) → slice_get ends j ≡ Some old → AreThere (length ends) ns
+said_set : (ends : List PresentEnd) (log ns : List Note) (j : ℕ) (old new : PresentEnd) → slice_get ends j ≡ Some old → AreThere (length ends) ns
     → ((who : ℕ) → j ≢ who → IsUnsaid who ns) → (IsSaid log j old → IsSaid (log ++ ns) j new) → AreSaidBy ends log → AreSaidBy (set ends j new) (log ++ ns)
 said_set ends log ns j old new at there others now said =
     record {
       each = λ who e is. elim (get_set ends j who new e is) [
-        | inl here ↦ subst (λ (x : Stand). IsSaid (log ++ ns) who x) here.1 (subst (λ k. IsSaid (log ++ ns) k new) here.0 (now (said.each j old at)))
+        | inl here ↦ subst (λ (x : PresentEnd). IsSaid (log ++ ns) who x) here.1 (subst (λ k. IsSaid (log ++ ns) k new) here.0 (now (said.each j old at)))
         | inr other ↦ stays_said log ns who e e (others who other.0) (same_ending e) (said.each who e other.1)
       ];
       there = there_on ends (set ends j new) log ns said.there (omega (arith, length-set ends j new)) (λ n who has is. let within = there n who has is in omega (arith, within, length-set ends j new));
     }
 
 -- an end is replaced, and the entries are about no end
-said_plain : (ends : List Stand) (log ns : List Note) (j : ℕ) (old new : Stand) → slice_get ends j ≡ Some old → ArePlain ns → KeepsEnding old new → AreSaidBy ends log → AreSaidBy (set ends j new) (log ++ ns)
+said_plain : (ends : List PresentEnd) (log ns : List Note) (j : ℕ) (old new : PresentEnd) → slice_get ends j ≡ Some old → ArePlain ns → KeepsEnding old new → AreSaidBy ends log → AreSaidBy (set ends j new) (log ++ ns)
 said_plain ends log ns j old new at plain keeps said =
     said_set ends log ns j old new at (plain_there (length ends) ns plain) (λ who differ. plain_unsaid who ns plain) (stays_said log ns j old new (plain_unsaid j ns plain) keeps) said
 
 -- an end is added
-said_more : (ends : List Stand) (log ns : List Note) (new : Stand) → AreThere (length ends + 1) ns
+said_more : (ends : List PresentEnd) (log ns : List Note) (new : PresentEnd) → AreThere (length ends + 1) ns
     → ((who : ℕ) → who < length ends → IsUnsaid who ns) → (((n : Note) → Contains log n → about n ≢ Some (length ends)) → IsSaid (log ++ ns) (length ends) new) → AreSaidBy ends log → AreSaidBy (ends ++ new ∷ []) (log ++ ns)
 said_more ends log ns new there others now said =
     let more = length-append ends (new ∷ []) in
     record {
       each = λ who e is. elim (get_last ends new e who is) [
         | inl was ↦ stays_said log ns who e e (others who (slice_get_within ends who e was)) (same_ending e) (said.each who e was)
-        | inr here ↦ subst (λ (x : Stand). IsSaid (log ++ ns) who x) here.1 (subst (λ k. IsSaid (log ++ ns) k new) (sym here.0) (now (λ n has is. let within = said.there n (length ends) has is in omega (arith, within))))
+        | inr here ↦ subst (λ (x : PresentEnd). IsSaid (log ++ ns) who x) here.1 (subst (λ k. IsSaid (log ++ ns) k new) (sym here.0) (now (λ n has is. let within = said.there n (length ends) has is in omega (arith, within))))
       ];
       there = there_on ends (ends ++ new ∷ []) log ns said.there (omega (arith, more)) (λ n who has is. let within = there n who has is in omega (arith, within, more));
     }
 
 -- no end changes
-said_same : (ends : List Stand) (log ns : List Note) → ArePlain ns → AreSaidBy ends log → AreSaidBy ends (log ++ ns)
+said_same : (ends : List PresentEnd) (log ns : List Note) → ArePlain ns → AreSaidBy ends log → AreSaidBy ends (log ++ ns)
 said_same ends log ns plain said =
     record {
       each = λ who e is. stays_said log ns who e e (plain_unsaid who ns plain) (same_ending e) (said.each who e is);
@@ -194,7 +194,7 @@ said_same ends log ns plain said =
 -- ---- each deed
 
 -- an end with a link, that keeps whether its end is queued
-keeps_linked : (old new : Stand) (l k : LinkView) → old.link ≡ Some l → new.link ≡ Some k → new.host ≡ old.host → k.end_queued ≡ l.end_queued → KeepsEnding old new
+keeps_linked : (old new : PresentEnd) (l k : LinkView) → old.link ≡ Some l → new.link ≡ Some k → new.host ≡ old.host → k.end_queued ≡ l.end_queued → KeepsEnding old new
 keeps_linked old new l k was is host same =
     record {
       host = host;
@@ -203,11 +203,11 @@ keeps_linked old new l k was is host same =
       queued = λ m at. let both : Some k ≡ Some m = sym is ∙ at in let one : k ≡ m = cc both in (l, was, ap (λ (x : LinkView). x.end_queued) (sym one) ∙ same);
     }
 
-at_once : (s s' : Scene) (ends : List Stand) (log : List Note) → s'.ends ≡ ends → s'.log ≡ log → AreSaidBy ends log → AreSaid s'
+at_once : (s s' : Scene) (ends : List PresentEnd) (log : List Note) → s'.ends ≡ ends → s'.log ≡ log → AreSaidBy ends log → AreSaid s'
 at_once s s' ends log is-ends is-log said = subst (λ es. AreSaidBy es s'.log) (sym is-ends) (subst (AreSaidBy ends) (sym is-log) said)
 
 -- one link is replaced, and the entries are plain
-linked_said : (s s' : Scene) (ns : List Note) (j : ℕ) (old new : Stand) (l k : LinkView) → Stands s j old l → new.link ≡ Some k → new.host ≡ old.host → k.end_queued ≡ l.end_queued
+linked_said : (s s' : Scene) (ns : List Note) (j : ℕ) (old new : PresentEnd) (l k : LinkView) → IsPresent s j old l → new.link ≡ Some k → new.host ≡ old.host → k.end_queued ≡ l.end_queued
     → ArePlain ns → s'.ends ≡ set s.ends j new → s'.log ≡ s.log ++ ns → AreSaid s → AreSaid s'
 linked_said s s' ns j old new l k stands is host same plain ends log said =
     at_once s s' (set s.ends j new) (s.log ++ ns) ends log (said_plain s.ends s.log ns j old new stands.there plain (keeps_linked old new l k stands.link is host same) said)
@@ -216,7 +216,7 @@ unlogged : (s s' : Scene) → s'.log ≡ s.log → s'.log ≡ s.log ++ []
 unlogged s s' is = is ∙ sym (append-nil s.log)
 
 -- an end is added whose end is not queued; of its entries, only the first is about it, or none
-new_said : (log ns : List Note) (who : ℕ) (e : Stand) (l : LinkView) → e.link ≡ Some l → l.end_queued ≡ false → ((n : Note) → Contains log n → about n ≢ Some who)
+new_said : (log ns : List Note) (who : ℕ) (e : PresentEnd) (l : LinkView) → e.link ≡ Some l → l.end_queued ≡ false → ((n : Note) → Contains log n → about n ≢ Some who)
     → ((host buffers : ℕ) → Contains ns (Opened who host buffers) → e.host ≡ host) → ¬ Contains ns (Released who) → ¬ Contains ns (AsksEnd who) → IsSaid (log ++ ns) who e
 new_said log ns who e l is unended none host released asked =
     record {
@@ -310,7 +310,7 @@ said_along laws {s} (begun is) =
     at_once s s [] [] is.ends is.log (record { each = λ who e at. cc at; there = λ n who has at. absurd (omega (arith, has.1)) })
 said_along laws {s} (happened old deed reached does) = next_said laws old s deed does (said_along laws reached)
 
-nobody_there : Stand
+nobody_there : PresentEnd
 nobody_there = record { host = 0; own = 0; link = None; rest = None; overlong = false }
 
 pub entries_tell_ends : (laws : LawsBelow) (s : Scene) → Reached s → EntriesTellEnds s
@@ -318,7 +318,7 @@ entries_tell_ends laws s reached =
     let said = said_along laws reached in
     record {
       opened = λ who host buffers has.
-          let e : Stand = slice_index_or s.ends who nobody_there in
+          let e : PresentEnd = slice_index_or s.ends who nobody_there in
           let at : slice_get s.ends who ≡ Some e = slice_get-get_or s.ends who nobody_there (said.there (Opened who host buffers) who has refl) in
           (e, at, (said.each who e at).host host buffers has);
       released = λ who e at. let one = said.each who e at in (one.released, one.gone);

@@ -8,20 +8,20 @@ use Rattle.spx_link.specs.LinkView.{LinkView}
 use Rattle.spx_theory.specs.Note.{Note}
 use Rattle.spx_theory.specs.Scan.{Scan, Mark, Role, nowhere}
 use Rattle.spx_theory.specs.Peers.{end_of}
-use Rattle.spx_theory.specs.Scene.{Stand}
+use Rattle.spx_theory.specs.Scene.{PresentEnd}
 use Rattle.spx_theory.proofs.Lists.{get_last, get_set}
 use Rattle.spx_theory.proofs.Tied.{mark_at}
 use Rattle.spx_theory.proofs.Adding.{mark_before, mark_here}
 use Rattle.spx_theory.proofs.Folding.{AreIn, NoteIn, are_more, are-append}
 
 -- a link that is opening has not joined
-abbrev pub OpeningsAreUnjoined : List Stand → List Role → Type 0
-OpeningsAreUnjoined ends roles = (who : ℕ) (e : Stand) (l : LinkView) (r : Role) → slice_get ends who ≡ Some e → e.link ≡ Some l → l.state ≡ Opening → slice_get roles who ≡ Some r → r.joined ≡ false
+abbrev pub OpeningsAreUnjoined : List PresentEnd → List Role → Type 0
+OpeningsAreUnjoined ends roles = (who : ℕ) (e : PresentEnd) (l : LinkView) (r : Role) → slice_get ends who ≡ Some e → e.link ≡ Some l → l.state ≡ Opening → slice_get roles who ≡ Some r → r.joined ≡ false
 
 abbrev pub MakersAreThere : ℕ → List Mark → Type 0
 MakersAreThere count marks = (k e : ℕ) → end_of (mark_at marks k).maker ≡ Some e → e < count
 
-pub record Facts (ends : List Stand) (parcels : List (List ℕ)) (s : Scan) (log : List Note) : Type 0 where
+pub record Facts (ends : List PresentEnd) (parcels : List (List ℕ)) (s : Scan) (log : List Note) : Type 0 where
   pub count : length s.marks ≡ length parcels
   pub roles : length s.roles ≡ length ends
   pub newest : s.newest ≡ None
@@ -35,18 +35,18 @@ nothing_past (m ∷ ms) zero past = absurd (omega (arith, past))
 nothing_past (m ∷ ms) (suc k) past = nothing_past ms k (omega (arith, past))
 
 -- one end is replaced, whose link is not opening
-pub opening_set : (ends : List Stand) (roles : List Role) (who : ℕ) (old new : Stand) → slice_get ends who ≡ Some old
+pub opening_set : (ends : List PresentEnd) (roles : List Role) (who : ℕ) (old new : PresentEnd) → slice_get ends who ≡ Some old
     → ((m : LinkView) → new.link ≡ Some m → m.state ≡ Opening → (l : LinkView) × (old.link ≡ Some l) × (l.state ≡ Opening))
     → OpeningsAreUnjoined ends roles → OpeningsAreUnjoined (set ends who new) roles
 opening_set ends roles who old new there back facts j e l r at is opens role =
     elim (get_set ends who j new e at) [
       | inl here ↦
-          let was = back l (ap (λ (x : Stand). x.link) here.1 ∙ is) opens in
+          let was = back l (ap (λ (x : PresentEnd). x.link) here.1 ∙ is) opens in
           facts j old was.0 r (ap (slice_get ends) (sym here.0) ∙ there) was.1 was.2 role
       | inr other ↦ facts j e l r other.1 is opens role
     ]
 
-pub facts_noted : (ends ends' : List Stand) (parcels : List (List ℕ)) (s t : Scan) (log ns : List Note) → length ends' ≡ length ends
+pub facts_noted : (ends ends' : List PresentEnd) (parcels : List (List ℕ)) (s t : Scan) (log ns : List Note) → length ends' ≡ length ends
     → t.marks ≡ s.marks → t.roles ≡ s.roles → t.newest ≡ None → AreIn (length parcels) ns → OpeningsAreUnjoined ends' s.roles
     → Facts ends parcels s log → Facts ends' parcels t (log ++ ns)
 facts_noted ends ends' parcels s t log ns same marks roles newest are opening f =
@@ -59,7 +59,7 @@ facts_noted ends ends' parcels s t log ns same marks roles newest are opening f 
       opening = subst (OpeningsAreUnjoined ends') (sym roles) opening;
     }
 
-pub facts_sent : (ends ends' : List Stand) (parcels : List (List ℕ)) (bytes : List ℕ) (s t : Scan) (m : Mark) (log : List Note) (n : Note) → length ends' ≡ length ends
+pub facts_sent : (ends ends' : List PresentEnd) (parcels : List (List ℕ)) (bytes : List ℕ) (s t : Scan) (m : Mark) (log : List Note) (n : Note) → length ends' ≡ length ends
     → t.marks ≡ s.marks ++ m ∷ [] → ((e : ℕ) → end_of m.maker ≡ Some e → e < length ends) → t.roles ≡ s.roles → t.newest ≡ None → NoteIn (length parcels + 1) n → OpeningsAreUnjoined ends' s.roles
     → Facts ends parcels s log → Facts ends' (parcels ++ bytes ∷ []) t (log ++ n ∷ [])
 facts_sent ends ends' parcels bytes s t m log n same marks by roles newest is opening f =
@@ -83,7 +83,7 @@ facts_sent ends ends' parcels bytes s t m log n same marks by roles newest is op
       opening = subst (OpeningsAreUnjoined ends') (sym roles) opening;
     }
 
-pub facts_end : (ends : List Stand) (e : Stand) (parcels : List (List ℕ)) (s t : Scan) (r : Role) (log ns : List Note)
+pub facts_end : (ends : List PresentEnd) (e : PresentEnd) (parcels : List (List ℕ)) (s t : Scan) (r : Role) (log ns : List Note)
     → t.marks ≡ s.marks → t.roles ≡ s.roles ++ r ∷ [] → t.newest ≡ None → AreIn (length parcels) ns
     → ((l : LinkView) → e.link ≡ Some l → l.state ≡ Opening → r.joined ≡ false)
     → Facts ends parcels s log → Facts (ends ++ e ∷ []) parcels t (log ++ ns)
@@ -102,13 +102,13 @@ facts_end ends e parcels s t r log ns marks roles newest are opens f =
             ]
             | inr here ↦ elim (get_last s.roles r q j role) [
               | inl was ↦ absurd (omega (arith, here.0, f.roles, slice_get_within s.roles j q was))
-              | inr new ↦ ap (λ (y : Role). y.joined) (sym new.1) ∙ opens l (ap (λ (y : Stand). y.link) here.1 ∙ is) open'
+              | inr new ↦ ap (λ (y : Role). y.joined) (sym new.1) ∙ opens l (ap (λ (y : PresentEnd). y.link) here.1 ∙ is) open'
             ]
           ]);
     }
 
 -- an end joined: its link is no longer opening
-pub facts_joined : (ends : List Stand) (who : ℕ) (new : Stand) (parcels : List (List ℕ)) (s t : Scan) (r : Role) (log ns : List Note)
+pub facts_joined : (ends : List PresentEnd) (who : ℕ) (new : PresentEnd) (parcels : List (List ℕ)) (s t : Scan) (r : Role) (log ns : List Note)
     → t.marks ≡ s.marks → t.roles ≡ set s.roles who r → t.newest ≡ None → AreIn (length parcels) ns
     → ((l : LinkView) → new.link ≡ Some l → l.state ≢ Opening)
     → Facts ends parcels s log → Facts (set ends who new) parcels t (log ++ ns)
@@ -121,7 +121,7 @@ facts_joined ends who new parcels s t r log ns marks roles newest are closed f =
       makers = λ k x by. omega (arith, length-set ends who new, f.makers k x (ap (λ ms. end_of (mark_at ms k).maker) (sym marks) ∙ by));
       opening = subst (OpeningsAreUnjoined (set ends who new)) (sym roles)
           (λ j x l q at is open' role. elim (get_set ends who j new x at) [
-            | inl here ↦ absurd (closed l (ap (λ (y : Stand). y.link) here.1 ∙ is) open')
+            | inl here ↦ absurd (closed l (ap (λ (y : PresentEnd). y.link) here.1 ∙ is) open')
             | inr other ↦ elim (get_set s.roles who j r q role) [
               | inl same ↦ absurd (other.0 same.0)
               | inr was ↦ f.opening j x l q other.1 is open' was.1

@@ -7,7 +7,7 @@ use Rattle.spx_link.specs.LinkView.{LinkView}
 use Rattle.spx_link.specs.Poll.{OutgoingView}
 use Rattle.spx_link.specs.Machine.{End, Packet, WasSent, packet_now, mailed, AreSound}
 use Rattle.std.specs.Prelude.{Contains}
-use Rattle.spx_theory.proofs.Running.{Runs, behind_one, in_front}
+use Rattle.spx_theory.proofs.Running.{Runs, after_one, in_front}
 use Rattle.spx_theory.proofs.Stepping.{Later}
 use Rattle.spx_theory.specs.SentUnits.{SaysOnly}
 use Rattle.ipx_wire.specs.Connection.{IsConnectionPacket}
@@ -16,7 +16,7 @@ use Rattle.spx_theory.specs.Peers.{end_of}
 use Rattle.spx_theory.specs.PairLog.{Half, not_mine}
 use Rattle.spx_theory.specs.Tracks.{core, Follows, IsOpen}
 use Rattle.spx_theory.specs.Spelling.{Spells, Carries, Says}
-use Rattle.spx_theory.specs.Scene.{Stand, linked}
+use Rattle.spx_theory.specs.Scene.{PresentEnd, linked}
 use Rattle.spx_theory.proofs.Lists.{get_last}
 use Rattle.spx_theory.proofs.Tied.{mark_at, Letter, Whole}
 use Rattle.spx_theory.proofs.Moving.{sees_same, other_end, this_link}
@@ -44,9 +44,9 @@ with_bag l c d bag f =
 abbrev pub with_mail : Option ℕ → End → Half → End → Half
 with_mail position e x d = record { end = mailed position e d; mail = x.mail ++ Some (packet_now position e d) ∷ [] }
 
-module _ (c d : ℕ) (differ : c ≢ d) (ends : List Stand) (parcels : List (List ℕ)) (marks : List Mark) (sent more : List ℕ) (x y : Half) where
+module _ (c d : ℕ) (differ : c ≢ d) (ends : List PresentEnd) (parcels : List (List ℕ)) (marks : List Mark) (sent more : List ℕ) (x y : Half) where
   -- the end e of c, as it is just before the packet is sent
-  pub record Gave (position : Option ℕ) (e : End) (w : Stand) (l : LinkView) (g : OutgoingView) (bytes : List ℕ) (m : Mark) : Type 0 where
+  pub record Gave (position : Option ℕ) (e : End) (w : PresentEnd) (l : LinkView) (g : OutgoingView) (bytes : List ℕ) (m : Mark) : Type 0 where
     pub sound : AreSound (mailed position e y.end) y.end
     pub run : Runs (mailed position e y.end) y.end
     pub bag : e.bag ≡ x.end.bag
@@ -62,7 +62,7 @@ module _ (c d : ℕ) (differ : c ≢ d) (ends : List Stand) (parcels : List (Lis
     pub count : e.sent ≡ times c (sent ++ more)
     pub peer_count : y.end.sent ≡ times d (sent ++ more)
 
-  pub gives_whole : Whole c d ends parcels marks sent x y → (position : Option ℕ) (e : End) (w : Stand) (l : LinkView) (g : OutgoingView) (bytes : List ℕ) (m : Mark)
+  pub gives_whole : Whole c d ends parcels marks sent x y → (position : Option ℕ) (e : End) (w : PresentEnd) (l : LinkView) (g : OutgoingView) (bytes : List ℕ) (m : Mark)
       → Gave position e w l g bytes m
       → Whole c d (set ends c (linked w l)) (parcels ++ bytes ∷ []) (marks ++ m ∷ []) (sent ++ more) (with_mail position e x y.end) (not_mine y)
   gives_whole whole position e w l g bytes m a =
@@ -72,7 +72,7 @@ module _ (c d : ℕ) (differ : c ≢ d) (ends : List Stand) (parcels : List (Lis
       let here : mark_at (marks ++ m ∷ []) (length marks) ≡ m = mark_here marks m in
       let upto : take (mark_at (marks ++ m ∷ []) (length marks)).units (sent ++ more) ≡ sent ++ more =
       ap (λ (n : Mark). take n.units (sent ++ more)) here ∙ ap (λ k. take k (sent ++ more)) a.at ∙ take-length (sent ++ more) in
-      let ends' : List Stand = set ends c (linked w l) in
+      let ends' : List PresentEnd = set ends c (linked w l) in
       let follows : Follows l e y.end = record { tracks = a.says.tracks; open' = a.open' } in
       record {
         sound = a.sound;
@@ -82,7 +82,7 @@ module _ (c d : ℕ) (differ : c ≢ d) (ends : List Stand) (parcels : List (Lis
               later = a.later;
               units = a.units;
               buffers = a.buffers;
-              bag = λ p there. behind_one q p e.bag (subst (λ ps. Contains ps p) (sym a.bag) there);
+              bag = λ p there. after_one q p e.bag (subst (λ ps. Contains ps p) (sym a.bag) there);
               mine = Some q;
               mail = refl;
               count = a.count;

@@ -18,7 +18,7 @@ use Rattle.spx_messages.specs.Cut.{cut_of}
 use Rattle.spx_theory.specs.Note.{Note, Opened, Accepted, Joined, Got, HandsIn, AsksEnd, TakesUnit, Released, Told, Carried, Injected}
 use Rattle.spx_theory.specs.Scan.{Scan, Reading, seen, seen_all, scan, unread, is_now}
 use Rattle.spx_theory.specs.Handed.{taken_by, gathered, taken_of}
-use Rattle.spx_theory.specs.Scene.{Scene, Stand, Stands, linked}
+use Rattle.spx_theory.specs.Scene.{Scene, PresentEnd, IsPresent, linked}
 use Rattle.spx_theory.specs.Deeds.{Deed, DoesDeed, Dials, Accepts, Reads, OwesReply, Paces, AsksAgain, Gives, Rests, Sends, Takes, Overruns, Closes, Releases, Carries, Tells, Injects, Reached, begun, happened}
 use Rattle.spx_theory.specs.PacketsOnWay.{note_of, out_notes}
 use Rattle.spx_theory.proofs.Lists.{get_last, get_set, get_here, get_before}
@@ -51,7 +51,7 @@ pub record LinkOk (s : Scene) (who : ℕ) (l : LinkView) : Type 0 where
   pub asked : l.end_queued ≡ true → Contains s.log (AsksEnd who)
 
 abbrev pub LinksOk : Scene → Type 0
-LinksOk s = (who : ℕ) (e : Stand) (l : LinkView) → Stands s who e l → LinkOk s who l
+LinksOk s = (who : ℕ) (e : PresentEnd) (l : LinkView) → IsPresent s who e l → LinkOk s who l
 
 abbrev pub TakersRead : Scene → Type 0
 TakersRead s = (who : ℕ) → HasRead (scan s.log).readings who ⊎ (taken_of who s.log ≡ [])
@@ -92,18 +92,18 @@ same_stays : (l : LinkView) → PollLeaves l l
 same_stays l = record { held = refl; queued = refl; queue = refl; state = inl refl }
 
 -- ---- the links of the next scene
-links_set : (s s' : Scene) (who : ℕ) (w : Stand) → LogGrows s s' → s'.ends ≡ set s.ends who w → ((l : LinkView) → w.link ≡ Some l → LinkOk s' who l) → LinksOk s → LinksOk s'
+links_set : (s s' : Scene) (who : ℕ) (w : PresentEnd) → LogGrows s s' → s'.ends ≡ set s.ends who w → ((l : LinkView) → w.link ≡ Some l → LinkOk s' who l) → LinksOk s → LinksOk s'
 links_set s s' who w g ends now before j e l stands =
     elim (get_set s.ends who j w e (ap (λ es. slice_get es j) (sym ends) ∙ stands.there)) [
-      | inl here ↦ subst (λ i. LinkOk s' i l) here.0 (now l (ap (λ (x : Stand). x.link) here.1 ∙ stands.link))
+      | inl here ↦ subst (λ i. LinkOk s' i l) here.0 (now l (ap (λ (x : PresentEnd). x.link) here.1 ∙ stands.link))
       | inr other ↦ stays_ok s s' j l l g (same_stays l) (before j e l (record { there = other.1; link = stands.link }))
     ]
 
-links_more : (s s' : Scene) (w : Stand) → LogGrows s s' → s'.ends ≡ s.ends ++ w ∷ [] → ((l : LinkView) → w.link ≡ Some l → LinkOk s' (length s.ends) l) → LinksOk s → LinksOk s'
+links_more : (s s' : Scene) (w : PresentEnd) → LogGrows s s' → s'.ends ≡ s.ends ++ w ∷ [] → ((l : LinkView) → w.link ≡ Some l → LinkOk s' (length s.ends) l) → LinksOk s → LinksOk s'
 links_more s s' w g ends now before j e l stands =
     elim (get_last s.ends w e j (ap (λ es. slice_get es j) (sym ends) ∙ stands.there)) [
       | inl was ↦ stays_ok s s' j l l g (same_stays l) (before j e l (record { there = was; link = stands.link }))
-      | inr new ↦ subst (λ i. LinkOk s' i l) (sym new.0) (now l (ap (λ (x : Stand). x.link) new.1 ∙ stands.link))
+      | inr new ↦ subst (λ i. LinkOk s' i l) (sym new.0) (now l (ap (λ (x : PresentEnd). x.link) new.1 ∙ stands.link))
     ]
 
 links_same : (s s' : Scene) → LogGrows s s' → s'.ends ≡ s.ends → LinksOk s → LinksOk s'
@@ -111,7 +111,7 @@ links_same s s' g ends before j e l stands =
     stays_ok s s' j l l g (same_stays l) (before j e l (record { there = ap (λ es. slice_get es j) (sym ends) ∙ stands.there; link = stands.link }))
 
 -- one link is replaced
-link_set : (s s' : Scene) (who : ℕ) (e : Stand) (k : LinkView) → LogGrows s s' → s'.ends ≡ set s.ends who (linked e k) → LinkOk s' who k → LinksOk s → LinksOk s'
+link_set : (s s' : Scene) (who : ℕ) (e : PresentEnd) (k : LinkView) → LogGrows s s' → s'.ends ≡ set s.ends who (linked e k) → LinkOk s' who k → LinksOk s → LinksOk s'
 link_set s s' who e k g ends ok before = links_set s s' who (linked e k) g ends (λ l is. let same : k ≡ l = cc is in subst (LinkOk s' who) same ok) before
 
 -- ---- no unit is taken
@@ -175,7 +175,7 @@ gives_read laws s who l u ok gives = elim ok.read [ inl h ↦ h | inr none ↦ a
 
 -- no end of the scene queued its end too early
 abbrev pub AreOpen : Scene → Type 0
-AreOpen s = (who : ℕ) (e : Stand) (l : LinkView) → Stands s who e l → IsOpen l
+AreOpen s = (who : ℕ) (e : PresentEnd) (l : LinkView) → IsPresent s who e l → IsOpen l
 
 pub next_heard : (laws : LawsBelow) (s s' : Scene) (deed : Deed) → DoesDeed deed s s' → FactsAt s → AreOpen s → Heard s → Heard s'
 next_heard laws s s' (Dials host id socket to buffers now) does f open' h =

@@ -6,7 +6,7 @@ use Rattle.spx_link.specs.declared.state.State.{State}
 use Rattle.spx_link.specs.declared.state.State.TheVariants as S
 use Rattle.spx_link.specs.declared.received.Received.{Received}
 use Rattle.spx_link.specs.LinkView.{LinkView}
-use Rattle.spx_link.specs.Machine.{End, Packet, is_wanted, risen, put_mark, read_unit, got}
+use Rattle.spx_link.specs.Machine.{End, Packet, is_awaited, risen, put_mark, read_unit, got}
 use Rattle.spx_link.specs.Receive.{after_end}
 use Rattle.spx_link.specs.Offer.{queued}
 use Rattle.spx_theory.proofs.Hearing.{StateAfter, Reads}
@@ -30,7 +30,7 @@ pub record Learned (p : Packet) (new : End) : Type 0 where
 fed_unit : (o : Option ℕ) (c : End) → Fed c (read_unit o c) × (((read_unit o c).base ≡ c.base) × ((read_unit o c).limit ≡ c.limit))
 fed_unit None c = (record { sent = refl; taken = refl; buffers = refl; units = refl; base = omega arith; limit = omega arith; read = omega arith }, (refl, refl))
 fed_unit (Some n) c =
-    cond_both (is_wanted c n) (risen (put_mark (n - c.read) c.kept) c) c (λ e. Fed c e × ((e.base ≡ c.base) × (e.limit ≡ c.limit)))
+    cond_both (is_awaited c n) (risen (put_mark (n - c.read) c.kept) c) c (λ e. Fed c e × ((e.base ≡ c.base) × (e.limit ≡ c.limit)))
     (λ wanted. (record { sent = refl; taken = refl; buffers = refl; units = refl; base = omega arith; limit = omega arith; read = omega arith }, (refl, refl)))
     (λ other. (record { sent = refl; taken = refl; buffers = refl; units = refl; base = omega arith; limit = omega arith; read = omega arith }, (refl, refl)))
 

@@ -10,7 +10,7 @@ use Rattle.spx_theory.specs.Note.{Note}
 use Rattle.spx_theory.specs.Scan.{Scan, Mark, Role, seen, seen_all, scan, unread}
 use Rattle.spx_theory.specs.PairLog.{Half, Pair, pair_after, pair_from, pair_between}
 use Rattle.spx_theory.specs.States.{is_quiet}
-use Rattle.spx_theory.specs.Scene.{Scene, Stand}
+use Rattle.spx_theory.specs.Scene.{Scene, PresentEnd}
 use Rattle.spx_theory.specs.PacketsOnWay.{out_notes}
 use Rattle.spx_theory.proofs.Tied.{Whole}
 use Rattle.spx_theory.proofs.Folding.{AreIn, seen_all-append, pair_noted, pair_grows}
@@ -29,10 +29,10 @@ pub record IsNew (a : ℕ) (e : End) : Type 0 where
   pub kept : e.kept ≡ []
   pub units : e.units ≡ []
 
-abbrev pub IsQuiet : List Stand → ℕ → Type 0
-IsQuiet ends c = (e : Stand) (l : LinkView) → slice_get ends c ≡ Some e → e.link ≡ Some l → is_quiet l.state ≡ true
+abbrev pub IsQuiet : List PresentEnd → ℕ → Type 0
+IsQuiet ends c = (e : PresentEnd) (l : LinkView) → slice_get ends c ≡ Some e → e.link ≡ Some l → is_quiet l.state ≡ true
 
-pub record Held (c d a b : ℕ) (ends : List Stand) (parcels : List (List ℕ)) (s : Scan) (p : Pair) : Type 0 where
+pub record Held (c d a b : ℕ) (ends : List PresentEnd) (parcels : List (List ℕ)) (s : Scan) (p : Pair) : Type 0 where
   pub whole : Whole c d ends parcels s.marks s.sent p.one p.two
   -- until it joined
   pub early : IsUnjoined s.roles c → IsNew a p.one.end
@@ -40,21 +40,21 @@ pub record Held (c d a b : ℕ) (ends : List Stand) (parcels : List (List ℕ)) 
   -- until it is made
   pub unmade : length ends ≤ d → IsNew b p.two.end
 
-pub turned : (c d : ℕ) (ends : List Stand) (parcels : List (List ℕ)) (marks : List Mark) (sent : List ℕ) (x y : Half) → Whole c d ends parcels marks sent x y → Whole d c ends parcels marks sent y x
+pub turned : (c d : ℕ) (ends : List PresentEnd) (parcels : List (List ℕ)) (marks : List Mark) (sent : List ℕ) (x y : Half) → Whole c d ends parcels marks sent x y → Whole d c ends parcels marks sent y x
 turned c d ends parcels marks sent x y w = record { sound = swapped x.end y.end w.sound; run = runs_over x.end y.end w.run; one = w.two; two = w.one; count = w.count }
 
 module _ (c d a b : ℕ) where
   abbrev pub HeldAt : Scene → Type 0
   HeldAt s = Held c d a b s.ends s.parcels (scan s.log) (pair_between c d a b s.parcels s.log)
 
-  pub at_noted : (s : Scene) (ends : List Stand) (ns : List Note)
+  pub at_noted : (s : Scene) (ends : List PresentEnd) (ns : List Note)
       → Held c d a b ends s.parcels (seen_all (scan s.log) ns) (pair_from s.parcels c d (pair_between c d a b s.parcels s.log) ns)
       → Held c d a b ends s.parcels (scan (s.log ++ ns)) (pair_between c d a b s.parcels (s.log ++ ns))
   at_noted s ends ns h =
       subst (λ t. Held c d a b ends s.parcels t (pair_between c d a b s.parcels (s.log ++ ns))) (sym (seen_all-append unread s.log ns))
       (subst (λ p. Held c d a b ends s.parcels (seen_all (scan s.log) ns) p) (sym (pair_noted c d a b s.parcels s.log ns)) h)
 
-  pub at_sent : (s : Scene) (ends : List Stand) (bytes : List ℕ) (n : Note) → AreIn (length s.parcels) s.log
+  pub at_sent : (s : Scene) (ends : List PresentEnd) (bytes : List ℕ) (n : Note) → AreIn (length s.parcels) s.log
       → Held c d a b ends (s.parcels ++ bytes ∷ []) (seen (scan s.log) n) (pair_after (s.parcels ++ bytes ∷ []) c d (pair_between c d a b s.parcels s.log) n)
       → Held c d a b ends (s.parcels ++ bytes ∷ []) (scan (s.log ++ n ∷ [])) (pair_between c d a b (s.parcels ++ bytes ∷ []) (s.log ++ n ∷ []))
   at_sent s ends bytes n are h =

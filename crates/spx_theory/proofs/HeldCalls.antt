@@ -12,7 +12,7 @@ use Rattle.spx_theory.specs.Scan.{Scan, seen}
 use Rattle.spx_theory.specs.PairLog.{Half, Pair, half_after, pair_after, one_taken, gained}
 use Rattle.spx_theory.specs.Tracks.{Formed, Follows}
 use Rattle.spx_theory.specs.States.{is_quiet}
-use Rattle.spx_theory.specs.Scene.{Stand}
+use Rattle.spx_theory.specs.Scene.{PresentEnd}
 use Rattle.spx_theory.proofs.Tied.{Whole}
 use Rattle.spx_theory.proofs.Moving.{other_end, this_end}
 use Rattle.spx_theory.proofs.Speaking.{eqb_same}
@@ -22,12 +22,12 @@ use Rattle.spx_theory.proofs.Held.{Held, IsUnjoined, turned, calmed}
 use Rattle.spx_theory.specs.Below.{LawsBelow}
 
 -- the link that an end is left with, if it is left with any
-abbrev pub IsLeft : Stand → LinkView → Type 0
+abbrev pub IsLeft : PresentEnd → LinkView → Type 0
 IsLeft w l = (m : LinkView) → w.link ≡ Some m → m ≡ l
 
-module _ (c d a b : ℕ) (differ : c ≢ d) (ends : List Stand) (parcels : List (List ℕ)) (s : Scan) (p : Pair) where
+module _ (c d a b : ℕ) (differ : c ≢ d) (ends : List PresentEnd) (parcels : List (List ℕ)) (s : Scan) (p : Pair) where
   -- an end that is neither of the two is replaced
-  pub other_held : (who : ℕ) (w : Stand) (t : Scan) (q : Pair) → who ≢ c → who ≢ d → t.marks ≡ s.marks → t.sent ≡ s.sent → t.roles ≡ s.roles → q.one ≡ p.one → q.two ≡ p.two
+  pub other_held : (who : ℕ) (w : PresentEnd) (t : Scan) (q : Pair) → who ≢ c → who ≢ d → t.marks ≡ s.marks → t.sent ≡ s.sent → t.roles ≡ s.roles → q.one ≡ p.one → q.two ≡ p.two
       → Held c d a b ends parcels s p → Held c d a b (set ends who w) parcels t q
   other_held who w t q not_c not_d marks sent roles one two h =
       let u : IsUnjoined t.roles c → IsUnjoined s.roles c = λ v. subst (λ rs. IsUnjoined rs c) roles v in
@@ -39,7 +39,7 @@ module _ (c d a b : ℕ) (differ : c ≢ d) (ends : List Stand) (parcels : List 
       }
 
   -- the link of an end changes in parts that the machine does not have, and stays opening or lost if it was
-  pub rests_held : (who : ℕ) (e w : Stand) (l k : LinkView) (t : Scan) → t.marks ≡ s.marks → t.sent ≡ s.sent → t.roles ≡ s.roles
+  pub rests_held : (who : ℕ) (e w : PresentEnd) (l k : LinkView) (t : Scan) → t.marks ≡ s.marks → t.sent ≡ s.sent → t.roles ≡ s.roles
       → slice_get ends who ≡ Some e → e.link ≡ Some l → IsLeft w k → ((x y : End) → Follows l x y → Follows k x y) → (is_quiet l.state ≡ true → is_quiet k.state ≡ true)
       → Held c d a b ends parcels s p → Held c d a b (set ends who w) parcels t p
   rests_held who e w l k t marks sent roles at is left follows still h =
@@ -52,7 +52,7 @@ module _ (c d a b : ℕ) (differ : c ≢ d) (ends : List Stand) (parcels : List 
               whole = rw (marks, sent) (rests_whole c d differ ends parcels s.marks s.sent p.one p.two h.whole w k left (follows p.one.end p.two.end (h.whole.one.link e l at' is)));
               early = λ v. h.early (u v);
               quiet = λ v f m there link.
-                  let same : m ≡ k = left m (ap (λ (x : Stand). x.link) (sym (this_end ends c w f there)) ∙ link) in
+                  let same : m ≡ k = left m (ap (λ (x : PresentEnd). x.link) (sym (this_end ends c w f there)) ∙ link) in
                   subst (λ (x : LinkView). is_quiet x.state ≡ true) (sym same) (still (h.quiet (u v) e l at' is));
               unmade = λ past. h.unmade (omega (arith, past, length-set ends c w));
             })
@@ -73,7 +73,7 @@ module _ (c d a b : ℕ) (differ : c ≢ d) (ends : List Stand) (parcels : List 
       ]
 
   -- a unit is taken
-  pub takes_held : (laws : LawsBelow) (who : ℕ) (e w : Stand) (l k : LinkView) (v : Unit) → slice_get ends who ≡ Some e → e.link ≡ Some l → (take_link l).0 ≡ Some v
+  pub takes_held : (laws : LawsBelow) (who : ℕ) (e w : PresentEnd) (l k : LinkView) (v : Unit) → slice_get ends who ≡ Some e → e.link ≡ Some l → (take_link l).0 ≡ Some v
       → IsLeft w k → ((x y : End) → Follows (take_link l).1 x y → Follows k x y)
       → Held c d a b ends parcels s p
       → Held c d a b (set ends who w) parcels (calmed s) (pair_after parcels c d p (TakesUnit who v))
@@ -110,7 +110,7 @@ module _ (c d a b : ℕ) (differ : c ≢ d) (ends : List Stand) (parcels : List 
       ]
 
   -- units are added after the others: of a message, or the end
-  pub gains_held : (laws : LawsBelow) (us : List Unit) (n : ℕ → Note) (who : ℕ) (e w : Stand) (l k : LinkView)
+  pub gains_held : (laws : LawsBelow) (us : List Unit) (n : ℕ → Note) (who : ℕ) (e w : PresentEnd) (l k : LinkView)
       → ((j : ℕ) (i : ℕ) (x y : Half) → half_after parcels i x y (n j) ≡ cond (j == i) (gained us x) x) → ((j : ℕ) → seen s (n j) ≡ calmed s)
       → slice_get ends who ≡ Some e → e.link ≡ Some l → refusal l.state ≡ None → IsLeft w k
       → ((x y : End) → Follows l x y → Formed x.units false) → ((x y : Half) → Whole c d ends parcels s.marks s.sent x y ⊎ Whole d c ends parcels s.marks s.sent x y → Follows l x.end y.end → Follows k (gained us x).end y.end)

@@ -28,7 +28,7 @@ use Rattle.spx_theory.specs.PairLog.{Half, Pair, half_after, pair_from, got_mail
 use Rattle.spx_theory.specs.Tracks.{Formed, Follows}
 use Rattle.spx_theory.specs.Spelling.{Carries}
 use Rattle.spx_theory.specs.States.{is_quiet}
-use Rattle.spx_theory.specs.Scene.{Stand}
+use Rattle.spx_theory.specs.Scene.{PresentEnd}
 use Rattle.spx_messages.specs.WrittenPackets.{IsRequestFor}
 use Rattle.spx_theory.proofs.Lists.{get_last, get_before, get_here, read_there}
 use Rattle.spx_theory.proofs.Tied.{mark_at, Letter}
@@ -106,13 +106,13 @@ accepted_follows id socket from h buffers now b x y q n same small none read all
     drop-nil zero = refl
     drop-nil (suc k) = refl
 
-module _ (c d a b : ℕ) (differ : c ≢ d) (ends : List Stand) (parcels : List (List ℕ)) (s : Scan) (p : Pair) where
+module _ (c d a b : ℕ) (differ : c ≢ d) (ends : List PresentEnd) (parcels : List (List ℕ)) (s : Scan) (p : Pair) where
   -- an end that is neither of the two is added
-  pub other_comes : (e : Stand) (r : Role) (t : Scan) (q : Pair) → length s.roles ≡ length ends → length ends ≢ c → length ends ≢ d
+  pub other_comes : (e : PresentEnd) (r : Role) (t : Scan) (q : Pair) → length s.roles ≡ length ends → length ends ≢ c → length ends ≢ d
       → t.marks ≡ s.marks → t.sent ≡ s.sent → t.roles ≡ s.roles ++ r ∷ [] → q.one ≡ p.one → q.two ≡ p.two
       → Held c d a b ends parcels s p → Held c d a b (ends ++ e ∷ []) parcels t q
   other_comes e r t q count not_c not_d marks sent roles one two h =
-      let before : (k : ℕ) → length ends ≢ k → (f : Stand) → slice_get (ends ++ e ∷ []) k ≡ Some f → slice_get ends k ≡ Some f =
+      let before : (k : ℕ) → length ends ≢ k → (f : PresentEnd) → slice_get (ends ++ e ∷ []) k ≡ Some f → slice_get ends k ≡ Some f =
       λ k ne f at. elim (get_last ends e f k at) [ inl was ↦ was | inr new ↦ absurd (ne (sym new.0)) ] in
       let u : IsUnjoined t.roles c → IsUnjoined s.roles c = λ v g at. v g (ap (λ rs. slice_get rs c) roles ∙ get_before s.roles (r ∷ []) g c at) in
       record {
@@ -129,7 +129,7 @@ module _ (c d a b : ℕ) (differ : c ≢ d) (ends : List Stand) (parcels : List 
       → Held c d a b (ends ++ record { host = host; own = id; link = Some (dialed id socket to buffers now); rest = None; overlong = false } ∷ []) parcels
       (seen s (Opened (length ends) host buffers)) p
   dials_held host id socket to buffers now count small roles h =
-      let e : Stand = record { host = host; own = id; link = Some (dialed id socket to buffers now); rest = None; overlong = false } in
+      let e : PresentEnd = record { host = host; own = id; link = Some (dialed id socket to buffers now); rest = None; overlong = false } in
       let r : Role = record { buffers = buffers; called = true; joined = false; partner = None } in
       let t : Scan = seen s (Opened (length ends) host buffers) in
       elim (cases_eq (length ends) c) [
@@ -155,7 +155,7 @@ module _ (c d a b : ℕ) (differ : c ≢ d) (ends : List Stand) (parcels : List 
                       link = λ f m at is. elim (get_last ends e f c at) [
                         | inl was ↦ absurd (omega (arith, slice_get_within ends c f was, one))
                         | inr here ↦
-                            let link : Some (dialed id socket to buffers now) ≡ Some m = ap (λ (z : Stand). z.link) here.1 ∙ is in
+                            let link : Some (dialed id socket to buffers now) ≡ Some m = ap (λ (z : PresentEnd). z.link) here.1 ∙ is in
                             let is' : dialed id socket to buffers now ≡ m = cc link in
                             subst (λ n. Follows n p.one.end p.two.end) is' (dialed_follows id socket to buffers now a p.one.end p.two.end new same small)
                       ];
@@ -177,7 +177,7 @@ module _ (c d a b : ℕ) (differ : c ≢ d) (ends : List Stand) (parcels : List 
               quiet = λ u f m at is. elim (get_last ends e f c at) [
                 | inl was ↦ absurd (omega (arith, slice_get_within ends c f was, one))
                 | inr here ↦
-                    let link : Some (dialed id socket to buffers now) ≡ Some m = ap (λ (z : Stand). z.link) here.1 ∙ is in
+                    let link : Some (dialed id socket to buffers now) ≡ Some m = ap (λ (z : PresentEnd). z.link) here.1 ∙ is in
                     let is' : dialed id socket to buffers now ≡ m = cc link in
                     subst (λ (n : LinkView). is_quiet n.state ≡ true) is' refl
               ];
@@ -200,10 +200,10 @@ module _ (c d a b : ℕ) (differ : c ≢ d) (ends : List Stand) (parcels : List 
       (seen_all s (Accepted (length ends) k buffers ∷ Got (length ends) k ∷ [])) (pair_from parcels c d p (Accepted (length ends) k buffers ∷ Got (length ends) k ∷ []))
   accepts_held laws host id socket from k buffers now bytes g h body count small comes reads request roles held =
       let l : LinkView = accepted_from id socket from h buffers now in
-      let e : Stand = record { host = host; own = id; link = Some l; rest = None; overlong = false } in
+      let e : PresentEnd = record { host = host; own = id; link = Some l; rest = None; overlong = false } in
       let r : Role = record { buffers = buffers; called = false; joined = true; partner = asker (mark_of s k).maker } in
       let t : Scan = seen_all s (Accepted (length ends) k buffers ∷ Got (length ends) k ∷ []) in
-      let ends' : List Stand = ends ++ e ∷ [] in
+      let ends' : List PresentEnd = ends ++ e ∷ [] in
       let still_c : length ends ≢ c → half_after parcels c p.one p.two (Got (length ends) k) ≡ p.one = λ ne. cond-false (length ends == c) (got_mail (mail_of p.two k) p.one) p.one (ne_eqb (length ends) c ne) in
       let still_d : length ends ≢ d → half_after parcels d p.two p.one (Got (length ends) k) ≡ p.two = λ ne. cond-false (length ends == d) (got_mail (mail_of p.one k) p.two) p.two (ne_eqb (length ends) d ne) in
       elim (cases_eq (length ends) c) [
@@ -264,7 +264,7 @@ module _ (c d a b : ℕ) (differ : c ≢ d) (ends : List Stand) (parcels : List 
                         link = λ f m at is. elim (get_last ends e f d at) [
                           | inl was ↦ absurd (omega (arith, slice_get_within ends d f was, two))
                           | inr here ↦
-                              let link : Some l ≡ Some m = ap (λ (z : Stand). z.link) here.1 ∙ is in
+                              let link : Some l ≡ Some m = ap (λ (z : PresentEnd). z.link) here.1 ∙ is in
                               let is' : l ≡ m = cc link in
                               subst (λ n. Follows n y'.end p.one.end) is' follows
                         ];

@@ -17,7 +17,7 @@ use Rattle.spx_theory.specs.PairLog.{Half, Pair, half_after, not_mine, posted, p
 use Rattle.spx_theory.specs.Spelling.{Spoke, PolledTo}
 use Rattle.spx_theory.specs.Tracks.{core}
 use Rattle.spx_theory.specs.States.{is_quiet}
-use Rattle.spx_theory.specs.Scene.{Stand, linked}
+use Rattle.spx_theory.specs.Scene.{PresentEnd, linked}
 use Rattle.spx_theory.specs.PacketsOnWay.{note_of}
 use Rattle.spx_theory.proofs.Tied.{Whole}
 use Rattle.spx_theory.proofs.Moving.{other_end, this_link}
@@ -52,7 +52,7 @@ end_after parcels c x y n = (half_after parcels c x y n).end
 pub other_still : (parcels : List (List ℕ)) (c : ℕ) (x y : Half) (what : Sent) (who k : ℕ) → who ≢ c → end_after parcels c x y (note_of what who k) ≡ x.end
 other_still parcels c x y what who k differ = ap (λ (h : Half). h.end) (other_half parcels c x y what who k differ)
 
-module _ (c d a b : ℕ) (differ : c ≢ d) (ends : List Stand) (parcels : List (List ℕ)) (s : Scan) (p : Pair) where
+module _ (c d a b : ℕ) (differ : c ≢ d) (ends : List PresentEnd) (parcels : List (List ℕ)) (s : Scan) (p : Pair) where
   -- the packet of an end that is neither
   pub stranger_gives : (what : Sent) (who : ℕ) (bytes : List ℕ) → who ≢ c → who ≢ d → Whole c d ends parcels s.marks s.sent p.one p.two
       → WholeAfter c d ends (parcels ++ bytes ∷ []) s p.one p.two (note_of what who (length parcels))
@@ -95,7 +95,7 @@ module _ (c d a b : ℕ) (differ : c ≢ d) (ends : List Stand) (parcels : List 
       subst (λ ns. Whole c d ends (parcels ++ bytes ∷ []) (s.marks ++ m ∷ []) ns (not_mine p.one) (not_mine p.two)) (append-nil s.sent)
       (foreign_whole c d ends parcels bytes s.marks m s.sent [] p.one p.two (λ is. cc (sym nobody ∙ is)) (λ is. cc (sym nobody ∙ is)) refl refl w)
 
-  pub gives_held : (laws : LawsBelow) (who now : ℕ) (e : Stand) (l : LinkView) (g : OutgoingView) (bytes : List ℕ)
+  pub gives_held : (laws : LawsBelow) (who now : ℕ) (e : PresentEnd) (l : LinkView) (g : OutgoingView) (bytes : List ℕ)
       → length s.roles ≡ length ends → slice_get ends who ≡ Some e → e.link ≡ Some l → (poll_link l now).0 ≡ Some g → SaysOnly g.header g.body bytes → sequence_in bytes ≡ g.header.seq
       → Held c d a b ends parcels s p
       → let n : Note = note_of g.what who (length parcels) in
@@ -103,7 +103,7 @@ module _ (c d a b : ℕ) (differ : c ≢ d) (ends : List Stand) (parcels : List 
   gives_held laws who now e l g bytes count at is gives only number h =
       let n : Note = note_of g.what who (length parcels) in
       let l' : LinkView = (poll_link l now).1 in
-      let ends' : List Stand = set ends who (linked e l') in
+      let ends' : List PresentEnd = set ends who (linked e l') in
       let parcels' : List (List ℕ) = parcels ++ bytes ∷ [] in
       let same : (seen s n).roles ≡ s.roles = given_roles s g.what who (length parcels) in
       let before : IsUnjoined (seen s n).roles c → IsUnjoined s.roles c = λ u. subst (λ rs. IsUnjoined rs c) same u in

@@ -15,7 +15,7 @@ use Rattle.spx_theory.specs.Scan.{Scan, Maker, Role, Reading, Each, times, seen_
 use Rattle.spx_theory.specs.Peers.{end_of}
 use Rattle.spx_theory.proofs.OfTwo.{AreRoles, ReadsOf}
 use Rattle.spx_theory.specs.PairLog.{Half, Pair, half_after, got_mail, mail_of, pair_from}
-use Rattle.spx_theory.specs.Scene.{Stand, linked}
+use Rattle.spx_theory.specs.Scene.{PresentEnd, linked}
 use Rattle.spx_theory.specs.PacketsOnWay.{notes_of}
 use Rattle.spx_theory.proofs.Lists.{get_here}
 use Rattle.spx_theory.proofs.Tied.{Whole}
@@ -52,14 +52,14 @@ upto_now e from sent near = subst (λ xs. times e (drop from xs) < 32768) (take-
 abbrev pub reading_now : Scan → ℕ → ℕ → Bool → Reading
 reading_now s who k first = record { who = who; maker = (mark_of s k).maker; from = (mark_of s k).units; to = length s.sent; first = first }
 
-module _ (c d a b : ℕ) (differ : c ≢ d) (laws : LawsBelow) (ends : List Stand) (parcels : List (List ℕ)) (s : Scan) (p : Pair) where
+module _ (c d a b : ℕ) (differ : c ≢ d) (laws : LawsBelow) (ends : List PresentEnd) (parcels : List (List ℕ)) (s : Scan) (p : Pair) where
   -- the roles and the readings are the same
   abbrev pub Premised : List Role → List Reading → Type 0
   Premised roles readings =
       (AreRoles c d a b (record s { roles = roles })) × Each (ReadsOf c d s.sent) readings × Each (ReadsOf d c s.sent) readings
 
   -- a packet that this end reads, with the other end
-  pub got_whole : Whole c d ends parcels s.marks s.sent p.one p.two → (e : Stand) (l : LinkView) (k : ℕ) (bytes : List ℕ) (q : PacketView) (h : SpxHeader) (body : List ℕ)
+  pub got_whole : Whole c d ends parcels s.marks s.sent p.one p.two → (e : PresentEnd) (l : LinkView) (k : ℕ) (bytes : List ℕ) (q : PacketView) (h : SpxHeader) (body : List ℕ)
       → slice_get ends c ≡ Some e → e.link ≡ Some l → slice_get parcels k ≡ Some bytes → IsConnectionPacket q h body bytes → (receive_link l h body).0 ≢ Rs.Stranger
       → (first : Bool) → ReadsOf c d s.sent (reading_now s c k first) → end_of (mark_of s k).maker ≡ Some d
       → Whole c d (set ends c (linked e (receive_link l h body).1)) parcels s.marks s.sent (half_after parcels c p.one p.two (Got c k)) (half_after parcels d p.two p.one (Got c k))
@@ -67,13 +67,13 @@ module _ (c d a b : ℕ) (differ : c ≢ d) (laws : LawsBelow) (ends : List Stan
       let near = of.fresh refl by in
       let done = reads_whole laws c d differ ends parcels s.marks s.sent p.one p.two w e l k bytes q h body at is comes reads read by
       (upto_now c (mark_of s k).units s.sent near.0) (upto_now d (mark_of s k).units s.sent near.1) in
-      let ends' : List Stand = set ends c (linked e (receive_link l h body).1) in
+      let ends' : List PresentEnd = set ends c (linked e (receive_link l h body).1) in
       subst (λ x. Whole c d ends' parcels s.marks s.sent x (half_after parcels d p.two p.one (Got c k))) (sym (cond-true (c == c) (got_mail (mail_of p.two k) p.one) p.one (eqb_same c)))
       (subst (λ y. Whole c d ends' parcels s.marks s.sent (got_mail (mail_of p.two k) p.one) y) (sym (cond-false (c == d) (got_mail (mail_of p.one k) p.two) p.two (ne_eqb c d differ))) done)
 
   -- ---- the caller reads
   pub caller_reads : (log : List Note) → Facts ends parcels s log → Held c d a b ends parcels s p
-      → (e : Stand) (l : LinkView) (k : ℕ) (bytes : List ℕ) (q : PacketView) (h : SpxHeader) (body : List ℕ)
+      → (e : PresentEnd) (l : LinkView) (k : ℕ) (bytes : List ℕ) (q : PacketView) (h : SpxHeader) (body : List ℕ)
       → slice_get ends c ≡ Some e → e.link ≡ Some l → slice_get parcels k ≡ Some bytes → IsConnectionPacket q h body bytes → (receive_link l h body).0 ≢ Rs.Stranger
       → let ns : List Note = notes_of (receive_link l h body).0 c k in
       let t : Scan = seen_all s ns in
@@ -112,10 +112,10 @@ module _ (c d a b : ℕ) (differ : c ≢ d) (laws : LawsBelow) (ends : List Stan
             })
       ]
     where
-      e' : Stand
+      e' : PresentEnd
       e' = linked e (receive_link l h body).1
 
-      ends' : List Stand
+      ends' : List PresentEnd
       ends' = set ends c (linked e (receive_link l h body).1)
 
       role_there : (j : ℕ) → j < length ends → slice_get s.roles j ≡ Some (role_of s j)

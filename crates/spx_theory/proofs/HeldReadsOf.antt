@@ -13,7 +13,7 @@ use Rattle.spx_theory.specs.Note.{Note, Got}
 use Rattle.spx_theory.specs.Scan.{Scan, Role, Reading, seen_all, mark_of, role_of, joined_by, no_role, is_now}
 use Rattle.spx_theory.proofs.OfTwo.{AreRoles, ReadsOf}
 use Rattle.spx_theory.specs.PairLog.{Half, Pair, half_after, got_mail, mail_of, pair_from}
-use Rattle.spx_theory.specs.Scene.{Stand, linked}
+use Rattle.spx_theory.specs.Scene.{PresentEnd, linked}
 use Rattle.spx_theory.specs.PacketsOnWay.{notes_of}
 use Rattle.spx_theory.proofs.Lists.{get_here}
 use Rattle.spx_theory.proofs.Moving.{other_end}
@@ -24,9 +24,9 @@ use Rattle.spx_theory.proofs.Held.{Held, IsNew, turned, set_other}
 use Rattle.spx_theory.specs.Below.{LawsBelow}
 use Rattle.spx_link.specs.declared.received.Received.TheVariants as Rs
 
-module _ (c d a b : ℕ) (differ : c ≢ d) (laws : LawsBelow) (ends : List Stand) (parcels : List (List ℕ)) (s : Scan) (p : Pair) where
+module _ (c d a b : ℕ) (differ : c ≢ d) (laws : LawsBelow) (ends : List PresentEnd) (parcels : List (List ℕ)) (s : Scan) (p : Pair) where
   pub callee_reads : (log : List Note) → Facts ends parcels s log → AreRoles c d a b s → Held c d a b ends parcels s p
-      → (e : Stand) (l : LinkView) (k : ℕ) (bytes : List ℕ) (q : PacketView) (h : SpxHeader) (body : List ℕ)
+      → (e : PresentEnd) (l : LinkView) (k : ℕ) (bytes : List ℕ) (q : PacketView) (h : SpxHeader) (body : List ℕ)
       → slice_get ends d ≡ Some e → e.link ≡ Some l → slice_get parcels k ≡ Some bytes → IsConnectionPacket q h body bytes → (receive_link l h body).0 ≢ Rs.Stranger
       → let t : Scan = seen_all s (notes_of (receive_link l h body).0 d k) in
       Premised c d a b differ laws ends parcels s p t.roles t.readings
@@ -53,11 +53,11 @@ module _ (c d a b : ℕ) (differ : c ≢ d) (laws : LawsBelow) (ends : List Stan
             })
       ]
     where
-      e' : Stand
+      e' : PresentEnd
       e' = linked e (receive_link l h body).1
 
   pub other_reads : (log : List Note) → Held c d a b ends parcels s p
-      → (who : ℕ) (e : Stand) (w : Stand) (k : ℕ) (r : Received) → who ≢ c → who ≢ d → slice_get ends who ≡ Some e → r ≢ Rs.Stranger
+      → (who : ℕ) (e : PresentEnd) (w : PresentEnd) (k : ℕ) (r : Received) → who ≢ c → who ≢ d → slice_get ends who ≡ Some e → r ≢ Rs.Stranger
       → Held c d a b (set ends who w) parcels (seen_all s (notes_of r who k)) (pair_from parcels c d p (notes_of r who k))
   other_reads log held who e w k r not_c not_d at read =
       elim (notes_cases r who k read) [

@@ -9,29 +9,29 @@ use Rattle.ipx_wire.specs.Ipx.{PacketView}
 use Rattle.spx_link.specs.LinkView.{LinkView}
 use Rattle.spx_theory.specs.Scan.{Mark, Role, Reading, no_role}
 use Rattle.ipx_wire.specs.Connection.{IsConnectionPacket}
-use Rattle.spx_theory.specs.Scene.{Stand}
+use Rattle.spx_theory.specs.Scene.{PresentEnd}
 use Rattle.spx_messages.specs.WrittenPackets.{Home}
 use Rattle.spx_theory.proofs.Lists.{get_before, get_last, get_here, get_set}
 use Rattle.spx_theory.proofs.Held.{set_other, set_here}
 use Rattle.spx_theory.proofs.Tied.{mark_at}
 use Rattle.spx_theory.proofs.Adding.{mark_before, mark_here}
 use Rattle.spx_theory.specs.Names.{names}
-use Rattle.spx_theory.proofs.Identities.{Identity, Shows, IdentityIs, AreIdentities, IsFromOrOutside, AreFrom, IsTold, AreTold, IdentityLater, IdentitiesLater, identity_comes, identity_joins, are_from_later, are_told_later, identity_is_later}
+use Rattle.spx_theory.proofs.Identities.{Identity, Shows, IdentityIs, AreIdentities, IsFromOrOutside, AreFrom, IsAdvertised, AreAdvertised, IdentityLater, IdentitiesLater, identity_comes, identity_joins, are_from_later, are_told_later, identity_is_later}
 use Rattle.spx_theory.proofs.Lists.{same_element}
 
-pub record Identified (homes : List Home) (ends : List Stand) (parcels : List (List ℕ)) (marks : List Mark) (roles : List Role) (readings : List Reading) : Type 0 where
+pub record Identified (homes : List Home) (ends : List PresentEnd) (parcels : List (List ℕ)) (marks : List Mark) (roles : List Role) (readings : List Reading) : Type 0 where
   pub identities : List Identity
   pub count : length identities ≡ length ends
   pub shows : (k : ℕ) (c : Identity) → slice_get identities k ≡ Some c → Shows ends roles k c
   pub are : AreIdentities homes identities
   pub from : AreFrom homes identities parcels marks
-  pub told : AreTold identities readings
+  pub told : AreAdvertised identities readings
 
 same_link : (o : Option LinkView) (k m : LinkView) → o ≡ Some k → o ≡ Some m → k ≡ m
 same_link o k m is is' = cc
 
 -- the identity of an end that is not released
-pub record IdentityOf (identities : List Identity) (roles : List Role) (who : ℕ) (e : Stand) (l : LinkView) : Type 0 where
+pub record IdentityOf (identities : List Identity) (roles : List Role) (who : ℕ) (e : PresentEnd) (l : LinkView) : Type 0 where
   pub identity : Identity
   pub at : slice_get identities who ≡ Some identity
   pub host : identity.host ≡ e.host
@@ -39,13 +39,13 @@ pub record IdentityOf (identities : List Identity) (roles : List Role) (who : �
   pub named : identity.names ≡ names l
   pub role : slice_get roles who ≡ Some identity.role
 
-module _ (homes : List Home) (ends : List Stand) (parcels : List (List ℕ)) (marks : List Mark) (roles : List Role) (readings : List Reading) (f : Identified homes ends parcels marks roles readings) where
-  pub shown_is : (k : ℕ) (c : Identity) (e : Stand) (l : LinkView) → slice_get ends k ≡ Some e → e.link ≡ Some l → (s : Shows ends roles k c) → (c.host ≡ e.host) × (c.names.own ≡ e.own) × (c.names ≡ names l)
+module _ (homes : List Home) (ends : List PresentEnd) (parcels : List (List ℕ)) (marks : List Mark) (roles : List Role) (readings : List Reading) (f : Identified homes ends parcels marks roles readings) where
+  pub shown_is : (k : ℕ) (c : Identity) (e : PresentEnd) (l : LinkView) → slice_get ends k ≡ Some e → e.link ≡ Some l → (s : Shows ends roles k c) → (c.host ≡ e.host) × (c.names.own ≡ e.own) × (c.names ≡ names l)
   shown_is k c e l there is s =
       let stand : s.stand ≡ e = same_element ends k s.stand e s.there there in
-      (s.host ∙ ap (λ (x : Stand). x.host) stand, s.own ∙ ap (λ (x : Stand). x.own) stand, s.named l (ap (λ (x : Stand). x.link) stand ∙ is))
+      (s.host ∙ ap (λ (x : PresentEnd). x.host) stand, s.own ∙ ap (λ (x : PresentEnd). x.own) stand, s.named l (ap (λ (x : PresentEnd). x.link) stand ∙ is))
 
-  pub identity_of : (who : ℕ) (e : Stand) (l : LinkView) → slice_get ends who ≡ Some e → e.link ≡ Some l → IdentityOf f.identities roles who e l
+  pub identity_of : (who : ℕ) (e : PresentEnd) (l : LinkView) → slice_get ends who ≡ Some e → e.link ≡ Some l → IdentityOf f.identities roles who e l
   identity_of who e l there is =
       let none : Identity = record { host = 0; names = names l; role = no_role } in
       let c : Identity = get_or f.identities who none in
@@ -55,7 +55,7 @@ module _ (homes : List Home) (ends : List Stand) (parcels : List (List ℕ)) (ma
       record { identity = c; at = at; host = same.0; own = same.1; named = same.2; role = s.role }
 
   -- a link changes and keeps its names
-  pub identified_put : (who : ℕ) (e w : Stand) (l k : LinkView) → slice_get ends who ≡ Some e → e.link ≡ Some l → w.link ≡ Some k → w.host ≡ e.host → w.own ≡ e.own → names k ≡ names l
+  pub identified_put : (who : ℕ) (e w : PresentEnd) (l k : LinkView) → slice_get ends who ≡ Some e → e.link ≡ Some l → w.link ≡ Some k → w.host ≡ e.host → w.own ≡ e.own → names k ≡ names l
       → Identified homes (set ends who w) parcels marks roles readings
   identified_put who e w l k there is is' host own keeps =
       record {
@@ -81,7 +81,7 @@ module _ (homes : List Home) (ends : List Stand) (parcels : List (List ℕ)) (ma
       }
 
   -- a link is released
-  pub identified_gone : (who : ℕ) (e w : Stand) → slice_get ends who ≡ Some e → w.link ≡ None → w.host ≡ e.host → w.own ≡ e.own → Identified homes (set ends who w) parcels marks roles readings
+  pub identified_gone : (who : ℕ) (e w : PresentEnd) → slice_get ends who ≡ Some e → w.link ≡ None → w.host ≡ e.host → w.own ≡ e.own → Identified homes (set ends who w) parcels marks roles readings
   identified_gone who e w there gone host own =
       record {
         identities = f.identities;
@@ -97,8 +97,8 @@ module _ (homes : List Home) (ends : List Stand) (parcels : List (List ℕ)) (ma
                     stand = w;
                     there = ap (slice_get (set ends who w)) (sym same) ∙ set_here ends who w e there;
                     role = s.role;
-                    host = s.host ∙ ap (λ (x : Stand). x.host) stand ∙ sym host;
-                    own = s.own ∙ ap (λ (x : Stand). x.own) stand ∙ sym own;
+                    host = s.host ∙ ap (λ (x : PresentEnd). x.host) stand ∙ sym host;
+                    own = s.own ∙ ap (λ (x : PresentEnd). x.own) stand ∙ sym own;
                     named = λ m is. absurd (cc (sym gone ∙ is));
                   }
               | inr ne ↦ record { stand = s.stand; there = set_other ends who j w s.stand ne s.there; role = s.role; host = s.host; own = s.own; named = s.named }
@@ -106,7 +106,7 @@ module _ (homes : List Home) (ends : List Stand) (parcels : List (List ℕ)) (ma
       }
 
   -- a packet is read
-  pub identified_got : (r : Reading) → (r.first ≡ false → IsTold f.identities r) → Identified homes ends parcels marks roles (readings ++ r ∷ [])
+  pub identified_got : (r : Reading) → (r.first ≡ false → IsAdvertised f.identities r) → Identified homes ends parcels marks roles (readings ++ r ∷ [])
   identified_got r told =
       record {
         identities = f.identities;
@@ -116,7 +116,7 @@ module _ (homes : List Home) (ends : List Stand) (parcels : List (List ℕ)) (ma
         from = f.from;
         told = λ k x at. elim (get_last readings r x k at) [
           | inl was ↦ f.told k x was
-          | inr new ↦ subst (λ (y : Reading). y.first ≡ false → IsTold f.identities y) new.1 told
+          | inr new ↦ subst (λ (y : Reading). y.first ≡ false → IsAdvertised f.identities y) new.1 told
         ];
       }
 
@@ -144,7 +144,7 @@ module _ (homes : List Home) (ends : List Stand) (parcels : List (List ℕ)) (ma
       }
 
   -- an end is added
-  pub identified_new : (e : Stand) (l : LinkView) (r : Role) → length roles ≡ length ends → e.link ≡ Some l → e.own ≡ l.own
+  pub identified_new : (e : PresentEnd) (l : LinkView) (r : Role) → length roles ≡ length ends → e.link ≡ Some l → e.own ≡ l.own
       → IdentityIs homes f.identities (length ends) (record { host = e.host; names = names l; role = r })
       → Identified homes (ends ++ e ∷ []) parcels marks (roles ++ r ∷ []) readings
   identified_new e l r count is own identity =
@@ -183,7 +183,7 @@ module _ (homes : List Home) (ends : List Stand) (parcels : List (List ℕ)) (ma
       }
 
   -- an end joins
-  pub identified_joined : (who : ℕ) (e w : Stand) (x y : Identity) (k : LinkView) → slice_get ends who ≡ Some e → w.link ≡ Some k → slice_get f.identities who ≡ Some x
+  pub identified_joined : (who : ℕ) (e w : PresentEnd) (x y : Identity) (k : LinkView) → slice_get ends who ≡ Some e → w.link ≡ Some k → slice_get f.identities who ≡ Some x
       → w.host ≡ y.host → y.names.own ≡ w.own → y.names ≡ names k → IdentityLater x y → IdentityIs homes f.identities who y → Identified homes (set ends who w) parcels marks (set roles who y.role) readings
   identified_joined who e w x y k there is at host own named changed identity =
       let later : IdentitiesLater f.identities (set f.identities who y) = identity_joins f.identities who x y at changed in

@@ -13,7 +13,7 @@ use Rattle.spx_link.specs.Offer.{accepted_from}
 use Rattle.spx_theory.specs.Note.{Note, Accepted, Joined, Got}
 use Rattle.spx_theory.specs.Scan.{Scan, Maker, Role, Reading, seen_all, scan, unread, mark_of, role_of, joined_by, asker, is_now, no_role, BySystem, FromOutside}
 use Rattle.spx_theory.specs.Peers.{NothingInjected}
-use Rattle.spx_theory.specs.Scene.{Scene, Stand, Stands, linked}
+use Rattle.spx_theory.specs.Scene.{Scene, PresentEnd, IsPresent, linked}
 use Rattle.spx_theory.specs.PacketsOnWay.{IsFor, notes_of}
 use Rattle.spx_messages.specs.WrittenPackets.{Home, IsRequestFor}
 use Rattle.spx_theory.specs.Deeds.{DoesAccept, DoesRead}
@@ -23,18 +23,18 @@ use Rattle.spx_theory.proofs.NextFacts.{FactsAt}
 use Rattle.spx_theory.proofs.HeldReads.{notes_cases}
 use Rattle.spx_theory.proofs.Speaking.{eqb_same}
 use Rattle.spx_theory.specs.Names.{Names, names}
-use Rattle.spx_theory.proofs.Identities.{Identity, IdentityIs, IsFrom, IsFromOrOutside, IsTold, IdentityLater, OneEnd, HaveNetworks, ComesTo, answers, told_by}
+use Rattle.spx_theory.proofs.Identities.{Identity, IdentityIs, IsFrom, IsFromOrOutside, IsAdvertised, IdentityLater, OneEnd, HaveNetworks, ComesTo, answers, told_by}
 use Rattle.spx_theory.proofs.Identified.{Identified, IdentityOf, identity_of, identified_put, identified_got, identified_first, identified_new, identified_joined}
 use Rattle.spx_link.specs.declared.received.Received.TheVariants as Rs
 use Rattle.spx_theory.specs.Below.{LawsBelow}
 
-abbrev pub IdentifiedIn : List Home → List Stand → List (List ℕ) → Scan → Type 0
+abbrev pub IdentifiedIn : List Home → List PresentEnd → List (List ℕ) → Scan → Type 0
 IdentifiedIn homes ends parcels s = Identified homes ends parcels s.marks s.roles s.readings
 
 abbrev pub IdentifiedAt : List Home → Scene → Type 0
 IdentifiedAt homes s = IdentifiedIn homes s.ends s.parcels (scan s.log)
 
-pub identified_at : (homes : List Home) (ends : List Stand) (parcels : List (List ℕ)) (log ns : List Note) → IdentifiedIn homes ends parcels (seen_all (scan log) ns) → IdentifiedIn homes ends parcels (scan (log ++ ns))
+pub identified_at : (homes : List Home) (ends : List PresentEnd) (parcels : List (List ℕ)) (log ns : List Note) → IdentifiedIn homes ends parcels (seen_all (scan log) ns) → IdentifiedIn homes ends parcels (scan (log ++ ns))
 identified_at homes ends parcels log ns f = subst (IdentifiedIn homes ends parcels) (sym (seen_all-append unread log ns)) f
 
 -- the last packet that was read is not from outside
@@ -105,10 +105,10 @@ callee_is true x y is called not = absurd (cc (sym called ∙ not is))
 callee_is false x y is called not = is
 
 module _ (laws : LawsBelow) (homes : List Home) (networks : HaveNetworks homes) where
-  not_joined : (s : Scene) → FactsAt s → (f : IdentifiedAt homes s) → (who : ℕ) (e : Stand) (l : LinkView) → Stands s who e l → (c : IdentityOf f.identities (scan s.log).roles who e l) → l.state ≡ Opening → c.identity.role.joined ≡ false
+  not_joined : (s : Scene) → FactsAt s → (f : IdentifiedAt homes s) → (who : ℕ) (e : PresentEnd) (l : LinkView) → IsPresent s who e l → (c : IdentityOf f.identities (scan s.log).roles who e l) → l.state ≡ Opening → c.identity.role.joined ≡ false
   not_joined s facts f who e l stands c opens = facts.opening who e l c.identity.role stands.there stands.link opens c.role
 
-  pub opening_called : (s : Scene) → FactsAt s → (f : IdentifiedAt homes s) → (who : ℕ) (e : Stand) (l : LinkView) → Stands s who e l → (c : IdentityOf f.identities (scan s.log).roles who e l) → l.state ≡ Opening → c.identity.role.called ≡ true
+  pub opening_called : (s : Scene) → FactsAt s → (f : IdentifiedAt homes s) → (who : ℕ) (e : PresentEnd) (l : LinkView) → IsPresent s who e l → (c : IdentityOf f.identities (scan s.log).roles who e l) → l.state ≡ Opening → c.identity.role.called ≡ true
   opening_called s facts f who e l stands c opens = ((f.are who c.identity c.at).idle (not_joined s facts f who e l stands c opens)).0
 
   -- ---- a request is accepted
@@ -129,7 +129,7 @@ module _ (laws : LawsBelow) (homes : List Home) (networks : HaveNetworks homes) 
       inside homes f.identities m does.packet does.header out (f.from parcel does.bytes does.comes does.packet does.header does.body does.reads) in
       let by : m ≡ BySystem g.who = g.system does.request.system in
       let l : LinkView = accepted_from id socket does.packet.header.from does.header buffers now in
-      let e : Stand = record { host = host; own = id; link = Some l; rest = None; overlong = false } in
+      let e : PresentEnd = record { host = host; own = id; link = Some l; rest = None; overlong = false } in
       let role : Role = record { buffers = buffers; called = false; joined = true; partner = asker m } in
       let home : slice_get homes host ≡ Some does.there.0 = ap (λ hs. slice_get hs host) (sym same) ∙ does.there.1 in
       let identity : IdentityIs homes f.identities (length s.ends) (record { host = host; names = names l; role = role }) =
@@ -147,7 +147,7 @@ module _ (laws : LawsBelow) (homes : List Home) (networks : HaveNetworks homes) 
     abbrev link_now : LinkView
     link_now = (receive_link does.link does.header does.body).1
 
-    abbrev ends_now : List Stand
+    abbrev ends_now : List PresentEnd
     ends_now = set s.ends who (linked does.stand link_now)
 
     abbrev reading_of : Bool → Reading
@@ -179,7 +179,7 @@ module _ (laws : LawsBelow) (homes : List Home) (networks : HaveNetworks homes) 
         let c : IdentityOf f.identities (scan s.log).roles who does.stand does.link = reader in
         let n = (laws.names.reads does.link does.header does.body).reads not does.read in
         let identity : IdentityIs homes f.identities who c.identity = f.are who c.identity c.at in
-        let told : IsTold f.identities (reading_of first) =
+        let told : IsAdvertised f.identities (reading_of first) =
         told_by homes networks f.identities f.are one who c.identity identity.home.0 (reading_of first) does.packet does.header c.at identity.home.1
         (comes_to c identity.home.0 identity.home.1 n.0.to) (n.0.from ∙ ap (λ (x : Names). x.peer) (sym c.named)) refl g in
         let k : Identified homes s.ends s.parcels (scan s.log).marks (scan s.log).roles ((scan s.log).readings ++ reading_of first ∷ []) =

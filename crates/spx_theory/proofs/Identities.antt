@@ -13,7 +13,7 @@ use Rattle.spx_link.specs.LinkView.{LinkView}
 use Rattle.spx_theory.specs.Scan.{Each, Mark, Maker, Role, Reading, BySystem, FromOutside}
 use Rattle.spx_theory.specs.Peers.{end_of}
 use Rattle.ipx_wire.specs.Connection.{IsConnectionPacket}
-use Rattle.spx_theory.specs.Scene.{Stand}
+use Rattle.spx_theory.specs.Scene.{PresentEnd}
 use Rattle.spx_messages.specs.WrittenPackets.{Home}
 use Rattle.spx_theory.proofs.Lists.{get_before}
 use Rattle.spx_theory.proofs.Held.{set_other, set_here}
@@ -30,8 +30,8 @@ abbrev pub address_at : Home → Names → Address
 address_at h n = record { network = h.network; node = h.node; socket = n.local }
 
 -- an end has this identity; until its link is released, it has these names
-pub record Shows (ends : List Stand) (roles : List Role) (k : ℕ) (c : Identity) : Type 0 where
-  pub stand : Stand
+pub record Shows (ends : List PresentEnd) (roles : List Role) (k : ℕ) (c : Identity) : Type 0 where
+  pub stand : PresentEnd
   pub there : slice_get ends k ≡ Some stand
   pub role : slice_get roles k ≡ Some c.role
   pub host : c.host ≡ stand.host
@@ -85,7 +85,7 @@ AreFrom homes identities parcels marks =
     → IsFromOrOutside homes identities (mark_at marks k).maker p h
 
 -- an end read a packet of its partner, which has it as partner
-pub record IsTold (identities : List Identity) (r : Reading) : Type 0 where
+pub record IsAdvertised (identities : List Identity) (r : Reading) : Type 0 where
   pub other : ℕ
   pub one : Identity
   pub two : Identity
@@ -97,8 +97,8 @@ pub record IsTold (identities : List Identity) (r : Reading) : Type 0 where
   pub back : two.role.partner ≡ Some r.who
   pub maker : end_of r.maker ≡ Some other
 
-abbrev pub AreTold : List Identity → List Reading → Type 0
-AreTold identities readings = Each (λ (r : Reading). r.first ≡ false → IsTold identities r) readings
+abbrev pub AreAdvertised : List Identity → List Reading → Type 0
+AreAdvertised identities readings = Each (λ (r : Reading). r.first ≡ false → IsAdvertised identities r) readings
 
 -- ---- ends are added and join
 pub record IdentityLater (x y : Identity) : Type 0 where
@@ -154,7 +154,7 @@ pub are_from_later : (homes : List Home) (old new : List Identity) (parcels : Li
 are_from_later homes old new parcels marks later from k bytes at p h body reads =
     elim (from k bytes at p h body reads) [ inl outside ↦ inl outside | inr f ↦ inr (from_later homes old new later (mark_at marks k).maker p h f) ]
 
-pub are_told_later : (old new : List Identity) (readings : List Reading) → IdentitiesLater old new → AreTold old readings → AreTold new readings
+pub are_told_later : (old new : List Identity) (readings : List Reading) → IdentitiesLater old new → AreAdvertised old readings → AreAdvertised new readings
 are_told_later old new readings later told k r at first =
     let t = told k r at first in
     let a = later r.who t.one t.here in
@@ -248,7 +248,7 @@ module _ (homes : List Home) (networks : HaveNetworks homes) (identities : List 
 
   -- a joined end reads only its partner's packets
   pub told_by : (who : ℕ) (x : Identity) (home : Home) (r : Reading) (p : PacketView) (h : SpxHeader) → slice_get identities who ≡ Some x → slice_get homes x.host ≡ Some home
-      → ComesTo home x.names p h → h.from_id ≡ x.names.peer → r.who ≡ who → IsFrom homes identities r.maker p h → IsTold identities r
+      → ComesTo home x.names p h → h.from_id ≡ x.names.peer → r.who ≡ who → IsFrom homes identities r.maker p h → IsAdvertised identities r
   told_by who x home r p h at home_is comes peer whose f =
       let a = answers who x home r.maker p h at home_is comes f in
       let from_id : f.identity.names.own ≡ x.names.peer = sym f.own ∙ peer in

@@ -5,7 +5,7 @@ use Rattle.std.proofs.lemmas.Bool.{cases_eq, cases_Bool, cond-true, cond-false}
 use Rattle.std.proofs.lemmas.Bool.Decides.{Decides-eqb}
 use Rattle.spx_messages.specs.Changes.{SameSelf}
 use Rattle.spx_messages.specs.EndpointView.{Held, EndpointView, held_at}
-use Rattle.spx_theory.specs.World.{World, HostState, EndNow, end_at, StandsAt, IsEndOf, IsHostInOrder, InOrder}
+use Rattle.spx_theory.specs.World.{World, HostState, EndNow, end_at, IsPresentAt, IsEndOf, IsHostInOrder, InOrder}
 use Rattle.spx_theory.proofs.Places.{one_of_it, same_some, get_set_here, get_set_other, get_past}
 use Rattle.spx_theory.proofs.WorldLists.{get_set, get_last, get_before}
 
@@ -57,8 +57,8 @@ module _ (old new : World) (o : InOrder old) (k : ℕ) (s s' : HostState) (there
         ends = λ who e' at stands.
             let from : (e : EndNow) × (slice_get old.ends who ≡ Some e) × IsSameEnd e e' = ends.back who e' at in
             let e : EndNow = from.0 in
-            let was : StandsAt old.hosts who e = o.ends who e from.1 (sym from.2.released ∙ stands) in
-            let done : StandsAt (set old.hosts k s') who e' = elim (cases_eq e.host k) [
+            let was : IsPresentAt old.hosts who e = o.ends who e from.1 (sym from.2.released ∙ stands) in
+            let done : IsPresentAt (set old.hosts k s') who e' = elim (cases_eq e.host k) [
               | inl on ↦
                   let same : was.station ≡ s = one_of_it (slice_get old.hosts e.host) was.station s was.there (ap (slice_get old.hosts) on ∙ there) in
                   let live : (h' : Held) × (held_at s'.endpoint e.id ≡ Some h') = ids.on e.id was.held (ap (λ (z : HostState). held_at z.endpoint e.id) (sym same) ∙ was.live) in
@@ -77,7 +77,7 @@ module _ (old new : World) (o : InOrder old) (k : ℕ) (s s' : HostState) (there
                 live = ap (held_at was.station.endpoint) from.2.id ∙ was.live;
               }
             ] in
-            subst (λ hs. StandsAt hs who e') (sym hosts) done;
+            subst (λ hs. IsPresentAt hs who e') (sym hosts) done;
         hosts = λ j z at. elim (get_set old.hosts k j s' z (ap (λ hs. slice_get hs j) (sym hosts) ∙ at)) [
           | inl own ↦
               let was : IsHostInOrder old.ends k s = o.hosts k s there in
@@ -142,7 +142,7 @@ module _ (old new : World) (o : InOrder old) (k : ℕ) (s s' : HostState) (there
     | inl none ↦ none
     | inr some ↦
         let it : IsEndOf old.ends k id some.0 = (o.hosts k s there).names id some.0 some.1 in
-        let was : StandsAt old.hosts some.0 it.end' = o.ends some.0 it.end' it.at it.stands in
+        let was : IsPresentAt old.hosts some.0 it.end' = o.ends some.0 it.end' it.at it.stands in
         let same : was.station ≡ s = one_of_it (slice_get old.hosts it.end'.host) was.station s was.there (ap (slice_get old.hosts) it.host_is ∙ there) in
         let live : held_at s.endpoint id ≡ Some was.held = ap (held_at s.endpoint) (sym it.id_is) ∙ ap (λ (z : HostState). held_at z.endpoint it.end'.id) (sym same) ∙ was.live in
         absurd (cc (sym free ∙ live))
@@ -154,9 +154,9 @@ module _ (old new : World) (o : InOrder old) (k : ℕ) (s s' : HostState) (there
   there_now : slice_get (set old.hosts k s') k ≡ Some s'
   there_now = get_set_here old.hosts k s s' there
 
-  still_stands : (who : ℕ) (x : EndNow) → slice_get old.ends who ≡ Some x → x.released ≡ false → StandsAt (set old.hosts k s') who x
-  still_stands who x at stands =
-      let was : StandsAt old.hosts who x = o.ends who x at stands in
+  still_holds : (who : ℕ) (x : EndNow) → slice_get old.ends who ≡ Some x → x.released ≡ false → IsPresentAt (set old.hosts k s') who x
+  still_holds who x at stands =
+      let was : IsPresentAt old.hosts who x = o.ends who x at stands in
       elim (cases_eq x.host k) [
         | inl on ↦
             let same : was.station ≡ s = one_of_it (slice_get old.hosts x.host) was.station s was.there (ap (slice_get old.hosts) on ∙ there) in
@@ -171,8 +171,8 @@ module _ (old new : World) (o : InOrder old) (k : ℕ) (s s' : HostState) (there
         | inr other ↦ record { station = was.station; there = get_set_other old.hosts k x.host s' other ∙ was.there; known = was.known; held = was.held; live = was.live }
       ]
 
-  new_stands : StandsAt (set old.hosts k s') (length old.ends) e
-  new_stands = record {
+  new_holds : IsPresentAt (set old.hosts k s') (length old.ends) e
+  new_holds = record {
     station = s';
     there = ap (slice_get (set old.hosts k s')) on_host ∙ there_now;
     known = ap (end_at s'.here) has_id ∙ known_now;
@@ -208,9 +208,9 @@ module _ (old new : World) (o : InOrder old) (k : ℕ) (s s' : HostState) (there
 
   pub id_comes : InOrder new
   id_comes = record {
-    ends = λ who x at stands. subst (λ hs. StandsAt hs who x) (sym hosts) (elim (get_last old.ends e x who (ap (λ es. slice_get es who) (sym ends) ∙ at)) [
-      | inl before ↦ still_stands who x before stands
-      | inr last ↦ subst (λ j. StandsAt (set old.hosts k s') j x) (sym last.0) (subst (StandsAt (set old.hosts k s') (length old.ends)) last.1 new_stands)
+    ends = λ who x at stands. subst (λ hs. IsPresentAt hs who x) (sym hosts) (elim (get_last old.ends e x who (ap (λ es. slice_get es who) (sym ends) ∙ at)) [
+      | inl before ↦ still_holds who x before stands
+      | inr last ↦ subst (λ j. IsPresentAt (set old.hosts k s') j x) (sym last.0) (subst (IsPresentAt (set old.hosts k s') (length old.ends)) last.1 new_holds)
     ]);
     hosts = λ j z at. subst (λ es. IsHostInOrder es j z) (sym ends) (elim (get_set old.hosts k j s' z (ap (λ hs. slice_get hs j) (sym hosts) ∙ at)) [
       | inl own ↦ subst (λ x. IsHostInOrder (old.ends ++ e ∷ []) x z) own.0 (subst (IsHostInOrder (old.ends ++ e ∷ []) k) own.1 host_now)

@@ -14,9 +14,9 @@ use Rattle.spx_messages.specs.declared.fault.EndFault.{EndFault}
 use Rattle.spx_messages.specs.Taking.{TakenView, take_end}
 use Rattle.spx_theory.specs.World.{World, HostState, InOrder}
 use Rattle.spx_theory.specs.HostSteps.{Delivers, PollsHost, TakesOf, marked_over}
-use Rattle.spx_theory.proofs.Standing.{none_held}
+use Rattle.spx_theory.proofs.StillPresent.{none_held}
 use Rattle.spx_theory.proofs.Keeping.{SameIds, SameEnds, same_ends, set_ends, ids_kept, id_comes, cases_option}
-use Rattle.spx_theory.proofs.WorldTakes.{marked_host, marked_id, marked_stands}
+use Rattle.spx_theory.proofs.WorldTakes.{marked_host, marked_id, marked_holds}
 use Rattle.spx_messages.specs.declared.arrived.Arrived.TheVariants as Arriveds
 use Rattle.spx_messages.specs.Polls as Polled
 
@@ -105,4 +105,4 @@ takes_kept old new who answer o t =
     ids_kept old new o t.end'.host t.before t.after t.there t.hosts t.changes.self t.here
     (ids_changed t.before.endpoint t.after.endpoint t.end'.id t.held (take_end t.held).1 t.holds t.changes)
     (subst (SameEnds old.ends) (sym t.ends)
-    (set_ends old.ends who t.end' (marked_over answer t.end') t.at (record { host = marked_host answer t.end'; id = marked_id answer t.end'; released = marked_stands answer t.end' })))
+    (set_ends old.ends who t.end' (marked_over answer t.end') t.at (record { host = marked_host answer t.end'; id = marked_id answer t.end'; released = marked_holds answer t.end' })))

@@ -1,6 +1,6 @@
 -- The headline in terms of the entries of a log, from its index.
 use Rattle.std.proofs.Common.{◌≡◌, ◌<◌, ℕ, List, ◌∷◌, length, sym, ◌∙◌, ap, subst, inl, inr}
-use Rattle.spx_theory.specs.Allocation.{AloneReadsNothing, IsAllowed, WithinAllocation}
+use Rattle.spx_theory.specs.Allocation.{PeerlessReadsNothing, IsAllowed, WithinAllocation}
 use Rattle.spx_theory.specs.Below.{LawsBelow}
 use Rattle.spx_theory.specs.Deeds.{Reached}
 use Rattle.spx_theory.specs.Handed.{IsBeginning, handed_in, handed_out}
@@ -68,7 +68,7 @@ hands_on s law premises c d peers =
       | inr was ↦ (law premises d c was).1.prefix
     ]
 
-pub headline_of_log : (laws : LawsBelow) → ((s : Scene) → Reached s → PeersAreInStep s) → ((s : Scene) → Reached s → AloneReadsNothing s) → ((s : Scene) → Reached s → WithinAllocation s)
+pub headline_of_log : (laws : LawsBelow) → ((s : Scene) → Reached s → PeersAreInStep s) → ((s : Scene) → Reached s → PeerlessReadsNothing s) → ((s : Scene) → Reached s → WithinAllocation s)
     → (s : Scene) → Reached s → LogHeadline s.log
 headline_of_log laws steps alone within s reached =
     let all = (are_numbered laws reached).all in

@@ -216,18 +216,18 @@ own_maker log all origin k passed m =
     let p = parts log m.making m.stands in
     ap (λ (x : Mark). x.maker) m.mark ∙ ap (λ (x : Mark). x.maker) (made_mark log p.0 p.1 m.making origin all p.2 m.makes).1
 
-pub system_stands : (log : List Note) → AllNumbered unread log → (origin k passed e : ℕ) → ComesFrom log origin k passed → (mark_at (scan log).marks k).maker ≡ BySystem e → Contains log (SendsSystem e origin)
-system_stands log all origin k passed e comes by =
+pub system_holds : (log : List Note) → AllNumbered unread log → (origin k passed e : ℕ) → ComesFrom log origin k passed → (mark_at (scan log).marks k).maker ≡ BySystem e → Contains log (SendsSystem e origin)
+system_holds log all origin k passed e comes by =
     let m = comes_marked log all origin comes in
     subst (Contains log) (system_note m.making origin e m.makes (sym (own_maker log all origin k passed m) ∙ by)) m.stands
 
-pub injected_stands : (log : List Note) → AllNumbered unread log → (origin k passed : ℕ) → ComesFrom log origin k passed → (mark_at (scan log).marks k).maker ≡ FromOutside → Contains log (Injected origin)
-injected_stands log all origin k passed comes by =
+pub injected_holds : (log : List Note) → AllNumbered unread log → (origin k passed : ℕ) → ComesFrom log origin k passed → (mark_at (scan log).marks k).maker ≡ FromOutside → Contains log (Injected origin)
+injected_holds log all origin k passed comes by =
     let m = comes_marked log all origin comes in
     subst (Contains log) (outside_note m.making origin m.makes (sym (own_maker log all origin k passed m) ∙ by)) m.stands
 
-pub end_stands : (log : List Note) → AllNumbered unread log → (origin k passed e : ℕ) → ComesFrom log origin k passed → end_of (mark_at (scan log).marks k).maker ≡ Some e
+pub end_holds : (log : List Note) → AllNumbered unread log → (origin k passed e : ℕ) → ComesFrom log origin k passed → end_of (mark_at (scan log).marks k).maker ≡ Some e
     → (making : Note) × Contains log making × IsMadeBy making e origin
-end_stands log all origin k passed e comes by =
+end_holds log all origin k passed e comes by =
     let m = comes_marked log all origin comes in
     (m.making, m.stands, end_note m.making origin e m.makes (ap end_of (sym (own_maker log all origin k passed m)) ∙ by))

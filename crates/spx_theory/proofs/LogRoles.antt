@@ -23,7 +23,7 @@ use Rattle.spx_theory.proofs.Growing.{mark_in, marks_after}
 use Rattle.spx_theory.proofs.Held.{set_here}
 use Rattle.spx_theory.proofs.HeldReads.{notes_cases}
 use Rattle.spx_theory.proofs.Lists.{get_here, get_last, get_set}
-use Rattle.spx_theory.proofs.LogOrigins.{all_sourced, later, mark_later, mark_maker, numbered_in, parts, system_stands}
+use Rattle.spx_theory.proofs.LogOrigins.{all_sourced, later, mark_later, mark_maker, numbered_in, parts, system_holds}
 use Rattle.spx_theory.proofs.NextFacts.{FactsAt}
 use Rattle.spx_theory.proofs.Numbering.{AllNumbered, are_numbered}
 use Rattle.spx_theory.proofs.PairPremises.{all_grew, joins_later}
@@ -156,7 +156,7 @@ system_of : (log : List Note) → AllNumbered unread log → (parcel e : ℕ) (p
 system_of log all parcel e p within by is =
     let m : Mark = mark_at (scan log).marks parcel in
     let comes = all_sourced log all parcel within in
-    record { origin = m.origin; passed = m.passed; comes = comes; stands = system_stands log all m.origin parcel m.passed e comes (asks m.maker e (sym by ∙ is)) }
+    record { origin = m.origin; passed = m.passed; comes = comes; stands = system_holds log all m.origin parcel m.passed e comes (asks m.maker e (sym by ∙ is)) }
 
 pub joined_connected : (log : List Note) → AllNumbered unread log → (c d : ℕ) → AreJoined (scan log) c d → AreConnected log c d
 joined_connected log all c d j =

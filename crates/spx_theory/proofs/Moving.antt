@@ -10,7 +10,7 @@ use Rattle.spx_theory.specs.Scan.{Mark}
 use Rattle.spx_theory.specs.PairLog.{Half}
 use Rattle.spx_theory.specs.Tracks.{Formed, Follows}
 use Rattle.spx_theory.specs.Spelling.{Carries}
-use Rattle.spx_theory.specs.Scene.{Stand, linked}
+use Rattle.spx_theory.specs.Scene.{PresentEnd, linked}
 use Rattle.spx_theory.proofs.Lists.{get_before, get_set}
 use Rattle.spx_theory.proofs.Tied.{Letter, Tied}
 
@@ -54,7 +54,7 @@ letter_later c d parcels marks sent x y x' y' more later units bag k q letter =
     }
 
 -- the end c takes a step without a parcel, or its peer does
-pub record Moved (c d : ℕ) (ends : List Stand) (x y x' y' : Half) : Type 0 where
+pub record Moved (c d : ℕ) (ends : List PresentEnd) (x y x' y' : Half) : Type 0 where
   pub later : Later x.end y.end x'.end y'.end
   pub more : List Unit
   pub units : x'.end.units ≡ x.end.units ++ more
@@ -63,9 +63,9 @@ pub record Moved (c d : ℕ) (ends : List Stand) (x y x' y' : Half) : Type 0 whe
   pub sent : x'.end.sent ≡ x.end.sent
   pub buffers : x'.end.buffers ≡ x.end.buffers
   pub formed : (closed : Bool) × Formed x'.end.units closed
-  pub link : (e : Stand) (l : LinkView) → slice_get ends c ≡ Some e → e.link ≡ Some l → Follows l x'.end y'.end
+  pub link : (e : PresentEnd) (l : LinkView) → slice_get ends c ≡ Some e → e.link ≡ Some l → Follows l x'.end y'.end
 
-pub moves : (c d : ℕ) (ends ends' : List Stand) (parcels : List (List ℕ)) (marks : List Mark) (sent : List ℕ) (x y x' y' : Half)
+pub moves : (c d : ℕ) (ends ends' : List PresentEnd) (parcels : List (List ℕ)) (marks : List Mark) (sent : List ℕ) (x y x' y' : Half)
     → Moved c d ends' x y x' y' → Tied c d ends parcels marks sent x y → Tied c d ends' parcels marks sent x' y'
 moves c d ends ends' parcels marks sent x y x' y' m t =
     record {
@@ -79,14 +79,14 @@ moves c d ends ends' parcels marks sent x y x' y' m t =
     }
 
 -- an end other than the one that was replaced
-pub other_end : (ends : List Stand) (c d : ℕ) (w e : Stand) → c ≢ d → slice_get (set ends c w) d ≡ Some e → slice_get ends d ≡ Some e
+pub other_end : (ends : List PresentEnd) (c d : ℕ) (w e : PresentEnd) → c ≢ d → slice_get (set ends c w) d ≡ Some e → slice_get ends d ≡ Some e
 other_end ends c d w e differ at = elim (get_set ends c d w e at) [ inl same ↦ absurd (differ same.0) | inr other ↦ other.1 ]
 
-pub this_end : (ends : List Stand) (c : ℕ) (w e : Stand) → slice_get (set ends c w) c ≡ Some e → e ≡ w
+pub this_end : (ends : List PresentEnd) (c : ℕ) (w e : PresentEnd) → slice_get (set ends c w) c ≡ Some e → e ≡ w
 this_end ends c w e at = elim (get_set ends c c w e at) [ inl same ↦ sym same.1 | inr other ↦ absurd (other.0 refl) ]
 
-pub this_link : (ends : List Stand) (c : ℕ) (w : Stand) (k : LinkView) (e : Stand) (l : LinkView) → slice_get (set ends c (linked w k)) c ≡ Some e → e.link ≡ Some l → l ≡ k
+pub this_link : (ends : List PresentEnd) (c : ℕ) (w : PresentEnd) (k : LinkView) (e : PresentEnd) (l : LinkView) → slice_get (set ends c (linked w k)) c ≡ Some e → e.link ≡ Some l → l ≡ k
 this_link ends c w k e l at is =
     let same : e ≡ linked w k = this_end ends c (linked w k) e at in
-    let both : Some l ≡ Some k = sym is ∙ ap (λ (x : Stand). x.link) same in
+    let both : Some l ≡ Some k = sym is ∙ ap (λ (x : PresentEnd). x.link) same in
     cc both

@@ -19,7 +19,7 @@ use Rattle.spx_theory.specs.Note.{Note, Opened, Accepted, Joined, Got, HandsIn, 
 use Rattle.spx_theory.specs.Scan.{Scan, Mark, Maker, Role, seen, seen_all, scan, unread, mark_of, role_of, one_further, joined_by, asker, no_role, ByRouter, FromOutside}
 use Rattle.spx_theory.specs.Peers.{end_of}
 use Rattle.spx_theory.specs.Named.{PeersAreNamed}
-use Rattle.spx_theory.specs.Scene.{Scene, Stand, Stands, linked}
+use Rattle.spx_theory.specs.Scene.{Scene, PresentEnd, IsPresent, linked}
 use Rattle.spx_theory.specs.PacketsOnWay.{note_of, out_notes}
 use Rattle.spx_theory.specs.Deeds.{Deed, DoesDeed, DoesGive, DoesRead, Dials, Accepts, Reads, OwesReply, Paces, AsksAgain, Gives, Rests, Sends, Takes, Overruns, Closes, Releases, Carries, Tells, Injects, IsBegun, Reached, begun, happened}
 use Rattle.spx_theory.specs.Below.{LawsBelow}
@@ -40,35 +40,35 @@ SaysId ids m bytes =
     (p : PacketView) (h : SpxHeader) (body : List ℕ) (who : ℕ) → IsConnectionPacket p h body bytes → end_of m ≡ Some who → slice_get ids who ≡ Some h.from_id
 
 -- the id of each end, even if its link was released
-record Called (ids : List ℕ) (ends : List Stand) (parcels : List (List ℕ)) (marks : List Mark) (roles : List Role) : Type 0 where
-  own : (who : ℕ) (e : Stand) (l : LinkView) → slice_get ends who ≡ Some e → e.link ≡ Some l → slice_get ids who ≡ Some l.own
-  peer : (who : ℕ) (e : Stand) (l : LinkView) (r : Role) (d : ℕ) → slice_get ends who ≡ Some e → e.link ≡ Some l → slice_get roles who ≡ Some r → r.partner ≡ Some d
+record Called (ids : List ℕ) (ends : List PresentEnd) (parcels : List (List ℕ)) (marks : List Mark) (roles : List Role) : Type 0 where
+  own : (who : ℕ) (e : PresentEnd) (l : LinkView) → slice_get ends who ≡ Some e → e.link ≡ Some l → slice_get ids who ≡ Some l.own
+  peer : (who : ℕ) (e : PresentEnd) (l : LinkView) (r : Role) (d : ℕ) → slice_get ends who ≡ Some e → e.link ≡ Some l → slice_get roles who ≡ Some r → r.partner ≡ Some d
       → slice_get ids d ≡ Some l.peer
   says : (k : ℕ) (bytes : List ℕ) → slice_get parcels k ≡ Some bytes → SaysId ids (mark_at marks k).maker bytes
   count : length ids ≡ length ends
 
-abbrev CalledIn : List Stand → List (List ℕ) → Scan → Type 0
+abbrev CalledIn : List PresentEnd → List (List ℕ) → Scan → Type 0
 CalledIn ends parcels t = (ids : List ℕ) × Called ids ends parcels t.marks t.roles
 
 abbrev CalledAt : Scene → Type 0
 CalledAt s = CalledIn s.ends s.parcels (scan s.log)
 
-called_at : (ends : List Stand) (parcels : List (List ℕ)) (log ns : List Note) → CalledIn ends parcels (seen_all (scan log) ns) → CalledIn ends parcels (scan (log ++ ns))
+called_at : (ends : List PresentEnd) (parcels : List (List ℕ)) (log ns : List Note) → CalledIn ends parcels (seen_all (scan log) ns) → CalledIn ends parcels (scan (log ++ ns))
 called_at ends parcels log ns c = subst (CalledIn ends parcels) (sym (seen_all-append unread log ns)) c
 
-module _ (ends : List Stand) (parcels : List (List ℕ)) (t : Scan) (c : CalledIn ends parcels t) where
+module _ (ends : List PresentEnd) (parcels : List (List ℕ)) (t : Scan) (c : CalledIn ends parcels t) where
   -- the link of an end is replaced, or released
-  called_put : (who : ℕ) (e w : Stand) (l : LinkView) → slice_get ends who ≡ Some e → e.link ≡ Some l → ((k : LinkView) → w.link ≡ Some k → names k ≡ names l) → CalledIn (set ends who w) parcels t
+  called_put : (who : ℕ) (e w : PresentEnd) (l : LinkView) → slice_get ends who ≡ Some e → e.link ≡ Some l → ((k : LinkView) → w.link ≡ Some k → names k ≡ names l) → CalledIn (set ends who w) parcels t
   called_put who e w l there is same = (
     c.0,
     record {
       own = λ j x k at link. elim (get_set ends who j w x at) [
-        | inl here ↦ own_of j k here.0 (same k (ap (λ (y : Stand). y.link) here.1 ∙ link))
+        | inl here ↦ own_of j k here.0 (same k (ap (λ (y : PresentEnd). y.link) here.1 ∙ link))
         | inr other ↦ c.1.own j x k other.1 link
       ];
       peer = λ j x k r d at link role partner. elim (get_set ends who j w x at) [
         | inl here ↦
-            let named : names k ≡ names l = same k (ap (λ (y : Stand). y.link) here.1 ∙ link) in
+            let named : names k ≡ names l = same k (ap (λ (y : PresentEnd). y.link) here.1 ∙ link) in
             c.1.peer who e l r d there is (ap (slice_get t.roles) here.0 ∙ role) partner ∙ ap (λ (n : Names). Some n.peer) (sym named)
         | inr other ↦ c.1.peer j x k r d other.1 link role partner
       ];
@@ -99,7 +99,7 @@ module _ (ends : List Stand) (parcels : List (List ℕ)) (t : Scan) (c : CalledI
   )
 
   -- an end is added
-  called_new : (e : Stand) (l : LinkView) (r : Role) (t' : Scan) → length t.roles ≡ length ends → e.link ≡ Some l → t'.marks ≡ t.marks → t'.roles ≡ t.roles ++ r ∷ []
+  called_new : (e : PresentEnd) (l : LinkView) (r : Role) (t' : Scan) → length t.roles ≡ length ends → e.link ≡ Some l → t'.marks ≡ t.marks → t'.roles ≡ t.roles ++ r ∷ []
       → ((d : ℕ) → r.partner ≡ Some d → slice_get c.0 d ≡ Some l.peer) → CalledIn (ends ++ e ∷ []) parcels t'
   called_new e l r t' count is marks roles peer = (
     c.0 ++ l.own ∷ [],
@@ -107,7 +107,7 @@ module _ (ends : List Stand) (parcels : List (List ℕ)) (t : Scan) (c : CalledI
       own = λ j x k at link. elim (get_last ends e x j at) [
         | inl was ↦ get_before c.0 (l.own ∷ []) k.own j (c.1.own j x k was link)
         | inr new ↦
-            let same : l ≡ k = cc (sym is ∙ (ap (λ (y : Stand). y.link) new.1 ∙ link)) in
+            let same : l ≡ k = cc (sym is ∙ (ap (λ (y : PresentEnd). y.link) new.1 ∙ link)) in
             ap (slice_get (c.0 ++ l.own ∷ [])) (new.0 ∙ sym c.1.count) ∙ get_here c.0 l.own ∙ ap (λ (y : LinkView). Some y.own) same
       ];
       peer = λ j x k q d at link role partner.
@@ -120,7 +120,7 @@ module _ (ends : List Stand) (parcels : List (List ℕ)) (t : Scan) (c : CalledI
             | inr here ↦ elim (get_last t.roles r q j role') [
               | inl old ↦ absurd (omega (arith, here.0, count, slice_get_within t.roles j q old))
               | inr new ↦
-                  let same : l ≡ k = cc (sym is ∙ (ap (λ (y : Stand). y.link) here.1 ∙ link)) in
+                  let same : l ≡ k = cc (sym is ∙ (ap (λ (y : PresentEnd). y.link) here.1 ∙ link)) in
                   get_before c.0 (l.own ∷ []) k.peer d (peer d (ap (λ (y : Role). y.partner) new.1 ∙ partner) ∙ ap (λ (y : LinkView). Some y.peer) same)
             ]
           ];
@@ -130,14 +130,14 @@ module _ (ends : List Stand) (parcels : List (List ℕ)) (t : Scan) (c : CalledI
   )
 
   -- an end joins
-  called_joined : (who : ℕ) (e w : Stand) (l k : LinkView) (r : Role) (t' : Scan) → slice_get ends who ≡ Some e → e.link ≡ Some l → w.link ≡ Some k → k.own ≡ l.own → t'.marks ≡ t.marks → t'.roles ≡ set t.roles who r
+  called_joined : (who : ℕ) (e w : PresentEnd) (l k : LinkView) (r : Role) (t' : Scan) → slice_get ends who ≡ Some e → e.link ≡ Some l → w.link ≡ Some k → k.own ≡ l.own → t'.marks ≡ t.marks → t'.roles ≡ set t.roles who r
       → ((d : ℕ) → r.partner ≡ Some d → slice_get c.0 d ≡ Some k.peer) → CalledIn (set ends who w) parcels t'
   called_joined who e w l k r t' there is is' own marks roles peer = (
     c.0,
     record {
       own = λ j x m at link. elim (get_set ends who j w x at) [
         | inl here ↦
-            let same : k ≡ m = cc (sym is' ∙ (ap (λ (y : Stand). y.link) here.1 ∙ link)) in
+            let same : k ≡ m = cc (sym is' ∙ (ap (λ (y : PresentEnd). y.link) here.1 ∙ link)) in
             ap (slice_get c.0) (sym here.0) ∙ c.1.own who e l there is ∙ ap Some (sym own ∙ ap (λ (y : LinkView). y.own) same)
         | inr other ↦ c.1.own j x m other.1 link
       ];
@@ -146,7 +146,7 @@ module _ (ends : List Stand) (parcels : List (List ℕ)) (t : Scan) (c : CalledI
           elim (get_set ends who j w x at) [
             | inl here ↦ elim (get_set t.roles who j r q role') [
               | inl new ↦
-                  let same : k ≡ m = cc (sym is' ∙ (ap (λ (y : Stand). y.link) here.1 ∙ link)) in
+                  let same : k ≡ m = cc (sym is' ∙ (ap (λ (y : PresentEnd). y.link) here.1 ∙ link)) in
                   peer d (ap (λ (y : Role). y.partner) new.1 ∙ partner) ∙ ap (λ (y : LinkView). Some y.peer) same
               | inr old ↦ absurd (old.0 here.0)
             ]
@@ -161,11 +161,11 @@ module _ (ends : List Stand) (parcels : List (List ℕ)) (t : Scan) (c : CalledI
   )
 
 -- ---- each deed
-same_named : (e : Stand) (l m : LinkView) → names m ≡ names l → (k : LinkView) → (linked e m).link ≡ Some k → names k ≡ names l
+same_named : (e : PresentEnd) (l m : LinkView) → names m ≡ names l → (k : LinkView) → (linked e m).link ≡ Some k → names k ≡ names l
 same_named e l m named k is = let same : m ≡ k = cc is in ap names (sym same) ∙ named
 
 -- a link is replaced, and the entries change nothing in the index
-keeps : (s : Scene) (ns : List Note) (who : ℕ) (e w : Stand) (l : LinkView) → Stands s who e l → ((k : LinkView) → w.link ≡ Some k → names k ≡ names l)
+keeps : (s : Scene) (ns : List Note) (who : ℕ) (e w : PresentEnd) (l : LinkView) → IsPresent s who e l → ((k : LinkView) → w.link ≡ Some k → names k ≡ names l)
     → (seen_all (scan s.log) ns).marks ≡ (scan s.log).marks → (seen_all (scan s.log) ns).roles ≡ (scan s.log).roles → CalledAt s → CalledIn (set s.ends who w) s.parcels (scan (s.log ++ ns))
 keeps s ns who e w l stands same marks roles c =
     let t : Scan = scan s.log in
@@ -176,7 +176,7 @@ keeps s ns who e w l stands same marks roles c =
     )
 
 -- the role of a link that is opening, joined by a packet
-role_joins : (s : Scene) (f : FactsAt s) (maker : Maker) (who : ℕ) (e : Stand) (l : LinkView) → Stands s who e l → l.state ≡ Opening → (joined_by maker (role_of (scan s.log) who)).partner ≡ asker maker
+role_joins : (s : Scene) (f : FactsAt s) (maker : Maker) (who : ℕ) (e : PresentEnd) (l : LinkView) → IsPresent s who e l → l.state ≡ Opening → (joined_by maker (role_of (scan s.log) who)).partner ≡ asker maker
 role_joins s f maker who e l stands opens =
     let t : Scan = scan s.log in
     let role : Role = role_of t who in
@@ -188,7 +188,7 @@ reads : (laws : LawsBelow) (s s' : Scene) (who parcel : ℕ) → DoesRead who pa
 reads laws s s' who parcel does f c =
     let t : Scan = scan s.log in
     let k : LinkView = (receive_link does.link does.header does.body).1 in
-    let w : Stand = linked does.stand k in
+    let w : PresentEnd = linked does.stand k in
     let n = laws.names.reads does.link does.header does.body in
     let maker : Maker = (mark_of t parcel).maker in
     subst CalledAt (sym does.after)
@@ -211,7 +211,7 @@ gives : (laws : LawsBelow) (s s' : Scene) (who now : ℕ) (segment : Network) (b
 gives laws s s' who now segment bytes does f c =
     let t : Scan = scan s.log in
     let k : LinkView = (poll_link does.link now).1 in
-    let w : Stand = linked does.stand k in
+    let w : PresentEnd = linked does.stand k in
     let n = laws.names.polls does.link now in
     let note : Note = note_of does.given.what who (length s.parcels) in
     let g = given_scan t does.given.what who (length s.parcels) in
@@ -298,6 +298,6 @@ peers_are_named laws s reached c d j e f a b one two =
     let all : CalledAt s = called_along laws reached in
     record { peer = named all c d e f a b one two j.caller j.caller_is j.answered; peer_back = named all d c f e b a two one j.callee j.callee_is j.asked }
   where
-    named : CalledAt s → (c d : ℕ) (e f : Stand) (a b : LinkView) → Stands s c e a → Stands s d f b → (r : Role) → slice_get (scan s.log).roles c ≡ Some r → r.partner ≡ Some d → a.peer ≡ b.own
+    named : CalledAt s → (c d : ℕ) (e f : PresentEnd) (a b : LinkView) → IsPresent s c e a → IsPresent s d f b → (r : Role) → slice_get (scan s.log).roles c ≡ Some r → r.partner ≡ Some d → a.peer ≡ b.own
     named all c d e f a b one two r at partner =
         same_element all.0 d a.peer b.own (all.1.peer c e a r d one.there one.link at partner) (all.1.own d f b two.there two.link)

@@ -10,7 +10,7 @@ use Rattle.spx_messages.specs.Cut.{cut_of}
 use Rattle.spx_theory.specs.Note.{Note, Opened, Accepted, Joined, Got, HandsIn, AsksEnd, TakesUnit, Released, Told, Carried, Injected}
 use Rattle.spx_theory.specs.Scan.{Scan, Mark, seen, seen_all, scan, unread, mark_of, one_further, asker, ByUnit, BySystem, ByRouter, FromOutside}
 use Rattle.spx_theory.specs.Peers.{end_of}
-use Rattle.spx_theory.specs.Scene.{Scene, Stand, Stands, linked}
+use Rattle.spx_theory.specs.Scene.{Scene, PresentEnd, IsPresent, linked}
 use Rattle.spx_theory.specs.Deeds.{Deed, DoesDeed, Dials, Accepts, Reads, OwesReply, Paces, AsksAgain, Gives, Rests, Sends, Takes, Overruns, Closes, Releases, Carries, Tells, Injects}
 use Rattle.spx_theory.specs.PacketsOnWay.{note_of, out_notes}
 use Rattle.std.proofs.lemmas.Option.{slice_get_within}
@@ -24,11 +24,11 @@ use Rattle.spx_theory.specs.Below.{LawsBelow}
 abbrev pub FactsAt : Scene → Type 0
 FactsAt s = Facts s.ends s.parcels (scan s.log) s.log
 
-facts_at : (ends : List Stand) (parcels : List (List ℕ)) (log ns : List Note) → Facts ends parcels (seen_all (scan log) ns) (log ++ ns) → Facts ends parcels (scan (log ++ ns)) (log ++ ns)
+facts_at : (ends : List PresentEnd) (parcels : List (List ℕ)) (log ns : List Note) → Facts ends parcels (seen_all (scan log) ns) (log ++ ns) → Facts ends parcels (scan (log ++ ns)) (log ++ ns)
 facts_at ends parcels log ns f = subst (λ t. Facts ends parcels t (log ++ ns)) (sym (seen_all-append unread log ns)) f
 
 -- an end is replaced, without an entry
-facts_put : (ends : List Stand) (who : ℕ) (w : Stand) (parcels : List (List ℕ)) (s : Scan) (log : List Note) → OpeningsAreUnjoined (set ends who w) s.roles
+facts_put : (ends : List PresentEnd) (who : ℕ) (w : PresentEnd) (parcels : List (List ℕ)) (s : Scan) (log : List Note) → OpeningsAreUnjoined (set ends who w) s.roles
     → Facts ends parcels s log → Facts (set ends who w) parcels s log
 facts_put ends who w parcels s log opening f =
     record {
@@ -44,7 +44,7 @@ facts_put ends who w parcels s log opening f =
 abbrev pub NeverOpens : LinkView → LinkView → Type 0
 NeverOpens l k = k.state ≡ Opening → l.state ≡ Opening
 
-keeps_opening : (s : Scene) (who : ℕ) (e : Stand) (l k : LinkView) → FactsAt s → Stands s who e l → NeverOpens l k → OpeningsAreUnjoined (set s.ends who (linked e k)) (scan s.log).roles
+keeps_opening : (s : Scene) (who : ℕ) (e : PresentEnd) (l k : LinkView) → FactsAt s → IsPresent s who e l → NeverOpens l k → OpeningsAreUnjoined (set s.ends who (linked e k)) (scan s.log).roles
 keeps_opening s who e l k f stands opens =
     opening_set s.ends (scan s.log).roles who e (linked e k) stands.there
     (λ m is open'. let same : k ≡ m = cc is in (l, stands.link, opens (ap (λ (x : LinkView). x.state) same ∙ open'))) f.opening

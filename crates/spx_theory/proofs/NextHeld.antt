@@ -20,7 +20,7 @@ use Rattle.spx_theory.specs.PairLog.{Half, Pair, pair_after, pair_from, pair_bet
 use Rattle.spx_theory.specs.Tracks.{Formed, core, Follows, may_end}
 use Rattle.spx_theory.specs.Spelling.{PolledTo}
 use Rattle.spx_theory.specs.States.{is_quiet}
-use Rattle.spx_theory.specs.Scene.{Scene, Stand, linked}
+use Rattle.spx_theory.specs.Scene.{Scene, PresentEnd, linked}
 use Rattle.spx_theory.specs.PacketsOnWay.{note_of, notes_of, out_notes}
 use Rattle.spx_messages.specs.WrittenPackets.{Home, IsWrittenPacket}
 use Rattle.spx_theory.specs.Deeds.{Deed, DoesDeed, DoesOverrun, Dials, Accepts, Reads, OwesReply, Paces, AsksAgain, Gives, Rests, Sends, Takes, Overruns, Closes, Releases, Carries, Tells, Injects}
@@ -67,7 +67,7 @@ pieces_stream (suc more) stream bytes k u =
     many zero rest at = cc at
     many (suc j) rest at = rest j at
 
-left_linked : (e : Stand) (k : LinkView) → IsLeft (linked e k) k
+left_linked : (e : PresentEnd) (k : LinkView) → IsLeft (linked e k) k
 left_linked e k m is = cc is
 
 notes_sent : (s : Scan) (r : Received) (who k : ℕ) → (seen_all s (notes_of r who k)).sent ≡ s.sent
@@ -115,7 +115,7 @@ module _ (laws : LawsBelow) (c d a b : ℕ) (differ : c ≢ d) where
   line_of : (s : Scene) (x y : Half) → Whole c d s.ends s.parcels (scan s.log).marks (scan s.log).sent x y ⊎ Whole d c s.ends s.parcels (scan s.log).marks (scan s.log).sent x y → AreSound x.end y.end
   line_of s x y w = elim w [ inl v ↦ v.sound | inr v ↦ v.sound ]
 
-  rests_here : (s : Scene) (who now : ℕ) (e : Stand) (l : LinkView) → HoldsAt s → slice_get s.ends who ≡ Some e → e.link ≡ Some l → (poll_link l now).0 ≡ None
+  rests_here : (s : Scene) (who now : ℕ) (e : PresentEnd) (l : LinkView) → HoldsAt s → slice_get s.ends who ≡ Some e → e.link ≡ Some l → (poll_link l now).0 ≡ None
       → Held c d a b (set s.ends who (linked e (poll_link l now).1)) s.parcels (scan s.log) (pair_between c d a b s.parcels s.log)
   rests_here s who now e l h at is gives =
       let k : LinkView = (poll_link l now).1 in
@@ -168,7 +168,7 @@ module _ (laws : LawsBelow) (c d a b : ℕ) (differ : c ≢ d) where
       let r : Received = (receive_link does.link does.header does.body).0 in
       let then' : PairPremises c d a b (s.log ++ notes_of r who parcel) = subst (λ (z : Scene). PairPremises c d a b z.log) does.after after in
       let p : Pair = pair_between c d a b s.parcels s.log in
-      let w : Stand = linked does.stand (receive_link does.link does.header does.body).1 in
+      let w : PresentEnd = linked does.stand (receive_link does.link does.header does.body).1 in
       subst HoldsAt (sym does.after)
       (at_noted c d a b s (set s.ends who w) (notes_of r who parcel)
       (elim (cases_eq who c) [
@@ -228,7 +228,7 @@ module _ (laws : LawsBelow) (c d a b : ℕ) (differ : c ≢ d) where
       let k : LinkView = (take_link does.link).1 in
       let p : Pair = pair_between c d a b s.parcels s.log in
       let ns : List Note = TakesUnit who u ∷ out_notes who does.joins.messages in
-      let w : Stand = record (linked does.stand k) { rest = does.joins.rest } in
+      let w : PresentEnd = record (linked does.stand k) { rest = does.joins.rest } in
       subst HoldsAt (sym does.after)
       (at_noted c d a b s (set s.ends who w) ns
       (subst (λ t. Held c d a b (set s.ends who w) s.parcels t (pair_from s.parcels c d p ns)) (sym (outs_seen (scan s.log) who does.joins.messages))

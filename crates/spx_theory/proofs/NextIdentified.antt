@@ -19,7 +19,7 @@ use Rattle.ipx_wire.specs.Connection.{IsConnectionPacket}
 use Rattle.spx_theory.specs.Note.{Note, Opened, HandsIn, AsksEnd, TakesUnit, Released, Told, Carried, Injected}
 use Rattle.spx_theory.specs.Scan.{Scan, Mark, Maker, Role, seen, seen_all, scan, mark_of, one_further, BySystem, ByRouter, FromOutside}
 use Rattle.spx_theory.specs.Peers.{end_of, NothingInjected}
-use Rattle.spx_theory.specs.Scene.{Scene, Stand, Stands, linked}
+use Rattle.spx_theory.specs.Scene.{Scene, PresentEnd, IsPresent, linked}
 use Rattle.spx_messages.specs.WrittenPackets.{Home}
 use Rattle.spx_theory.specs.PacketsOnWay.{IsOneOn, one_on, note_of, out_notes}
 use Rattle.spx_theory.specs.Deeds.{Deed, DoesDeed, DoesDial, DoesGive, DoesCarry, DoesTell, Dials, Accepts, Reads, OwesReply, Paces, AsksAgain, Gives, Rests, Sends, Takes, Overruns, Closes, Releases, Carries, Tells, Injects}
@@ -112,7 +112,7 @@ module _ (laws : LawsBelow) (homes : List Home) (networks : HaveNetworks homes) 
   dials : (s s' : Scene) (host id : ℕ) (socket : Socket) (to : Address) (buffers now : ℕ) → s.homes ≡ homes → DoesDial host id socket to buffers now s s' → FactsAt s → IdentifiedAt homes s → IdentifiedAt homes s'
   dials s s' host id socket to buffers now same does facts f =
       let l : LinkView = dialed id socket to buffers now in
-      let e : Stand = record { host = host; own = id; link = Some l; rest = None; overlong = false } in
+      let e : PresentEnd = record { host = host; own = id; link = Some l; rest = None; overlong = false } in
       let role : Role = record { buffers = buffers; called = true; joined = false; partner = None } in
       let identity : IdentityIs homes f.identities (length s.ends) (record { host = host; names = names l; role = role }) = record {
         home = (does.there.0, ap (λ hs. slice_get hs host) (sym same) ∙ does.there.1);
@@ -126,12 +126,12 @@ module _ (laws : LawsBelow) (homes : List Home) (networks : HaveNetworks homes) 
       (identified_new homes s.ends s.parcels (scan s.log).marks (scan s.log).roles (scan s.log).readings f e l role facts.roles refl refl identity))
 
   -- ---- a link changes and keeps its names
-  keeps : (s : Scene) (who : ℕ) (e w : Stand) (l k : LinkView) → Stands s who e l → w.link ≡ Some k → w.host ≡ e.host → w.own ≡ e.own → names k ≡ names l → IdentifiedAt homes s → IdentifiedIn homes (set s.ends who w) s.parcels (scan s.log)
+  keeps : (s : Scene) (who : ℕ) (e w : PresentEnd) (l k : LinkView) → IsPresent s who e l → w.link ≡ Some k → w.host ≡ e.host → w.own ≡ e.own → names k ≡ names l → IdentifiedAt homes s → IdentifiedIn homes (set s.ends who w) s.parcels (scan s.log)
   keeps s who e w l k stands is host own same f =
       identified_put homes s.ends s.parcels (scan s.log).marks (scan s.log).roles (scan s.log).readings f who e w l k stands.there stands.link is host own same
 
   -- entries that change nothing in the index
-  noted_known : (ends : List Stand) (parcels : List (List ℕ)) (log ns : List Note) → (seen_all (scan log) ns).marks ≡ (scan log).marks → (seen_all (scan log) ns).roles ≡ (scan log).roles → (seen_all (scan log) ns).readings ≡ (scan log).readings
+  noted_known : (ends : List PresentEnd) (parcels : List (List ℕ)) (log ns : List Note) → (seen_all (scan log) ns).marks ≡ (scan log).marks → (seen_all (scan log) ns).roles ≡ (scan log).roles → (seen_all (scan log) ns).readings ≡ (scan log).readings
       → IdentifiedIn homes ends parcels (scan log) → IdentifiedIn homes ends parcels (scan (log ++ ns))
   noted_known ends parcels log ns marks roles readings f =
       identified_at homes ends parcels log ns
@@ -140,7 +140,7 @@ module _ (laws : LawsBelow) (homes : List Home) (networks : HaveNetworks homes) 
       (subst (λ rs. Identified homes ends parcels (scan log).marks (scan log).roles rs) (sym readings) f)))
 
   -- ---- a packet is added
-  sent_known : (ends : List Stand) (parcels : List (List ℕ)) (bytes : List ℕ) (log : List Note) (n : Note) (m : Mark) → length (scan log).marks ≡ length parcels
+  sent_known : (ends : List PresentEnd) (parcels : List (List ℕ)) (bytes : List ℕ) (log : List Note) (n : Note) (m : Mark) → length (scan log).marks ≡ length parcels
       → (seen (scan log) n).marks ≡ (scan log).marks ++ m ∷ [] → (seen (scan log) n).roles ≡ (scan log).roles → (seen (scan log) n).readings ≡ (scan log).readings
       → (f : IdentifiedIn homes ends parcels (scan log))
       → ((p : PacketView) (h : SpxHeader) (body : List ℕ) → IsConnectionPacket p h body bytes → IsFromOrOutside homes f.identities m.maker p h)

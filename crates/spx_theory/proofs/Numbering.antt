@@ -8,14 +8,14 @@ use Rattle.spx_link.specs.Receive.{receive_link}
 use Rattle.spx_messages.specs.Message.{MessageView}
 use Rattle.spx_theory.specs.Note.{Note, Opened, Accepted, Got, HandsIn, HandsOut, AsksEnd, TakesUnit, Released, Told, Carried, Injected}
 use Rattle.spx_theory.specs.Scan.{Scan, Role, seen, seen_all, scan, unread, mark_of, role_of, joined_by, asker}
-use Rattle.spx_theory.specs.Scene.{Scene, Stand}
+use Rattle.spx_theory.specs.Scene.{Scene, PresentEnd}
 use Rattle.spx_theory.specs.Deeds.{Deed, DoesDeed, Dials, Accepts, Reads, OwesReply, Paces, AsksAgain, Gives, Rests, Sends, Takes, Overruns, Closes, Releases, Carries, Tells, Injects, Reached, begun, happened}
 use Rattle.spx_theory.specs.PacketsOnWay.{note_of, notes_of, out_notes}
 use Rattle.spx_theory.specs.Numbered.{IsNumbered, NumbersAreInOrder}
 use Rattle.spx_theory.proofs.Folding.{seen_all-append}
 use Rattle.spx_theory.proofs.Held.{calmed, outs_seen}
 use Rattle.spx_theory.proofs.Carrying.{given_marked, read_marks}
-use Rattle.spx_theory.proofs.EndsTelling.{AreToldAt, are_told}
+use Rattle.spx_theory.proofs.EndStateLemmas.{AreToldAt, are_told}
 use Rattle.spx_link.specs.declared.outgoing.Sent.TheVariants as Sents
 use Rattle.spx_link.specs.declared.received.Received.TheVariants as Rs
 use Rattle.spx_theory.specs.Below.{LawsBelow}
@@ -75,7 +75,7 @@ given_numbered Sents.Ack s who k end parcel = (end, parcel)
 given_numbered Sents.Probe s who k end parcel = (end, parcel)
 
 -- an end that exists has a role
-has_role : (s : Scene) → AreToldAt s → (who : ℕ) (e : Stand) → slice_get s.ends who ≡ Some e → who < length (scan s.log).roles
+has_role : (s : Scene) → AreToldAt s → (who : ℕ) (e : PresentEnd) → slice_get s.ends who ≡ Some e → who < length (scan s.log).roles
 has_role s told who e at = omega (arith, told.count, slice_get_within s.ends who e at)
 
 -- the same parcels

@@ -12,7 +12,7 @@ use Rattle.spx_theory.specs.Note.{Carried}
 use Rattle.spx_theory.specs.Scan.{Scan, Mark, times, seen, one_further}
 use Rattle.spx_theory.specs.Peers.{end_of}
 use Rattle.spx_theory.specs.PairLog.{Half, half_after, not_mine, mail_of}
-use Rattle.spx_theory.specs.Scene.{Stand}
+use Rattle.spx_theory.specs.Scene.{PresentEnd}
 use Rattle.spx_theory.specs.PacketsOnWay.{IsOneOn}
 use Rattle.spx_theory.proofs.Lists.{times-append, read_there, get_last}
 use Rattle.spx_theory.proofs.Tied.{mark_at, Tied, Whole}
@@ -21,13 +21,13 @@ use Rattle.spx_theory.proofs.Adding.{adds, mark_here}
 use Rattle.spx_theory.specs.Below.{LawsBelow}
 
 -- the ends are others, except these two
-pub retied : (c d : ℕ) (ends ends' : List Stand) (parcels : List (List ℕ)) (marks : List Mark) (sent : List ℕ) (x y : Half)
-    → ((e : Stand) → slice_get ends' c ≡ Some e → slice_get ends c ≡ Some e) → Tied c d ends parcels marks sent x y → Tied c d ends' parcels marks sent x y
+pub retied : (c d : ℕ) (ends ends' : List PresentEnd) (parcels : List (List ℕ)) (marks : List Mark) (sent : List ℕ) (x y : Half)
+    → ((e : PresentEnd) → slice_get ends' c ≡ Some e → slice_get ends c ≡ Some e) → Tied c d ends parcels marks sent x y → Tied c d ends' parcels marks sent x y
 retied c d ends ends' parcels marks sent x y same t =
     record { link = λ e l at is. t.link e l (same e at) is; letters = t.letters; all = t.all; mail = t.mail; count = t.count; formed = t.formed; small = t.small }
 
-pub elsewhere : (c d : ℕ) (ends ends' : List Stand) (parcels : List (List ℕ)) (marks : List Mark) (sent : List ℕ) (x y : Half)
-    → ((e : Stand) → slice_get ends' c ≡ Some e → slice_get ends c ≡ Some e) → ((e : Stand) → slice_get ends' d ≡ Some e → slice_get ends d ≡ Some e)
+pub elsewhere : (c d : ℕ) (ends ends' : List PresentEnd) (parcels : List (List ℕ)) (marks : List Mark) (sent : List ℕ) (x y : Half)
+    → ((e : PresentEnd) → slice_get ends' c ≡ Some e → slice_get ends c ≡ Some e) → ((e : PresentEnd) → slice_get ends' d ≡ Some e → slice_get ends d ≡ Some e)
     → Whole c d ends parcels marks sent x y → Whole c d ends' parcels marks sent x y
 elsewhere c d ends ends' parcels marks sent x y one two w =
     record {
@@ -39,7 +39,7 @@ elsewhere c d ends ends' parcels marks sent x y one two w =
     }
 
 -- a parcel that neither of the two made
-pub foreign_half : (c d : ℕ) (ends : List Stand) (parcels : List (List ℕ)) (bytes : List ℕ) (marks : List Mark) (m : Mark) (sent more : List ℕ) (x y : Half)
+pub foreign_half : (c d : ℕ) (ends : List PresentEnd) (parcels : List (List ℕ)) (bytes : List ℕ) (marks : List Mark) (m : Mark) (sent more : List ℕ) (x y : Half)
     → length marks ≡ length parcels → end_of m.maker ≢ Some c → times c more ≡ 0 → Tied c d ends parcels marks sent x y
     → Tied c d ends (parcels ++ bytes ∷ []) (marks ++ m ∷ []) (sent ++ more) (not_mine x) (not_mine y)
 foreign_half c d ends parcels bytes marks m sent more x y same other none t =
@@ -57,7 +57,7 @@ foreign_half c d ends parcels bytes marks m sent more x y same other none t =
       link = t.link;
     }) t
 
-pub foreign_whole : (c d : ℕ) (ends : List Stand) (parcels : List (List ℕ)) (bytes : List ℕ) (marks : List Mark) (m : Mark) (sent more : List ℕ) (x y : Half)
+pub foreign_whole : (c d : ℕ) (ends : List PresentEnd) (parcels : List (List ℕ)) (bytes : List ℕ) (marks : List Mark) (m : Mark) (sent more : List ℕ) (x y : Half)
     → end_of m.maker ≢ Some c → end_of m.maker ≢ Some d → times c more ≡ 0 → times d more ≡ 0 → Whole c d ends parcels marks sent x y
     → Whole c d ends (parcels ++ bytes ∷ []) (marks ++ m ∷ []) (sent ++ more) (not_mine x) (not_mine y)
 foreign_whole c d ends parcels bytes marks m sent more x y not_c not_d none none' w =
@@ -84,7 +84,7 @@ mail_there x k q is = elim (cases_lt k (length x.mail)) [
 abbrev pub copied : Half → ℕ → Half
 copied x from = record x { mail = x.mail ++ mail_of x from ∷ [] }
 
-pub carried_half : (laws : LawsBelow) (c d : ℕ) (ends : List Stand) (parcels : List (List ℕ)) (marks : List Mark) (sent : List ℕ) (x y : Half)
+pub carried_half : (laws : LawsBelow) (c d : ℕ) (ends : List PresentEnd) (parcels : List (List ℕ)) (marks : List Mark) (sent : List ℕ) (x y : Half)
     (from : ℕ) (network : Network) (old bytes : List ℕ) → length marks ≡ length parcels → slice_get parcels from ≡ Some old → IsOneOn network old bytes
     → Tied c d ends parcels marks sent x y
     → Tied c d ends (parcels ++ bytes ∷ []) (marks ++ one_further (mark_at marks from) ∷ []) (sent ++ []) (copied x from) (copied y from)
@@ -125,7 +125,7 @@ carried_half laws c d ends parcels marks sent x y from network old bytes same co
       link = t.link;
     }) t
 
-pub carried_whole : (laws : LawsBelow) (c d : ℕ) (ends : List Stand) (parcels : List (List ℕ)) (s : Scan) (x y : Half)
+pub carried_whole : (laws : LawsBelow) (c d : ℕ) (ends : List PresentEnd) (parcels : List (List ℕ)) (s : Scan) (x y : Half)
     (from : ℕ) (network : Network) (old bytes : List ℕ) → slice_get parcels from ≡ Some old → IsOneOn network old bytes
     → Whole c d ends parcels s.marks s.sent x y
     → Whole c d ends (parcels ++ bytes ∷ []) (seen s (Carried from (length parcels))).marks (seen s (Carried from (length parcels))).sent

@@ -12,7 +12,7 @@ use Rattle.spx_theory.specs.Addresses.{AddressesDiffer, IdsDiffer, NothingReleas
 use Rattle.spx_theory.specs.Below.{LawsBelow}
 use Rattle.spx_theory.specs.Deeds.{Deed, DoesDeed, Dials, Accepts, Reads, OwesReply, Paces, AsksAgain, Gives, Rests, Sends, Takes, Overruns, Closes, Releases, Carries, Tells, Injects, Reached, begun, happened}
 use Rattle.spx_theory.specs.Note.{Released}
-use Rattle.spx_theory.specs.Scene.{IsFreeId, Scene, Stand, Stands}
+use Rattle.spx_theory.specs.Scene.{IsFreeId, Scene, PresentEnd, IsPresent}
 use Rattle.spx_theory.proofs.Along.{LogGrows, log_grows}
 use Rattle.spx_theory.proofs.EntriesOfEnds.{entries_tell_ends}
 use Rattle.spx_theory.proofs.Fields.{ends_of}
@@ -20,19 +20,19 @@ use Rattle.spx_theory.proofs.HeldReads.{notes_cases}
 use Rattle.spx_theory.proofs.Lists.{get_last, get_set}
 
 -- ---- the id of a link is that of its end
-abbrev OwnIn : List Stand → Type 0
-OwnIn ends = (k : ℕ) (e : Stand) (l : LinkView) → slice_get ends k ≡ Some e → e.link ≡ Some l → l.own ≡ e.own
+abbrev OwnIn : List PresentEnd → Type 0
+OwnIn ends = (k : ℕ) (e : PresentEnd) (l : LinkView) → slice_get ends k ≡ Some e → e.link ≡ Some l → l.own ≡ e.own
 
-put_own : (ends : List Stand) (who : ℕ) (w : Stand) → OwnIn ends → ((l : LinkView) → w.link ≡ Some l → l.own ≡ w.own) → OwnIn (set ends who w)
+put_own : (ends : List PresentEnd) (who : ℕ) (w : PresentEnd) → OwnIn ends → ((l : LinkView) → w.link ≡ Some l → l.own ≡ w.own) → OwnIn (set ends who w)
 put_own ends who w was new k e l at is = elim (get_set ends who k w e at) [
-  | inl here ↦ new l (ap (λ (x : Stand). x.link) here.1 ∙ is) ∙ ap (λ (x : Stand). x.own) here.1
+  | inl here ↦ new l (ap (λ (x : PresentEnd). x.link) here.1 ∙ is) ∙ ap (λ (x : PresentEnd). x.own) here.1
   | inr other ↦ was k e l other.1 is
 ]
 
-more_own : (ends : List Stand) (w : Stand) → OwnIn ends → ((l : LinkView) → w.link ≡ Some l → l.own ≡ w.own) → OwnIn (ends ++ w ∷ [])
+more_own : (ends : List PresentEnd) (w : PresentEnd) → OwnIn ends → ((l : LinkView) → w.link ≡ Some l → l.own ≡ w.own) → OwnIn (ends ++ w ∷ [])
 more_own ends w was new k e l at is = elim (get_last ends w e k at) [
   | inl before ↦ was k e l before is
-  | inr last ↦ new l (ap (λ (x : Stand). x.link) last.1 ∙ is) ∙ ap (λ (x : Stand). x.own) last.1
+  | inr last ↦ new l (ap (λ (x : PresentEnd). x.link) last.1 ∙ is) ∙ ap (λ (x : PresentEnd). x.own) last.1
 ]
 
 -- a link is this one, of such an id
@@ -40,7 +40,7 @@ is_this : (k l : LinkView) (own : ℕ) → Some k ≡ Some l → k.own ≡ own �
 is_this k l own same is = let one : k ≡ l = cc same in ap (λ (x : LinkView). x.own) (sym one) ∙ is
 
 -- a link of an end is replaced by one with the same names
-renewed : (s : Scene) (who : ℕ) (e w : Stand) (l k : LinkView) → OwnIn s.ends → Stands s who e l → w.link ≡ Some k → w.own ≡ e.own → names k ≡ names l → OwnIn (set s.ends who w)
+renewed : (s : Scene) (who : ℕ) (e w : PresentEnd) (l k : LinkView) → OwnIn s.ends → IsPresent s who e l → w.link ≡ Some k → w.own ≡ e.own → names k ≡ names l → OwnIn (set s.ends who w)
 renewed s who e w l k was stands is own same = put_own s.ends who w was (λ m is'.
     is_this k m w.own (sym is ∙ is') (ap (λ (n : Names). n.own) same ∙ was who e l stands.there stands.link ∙ sym own))
 
@@ -76,37 +76,37 @@ own_along laws {s} (begun is) = subst OwnIn (sym is.ends) (λ k e l at. absurd (
 own_along laws {s} (happened old deed reached does) = own_next laws old s deed does (own_along laws reached)
 
 -- ---- an end after a deed was there before, or is a new one with a free id
-pub record WasThere (s : Scene) (k : ℕ) (f : Stand) : Type 0 where
-  pub stand : Stand
+pub record WasThere (s : Scene) (k : ℕ) (f : PresentEnd) : Type 0 where
+  pub stand : PresentEnd
   pub there : slice_get s.ends k ≡ Some stand
   pub host : f.host ≡ stand.host
   pub own : f.own ≡ stand.own
 
-pub record IsNew (s : Scene) (k : ℕ) (f : Stand) : Type 0 where
+pub record IsNew (s : Scene) (k : ℕ) (f : PresentEnd) : Type 0 where
   pub place : k ≡ length s.ends
   pub free : IsFreeId s f.host f.own
 
-abbrev ComeFrom : Scene → List Stand → Type 0
-ComeFrom s ends = (k : ℕ) (f : Stand) → slice_get ends k ≡ Some f → WasThere s k f ⊎ IsNew s k f
+abbrev ComeFrom : Scene → List PresentEnd → Type 0
+ComeFrom s ends = (k : ℕ) (f : PresentEnd) → slice_get ends k ≡ Some f → WasThere s k f ⊎ IsNew s k f
 
 come_same : (s : Scene) → ComeFrom s s.ends
 come_same s k f at = inl (record { stand = f; there = at; host = refl; own = refl })
 
-come_set : (s : Scene) (who : ℕ) (e w : Stand) (l : LinkView) → Stands s who e l → w.host ≡ e.host → w.own ≡ e.own → ComeFrom s (set s.ends who w)
+come_set : (s : Scene) (who : ℕ) (e w : PresentEnd) (l : LinkView) → IsPresent s who e l → w.host ≡ e.host → w.own ≡ e.own → ComeFrom s (set s.ends who w)
 come_set s who e w l stands host own k f at = elim (get_set s.ends who k w f at) [
   | inl here ↦ inl (record {
     stand = e;
     there = ap (slice_get s.ends) (sym here.0) ∙ stands.there;
-    host = ap (λ (x : Stand). x.host) (sym here.1) ∙ host;
-    own = ap (λ (x : Stand). x.own) (sym here.1) ∙ own;
+    host = ap (λ (x : PresentEnd). x.host) (sym here.1) ∙ host;
+    own = ap (λ (x : PresentEnd). x.own) (sym here.1) ∙ own;
   })
   | inr other ↦ inl (record { stand = f; there = other.1; host = refl; own = refl })
 ]
 
-come_new : (s : Scene) (w : Stand) → IsFreeId s w.host w.own → ComeFrom s (s.ends ++ w ∷ [])
+come_new : (s : Scene) (w : PresentEnd) → IsFreeId s w.host w.own → ComeFrom s (s.ends ++ w ∷ [])
 come_new s w free k f at = elim (get_last s.ends w f k at) [
   | inl before ↦ inl (record { stand = f; there = before; host = refl; own = refl })
-  | inr last ↦ inr (record { place = last.0; free = subst (λ (x : Stand). IsFreeId s x.host x.own) last.1 free })
+  | inr last ↦ inr (record { place = last.0; free = subst (λ (x : PresentEnd). IsFreeId s x.host x.own) last.1 free })
 ]
 
 come_from : (s s' : Scene) (deed : Deed) → DoesDeed deed s s' → ComeFrom s s'.ends
@@ -131,20 +131,20 @@ come_from s s' (Injects segment bytes) does = subst (ComeFrom s) (sym (ap ends_o
 
 -- no two ends of one host have one id
 abbrev OneAtHost : Scene → Type 0
-OneAtHost s = (j k : ℕ) (e f : Stand) → slice_get s.ends j ≡ Some e → slice_get s.ends k ≡ Some f → e.host ≡ f.host → e.own ≡ f.own → j ≡ k
+OneAtHost s = (j k : ℕ) (e f : PresentEnd) → slice_get s.ends j ≡ Some e → slice_get s.ends k ≡ Some f → e.host ≡ f.host → e.own ≡ f.own → j ≡ k
 
 has_link : (o : Option LinkView) → o ≢ None → (l : LinkView) × (o ≡ Some l)
 has_link None none = absurd (none refl)
 has_link (Some l) none = (l, refl)
 
 -- an old end and a new one have different ids
-apart : (laws : LawsBelow) (s : Scene) → Reached s → NothingReleased s.log → (j k : ℕ) (e f : Stand) → WasThere s j e → IsNew s k f → e.host ≡ f.host → e.own ≡ f.own → ⊥
+apart : (laws : LawsBelow) (s : Scene) → Reached s → NothingReleased s.log → (j k : ℕ) (e f : PresentEnd) → WasThere s j e → IsNew s k f → e.host ≡ f.host → e.own ≡ f.own → ⊥
 apart laws s reached stay j k e f was new host own =
     let linked : (l : LinkView) × (was.stand.link ≡ Some l) =
     has_link was.stand.link (λ gone. stay j (((entries_tell_ends laws s reached).released j was.stand was.there).0 gone)) in
     new.free j was.stand linked.0 (record { there = was.there; link = linked.1 }) (sym was.host ∙ host) (own_along laws reached j was.stand linked.0 was.there linked.1 ∙ sym was.own ∙ own)
 
-no_end : (j : ℕ) (e : Stand) → slice_get [] j ≡ Some e → ⊥
+no_end : (j : ℕ) (e : PresentEnd) → slice_get [] j ≡ Some e → ⊥
 no_end j e at = cc
 
 one_at_host : (laws : LawsBelow) {s : Scene} → Reached s → NothingReleased s.log → OneAtHost s

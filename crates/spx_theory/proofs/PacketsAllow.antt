@@ -18,7 +18,7 @@ use Rattle.ipx_wire.specs.Connection.{IsConnectionPacket}
 use Rattle.spx_theory.specs.Note.{Note, Opened, Accepted, HandsIn, TakesUnit, AsksEnd, Got, Released, Told, Carried, Injected}
 use Rattle.spx_theory.specs.Scan.{Scan, Mark, Role, FromOutside, seen, seen_all, scan, unread, mark_of, role_of, no_role, one_further}
 use Rattle.spx_theory.specs.Handed.{taken_by, taken_of, handed_out}
-use Rattle.spx_theory.specs.Scene.{Scene, Stand, Stands, linked}
+use Rattle.spx_theory.specs.Scene.{Scene, PresentEnd, IsPresent, linked}
 use Rattle.spx_theory.specs.Deeds.{Deed, DoesDeed, DoesGive, Dials, Accepts, Reads, OwesReply, Paces, AsksAgain, Gives, Rests, Sends, Takes, Overruns, Closes, Releases, Carries, Tells, Injects, IsBegun, Reached, begun, happened}
 use Rattle.spx_theory.specs.PacketsOnWay.{note_of, notes_of, out_notes}
 use Rattle.spx_theory.specs.LogPremises.{IsMadeBy}
@@ -123,14 +123,14 @@ pub record Sender (log : List Note) (m : Mark) (h : SpxHeader) : Type 0 where
 abbrev pub ComesFrom : List Note → Mark → SpxHeader → Type 0
 ComesFrom log m h = (m.maker ≡ FromOutside) ⊎ Sender log m h
 
-abbrev pub LinkSides : List Stand → List Note → Type 0
-LinkSides ends log = (e : ℕ) (w : Stand) (l : LinkView) → slice_get ends e ≡ Some w → w.link ≡ Some l → LinkSide e l log
+abbrev pub LinkSides : List PresentEnd → List Note → Type 0
+LinkSides ends log = (e : ℕ) (w : PresentEnd) (l : LinkView) → slice_get ends e ≡ Some w → w.link ≡ Some l → LinkSide e l log
 
 abbrev pub ParcelSides : List (List ℕ) → List Mark → List Note → Type 0
 ParcelSides parcels marks log =
     (k : ℕ) (bytes : List ℕ) (p : PacketView) (h : SpxHeader) (body : List ℕ) → slice_get parcels k ≡ Some bytes → IsConnectionPacket p h body bytes → ComesFrom log (mark_at marks k) h
 
-pub record Sides (ends : List Stand) (parcels : List (List ℕ)) (log : List Note) : Type 0 where
+pub record Sides (ends : List PresentEnd) (parcels : List (List ℕ)) (log : List Note) : Type 0 where
   pub links : LinkSides ends log
   pub unmade : (e : ℕ) → length ends ≤ e → length (taken_of e log) ≡ 0
   pub parcels_say : ParcelSides parcels (scan log).marks log
@@ -187,7 +187,7 @@ say_more parcels bytes log ns m count marks here say k bs p h body at reads =
     ])
 
 module _ (s : Scene) (f : FactsAt s) (t : SidesAt s) where
-  there : (e : ℕ) (w : Stand) → slice_get s.ends e ≡ Some w → e < length (scan s.log).roles
+  there : (e : ℕ) (w : PresentEnd) → slice_get s.ends e ≡ Some w → e < length (scan s.log).roles
   there e w at = omega (arith, slice_get_within s.ends e w at, f.roles)
 
   -- the ends are unchanged
@@ -195,18 +195,18 @@ module _ (s : Scene) (f : FactsAt s) (t : SidesAt s) where
   links_same ns none e w l at is = side_more e l s.log ns (there e w at) (none e) (t.links e w l at is)
 
   -- one end is replaced
-  links_set : (ns : List Note) (who : ℕ) (v : Stand) → ((e : ℕ) → e ≢ who → taken_of e ns ≡ []) → ((l : LinkView) → v.link ≡ Some l → LinkSide who l (s.log ++ ns)) → LinkSides (set s.ends who v) (s.log ++ ns)
+  links_set : (ns : List Note) (who : ℕ) (v : PresentEnd) → ((e : ℕ) → e ≢ who → taken_of e ns ≡ []) → ((l : LinkView) → v.link ≡ Some l → LinkSide who l (s.log ++ ns)) → LinkSides (set s.ends who v) (s.log ++ ns)
   links_set ns who v none new =
       links_put (λ e l. LinkSide e l s.log) (λ e l. LinkSide e l (s.log ++ ns)) s.ends v t.links who
       (λ e w l at ne side. side_more e l s.log ns (there e w at) (none e ne) side) new
 
-  unmade_still : (ends : List Stand) (ns : List Note) → length s.ends ≤ length ends → ((e : ℕ) → length s.ends ≤ e → taken_of e ns ≡ []) → (e : ℕ) → length ends ≤ e → length (taken_of e (s.log ++ ns)) ≡ 0
+  unmade_still : (ends : List PresentEnd) (ns : List Note) → length s.ends ≤ length ends → ((e : ℕ) → length s.ends ≤ e → taken_of e ns ≡ []) → (e : ℕ) → length ends ≤ e → length (taken_of e (s.log ++ ns)) ≡ 0
   unmade_still ends ns le none e past =
       let before : length s.ends ≤ e = omega (arith, le, past) in
       omega (arith, taken_then e s.log ns, t.unmade e before, ap length (none e before))
 
   -- an end is replaced, and no parcel is made
-  writes : (ns : List Note) (who : ℕ) (w v : Stand) → slice_get s.ends who ≡ Some w → ((e : ℕ) → e ≢ who → taken_of e ns ≡ []) → (seen_all (scan s.log) ns).marks ≡ (scan s.log).marks
+  writes : (ns : List Note) (who : ℕ) (w v : PresentEnd) → slice_get s.ends who ≡ Some w → ((e : ℕ) → e ≢ who → taken_of e ns ≡ []) → (seen_all (scan s.log) ns).marks ≡ (scan s.log).marks
       → ((l : LinkView) → v.link ≡ Some l → LinkSide who l (s.log ++ ns)) → Sides (set s.ends who v) s.parcels (s.log ++ ns)
   writes ns who w v at none marks new =
       record {
@@ -216,7 +216,7 @@ module _ (s : Scene) (f : FactsAt s) (t : SidesAt s) where
       }
 
   -- a link changes in parts that do not matter here
-  side_same : (ns : List Note) (who : ℕ) (w : Stand) (l k : LinkView) → Stands s who w l → taken_of who ns ≡ [] → SameReceived l k → (k.state ≢ S.Lost → l.state ≢ S.Lost) → (m : LinkView) → (linked w k).link ≡ Some m → LinkSide who m (s.log ++ ns)
+  side_same : (ns : List Note) (who : ℕ) (w : PresentEnd) (l k : LinkView) → IsPresent s who w l → taken_of who ns ≡ [] → SameReceived l k → (k.state ≢ S.Lost → l.state ≢ S.Lost) → (m : LinkView) → (linked w k).link ≡ Some m → LinkSide who m (s.log ++ ns)
   side_same ns who w l k stands none same open' m is =
       let old = side_more who l s.log ns (there who w stands.there) none (t.links who w l stands.there stands.link) in
       let new : k ≡ m = cc is in
@@ -224,7 +224,7 @@ module _ (s : Scene) (f : FactsAt s) (t : SidesAt s) where
       (record { taken = old.taken; kept = same_kept old.taken l k same old.kept; is = λ o. old.is (open' o); buffers = same.buffers ∙ old.buffers })
 
   -- an end is added
-  comes : (ns : List Note) (v : Stand) (l : LinkView) (r : Role) → v.link ≡ Some l → ((e : ℕ) → taken_of e ns ≡ []) → (seen_all (scan s.log) ns).marks ≡ (scan s.log).marks
+  comes : (ns : List Note) (v : PresentEnd) (l : LinkView) (r : Role) → v.link ≡ Some l → ((e : ℕ) → taken_of e ns ≡ []) → (seen_all (scan s.log) ns).marks ≡ (scan s.log).marks
       → (seen_all (scan s.log) ns).roles ≡ (scan s.log).roles ++ r ∷ [] → l.buffers ≡ r.buffers → l.expected ≡ 0 → l.held ≡ [] → l.ahead ≡ [] → Sides (s.ends ++ v ∷ []) s.parcels (s.log ++ ns)
   comes ns v l r link none marks roles buffers expected held ahead =
       let role : role_of (scan (s.log ++ ns)) (length s.ends) ≡ r =
@@ -294,7 +294,7 @@ module _ (s : Scene) (f : FactsAt s) (t : SidesAt s) where
       }
 
 -- there is no entry, and one end's link changes in parts that do not matter here
-silent_sides : (s s' : Scene) (who : ℕ) (w : Stand) (l k : LinkView) → FactsAt s → SidesAt s → Stands s who w l → s'.ends ≡ set s.ends who (linked w k) → s'.parcels ≡ s.parcels → s'.log ≡ s.log
+silent_sides : (s s' : Scene) (who : ℕ) (w : PresentEnd) (l k : LinkView) → FactsAt s → SidesAt s → IsPresent s who w l → s'.ends ≡ set s.ends who (linked w k) → s'.parcels ≡ s.parcels → s'.log ≡ s.log
     → SameReceived l k → (k.state ≢ S.Lost → l.state ≢ S.Lost) → SidesAt s'
 silent_sides s s' who w l k f t stands ends parcels log same open' =
     at_scene Sides s' _ _ (s.log ++ []) ends parcels (log ∙ sym (append-nil s.log))

@@ -4,7 +4,7 @@ use Rattle.std.specs.Prelude.{slice_get}
 use Rattle.std.proofs.lemmas.Bool.{cond-true, and_parts}
 use Rattle.spx_theory.specs.Scan.{Scan, Role, is_now}
 use Rattle.spx_theory.specs.Peers.{ArePeersIn}
-use Rattle.spx_theory.specs.EndsTold.{is_other, peer_back, peer_with, peer_by, peer_in, PeerIsFound}
+use Rattle.spx_theory.specs.EndsSummarized.{is_other, peer_back, peer_with, peer_by, peer_in, PeerIsFound}
 use Rattle.spx_theory.proofs.Speaking.{eqb_same}
 
 found : (s : Scan) (c d : ℕ) (r q : Role) → slice_get s.roles c ≡ Some r → slice_get s.roles d ≡ Some q → r.partner ≡ Some d → q.partner ≡ Some c → is_other r.called q.called ≡ true → peer_in s c ≡ Some d

@@ -35,11 +35,11 @@ slice_get-drop (suc n) k (x ∷ xs) =
     let e : suc n + k ≡ suc (n + k) = omega arith in
     slice_get-drop n k xs ∙ ap (slice_get (x ∷ xs)) (sym e)
 
-pub record Stand' (l : LinkView) (c d : End) : Type 0 where
+pub record PresentEnd' (l : LinkView) (c d : End) : Type 0 where
   pub tracks : Tracks (core l) c d
   pub line : AreSound c d
 
-says_plain : (l m : LinkView) (c d : End) (what : Sent) (wants : Bool) (stream id : ℕ) → Stand' l c d → core m ≡ core l → (stream ≡ 254 → ⊥)
+says_plain : (l m : LinkView) (c d : End) (what : Sent) (wants : Bool) (stream id : ℕ) → PresentEnd' l c d → core m ≡ core l → (stream ≡ 254 → ⊥)
     → Says (core m) (plain l what wants stream id) None c d
 says_plain l m c d what wants stream id s same ne =
     let low : (stream == 254) ≡ false = ne_eqb stream 254 ne in
@@ -49,10 +49,10 @@ says_plain l m c d what wants stream id s same ne =
       carries = ap (λ b. (true && not b) || (stream == 255)) low;
     }
 
-none_speaks : (l : LinkView) (c d : End) → Stand' l c d → Speaking l (None, l) c d
+none_speaks : (l : LinkView) (c d : End) → PresentEnd' l c d → Speaking l (None, l) c d
 none_speaks l c d s = record { to = s.tracks; queued = refl; state = inl refl }
 
-lost_speaks : (l : LinkView) (c d : End) → Stand' l c d → Speaking l (None, lost l) c d
+lost_speaks : (l : LinkView) (c d : End) → PresentEnd' l c d → Speaking l (None, lost l) c d
 lost_speaks l c d s = record { to = s.tracks; queued = refl; state = inr refl }
 
 pub last_as : (u : Unit) (e : Bool) → is_end u ≡ e → (u.stream ≡ 254 → u ≡ the_end) → (u.last && not e) ≡ u.last
@@ -87,7 +87,7 @@ unit_at l c d k q t is =
 pub stamped : (l : LinkView) (k at count : ℕ) (q : Queued) → slice_get l.queue k ≡ Some q → map unit_of (set l.queue k (record { unit = q.unit; at = at; count = count })) ≡ map unit_of l.queue
 stamped l k at count q is = map-set_same unit_of l.queue k (record { unit = q.unit; at = at; count = count }) q (ap unit_of (sym (get_or_from_slice_get l.queue k q q is)))
 
-again_speaks : (l : LinkView) (now k : ℕ) (o : Option Queued) (c d : End) → Stand' l c d → k < l.out → slice_get l.queue k ≡ o → Speaking l (sends_again_or_lost l now k o) c d
+again_speaks : (l : LinkView) (now k : ℕ) (o : Option Queued) (c d : End) → PresentEnd' l c d → k < l.out → slice_get l.queue k ≡ o → Speaking l (sends_again_or_lost l now k o) c d
 again_speaks l now k None c d s below is = none_speaks l c d s
 again_speaks l now k (Some q) c d s below is =
     let m : LinkView = (sends_again l now k q).1 in
@@ -102,7 +102,7 @@ again_speaks l now k (Some q) c d s below is =
       state = inl refl;
     })
 
-unit_speaks : (l : LinkView) (now : ℕ) (o : Option Queued) (c d : End) → Stand' l c d → 0 < l.room → l.out < most_units → slice_get l.queue l.out ≡ o → Speaking l (sends l now o) c d
+unit_speaks : (l : LinkView) (now : ℕ) (o : Option Queued) (c d : End) → PresentEnd' l c d → 0 < l.room → l.out < most_units → slice_get l.queue l.out ≡ o → Speaking l (sends l now o) c d
 unit_speaks l now None c d s room window is = none_speaks l c d s
 unit_speaks l now (Some q) c d s room window is =
     let m : LinkView = (sends l now (Some q)).1 in
@@ -116,14 +116,14 @@ unit_speaks l now (Some q) c d s room window is =
       state = inl refl;
     }
 
-probe_speaks : (l : LinkView) (now : ℕ) (c d : End) → Stand' l c d → Speaking l (poll_probe l now) c d
+probe_speaks : (l : LinkView) (now : ℕ) (c d : End) → PresentEnd' l c d → Speaking l (poll_probe l now) c d
 probe_speaks l now c d s =
     cond_both {A = Option OutgoingView × LinkView} (may_probe l now) (probes_or_lost l now) (None, l) (λ r. Speaking l r c d)
     (λ yes. cond_both {A = Option OutgoingView × LinkView} (nat_le (most_probes l) l.probes) (None, lost l) (probes_once l now) (λ r. Speaking l r c d)
     (λ ten. lost_speaks l c d s) (λ fewer. record { to = says_plain l (probes_once l now).1 c d Sents.Probe true 0 l.peer s refl (λ e. omega (arith, e)); queued = refl; state = inl refl }))
     (λ no. none_speaks l c d s)
 
-ack_speaks : (l : LinkView) (now : ℕ) (c d : End) → Stand' l c d → Speaking l (poll_ack l now) c d
+ack_speaks : (l : LinkView) (now : ℕ) (c d : End) → PresentEnd' l c d → Speaking l (poll_ack l now) c d
 ack_speaks l now c d s =
     cond_both {A = Option OutgoingView × LinkView} l.owes_ack (acknowledges l now) (poll_probe l now) (λ r. Speaking l r c d)
     (λ yes. record { to = says_plain l (acknowledges l now).1 c d Sents.Ack false 0 l.peer s refl (λ e. omega (arith, e)); queued = refl; state = inl refl })
@@ -156,11 +156,11 @@ late_below l now k is =
     (λ (e : is_working l.state ≡ false). absurd (cc (sym (cond-false (is_working l.state) (wanted l now) None e) ∙ is)))
     (cases_Bool (is_working l.state))
 
-late_speaks : (l : LinkView) (now : ℕ) (o : Option ℕ) (c d : End) → Stand' l c d → late_if_working l now ≡ o → Speaking l (poll_late l now o) c d
+late_speaks : (l : LinkView) (now : ℕ) (o : Option ℕ) (c d : End) → PresentEnd' l c d → late_if_working l now ≡ o → Speaking l (poll_late l now o) c d
 late_speaks l now None c d s is = ack_speaks l now c d s
 late_speaks l now (Some k) c d s is = again_speaks l now k (slice_get l.queue k) c d s (late_below l now k is) refl
 
-next_speaks : (l : LinkView) (now : ℕ) (c d : End) → Stand' l c d → Speaking l (poll_unit l now) c d
+next_speaks : (l : LinkView) (now : ℕ) (c d : End) → PresentEnd' l c d → Speaking l (poll_unit l now) c d
 next_speaks l now c d s =
     cond_both {A = Option OutgoingView × LinkView} (may_send l) (sends l now (slice_get l.queue l.out)) (poll_again l now) (λ r. Speaking l r c d)
     (λ yes.
@@ -168,7 +168,7 @@ next_speaks l now c d s =
     unit_speaks l now (slice_get l.queue l.out) c d s (ltb-true _ _ rest.0) (ltb-true _ _ (and_parts _ _ rest.1).0) refl)
     (λ no. late_speaks l now (late_if_working l now) c d s refl)
 
-reply_speaks : (l : LinkView) (now : ℕ) (c d : End) → Stand' l c d → Speaking l (poll_reply l now) c d
+reply_speaks : (l : LinkView) (now : ℕ) (c d : End) → PresentEnd' l c d → Speaking l (poll_reply l now) c d
 reply_speaks l now c d s =
     cond_both {A = Option OutgoingView × LinkView} l.owes_reply (replies l now) (poll_confirm l now) (λ r. Speaking l r c d)
     (λ yes. record { to = says_plain l (replies l now).1 c d Sents.Reply false 0 l.peer s refl (λ e. omega (arith, e)); queued = refl; state = inl refl })
@@ -177,14 +177,14 @@ reply_speaks l now c d s =
     (λ yes. record { to = says_plain l (confirms l now).1 c d Sents.Confirm false 255 l.peer s refl (λ e. omega (arith, e)); queued = refl; state = inl refl })
     (λ no. next_speaks l now c d s))
 
-request_speaks : (l : LinkView) (now : ℕ) (c d : End) → Stand' l c d → Speaking l (poll_request l now) c d
+request_speaks : (l : LinkView) (now : ℕ) (c d : End) → PresentEnd' l c d → Speaking l (poll_request l now) c d
 request_speaks l now c d s =
     cond_both {A = Option OutgoingView × LinkView} ((l.asked_count == 0) || due l.asked_at now) (requests_or_lost l now) (None, l) (λ r. Speaking l r c d)
     (λ yes. cond_both {A = Option OutgoingView × LinkView} (nat_le most_sends l.asked_count) (None, lost l) (requests l now) (λ r. Speaking l r c d)
     (λ ten. lost_speaks l c d s) (λ fewer. record { to = says_plain l (requests l now).1 c d Sents.Request true 0 65535 s refl (λ e. omega (arith, e)); queued = refl; state = inl refl }))
     (λ no. none_speaks l c d s)
 
-pub speaks_at : (st : State) (l : LinkView) (now : ℕ) (c d : End) → Stand' l c d → Speaking l (poll_at st l now) c d
+pub speaks_at : (st : State) (l : LinkView) (now : ℕ) (c d : End) → PresentEnd' l c d → Speaking l (poll_at st l now) c d
 speaks_at S.Opening l now c d s = request_speaks l now c d s
 speaks_at S.Live l now c d s = reply_speaks l now c d s
 speaks_at S.Ending l now c d s = reply_speaks l now c d s

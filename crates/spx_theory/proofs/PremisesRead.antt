@@ -4,14 +4,14 @@ use Rattle.std.specs.Prelude.{Bool, true, false, Contains, slice_get}
 use Rattle.std.proofs.lemmas.List.Elements.{Contains-append_left}
 use Rattle.spx_theory.specs.Below.{LawsBelow}
 use Rattle.spx_theory.specs.Deeds.{Reached}
-use Rattle.spx_theory.specs.EndsTold.{PeerIsFound}
+use Rattle.spx_theory.specs.EndsSummarized.{PeerIsFound}
 use Rattle.spx_theory.specs.LogPremises.{ComesFrom, HavePeer, IsMadeBy, IsSentBy, LogPremises, ReadsNothingInjected, ReadsOwnPeer, ReadsRecent, units_sent}
 use Rattle.spx_theory.specs.Note.{Note, Got, Injected}
 use Rattle.spx_theory.specs.PremisesRead.{BetweenIsRead, IsMarked, OriginsAreRead, PeersAreRead, PremisesAreRead, packets_read}
 use Rattle.spx_theory.specs.Peers.{ArePeersIn, FromOwnPeer, IsFresh, NothingInjected, Premises, end_of, units_between}
 use Rattle.spx_theory.specs.Scan.{FromOutside, Mark, Reading, Scan, is_now, role_of, scan, unread}
 use Rattle.spx_theory.specs.Scene.{Scene}
-use Rattle.spx_theory.proofs.LogOrigins.{all_sourced, comes_marked, contains_at, end_stands, injected_stands, made_makes, mark_later, mark_maker, numbered_in, parts}
+use Rattle.spx_theory.proofs.LogOrigins.{all_sourced, comes_marked, contains_at, end_holds, injected_holds, made_makes, mark_later, mark_maker, numbered_in, parts}
 use Rattle.spx_theory.proofs.LogReadings.{IsReadAt, after_first, between_counts, comes_later, first_after, joined_split, reading_at, reading_from, reading_there, readings_counted}
 use Rattle.spx_theory.proofs.LogRoles.{AllOnce, are_once, connected_joined, end_made, end_there, joined_connected, numbered_front}
 use Rattle.spx_theory.proofs.Numbering.{AllNumbered, are_numbered}
@@ -99,7 +99,7 @@ module _ (log : List Note) (all : AllNumbered unread log) (once : AllOnce unread
       let mark : Mark = mark_at (scan log).marks g.parcel in
       let comes = all_sourced log all g.parcel m.1 in
       let maker : mark.maker ≡ FromOutside = ap (λ (x : Mark). x.maker) m.0 ∙ ap (λ (x : Reading). x.maker) (sym g.reading) ∙ outside in
-      none g.who g.parcel mark.origin mark.passed (contains_at log g.before g.after (Got g.who g.parcel) g.is) comes (injected_stands log all mark.origin g.parcel mark.passed comes maker)
+      none g.who g.parcel mark.origin mark.passed (contains_at log g.before g.after (Got g.who g.parcel) g.is) comes (injected_holds log all mark.origin g.parcel mark.passed comes maker)
 
   from_injected : NothingInjected log → ReadsNothingInjected log
   from_injected none who parcel origin passed got comes injected =
@@ -137,7 +137,7 @@ module _ (log : List Note) (all : AllNumbered unread log) (once : AllOnce unread
       let m = read_mark before after who parcel is in
       let mark : Mark = mark_at (scan log).marks parcel in
       let comes = all_sourced log all parcel m.1 in
-      let stands = end_stands log all mark.origin parcel mark.passed found.0 comes (ap (λ (x : Mark). end_of x.maker) m.0 ∙ found.2) in
+      let stands = end_holds log all mark.origin parcel mark.passed found.0 comes (ap (λ (x : Mark). end_of x.maker) m.0 ∙ found.2) in
       (found.0, from_peers log all who found.0 found.1, record { origin = mark.origin; passed = mark.passed; making = stands.0; comes = comes; stands = stands.1; made = stands.2 })
     where
       by : (b : Bool) → is_now (scan before).newest who ≡ b → b ≡ false
@@ -152,7 +152,7 @@ module _ (log : List Note) (all : AllNumbered unread log) (once : AllOnce unread
       let within = (numbered_in log front g.after (Got g.who g.parcel) all g.is).1 in
       let mark : Mark = mark_at (scan front).marks g.parcel in
       let comes : ComesFrom front mark.origin g.parcel mark.passed = all_sourced front all_front g.parcel within in
-      let stands = end_stands front all_front mark.origin g.parcel mark.passed d comes (ap (λ (x : Reading). end_of x.maker) (sym g.reading) ∙ by) in
+      let stands = end_holds front all_front mark.origin g.parcel mark.passed d comes (ap (λ (x : Reading). end_of x.maker) (sym g.reading) ∙ by) in
       let p = parts front stands.0 stands.1 in
       let comes' : ComesFrom log mark.origin g.parcel mark.passed = comes_later log front (front_of front g.after g.who g.parcel g.is) mark.origin comes in
       let is : log ≡ p.0 ++ stands.0 ∷ (p.1 ++ Got g.who g.parcel ∷ g.after) = g.is ∙ ap (λ xs. xs ++ Got g.who g.parcel ∷ g.after) p.2 ∙ append_assoc p.0 (stands.0 ∷ p.1) (Got g.who g.parcel ∷ g.after) in

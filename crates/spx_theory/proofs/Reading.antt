@@ -9,7 +9,7 @@ use Rattle.spx_link.specs.declared.received.Received.TheVariants.{Stranger}
 use Rattle.spx_link.specs.LinkView.{LinkView}
 use Rattle.spx_link.specs.Receive.{receive_link}
 use Rattle.spx_link.specs.Fresh.{IsRecentPacket}
-use Rattle.spx_link.specs.Machine.{End, Packet, got, learned, read_unit, is_wanted, risen, put_mark}
+use Rattle.spx_link.specs.Machine.{End, Packet, got, learned, read_unit, is_awaited, risen, put_mark}
 use Rattle.std.specs.Prelude.{Contains}
 use Rattle.spx_theory.proofs.Running.{got_runs}
 use Rattle.spx_theory.proofs.Stepping.{Later}
@@ -18,7 +18,7 @@ use Rattle.spx_theory.specs.Scan.{Mark, times}
 use Rattle.spx_theory.specs.Peers.{end_of}
 use Rattle.spx_theory.specs.PairLog.{Half, mail_of, got_mail}
 use Rattle.spx_theory.specs.Tracks.{Formed, Follows}
-use Rattle.spx_theory.specs.Scene.{Stand, linked}
+use Rattle.spx_theory.specs.Scene.{PresentEnd, linked}
 use Rattle.spx_theory.proofs.Lists.{read_there, times-parts}
 use Rattle.std.proofs.lemmas.List.{append-nil}
 use Rattle.spx_theory.proofs.Tied.{mark_at, Letter, Whole}
@@ -34,7 +34,7 @@ got_same f q c a b = read_same q.position (learned q c) ∙ a _ _ c
     read_same : (o : Option ℕ) (e : End) → f (read_unit o e) ≡ f e
     read_same None e = refl
     read_same (Some n) e =
-        cond_both (is_wanted e n) (risen (put_mark (n - e.read) e.kept) e) e (λ x. f x ≡ f e) (λ yes. b _ _ e) (λ no. refl)
+        cond_both (is_awaited e n) (risen (put_mark (n - e.read) e.kept) e) e (λ x. f x ≡ f e) (λ yes. b _ _ e) (λ no. refl)
 
 -- the numbers of an end that got a packet are later ones
 pub got_later : (c d : End) (q : Packet) → Later c d (got q c) d
@@ -43,7 +43,7 @@ got_later c d q = read_later q.position (learned q c) (record { read = omega ari
     read_later : (o : Option ℕ) (e : End) → Later c d e d → Later c d (read_unit o e) d
     read_later None e later = later
     read_later (Some n) e later =
-        cond_both (is_wanted e n) (risen (put_mark (n - e.read) e.kept) e) e (λ x. Later c d x d)
+        cond_both (is_awaited e n) (risen (put_mark (n - e.read) e.kept) e) e (λ x. Later c d x d)
         (λ yes. record { read = omega (arith, later.read); taken = later.taken; buffers = later.buffers; peer_buffers = later.peer_buffers; sent = later.sent; peer_sent = later.peer_sent })
         (λ no. later)
 
@@ -53,10 +53,10 @@ got_later_back c d q =
     let buffers : (got q c).buffers ≡ c.buffers = got_same (λ (e : End). e.buffers) q c (λ b l e. refl) (λ r ks e. refl) in
     record { read = omega arith; taken = omega arith; buffers = refl; peer_buffers = sym buffers; sent = omega arith; peer_sent = omega arith }
 
-module _ (laws : LawsBelow) (c d : ℕ) (differ : c ≢ d) (ends : List Stand) (parcels : List (List ℕ)) (marks : List Mark) (sent : List ℕ) (x y : Half) where
+module _ (laws : LawsBelow) (c d : ℕ) (differ : c ≢ d) (ends : List PresentEnd) (parcels : List (List ℕ)) (marks : List Mark) (sent : List ℕ) (x y : Half) where
   -- the end c reads the parcel k, which is recent, and whose origin d sent
   pub reads_whole : Whole c d ends parcels marks sent x y
-      → (e : Stand) (l : LinkView) (k : ℕ) (bytes : List ℕ) (p : PacketView) (h : SpxHeader) (body : List ℕ)
+      → (e : PresentEnd) (l : LinkView) (k : ℕ) (bytes : List ℕ) (p : PacketView) (h : SpxHeader) (body : List ℕ)
       → slice_get ends c ≡ Some e → e.link ≡ Some l → slice_get parcels k ≡ Some bytes → IsConnectionPacket p h body bytes
       → (receive_link l h body).0 ≢ Stranger
       → end_of (mark_at marks k).maker ≡ Some d
@@ -86,8 +86,8 @@ module _ (laws : LawsBelow) (c d : ℕ) (differ : c ≢ d) (ends : List Stand) (
       read in
       let x' : Half = record x { end = got q x.end } in
       let units : (got q x.end).units ≡ x.end.units = got_same (λ (e : End). e.units) q x.end (λ b l e. refl) (λ r ks e. refl) in
-      let e' : Stand = linked e (receive_link l h body).1 in
-      let ends' : List Stand = set ends c e' in
+      let e' : PresentEnd = linked e (receive_link l h body).1 in
+      let ends' : List PresentEnd = set ends c e' in
       let done : Whole c d ends' parcels marks sent x' y = record {
         sound = laws.gets x.end y.end q w.sound letter.was;
         run = got_runs x.end y.end w.run q letter.posted;

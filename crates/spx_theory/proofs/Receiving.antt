@@ -14,7 +14,7 @@ use Rattle.spx_link.specs.LinkView.{LinkView, free}
 use Rattle.spx_link.specs.Units.{unit_in, unit_of}
 use Rattle.spx_link.specs.Receive.{read_ack, read_limit, read_numbers, read_system, read_unit, read_packet, is_system, is_own, is_reply, joined_link, receive_at, receive_link, beyond_expected, put, is_taken, leading, any_end, keep_end, keep_units, settle}
 use Rattle.spx_link.specs.Fresh.{IsRecentPacket}
-use Rattle.spx_link.specs.Machine.{End, Packet, IsChain, IsWithin, WasSent, got, learned, risen, put_mark, is_marked, lead, is_wanted, AreSound}
+use Rattle.spx_link.specs.Machine.{End, Packet, IsChain, IsWithin, WasSent, got, learned, risen, put_mark, is_marked, lead, is_awaited, AreSound}
 use Rattle.spx_theory.specs.Tracks.{Tracks, Formed, core}
 use Rattle.spx_theory.specs.Spelling.{Spells, Carries}
 use Rattle.spx_theory.specs.PairSteps.{IsReadNow}
@@ -186,7 +186,7 @@ reads_unit l h body n c d closed t shut fits has low high =
     let k : ℕ = n - c.read in
     let marked : is_marked k c.kept ≡ is_taken k l.ahead = ap (is_marked k) t.kept ∙ marked-map k l.ahead in
     ⊎_elim
-    (λ (yes : is_wanted c n ≡ true).
+    (λ (yes : is_awaited c n ≡ true).
     let parts = and_parts _ _ yes in
     let above : c.read ≤ n = leb-true _ _ parts.0 in
     let roomy : n < c.taken + c.buffers = ltb-true _ _ (and_parts _ _ parts.1).0 in
@@ -204,7 +204,7 @@ reads_unit l h body n c d closed t shut fits has low high =
     subst (λ r. Tracks (core r.1) (M.read_unit (Some n) c) d) (sym (kept_here l h body k place small open' room (sym marked ∙ gap)))
     (subst (λ x. Tracks (core (settle l put').1) x d) (sym (cond-true _ _ _ yes))
     (subst (λ ks. Tracks (core (settle l put').1) (risen ks c) d) same (settled_tracks l put' c d closed f))))
-    (λ (other : is_wanted c n ≡ false).
+    (λ (other : is_awaited c n ≡ false).
     let out : (nat_lt (beyond_expected l h) (free l) && not (is_taken (beyond_expected l h) l.ahead)) ≡ false =
     ⊎_elim
     (λ (behind : n < c.read).
@@ -223,7 +223,7 @@ reads_unit l h body n c d closed t shut fits has low high =
     (cases_lt n c.read) in
     subst (λ x. Tracks x (M.read_unit (Some n) c) d) (sym (unkept l h body out))
     (subst (λ x. Tracks (core l) x d) (sym (cond-false _ _ _ other)) t))
-    (cases_Bool (is_wanted c n))
+    (cases_Bool (is_awaited c n))
 
 -- ---- a packet
 pub system_stays : (l : LinkView) (h : SpxHeader) → core (read_system l h).1 ≡ core l

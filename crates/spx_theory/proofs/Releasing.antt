@@ -5,12 +5,12 @@ use Rattle.std.proofs.lemmas.List.{map-set}
 use Rattle.std.proofs.lemmas.Bool.{cases_eq}
 use Rattle.spx_theory.proofs.WorldLists.{get_set}
 use Rattle.spx_messages.specs.EndpointView.{Held, held_at}
-use Rattle.spx_theory.specs.World.{World, HostState, EndNow, end_at, stand_with, stand_of, scene_of, InOrder, StandsAt, IsEndOf, IsHostInOrder}
+use Rattle.spx_theory.specs.World.{World, HostState, EndNow, end_at, present_with, present_of, scene_of, InOrder, IsPresentAt, IsEndOf, IsHostInOrder}
 use Rattle.spx_theory.specs.EndCalls.{ReleasesOf}
 use Rattle.spx_theory.specs.DeedRuns.{Deeds}
 use Rattle.spx_theory.proofs.Places.{one_of_it, get_set_here, get_set_other, map_to_set}
 use Rattle.spx_theory.proofs.Doing.{one_deed}
-use Rattle.spx_theory.proofs.Standing.{held_same, held_there, stands_there, the_only, scene_after}
+use Rattle.spx_theory.proofs.StillPresent.{held_same, held_there, holds_there, the_only, scene_after}
 use Rattle.spx_theory.proofs.WorldTakes.{set_twice}
 use Rattle.spx_theory.specs.Note as Notes
 use Rattle.spx_theory.specs.Deeds as Scenes
@@ -28,19 +28,19 @@ module _ (old new : World) (who : ℕ) (o : InOrder old) (d : ReleasesOf old who
   pub releases_deeds : Deeds (scene_of old) (scene_of new)
   releases_deeds =
       let had : (h : Held) × (held_at d.before.endpoint d.end'.id ≡ Some h) = held_there old o who d.end' d.before d.end'.host d.at d.stands refl d.there in
-      let others : map (stand_of hosts') old.ends ≡ set (map (stand_of old.hosts) old.ends) who (stand_of hosts' d.end') =
-      map_to_set (stand_of old.hosts) (stand_of hosts') old.ends who (stand_of hosts' d.end')
-      (λ j x at apart. ap (stand_with x) (held_same old.hosts d.end'.host d.before d.after x d.there
+      let others : map (present_of hosts') old.ends ≡ set (map (present_of old.hosts) old.ends) who (present_of hosts' d.end') =
+      map_to_set (present_of old.hosts) (present_of hosts') old.ends who (present_of hosts' d.end')
+      (λ j x at apart. ap (present_with x) (held_same old.hosts d.end'.host d.before d.after x d.there
       (λ stands here. d.releases.others x.id (λ same. apart (the_only old o j who x d.end' at stands d.at d.stands here same)))))
-      (λ x at. ap (stand_of hosts') (one_of_it (slice_get old.ends who) x d.end' at d.at)) in
-      let ends : map (stand_of hosts') new.ends ≡ set (map (stand_of old.hosts) old.ends) who (stand_with e' None) =
-      ap (map (stand_of hosts')) d.ends ∙ map-set (stand_of hosts') old.ends who e' ∙ ap (λ es. set es who (stand_with e' None)) others
-      ∙ set_twice (map (stand_of old.hosts) old.ends) who (stand_of hosts' d.end') (stand_with e' None) in
+      (λ x at. ap (present_of hosts') (one_of_it (slice_get old.ends who) x d.end' at d.at)) in
+      let ends : map (present_of hosts') new.ends ≡ set (map (present_of old.hosts) old.ends) who (present_with e' None) =
+      ap (map (present_of hosts')) d.ends ∙ map-set (present_of hosts') old.ends who e' ∙ ap (λ es. set es who (present_with e' None)) others
+      ∙ set_twice (map (present_of old.hosts) old.ends) who (present_of hosts' d.end') (present_with e' None) in
       one_deed (Scenes.Releases who) (scene_of old) (scene_of new) (record {
-        stand = stand_with d.end' (Some had.0);
+        stand = present_with d.end' (Some had.0);
         link = had.0.link;
-        stands = record { there = stands_there old.hosts old.ends who d.end' d.before had.0 d.at d.stands d.there had.1; link = refl };
-        after = scene_after old new d.end'.host d.before d.after (set (map (stand_of old.hosts) old.ends) who (stand_with e' None)) (Notes.Released who ∷ []) d.there d.hosts d.releases.self ends d.parcels d.log;
+        stands = record { there = holds_there old.hosts old.ends who d.end' d.before had.0 d.at d.stands d.there had.1; link = refl };
+        after = scene_after old new d.end'.host d.before d.after (set (map (present_of old.hosts) old.ends) who (present_with e' None)) (Notes.Released who ∷ []) d.there d.hosts d.releases.self ends d.parcels d.log;
       })
 
   -- another end is where it was before
@@ -48,9 +48,9 @@ module _ (old new : World) (who : ℕ) (o : InOrder old) (d : ReleasesOf old who
   still_end k id j it apart =
       record { end' = it.end'; at = get_set_other old.ends who j e' apart ∙ it.at; host_is = it.host_is; id_is = it.id_is; stands = it.stands }
 
-  still_stands : (j : ℕ) (x : EndNow) → slice_get old.ends j ≡ Some x → x.released ≡ false → j ≢ who → StandsAt hosts' j x
-  still_stands j x at stands apart =
-      let was : StandsAt old.hosts j x = o.ends j x at stands in
+  still_holds : (j : ℕ) (x : EndNow) → slice_get old.ends j ≡ Some x → x.released ≡ false → j ≢ who → IsPresentAt hosts' j x
+  still_holds j x at stands apart =
+      let was : IsPresentAt old.hosts j x = o.ends j x at stands in
       elim (cases_eq x.host d.end'.host) [
         | inl on ↦
             let same : was.station ≡ d.before = one_of_it (slice_get old.hosts x.host) was.station d.before was.there (ap (slice_get old.hosts) on ∙ d.there) in
@@ -86,9 +86,9 @@ module _ (old new : World) (who : ℕ) (o : InOrder old) (d : ReleasesOf old who
 
   pub releases_kept : InOrder new
   releases_kept = record {
-    ends = λ j x at stands. subst (λ hs. StandsAt hs j x) (sym d.hosts) (elim (get_set old.ends who j e' x (ap (λ es. slice_get es j) (sym d.ends) ∙ at)) [
+    ends = λ j x at stands. subst (λ hs. IsPresentAt hs j x) (sym d.hosts) (elim (get_set old.ends who j e' x (ap (λ es. slice_get es j) (sym d.ends) ∙ at)) [
       | inl own ↦ absurd (cc (ap (λ (z : EndNow). z.released) own.1 ∙ stands))
-      | inr other ↦ still_stands j x other.1 stands (λ same. other.0 (sym same))
+      | inr other ↦ still_holds j x other.1 stands (λ same. other.0 (sym same))
     ]);
     hosts = λ k z at. subst (λ es. IsHostInOrder es k z) (sym d.ends) (elim (get_set old.hosts d.end'.host k d.after z (ap (λ hs. slice_get hs k) (sym d.hosts) ∙ at)) [
       | inl own ↦ subst (λ j. IsHostInOrder (set old.ends who e') j z) own.0 (subst (IsHostInOrder (set old.ends who e') d.end'.host) own.1 host_now)

@@ -6,12 +6,12 @@ use Rattle.ipx_wire.specs.declared.address.Node.{Node}
 use Rattle.spx_theory.specs.Note.{Note}
 use Rattle.spx_theory.specs.Scan.{Each}
 use Rattle.spx_theory.specs.Scene.{Scene, sent_off}
-use Rattle.spx_theory.specs.World.{World, ParcelView, AtPort, stand_of, home_at, bytes_of, segment_of, scene_of}
+use Rattle.spx_theory.specs.World.{World, ParcelView, AtPort, present_of, home_at, bytes_of, segment_of, scene_of}
 use Rattle.spx_theory.specs.Routers.{IsOwnLetter, told_notes, GivesOwnLetters, CarriesOn}
 use Rattle.spx_theory.specs.DeedRuns.{Deeds}
 use Rattle.spx_theory.proofs.Places.{get_map, map_more, map_length}
 use Rattle.spx_theory.proofs.Doing.{no_deed, one_deed, then}
-use Rattle.spx_theory.proofs.Standing.{made, made_same}
+use Rattle.spx_theory.proofs.StillPresent.{made, made_same}
 use Rattle.spx_theory.specs.Note as Notes
 use Rattle.spx_theory.specs.Deeds as Scenes
 
@@ -40,9 +40,9 @@ tells_all s router (l ∷ ls) each =
 pub tells_deeds : (old new : World) (router : ℕ) (letters : List ParcelView) → GivesOwnLetters old router letters new → Deeds (scene_of old) (scene_of new)
 tells_deeds old new router letters d =
     let is : scene_of new ≡ all_told (scene_of old) router letters =
-    made_same (map home_at new.hosts) (map home_at old.hosts) (map (stand_of new.hosts) new.ends) (map (stand_of old.hosts) old.ends) (map bytes_of new.parcels) (map bytes_of old.parcels ++ map bytes_of letters)
+    made_same (map home_at new.hosts) (map home_at old.hosts) (map (present_of new.hosts) new.ends) (map (present_of old.hosts) old.ends) (map bytes_of new.parcels) (map bytes_of old.parcels ++ map bytes_of letters)
     (map segment_of new.parcels) (map segment_of old.parcels ++ map segment_of letters) new.log (old.log ++ told_notes router (length (map bytes_of old.parcels)) letters)
-    (ap (map home_at) d.hosts) (ap (λ hs. map (stand_of hs) new.ends) d.hosts ∙ ap (map (stand_of old.hosts)) d.ends)
+    (ap (map home_at) d.hosts) (ap (λ hs. map (present_of hs) new.ends) d.hosts ∙ ap (map (present_of old.hosts)) d.ends)
     (ap (map bytes_of) d.parcels ∙ map_more bytes_of old.parcels letters) (ap (map segment_of) d.parcels ∙ map_more segment_of old.parcels letters)
     (d.log ∙ ap (λ n. old.log ++ told_notes router n letters) (sym (map_length bytes_of old.parcels))) in
     subst (Deeds (scene_of old)) (sym is) (tells_all (scene_of old) router letters d.own)
@@ -57,9 +57,9 @@ carries_deeds old new parcel router port segment next bytes d =
       at = get_map segment_of old.parcels parcel d.letter d.comes;
       on = d.on;
       after =
-          made_same (map home_at new.hosts) (map home_at old.hosts) (map (stand_of new.hosts) new.ends) (map (stand_of old.hosts) old.ends) (map bytes_of new.parcels) (map bytes_of old.parcels ++ bytes ∷ [])
+          made_same (map home_at new.hosts) (map home_at old.hosts) (map (present_of new.hosts) new.ends) (map (present_of old.hosts) old.ends) (map bytes_of new.parcels) (map bytes_of old.parcels ++ bytes ∷ [])
           (map segment_of new.parcels) (map segment_of old.parcels ++ segment ∷ []) new.log (old.log ++ Notes.Carried parcel count ∷ [])
-          (ap (map home_at) d.hosts) (ap (λ hs. map (stand_of hs) new.ends) d.hosts ∙ ap (map (stand_of old.hosts)) d.ends)
+          (ap (map home_at) d.hosts) (ap (λ hs. map (present_of hs) new.ends) d.hosts ∙ ap (map (present_of old.hosts)) d.ends)
           (ap (map bytes_of) d.parcels ∙ map_more bytes_of old.parcels (letter ∷ [])) (ap (map segment_of) d.parcels ∙ map_more segment_of old.parcels (letter ∷ []))
           (d.log ∙ ap (λ n. old.log ++ Notes.Carried parcel n ∷ []) (sym (map_length bytes_of old.parcels)));
     })

@@ -55,8 +55,8 @@ runs_over x y r = record { one = r.two; two = r.one; steps = other_steps r.steps
 pub in_front : {A : Type 0} (x : A) (xs : List A) → Contains (x ∷ xs) x
 in_front x xs = (0, omega arith, refl)
 
-pub behind_one : {A : Type 0} (y x : A) (xs : List A) → Contains xs x → Contains (y ∷ xs) x
-behind_one y x xs there = (suc there.0, omega (arith, there.1), there.2)
+pub after_one : {A : Type 0} (y x : A) (xs : List A) → Contains xs x → Contains (y ∷ xs) x
+after_one y x xs there = (suc there.0, omega (arith, there.1), there.2)
 
 module _ (c d : End) (r : Runs c d) where
   pub mailed_runs : Runs (mailed None c d) d

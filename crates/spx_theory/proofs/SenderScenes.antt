@@ -19,7 +19,7 @@ use Rattle.spx_theory.specs.Note.{Note, Opened, Accepted, Got, HandsIn, AsksEnd,
 use Rattle.spx_theory.specs.Scan.{times, scan, unread}
 use Rattle.spx_theory.specs.Handed.{units_of}
 use Rattle.spx_theory.specs.PairLog.{position_of}
-use Rattle.spx_theory.specs.Scene.{Scene, Stand, linked}
+use Rattle.spx_theory.specs.Scene.{Scene, PresentEnd, linked}
 use Rattle.spx_theory.specs.Deeds.{Deed, DoesDeed, Dials, Accepts, Reads, OwesReply, Paces, AsksAgain, Gives, Rests, Sends, Takes, Overruns, Closes, Releases, Carries, Tells, Injects, DoesGive, IsBegun, Reached, begun, happened}
 use Rattle.spx_theory.specs.PacketsOnWay.{note_of, notes_of, out_notes}
 use Rattle.spx_messages.specs.WrittenPackets.{Home, IsWrittenPacket}
@@ -36,7 +36,7 @@ use Rattle.spx_link.specs.declared.outgoing.Sent.TheVariants as Sents
 use Rattle.spx_theory.specs.Below.{LawsBelow}
 
 pub record Senders (s : Scene) : Type 0 where
-  pub links : (who : ℕ) (e : Stand) (l : LinkView) → slice_get s.ends who ≡ Some e → e.link ≡ Some l → Queues l (units_of who s.log) (sent_by who s.log)
+  pub links : (who : ℕ) (e : PresentEnd) (l : LinkView) → slice_get s.ends who ≡ Some e → e.link ≡ Some l → Queues l (units_of who s.log) (sent_by who s.log)
   pub past : (who : ℕ) → length s.ends ≤ who → (units_of who s.log ≡ []) × (sent_by who s.log ≡ 0)
   pub told : UnitsAreSentInOrder s
 
@@ -55,7 +55,7 @@ queues_same : (l : LinkView) (j : ℕ) (log ns : List Note) → SameFor j log ns
 queues_same l j log ns f q = queues_at l (units_of j log) (units_of j (log ++ ns)) (sent_by j log) (sent_by j (log ++ ns)) f.units f.sent q
 
 -- one end is replaced
-pub record Writes (s s' : Scene) (who : ℕ) (old w : Stand) (ns : List Note) (more : List (List ℕ)) : Type 0 where
+pub record Writes (s s' : Scene) (who : ℕ) (old w : PresentEnd) (ns : List Note) (more : List (List ℕ)) : Type 0 where
   pub at : slice_get s.ends who ≡ Some old
   pub ends : s'.ends ≡ set s.ends who w
   pub parcels : s'.parcels ≡ s.parcels ++ more
@@ -70,13 +70,13 @@ QueuesAt l j log = Queues l (units_of j log) (sent_by j log)
 abbrev pub IsUnmade : ℕ → List Note → Type 0
 IsUnmade j log = (units_of j log ≡ []) × (sent_by j log ≡ 0)
 
-writes : (s s' : Scene) (who : ℕ) (old w : Stand) (ns : List Note) (more : List (List ℕ)) → Writes s s' who old w ns more → Senders s → Senders s'
+writes : (s s' : Scene) (who : ℕ) (old w : PresentEnd) (ns : List Note) (more : List (List ℕ)) → Writes s s' who old w ns more → Senders s → Senders s'
 writes s s' who old w ns more c f =
     record {
       links = λ j e l at is.
           subst (QueuesAt l j) (sym c.log)
-          (elim (get_set s.ends who j w e (ap (λ (es : List Stand). slice_get es j) (sym c.ends) ∙ at)) [
-            | inl here ↦ subst (λ k. QueuesAt l k (s.log ++ ns)) here.0 (c.own l (ap (λ (x : Stand). x.link) here.1 ∙ is))
+          (elim (get_set s.ends who j w e (ap (λ (es : List PresentEnd). slice_get es j) (sym c.ends) ∙ at)) [
+            | inl here ↦ subst (λ k. QueuesAt l k (s.log ++ ns)) here.0 (c.own l (ap (λ (x : PresentEnd). x.link) here.1 ∙ is))
             | inr other ↦ queues_same l j s.log ns (c.others j other.0) (f.links j e l other.1 is)
           ]);
       past = λ j past.
@@ -89,7 +89,7 @@ writes s s' who old w ns more c f =
     }
 
 -- one end is replaced, by a call that does not change its units
-quietly : (s s' : Scene) (who : ℕ) (old w : Stand) (ns : List Note) → slice_get s.ends who ≡ Some old → s'.ends ≡ set s.ends who w → s'.parcels ≡ s.parcels → s'.log ≡ s.log ++ ns
+quietly : (s s' : Scene) (who : ℕ) (old w : PresentEnd) (ns : List Note) → slice_get s.ends who ≡ Some old → s'.ends ≡ set s.ends who w → s'.parcels ≡ s.parcels → s'.log ≡ s.log ++ ns
     → any_sending ns ≡ false → ((j : ℕ) → units_of j ns ≡ []) → ((l : LinkView) → w.link ≡ Some l → QueuesAt l who s.log) → Senders s → Senders s'
 quietly s s' who old w ns at ends parcels log none units own f =
     writes s s' who old w ns []
@@ -103,24 +103,24 @@ quietly s s' who old w ns at ends parcels log none units own f =
       news = no_news s' s.log ns none;
     }) f
 
-silently : (s s' : Scene) (who : ℕ) (old w : Stand) → slice_get s.ends who ≡ Some old → s'.ends ≡ set s.ends who w → s'.parcels ≡ s.parcels → s'.log ≡ s.log
+silently : (s s' : Scene) (who : ℕ) (old w : PresentEnd) → slice_get s.ends who ≡ Some old → s'.ends ≡ set s.ends who w → s'.parcels ≡ s.parcels → s'.log ≡ s.log
     → ((l : LinkView) → w.link ≡ Some l → QueuesAt l who s.log) → Senders s → Senders s'
 silently s s' who old w at ends parcels log own f =
     quietly s s' who old w [] at ends parcels (log ∙ sym (append-nil s.log)) refl (λ j. refl) own f
 
 -- an end is added
-arrives : (s s' : Scene) (w : Stand) (ns : List Note) → s'.ends ≡ s.ends ++ w ∷ [] → s'.parcels ≡ s.parcels → s'.log ≡ s.log ++ ns
+arrives : (s s' : Scene) (w : PresentEnd) (ns : List Note) → s'.ends ≡ s.ends ++ w ∷ [] → s'.parcels ≡ s.parcels → s'.log ≡ s.log ++ ns
     → any_sending ns ≡ false → ((j : ℕ) → units_of j ns ≡ []) → ((l : LinkView) → w.link ≡ Some l → Queues l [] 0) → Senders s → Senders s'
 arrives s s' w ns ends parcels log none units own f =
     record {
       links = λ j e l at is.
           subst (QueuesAt l j) (sym log)
           (queues_same l j s.log ns (calm_for j s.log ns none (units j))
-          (elim (get_last s.ends w e j (ap (λ (es : List Stand). slice_get es j) (sym ends) ∙ at)) [
+          (elim (get_last s.ends w e j (ap (λ (es : List PresentEnd). slice_get es j) (sym ends) ∙ at)) [
             | inl before ↦ f.links j e l before is
             | inr here ↦
                 let new : IsUnmade j s.log = f.past j (omega (arith, here.0)) in
-                queues_at l [] (units_of j s.log) 0 (sent_by j s.log) new.0 new.1 (own l (ap (λ (x : Stand). x.link) here.1 ∙ is))
+                queues_at l [] (units_of j s.log) 0 (sent_by j s.log) new.0 new.1 (own l (ap (λ (x : PresentEnd). x.link) here.1 ∙ is))
           ]));
       past = λ j past.
           let beyond : length s.ends ≤ j = omega (arith, past, ap length ends, length-append s.ends (w ∷ [])) in
@@ -137,7 +137,7 @@ passes s s' bytes n ends parcels log none units f =
     record {
       links = λ j e l at is.
           subst (QueuesAt l j) (sym log)
-          (queues_same l j s.log (n ∷ []) (calm_for j s.log (n ∷ []) none (units j)) (f.links j e l (ap (λ (es : List Stand). slice_get es j) (sym ends) ∙ at) is));
+          (queues_same l j s.log (n ∷ []) (calm_for j s.log (n ∷ []) none (units j)) (f.links j e l (ap (λ (es : List PresentEnd). slice_get es j) (sym ends) ∙ at) is));
       past = λ j past.
           let beyond : length s.ends ≤ j = omega (arith, past, ap length ends) in
           let still : SameFor j s.log (n ∷ []) = calm_for j s.log (n ∷ []) none (units j) in
@@ -310,10 +310,10 @@ module _ (laws : LawsBelow) (s s' : Scene) (who now : ℕ) (segment : Network) (
 -- ---- each deed
 
 -- the link of an end that was replaced
-link_is : (P : LinkView → Type 0) (e : Stand) (k : LinkView) → P k → (l : LinkView) → (linked e k).link ≡ Some l → P l
+link_is : (P : LinkView → Type 0) (e : PresentEnd) (k : LinkView) → P k → (l : LinkView) → (linked e k).link ≡ Some l → P l
 link_is P e k p l is = let same : k ≡ l = cc is in subst P same p
 
-abbrev pub ends_in : Scene → List Stand
+abbrev pub ends_in : Scene → List PresentEnd
 ends_in z = z.ends
 
 abbrev pub parcels_in : Scene → List (List ℕ)
@@ -412,7 +412,7 @@ no_entry (b ∷ before) after n e = cc e
 senders_begun : (s : Scene) → IsBegun s → Senders s
 senders_begun s is =
     record {
-      links = λ who e l at link. absurd (cc (ap (λ (es : List Stand). slice_get es who) (sym is.ends) ∙ at));
+      links = λ who e l at link. absurd (cc (ap (λ (es : List PresentEnd). slice_get es who) (sym is.ends) ∙ at));
       past = λ who past. (ap (units_of who) is.log, ap (sent_by who) is.log);
       told = record {
         first = λ b a who k e. absurd (no_entry b a (SendsUnit who k) (sym is.log ∙ e));

@@ -18,7 +18,7 @@ use Rattle.spx_theory.specs.Scan.{Scan, Mark, times, seen, ByUnit, BySystem}
 use Rattle.spx_theory.specs.PairLog.{Half, half_after, not_mine, posted, posted_next, position_of}
 use Rattle.spx_theory.specs.Spelling.{Says, Spoke}
 use Rattle.spx_theory.specs.Tracks.{core, IsOpen}
-use Rattle.spx_theory.specs.Scene.{Stand, linked}
+use Rattle.spx_theory.specs.Scene.{PresentEnd, linked}
 use Rattle.spx_theory.specs.PacketsOnWay.{note_of}
 use Rattle.spx_theory.proofs.Lists.{times-append, read_there, get_here}
 use Rattle.spx_theory.proofs.Tied.{Whole}
@@ -30,12 +30,12 @@ pub eqb_same : (n : ℕ) → (n == n) ≡ true
 eqb_same n = grind (arith, nat_tests)
 
 -- both halves after an entry, tied to the ends and parcels after it
-abbrev pub WholeAfter : (c d : ℕ) (ends : List Stand) (parcels : List (List ℕ)) (s : Scan) (x y : Half) → Note → Type 0
+abbrev pub WholeAfter : (c d : ℕ) (ends : List PresentEnd) (parcels : List (List ℕ)) (s : Scan) (x y : Half) → Note → Type 0
 WholeAfter c d ends parcels s x y n =
     Whole c d ends parcels (seen s n).marks (seen s n).sent (half_after parcels c x y n) (half_after parcels d y x n)
 
-module _ (laws : LawsBelow) (c d : ℕ) (differ : c ≢ d) (ends : List Stand) (parcels : List (List ℕ)) (s : Scan) (x y : Half) where
-  whole_is : (ends' : List Stand) (bytes : List ℕ) (n : Note) (x' y' : Half) → half_after (parcels ++ bytes ∷ []) c x y n ≡ x' → half_after (parcels ++ bytes ∷ []) d y x n ≡ y'
+module _ (laws : LawsBelow) (c d : ℕ) (differ : c ≢ d) (ends : List PresentEnd) (parcels : List (List ℕ)) (s : Scan) (x y : Half) where
+  whole_is : (ends' : List PresentEnd) (bytes : List ℕ) (n : Note) (x' y' : Half) → half_after (parcels ++ bytes ∷ []) c x y n ≡ x' → half_after (parcels ++ bytes ∷ []) d y x n ≡ y'
       → Whole c d ends' (parcels ++ bytes ∷ []) (seen s n).marks (seen s n).sent x' y' → WholeAfter c d ends' (parcels ++ bytes ∷ []) s x y n
   whole_is ends' bytes n x' y' one two w =
       subst (λ h. Whole c d ends' (parcels ++ bytes ∷ []) (seen s n).marks (seen s n).sent h (half_after (parcels ++ bytes ∷ []) d y x n)) (sym one)
@@ -45,7 +45,7 @@ module _ (laws : LawsBelow) (c d : ℕ) (differ : c ≢ d) (ends : List Stand) (
   other_no = ne_eqb c d differ
 
   -- a packet without a unit
-  pub system_whole : Whole c d ends parcels s.marks s.sent x y → (w : Stand) (l : LinkView) (g : OutgoingView) (bytes : List ℕ)
+  pub system_whole : Whole c d ends parcels s.marks s.sent x y → (w : PresentEnd) (l : LinkView) (g : OutgoingView) (bytes : List ℕ)
       → SaysOnly g.header g.body bytes → IsOpen l → Says (core l) g None x.end y.end
       → WholeAfter c d (set ends c (linked w l)) (parcels ++ bytes ∷ []) s x y (SendsSystem c (length parcels))
   system_whole whole w l g bytes only open' says =
@@ -73,7 +73,7 @@ module _ (laws : LawsBelow) (c d : ℕ) (differ : c ≢ d) (ends : List Stand) (
       (subst (λ (ns : List ℕ). Whole c d (set ends c (linked w l)) (parcels ++ bytes ∷ []) (s.marks ++ m ∷ []) ns (posted None x y) (not_mine y)) e done)
 
   -- the next unit
-  pub unit_whole : Whole c d ends parcels s.marks s.sent x y → (w : Stand) (l : LinkView) (g : OutgoingView) (bytes : List ℕ)
+  pub unit_whole : Whole c d ends parcels s.marks s.sent x y → (w : PresentEnd) (l : LinkView) (g : OutgoingView) (bytes : List ℕ)
       → SaysOnly g.header g.body bytes → IsOpen l → x.end.sent < x.end.limit → x.end.sent < length x.end.units → Says (core l) g (Some x.end.sent) (one_more_sent x.end) y.end
       → WholeAfter c d (set ends c (linked w l)) (parcels ++ bytes ∷ []) s x y (SendsUnit c (length parcels))
   unit_whole whole w l g bytes only open' room within says =
@@ -101,7 +101,7 @@ module _ (laws : LawsBelow) (c d : ℕ) (differ : c ≢ d) (ends : List Stand) (
       (cond-true _ _ _ (eqb_same c)) (cond-false _ _ _ other_no) done
 
   -- a unit again
-  pub again_whole : Whole c d ends parcels s.marks s.sent x y → (w : Stand) (l : LinkView) (g : OutgoingView) (bytes : List ℕ) (n : ℕ)
+  pub again_whole : Whole c d ends parcels s.marks s.sent x y → (w : PresentEnd) (l : LinkView) (g : OutgoingView) (bytes : List ℕ) (n : ℕ)
       → SaysOnly g.header g.body bytes → sequence_in bytes ≡ g.header.seq → IsOpen l → x.end.base ≤ n → n < x.end.sent → Says (core l) g (Some n) x.end y.end
       → WholeAfter c d (set ends c (linked w l)) (parcels ++ bytes ∷ []) s x y (SendsAgain c (length parcels))
   again_whole whole w l g bytes n only number open' low high says =
@@ -136,7 +136,7 @@ module _ (laws : LawsBelow) (c d : ℕ) (differ : c ≢ d) (ends : List Stand) (
       (subst (λ (ns : List ℕ). Whole c d (set ends c (linked w l)) (parcels ++ bytes ∷ []) (s.marks ++ m ∷ []) ns (posted (Some n) x y) (not_mine y)) e done)
 
   -- any packet that is given
-  pub speaks_whole : Whole c d ends parcels s.marks s.sent x y → (what : Sent) (w : Stand) (l : LinkView) (g : OutgoingView) (bytes : List ℕ)
+  pub speaks_whole : Whole c d ends parcels s.marks s.sent x y → (what : Sent) (w : PresentEnd) (l : LinkView) (g : OutgoingView) (bytes : List ℕ)
       → SaysOnly g.header g.body bytes → sequence_in bytes ≡ g.header.seq → IsOpen l → Spoke what (core l) g x.end y.end
       → WholeAfter c d (set ends c (linked w l)) (parcels ++ bytes ∷ []) s x y (note_of what c (length parcels))
   speaks_whole whole Sents.Request w l g bytes only number open' spoke = system_whole whole w l g bytes only open' spoke

@@ -12,7 +12,7 @@ use Rattle.spx_theory.specs.Handed.{taken_of, units_of}
 use Rattle.spx_theory.specs.InStep.{PeersAreInStep, PeersFollow, pair_in}
 use Rattle.spx_theory.specs.Peers.{ArePeersIn, Premises}
 use Rattle.spx_theory.specs.Scan.{scan}
-use Rattle.spx_theory.specs.Scene.{Scene, Stand, Stands}
+use Rattle.spx_theory.specs.Scene.{Scene, PresentEnd, IsPresent}
 use Rattle.spx_theory.specs.RoundsDeliver.{CanDeliver, IsDelivered, RoundsDeliver, RoundsDeliverBothWays}
 use Rattle.spx_theory.specs.Stuck.{CanGoOn, NoPairIsStuck, NoStateIsStuck, NothingIsStuckByAddresses}
 use Rattle.spx_theory.specs.Named.{AreNamed, PeersAreNamed}
@@ -35,7 +35,7 @@ pub record Follow (s : Scene) (c d : ℕ) (a b : LinkView) : Type 0 where
   pub taken_back : length (taken_of c s.log) ≡ one.taken
   pub read_back : taken_of c s.log ++ a.held ≡ take one.read (units_of d s.log)
 
-follow : (s : Scene) (c d : ℕ) (e f : Stand) (a b : LinkView) → PeersFollow s → PeersAreInStep s → Premises s.log → ArePeersIn (scan s.log) c d → Stands s c e a → Stands s d f b → Follow s c d a b
+follow : (s : Scene) (c d : ℕ) (e f : PresentEnd) (a b : LinkView) → PeersFollow s → PeersAreInStep s → Premises s.log → ArePeersIn (scan s.log) c d → IsPresent s c e a → IsPresent s d f b → Follow s c d a b
 follow s c d e f a b law steps premises (inl j) one two =
     let p = law premises c d j in
     record { one = (pair_in s c d).one.end; two = (pair_in s c d).two.end; first = p.first e a one; second = p.second f b two; line = p.line; units = p.units; taken = p.taken_back; read = (steps premises c d j).1.read f b two; units_back = p.units_back; taken_back = p.taken; read_back = (steps premises c d j).0.read e a one }
@@ -55,7 +55,7 @@ follow s c d e f a b law steps premises (inr j) one two =
       read_back = (steps premises d c j).1.read e a one;
     }
 
-can_deliver : LinkLaws → (s : Scene) → Reached s → (c d : ℕ) (f : Stand) (a b : LinkView) (one two : End) → Stands s d f b → Follows a one two → Follows b two one → AreSound one two
+can_deliver : LinkLaws → (s : Scene) → Reached s → (c d : ℕ) (f : PresentEnd) (a b : LinkView) (one two : End) → IsPresent s d f b → Follows a one two → Follows b two one → AreSound one two
     → one.units ≡ units_of c s.log → taken_of d s.log ++ b.held ≡ take two.read (units_of c s.log) → AreNamed a b → CanGoOn a b → CanDeliver a b one two
 can_deliver laws s reached c d f a b one two stands first second line units read names can =
     let w : WellAt s.log d b = (wells laws reached).links d f b stands in
@@ -83,7 +83,7 @@ back_named : (b a : LinkView) → AreNamed b a → AreNamed a b
 back_named b a n = record { peer = n.peer_back; peer_back = n.peer }
 
 -- each has the id by which the other addresses its peer, whichever dialled
-named : (s : Scene) (c d : ℕ) (e f : Stand) (a b : LinkView) → PeersAreNamed s → ArePeersIn (scan s.log) c d → Stands s c e a → Stands s d f b → AreNamed a b
+named : (s : Scene) (c d : ℕ) (e f : PresentEnd) (a b : LinkView) → PeersAreNamed s → ArePeersIn (scan s.log) c d → IsPresent s c e a → IsPresent s d f b → AreNamed a b
 named s c d e f a b law (inl j) one two = law c d j e f a b one two
 named s c d e f a b law (inr j) one two = back_named b a (law d c j f e b a two one)
 

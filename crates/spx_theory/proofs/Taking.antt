@@ -10,7 +10,7 @@ use Rattle.spx_theory.proofs.Stepping.{taken_sound, gained_sound}
 use Rattle.spx_theory.specs.Scan.{Mark}
 use Rattle.spx_theory.specs.PairLog.{Half, one_taken, gained}
 use Rattle.spx_theory.specs.Tracks.{Formed, Follows}
-use Rattle.spx_theory.specs.Scene.{Stand}
+use Rattle.spx_theory.specs.Scene.{PresentEnd}
 use Rattle.spx_theory.proofs.Lists.{get_before}
 use Rattle.spx_theory.proofs.Tied.{Whole}
 use Rattle.spx_theory.proofs.Moving.{moves, sees_same, other_end, this_end}
@@ -37,9 +37,9 @@ sees_more l c d us within shut f =
       open' = f.open';
     }
 
-module _ (c d : ℕ) (differ : c ≢ d) (ends : List Stand) (parcels : List (List ℕ)) (marks : List Mark) (sent : List ℕ) (x y : Half) where
+module _ (c d : ℕ) (differ : c ≢ d) (ends : List PresentEnd) (parcels : List (List ℕ)) (marks : List Mark) (sent : List ℕ) (x y : Half) where
   -- c is replaced by w', whose link, if it has one, is l
-  pub takes_whole : (laws : LawsBelow) → Whole c d ends parcels marks sent x y → (w : Stand) (l : LinkView) → ((m : LinkView) → w.link ≡ Some m → m ≡ l)
+  pub takes_whole : (laws : LawsBelow) → Whole c d ends parcels marks sent x y → (w : PresentEnd) (l : LinkView) → ((m : LinkView) → w.link ≡ Some m → m ≡ l)
       → x.end.taken < x.end.read → Follows l (one_taken x).end y.end
       → Whole c d (set ends c w) parcels marks sent (one_taken x) y
   takes_whole laws whole w l is some follows =
@@ -57,7 +57,7 @@ module _ (c d : ℕ) (differ : c ≢ d) (ends : List Stand) (parcels : List (Lis
               bag = λ p there. there;
               formed = whole.one.formed;
               link = λ e m at has.
-                  let same : m ≡ l = is m (ap (λ (v : Stand). v.link) (sym (this_end ends c w e at)) ∙ has) in
+                  let same : m ≡ l = is m (ap (λ (v : PresentEnd). v.link) (sym (this_end ends c w e at)) ∙ has) in
                   subst (λ n. Follows n (one_taken x).end y.end) (sym same) follows;
             }) whole.one;
         two = moves d c ends (set ends c w) parcels marks sent y x y (one_taken x)
@@ -75,7 +75,7 @@ module _ (c d : ℕ) (differ : c ≢ d) (ends : List Stand) (parcels : List (Lis
         count = whole.count;
       }
 
-  pub gains_whole : (laws : LawsBelow) → Whole c d ends parcels marks sent x y → (w : Stand) (l : LinkView) (us : List Unit)
+  pub gains_whole : (laws : LawsBelow) → Whole c d ends parcels marks sent x y → (w : PresentEnd) (l : LinkView) (us : List Unit)
       → ((m : LinkView) → w.link ≡ Some m → m ≡ l) → Formed x.end.units false → Follows l (gained us x).end y.end
       → Whole c d (set ends c w) parcels marks sent (gained us x) y
   gains_whole laws whole w l us is shut follows =
@@ -94,7 +94,7 @@ module _ (c d : ℕ) (differ : c ≢ d) (ends : List Stand) (parcels : List (Lis
               bag = λ p there. there;
               formed = (_, follows.tracks.formed);
               link = λ e m at has.
-                  let same : m ≡ l = is m (ap (λ (v : Stand). v.link) (sym (this_end ends c w e at)) ∙ has) in
+                  let same : m ≡ l = is m (ap (λ (v : PresentEnd). v.link) (sym (this_end ends c w e at)) ∙ has) in
                   subst (λ n. Follows n (gained us x).end y.end) (sym same) follows;
             }) whole.one;
         two = moves d c ends (set ends c w) parcels marks sent y x y (gained us x)
@@ -113,7 +113,7 @@ module _ (c d : ℕ) (differ : c ≢ d) (ends : List Stand) (parcels : List (Lis
       }
 
   -- the link changes in parts that the machine does not have
-  pub rests_whole : Whole c d ends parcels marks sent x y → (w : Stand) (l : LinkView) → ((m : LinkView) → w.link ≡ Some m → m ≡ l)
+  pub rests_whole : Whole c d ends parcels marks sent x y → (w : PresentEnd) (l : LinkView) → ((m : LinkView) → w.link ≡ Some m → m ≡ l)
       → (Follows l x.end y.end) → Whole c d (set ends c w) parcels marks sent x y
   rests_whole whole w l is follows =
       record {
@@ -130,7 +130,7 @@ module _ (c d : ℕ) (differ : c ≢ d) (ends : List Stand) (parcels : List (Lis
               bag = λ p there. there;
               formed = whole.one.formed;
               link = λ e m at has.
-                  let same : m ≡ l = is m (ap (λ (v : Stand). v.link) (sym (this_end ends c w e at)) ∙ has) in
+                  let same : m ≡ l = is m (ap (λ (v : PresentEnd). v.link) (sym (this_end ends c w e at)) ∙ has) in
                   subst (λ n. Follows n x.end y.end) (sym same) follows;
             }) whole.one;
         two = moves d c ends (set ends c w) parcels marks sent y x y x

@@ -16,7 +16,7 @@ use Rattle.spx_theory.specs.Note.{Note, Opened, Accepted, HandsIn, TakesUnit, As
 use Rattle.spx_theory.specs.Scan.{scan}
 use Rattle.spx_theory.specs.Handed.{out_by, units_by, taken_by, gathered, handed_out, units_of, taken_of, IsBeginning}
 use Rattle.spx_theory.specs.PairLog.{pair_between, new_half}
-use Rattle.spx_theory.specs.Scene.{Scene, Stand}
+use Rattle.spx_theory.specs.Scene.{Scene, PresentEnd}
 use Rattle.spx_theory.specs.Deeds.{Deed, DoesDeed, Dials, Accepts, Reads, OwesReply, Paces, AsksAgain, Gives, Rests, Sends, Takes, Overruns, Closes, Releases, Carries, Tells, Injects}
 use Rattle.spx_theory.specs.PacketsOnWay.{note_of, notes_of, out_notes}
 use Rattle.spx_theory.proofs.Lists.{get_last, get_set}
@@ -51,7 +51,7 @@ ok-append (x ∷ xs) ys one two = (one.0, ok-append xs ys one.1 two)
 pub record Said (c d : ℕ) (s : Scene) : Type 0 where
   pub begins : IsBeginning (taken_of c s.log) (units_of d s.log)
   pub handed : handed_out c s.log ≡ (joined (taken_of c s.log)).messages
-  pub rest : (e : Stand) → slice_get s.ends c ≡ Some e → (e.link ≢ None → e.rest ≡ (joined (taken_of c s.log)).rest) × (e.overlong ≡ false)
+  pub rest : (e : PresentEnd) → slice_get s.ends c ≡ Some e → (e.link ≢ None → e.rest ≡ (joined (taken_of c s.log)).rest) × (e.overlong ≡ false)
 
 -- entries by which no end takes a unit or hands out a message
 pub record AreSilent (ns : List Note) : Type 0 where
@@ -80,11 +80,11 @@ read_silent Rs.Confirmed who k = record { ok = (tt, tt); taken = λ e. refl; out
 read_silent Rs.Stranger who k = record { ok = tt; taken = λ e. refl; out = λ e. refl }
 
 -- the end had this rest before, or is new and took nothing
-abbrev pub KeepsRest : List Stand → List Stand → List Note → ℕ → Type 0
-KeepsRest old new log c = (w : Stand) → slice_get new c ≡ Some w
-    → ((e : Stand) × (slice_get old c ≡ Some e) × (w.link ≢ None → (w.rest ≡ e.rest) × (e.link ≢ None)) × (w.overlong ≡ e.overlong)) ⊎ ((taken_of c log ≡ []) × (w.rest ≡ None) × (w.overlong ≡ false))
+abbrev pub KeepsRest : List PresentEnd → List PresentEnd → List Note → ℕ → Type 0
+KeepsRest old new log c = (w : PresentEnd) → slice_get new c ≡ Some w
+    → ((e : PresentEnd) × (slice_get old c ≡ Some e) × (w.link ≢ None → (w.rest ≡ e.rest) × (e.link ≢ None)) × (w.overlong ≡ e.overlong)) ⊎ ((taken_of c log ≡ []) × (w.rest ≡ None) × (w.overlong ≡ false))
 
-said_grows : (c d : ℕ) (s : Scene) (ends : List Stand) (parcels : List (List ℕ)) (segments : List _) (ns : List Note) → gathered (taken_by c) ns ≡ [] → gathered (out_by c) ns ≡ [] → KeepsRest s.ends ends s.log c → Said c d s
+said_grows : (c d : ℕ) (s : Scene) (ends : List PresentEnd) (parcels : List (List ℕ)) (segments : List _) (ns : List Note) → gathered (taken_by c) ns ≡ [] → gathered (out_by c) ns ≡ [] → KeepsRest s.ends ends s.log c → Said c d s
     → Said c d (record s { ends = ends; parcels = parcels; segments = segments; log = s.log ++ ns })
 said_grows c d s ends parcels segments ns none none' keeps said =
     let taken : taken_of c (s.log ++ ns) ≡ taken_of c s.log = gathered-append (taken_by c) s.log ns ∙ ap (λ us. taken_of c s.log ++ us) none ∙ append-nil (taken_of c s.log) in
@@ -104,28 +104,28 @@ said_grows c d s ends parcels segments ns none none' keeps said =
       ];
     }
 
-pub linked' : (e : Stand) (l : LinkView) → e.link ≡ Some l → e.link ≢ None
+pub linked' : (e : PresentEnd) (l : LinkView) → e.link ≡ Some l → e.link ≢ None
 linked' e l is none = cc (sym is ∙ none)
 
 -- an end is replaced that has the same rest
-keeps_set : (ends : List Stand) (log : List Note) (who : ℕ) (e w : Stand) (c : ℕ) → slice_get ends who ≡ Some e → (w.link ≢ None → (w.rest ≡ e.rest) × (e.link ≢ None)) → w.overlong ≡ e.overlong → KeepsRest ends (set ends who w) log c
+keeps_set : (ends : List PresentEnd) (log : List Note) (who : ℕ) (e w : PresentEnd) (c : ℕ) → slice_get ends who ≡ Some e → (w.link ≢ None → (w.rest ≡ e.rest) × (e.link ≢ None)) → w.overlong ≡ e.overlong → KeepsRest ends (set ends who w) log c
 keeps_set ends log who e w c at rest over f there =
     elim (get_set ends who c w f there) [
-      | inl here ↦ inl (e, ap (slice_get ends) (sym here.0) ∙ at, (λ stands. let k = rest (λ none. stands (ap (λ (x : Stand). x.link) (sym here.1) ∙ none)) in (ap (λ (x : Stand). x.rest) (sym here.1) ∙ k.0, k.1)), ap (λ (x : Stand). x.overlong) (sym here.1) ∙ over)
+      | inl here ↦ inl (e, ap (slice_get ends) (sym here.0) ∙ at, (λ stands. let k = rest (λ none. stands (ap (λ (x : PresentEnd). x.link) (sym here.1) ∙ none)) in (ap (λ (x : PresentEnd). x.rest) (sym here.1) ∙ k.0, k.1)), ap (λ (x : PresentEnd). x.overlong) (sym here.1) ∙ over)
       | inr other ↦ inl (f, other.1, (λ stands. (refl, stands)), refl)
     ]
 
-keeps_other : (ends : List Stand) (log : List Note) (who : ℕ) (w : Stand) (c : ℕ) → who ≢ c → KeepsRest ends (set ends who w) log c
+keeps_other : (ends : List PresentEnd) (log : List Note) (who : ℕ) (w : PresentEnd) (c : ℕ) → who ≢ c → KeepsRest ends (set ends who w) log c
 keeps_other ends log who w c differ f there = elim (get_set ends who c w f there) [ inl here ↦ absurd (differ here.0) | inr other ↦ inl (f, other.1, (λ stands. (refl, stands)), refl) ]
 
-keeps_same : (ends : List Stand) (log : List Note) (c : ℕ) → KeepsRest ends ends log c
+keeps_same : (ends : List PresentEnd) (log : List Note) (c : ℕ) → KeepsRest ends ends log c
 keeps_same ends log c f there = inl (f, there, (λ stands. (refl, stands)), refl)
 
-keeps_new : (ends : List Stand) (log : List Note) (e : Stand) (c : ℕ) → e.rest ≡ None → e.overlong ≡ false → (c ≡ length ends → taken_of c log ≡ []) → KeepsRest ends (ends ++ e ∷ []) log c
+keeps_new : (ends : List PresentEnd) (log : List Note) (e : PresentEnd) (c : ℕ) → e.rest ≡ None → e.overlong ≡ false → (c ≡ length ends → taken_of c log ≡ []) → KeepsRest ends (ends ++ e ∷ []) log c
 keeps_new ends log e c rest over none f there =
     elim (get_last ends e f c there) [
       | inl was ↦ inl (f, was, (λ stands. (refl, stands)), refl)
-      | inr new ↦ inr (none new.0, ap (λ (x : Stand). x.rest) (sym new.1) ∙ rest, ap (λ (x : Stand). x.overlong) (sym new.1) ∙ over)
+      | inr new ↦ inr (none new.0, ap (λ (x : PresentEnd). x.rest) (sym new.1) ∙ rest, ap (λ (x : PresentEnd). x.overlong) (sym new.1) ∙ over)
     ]
 
 no_list : (us : List Unit) → length us ≡ 0 → us ≡ []
@@ -192,7 +192,7 @@ module _ (laws : LawsBelow) (c d a b : ℕ) (differ : c ≢ d) where
   nothing_two s h at = no_list (taken_of d s.log) (omega (arith, (counts s).1, (h.unmade (omega (arith, at))).taken))
 
   -- no message grows too long
-  overrun_one : (e f : ℕ) (s : Scene) (ok : AreOk s.log) → Said e f s → (stand : Stand) (u : Unit) → slice_get s.ends e ≡ Some stand → stand.link ≢ None → slice_get (units_of f s.log) (length (taken_of e s.log)) ≡ Some u
+  overrun_one : (e f : ℕ) (s : Scene) (ok : AreOk s.log) → Said e f s → (stand : PresentEnd) (u : Unit) → slice_get s.ends e ≡ Some stand → stand.link ≢ None → slice_get (units_of f s.log) (length (taken_of e s.log)) ≡ Some u
       → u.stream ≢ 254 → length (added stand.rest u).body ≤ 65535
   overrun_one e f s ok said stand u at stands next ne =
       let k : ℕ = length (taken_of e s.log) in
@@ -215,13 +215,13 @@ module _ (laws : LawsBelow) (c d a b : ℕ) (differ : c ≢ d) where
       let next : slice_get (units_of c s.log) (length (taken_of d s.log)) ≡ Some u = subst (λ us. slice_get us (length (taken_of d s.log)) ≡ Some u) (counts s).2 (ap (slice_get (pair_between c d a b s.parcels s.log).one.end.units) (counts s).1 ∙ to.is) in
       absurd (omega (arith, does.long, overrun_one d c s t.ok t.two does.stand u at (linked' does.stand does.link does.stands.link) next does.data'))
 
-  silent_next : (s : Scene) (ends : List Stand) (parcels : List (List ℕ)) (segments : List _) (ns : List Note) → AreSilent ns → KeepsRest s.ends ends s.log c → KeepsRest s.ends ends s.log d → Tells' s
+  silent_next : (s : Scene) (ends : List PresentEnd) (parcels : List (List ℕ)) (segments : List _) (ns : List Note) → AreSilent ns → KeepsRest s.ends ends s.log c → KeepsRest s.ends ends s.log d → Tells' s
       → Tells' (record s { ends = ends; parcels = parcels; segments = segments; log = s.log ++ ns })
   silent_next s ends parcels segments ns silent keeps keeps' t =
       record { ok = ok-append s.log ns t.ok silent.ok; one = said_grows c d s ends parcels segments ns (silent.taken c) (silent.out c) keeps t.one; two = said_grows d c s ends parcels segments ns (silent.taken d) (silent.out d) keeps' t.two }
 
   -- there is no entry
-  quiet_next : (s : Scene) (ends : List Stand) → KeepsRest s.ends ends s.log c → KeepsRest s.ends ends s.log d → Tells' s → Tells' (record s { ends = ends })
+  quiet_next : (s : Scene) (ends : List PresentEnd) → KeepsRest s.ends ends s.log c → KeepsRest s.ends ends s.log d → Tells' s → Tells' (record s { ends = ends })
   quiet_next s ends keeps keeps' t =
       record { ok = t.ok; one = quiet c d keeps t.one; two = quiet d c keeps' t.two }
     where
@@ -242,7 +242,7 @@ module _ (laws : LawsBelow) (c d a b : ℕ) (differ : c ≢ d) where
   one_next [] (y ∷ ys) u at = let same : y ≡ u = cc at in ap (λ v. v ∷ ys) same
   one_next (x ∷ xs) ys u at = one_next xs ys u at
 
-  takes_own : (e f : ℕ) (s : Scene) (stand w : Stand) (u : Unit) (joins : Joining) → slice_get s.ends e ≡ Some stand → stand.link ≢ None → w.rest ≡ joins.rest → w.overlong ≡ stand.overlong
+  takes_own : (e f : ℕ) (s : Scene) (stand w : PresentEnd) (u : Unit) (joins : Joining) → slice_get s.ends e ≡ Some stand → stand.link ≢ None → w.rest ≡ joins.rest → w.overlong ≡ stand.overlong
       → joins ≡ join_unit (record { messages = []; rest = stand.rest }) u → slice_get (units_of f s.log) (length (taken_of e s.log)) ≡ Some u → Said e f s
       → Said e f (record s { ends = set s.ends e w; log = s.log ++ (TakesUnit e u ∷ out_notes e joins.messages) })
   takes_own e f s stand w u joins at stands rest over is next said =
@@ -266,14 +266,14 @@ module _ (laws : LawsBelow) (c d a b : ℕ) (differ : c ≢ d) where
         handed = out ∙ ap (λ ts. ts ++ joins.messages) said.handed ∙ sym (ap (λ us. (joined us).messages) taken ∙ ap (λ (k : Joining). k.messages) now);
         rest = λ g there. elim (get_set s.ends e e w g there) [
           | inl here ↦ (
-            (λ stands'. ap (λ (x : Stand). x.rest) (sym here.1) ∙ rest ∙ sym (ap (λ us. (joined us).rest) taken ∙ ap (λ (k : Joining). k.rest) now)),
-            ap (λ (x : Stand). x.overlong) (sym here.1) ∙ over ∙ was.1,
+            (λ stands'. ap (λ (x : PresentEnd). x.rest) (sym here.1) ∙ rest ∙ sym (ap (λ us. (joined us).rest) taken ∙ ap (λ (k : Joining). k.rest) now)),
+            ap (λ (x : PresentEnd). x.overlong) (sym here.1) ∙ over ∙ was.1,
           )
           | inr other ↦ absurd (other.0 refl)
         ];
       }
 
-  takes_other : (who e f : ℕ) (s : Scene) (w : Stand) (u : Unit) (ms : List MessageView) → who ≢ e → Said e f s
+  takes_other : (who e f : ℕ) (s : Scene) (w : PresentEnd) (u : Unit) (ms : List MessageView) → who ≢ e → Said e f s
       → Said e f (record s { ends = set s.ends who w; log = s.log ++ (TakesUnit who u ∷ out_notes who ms) })
   takes_other who e f s w u ms differ' said =
       let no : (who == e) ≡ false = ne_eqb who e differ' in
@@ -282,7 +282,7 @@ module _ (laws : LawsBelow) (c d a b : ℕ) (differ : c ≢ d) where
       (outs_out e who ms ∙ cond-false (who == e) ms [] no)
       (λ g there. elim (get_set s.ends who e w g there) [ inl here ↦ absurd (differ' here.0) | inr other ↦ inl (g, other.1, (λ stands. (refl, stands)), refl) ]) said
 
-  takes_next : (s : Scene) (who : ℕ) (stand w : Stand) (u : Unit) (joins : Joining) → slice_get s.ends who ≡ Some stand → stand.link ≢ None → w.rest ≡ joins.rest → w.overlong ≡ stand.overlong
+  takes_next : (s : Scene) (who : ℕ) (stand w : PresentEnd) (u : Unit) (joins : Joining) → slice_get s.ends who ≡ Some stand → stand.link ≢ None → w.rest ≡ joins.rest → w.overlong ≡ stand.overlong
       → joins ≡ join_unit (record { messages = []; rest = stand.rest }) u
       → (who ≡ c → slice_get (units_of d s.log) (length (taken_of c s.log)) ≡ Some u) → (who ≡ d → slice_get (units_of c s.log) (length (taken_of d s.log)) ≡ Some u)
       → Tells' s → Tells' (record s { ends = set s.ends who w; log = s.log ++ (TakesUnit who u ∷ out_notes who joins.messages) })

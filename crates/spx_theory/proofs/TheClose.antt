@@ -17,7 +17,7 @@ use Rattle.spx_theory.specs.Peers.{AreJoined, ArePeersIn, Premises, FromOwnPeer}
 use Rattle.spx_theory.specs.Handed.{handed_in, handed_out, units_of, taken_of}
 use Rattle.spx_theory.specs.PairLog.{Pair, new_half}
 use Rattle.spx_theory.specs.Tracks.{Formed, Follows}
-use Rattle.spx_theory.specs.Scene.{Scene, Stand, Stands}
+use Rattle.spx_theory.specs.Scene.{Scene, PresentEnd, IsPresent}
 use Rattle.spx_theory.specs.Deeds.{Reached}
 use Rattle.spx_theory.specs.InStep.{pair_in, PeersFollow}
 use Rattle.spx_theory.specs.Close.{HoldsAll, IsEndInMachine, ConfirmedIsRead, AcknowledgedIsRead, EndTakenIsWhole}
@@ -35,7 +35,7 @@ use Rattle.spx_theory.specs.Below.{LawsBelow}
 
 -- an end c with its end x of the machine, and its peer d with y
 pub record Beside (s : Scene) (c d : ℕ) (x y : End) : Type 0 where
-  pub link : (e : Stand) (l : LinkView) → Stands s c e l → Follows l x y
+  pub link : (e : PresentEnd) (l : LinkView) → IsPresent s c e l → Follows l x y
   pub line : AreSound x y
   pub formed : (closed : Bool) × Formed x.units closed
   pub units : x.units ≡ units_of c s.log

@@ -13,7 +13,7 @@ use Rattle.spx_theory.specs.Peers.{end_of}
 use Rattle.spx_theory.specs.PairLog.{Half}
 use Rattle.spx_theory.specs.Tracks.{Formed, Follows}
 use Rattle.spx_theory.specs.Spelling.{Spells, Carries}
-use Rattle.spx_theory.specs.Scene.{Stand}
+use Rattle.spx_theory.specs.Scene.{PresentEnd}
 
 abbrev pub mark_at : List Mark → ℕ → Mark
 mark_at marks k = slice_index_or marks k nowhere
@@ -30,8 +30,8 @@ pub record Letter (c d : ℕ) (parcels : List (List ℕ)) (marks : List Mark) (s
   pub says : (bytes : List ℕ) → slice_get parcels k ≡ Some bytes → (p : PacketView) (h : SpxHeader) (body : List ℕ) → IsConnectionPacket p h body bytes
       → Spells q h × Carries q.position x.end.units h body
 
-pub record Tied (c d : ℕ) (ends : List Stand) (parcels : List (List ℕ)) (marks : List Mark) (sent : List ℕ) (x y : Half) : Type 0 where
-  pub link : (e : Stand) (l : LinkView) → slice_get ends c ≡ Some e → e.link ≡ Some l → Follows l x.end y.end
+pub record Tied (c d : ℕ) (ends : List PresentEnd) (parcels : List (List ℕ)) (marks : List Mark) (sent : List ℕ) (x y : Half) : Type 0 where
+  pub link : (e : PresentEnd) (l : LinkView) → slice_get ends c ≡ Some e → e.link ≡ Some l → Follows l x.end y.end
   pub letters : (k : ℕ) (q : Packet) → slice_get x.mail k ≡ Some (Some q) → Letter c d parcels marks sent x y k q
   pub all : (k : ℕ) → k < length marks → end_of (mark_at marks k).maker ≡ Some c → (q : Packet) × (slice_get x.mail k ≡ Some (Some q))
   pub mail : length x.mail ≡ length marks
@@ -40,7 +40,7 @@ pub record Tied (c d : ℕ) (ends : List Stand) (parcels : List (List ℕ)) (mar
   pub small : x.end.buffers ≤ most_units
 
 -- the pair: its machine is sound, and both halves are tied
-pub record Whole (c d : ℕ) (ends : List Stand) (parcels : List (List ℕ)) (marks : List Mark) (sent : List ℕ) (x y : Half) : Type 0 where
+pub record Whole (c d : ℕ) (ends : List PresentEnd) (parcels : List (List ℕ)) (marks : List Mark) (sent : List ℕ) (x y : Half) : Type 0 where
   pub sound : AreSound x.end y.end
   pub run : Runs x.end y.end
   pub one : Tied c d ends parcels marks sent x y

@@ -20,7 +20,7 @@ use Rattle.spx_theory.specs.Below.{LawsBelow}
 use Rattle.spx_theory.specs.Note.{Note, HandsIn, AsksEnd, TakesUnit}
 use Rattle.spx_theory.specs.Handed.{in_by, units_by, handed_in, units_of}
 use Rattle.spx_theory.specs.UnitsOfEnds.{end_by, ends_asked, AreCuts, UnitsAreCuts}
-use Rattle.spx_theory.specs.Scene.{Scene, Stand, Stands}
+use Rattle.spx_theory.specs.Scene.{Scene, PresentEnd, IsPresent}
 use Rattle.spx_theory.specs.PacketsOnWay.{note_of, notes_of, out_notes}
 use Rattle.spx_theory.specs.Deeds.{Deed, DoesDeed, Dials, Accepts, Reads, OwesReply, Paces, AsksAgain, Gives, Rests, Sends, Takes, Overruns, Closes, Releases, Carries, Tells, Injects, Reached, begun, happened}
 use Rattle.spx_theory.proofs.Fields.{log_of}
@@ -133,7 +133,7 @@ live_ends S.PeerEnded is = absurd (cc is)
 live_ends S.Confirmed is = absurd (cc is)
 live_ends S.Lost is = absurd (cc is)
 
-not_asked : (s : Scene) (f : Senders s) (who : ℕ) (w : Stand) (l : LinkView) → Stands s who w l → refusal l.state ≡ None → AreCuts who s.log → ends_asked who s.log ≡ []
+not_asked : (s : Scene) (f : Senders s) (who : ℕ) (w : PresentEnd) (l : LinkView) → IsPresent s who w l → refusal l.state ≡ None → AreCuts who s.log → ends_asked who s.log ≡ []
 not_asked s f who w l stands live c =
     let q = f.links who w l stands.there stands.link in
     let shut : Formed (units_of who s.log) false = subst (Formed (units_of who s.log)) (q.open' (live_ends l.state live)) q.formed in
@@ -146,7 +146,7 @@ not_asked s f who w l stands live c =
           absurd (cc (shut.end (length cuts) the_end last refl).0)
     ]
 
-not_asked_of : (s : Scene) (f : Senders s) (who e : ℕ) (w : Stand) (l : LinkView) → Stands s who w l → refusal l.state ≡ None → AreCuts e s.log → (who == e) ≡ true → ends_asked e s.log ≡ []
+not_asked_of : (s : Scene) (f : Senders s) (who e : ℕ) (w : PresentEnd) (l : LinkView) → IsPresent s who w l → refusal l.state ≡ None → AreCuts e s.log → (who == e) ≡ true → ends_asked e s.log ≡ []
 not_asked_of s f who e w l stands live c is =
     let same : who ≡ e = eqb-true who e is in
     not_asked s f e w l (record { there = subst (λ k. slice_get s.ends k ≡ Some w) same stands.there; link = stands.link }) live c

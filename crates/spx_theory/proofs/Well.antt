@@ -21,7 +21,7 @@ use Rattle.spx_messages.specs.Cut.{cut_of}
 use Rattle.spx_theory.specs.Tracks.{may_end}
 use Rattle.spx_theory.specs.Note.{Note, Opened, Accepted, Got, HandsIn, AsksEnd, TakesUnit, Released, Told, Carried, Injected}
 use Rattle.spx_theory.specs.Handed.{taken_by, taken_of}
-use Rattle.spx_theory.specs.Scene.{Scene, Stand, Stands, linked}
+use Rattle.spx_theory.specs.Scene.{Scene, PresentEnd, IsPresent, linked}
 use Rattle.spx_theory.specs.PacketsOnWay.{note_of, notes_of, out_notes}
 use Rattle.spx_theory.specs.Deeds.{Deed, DoesDeed, Dials, Accepts, Reads, OwesReply, Paces, AsksAgain, Gives, Rests, Sends, Takes, Overruns, Closes, Releases, Carries, Tells, Injects, Reached, begun, happened}
 use Rattle.spx_theory.specs.LinkLaws.{LinkLaws}
@@ -135,7 +135,7 @@ take_keeps_of l u (v ∷ vs) is gives =
 
 -- ---- an end of a scene
 
-abbrev ends_of : Scene → List Stand
+abbrev ends_of : Scene → List PresentEnd
 ends_of z = z.ends
 
 abbrev log_of : Scene → List Note
@@ -146,7 +146,7 @@ pub record WellAt (log : List Note) (who : ℕ) (l : LinkView) : Type 0 where
   pub taken : l.peer_ended ≡ false → any_end (taken_of who log) ≡ false
 
 abbrev pub AllWell : Scene → Type 0
-AllWell s = (who : ℕ) (e : Stand) (l : LinkView) → Stands s who e l → WellAt s.log who l
+AllWell s = (who : ℕ) (e : PresentEnd) (l : LinkView) → IsPresent s who e l → WellAt s.log who l
 
 gathered-append : (who : ℕ) (xs ys : List Note) → taken_of who (xs ++ ys) ≡ taken_of who xs ++ taken_of who ys
 gathered-append who [] ys = refl
@@ -169,12 +169,12 @@ pub record Wells (s : Scene) : Type 0 where
   -- an end that does not exist yet took nothing
   pub past : (who : ℕ) → length s.ends ≤ who → taken_of who s.log ≡ []
 
-set_well : (s s' : Scene) (who : ℕ) (w : Stand) (ns : List Note) → s'.log ≡ s.log ++ ns → s'.ends ≡ set s.ends who w → who < length s.ends → ((j : ℕ) → who ≢ j → taken_of j ns ≡ [])
+set_well : (s s' : Scene) (who : ℕ) (w : PresentEnd) (ns : List Note) → s'.log ≡ s.log ++ ns → s'.ends ≡ set s.ends who w → who < length s.ends → ((j : ℕ) → who ≢ j → taken_of j ns ≡ [])
     → ((l : LinkView) → w.link ≡ Some l → WellAt s'.log who l) → Wells s → Wells s'
 set_well s s' who w ns log ends within none now f =
     record {
       links = λ j e l stands. elim (get_set s.ends who j w e (ap (λ es. slice_get es j) (sym ends) ∙ stands.there)) [
-        | inl here ↦ subst (λ i. WellAt s'.log i l) here.0 (now l (ap (λ (x : Stand). x.link) here.1 ∙ stands.link))
+        | inl here ↦ subst (λ i. WellAt s'.log i l) here.0 (now l (ap (λ (x : PresentEnd). x.link) here.1 ∙ stands.link))
         | inr other ↦ well_on j s.log s'.log ns l l log (none j other.0) (keeps_same l) (f.links j e l (record { there = other.1; link = stands.link }))
       ];
       past = λ j beyond.
@@ -182,13 +182,13 @@ set_well s s' who w ns log ends within none now f =
           taken_on j s.log s'.log ns log (none j (λ z. omega (arith, z, low, within))) ∙ f.past j low;
     }
 
-more_well : (s s' : Scene) (w : Stand) (k : LinkView) (ns : List Note) → s'.log ≡ s.log ++ ns → s'.ends ≡ s.ends ++ w ∷ [] → w.link ≡ Some k → ((j : ℕ) → taken_of j ns ≡ []) → Well k → Wells s → Wells s'
+more_well : (s s' : Scene) (w : PresentEnd) (k : LinkView) (ns : List Note) → s'.log ≡ s.log ++ ns → s'.ends ≡ s.ends ++ w ∷ [] → w.link ≡ Some k → ((j : ℕ) → taken_of j ns ≡ []) → Well k → Wells s → Wells s'
 more_well s s' w k ns log ends is none new f =
     record {
       links = λ j e l stands. elim (get_last s.ends w e j (ap (λ es. slice_get es j) (sym ends) ∙ stands.there)) [
         | inl was ↦ well_on j s.log s'.log ns l l log (none j) (keeps_same l) (f.links j e l (record { there = was; link = stands.link }))
         | inr here ↦
-            let same : Some k ≡ Some l = sym is ∙ (ap (λ (x : Stand). x.link) here.1 ∙ stands.link) in
+            let same : Some k ≡ Some l = sym is ∙ (ap (λ (x : PresentEnd). x.link) here.1 ∙ stands.link) in
             let link : k ≡ l = cc same in
             subst (λ i. WellAt s'.log i l) (sym here.0)
             (record { link = subst Well link new; taken = λ e'. ap any_end (taken_on (length s.ends) s.log s'.log ns log (none (length s.ends)) ∙ f.past (length s.ends) (omega arith)) })
@@ -204,7 +204,7 @@ same_well s s' ns log ends none f =
     }
 
 -- one link is replaced, by a call that keeps this
-link_well : (s s' : Scene) (who : ℕ) (e : Stand) (l k : LinkView) (ns : List Note) → s'.log ≡ s.log ++ ns → s'.ends ≡ set s.ends who (linked e k) → ((j : ℕ) → taken_of j ns ≡ []) → Stands s who e l → Keeps l k → Wells s → Wells s'
+link_well : (s s' : Scene) (who : ℕ) (e : PresentEnd) (l k : LinkView) (ns : List Note) → s'.log ≡ s.log ++ ns → s'.ends ≡ set s.ends who (linked e k) → ((j : ℕ) → taken_of j ns ≡ []) → IsPresent s who e l → Keeps l k → Wells s → Wells s'
 link_well s s' who e l k ns log ends none stands keeps f =
     set_well s s' who (linked e k) ns log ends (slice_get_within s.ends who e stands.there) (λ j other. none j)
     (λ m is. let same : k ≡ m = cc is in subst (WellAt s'.log who) same (well_on who s.log s'.log ns l k log (none who) keeps (f.links who e l stands))) f

@@ -56,8 +56,8 @@ whole_joined e log ok = ap (λ (j : Joining). j.messages) (all_joined e log [] o
 abbrev pub behind : List MessageView → Joining → Joining
 behind ms j = record { messages = ms ++ j.messages; rest = j.rest }
 
-one_behind : (ms : List MessageView) (j : Joining) (u : Unit) → join_unit (behind ms j) u ≡ behind ms (join_unit j u)
-one_behind ms j u = cases (is_end u) u.last
+one_after : (ms : List MessageView) (j : Joining) (u : Unit) → join_unit (behind ms j) u ≡ behind ms (join_unit j u)
+one_after ms j u = cases (is_end u) u.last
   where
     cases : (end last : Bool) → cond {A = Joining} end (behind ms j) (cond {A = Joining} last (record { messages = (ms ++ j.messages) ++ added j.rest u ∷ []; rest = None }) (record { messages = ms ++ j.messages; rest = Some (added j.rest u) }))
         ≡ behind ms (cond {A = Joining} end j (cond {A = Joining} last (record { messages = j.messages ++ added j.rest u ∷ []; rest = None }) (record { messages = j.messages; rest = Some (added j.rest u) })))
@@ -67,7 +67,7 @@ one_behind ms j u = cases (is_end u) u.last
 
 pub all_behind : (ms : List MessageView) (j : Joining) (us : List Unit) → join_all (behind ms j) us ≡ behind ms (join_all j us)
 all_behind ms j [] = refl
-all_behind ms j (u ∷ us) = ap (λ k. join_all k us) (one_behind ms j u) ∙ all_behind ms (join_unit j u) us
+all_behind ms j (u ∷ us) = ap (λ k. join_all k us) (one_after ms j u) ∙ all_behind ms (join_unit j u) us
 
 -- units that were joined, followed by those that come after
 pub joined_on : (us vs : List Unit) (o : Option MessageView) → o ≡ (joined us).rest

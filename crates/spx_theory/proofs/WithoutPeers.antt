@@ -22,7 +22,7 @@ use Rattle.spx_theory.specs.Note.{Note, Opened, Accepted, Joined, HandsIn, Takes
 use Rattle.spx_theory.specs.Scan.{Each, times, Scan, Mark, Reading, FromOutside, seen, seen_all, scan, unread, mark_of, role_of, is_now}
 use Rattle.spx_theory.specs.Handed.{taken_by, taken_of, handed_out, out_by}
 use Rattle.spx_theory.specs.States.{is_quiet}
-use Rattle.spx_theory.specs.Scene.{Scene, Stand, Stands, linked}
+use Rattle.spx_theory.specs.Scene.{Scene, PresentEnd, IsPresent, linked}
 use Rattle.spx_theory.specs.Deeds.{Deed, DoesDeed, Dials, Accepts, Reads, OwesReply, Paces, AsksAgain, Gives, Rests, Sends, Takes, Overruns, Closes, Releases, Carries, Tells, Injects, Reached, begun, happened}
 use Rattle.spx_theory.specs.PacketsOnWay.{note_of, notes_of, out_notes}
 use Rattle.spx_theory.specs.SentUnits.{sent_by}
@@ -78,16 +78,16 @@ pub record AloneLink (who : ℕ) (l : LinkView) (log : List Note) : Type 0 where
   pub opening : l.state ≡ S.Opening → (l.next ≡ 0) × (l.room ≡ 0) × (sent_by who log ≡ 0)
   pub limit : (n : ℕ) → n < sent_by who log + l.room → AllowedHere who n log
 
-pub record Alone (who : ℕ) (ends : List Stand) (log : List Note) : Type 0 where
+pub record Alone (who : ℕ) (ends : List PresentEnd) (log : List Note) : Type 0 where
   pub taken : taken_of who log ≡ []
   pub out : handed_out who log ≡ []
-  pub link : (w : Stand) (l : LinkView) → slice_get ends who ≡ Some w → w.link ≡ Some l → AloneLink who l log
+  pub link : (w : PresentEnd) (l : LinkView) → slice_get ends who ≡ Some w → w.link ≡ Some l → AloneLink who l log
   pub unmade : length ends ≤ who → sent_by who log ≡ 0
 
 abbrev pub AloneAt : ℕ → Scene → Type 0
 AloneAt who s = Alone who s.ends s.log
 
-alone_at : (who : ℕ) (s : Scene) (ends : List Stand) (log : List Note) → s.ends ≡ ends → s.log ≡ log → Alone who ends log → AloneAt who s
+alone_at : (who : ℕ) (s : Scene) (ends : List PresentEnd) (log : List Note) → s.ends ≡ ends → s.log ≡ log → Alone who ends log → AloneAt who s
 alone_at who s ends log one two t = at_scene (λ es ps l. Alone who es l) s ends s.parcels log one refl two t
 
 allowed_more : (who n : ℕ) (log ns : List Note) → AllowedHere who n log → AllowedHere who n (log ++ ns)
@@ -143,7 +143,7 @@ module _ (who : ℕ) (s : Scene) (f : FactsAt s) (t : SidesAt s) (a : AloneAt wh
       }
 
   -- one end is replaced
-  writes : (ns : List Note) (e : ℕ) (w v : Stand) → slice_get s.ends e ≡ Some w → IsSilent who ns → (e ≢ who → SameSent who s.log ns)
+  writes : (ns : List Note) (e : ℕ) (w v : PresentEnd) → slice_get s.ends e ≡ Some w → IsSilent who ns → (e ≢ who → SameSent who s.log ns)
       → (e ≡ who → (m : LinkView) → v.link ≡ Some m → AloneLink who m (s.log ++ ns)) → Alone who (set s.ends e v) (s.log ++ ns)
   writes ns e w v at q same new =
       record {
@@ -159,7 +159,7 @@ module _ (who : ℕ) (s : Scene) (f : FactsAt s) (t : SidesAt s) (a : AloneAt wh
       }
 
   -- one end is added
-  comes : (ns : List Note) (v : Stand) → IsSilent who ns → SameSent who s.log ns → (length s.ends ≡ who → (m : LinkView) → v.link ≡ Some m → AloneLink who m (s.log ++ ns)) → Alone who (s.ends ++ v ∷ []) (s.log ++ ns)
+  comes : (ns : List Note) (v : PresentEnd) → IsSilent who ns → SameSent who s.log ns → (length s.ends ≡ who → (m : LinkView) → v.link ≡ Some m → AloneLink who m (s.log ++ ns)) → Alone who (s.ends ++ v ∷ []) (s.log ++ ns)
   comes ns v q same new =
       record {
         taken = nothing_taken ns q;
@@ -226,14 +226,14 @@ calm_silent : (who : ℕ) → IsSilent who []
 calm_silent who = record { taken = refl; out = refl }
 
 -- the end's link is replaced by one with the same parts that matter here
-own_same : (who : ℕ) (s : Scene) (ns : List Note) (e : ℕ) (w : Stand) (l k : LinkView) → AloneAt who s → Stands s e w l → k.expected ≡ l.expected → k.held ≡ l.held → k.room ≡ l.room → k.next ≡ l.next → (k.state ≡ S.Opening → l.state ≡ S.Opening)
+own_same : (who : ℕ) (s : Scene) (ns : List Note) (e : ℕ) (w : PresentEnd) (l k : LinkView) → AloneAt who s → IsPresent s e w l → k.expected ≡ l.expected → k.held ≡ l.held → k.room ≡ l.room → k.next ≡ l.next → (k.state ≡ S.Opening → l.state ≡ S.Opening)
     → SameSent who s.log ns → e ≡ who → (m : LinkView) → (linked w k).link ≡ Some m → AloneLink who m (s.log ++ ns)
 own_same who s ns e w l k a stands expected held room next opens same own m is =
     let new : k ≡ m = cc is in
     subst (λ x. AloneLink who x (s.log ++ ns)) new
     (alone_same who s.log ns l k expected held (λ o. (next, room, opens o, same)) (omega (arith, room, same)) (a.link w l (subst (λ i. slice_get s.ends i ≡ Some w) own stands.there) stands.link))
 
-none_held : (laws : LawsBelow) (who : ℕ) (s : Scene) (e : ℕ) (w : Stand) (l : LinkView) (u : Unit) → AloneAt who s → Stands s e w l → (take_link l).0 ≡ Some u → e ≢ who
+none_held : (laws : LawsBelow) (who : ℕ) (s : Scene) (e : ℕ) (w : PresentEnd) (l : LinkView) (u : Unit) → AloneAt who s → IsPresent s e w l → (take_link l).0 ≡ Some u → e ≢ who
 none_held laws who s e w l u a stands gives own =
     let took : Took l u (take_link l).1 = laws.allowances.takes l u gives in
     let link = a.link w l (subst (λ i. slice_get s.ends i ≡ Some w) own stands.there) stands.link in

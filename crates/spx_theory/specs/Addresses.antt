@@ -3,7 +3,7 @@
 use Rattle.std.specs.Prelude.{ℕ, ◌≡◌, ◌≢◌, List, Some, slice_get, Contains}
 use Rattle.spx_theory.specs.Note.{Note, Released}
 use Rattle.spx_theory.specs.Peers.{NothingInjected, FromOwnPeer}
-use Rattle.spx_theory.specs.Scene.{Scene, Stand}
+use Rattle.spx_theory.specs.Scene.{Scene, PresentEnd}
 use Rattle.spx_messages.specs.WrittenPackets.{Home}
 
 abbrev pub AddressesDiffer : Scene → Type 0
@@ -17,7 +17,7 @@ NothingReleased log = (who : ℕ) → ¬ Contains log (Released who)
 -- no two ends have one id at one network and node, even if one of them was released
 abbrev pub IdsDiffer : Scene → Type 0
 IdsDiffer s =
-    (j k : ℕ) (e f : Stand) (h : Home)
+    (j k : ℕ) (e f : PresentEnd) (h : Home)
     → slice_get s.ends j ≡ Some e → slice_get s.ends k ≡ Some f
     → slice_get s.homes e.host ≡ Some h → slice_get s.homes f.host ≡ Some h → e.own ≡ f.own → j ≡ k
 

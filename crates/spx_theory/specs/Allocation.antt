@@ -6,7 +6,7 @@ use Rattle.spx_theory.specs.Scan.{scan, mark_of, role_of}
 use Rattle.spx_theory.specs.Peers.{ArePeers, Premises}
 use Rattle.spx_theory.specs.Handed.{handed_out, taken_of}
 use Rattle.spx_theory.specs.Scene.{Scene}
-use Rattle.spx_theory.specs.InStep.{IfStands}
+use Rattle.spx_theory.specs.InStep.{IfPresent}
 use Rattle.spx_theory.specs.SentUnits.{sent_by}
 
 -- before this, the end read a packet whose sender had, before the entry of its origin, taken so many units
@@ -33,7 +33,7 @@ WithinAllocation s =
 abbrev pub HasNoPeer : Scene → ℕ → Type 0
 HasNoPeer s who = (d : ℕ) → ¬ ArePeers s.log who d
 
-abbrev pub AloneReadsNothing : Scene → Type 0
-AloneReadsNothing s = Premises s.log → (who : ℕ) → HasNoPeer s who
+abbrev pub PeerlessReadsNothing : Scene → Type 0
+PeerlessReadsNothing s = Premises s.log → (who : ℕ) → HasNoPeer s who
     → (taken_of who s.log ≡ []) × (handed_out who s.log ≡ [])
-    × IfStands s who (λ l. (l.expected ≡ 0) × (l.held ≡ []))
+    × IfPresent s who (λ l. (l.expected ≡ 0) × (l.held ≡ []))

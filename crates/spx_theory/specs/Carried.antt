@@ -8,8 +8,8 @@ use Rattle.spx_theory.specs.Scene.{Scene}
 use Rattle.spx_theory.specs.PacketsOnWay.{one_on}
 
 -- the packet after so many routers, the first of which got it on this network
-abbrev pub behind_routers : ℕ → Network → PacketView → PacketView
-behind_routers passed network p =
+abbrev pub after_routers : ℕ → Network → PacketView → PacketView
+after_routers passed network p =
     let once : PacketView = one_on network p in
     record once { header = record once.header { hops = p.header.hops + passed } }
 
@@ -19,7 +19,7 @@ pub record IsCarried (network : Network) (passed : ℕ) (origin bytes : List ℕ
   pub packet : PacketView
   pub tail : List ℕ
   pub is : IsIpx packet origin tail
-  pub becomes : IsIpx (behind_routers passed network packet) bytes []
+  pub becomes : IsIpx (after_routers passed network packet) bytes []
   pub most : packet.header.hops + passed ≤ 15
 
 -- a parcel is its origin, or was forwarded from it by routers
@@ -27,8 +27,8 @@ abbrev pub IsFromOrigin : Network → ℕ → List ℕ → List ℕ → Type 0
 IsFromOrigin network passed origin bytes =
     ((passed ≡ 0) × (bytes ≡ origin)) ⊎ ((0 < passed) × IsCarried network passed origin bytes)
 
-abbrev pub RoutersAlterHopsAlone : Scene → Type 0
-RoutersAlterHopsAlone s = (k : ℕ) (bytes : List ℕ) → slice_get s.parcels k ≡ Some bytes
+abbrev pub RoutersAlterOnlyHops : Scene → Type 0
+RoutersAlterOnlyHops s = (k : ℕ) (bytes : List ℕ) → slice_get s.parcels k ≡ Some bytes
     → let m : Mark = mark_of (scan s.log) k in
     (origin : List ℕ) × (network : Network)
     × (slice_get s.parcels m.origin ≡ Some origin) × (slice_get s.segments m.origin ≡ Some network)

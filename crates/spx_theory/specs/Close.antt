@@ -11,12 +11,12 @@ use Rattle.spx_theory.specs.Note.{TakesUnit, AsksEnd}
 use Rattle.spx_theory.specs.Scan.{scan}
 use Rattle.spx_theory.specs.Peers.{AreJoined, ArePeers, Premises}
 use Rattle.spx_theory.specs.Handed.{handed_in, handed_out, units_of}
-use Rattle.spx_theory.specs.Scene.{Scene, Stand, Stands}
+use Rattle.spx_theory.specs.Scene.{Scene, PresentEnd, IsPresent}
 use Rattle.spx_theory.specs.InStep.{pair_in}
 
 -- every message of c was handed out at d, or is complete in what d has as partial message and holds
 abbrev pub HoldsAll : Scene → ℕ → ℕ → Type 0
-HoldsAll s c d = (e : Stand) (l : LinkView) → Stands s d e l
+HoldsAll s c d = (e : PresentEnd) (l : LinkView) → IsPresent s d e l
     → (handed_in c s.log
     ≡ handed_out d s.log ++ (join_all (record { messages = []; rest = e.rest }) l.held).messages)
 
@@ -36,13 +36,13 @@ IsEndInMachine s d c two =
 
 abbrev pub ConfirmedIsRead : Scene → Type 0
 ConfirmedIsRead s =
-    Premises s.log → (c : ℕ) (e : Stand) (l : LinkView) → Stands s c e l → l.state ≡ Confirmed
+    Premises s.log → (c : ℕ) (e : PresentEnd) (l : LinkView) → IsPresent s c e l → l.state ≡ Confirmed
     → (d : ℕ) × (two : End) × IsEndInMachine s d c two × IsClosed s c d two
 
 -- even if no confirmation arrived: the end was queued, and the queue is empty
 abbrev pub AcknowledgedIsRead : Scene → Type 0
 AcknowledgedIsRead s =
-    Premises s.log → (c : ℕ) (e : Stand) (l : LinkView) → Stands s c e l
+    Premises s.log → (c : ℕ) (e : PresentEnd) (l : LinkView) → IsPresent s c e l
     → l.end_queued ≡ true → l.queue ≡ []
     → (d : ℕ) × (two : End) × IsEndInMachine s d c two × IsClosed s c d two
 

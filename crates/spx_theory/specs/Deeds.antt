@@ -18,7 +18,7 @@ use Rattle.ipx_wire.specs.Connection.{IsConnectionPacket}
 use Rattle.spx_theory.specs.Note.{Opened, Accepted, HandsIn, TakesUnit, AsksEnd, Got, Released, Told, Carried, Injected}
 use Rattle.spx_link.specs.declared.received.Received.TheVariants as Receiveds
 use Rattle.spx_theory.specs.PacketsOnWay.{IsFor, IsOneOn, note_of, notes_of, out_notes}
-use Rattle.spx_theory.specs.Scene.{IsFreeId, Scene, Stand, Stands, linked, with_entries, put_end, sent_off}
+use Rattle.spx_theory.specs.Scene.{IsFreeId, Scene, PresentEnd, IsPresent, linked, with_entries, put_end, sent_off}
 use Rattle.spx_messages.specs.WrittenPackets.{Home, IsRequestFor, IsWrittenPacket}
 
 pub data Deed : Type 0 where
@@ -95,13 +95,13 @@ pub record DoesAccept (host id : ℕ) (socket : Socket) (parcel buffers now : �
 
 -- a link reads a parcel that is for its host and its socket, from its remote address
 pub record DoesRead (who parcel : ℕ) (s s' : Scene) : Type 0 where
-  pub stand : Stand
+  pub stand : PresentEnd
   pub link : LinkView
   pub bytes : List ℕ
   pub packet : PacketView
   pub header : SpxHeader
   pub body : List ℕ
-  pub stands : Stands s who stand link
+  pub stands : IsPresent s who stand link
   pub comes : slice_get s.parcels parcel ≡ Some bytes
   pub reads : IsConnectionPacket packet header body bytes
   pub home : (h : Home) → slice_get s.homes stand.host ≡ Some h
@@ -112,17 +112,17 @@ pub record DoesRead (who parcel : ℕ) (s s' : Scene) : Type 0 where
 
 -- a link changes by one of its functions, without an entry
 pub record DoesSilently (f : LinkView → LinkView) (who : ℕ) (s s' : Scene) : Type 0 where
-  pub stand : Stand
+  pub stand : PresentEnd
   pub link : LinkView
-  pub stands : Stands s who stand link
+  pub stands : IsPresent s who stand link
   pub after : s' ≡ put_end s who (linked stand (f link))
 
 -- a link is polled, and gives a packet, which is written
 pub record DoesGive (who now : ℕ) (segment : Network) (bytes : List ℕ) (s s' : Scene) : Type 0 where
-  pub stand : Stand
+  pub stand : PresentEnd
   pub link : LinkView
   pub given : OutgoingView
-  pub stands : Stands s who stand link
+  pub stands : IsPresent s who stand link
   pub gives : (poll_link link now).0 ≡ Some given
   pub home : Home
   pub home_is : slice_get s.homes stand.host ≡ Some home
@@ -133,17 +133,17 @@ pub record DoesGive (who now : ℕ) (segment : Network) (bytes : List ℕ) (s s'
 
 -- a link is polled and gives nothing, and may change (for example, it becomes lost)
 pub record DoesRest (who now : ℕ) (s s' : Scene) : Type 0 where
-  pub stand : Stand
+  pub stand : PresentEnd
   pub link : LinkView
-  pub stands : Stands s who stand link
+  pub stands : IsPresent s who stand link
   pub gives : (poll_link link now).0 ≡ None
   pub after : s' ≡ put_end s who (linked stand (poll_link link now).1)
 
 -- a message is accepted
 pub record DoesSend (who : ℕ) (m : MessageView) (s s' : Scene) : Type 0 where
-  pub stand : Stand
+  pub stand : PresentEnd
   pub link : LinkView
-  pub stands : Stands s who stand link
+  pub stands : IsPresent s who stand link
   pub live : refusal link.state ≡ None
   pub stream : m.stream < end_stream
   pub short : length m.body ≤ most_bytes
@@ -152,17 +152,17 @@ pub record DoesSend (who : ℕ) (m : MessageView) (s s' : Scene) : Type 0 where
 
 -- the end of the connection is asked for
 pub record DoesClose (who : ℕ) (s s' : Scene) : Type 0 where
-  pub stand : Stand
+  pub stand : PresentEnd
   pub link : LinkView
-  pub stands : Stands s who stand link
+  pub stands : IsPresent s who stand link
   pub live : refusal link.state ≡ None
   pub after : s' ≡ with_entries (put_end s who (linked stand (end_link link))) (AsksEnd who ∷ [])
 
 -- a unit is taken and joined to the partial message
 pub record DoesTake (who : ℕ) (u : Unit) (s s' : Scene) : Type 0 where
-  pub stand : Stand
+  pub stand : PresentEnd
   pub link : LinkView
-  pub stands : Stands s who stand link
+  pub stands : IsPresent s who stand link
   pub gives : (take_link link).0 ≡ Some u
   pub joins : Joining
   pub joined : joins ≡ join_unit (record { messages = []; rest = stand.rest }) u
@@ -173,9 +173,9 @@ pub record DoesTake (who : ℕ) (u : Unit) (s s' : Scene) : Type 0 where
 
 -- a message has more than 65,535 bytes: the unit, the message and the link are lost. There is no entry
 pub record DoesOverrun (who : ℕ) (u : Unit) (s s' : Scene) : Type 0 where
-  pub stand : Stand
+  pub stand : PresentEnd
   pub link : LinkView
-  pub stands : Stands s who stand link
+  pub stands : IsPresent s who stand link
   pub gives : (take_link link).0 ≡ Some u
   pub data' : u.stream ≢ end_stream
   pub long : most_bytes < length (added stand.rest u).body
@@ -189,9 +189,9 @@ pub record DoesOverrun (who : ℕ) (u : Unit) (s s' : Scene) : Type 0 where
 
 -- the end's link and its partial message are removed
 pub record DoesRelease (who : ℕ) (s s' : Scene) : Type 0 where
-  pub stand : Stand
+  pub stand : PresentEnd
   pub link : LinkView
-  pub stands : Stands s who stand link
+  pub stands : IsPresent s who stand link
   pub after : s' ≡ with_entries (put_end s who (record stand { link = None; rest = None })) (Released who ∷ [])
 
 -- a router forwards a parcel by one hop

@@ -88,9 +88,9 @@ abbrev pub given_notes : Option ℕ → Sent → ℕ → List Note
 given_notes None what parcel = []
 given_notes (Some who) what parcel = note_of what who parcel ∷ []
 
-abbrev pub said_notes : List (ℕ × ℕ) → Option (ℕ × Sent) → ℕ → List Note
-said_notes here None parcel = []
-said_notes here (Some s) parcel = given_notes (end_at here s.0) s.1 parcel
+abbrev pub sending_notes : List (ℕ × ℕ) → Option (ℕ × Sent) → ℕ → List Note
+sending_notes here None parcel = []
+sending_notes here (Some s) parcel = given_notes (end_at here s.0) s.1 parcel
 
 abbrev pub sent_letters : Option (Node × ℕ) → HostState → ℕ → List ℕ → List ParcelView
 sent_letters None s host written = []
@@ -114,7 +114,7 @@ pub record PollsHost (old : World) (host : ℕ) (result : Option (Node × ℕ))
   pub hosts : new.hosts ≡ set old.hosts host after
   pub ends : new.ends ≡ old.ends
   pub parcels : new.parcels ≡ old.parcels ++ sent_letters result before host written
-  pub log : new.log ≡ old.log ++ said_notes before.here after.endpoint.said (length old.parcels)
+  pub log : new.log ≡ old.log ++ sending_notes before.here after.endpoint.said (length old.parcels)
   pub moment : new.moment ≡ old.moment
 
 -- ---- a unit is taken from an end

@@ -9,7 +9,7 @@ use Rattle.spx_theory.specs.Scan.{Scan, scan, role_of}
 use Rattle.spx_theory.specs.Peers.{AreJoined, Premises}
 use Rattle.spx_theory.specs.Handed.{handed_in, handed_out, units_of, taken_of, IsBeginning}
 use Rattle.spx_theory.specs.PairLog.{Pair, pair_between}
-use Rattle.spx_theory.specs.Scene.{Scene, Stand, Stands}
+use Rattle.spx_theory.specs.Scene.{Scene, PresentEnd, IsPresent}
 
 -- the machine of the ends c, which dialled, and d, which was dialled, with the buffers that they were made
 -- with
@@ -27,19 +27,19 @@ pub record Mirrors (l : LinkView) (c : End) : Type 0 where
   pub held : c.taken + length l.held ≡ c.read
 
 -- of an end that has a link
-abbrev pub IfStands : Scene → ℕ → (LinkView → Type 0) → Type 0
-IfStands s who P = (e : Stand) (l : LinkView) → Stands s who e l → P l
+abbrev pub IfPresent : Scene → ℕ → (LinkView → Type 0) → Type 0
+IfPresent s who P = (e : PresentEnd) (l : LinkView) → IsPresent s who e l → P l
 
 -- for an end c, whose peer is d, and their ends of the machine: until c is released, its link is its end. The
 -- units that c took are the first ones of d, and with those that it holds they are as many as it read. What c
 -- handed out is a prefix of what was handed in at d. No take of c answered that a message grew too long. And
 -- only what d read counts as acknowledged
 pub record IsInStep (s : Scene) (c d : ℕ) (one two : End) : Type 0 where
-  pub machine : IfStands s c (λ l. Mirrors l one)
+  pub machine : IfPresent s c (λ l. Mirrors l one)
   pub units : taken_of c s.log ≡ take one.taken (units_of d s.log)
-  pub read : IfStands s c (λ l. taken_of c s.log ++ l.held ≡ take one.read (units_of d s.log))
+  pub read : IfPresent s c (λ l. taken_of c s.log ++ l.held ≡ take one.read (units_of d s.log))
   pub prefix : IsBeginning (handed_out c s.log) (handed_in d s.log)
-  pub never_overlong : (e : Stand) → slice_get s.ends c ≡ Some e → e.overlong ≡ false
+  pub never_overlong : (e : PresentEnd) → slice_get s.ends c ≡ Some e → e.overlong ≡ false
   pub acknowledged : one.base ≤ two.read
 
 abbrev pub PeersAreInStep : Scene → Type 0
@@ -50,8 +50,8 @@ PeersAreInStep s = Premises s.log → (c d : ℕ) → AreJoined (scan s.log) c d
 -- the same for everything in a link: while the two have links, these follow their ends, which are sound and
 -- have their units
 pub record AreFollowed (s : Scene) (c d : ℕ) (one two : End) : Type 0 where
-  pub first : IfStands s c (λ l. Follows l one two)
-  pub second : IfStands s d (λ l. Follows l two one)
+  pub first : IfPresent s c (λ l. Follows l one two)
+  pub second : IfPresent s d (λ l. Follows l two one)
   pub line : AreSound one two
   pub units : one.units ≡ units_of c s.log
   pub units_back : two.units ≡ units_of d s.log

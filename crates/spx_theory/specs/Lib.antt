@@ -4,7 +4,7 @@ pub mod Below
 pub mod Carried
 pub mod Close
 pub mod Deeds
-pub mod EndsTold
+pub mod EndsSummarized
 pub mod EntriesOfEnds
 pub mod Handed
 pub mod HandedOut

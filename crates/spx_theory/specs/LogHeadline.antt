@@ -10,8 +10,8 @@ PeersHandOn log = LogPremises log → (c d : ℕ) → HavePeer log c d
     → IsBeginning (handed_out c log) (handed_in d log)
 
 -- an end without a peer took no unit and handed out nothing
-abbrev pub AloneHandsOutNothing : List Note → Type 0
-AloneHandsOutNothing log = LogPremises log → (who : ℕ) → ((peer : ℕ) → ¬ HavePeer log who peer)
+abbrev pub PeerlessHandsOutNothing : List Note → Type 0
+PeerlessHandsOutNothing log = LogPremises log → (who : ℕ) → ((peer : ℕ) → ¬ HavePeer log who peer)
     → (taken_of who log ≡ []) × (handed_out who log ≡ [])
 
 -- before this, the end read a packet whose sender had, before the entry of its origin, taken so many units
@@ -41,5 +41,5 @@ UnitsAreAllowed log = LogPremises log → (before after : List Note) (who parcel
 
 pub record LogHeadline (log : List Note) : Type 0 where
   pub hands_on : PeersHandOn log
-  pub alone_hands : AloneHandsOutNothing log
+  pub alone_hands : PeerlessHandsOutNothing log
   pub allowed : UnitsAreAllowed log

@@ -5,7 +5,7 @@ use Rattle.spx_messages.specs.WrittenPackets.{Home}
 use Rattle.spx_theory.specs.Addresses.{IdsDiffer}
 use Rattle.spx_theory.specs.Peers.{AreJoined, ArePeers, NothingInjected}
 use Rattle.spx_theory.specs.Scan.{scan}
-use Rattle.spx_theory.specs.Scene.{Scene, Stand, Stands}
+use Rattle.spx_theory.specs.Scene.{Scene, PresentEnd, IsPresent}
 
 -- each has the id by which the other addresses its peer
 pub record AreNamed (a b : LinkView) : Type 0 where
@@ -14,11 +14,11 @@ pub record AreNamed (a b : LinkView) : Type 0 where
 
 abbrev pub PeersAreNamed : Scene → Type 0
 PeersAreNamed s =
-    (c d : ℕ) → AreJoined (scan s.log) c d → (e f : Stand) (a b : LinkView)
-    → Stands s c e a → Stands s d f b → AreNamed a b
+    (c d : ℕ) → AreJoined (scan s.log) c d → (e f : PresentEnd) (a b : LinkView)
+    → IsPresent s c e a → IsPresent s d f b → AreNamed a b
 
 -- a link goes to the network and the node of an end's host, and to the end's id
-pub record GoesTo (l : LinkView) (f : Stand) (h : Home) : Type 0 where
+pub record GoesTo (l : LinkView) (f : PresentEnd) (h : Home) : Type 0 where
   pub network : l.remote.network ≡ h.network
   pub node : l.remote.node ≡ h.node
   pub peer : l.peer ≡ f.own
@@ -27,6 +27,6 @@ pub record GoesTo (l : LinkView) (f : Stand) (h : Home) : Type 0 where
 -- an end that has a peer, even if the peer was released
 abbrev pub PeersAreThere : Scene → Type 0
 PeersAreThere s = IdsDiffer s → NothingInjected s.log
-    → (c d : ℕ) → ArePeers s.log c d → (e f : Stand) (l : LinkView)
-    → Stands s c e l → slice_get s.ends d ≡ Some f
+    → (c d : ℕ) → ArePeers s.log c d → (e f : PresentEnd) (l : LinkView)
+    → IsPresent s c e l → slice_get s.ends d ≡ Some f
     → (h : Home) × (slice_get s.homes f.host ≡ Some h) × GoesTo l f h

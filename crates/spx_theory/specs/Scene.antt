@@ -8,7 +8,7 @@ use Rattle.spx_theory.specs.Note.{Note}
 
 -- an end: its host, its id there, its link until it is released, its partial message, and whether a take of
 -- it answered that the message grew too long. The id stays after the link is released
-pub record Stand : Type 0 where
+pub record PresentEnd : Type 0 where
   pub host : ℕ
   pub own : ℕ
   pub link : Option LinkView
@@ -18,22 +18,22 @@ pub record Stand : Type 0 where
 -- hosts, ends and parcels by their numbers
 pub record Scene : Type 0 where
   pub homes : List Home
-  pub ends : List Stand
+  pub ends : List PresentEnd
   pub parcels : List (List ℕ)
   -- the network on which each parcel was sent
   pub segments : List Network
   pub log : List Note
 
 -- an end that is not released, with its link
-pub record Stands (s : Scene) (who : ℕ) (e : Stand) (l : LinkView) : Type 0 where
+pub record IsPresent (s : Scene) (who : ℕ) (e : PresentEnd) (l : LinkView) : Type 0 where
   pub there : slice_get s.ends who ≡ Some e
   pub link : e.link ≡ Some l
 
-abbrev pub linked : Stand → LinkView → Stand
+abbrev pub linked : PresentEnd → LinkView → PresentEnd
 linked e l = record e { link = Some l }
 
 -- the end is replaced by this one
-abbrev pub put_end : Scene → ℕ → Stand → Scene
+abbrev pub put_end : Scene → ℕ → PresentEnd → Scene
 put_end s who e = record s { ends = set s.ends who e }
 
 -- entries are appended to the log
@@ -52,4 +52,4 @@ sent_off s segment bytes n =
 -- no end of the host that is not released has the id
 abbrev pub IsFreeId : Scene → ℕ → ℕ → Type 0
 IsFreeId s host id =
-    (who : ℕ) (e : Stand) (l : LinkView) → Stands s who e l → e.host ≡ host → l.own ≢ id
+    (who : ℕ) (e : PresentEnd) (l : LinkView) → IsPresent s who e l → e.host ≡ host → l.own ≢ id

@@ -14,7 +14,7 @@ use Rattle.spx_theory.specs.Note.{Note, SendsUnit, SendsAgain}
 use Rattle.spx_theory.specs.Scan.{times, scan}
 use Rattle.spx_theory.specs.Handed.{units_of}
 use Rattle.spx_theory.specs.PairLog.{position_of}
-use Rattle.spx_theory.specs.Scene.{Scene, Stand, Stands}
+use Rattle.spx_theory.specs.Scene.{Scene, PresentEnd, IsPresent}
 
 -- how many units an end had sent
 abbrev pub sent_by : ℕ → List Note → ℕ
@@ -62,7 +62,7 @@ pub record UnitsAreSentInOrder (s : Scene) : Type 0 where
 -- its units
 abbrev pub LinksSendInOrder : Scene → Type 0
 LinksSendInOrder s =
-    (who : ℕ) (e : Stand) (l : LinkView) → Stands s who e l
+    (who : ℕ) (e : PresentEnd) (l : LinkView) → IsPresent s who e l
     → SendsFrom l (units_of who s.log) (sent_by who s.log)
 
 -- if a position below `sent` has this number, `position_of` is the greatest one

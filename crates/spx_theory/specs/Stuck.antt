@@ -9,7 +9,7 @@ use Rattle.spx_theory.specs.Addresses.{AddressesDiffer, NothingReleased}
 use Rattle.spx_theory.specs.Handed.{taken_of, units_of}
 use Rattle.spx_theory.specs.Note.{Note}
 use Rattle.spx_theory.specs.Peers.{ArePeers, IsFresh, NothingInjected, Premises}
-use Rattle.spx_theory.specs.Scene.{Scene, Stand, Stands}
+use Rattle.spx_theory.specs.Scene.{Scene, PresentEnd, IsPresent}
 use Rattle.spx_theory.specs.RoundsDeliver.{HasNotGivenUp, IsDelivered, IsSending}
 use Rattle.spx_theory.specs.LosslessRounds.{LosslessRounds, rounds_for}
 
@@ -30,8 +30,8 @@ untaken c d log = drop (length (taken_of d log)) (units_of c log)
 -- so many rounds of the links of c and its peer d deliver everything that c's user handed in
 abbrev pub PeersGoOn : Scene → Type 0
 PeersGoOn s =
-    (c d : ℕ) → ArePeers s.log c d → (e f : Stand) (a b a' b' : LinkView)
-    → Stands s c e a → Stands s d f b → CanGoOn a b
+    (c d : ℕ) → ArePeers s.log c d → (e f : PresentEnd) (a b a' b' : LinkView)
+    → IsPresent s c e a → IsPresent s d f b → CanGoOn a b
     → (moments : List ℕ) (units_b units_a : List Unit) → LosslessRounds a b moments a' b' units_b units_a
     → rounds_for a b ≤ length moments → IsDelivered a b a' b' (untaken c d s.log) units_b
 
@@ -41,8 +41,8 @@ NoStateIsStuck s = Premises s.log → PeersGoOn s
 -- in both directions at once, if both are live
 abbrev pub NoPairIsStuck : Scene → Type 0
 NoPairIsStuck s =
-    Premises s.log → (c d : ℕ) → ArePeers s.log c d → (e f : Stand) (a b a' b' : LinkView)
-    → Stands s c e a → Stands s d f b → CanGoOn a b → CanGoOn b a
+    Premises s.log → (c d : ℕ) → ArePeers s.log c d → (e f : PresentEnd) (a b a' b' : LinkView)
+    → IsPresent s c e a → IsPresent s d f b → CanGoOn a b → CanGoOn b a
     → (moments : List ℕ) (units_b units_a : List Unit) → LosslessRounds a b moments a' b' units_b units_a
     → rounds_for a b ≤ length moments → rounds_for b a ≤ length moments
     → IsDelivered a b a' b' (untaken c d s.log) units_b

@@ -5,7 +5,7 @@ use Rattle.ipx_wire.specs.declared.address.Node.{Node}
 use Rattle.ipx_wire.specs.declared.address.Socket.{Socket}
 use Rattle.spx_link.specs.Limits.{most_units}
 use Rattle.spx_theory.specs.Note.{Note}
-use Rattle.spx_theory.specs.Scene.{Scene, Stand}
+use Rattle.spx_theory.specs.Scene.{Scene, PresentEnd}
 use Rattle.spx_messages.specs.WrittenPackets.{Home}
 use Rattle.spx_messages.specs.EndpointView.{Held, EndpointView, held_at, buffers_at}
 use Rattle.spx_messages.specs.Polls.{home_of}
@@ -55,13 +55,13 @@ held_in (Some s) id = held_at s.endpoint id
 abbrev pub held_of : List HostState → EndNow → Option Held
 held_of hosts e = if e.released then None else held_in (slice_get hosts e.host) e.id
 
-abbrev pub stand_with : EndNow → Option Held → Stand
-stand_with e None = record { host = e.host; own = e.id; link = None; rest = None; overlong = e.overlong }
-stand_with e (Some h) =
+abbrev pub present_with : EndNow → Option Held → PresentEnd
+present_with e None = record { host = e.host; own = e.id; link = None; rest = None; overlong = e.overlong }
+present_with e (Some h) =
     record { host = e.host; own = e.id; link = Some h.link; rest = h.rest; overlong = e.overlong }
 
-abbrev pub stand_of : List HostState → EndNow → Stand
-stand_of hosts e = stand_with e (held_of hosts e)
+abbrev pub present_of : List HostState → EndNow → PresentEnd
+present_of hosts e = present_with e (held_of hosts e)
 
 abbrev pub home_at : HostState → Home
 home_at s = home_of s.endpoint
@@ -76,7 +76,7 @@ abbrev pub scene_of : World → Scene
 scene_of w =
     record {
       homes = map home_at w.hosts;
-      ends = map (stand_of w.hosts) w.ends;
+      ends = map (present_of w.hosts) w.ends;
       parcels = map bytes_of w.parcels;
       segments = map segment_of w.parcels;
       log = w.log;
@@ -85,7 +85,7 @@ scene_of w =
 -- ---- invariants
 
 -- an end that is not released: its host knows it by its id, and holds a link with that id
-pub record StandsAt (hosts : List HostState) (who : ℕ) (e : EndNow) : Type 0 where
+pub record IsPresentAt (hosts : List HostState) (who : ℕ) (e : EndNow) : Type 0 where
   pub station : HostState
   pub there : slice_get hosts e.host ≡ Some station
   pub known : end_at station.here e.id ≡ Some who
@@ -110,5 +110,5 @@ pub record IsHostInOrder (ends : List EndNow) (host : ℕ) (s : HostState) : Typ
 
 pub record InOrder (w : World) : Type 0 where
   pub ends : (who : ℕ) (e : EndNow) → slice_get w.ends who ≡ Some e → e.released ≡ false
-      → StandsAt w.hosts who e
+      → IsPresentAt w.hosts who e
   pub hosts : (k : ℕ) (s : HostState) → slice_get w.hosts k ≡ Some s → IsHostInOrder w.ends k s

@@ -3,7 +3,7 @@
 ghost use Rattle.std.specs.Prelude.{ℕ};
 ghost use Rattle.spx_theory.specs.Deeds.{Reached};
 ghost use Rattle.spx_theory.specs.EntriesOfEnds.{EntriesTellEnds};
-ghost use Rattle.spx_theory.specs.EndsTold.{EndsAreTold, EndsStay, GoneSendsNothing, PeerIsFound};
+ghost use Rattle.spx_theory.specs.EndsSummarized.{EndsAreSummarized, EndsStay, GoneSendsNothing, PeerIsFound};
 ghost use Rattle.spx_theory.specs.Numbered.{NumbersAreInOrder};
 ghost use Rattle.spx_theory.specs.Outside.{OutsideWasInjected};
 ghost use Rattle.spx_theory.specs.Scan.{Scan};
@@ -14,8 +14,8 @@ use crate::below::laws_below;
 
 /// Ends are numbered like their roles in the log. The next number of a link is that of the unit
 /// after those that its end sent. The link has the buffers that its end was made with.
-pub fn ends_are_told()
-    ensures { (s : Scene) → Reached s → EndsAreTold s }
+pub fn ends_are_summarized()
+    ensures { (s : Scene) → Reached s → EndsAreSummarized s }
 {
     laws_below();
 }

@@ -1,8 +1,8 @@
 //! The theorems, each about every scene that can be reached.
 
 ghost use Rattle.spx_theory.specs.Addresses.{AddressesTellPeers, IdsTellPeers};
-ghost use Rattle.spx_theory.specs.Allocation.{AloneReadsNothing, WithinAllocation};
-ghost use Rattle.spx_theory.specs.Carried.{RoutersAlterHopsAlone};
+ghost use Rattle.spx_theory.specs.Allocation.{PeerlessReadsNothing, WithinAllocation};
+ghost use Rattle.spx_theory.specs.Carried.{RoutersAlterOnlyHops};
 ghost use Rattle.spx_theory.specs.Close.{AcknowledgedIsRead, ConfirmedIsRead, EndTakenIsWhole};
 ghost use Rattle.spx_theory.specs.Deeds.{Reached};
 ghost use Rattle.spx_theory.specs.HandedOut.{AbsentHandsOutNothing, HandsOutWhatItTook, HoldsWhatIsLeft};
@@ -48,8 +48,8 @@ pub fn within_allocation()
 }
 
 /// Under the same premises, an end without a peer reads no unit, and hands out nothing.
-pub fn alone_reads_nothing()
-    ensures { (s : Scene) → Reached s → AloneReadsNothing s }
+pub fn peerless_reads_nothing()
+    ensures { (s : Scene) → Reached s → PeerlessReadsNothing s }
 {
     laws_below();
 }
@@ -136,8 +136,8 @@ pub fn positions_are_greatest()
 
 /// Each parcel has the bytes of its origin, or the packet in them as routers forwarded it. That has
 /// one hop more for each router, and no padding. A source network of 0 is replaced by the origin's.
-pub fn routers_alter_hops_alone()
-    ensures { (s : Scene) → Reached s → RoutersAlterHopsAlone s }
+pub fn routers_alter_only_hops()
+    ensures { (s : Scene) → Reached s → RoutersAlterOnlyHops s }
 {
     laws_below();
 }

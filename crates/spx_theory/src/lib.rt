@@ -37,14 +37,14 @@ mod round_laws;
 mod step_laws;
 
 pub use ends::{
-    ends_are_told, ends_stay, entries_tell_ends, gone_sends_nothing, numbers_are_in_order,
+    ends_are_summarized, ends_stay, entries_tell_ends, gone_sends_nothing, numbers_are_in_order,
     outside_was_injected, peer_is_found, units_are_cuts,
 };
 pub use laws::{
-    acknowledged_end_is_read, addresses_tell_peers, alone_reads_nothing, confirmed_is_read,
-    end_taken_is_whole, hands_out_what_it_took, ids_tell_peers, links_send_in_order,
-    pairs_take_steps, peers_are_in_step, peers_are_named, peers_are_there, peers_follow,
-    positions_are_greatest, routers_alter_hops_alone, units_are_sent_in_order, within_allocation,
+    acknowledged_end_is_read, addresses_tell_peers, confirmed_is_read, end_taken_is_whole,
+    hands_out_what_it_took, ids_tell_peers, links_send_in_order, pairs_take_steps,
+    peerless_reads_nothing, peers_are_in_step, peers_are_named, peers_are_there, peers_follow,
+    positions_are_greatest, routers_alter_only_hops, units_are_sent_in_order, within_allocation,
 };
 pub use pair_laws::{
     calls_are_steps, calls_keep_names, calls_keep_what_lasts, confirmed_links_are_done,

@@ -7,7 +7,7 @@ ghost use Rattle.spx_theory.specs.Scene.{Scene};
 
 use crate::below::laws_below;
 use crate::ends::peer_is_found;
-use crate::laws::{alone_reads_nothing, peers_are_in_step, within_allocation};
+use crate::laws::{peerless_reads_nothing, peers_are_in_step, within_allocation};
 
 /// Each parcel has one origin, which the entries of the routers that forwarded it lead to.
 pub fn origins_are_read()
@@ -53,6 +53,6 @@ pub fn headline_of_log()
 {
     laws_below();
     peers_are_in_step();
-    alone_reads_nothing();
+    peerless_reads_nothing();
     within_allocation();
 }

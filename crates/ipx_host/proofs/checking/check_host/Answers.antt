@@ -2,7 +2,7 @@ use Rattle.std.proofs.Common.{String, ◌≡◌, ℕ, List, Result, Ok, Err, sub
 use Rattle.std.specs.Prelude.{IfOk, IsOkAnd, string_bytes}
 use Rattle.std.specs.Global.{Global}
 use Rattle.std.specs.Io.KnownBytes.{Appends}
-use Rattle.ipx_host.specs.Saying.{host_lines}
+use Rattle.ipx_host.specs.HostCheckLines.{host_lines}
 use Rattle.ipx_host.proofs.checking.check_host.Goals as goal
 
 -- what is written is the text that was made

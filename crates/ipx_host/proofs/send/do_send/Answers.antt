@@ -4,7 +4,7 @@ use Rattle.ipx_site.specs.Host.{IsHostText}
 use Rattle.ipx_site.specs.Loading.{IsFileText}
 use Rattle.ipx_site.specs.declared.host.HostConfig.{HostConfig}
 use Rattle.ipx_wire.specs.declared.address.Address.{Address}
-use Rattle.ipx_host.specs.Access.{far_address, is_nowhere}
+use Rattle.ipx_host.specs.Access.{peer_address_of, is_nowhere}
 use Rattle.ipx_host.specs.Sent.{HasBuffers, SendsInput, SendsWholeInput}
 use Rattle.ipx_host.specs.Target.{NamesAddress}
 use Rattle.ipx_host.specs.declared.target.Target.{Target}
@@ -47,15 +47,15 @@ buffers_of text h is = elim is.2.buffers [
 -- what was sent, and by which file
 sent_of : {K : Type 0} (X : Type 0) (t : Target) (to : Address) (known left : Option (List ℕ)) (tells : K → ℕ → K → Type 0) (loaded : Result HostConfig ℕ) (r : ℕ)
     → IfErr loaded (λ s. (s ≡ 1) ⊎ (s ≡ 2)) → IfErr loaded (λ s. (r ≡ s) × X) → IfOk loaded (λ h. (text : List ℕ) × IsFileText text × IsHostText text h) → NamesAddress t to
-    → IfOk loaded (λ h. r ≡ 0 → SendsInput h (far_address h to) known left tells) → r ≡ 0
-    → (text : List ℕ) × (file : HostConfig) × (a : Address) × IsFileText text × IsHostText text file × NamesAddress t a × SendsWholeInput file (far_address file a) known left tells
+    → IfOk loaded (λ h. r ≡ 0 → SendsInput h (peer_address_of h to) known left tells) → r ≡ 0
+    → (text : List ℕ) × (file : HostConfig) × (a : Address) × IsFileText text × IsHostText text file × NamesAddress t a × SendsWholeInput file (peer_address_of file a) known left tells
 sent_of X t to known left tells (Ok h) r fault unloaded host named sent zero = (host.0, h, to, host.1, host.2, named, record { buffers = buffers_of host.0 h host.2; sends = sent zero })
 sent_of X t to known left tells (Err s) r (inl e) unloaded host named sent zero = absurd (omega (arith, unloaded.0, e, zero))
 sent_of X t to known left tells (Err s) r (inr e) unloaded host named sent zero = absurd (omega (arith, unloaded.0, e, zero))
 
 pub returns-clause-few : goal.returns-clause-few
 returns-clause-few g c =
-    few_of (c.send_loaded.new.reader ≡ c.args.reader.now) (λ h. is_nowhere h (far_address h c.in-Ok.to)) c.load_host-loaded.result c.send_loaded.result
+    few_of (c.send_loaded.new.reader ≡ c.args.reader.now) (λ h. is_nowhere h (peer_address_of h c.in-Ok.to)) c.load_host-loaded.result c.send_loaded.result
     c.load_host-loaded.ensures.fault c.send_loaded.ensures.nowhere c.send_loaded.ensures.status c.send_loaded.ensures.unloaded
 
 pub returns-clause-sent : goal.returns-clause-sent
@@ -71,5 +71,5 @@ returns-clause-all g c = λ zero.
 
 pub returns-clause-untouched : goal.returns-clause-untouched
 returns-clause-untouched g c =
-    untouched_of (c.send_loaded.new.reader ≡ c.args.reader.now) (λ h. is_nowhere h (far_address h c.in-Ok.to)) c.load_host-loaded.result c.send_loaded.result
+    untouched_of (c.send_loaded.new.reader ≡ c.args.reader.now) (λ h. is_nowhere h (peer_address_of h c.in-Ok.to)) c.load_host-loaded.result c.send_loaded.result
     c.send_loaded.ensures.nowhere c.send_loaded.ensures.status c.send_loaded.ensures.unloaded

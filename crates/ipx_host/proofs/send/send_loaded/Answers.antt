@@ -2,7 +2,7 @@ use Rattle.std.proofs.Common.{◌≡◌, ◌∙◌, ℕ, List, Option, refl, sub
 use Rattle.ipx_carrier.specs.Turns.{peers_of}
 use Rattle.ipx_site.specs.declared.host.HostConfig.{HostConfig}
 use Rattle.ipx_wire.specs.declared.address.Address.{Address}
-use Rattle.ipx_host.specs.Access.{far_address}
+use Rattle.ipx_host.specs.Access.{peer_address_of}
 use Rattle.ipx_host.specs.SendRounds.{place}
 use Rattle.ipx_host.specs.SendSteps.{noted}
 use Rattle.ipx_host.specs.Sent.{SendsInput}
@@ -17,6 +17,6 @@ sends_to file a b known left tells r same sent zero = subst (λ (to : Address). 
 pub returns-clause-sent : goal.returns-clause-sent
 returns-clause-sent g c =
     on_ok _ c.args.loaded c.in-Ok.file c.in-Ok.is
-    (sends_to c.in-Ok.file c.far_address-to.result (far_address c.in-Ok.file c.args.to) (g.I.Read.remaining c.args.reader.now) (g.I.Read.remaining c.send_opened.new.reader) _ c.send_opened.result c.far_address-to.ensures
-    (sends (c.send_opened.new.reader ≡ c.args.reader.now) c.open-opened.result c.send_opened.result c.in-Ok.file c.far_address-to.result (g.I.Read.remaining c.args.reader.now) (g.I.Read.remaining c.send_opened.new.reader) _
+    (sends_to c.in-Ok.file c.peer_address_of-to.result (peer_address_of c.in-Ok.file c.args.to) (g.I.Read.remaining c.args.reader.now) (g.I.Read.remaining c.send_opened.new.reader) _ c.send_opened.result c.peer_address_of-to.ensures
+    (sends (c.send_opened.new.reader ≡ c.args.reader.now) c.open-opened.result c.send_opened.result c.in-Ok.file c.peer_address_of-to.result (g.I.Read.remaining c.args.reader.now) (g.I.Read.remaining c.send_opened.new.reader) _
     (λ s k. place s.station.clock s.station.core (noted s.joined s.left) s.input.read s.input.closed s.input.acked_bytes k) (λ s. peers_of s.station.host_socket.peers.items) (λ s. s.id) (sym c.is_nowhere.ensures ∙ c.if-is_nowhere.false) (λ s k. refl) c.open-opened.ensures.dialing c.send_opened.ensures.sent c.send_opened.ensures.unopened))

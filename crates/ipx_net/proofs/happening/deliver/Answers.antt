@@ -4,7 +4,7 @@ use Rattle.ipx_net.specs.StepResultView.{step_result_view}
 use Rattle.ipx_net.specs.NetEvents.{DeliversTo}
 use Rattle.ipx_net.specs.NetFaults.{network_at, place_fault}
 use Rattle.ipx_net.specs.Parcels.{parcel_view}
-use Rattle.ipx_net.specs.EventWants.{DeliveryWantsMemory, HostWantsMemory, RouterWantsMemory}
+use Rattle.ipx_net.specs.EventMemory.{DeliveryNeedsMemory, HostNeedsMemory, RouterNeedsMemory}
 use Rattle.ipx_net.specs.declared.parcel.Parcel.{Parcel}
 use Rattle.ipx_net.specs.declared.place.Place.{Place}
 use Rattle.ipx_net.proofs.Happened.{after, before, counted, delivered_ok, letter_at, parcel_within, reached_ok}
@@ -46,8 +46,8 @@ returns-in-Host-clause-memory c =
     λ made. (
       parcel_view p,
       letter_at ps b c.args.parcel p c.parcels-parcels.ensures within c.index-parcels-parcel.is,
-      subst (λ (pl : Place). DeliveryWantsMemory n c.args.parcel (parcel_view p).bytes pl) (sym c.in-Host.is)
-          (subst (λ (bs : List ℕ). HostWantsMemory c.args.hosts.now c.in-Host.host c.args.parcel bs c.args.now) bytes (c.deliver_host.ensures.memory made)),
+      subst (λ (pl : Place). DeliveryNeedsMemory n c.args.parcel (parcel_view p).bytes pl) (sym c.in-Host.is)
+          (subst (λ (bs : List ℕ). HostNeedsMemory c.args.hosts.now c.in-Host.host c.args.parcel bs c.args.now) bytes (c.deliver_host.ensures.memory made)),
     )
 
 pub returns-in-Port-clause-memory : goal.returns-in-Port-clause-memory
@@ -61,6 +61,6 @@ returns-in-Port-clause-memory c =
     λ made. (
       parcel_view p,
       letter_at ps b c.args.parcel p c.parcels-parcels.ensures within c.index-parcels-parcel.is,
-      subst (λ (pl : Place). DeliveryWantsMemory n c.args.parcel (parcel_view p).bytes pl) (sym c.in-Port.is)
-          (subst (λ (bs : List ℕ). RouterWantsMemory c.args.routers.now c.in-Port.router c.in-Port.port bs c.args.now) bytes (c.deliver_member.ensures.memory made)),
+      subst (λ (pl : Place). DeliveryNeedsMemory n c.args.parcel (parcel_view p).bytes pl) (sym c.in-Port.is)
+          (subst (λ (bs : List ℕ). RouterNeedsMemory c.args.routers.now c.in-Port.router c.in-Port.port bs c.args.now) bytes (c.deliver_member.ensures.memory made)),
     )

@@ -1,6 +1,6 @@
 use Rattle.std.proofs.Common.{IfOk, length, sym, subst}
 use Rattle.ipx_net.specs.StepResultView.{step_result_view}
-use Rattle.ipx_net.specs.EventWants.{PollWantsMemory}
+use Rattle.ipx_net.specs.EventMemory.{PollNeedsMemory}
 use Rattle.ipx_net.specs.HostEvents.{PollingHost}
 use Rattle.ipx_net.specs.NetEvents.{PollsOf}
 use Rattle.ipx_net.specs.declared.event.Member.{Member}
@@ -23,4 +23,4 @@ returns-in-Host-clause-polls c =
 
 pub returns-in-Host-clause-memory : goal.returns-in-Host-clause-memory
 returns-in-Host-clause-memory c = λ made.
-    subst (λ (m : Member). PollWantsMemory (before c.args.hosts.now c.args.routers.now c.args.indexed_log.now c.args.now) m) (sym c.in-Host.is) (c.poll_host.ensures.memory made)
+    subst (λ (m : Member). PollNeedsMemory (before c.args.hosts.now c.args.routers.now c.args.indexed_log.now c.args.now) m) (sym c.in-Host.is) (c.poll_host.ensures.memory made)

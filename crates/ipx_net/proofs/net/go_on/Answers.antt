@@ -1,5 +1,5 @@
 use Rattle.std.proofs.Common.{◌≡◌, ◌∙◌, Option, ap, arith, false, length, subst, sym, take, true, ℕ}
-use Rattle.ipx_net.specs.ToldEnds.{Restood, hosts_of}
+use Rattle.ipx_net.specs.EndSummaryChanges.{ChangesState, hosts_of}
 use Rattle.ipx_net.proofs.NetKept.{not_spent}
 use Rattle.ipx_net.proofs.NetTells.{range_on, tells_before, tells_err, tells_ok}
 use Rattle.ipx_net.proofs.TellingCounts.{notes_length}
@@ -29,7 +29,7 @@ returns-in-Ok-clause-tells c =
     let host = c.touched-host.ensures in
     tells_ok c.args.event _ c.args.course.now c.go_on.new.self c.args.told.now.infos.items c.stand.new.told.infos.items c.go_on.new.told.infos.items c.tell.new.told.infos.items c.stand-in-Ok.new.told.infos.items
     going (c.holds.ensures.links going).order (c.holds-in-Ok.ensures.links c.in-Ok.ensures.going).order (c.holds.ensures.links going).told (c.holds-in-Ok.ensures.links c.in-Ok.ensures.going).told
-    c.in-Ok.ensures.ok c.requires.tells (subst (λ (k : Option ℕ). Restood (hosts_of c.args.course.now.now.world) k true c.args.told.now.infos.items c.stand.new.told.infos.items) host c.stand.ensures) c.go_on.ensures.told c.tell.ensures.same c.tell.ensures.log (subst (λ (k : Option ℕ). Restood (hosts_of c.go_on.new.self.now.world) k false c.tell.new.told.infos.items c.stand-in-Ok.new.told.infos.items) host c.stand-in-Ok.ensures)
+    c.in-Ok.ensures.ok c.requires.tells (subst (λ (k : Option ℕ). ChangesState (hosts_of c.args.course.now.now.world) k true c.args.told.now.infos.items c.stand.new.told.infos.items) host c.stand.ensures) c.go_on.ensures.told c.tell.ensures.same c.tell.ensures.log (subst (λ (k : Option ℕ). ChangesState (hosts_of c.go_on.new.self.now.world) k false c.tell.new.told.infos.items c.stand-in-Ok.new.told.infos.items) host c.stand-in-Ok.ensures)
 
 pub returns-in-Err-clause-tells : goal.returns-in-Err-clause-tells
 returns-in-Err-clause-tells c =

@@ -10,8 +10,8 @@ returns c =
       outcome = c.answer_is_one.ensures;
       offers = c.offers_are_one.ensures;
       poll = c.poll_is_one.ensures;
-      telling = c.telling_is_one.ensures.packets;
-      holding = c.telling_is_one.ensures.holds;
+      telling = c.advertisements_are_determined.ensures.packets;
+      holding = c.advertisements_are_determined.ensures.holds;
       start = c.start_is_one.ensures;
     } in
     events_have_one_outcome laws

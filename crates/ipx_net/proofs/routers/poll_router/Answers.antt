@@ -1,6 +1,6 @@
 use Rattle.std.proofs.Common.{inr, refl, true}
 use Rattle.ipx_router.specs.RouterPackets.{sendings}
-use Rattle.ipx_net.proofs.Wanting.{on_err, some_behind}
+use Rattle.ipx_net.proofs.Wanting.{on_err, some_after}
 use Rattle.ipx_net.proofs.routers.poll_router.Goals as goal
 
 pub returns-in_err-append-clause-refused : goal.returns-in_err-append-clause-refused
@@ -19,5 +19,5 @@ returns-in_err-append-clause-refused c =
         rest = c.in_ok-told.ensures.rest;
         started = refl;
       },
-      some_behind c.in_ok-packets.packets c.in_ok-told.told c.in_err-append.ensures.full,
+      some_after c.in_ok-packets.packets c.in_ok-told.told c.in_err-append.ensures.full,
     )))

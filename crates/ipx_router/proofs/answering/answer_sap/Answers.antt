@@ -1,6 +1,6 @@
 use Rattle.ipx_wire.specs.Ipx.{packet_view}
 use Rattle.ipx_router.specs.Knowledge.{services_in}
-use Rattle.ipx_router.proofs.Receiving.{sap_heard, sap_wants}
+use Rattle.ipx_router.proofs.Receiving.{sap_heard, sap_needs}
 use Rattle.ipx_router.proofs.answering.answer_sap.Goals as goal
 
 pub returns-in-Ok-Response-clause-answer : goal.returns-in-Ok-Response-clause-answer
@@ -12,7 +12,7 @@ returns-in-Ok-Response-clause-answer c =
 pub returns-in-Ok-Response-clause-refused : goal.returns-in-Ok-Response-clause-refused
 returns-in-Ok-Response-clause-refused c =
     let found = rw c.in-Ok-Response.field-0-is at c.in-Ok-Response.ensures.found in
-    sap_wants (services_in c.args.services.now) c.args.at (packet_view c.args.packet) found.0 c.in-Ok-Response.field-0-0 c.in-Ok-Response.entries c.neighbour_of-source.result c.neighbour_of-source.ensures c.in-Ok-Response.ensures.whole found.1 c.hear_services-heard.new.services
+    sap_needs (services_in c.args.services.now) c.args.at (packet_view c.args.packet) found.0 c.in-Ok-Response.field-0-0 c.in-Ok-Response.entries c.neighbour_of-source.result c.neighbour_of-source.ensures c.in-Ok-Response.ensures.whole found.1 c.hear_services-heard.new.services
     c.hear_services-heard.result c.outcome_of_hearing.result c.hear_services-heard.ensures.refused c.outcome_of_hearing.ensures.refused
 
 pub returns-in-Ok-Response-clause-sources : goal.returns-in-Ok-Response-clause-sources

@@ -3,7 +3,7 @@ use Rattle.std.specs.Prelude.{IfOk, OnErr}
 use Rattle.ipx_router.specs.Knowledge.{Known}
 use Rattle.ipx_router.specs.OutcomeView.{router_outcome}
 use Rattle.ipx_router.specs.Answer.{AnswersBytes}
-use Rattle.ipx_router.specs.WantOfMemory.{BytesWantMemory}
+use Rattle.ipx_router.specs.OutOfMemoryCases.{BytesOutOfMemory}
 use Rattle.ipx_router.proofs.Receiving.{known_same}
 use Rattle.ipx_router.proofs.KeptTables.{sound_aged}
 use Rattle.ipx_router.proofs.answering.receive_at.Goals as goal
@@ -20,4 +20,4 @@ returns-clause-answer c =
 pub returns-clause-refused : goal.returns-clause-refused
 returns-clause-refused c =
     let same = known_same c.args.ports.now c.args.at.now c.args.routes.now c.age.new.self c.args.services.now c.age-2.new.self c.age.ensures.aged c.age-2.ensures.aged in
-    subst (λ (k : Known). OnErr c.answer_to.result (BytesWantMemory k c.args.at c.args.bytes.now (c.answer_to.new.routes, c.answer_to.new.services))) same c.answer_to.ensures.refused
+    subst (λ (k : Known). OnErr c.answer_to.result (BytesOutOfMemory k c.args.at c.args.bytes.now (c.answer_to.new.routes, c.answer_to.new.services))) same c.answer_to.ensures.refused

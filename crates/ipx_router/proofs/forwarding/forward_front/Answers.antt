@@ -9,7 +9,7 @@ pub returns-in-Dropped-clause-forwards : goal.returns-in-Dropped-clause-forwards
 returns-in-Dropped-clause-forwards c = λ body tail is size. (
   c.route_to-route.result,
   c.route_to-route.ensures.route,
-  subst (λ (f : Forwarding). IsForwardingAnswer c.args.at.port (packet_of c.args.header body) f (Dropped c.in-Dropped.reason)) (sym c.in-Dropped.is ∙ c.fate_by_route.ensures.fate) refl,
+  subst (λ (f : Forwarding). IsForwardingAnswer c.args.at.port (packet_of c.args.header body) f (Dropped c.in-Dropped.reason)) (sym c.in-Dropped.is ∙ c.forwarding_by_route.ensures.fate) refl,
 )
 
 pub returns-in-Forward-clause-forwards : goal.returns-in-Forward-clause-forwards
@@ -17,9 +17,9 @@ returns-in-Forward-clause-forwards c = λ body tail is size.
     let sent = take c.args.count c.change_front.new.bytes in (
       c.route_to-route.result,
       c.route_to-route.ensures.route,
-      subst (λ (f : Forwarding). IsForwardingAnswer c.args.at.port (packet_of c.args.header body) f (Forward c.in-Forward.port c.in-Forward.next sent)) (sym c.in-Forward.is ∙ c.fate_by_route.ensures.fate)
+      subst (λ (f : Forwarding). IsForwardingAnswer c.args.at.port (packet_of c.args.header body) f (Forward c.in-Forward.port c.in-Forward.next sent)) (sym c.in-Forward.is ∙ c.forwarding_by_route.ensures.fate)
           (sent, refl, c.change_front.ensures.forwarded body tail is size),
     )
 
 pub returns-in-Forward-clause-one_hop_on : goal.returns-in-Forward-clause-one_hop_on
-returns-in-Forward-clause-one_hop_on c = λ body tail is size. (rw c.in-Forward.is at c.fate_by_route.ensures.hops, c.change_front.ensures.forwarded body tail is size)
+returns-in-Forward-clause-one_hop_on c = λ body tail is size. (rw c.in-Forward.is at c.forwarding_by_route.ensures.hops, c.change_front.ensures.forwarded body tail is size)

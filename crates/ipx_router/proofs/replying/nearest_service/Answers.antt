@@ -10,7 +10,7 @@ use Rattle.ipx_router.proofs.replying.nearest_service.Goals as goal
 pub loop-item-preserved-then-is_best_asked : goal.loop-item-preserved-then-is_best_asked
 loop-item-preserved-then-is_best_asked c = record {
   all = grind (arith, common_steps);
-  nearest = rw (c.nearer_of.ensures, c.told_service_of.ensures) (walk_near c.args.at c.args.kind c.loop-item.nearest c.loop-item.yielded c.in-Some.item c.loop-item.invariant.nearest (sym c.is_best_asked.ensures ∙ c.if-is_best_asked.true));
+  nearest = rw (c.nearer_of.ensures, c.advertised_service_of.ensures) (walk_near c.args.at c.args.kind c.loop-item.nearest c.loop-item.yielded c.in-Some.item c.loop-item.invariant.nearest (sym c.is_best_asked.ensures ∙ c.if-is_best_asked.true));
 }
 
 pub loop-item-preserved : goal.loop-item-preserved

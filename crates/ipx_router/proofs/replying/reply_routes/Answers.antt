@@ -6,7 +6,7 @@ use Rattle.ipx_router.specs.Replying.{AreRoutesAsked, asks_all}
 use Rattle.ipx_router.specs.RouterPackets.{AreRoutePackets}
 use Rattle.ipx_router.proofs.AllRoutes.{all_asked_for, some_asked_for}
 use Rattle.ipx_router.proofs.Cuts.{added_alone, none_left, some_left}
-use Rattle.ipx_router.proofs.SomeTold.{any_err, has_to_reply}
+use Rattle.ipx_router.proofs.SomeAdvertised.{any_err, has_to_reply}
 use Rattle.ipx_router.proofs.replying.reply_routes.Goals as goal
 
 IfNone_at : {A P : Type 0} (o : Option A) → o ≡ None → IfNone o P → P

@@ -13,12 +13,12 @@ use Rattle.ipx_router.specs.declared.packets.Recipient.{Recipient}
 use Rattle.ipx_router.specs.Knowledge.{routes_in}
 use Rattle.ipx_router.specs.RouterPackets.{AreRoutePackets, sendings}
 use Rattle.ipx_router.specs.Adding.{ArePacked}
-use Rattle.ipx_router.specs.Placing.{AreToldPorts, is_below}
-use Rattle.ipx_router.specs.Told.{told_route}
+use Rattle.ipx_router.specs.Placing.{AreAdvertisedPorts, is_below}
+use Rattle.ipx_router.specs.Told.{advertised_route}
 use Rattle.ipx_router.proofs.AllRoutes.{AreLeft, all_are_told, some_are_told, longer, told_items, walk_pass, walk_told}
 use Rattle.ipx_router.proofs.Merging.{merged}
-use Rattle.ipx_router.proofs.SomeTold.{any_err, some_by_item}
-use Rattle.ipx_router.proofs.ToldRoutes.{port_told}
+use Rattle.ipx_router.proofs.SomeAdvertised.{any_err, some_by_item}
+use Rattle.ipx_router.proofs.AdvertisedRoutes.{port_told}
 use Rattle.ipx_router.proofs.replying.route_replies.Goals as goal
 
 pub loop-item-init : goal.loop-item-init
@@ -71,13 +71,13 @@ loop-item-preserved-then-is_over_other_neighbour c =
     let before = subst (λ (to : Recipient). ArePacked (AreRoutePackets to) old.entries c.loop-item.packets.sent.items c.loop-item.packets.hand.items) (sym old.to) old.packed in
     let to_first = c.in_ok-later.ensures.to ∙ old.to in
     let mid = subst (λ (to : Recipient). ArePacked (AreRoutePackets to) low first.sent.items first.hand.items) (sym c.in_ok-later.ensures.to) (c.in_ok-later.ensures.put old.entries before) in
-    let after = subst (λ (to : Recipient). ArePacked (AreRoutePackets to) (low ++ c.told_entry.result ∷ []) last.sent.items last.hand.items) to_first (c.in_ok-put.ensures.put low mid) in
+    let after = subst (λ (to : Recipient). ArePacked (AreRoutePackets to) (low ++ c.advertised_entry.result ∷ []) last.sent.items last.hand.items) to_first (c.in_ok-put.ensures.put low mid) in
     record {
       all = grind (arith, common_steps);
       to = c.in_ok-put.ensures.to ∙ to_first;
-      entries = low ++ told_route item.0 item.2 at ∷ [];
-      packed = subst (λ (e : RipEntry). ArePacked (AreRoutePackets c.args.to) (low ++ e ∷ []) last.sent.items last.hand.items) c.told_entry.ensures after;
-      left = subst (λ (es : List RipEntry). AreLeft ports at es next all (low ++ told_route item.0 item.2 at ∷ [])) (sym c.in_ok-later.ensures.rest) (walk_told ports at rest item next all old.entries left told);
+      entries = low ++ advertised_route item.0 item.2 at ∷ [];
+      packed = subst (λ (e : RipEntry). ArePacked (AreRoutePackets c.args.to) (low ++ e ∷ []) last.sent.items last.hand.items) c.advertised_entry.ensures after;
+      left = subst (λ (es : List RipEntry). AreLeft ports at es next all (low ++ advertised_route item.0 item.2 at ∷ [])) (sym c.in_ok-later.ensures.rest) (walk_told ports at rest item next all old.entries left told);
     }
 
 pub loop-item-preserved : goal.loop-item-preserved
@@ -112,7 +112,7 @@ returns-in_err-put_all-clause-refused c =
     let all = merged own (told_items ports at heard) in
     let over : c.loop-item.item-iterator ≡ [] = grind (arith, common_steps) in
     let whole : old.entries ++ rest ≡ all = subst (λ (items : List (Network × Source × RouteMetric)). AreLeft ports at rest items all old.entries) over old.left in
-    let told : AreToldPorts ports at (length ports) own = rw c.as_slice-rest.ensures.value c.in_ok-own.ensures.told in
+    let told : AreAdvertisedPorts ports at (length ports) own = rw c.as_slice-rest.ensures.value c.in_ok-own.ensures.told in
     let some : 0 < length all = subst (λ (es : List RipEntry). 0 < length es) whole (longer old.entries rest c.in_err-put_all.ensures.refused) in
     any_err c.from_residual-in_err-put_all.result (some_are_told ports at (routes_in c.args.routes.now) heard listed c.one_best.ensures own told some)
 
@@ -129,7 +129,7 @@ returns-clause-replies c =
     let all = merged own (told_items ports at heard) in
     let over : c.loop-item.item-iterator ≡ [] = grind (arith, common_steps) in
     let whole : old.entries ++ rest ≡ all = subst (λ (items : List (Network × Source × RouteMetric)). AreLeft ports at rest items all old.entries) over old.left in
-    let told : AreToldPorts ports at (length ports) own = rw c.as_slice-rest.ensures.value c.in_ok-own.ensures.told in
+    let told : AreAdvertisedPorts ports at (length ports) own = rw c.as_slice-rest.ensures.value c.in_ok-own.ensures.told in
     let before = subst (λ (to : Recipient). ArePacked (AreRoutePackets to) old.entries c.loop-item.packets.sent.items c.loop-item.packets.hand.items) (sym old.to) old.packed in
     let last = c.put_all.new.self in
     let packed = subst (λ (to : Recipient). ArePacked (AreRoutePackets to) (old.entries ++ rest) last.sent.items last.hand.items) (sym c.in_ok-put_all.ensures.to) (c.in_ok-put_all.ensures.put old.entries before) in
@@ -153,7 +153,7 @@ returns-clause-refused c =
     let all = merged own (told_items ports at heard) in
     let over : c.loop-item.item-iterator ≡ [] = grind (arith, common_steps) in
     let whole : old.entries ++ rest ≡ all = subst (λ (items : List (Network × Source × RouteMetric)). AreLeft ports at rest items all old.entries) over old.left in
-    let told : AreToldPorts ports at (length ports) own = rw c.as_slice-rest.ensures.value c.in_ok-own.ensures.told in
+    let told : AreAdvertisedPorts ports at (length ports) own = rw c.as_slice-rest.ensures.value c.in_ok-own.ensures.told in
     let before = subst (λ (to : Recipient). ArePacked (AreRoutePackets to) old.entries c.loop-item.packets.sent.items c.loop-item.packets.hand.items) (sym old.to) old.packed in
     let last = c.put_all.new.self in
     let packed = subst (λ (to : Recipient). ArePacked (AreRoutePackets to) (old.entries ++ rest) last.sent.items last.hand.items) (sym c.in_ok-put_all.ensures.to) (c.in_ok-put_all.ensures.put old.entries before) in

@@ -13,10 +13,10 @@ use Rattle.ipx_router.specs.declared.packets.Recipient.{Recipient}
 use Rattle.ipx_router.specs.Knowledge.{services_in}
 use Rattle.ipx_router.specs.RouterPackets.{AreServicePackets, sendings}
 use Rattle.ipx_router.specs.Adding.{ArePacked}
-use Rattle.ipx_router.specs.Told.{told_service}
+use Rattle.ipx_router.specs.Told.{advertised_service}
 use Rattle.ipx_router.proofs.AllServices.{AreLeft, all_asked, asked_items, some_asked, walk_asked, walk_pass}
-use Rattle.ipx_router.proofs.SomeTold.{any_err}
-use Rattle.ipx_router.proofs.ToldServices.{item_replied}
+use Rattle.ipx_router.proofs.SomeAdvertised.{any_err}
+use Rattle.ipx_router.proofs.AdvertisedServices.{item_replied}
 use Rattle.ipx_router.proofs.replying.service_replies.Goals as goal
 
 pub loop-item-init : goal.loop-item-init
@@ -47,12 +47,12 @@ loop-item-preserved-in-Continue-1 c =
     let left = subst (λ (items : List (ServiceKey × Source × ServiceMetric)). AreLeft c.args.at c.args.kind items all old.entries) step old.left in
     let last = c.put.new.self in
     let before = subst (λ (to : Recipient). ArePacked (AreServicePackets to false) old.entries c.loop-item.packets.sent.items c.loop-item.packets.hand.items) (sym old.to) old.packed in
-    let after = subst (λ (to : Recipient). ArePacked (AreServicePackets to false) (old.entries ++ c.told_service_of.result ∷ []) last.sent.items last.hand.items) old.to (c.in_ok-put.ensures.put old.entries before) in
+    let after = subst (λ (to : Recipient). ArePacked (AreServicePackets to false) (old.entries ++ c.advertised_service_of.result ∷ []) last.sent.items last.hand.items) old.to (c.in_ok-put.ensures.put old.entries before) in
     record {
       all = grind (arith, common_steps);
       to = c.in_ok-put.ensures.to ∙ old.to;
-      entries = old.entries ++ told_service item ∷ [];
-      packed = subst (λ (e : ServiceEntry). ArePacked (AreServicePackets c.args.to false) (old.entries ++ e ∷ []) last.sent.items last.hand.items) c.told_service_of.ensures after;
+      entries = old.entries ++ advertised_service item ∷ [];
+      packed = subst (λ (e : ServiceEntry). ArePacked (AreServicePackets c.args.to false) (old.entries ++ e ∷ []) last.sent.items last.hand.items) c.advertised_service_of.ensures after;
       left = walk_asked c.args.at c.args.kind item next all old.entries left (sym c.is_best_asked.ensures ∙ c.if-is_best_asked.true);
     }
 

@@ -4,7 +4,7 @@ use Rattle.ipx_router.specs.declared.port.Port.{Port}
 use Rattle.ipx_router.specs.RouterPackets.{sendings}
 use Rattle.ipx_router.specs.Starting.{AreStarts}
 use Rattle.ipx_router.proofs.Tellings.{starts_more, starts_there}
-use Rattle.ipx_router.proofs.ToldRoutes.{no_port}
+use Rattle.ipx_router.proofs.AdvertisedRoutes.{no_port}
 use Rattle.ipx_router.proofs.starting.ask_all.Goals as goal
 use Rattle.ipx_router.proofs.starting.ask_all.Goals.{After-loop-i}
 

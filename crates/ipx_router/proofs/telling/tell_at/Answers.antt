@@ -2,7 +2,7 @@ use Rattle.std.proofs.Common.{◌≡◌, ◌∙◌, Bool, true, [], Some, Result
 use Rattle.std.specs.Prelude.{MatchBool, OnErr}
 use Rattle.ipx_router.specs.Knowledge.{Known, known_aged}
 use Rattle.ipx_router.specs.RouterPackets.{sendings}
-use Rattle.ipx_router.specs.Telling.{AreTellings, HasToTell, is_due}
+use Rattle.ipx_router.specs.Telling.{AreAdvertisements, HasToTell, is_due}
 use Rattle.ipx_router.proofs.Receiving.{known_same}
 use Rattle.ipx_router.proofs.KeptTables.{sound_aged}
 use Rattle.ipx_router.proofs.telling.tell_at.Goals as goal
@@ -13,8 +13,8 @@ returns-clause-tells c =
     let sent = sendings c.in_ok-replies.replies.items in
     let k = known_aged c.args.ports.now c.args.routes.now c.args.services.now c.args.now in
     let due : is_due c.args.told.now c.args.now ≡ true = sym c.is_time.ensures ∙ c.if-not-is_time.false in
-    subst (λ (b : Bool). MatchBool b (AreTellings k.ports k.routes k.services c.args.now 1 k.ports sent × (Some c.args.now ≡ Some c.args.now)) ((sent ≡ []) × (Some c.args.now ≡ c.args.told.now))) (sym due)
-    (subst (λ (k : Known). AreTellings k.ports k.routes k.services c.args.now 1 k.ports sent) same c.in_ok-replies.ensures.tells, refl)
+    subst (λ (b : Bool). MatchBool b (AreAdvertisements k.ports k.routes k.services c.args.now 1 k.ports sent × (Some c.args.now ≡ Some c.args.now)) ((sent ≡ []) × (Some c.args.now ≡ c.args.told.now))) (sym due)
+    (subst (λ (k : Known). AreAdvertisements k.ports k.routes k.services c.args.now 1 k.ports sent) same c.in_ok-replies.ensures.tells, refl)
 
 on_err : {A E P : Type 0} (r : Result A E) → P → OnErr r P
 on_err (Ok x) p = tt

@@ -2,9 +2,9 @@ use Rattle.std.proofs.Common.{◌+◌, List, [], append-nil, refl, sym, subst}
 use Rattle.std.proofs.lemmas.List.{drop_all, drop_more}
 use Rattle.ipx_router.specs.declared.port.Port.{Port}
 use Rattle.ipx_router.specs.RouterPackets.{SendingView, sendings}
-use Rattle.ipx_router.specs.Telling.{AreTellings}
+use Rattle.ipx_router.specs.Telling.{AreAdvertisements}
 use Rattle.ipx_router.proofs.Tellings.{tellings_more}
-use Rattle.ipx_router.proofs.ToldRoutes.{no_port}
+use Rattle.ipx_router.proofs.AdvertisedRoutes.{no_port}
 use Rattle.ipx_router.proofs.telling.tell_heard.Goals as goal
 
 pub loop-i-preserved : goal.loop-i-preserved
@@ -15,6 +15,6 @@ loop-i-preserved c = λ routes services by_routes by_services.
 pub returns : goal.returns
 returns c = λ routes services by_routes by_services.
     let over = drop_all c.loop-i.i c.args.ports.now c.loop-i-test.false in
-    let P : List Port → List SendingView → Type 0 = AreTellings c.args.ports.now routes services c.args.now (c.loop-i.i + 1) in
-    subst (AreTellings c.args.ports.now routes services c.args.now 1 c.args.ports.now) (append-nil (sendings c.loop-i.told.items))
+    let P : List Port → List SendingView → Type 0 = AreAdvertisements c.args.ports.now routes services c.args.now (c.loop-i.i + 1) in
+    subst (AreAdvertisements c.args.ports.now routes services c.args.now 1 c.args.ports.now) (append-nil (sendings c.loop-i.told.items))
     (c.loop-i.invariant routes services by_routes by_services [] (subst (λ (ps : List Port). P ps []) (sym over) refl))

@@ -1,7 +1,7 @@
 use Rattle.std.proofs.Common.{◌≡◌, sym, subst}
 use Rattle.ipx_control.specs.declared.rip.packet.RipEntry.{RipEntry}
 use Rattle.ipx_router.specs.Knowledge.{routes_in}
-use Rattle.ipx_router.specs.Told.{IsToldRoute}
+use Rattle.ipx_router.specs.Told.{IsAdvertisedRoute}
 use Rattle.ipx_router.proofs.Picked.{elsewhere_told, itself_untold}
 use Rattle.ipx_router.proofs.told.told_of.Goals as goal
 
@@ -12,4 +12,4 @@ returns-then-route-at c =
 pub returns : goal.returns
 returns c =
     let told = elsewhere_told c.one_best.ensures c.args.ports.now (routes_in c.args.routes.now) c.args.at c.args.network c.in-Some.route c.in-Some.ensures.route c.if-route-at.false in
-    subst (λ (e : RipEntry). IsToldRoute c.args.ports.now (routes_in c.args.routes.now) c.args.at e × (e.network ≡ c.args.network)) (sym c.told_entry.ensures) told
+    subst (λ (e : RipEntry). IsAdvertisedRoute c.args.ports.now (routes_in c.args.routes.now) c.args.at e × (e.network ≡ c.args.network)) (sym c.advertised_entry.ensures) told

@@ -1,5 +1,5 @@
 use Rattle.std.proofs.Common.{◌∙◌, ◌++◌, All, ap, arith, length, min, subst, sym, true}
-use Rattle.ipx_ethernet_ports.specs.EthernetAddresses.{ends_behind}
+use Rattle.ipx_ethernet_ports.specs.EthernetAddresses.{remote_counts}
 use Rattle.ipx_site.specs.RouterPorts.{fits}
 use Rattle.ipx_site.proofs.Marked.{set_first, set_second, set_third}
 use Rattle.ipx_site.proofs.ready_ports.mark_port.Goals as goal
@@ -9,7 +9,7 @@ invariant_of-ports-in-None c =
     let p = c.args.ports.now in
     record {
       fit = subst (λ w. All (fits (length p.datagrams.device.device.sockets.items)
-          (min (length w.switches.items) (length (ends_behind w.sockets.ethernet.items)))
+          (min (length w.switches.items) (length (remote_counts w.sockets.ethernet.items)))
           (min (length p.servers.servers.items) (length p.servers.sockets.sockets.items))) p.port_indices.items) (sym c.mark-in-None.ensures) p.fit;
     }
 

@@ -1,10 +1,10 @@
 use Rattle.std.proofs.Common.{◌≡◌, ◌<◌, ◌≤◌, ℕ, get_or}
 use Rattle.ipx_site.specs.IdleTime.{counts_of}
-use Rattle.ipx_site.specs.Moments.{IsToldIfDue, untold}
+use Rattle.ipx_site.specs.Moments.{IsLoggedIfDue, untold}
 use Rattle.ipx_site.proofs.warnings.tell_each.Given as goal
 
 -- the causes before this index are logged if they are due, and the others are unchanged
 abbrev pub invariant-loop-place : goal.invariant-loop-place
 invariant-loop-place g l =
-    ((k : ℕ) → k < l.place → IsToldIfDue (get_or (counts_of l.warnings) k 0) l.now (get_or l.fn.causes k untold) (get_or l.causes k untold))
+    ((k : ℕ) → k < l.place → IsLoggedIfDue (get_or (counts_of l.warnings) k 0) l.now (get_or l.fn.causes k untold) (get_or l.causes k untold))
     × ((k : ℕ) → l.place ≤ k → get_or l.causes k untold ≡ get_or l.fn.causes k untold)

@@ -6,5 +6,5 @@ use Rattle.ipx_static.proofs.laws.static_services_are_refreshed.Goals as goal
 pub returns : goal.returns
 returns c = λ ns now old new h n there alone stand e among near.
     let words = each_received now old.advertisements old.core new.core (heard_words old new now h.due h.heard) in
-    proof.service_refreshed c.bytes_are_one_packet.ensures c.ipx_fault_is_of_no_packet.ensures.no_fault c.sources_are_apart.ensures old.core.router.ports now ns old.advertisements h.advertisements h.others n there
+    proof.service_refreshed c.bytes_are_one_packet.ensures c.ipx_fault_is_of_no_packet.ensures.no_fault c.sources_are_distinct.ensures old.core.router.ports now ns old.advertisements h.advertisements h.others n there
     c.bytes_are_one_sap.ensures c.sap_fault_is_of_no_sap.ensures.no_fault e among near old.core.router new.core.router refl alone stand words

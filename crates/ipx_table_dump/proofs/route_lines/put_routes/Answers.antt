@@ -1,6 +1,6 @@
 use Rattle.std.proofs.Common.{◌∙◌, refl}
 use Rattle.ipx_tables.specs.Route.{network_cmp}
-use Rattle.ipx_table_dump.specs.Standing.{is_among_best}
+use Rattle.ipx_table_dump.specs.StillPresent.{is_among_best}
 use Rattle.ipx_table_dump.specs.TableText.{route_offer_line}
 use Rattle.ipx_table_dump.proofs.Rows.{offers_more}
 use Rattle.ipx_table_dump.proofs.route_lines.put_routes.Goals as goal

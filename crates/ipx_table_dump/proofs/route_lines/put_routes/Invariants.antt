@@ -1,7 +1,7 @@
 use Rattle.std.proofs.Common.{◌≡◌, ◌++◌, string_bytes, take}
 use Rattle.std.specs.List.{flat_map}
 use Rattle.ipx_tables.specs.Route.{network_cmp}
-use Rattle.ipx_table_dump.specs.Standing.{is_among_best}
+use Rattle.ipx_table_dump.specs.StillPresent.{is_among_best}
 use Rattle.ipx_table_dump.specs.TableText.{route_offer_line}
 use Rattle.ipx_table_dump.proofs.route_lines.put_routes.Given as goal
 

@@ -1,7 +1,7 @@
 use Rattle.std.proofs.Common.{◌≡◌, ◌++◌, string_bytes, take}
 use Rattle.std.specs.List.{flat_map}
 use Rattle.ipx_tables.specs.Service.{service_key_cmp}
-use Rattle.ipx_table_dump.specs.Standing.{is_among_best}
+use Rattle.ipx_table_dump.specs.StillPresent.{is_among_best}
 use Rattle.ipx_table_dump.specs.TableText.{service_offer_line}
 use Rattle.ipx_table_dump.proofs.service_lines.put_offers.Given as goal
 

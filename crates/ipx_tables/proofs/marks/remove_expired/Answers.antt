@@ -10,9 +10,9 @@ use Rattle.ipx_tables.proofs.Marked.{by_moment_filter, places_young, real_moved}
 use Rattle.ipx_tables.proofs.Permuted.{permuted_filter}
 use Rattle.ipx_tables.proofs.marks.remove_expired.Goals as goal
 
-pub returns-clause-by_moment : goal.returns-clause-by_moment
-returns-clause-by_moment g c =
-    rw c.cut_off_old.ensures.items (by_moment_filter (λ (m : Mark). is_young c.args.now m.moment) c.settle_old.new.marks.items c.settle_old.ensures.by_moment)
+pub returns-clause-by_time : goal.returns-clause-by_time
+returns-clause-by_time g c =
+    rw c.cut_off_old.ensures.items (by_moment_filter (λ (m : Mark). is_young c.args.now m.moment) c.settle_old.new.marks.items c.settle_old.ensures.by_time)
 
 pub returns-clause-places : goal.returns-clause-places
 returns-clause-places g c =

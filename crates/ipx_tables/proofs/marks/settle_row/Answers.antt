@@ -6,8 +6,8 @@ use Rattle.ipx_tables.specs.Marks.{IsRightMark}
 use Rattle.ipx_tables.proofs.Marked.{all_right, places_right}
 use Rattle.ipx_tables.proofs.marks.settle_row.Goals as goal
 
-pub returns-clause-by_moment : goal.returns-clause-by_moment
-returns-clause-by_moment g c =
+pub returns-clause-by_time : goal.returns-clause-by_time
+returns-clause-by_time g c =
     IsNonDecreasingBy-from_sort_by_key (λ (m : Mark). m.moment) _ c.sort_unstable_by_key.ensures.sorted (λ a r f' k. search rules)
 
 pub returns-clause-places : goal.returns-clause-places

@@ -1,6 +1,6 @@
 use Rattle.std.proofs.Common.{codes}
 use Rattle.ipx_tool.proofs.JoinedWords.{found_joined, frame_found_joined}
-use Rattle.ipx_tool.proofs.WordsApart.{stripped}
+use Rattle.ipx_tool.proofs.WordsSeparate.{stripped}
 use Rattle.ipx_tool.proofs.words.one_word_task.Goals as goal
 
 pub returns-in-Some : goal.returns-in-Some

@@ -1,6 +1,6 @@
 use Rattle.std.proofs.Common.{◌≡◌, ◌≢◌, ℕ, List, [], ◌∷◌, codes, rules, subst, sym}
 use Rattle.ipx_tool.specs.Words.{AsksFor, Finds}
-use Rattle.ipx_tool.proofs.OptionsBehind.{found_behind, found_check, found_json}
+use Rattle.ipx_tool.proofs.OptionsAfter.{found_after, found_check, found_json}
 use Rattle.ipx_tool.proofs.TypedWords.{NoOptions, found_typed}
 use Rattle.ipx_tool.proofs.words.option_task.Goals as goal
 
@@ -24,7 +24,7 @@ returns-then-eq-4 c =
     let once : c.args.second.now ≡ codes "--once" = search rules in
     let r = c.once_task-then-eq-4.result in
     subst (λ (w : List ℕ). Finds (AsksFor (c.args.command.now ∷ c.args.first.now ∷ w ∷ [])) r) (sym once)
-    (found_behind c.args.command.now c.args.first.now r c.once_task-then-eq-4.ensures)
+    (found_after c.args.command.now c.args.first.now r c.once_task-then-eq-4.ensures)
 
 pub returns-then-eq-5 : goal.returns-then-eq-5
 returns-then-eq-5 c =
@@ -59,8 +59,8 @@ returns c =
     let check : first ≢ codes "--check" = search rules in
     let json : first ≢ codes "--json" = search rules in
     let frame : first ≢ codes "--frame" = search rules in
-    let once_behind : second ≢ codes "--once" = search rules in
-    let check_behind : second ≢ codes "--check" = search rules in
-    let json_behind : second ≢ codes "--json" = search rules in
-    let none : NoOptions first second = record { port = port; once = once; check = check; json = json; frame = frame; once_behind = once_behind; check_behind = check_behind; json_behind = json_behind } in
+    let once_after : second ≢ codes "--once" = search rules in
+    let check_after : second ≢ codes "--check" = search rules in
+    let json_after : second ≢ codes "--json" = search rules in
+    let none : NoOptions first second = record { port = port; once = once; check = check; json = json; frame = frame; once_after = once_after; check_after = check_after; json_after = json_after } in
     found_typed c.args.command.now first second c.type_task.result none c.type_task.ensures

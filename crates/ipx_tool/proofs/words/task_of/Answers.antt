@@ -1,34 +1,34 @@
 use Rattle.std.proofs.Common.{◌<◌, ◌≤◌, ℕ, List, [], ◌∷◌, length, string_bytes, ap, arith, ◌∙◌}
 use Rattle.std.proofs.lemmas.Bool.{ltb-true, ltb-false}
-use Rattle.ipx_tool.proofs.ListedWords.{behind_two, behind_three, behind_four, behind_five, behind_six, behind_eight, found_for, none_behind}
+use Rattle.ipx_tool.proofs.ListedWords.{after_two, after_three, after_four, after_five, after_six, after_eight, found_for, none_behind}
 use Rattle.ipx_tool.proofs.words.task_of.Goals as goal
 use Rattle.ipx_tool.proofs.words.task_of.Goals.{in_default-via-then-words-lt2, in_default-via-else-words-lt2+else-words-lt3+else-words-lt4+else-words-lt5+else-words-lt6+else-words-lt7+then-words-lt8, in_default-via-else-words-lt2+else-words-lt3+else-words-lt4+else-words-lt5+else-words-lt6+else-words-lt7+else-words-lt8+else-words-lt9}
 
 pub returns-in-len2 : goal.returns-in-len2
 returns-in-len2 c =
     found_for c.plain_task.result
-    (ap (λ t. t ∷ []) c.as_str.ensures.value ∙ behind_two string_bytes c.args.words.now _ c.in-len2.len_at_least c.in-len2.len_below c.command-item.is)
+    (ap (λ t. t ∷ []) c.as_str.ensures.value ∙ after_two string_bytes c.args.words.now _ c.in-len2.len_at_least c.in-len2.len_below c.command-item.is)
     c.plain_task.ensures
 
 pub returns-in-len3 : goal.returns-in-len3
 returns-in-len3 c =
     found_for c.one_word_task.result
     ((λ i. c.as_str-in-len3.ensures.value i ∷ c.as_str-in-len3-2.ensures.value i ∷ [])
-    ∙ behind_three string_bytes c.args.words.now _ _ c.in-len3.len_at_least c.in-len3.len_below c.command-item-then-words-lt4.is c.word-item.is)
+    ∙ after_three string_bytes c.args.words.now _ _ c.in-len3.len_at_least c.in-len3.len_below c.command-item-then-words-lt4.is c.word-item.is)
     c.one_word_task.ensures
 
 pub returns-in-len4 : goal.returns-in-len4
 returns-in-len4 c =
     found_for c.option_task.result
     ((λ i. c.as_str-in-len4.ensures.value i ∷ c.as_str-in-len4-2.ensures.value i ∷ c.as_str-in-len4-3.ensures.value i ∷ [])
-    ∙ behind_four string_bytes c.args.words.now _ _ _ c.in-len4.len_at_least c.in-len4.len_below c.command-item-then-words-lt5.is c.option-item.is c.value-item.is)
+    ∙ after_four string_bytes c.args.words.now _ _ _ c.in-len4.len_at_least c.in-len4.len_below c.command-item-then-words-lt5.is c.option-item.is c.value-item.is)
     c.option_task.ensures
 
 pub returns-in-len5 : goal.returns-in-len5
 returns-in-len5 c =
     found_for c.two_words_task.result
     ((λ i. c.as_str-in-len5.ensures.value i ∷ c.as_str-in-len5-2.ensures.value i ∷ c.as_str-in-len5-3.ensures.value i ∷ c.as_str-in-len5-4.ensures.value i ∷ [])
-    ∙ behind_five string_bytes c.args.words.now _ _ _ _ c.in-len5.len_at_least c.in-len5.len_below c.command-item-then-words-lt6.is c.first-item.is c.second-item.is c.third-item.is)
+    ∙ after_five string_bytes c.args.words.now _ _ _ _ c.in-len5.len_at_least c.in-len5.len_below c.command-item-then-words-lt6.is c.first-item.is c.second-item.is c.third-item.is)
     c.two_words_task.ensures
 
 pub returns-in-len6 : goal.returns-in-len6
@@ -37,7 +37,7 @@ returns-in-len6 c =
     (ap (λ (ws : List (List ℕ)). c.as_str-in-len6-4.result.now ∷ c.as_str-in-len6-5.result.now ∷ ws) c.target_of-target.ensures
     ∙ (λ i. c.as_str-in-len6-4.ensures.value i ∷ c.as_str-in-len6-5.ensures.value i ∷ c.as_str-in-len6.ensures.value i
     ∷ c.as_str-in-len6-2.ensures.value i ∷ c.as_str-in-len6-3.ensures.value i ∷ [])
-    ∙ behind_six string_bytes c.args.words.now _ _ _ _ _ c.in-len6.len_at_least c.in-len6.len_below c.command-item-then-words-lt7.is
+    ∙ after_six string_bytes c.args.words.now _ _ _ _ _ c.in-len6.len_at_least c.in-len6.len_below c.command-item-then-words-lt7.is
     c.file-item.is c.network-item.is c.node-item.is c.socket-item.is)
     c.dialing_task.ensures
 
@@ -46,7 +46,7 @@ returns-in-len8 c =
     found_for c.counted_task.result
     ((λ i. c.as_str-in-len8.ensures.value i ∷ c.as_str-in-len8-2.ensures.value i ∷ c.as_str-in-len8-3.ensures.value i ∷ c.as_str-in-len8-4.ensures.value i
     ∷ c.as_str-in-len8-5.ensures.value i ∷ c.as_str-in-len8-6.ensures.value i ∷ c.as_str-in-len8-7.ensures.value i ∷ [])
-    ∙ behind_eight string_bytes c.args.words.now _ _ _ _ _ _ _ c.in-len8.len_at_least c.in-len8.len_below c.command-item-then-words-lt9.is
+    ∙ after_eight string_bytes c.args.words.now _ _ _ _ _ _ _ c.in-len8.len_at_least c.in-len8.len_below c.command-item-then-words-lt9.is
     c.first-item-then-words-lt9.is c.second-item-then-words-lt9.is c.third-item-then-words-lt9.is c.fourth-item.is c.fifth-item.is c.sixth-item.is)
     c.counted_task.ensures
 

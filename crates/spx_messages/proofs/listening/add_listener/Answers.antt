@@ -2,7 +2,7 @@ use Rattle.std.proofs.Common.{◌≡◌, ◌==◌, List, Some, None, Result, Ok,
 use Rattle.std.specs.Prelude.{OnErr}
 use Rattle.spx_messages.specs.declared.listening.Listener.{Listener}
 use Rattle.spx_messages.specs.EndpointView.{buffers_in}
-use Rattle.spx_messages.proofs.Listeners.{buffers_written, buffers_written_apart, buffers_pushed, buffers_pushed_apart, not_listening}
+use Rattle.spx_messages.proofs.Listeners.{buffers_written, buffers_written_separate, buffers_pushed, buffers_pushed_separate, not_listening}
 use Rattle.spx_messages.proofs.listening.add_listener.Goals as goal
 
 pub returns-in-Some-clause-this : goal.returns-in-Some-clause-this
@@ -15,7 +15,7 @@ pub returns-in-Some-clause-others : goal.returns-in-Some-clause-others
 returns-in-Some-clause-others c s apart =
     let y : Listener = record { socket = c.args.socket; buffers = c.args.buffers } in
     let at : position (λ (l : Listener). l.socket.0 == c.args.socket.0) c.args.listening.now.items ≡ Some c.in-Some.place = cc in
-    buffers_written_apart c.args.listening.now.items c.in-Some.place s c.index_mut.result.now y at c.index_mut.ensures.value apart
+    buffers_written_separate c.args.listening.now.items c.in-Some.place s c.index_mut.result.now y at c.index_mut.ensures.value apart
 
 pub returns-in_ok-push-in-None-clause-this : goal.returns-in_ok-push-in-None-clause-this
 returns-in_ok-push-in-None-clause-this c =
@@ -28,7 +28,7 @@ pub returns-in_ok-push-in-None-clause-others : goal.returns-in_ok-push-in-None-c
 returns-in_ok-push-in-None-clause-others c s apart =
     let y : Listener = record { socket = c.args.socket; buffers = c.args.buffers } in
     let P : List Listener → Type 0 = λ ls. buffers_in ls s ≡ buffers_in c.args.listening.now.items s in
-    subst P (sym c.in_ok-push-in-None.ensures.items) (buffers_pushed_apart c.args.listening.now.items s y apart)
+    subst P (sym c.in_ok-push-in-None.ensures.items) (buffers_pushed_separate c.args.listening.now.items s y apart)
 
 on_err : {T E : Type 0} (r : Result T E) (P : Type 0) → P → OnErr r P
 on_err (Ok x) P p = tt

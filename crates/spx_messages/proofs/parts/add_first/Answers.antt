@@ -5,7 +5,7 @@ use Rattle.spx_messages.specs.declared.parts.Part.{Part}
 use Rattle.spx_messages.specs.EndpointView.{rest_in}
 use Rattle.spx_messages.specs.Pushing.{Pushes}
 use Rattle.spx_messages.proofs.Pushed.{PushAnswer, pushes_refused, pushes_undone, pushes_along}
-use Rattle.spx_messages.proofs.Rests.{rest_nowhere, rest_pushed, rest_pushed_apart}
+use Rattle.spx_messages.proofs.Rests.{rest_nowhere, rest_pushed, rest_pushed_separate}
 use Rattle.spx_messages.proofs.parts.add_first.Goals as goal
 
 pub returns-in_err-message-clause-pushes : goal.returns-in_err-message-clause-pushes
@@ -58,4 +58,4 @@ pub returns-clause-others : goal.returns-clause-others
 returns-clause-others c q apart =
     let y : Part = record { id = c.args.id; inbox = c.push.new.self } in
     let P : List Part → Type 0 = λ ps. rest_in ps q ≡ rest_in c.args.parts.now.items q in
-    subst P (sym c.in_ok-push.ensures.items) (rest_pushed_apart c.args.parts.now.items c.args.id q y refl apart)
+    subst P (sym c.in_ok-push.ensures.items) (rest_pushed_separate c.args.parts.now.items c.args.id q y refl apart)

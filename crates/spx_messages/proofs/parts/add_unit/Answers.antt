@@ -2,7 +2,7 @@ use Rattle.std.proofs.Common.{◌≡◌, ◌==◌, None, refl, position}
 use Rattle.spx_messages.specs.declared.parts.Part.{Part}
 use Rattle.spx_messages.specs.EndpointView.{rest_in}
 use Rattle.spx_messages.proofs.Pushed.{pushes_at, pushes_along}
-use Rattle.spx_messages.proofs.Rests.{id_at_place, rest_nowhere, rest_written_apart, IsPlace}
+use Rattle.spx_messages.proofs.Rests.{id_at_place, rest_nowhere, rest_written_separate, IsPlace}
 use Rattle.spx_messages.proofs.parts.add_unit.Goals as goal
 
 pub returns-in-Some-clause-pushes : goal.returns-in-Some-clause-pushes
@@ -20,7 +20,7 @@ pub returns-in-Some-clause-others : goal.returns-in-Some-clause-others
 returns-in-Some-clause-others c q apart =
     let at : IsPlace c.args.parts.now.items c.args.id c.in-Some.place = cc in
     let y : Part = record { id = c.index_mut.result.now.id; inbox = c.push.new.self } in
-    rest_written_apart c.args.parts.now.items c.args.id q c.in-Some.place c.index_mut.result.now y at c.index_mut.ensures.value (id_at_place c.args.parts.now.items c.args.id c.in-Some.place c.index_mut.result.now at c.index_mut.ensures.value) apart
+    rest_written_separate c.args.parts.now.items c.args.id q c.in-Some.place c.index_mut.result.now y at c.index_mut.ensures.value (id_at_place c.args.parts.now.items c.args.id c.in-Some.place c.index_mut.result.now at c.index_mut.ensures.value) apart
 
 pub returns-in-None-clause-pushes : goal.returns-in-None-clause-pushes
 returns-in-None-clause-pushes c =

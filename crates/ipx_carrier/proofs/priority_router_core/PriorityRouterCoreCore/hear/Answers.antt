@@ -4,7 +4,7 @@ use Rattle.std.proofs.lemmas.Result.{err_from_is_err_and, on_err_weaker, on_ok_w
 use Rattle.ipx_router.specs.RouterPackets.{sendings}
 use Rattle.ipx_router.specs.OutcomeView.{router_outcome}
 use Rattle.ipx_carrier.specs.RouterQueues.{AreGivable}
-use Rattle.ipx_carrier.specs.PriorityRouterCore.{PriorityCoreView, PriorityHears, IsRoomByPriority, PriorityMisses, put_by_priority}
+use Rattle.ipx_carrier.specs.PriorityRouterCore.{PriorityCoreView, PriorityHears, IsSpaceByPriority, PriorityHearOutOfMemory, put_by_priority}
 use Rattle.ipx_carrier.specs.PriorityQueued.{PutsByPriority, priority_queues}
 use Rattle.ipx_carrier.proofs.Givable.{IsGivableAnswer, answer_is_givable}
 use Rattle.ipx_carrier.proofs.PriorityPutting.{core_of, kept_by_result, put_by_priority_is, same_queues}
@@ -53,10 +53,10 @@ returns-in_err-outcome-clause-refused c =
     let before = priority_queues i.forwarded.items i.own.items i.originated_run in
     let e = c.in_err-outcome.ensures in
     let after : PriorityCoreView = core_of i.outcomes c.receive.new.self before i.started i.dropped in
-    let missed : PriorityMisses (core_of i.outcomes i.router before i.started i.dropped) c.args.port c.args.bytes.now c.args.now after =
+    let missed : PriorityHearOutOfMemory (core_of i.outcomes i.router before i.started i.dropped) c.args.port c.args.bytes.now c.args.now after =
     (c.receive.new.self, inl (refl, (e.refused, e.rest, e.told))) in
     rw p.1
-    (subst (λ (v : PriorityCoreView). PriorityMisses v c.args.port c.args.bytes.now c.args.now after) c.self.view_is missed)
+    (subst (λ (v : PriorityCoreView). PriorityHearOutOfMemory v c.args.port c.args.bytes.now c.args.now after) c.self.view_is missed)
 
 pub returns-clause-refused : goal.returns-clause-refused
 returns-clause-refused c =
@@ -71,7 +71,7 @@ returns-clause-refused c =
     let seen : PriorityCoreView = core_of i.outcomes i.router before i.started i.dropped in
     let after : PriorityCoreView = core_of c.count.new.self c.receive.new.self (priority_queues w' q' i.originated_run) i.started put.dropped in
     let outcome_counted_is = ap (λ f. core_of f c.receive.new.self before i.started i.dropped) c.count.ensures in
-    let missed : OnErr c.put_outcome.result (PriorityMisses seen c.args.port c.args.bytes.now c.args.now after) =
-    on_err_weaker c.put_outcome.result (λ (p : ((w' ≡ w) × (q' ≡ q) × (put.dropped ≡ i.dropped)) × IsRoomByPriority (sendings w) (sendings q) a). (c.receive.new.self, inr (a, same_queues c.count.new.self c.receive.new.self w w' q q' i.originated_run i.started i.dropped put.dropped p.0 ∙ outcome_counted_is, c.in_ok-outcome.ensures.answer, p.1)))
+    let missed : OnErr c.put_outcome.result (PriorityHearOutOfMemory seen c.args.port c.args.bytes.now c.args.now after) =
+    on_err_weaker c.put_outcome.result (λ (p : ((w' ≡ w) × (q' ≡ q) × (put.dropped ≡ i.dropped)) × IsSpaceByPriority (sendings w) (sendings q) a). (c.receive.new.self, inr (a, same_queues c.count.new.self c.receive.new.self w w' q q' i.originated_run i.started i.dropped put.dropped p.0 ∙ outcome_counted_is, c.in_ok-outcome.ensures.answer, p.1)))
     (err_both c.put_outcome.result _ _ c.put_outcome.ensures.refused c.put_outcome.ensures.lost) in
-    subst (λ (v : PriorityCoreView). OnErr c.put_outcome.result (PriorityMisses v c.args.port c.args.bytes.now c.args.now after)) c.self.view_is missed
+    subst (λ (v : PriorityCoreView). OnErr c.put_outcome.result (PriorityHearOutOfMemory v c.args.port c.args.bytes.now c.args.now after)) c.self.view_is missed

@@ -4,7 +4,7 @@ use Rattle.std.proofs.lemmas.Result.{err_from_is_err_and}
 use Rattle.ipx_router.specs.declared.outcome.Reply.{Reply}
 use Rattle.ipx_router.specs.RouterPackets.{sendings}
 use Rattle.ipx_carrier.specs.RouterQueues.{AreGivable}
-use Rattle.ipx_carrier.specs.PriorityRouterCore.{PriorityCoreView, PriorityGives, PriorityWithholds}
+use Rattle.ipx_carrier.specs.PriorityRouterCore.{PriorityCoreView, PriorityGives, PriorityNextOutOfMemory}
 use Rattle.ipx_carrier.specs.PriorityQueued.{priority_queues}
 use Rattle.ipx_carrier.specs.GivenPackets.{given_in}
 use Rattle.ipx_carrier.proofs.PriorityPutting.{core_of, kept_given, next_gives, next_withholds, same_core}
@@ -57,9 +57,9 @@ returns-in_err-enqueue_start-clause-refused c =
     let new = c.enqueue_start.new in
     let w = i.forwarded.items in
     let after : PriorityCoreView = core_of i.outcomes i.router (priority_queues w new.queue.items i.originated_run) new.started new.dropped in
-    let withheld : PriorityWithholds (core_of i.outcomes i.router (priority_queues w i.own.items i.originated_run) i.started i.dropped) c.args.now after =
+    let withheld : PriorityNextOutOfMemory (core_of i.outcomes i.router (priority_queues w i.own.items i.originated_run) i.started i.dropped) c.args.now after =
     inl (e.once, same_core i.outcomes i.router w i.own.items new.queue.items i.originated_run true new.started i.dropped new.dropped e.refused e.started) in
-    rw p.1 (subst (λ (v : PriorityCoreView). PriorityWithholds v c.args.now after) c.self.view_is withheld)
+    rw p.1 (subst (λ (v : PriorityCoreView). PriorityNextOutOfMemory v c.args.now after) c.self.view_is withheld)
 
 pub invariant_of-self-in_err-enqueue_advertisements : goal.invariant_of-self-in_err-enqueue_advertisements
 invariant_of-self-in_err-enqueue_advertisements c =
@@ -85,6 +85,6 @@ returns-in_err-enqueue_advertisements-clause-refused c =
     let t = c.enqueue_advertisements.new in
     let w = i.forwarded.items in
     let after : PriorityCoreView = core_of i.outcomes t.router (priority_queues w t.queue.items i.originated_run) s.started t.dropped in
-    let withheld : PriorityWithholds (core_of i.outcomes i.router (priority_queues w i.own.items i.originated_run) i.started i.dropped) c.args.now after =
+    let withheld : PriorityNextOutOfMemory (core_of i.outcomes i.router (priority_queues w i.own.items i.originated_run) i.started i.dropped) c.args.now after =
     next_withholds i.outcomes i.router t.router w i.own.items s.queue.items t.queue.items i.originated_run i.started s.started i.dropped s.dropped t.dropped c.args.now c.in_ok-enqueue_start.ensures.put c.in_ok-enqueue_start.ensures.started e.refused e.lost in
-    rw p.1 (subst (λ (v : PriorityCoreView). PriorityWithholds v c.args.now after) c.self.view_is withheld)
+    rw p.1 (subst (λ (v : PriorityCoreView). PriorityNextOutOfMemory v c.args.now after) c.self.view_is withheld)

@@ -4,7 +4,7 @@ use Rattle.std.proofs.lemmas.Result.{err_from_is_err_and, on_err_weaker, on_ok_w
 use Rattle.ipx_router.specs.RouterPackets.{sendings}
 use Rattle.ipx_router.specs.OutcomeView.{router_outcome}
 use Rattle.ipx_carrier.specs.Queued.{PutsAnswer}
-use Rattle.ipx_carrier.specs.RouterCore.{CoreView, IsRoomForAnswer, Misses, RouterHears, put_answer}
+use Rattle.ipx_carrier.specs.RouterCore.{CoreView, IsSpaceForAnswer, HearOutOfMemory, RouterHears, put_answer}
 use Rattle.ipx_carrier.specs.RouterQueues.{AreGivable}
 use Rattle.ipx_carrier.proofs.Givable.{IsGivableAnswer, answer_is_givable}
 use Rattle.ipx_carrier.proofs.Putting.{core_of, kept_by_result, put_answer_is, same_core}
@@ -44,10 +44,10 @@ returns-in_err-outcome-clause-refused c =
     let q = sendings i.queue.items in
     let e = c.in_err-outcome.ensures in
     let after : CoreView = core_of i.outcomes c.receive.new.self q i.started i.dropped in
-    let missed : Misses (core_of i.outcomes i.router q i.started i.dropped) c.args.port c.args.bytes.now c.args.now after =
+    let missed : HearOutOfMemory (core_of i.outcomes i.router q i.started i.dropped) c.args.port c.args.bytes.now c.args.now after =
     (c.receive.new.self, inl (refl, (e.refused, e.rest, e.told))) in
     rw p.1
-    (subst (λ (v : CoreView). Misses v c.args.port c.args.bytes.now c.args.now after) c.self.view_is missed)
+    (subst (λ (v : CoreView). HearOutOfMemory v c.args.port c.args.bytes.now c.args.now after) c.self.view_is missed)
 
 pub returns-clause-refused : goal.returns-clause-refused
 returns-clause-refused c =
@@ -59,7 +59,7 @@ returns-clause-refused c =
     let seen : CoreView = core_of i.outcomes i.router (sendings q) i.started i.dropped in
     let after : CoreView = core_of c.count.new.self c.receive.new.self (sendings q') i.started put.dropped in
     let outcome_counted_is = ap (λ f. core_of f c.receive.new.self (sendings q) i.started i.dropped) c.count.ensures in
-    let missed : OnErr c.put_outcome.result (Misses seen c.args.port c.args.bytes.now c.args.now after) =
-    on_err_weaker c.put_outcome.result (λ (p : ((q' ≡ q) × (put.dropped ≡ i.dropped)) × IsRoomForAnswer (sendings q) a). (c.receive.new.self, inr (a, same_core c.count.new.self c.receive.new.self q q' i.started i.started i.dropped put.dropped p.0 refl ∙ outcome_counted_is, c.in_ok-outcome.ensures.answer, p.1)))
+    let missed : OnErr c.put_outcome.result (HearOutOfMemory seen c.args.port c.args.bytes.now c.args.now after) =
+    on_err_weaker c.put_outcome.result (λ (p : ((q' ≡ q) × (put.dropped ≡ i.dropped)) × IsSpaceForAnswer (sendings q) a). (c.receive.new.self, inr (a, same_core c.count.new.self c.receive.new.self q q' i.started i.started i.dropped put.dropped p.0 refl ∙ outcome_counted_is, c.in_ok-outcome.ensures.answer, p.1)))
     (err_both c.put_outcome.result _ _ c.put_outcome.ensures.refused c.put_outcome.ensures.lost) in
-    subst (λ (v : CoreView). OnErr c.put_outcome.result (Misses v c.args.port c.args.bytes.now c.args.now after)) c.self.view_is missed
+    subst (λ (v : CoreView). OnErr c.put_outcome.result (HearOutOfMemory v c.args.port c.args.bytes.now c.args.now after)) c.self.view_is missed

@@ -4,7 +4,7 @@ use Rattle.std.proofs.lemmas.Result.{err_from_is_err_and}
 use Rattle.ipx_router.specs.declared.outcome.Reply.{Reply}
 use Rattle.ipx_router.specs.RouterPackets.{sendings}
 use Rattle.ipx_carrier.specs.GivenPackets.{given_in}
-use Rattle.ipx_carrier.specs.RouterCore.{CoreView, RouterGives, Withholds}
+use Rattle.ipx_carrier.specs.RouterCore.{CoreView, RouterGives, NextOutOfMemory}
 use Rattle.ipx_carrier.specs.RouterQueues.{AreGivable}
 use Rattle.ipx_carrier.proofs.Putting.{core_of, kept_given, next_gives, next_withholds, same_core}
 use Rattle.ipx_carrier.proofs.Queueing.{IsKept, kept_by_put, kept_next}
@@ -49,9 +49,9 @@ returns-in_err-enqueue_start-clause-refused c =
     let e = c.in_err-enqueue_start.ensures in
     let new = c.enqueue_start.new in
     let after : CoreView = core_of i.outcomes i.router (sendings new.queue.items) new.started new.dropped in
-    let withheld : Withholds (core_of i.outcomes i.router (sendings i.queue.items) i.started i.dropped) c.args.now after =
+    let withheld : NextOutOfMemory (core_of i.outcomes i.router (sendings i.queue.items) i.started i.dropped) c.args.now after =
     inl (e.once, same_core i.outcomes i.router i.queue.items new.queue.items true new.started i.dropped new.dropped e.refused e.started) in
-    rw p.1 (subst (λ (v : CoreView). Withholds v c.args.now after) c.self.view_is withheld)
+    rw p.1 (subst (λ (v : CoreView). NextOutOfMemory v c.args.now after) c.self.view_is withheld)
 
 pub invariant_of-self-in_err-enqueue_advertisements : goal.invariant_of-self-in_err-enqueue_advertisements
 invariant_of-self-in_err-enqueue_advertisements c =
@@ -74,6 +74,6 @@ returns-in_err-enqueue_advertisements-clause-refused c =
     let s = c.enqueue_start.new in
     let t = c.enqueue_advertisements.new in
     let after : CoreView = core_of i.outcomes t.router (sendings t.queue.items) s.started t.dropped in
-    let withheld : Withholds (core_of i.outcomes i.router (sendings i.queue.items) i.started i.dropped) c.args.now after =
+    let withheld : NextOutOfMemory (core_of i.outcomes i.router (sendings i.queue.items) i.started i.dropped) c.args.now after =
     next_withholds i.outcomes i.router t.router i.queue.items s.queue.items t.queue.items i.started s.started i.dropped s.dropped t.dropped c.args.now c.in_ok-enqueue_start.ensures.put c.in_ok-enqueue_start.ensures.started e.refused e.lost in
-    rw p.1 (subst (λ (v : CoreView). Withholds v c.args.now after) c.self.view_is withheld)
+    rw p.1 (subst (λ (v : CoreView). NextOutOfMemory v c.args.now after) c.self.view_is withheld)

@@ -35,4 +35,4 @@ returns-clause-counts g c =
     let items = c.args.self.now.held.items in
     let k = c.remove-session.result in
     let at : slice_get items c.args.place ≡ Some k = slice_get_read items (length items) c.args.place k refl c.requires c.remove-session.ensures.value in
-    rw at (c.count_if-self.ensures ∙ ap (λ (b : Bool). raised_if b c.args.self.now.never_spoke) c.is_unheard.ensures)
+    rw at (c.count_if-self.ensures ∙ ap (λ (b : Bool). raised_if b c.args.self.now.never_heard) c.is_unheard.ensures)

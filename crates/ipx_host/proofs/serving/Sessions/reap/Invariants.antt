@@ -1,6 +1,6 @@
 use Rattle.std.proofs.Common.{◌≡◌}
 use Rattle.std.specs.Prelude.{IsTrue}
-use Rattle.ipx_host.specs.Sessions.{EndedAlone}
+use Rattle.ipx_host.specs.Sessions.{OnlyEnded}
 use Rattle.ipx_host.specs.Tending.{TendsOn}
 use Rattle.ipx_host.proofs.serving.Sessions.reap.Given as goal
 
@@ -14,6 +14,6 @@ invariant-loop-tended g l = record {
   host_socket : l.station.host_socket ≡ l.fn.station.host_socket;
   poller : l.station.poller ≡ l.fn.station.poller;
   output : l.self.output ≡ l.fn.self.output;
-  before : IsTrue l.self.once → EndedAlone l.self.held.items → EndedAlone l.fn.self.held.items;
+  before : IsTrue l.self.once → OnlyEnded l.self.held.items → OnlyEnded l.fn.self.held.items;
   once : l.self.once ≡ l.fn.self.once;
 }

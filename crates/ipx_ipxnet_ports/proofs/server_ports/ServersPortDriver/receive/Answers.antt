@@ -1,7 +1,7 @@
 use Rattle.std.proofs.Common.{[], Option, Some, refl, subst}
 use Rattle.ipx_ipxnet_ports.specs.declared.place_sockets.DatagramCame.{DatagramCame}
 use Rattle.ipx_ipxnet_ports.specs.PlaceTraffic.{PlacesPass, came_from_place, place_datagrams}
-use Rattle.ipx_ipxnet_ports.proofs.Steady.{hearing_leaves_ports, hears_behind}
+use Rattle.ipx_ipxnet_ports.proofs.Steady.{hearing_leaves_ports, hears_after}
 use Rattle.ipx_ipxnet_ports.proofs.server_ports.ServersPortDriver.receive.Goals as goal
 
 pub returns-clause-received : goal.returns-clause-received
@@ -11,7 +11,7 @@ returns-clause-received g c =
     let first = subst (λ (o : Option DatagramCame). PlacesPass before behind (place_datagrams (came_from_place c.args.port c.receive.new.room o)) []) c.in-Some.is c.in-Ok.ensures.received in (
       came_from_place c.args.port c.receive.new.room (Some c.in-Some.came),
       refl,
-      hears_behind _ _ _ _ _ _ _ _ _ _ _ _ c.in-Ok.ensures.failures first c.hear_datagram.ensures.heard,
+      hears_after _ _ _ _ _ _ _ _ _ _ _ _ c.in-Ok.ensures.failures first c.hear_datagram.ensures.heard,
     )
 
 pub returns-clause-stays : goal.returns-clause-stays

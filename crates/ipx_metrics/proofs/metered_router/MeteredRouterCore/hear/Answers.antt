@@ -2,7 +2,7 @@ use Rattle.std.proofs.Common.{◌≡◌, ◌∙◌, ◌<◌, ap, arith, length, 
 use Rattle.std.specs.Result.{OnErr, OnOk}
 use Rattle.std.specs.Vec.{with_items}
 use Rattle.std.proofs.lemmas.List.{with_items_is}
-use Rattle.ipx_carrier.specs.PriorityRouterCore.{PriorityMisses, PriorityHears}
+use Rattle.ipx_carrier.specs.PriorityRouterCore.{PriorityHearOutOfMemory, PriorityHears}
 use Rattle.ipx_metrics.specs.MeteredRouter.{CountedView, CountsHeard, CountsMissed, IsCountedHeard}
 use Rattle.ipx_metrics.specs.PortCounts.{outcomes_over}
 use Rattle.ipx_metrics.proofs.Counted.{counted_of, err_with, fell_by, heard_counted, ok_with}
@@ -49,4 +49,4 @@ returns-clause-refused c =
     let count : IsCountedHeard seen c.args.port c.args.bytes.now new = heard_counted i.core k' i.ports.items c.deref_mut.result.now ports' (with_items i.ports ports').items i.last c.note.new.self c.args.port c.args.bytes.now c.outcomes-before.result c.outcomes-after.result
     c.outcomes-before.ensures c.outcomes-after.ensures c.deref_mut.ensures.value c.hear_at.ensures (with_items_is i.ports ports' len) c.note.ensures in
     subst (λ (v : CountedView). OnErr c.hear-heard.result (CountsMissed v c.args.port c.args.bytes.now c.args.now new)) c.self.view_is
-    (err_with c.hear-heard.result (PriorityMisses i.core c.args.port c.args.bytes.now c.args.now k') (IsCountedHeard seen c.args.port c.args.bytes.now new) count c.hear-heard.ensures.refused)
+    (err_with c.hear-heard.result (PriorityHearOutOfMemory i.core c.args.port c.args.bytes.now c.args.now k') (IsCountedHeard seen c.args.port c.args.bytes.now new) count c.hear-heard.ensures.refused)

@@ -1,6 +1,6 @@
 use Rattle.std.proofs.Common.{◌≡◌, Some, sym, ◌∙◌}
 use Rattle.spx_theory.specs.Peers.{ArePeersIn}
-use Rattle.spx_theory.specs.EndsTold.{peer_in}
+use Rattle.spx_theory.specs.EndsSummarized.{peer_in}
 use Rattle.ipx_net.specs.Sights.{scan_of}
 use Rattle.ipx_net.proofs.Peering.{is_this}
 use Rattle.ipx_net.proofs.log_index.LogIndex.is_recent.Goals as goal

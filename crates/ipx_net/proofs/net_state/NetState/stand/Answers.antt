@@ -1,6 +1,6 @@
 use Rattle.std.proofs.Common.{subst}
 use Rattle.ipx_net.specs.NetView.{NetView}
-use Rattle.ipx_net.specs.ToldEnds.{Resettled, hosts_of}
+use Rattle.ipx_net.specs.EndSummaryChanges.{Resettled, hosts_of}
 use Rattle.ipx_net.proofs.net_state.NetState.stand.Goals as goal
 
 pub returns-in-Some : goal.returns-in-Some

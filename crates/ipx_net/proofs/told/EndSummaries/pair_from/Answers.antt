@@ -1,10 +1,10 @@
 use Rattle.std.proofs.Common.{◌≡◌, ◌∙◌, List, ap, length, subst, sym, take}
-use Rattle.spx_theory.specs.EndsTold.{peer_of}
+use Rattle.spx_theory.specs.EndsSummarized.{peer_of}
 use Rattle.spx_theory.specs.Note.{Note}
 use Rattle.spx_theory.specs.Scan.{scan}
 use Rattle.ipx_net.specs.LogEntries.{entry_note}
 use Rattle.ipx_net.specs.Theorems.{AreNumbered}
-use Rattle.ipx_net.specs.ToldEnds.{joins, paired_by}
+use Rattle.ipx_net.specs.EndSummaryChanges.{joins, paired_by}
 use Rattle.ipx_net.specs.declared.entry.Entry.{Entry}
 use Rattle.ipx_net.proofs.TellingPeers.{notes_take, paired_all, paired_next, paired_start}
 use Rattle.ipx_net.proofs.told.EndSummaries.pair_from.Goals as goal

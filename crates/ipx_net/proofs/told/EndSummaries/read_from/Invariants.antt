@@ -1,7 +1,7 @@
 use Rattle.std.proofs.Common.{◌≤◌, ◌+◌, ◌-◌, length, take}
 use Rattle.std.specs.Prelude.{vec_capacity, vec_len}
 use Rattle.ipx_net.specs.LogEntries.{entry_notes}
-use Rattle.ipx_net.specs.ToldEnds.{AreCounted, StayAs}
+use Rattle.ipx_net.specs.EndSummaryChanges.{AreCounted, StayAs}
 use Rattle.ipx_net.proofs.told.EndSummaries.read_from.Given as goal
 
 abbrev pub invariant-loop-at : goal.invariant-loop-at

@@ -1,4 +1,4 @@
-use Rattle.ipx_net.proofs.TellingStands.{SettledTo}
+use Rattle.ipx_net.proofs.TellingHolds.{SettledTo}
 use Rattle.ipx_net.proofs.told.EndSummaries.settle.Given as goal
 
 abbrev pub invariant-loop-place : goal.invariant-loop-place

@@ -3,7 +3,7 @@ use Rattle.ipx_router.specs.Ports.{IsPort}
 use Rattle.ipx_router.specs.RouterView.{RouterView}
 use Rattle.ipx_router.specs.InPlaceView.{outcome_in}
 use Rattle.ipx_router.proofs.Fits.{receives_own}
-use Rattle.ipx_router.proofs.Receiving.{forwards_on, receives_on, wants_in_place}
+use Rattle.ipx_router.proofs.Receiving.{forwards_on, receives_on, needs_in_place}
 use Rattle.ipx_router.proofs.router.Router.receive_in_place.Goals as goal
 
 pub invariant_of-self : goal.invariant_of-self
@@ -25,7 +25,7 @@ returns-clause-refused c =
     let kept : RouterView = record { ports = c.self.inside.ports.items; routes = c.self.inside.routes; services = c.self.inside.services; told = c.self.inside.told } in
     let new : RouterView = record { ports = c.self.inside.ports.items; routes = c.receive_in_place_at.new.routes; services = c.receive_in_place_at.new.services; told = c.self.inside.told } in
     let is : IsPort c.self.inside.ports.items c.args.port c.port_of.result = rw (← c.self.view_is) at c.port_of.ensures in
-    rw (← c.self.view_is) (wants_in_place kept c.args.port c.args.now c.args.bytes.now c.port_of.result is new c.receive_in_place_at.result (rw (← c.deref.ensures.value) c.receive_in_place_at.ensures.refused))
+    rw (← c.self.view_is) (needs_in_place kept c.args.port c.args.now c.args.bytes.now c.port_of.result is new c.receive_in_place_at.result (rw (← c.deref.ensures.value) c.receive_in_place_at.ensures.refused))
 
 pub returns-clause-one_hop_on : goal.returns-clause-one_hop_on
 returns-clause-one_hop_on c =

@@ -2,7 +2,7 @@ use Rattle.std.proofs.Common.{refl, subst}
 use Rattle.spx_messages.specs.Changes.{SameBut}
 use Rattle.spx_messages.specs.declared.fault.EndFault.TheVariants.{NoSuchEnd}
 use Rattle.ipx_sim_udp.specs.UdpCalls.{ClosesEnd}
-use Rattle.ipx_sim_udp.proofs.Held.{found, stands, stands_in}
+use Rattle.ipx_sim_udp.proofs.Held.{found, stands, holds_in}
 use Rattle.ipx_sim_udp.proofs.layout_binding.UdpNet.close.Goals as goal
 
 pub returns-in-Ok-clause-closes : goal.returns-in-Ok-clause-closes
@@ -14,7 +14,7 @@ returns-in-Ok-clause-closes c =
     let new = c.close.new.self in (
       (
         end,
-        stands_in c.deref.result.now c.args.self.now.ends.items c.args.who end c.deref.ensures.value here.3.0 here.1,
+        holds_in c.deref.result.now c.args.self.now.ends.items c.args.who end c.deref.ensures.value here.3.0 here.1,
         (
           runner,
           new,
@@ -35,7 +35,7 @@ returns-in-Err-clause-closes c =
     let new = c.close.new.self in (
       (
         end,
-        stands_in c.deref.result.now c.args.self.now.ends.items c.args.who end c.deref.ensures.value here.3.0 here.1,
+        holds_in c.deref.result.now c.args.self.now.ends.items c.args.who end c.deref.ensures.value here.3.0 here.1,
         (
           runner,
           new,

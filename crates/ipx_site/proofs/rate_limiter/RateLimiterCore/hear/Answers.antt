@@ -4,7 +4,7 @@ use Rattle.ipx_router.specs.declared.port.Port.{Port}
 use Rattle.ipx_site.specs.declared.directed_broadcast.DirectedBroadcast.{DirectedBroadcast}
 use Rattle.ipx_site.specs.declared.querier.Querier.{Querier}
 use Rattle.ipx_site.specs.DirectedBroadcasts.{IsDirectedBroadcast}
-use Rattle.ipx_site.specs.RateLimiter.{HearsSparingly, IsGeneralQuery, RateLimiterView}
+use Rattle.ipx_site.specs.RateLimiter.{HearsRateLimited, IsGeneralQuery, RateLimiterView}
 use Rattle.ipx_site.proofs.rate_limiter.RateLimiterCore.hear.Goals as goal
 
 along : {A E P Q : Type 0} (r : Result A E) → (P → Q) → OnOk r P → OnOk r Q
@@ -18,6 +18,6 @@ returns-clause-heard g c =
     let no_query = subst (λ (ports : List Port). (who : Querier) → IsGeneralQuery ports c.args.port c.args.bytes.now who → ⊥) c.deref.ensures.value c.in_default.ensures.none in
     let no_broadcast = subst (λ (ports : List Port). (it : DirectedBroadcast) → IsDirectedBroadcast ports c.args.port c.args.bytes.now it → ⊥) c.deref-2.ensures.value c.in_default-directed_broadcast_in.ensures.none in
     along c.hear.result
-    (λ heard. subst (λ (v : RateLimiterView g.row.C.Denot). HearsSparingly g.C.Core.hears v c.args.port c.args.bytes.now c.args.now new) c.self.view_is
+    (λ heard. subst (λ (v : RateLimiterView g.row.C.Denot). HearsRateLimited g.C.Core.hears v c.args.port c.args.bytes.now c.args.now new) c.self.view_is
     (inr (inr (no_query, no_broadcast, heard, refl))))
     c.hear.ensures.heard

@@ -1,5 +1,5 @@
 use Rattle.std.proofs.Common.{◌≡◌, ◌∙◌, ◌≤◌, ◌<◌, ◌^◌, ◌↔◌, ℕ, Option, Some, ap, slice_get, subst}
-use Rattle.ipx_router.specs.Telling.{IsNextTelling}
+use Rattle.ipx_router.specs.Telling.{IsNextAdvertisement}
 use Rattle.ipx_site.specs.IdleTime.{IsLineDue, IsDue, deadlines, happened}
 use Rattle.ipx_site.specs.Moments.{HasPassed, IsReached, askings}
 use Rattle.ipx_site.proofs.Parts.{as_long, both, reached, regrouped, telling, then}
@@ -11,8 +11,8 @@ returns g c =
     let count = happened self.totals self.core self.ports in
     let asks = λ (t : ℕ). subst (λ o. IsReached c.discovery_retry.result t ↔ ((moment : ℕ) × (o ≡ Some moment) × (moment ≤ t)))
     {y = slice_get askings self.asked} c.discovery_retry.ensures.moment (reached c.discovery_retry.result t) in
-    let told = subst (λ (l : Option ℕ). IsNextTelling l c.next_advertisement-telling.result) (ap (λ r. r.told) (c.router.ensures ∙ ap (λ k. k.router) (c.core-3.ensures ∙ ap (λ k. k.core) (c.core-2.ensures ∙ ap (λ k. k.core) c.core.ensures)))) c.next_advertisement-telling.ensures in
-    let said = subst (λ (l : Option ℕ). IsNextTelling l c.next_refresh-words.result) (ap (λ k. k.said) (c.core-5.ensures ∙ ap (λ k. k.core) c.core-4.ensures)) c.next_refresh-words.ensures in
+    let told = subst (λ (l : Option ℕ). IsNextAdvertisement l c.next_advertisement-telling.result) (ap (λ r. r.told) (c.router.ensures ∙ ap (λ k. k.router) (c.core-3.ensures ∙ ap (λ k. k.core) (c.core-2.ensures ∙ ap (λ k. k.core) c.core.ensures)))) c.next_advertisement-telling.ensures in
+    let said = subst (λ (l : Option ℕ). IsNextAdvertisement l c.next_refresh-words.result) (ap (λ k. k.said) (c.core-5.ensures ∙ ap (λ k. k.core) c.core-4.ensures)) c.next_refresh-words.ensures in
     let looks = subst (λ period. (t : ℕ) → t < 2 ^ 64 → IsReached c.end_of-look.result t ↔ HasPassed period self.looked t) c.look_period.ensures c.end_of-look.ensures in
     let lines = subst (λ n. (t : ℕ) → t < 2 ^ 64 → IsReached c.next.result t ↔ IsLineDue self.warnings n t) {y = count} c.metrics.ensures c.next.ensures in
     as_long (IsReached c.sooner-3.result) (IsDue (deadlines self.asked self.looked self.responses self.written self.core self.warnings count))
@@ -22,5 +22,5 @@ returns g c =
     let words = telling self.core.core.core.said c.next_refresh-words.result t said h in
     let metrics = both (c.sooner-metrics.ensures t) (c.end_of.ensures t h) (lines t h) in
     let due = then (both (c.sooner-due.ensures t) packets (both (c.sooner-2.ensures t) words (both (c.sooner.ensures t) (looks t h) metrics))) regrouped in
-    both (c.sooner-3.ensures t) (c.sending_moment.ensures t) due)
+    both (c.sooner-3.ensures t) (c.sending_time.ensures t) due)
     c.time_to.ensures

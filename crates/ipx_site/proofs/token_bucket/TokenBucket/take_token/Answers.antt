@@ -6,8 +6,8 @@ use Rattle.ipx_site.proofs.token_bucket.TokenBucket.take_token.Goals as goal
 soon : (burst back now : ℕ) → has_token burst back now ≡ true → max back now + 1000 ≤ now + 1000 * burst
 soon burst back now h = grind (arith, nat_tests)
 
-pub back_behind-self-requires-clause-there : goal.back_behind-self-requires-clause-there
-back_behind-self-requires-clause-there c =
+pub full_again_at-self-requires-clause-there : goal.full_again_at-self-requires-clause-there
+full_again_at-self-requires-clause-there c =
     let b = c.args.self.now in
     let le = soon b.limit.burst b.back (b.limit.per_second * c.args.now) c.requires in
     omega (arith, le, c.clock.ensures.clock, c.burst-burst.ensures.value)

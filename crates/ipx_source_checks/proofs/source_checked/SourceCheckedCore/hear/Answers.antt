@@ -3,7 +3,7 @@ use Rattle.std.specs.Result.{OnErr, OnOk}
 use Rattle.ipx_router.specs.declared.port.Port.{Port}
 use Rattle.ipx_source_checks.specs.declared.failed_check.FailedCheck.{FailedCheck}
 use Rattle.ipx_source_checks.specs.SourceChecks.{FailsAt}
-use Rattle.ipx_source_checks.specs.SourceChecked.{HearsChecked, MissesChecked, SourceCheckedView}
+use Rattle.ipx_source_checks.specs.SourceChecked.{HearsChecked, HearOutOfMemoryChecked, SourceCheckedView}
 use Rattle.ipx_source_checks.proofs.source_checked.SourceCheckedCore.hear.Goals as goal
 
 along : {A E P Q : Type 0} (r : Result A E) → (P → Q) → OnOk r P → OnOk r Q
@@ -30,6 +30,6 @@ returns-in-None-clause-refused g c =
     let new : SourceCheckedView g.row.C.Denot = record { core = c.hear.new.self; ports = inside.ports.items; drops = inside.drops } in
     let none = subst (λ (ports : List Port). (f : FailedCheck) → FailsAt ports c.args.port c.args.bytes.now f → ⊥) c.deref.ensures.value c.in-None.ensures.none in
     along_err c.hear.result
-    (λ refused. subst (λ (v : SourceCheckedView g.row.C.Denot). MissesChecked g.C.Core.hear_out_of_memory v c.args.port c.args.bytes.now c.args.now new) c.self.view_is
+    (λ refused. subst (λ (v : SourceCheckedView g.row.C.Denot). HearOutOfMemoryChecked g.C.Core.hear_out_of_memory v c.args.port c.args.bytes.now c.args.now new) c.self.view_is
     (none, refused, refl))
     c.hear.ensures.refused

@@ -1,7 +1,7 @@
 use Rattle.std.proofs.lemmas.List.Sums.{length-filter}
 use Rattle.std.proofs.Common.{arith}
 use Rattle.ipx_tables.specs.Content.{is_young}
-use Rattle.ipx_tables.proofs.Lists.{filter_short, same_equiv, found_filter, apart_filter, told_filter}
+use Rattle.ipx_tables.proofs.Lists.{filter_short, same_equiv, found_filter, separate_filter, told_filter}
 use Rattle.ipx_tables.proofs.Expiry.{aged_none, keys_none, many_none}
 use Rattle.ipx_tables.proofs.offers.Offers.age.Goals as goal
 
@@ -19,7 +19,7 @@ returns-then-now-self-clause-many g c =
 
 pub invariant_of-self : goal.invariant_of-self
 invariant_of-self g c =
-    rw c.expire-self-inside.ensures.young (record { apart = apart_filter (same_equiv g.met.K.Ord.total) _ _ c.self.invariant.0.apart; within = omega (arith, c.self.invariant.0.within, filter_short (λ o. is_young c.args.now o.heard) c.self.inside.offer_store) }, rw c.expire-self-inside.ensures.young at c.expire-self-inside.ensures.until)
+    rw c.expire-self-inside.ensures.young (record { apart = separate_filter (same_equiv g.met.K.Ord.total) _ _ c.self.invariant.0.apart; within = omega (arith, c.self.invariant.0.within, filter_short (λ o. is_young c.args.now o.heard) c.self.inside.offer_store) }, rw c.expire-self-inside.ensures.young at c.expire-self-inside.ensures.until)
 
 pub returns-clause-aged : goal.returns-clause-aged
 returns-clause-aged g c p =
@@ -35,7 +35,7 @@ returns-clause-many g c =
 
 pub returns-clause-valid : goal.returns-clause-valid
 returns-clause-valid g c =
-    rw c.expire-self-inside.ensures.young (record { apart = apart_filter (same_equiv g.met.K.Ord.total) _ _ c.self.invariant.0.apart; within = omega (arith, c.self.invariant.0.within, filter_short (λ o. is_young c.args.now o.heard) c.self.inside.offer_store) })
+    rw c.expire-self-inside.ensures.young (record { apart = separate_filter (same_equiv g.met.K.Ord.total) _ _ c.self.invariant.0.apart; within = omega (arith, c.self.invariant.0.within, filter_short (λ o. is_young c.args.now o.heard) c.self.inside.offer_store) })
 
 pub returns-clause-keys : goal.returns-clause-keys
 returns-clause-keys g c p =

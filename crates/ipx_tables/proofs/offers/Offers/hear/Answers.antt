@@ -7,12 +7,12 @@ use Rattle.ipx_tables.specs.declared.offer.Offer.{Offer}
 use Rattle.ipx_tables.specs.Content.{said_of}
 use Rattle.ipx_tables.proofs.Expiry.{none_old_inserted, none_old_removed, none_old_set}
 use Rattle.ipx_tables.proofs.Lists.{hear_inserted, hear_none, hear_removed, hear_set, hear_some, hear_there}
-use Rattle.ipx_tables.proofs.Ordered.{apart_rising, at_same, unsaid}
+use Rattle.ipx_tables.proofs.Ordered.{separate_rising, at_same, unsaid}
 use Rattle.ipx_tables.proofs.offers.Offers.hear.Goals as goal
 
 pub invariant_of-self : goal.invariant_of-self
 invariant_of-self g c =
-    (record { apart = apart_rising g.met.K.Ord.total _ c.take_out.ensures.rising; within = rw c.take_out.ensures.items (omega (arith, c.self.invariant.0.within, length-remove _ c.in-Ok.at c.in-Ok.ensures.found.in_range)) }, rw c.take_out.ensures.items (none_old_removed _ _ c.self.invariant.1 _))
+    (record { apart = separate_rising g.met.K.Ord.total _ c.take_out.ensures.rising; within = rw c.take_out.ensures.items (omega (arith, c.self.invariant.0.within, length-remove _ c.in-Ok.at c.in-Ok.ensures.found.in_range)) }, rw c.take_out.ensures.items (none_old_removed _ _ c.self.invariant.1 _))
 
 pub returns-in-Ok-clause-heard : goal.returns-in-Ok-clause-heard
 returns-in-Ok-clause-heard g c =
@@ -26,7 +26,7 @@ returns-in-Ok-clause-keys g c =
 
 pub returns-in-Ok-clause-valid : goal.returns-in-Ok-clause-valid
 returns-in-Ok-clause-valid g c =
-    record { apart = apart_rising g.met.K.Ord.total _ c.take_out.ensures.rising; within = rw c.take_out.ensures.items (omega (arith, c.self.invariant.0.within, length-remove _ c.in-Ok.at c.in-Ok.ensures.found.in_range)) }
+    record { apart = separate_rising g.met.K.Ord.total _ c.take_out.ensures.rising; within = rw c.take_out.ensures.items (omega (arith, c.self.invariant.0.within, length-remove _ c.in-Ok.at c.in-Ok.ensures.found.in_range)) }
 
 pub returns-in-Ok-clause-many : goal.returns-in-Ok-clause-many
 returns-in-Ok-clause-many g c =
@@ -53,7 +53,7 @@ returns-in_default-clause-many g c =
 
 pub invariant_of-self-in-Ok-place : goal.invariant_of-self-in-Ok-place
 invariant_of-self-in-Ok-place g c =
-    (record { apart = apart_rising g.met.K.Ord.total _ c.replace.ensures.rising; within = rw c.replace.ensures.items (grind (arith, common_steps, c.self.invariant.0.within)) }, rw c.replace.ensures.items (none_old_set _ _ c.self.invariant.1 _ _ c.args.key c.args.source c.args.metric c.args.now c.min-self-inside.ensures c.expiry.ensures _))
+    (record { apart = separate_rising g.met.K.Ord.total _ c.replace.ensures.rising; within = rw c.replace.ensures.items (grind (arith, common_steps, c.self.invariant.0.within)) }, rw c.replace.ensures.items (none_old_set _ _ c.self.invariant.1 _ _ c.args.key c.args.source c.args.metric c.args.now c.min-self-inside.ensures c.expiry.ensures _))
 
 pub returns-in-Ok-place-clause-heard : goal.returns-in-Ok-place-clause-heard
 returns-in-Ok-place-clause-heard g c =
@@ -67,7 +67,7 @@ returns-in-Ok-place-clause-keys g c =
 
 pub returns-in-Ok-place-clause-valid : goal.returns-in-Ok-place-clause-valid
 returns-in-Ok-place-clause-valid g c =
-    record { apart = apart_rising g.met.K.Ord.total _ c.replace.ensures.rising; within = rw c.replace.ensures.items (grind (arith, common_steps, c.self.invariant.0.within)) }
+    record { apart = separate_rising g.met.K.Ord.total _ c.replace.ensures.rising; within = rw c.replace.ensures.items (grind (arith, common_steps, c.self.invariant.0.within)) }
 
 pub returns-in-Ok-place-clause-full : goal.returns-in-Ok-place-clause-full
 returns-in-Ok-place-clause-full g c =
@@ -94,7 +94,7 @@ returns-in_err-add-in-Err-2-clause-no_memory_if_there g c =
 pub invariant_of-self-in-Err-2 : goal.invariant_of-self-in-Err-2
 invariant_of-self-in-Err-2 g c =
     let offer : Offer g.row.K.Denot g.row.M.Denot = record { key = c.args.key; source = c.args.source; metric = c.args.metric; heard = c.args.now } in
-    (record { apart = apart_rising g.met.K.Ord.total _ c.in_ok-add-in-Err-2.ensures.rising; within = rw c.in_ok-add-in-Err-2.ensures.added (omega (arith, c.len.ensures.len, c.if-len-self.false, length-insert c.self.inside.offer_store c.in-Err-2.at offer c.in-Err-2.ensures.absent.in_range)) }, rw c.in_ok-add-in-Err-2.ensures.added (none_old_inserted _ _ c.self.invariant.1 _ _ c.args.key c.args.source c.args.metric c.args.now c.min-self-inside.ensures c.expiry.ensures _))
+    (record { apart = separate_rising g.met.K.Ord.total _ c.in_ok-add-in-Err-2.ensures.rising; within = rw c.in_ok-add-in-Err-2.ensures.added (omega (arith, c.len.ensures.len, c.if-len-self.false, length-insert c.self.inside.offer_store c.in-Err-2.at offer c.in-Err-2.ensures.absent.in_range)) }, rw c.in_ok-add-in-Err-2.ensures.added (none_old_inserted _ _ c.self.invariant.1 _ _ c.args.key c.args.source c.args.metric c.args.now c.min-self-inside.ensures c.expiry.ensures _))
 
 pub returns-in_ok-add-in-Err-2-clause-heard : goal.returns-in_ok-add-in-Err-2-clause-heard
 returns-in_ok-add-in-Err-2-clause-heard g c =
@@ -109,7 +109,7 @@ returns-in_ok-add-in-Err-2-clause-keys g c =
 pub returns-in_ok-add-in-Err-2-clause-valid : goal.returns-in_ok-add-in-Err-2-clause-valid
 returns-in_ok-add-in-Err-2-clause-valid g c =
     let offer : Offer g.row.K.Denot g.row.M.Denot = record { key = c.args.key; source = c.args.source; metric = c.args.metric; heard = c.args.now } in
-    record { apart = apart_rising g.met.K.Ord.total _ c.in_ok-add-in-Err-2.ensures.rising; within = rw c.in_ok-add-in-Err-2.ensures.added (omega (arith, c.len.ensures.len, c.if-len-self.false, length-insert c.self.inside.offer_store c.in-Err-2.at offer c.in-Err-2.ensures.absent.in_range)) }
+    record { apart = separate_rising g.met.K.Ord.total _ c.in_ok-add-in-Err-2.ensures.rising; within = rw c.in_ok-add-in-Err-2.ensures.added (omega (arith, c.len.ensures.len, c.if-len-self.false, length-insert c.self.inside.offer_store c.in-Err-2.at offer c.in-Err-2.ensures.absent.in_range)) }
 
 pub returns-in_ok-add-in-Err-2-clause-many : goal.returns-in_ok-add-in-Err-2-clause-many
 returns-in_ok-add-in-Err-2-clause-many g c =

@@ -17,7 +17,7 @@ invariant_of-self g c =
     let no_later = rw c.deref.ensures.value at gone.no_later in
     rw (kept, freed) (
       (moved_slots slots used free _ _ c.self.invariant.0 _ _ slots _ _ (numbers_parted young (λ n. not (young n)) (λ n. refl) used free) refl (omega (arith, c.use_young.ensures.capacity)) (omega (arith, c.free_old.ensures.capacity))),
-      young_marked g.T.Timed.moment slots used c.self.inside.marks.items _ c.self.invariant.1 c.args.now c.remove_expired.new.marks.items _ each gone.by_moment no_later (omega (arith, gone.capacity)),
+      young_marked g.T.Timed.moment slots used c.self.inside.marks.items _ c.self.invariant.1 c.args.now c.remove_expired.new.marks.items _ each gone.by_time no_later (omega (arith, gone.capacity)),
     )
 
 pub returns-clause-items : goal.returns-clause-items

@@ -20,7 +20,7 @@ invariant_of-self g c =
     let unused = last_unused slots used free _ _ c.self.invariant.0 left number is in
     rw items (
       moved_slots slots used free _ _ c.self.invariant.0 _ _ _ _ _ (number_used used free left c.args.at number is) (length-set slots number c.args.item) c.insert-put.ensures.capacity (omega (arith, c.pop.ensures.capacity)),
-      insert_marked g.T.Timed.moment slots used c.self.inside.marks.items _ c.self.invariant.1 c.args.at number c.put_mark.new.marks.items _ c.args.item _ there unused refl c.moment.ensures c.put_mark.ensures.put c.put_mark.ensures.by_moment c.put_mark.ensures.capacity,
+      insert_marked g.T.Timed.moment slots used c.self.inside.marks.items _ c.self.invariant.1 c.args.at number c.put_mark.new.marks.items _ c.args.item _ there unused refl c.moment.ensures c.put_mark.ensures.put c.put_mark.ensures.by_time c.put_mark.ensures.capacity,
     )
 
 pub returns-in-Some-clause-items : goal.returns-in-Some-clause-items

@@ -29,8 +29,8 @@ returns-else-moment-before-clause-items g c =
     let is : (e : ℕ) → get_or used c.args.at e ≡ number = λ e. get_or_default used c.args.at e number within ∙ sym c.index-number.ensures in
     rw (← c.self.view_is) (set_lying slots used real number c.args.item (number_real slots used real c.args.at number within c.index-number.ensures) c.args.at within is (λ j e lt ne same. used_once slots used free _ _ c.self.invariant.0 c.args.at j e within lt ne (same ∙ sym (is e))))
 
-pub put_mark-requires-clause-by_moment : goal.put_mark-requires-clause-by_moment
-put_mark-requires-clause-by_moment g c =
+pub put_mark-requires-clause-by_time : goal.put_mark-requires-clause-by_time
+put_mark-requires-clause-by_time g c =
     let slots = c.self.inside.slots.items in
     let used = c.self.inside.used.items in
     let free = c.self.inside.free.items in
@@ -74,7 +74,7 @@ invariant_of-self g c =
     let there = number_real slots used real c.args.at number within c.index-number.ensures in
     let put = rw c.remove_expiry.ensures.items at c.put_mark.ensures.put in (
       moved_slots slots used free _ _ c.self.invariant.0 used free _ _ _ (IsPermutation-refl (used ++ free)) (length-set slots number c.args.item) (omega arith) (omega arith),
-      set_marked g.T.Timed.moment slots used marks _ c.self.invariant.1 c.args.at number within is once c.put_mark.new.marks.items _ c.args.item _ there refl c.moment-moment.ensures put c.put_mark.ensures.by_moment (omega (arith, c.remove_expiry.ensures.capacity, c.put_mark.ensures.capacity)),
+      set_marked g.T.Timed.moment slots used marks _ c.self.invariant.1 c.args.at number within is once c.put_mark.new.marks.items _ c.args.item _ there refl c.moment-moment.ensures put c.put_mark.ensures.by_time (omega (arith, c.remove_expiry.ensures.capacity, c.put_mark.ensures.capacity)),
     )
 
 pub remove_expiry-requires : goal.remove_expiry-requires

@@ -1,5 +1,0 @@
-use Rattle.ipx_site.proofs.StandingFiles.{services_of_files}
-use Rattle.ipx_site.proofs.static_laws.services_of_files_stand.Goals as goal
-
-pub returns : goal.returns
-returns c = services_of_files c.static_services_hold.ensures

@@ -1,5 +1,0 @@
-use Rattle.ipx_site.proofs.StandingSites.{services_of_sites}
-use Rattle.ipx_site.proofs.static_laws.services_of_sites_stand.Goals as goal
-
-pub returns : goal.returns
-returns c = services_of_sites c.statics_are_counted_apart.ensures c.services_of_files_stand.ensures

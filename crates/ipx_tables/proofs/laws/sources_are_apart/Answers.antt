@@ -1,5 +1,0 @@
-use Rattle.ipx_tables.proofs.Unique.{source_exact}
-use Rattle.ipx_tables.proofs.laws.sources_are_apart.Goals as goal
-
-pub returns : goal.returns
-returns c = source_exact
