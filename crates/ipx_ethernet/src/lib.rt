@@ -1,11 +1,11 @@
 //! Ethernet frames that hold an IPX packet, in the four encapsulations of NetWare.
 //!
 //! [`decode_frame`] reads a frame as a station receives it, and [`encode_frame_into`] writes one.
-//! Nothing allocates memory, and the packet is lent from the frame that was read.
+//! Only [`Switch::new`] allocates memory, and the packet is lent from the frame that was read.
 //!
-//! A port on a wire of several ends has a [`Switch`]. [`Switch::hear`] says of a frame that one end gave
-//! which of the others it goes on to, and which packet in it goes to the core of the port.
-//! [`Switch::egress_for`] says which ends a frame of the port's own goes to.
+//! An Ethernet port with several remotes has a [`Switch`]. [`Switch::hear`] says to which other
+//! remotes a received frame is forwarded, and which packet in it goes to the router.
+//! [`Switch::egress_for`] says to which remotes a frame of the port itself is sent.
 #![tactic(auto)]
 
 mod egress;
