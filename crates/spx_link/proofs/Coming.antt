@@ -128,21 +128,21 @@ confirmed_before R.PeerEnded S.Lost is = absurd (cc)
 confirmed_before R.Confirmed s is = inl refl
 confirmed_before R.Stranger s is = inr is
 
-stranger_or_not : (a : Received) → (a ≡ R.Stranger) ⊎ (a ≡ R.Stranger → ⊥)
-stranger_or_not R.Joined = inr (λ e. cc)
-stranger_or_not R.Kept = inr (λ e. cc)
-stranger_or_not R.Repeat = inr (λ e. cc)
-stranger_or_not R.Ahead = inr (λ e. cc)
-stranger_or_not R.OverAllocation = inr (λ e. cc)
-stranger_or_not R.System = inr (λ e. cc)
-stranger_or_not R.PeerEnded = inr (λ e. cc)
-stranger_or_not R.Confirmed = inr (λ e. cc)
-stranger_or_not R.Stranger = inl refl
+unknown_or_not : (a : Received) → (a ≡ R.Stranger) ⊎ (a ≡ R.Stranger → ⊥)
+unknown_or_not R.Joined = inr (λ e. cc)
+unknown_or_not R.Kept = inr (λ e. cc)
+unknown_or_not R.Repeat = inr (λ e. cc)
+unknown_or_not R.Ahead = inr (λ e. cc)
+unknown_or_not R.OverAllocation = inr (λ e. cc)
+unknown_or_not R.System = inr (λ e. cc)
+unknown_or_not R.PeerEnded = inr (λ e. cc)
+unknown_or_not R.Confirmed = inr (λ e. cc)
+unknown_or_not R.Stranger = inl refl
 
 -- none is left where there was none
 none_left : (l m : LinkView) (count : ℕ) → (a : Received) → (a ≡ R.Stranger) ⊎ (a ≡ R.Stranger → ⊥) → (a ≡ R.Stranger → m ≡ l) → ((a ≡ R.Stranger → ⊥) → m.queue ≡ drop count l.queue) → l.queue ≡ [] → m.queue ≡ []
-none_left l m count a (inl is) stranger queue none = ap (λ (k : LinkView). k.queue) (stranger is) ∙ none
-none_left l m count a (inr not_one) stranger queue none = queue not_one ∙ ap (drop count) none ∙ drop-nil {A = Queued} count
+none_left l m count a (inl is) unknown queue none = ap (λ (k : LinkView). k.queue) (unknown is) ∙ none
+none_left l m count a (inr not_one) unknown queue none = queue not_one ∙ ap (drop count) none ∙ drop-nil {A = Queued} count
 
 whole_by : (l m : LinkView) (a : Received) (h : SpxHeader) → IsWholeOnceConfirmed l → m.end_queued ≡ l.end_queued → (a ≡ R.Confirmed → (l.end_queued ≡ true) × (m.queue ≡ [])) → (l.queue ≡ [] → m.queue ≡ []) → (a ≡ R.Confirmed) ⊎ (l.state ≡ S.Confirmed) → IsWhole m
 whole_by l m a h has same done left (inl now) = record { end_queued = same ∙ (done now).0; queue = (done now).1 }
@@ -154,7 +154,7 @@ whole_received l h body has is =
     let a : Received = (receive_link l h body).0 in
     let m : LinkView = (receive_link l h body).1 in
     whole_by l m a h has course.end_queued (λ e. ((course.done e).end_queued, (course.done e).queue))
-    (none_left l m (acknowledged l.next l.out h.ack) a (stranger_or_not a) course.stranger course.queue)
+    (none_left l m (acknowledged l.next l.out h.ack) a (unknown_or_not a) course.unknown course.queue)
     (confirmed_before a l.state (sym course.state ∙ is))
 
 mark_more : (a b e : ℕ) → a % 65536 ≡ e → (a + b) % 65536 ≡ (e + b) % 65536
@@ -246,25 +246,25 @@ never_opening l h body read is =
     let says = receive_says l h body in
     not_opening_after (receive_link l h body).0 l.state read (λ other. (says.own read other).0) (sym says.course.state ∙ is)
 
-joined_or_stranger : (a : Received) (s : State) → ((a ≡ R.Stranger → ⊥) → (a ≡ R.Joined → ⊥) → is_joined s ≡ true) → is_joined s ≡ false → (a ≡ R.Joined) ⊎ (a ≡ R.Stranger)
-joined_or_stranger R.Joined s own apart = inl refl
-joined_or_stranger R.Kept s own apart = let never : is_joined s ≡ true = own (λ e. cc) (λ e. cc) in absurd (cc)
-joined_or_stranger R.Repeat s own apart = let never : is_joined s ≡ true = own (λ e. cc) (λ e. cc) in absurd (cc)
-joined_or_stranger R.Ahead s own apart = let never : is_joined s ≡ true = own (λ e. cc) (λ e. cc) in absurd (cc)
-joined_or_stranger R.OverAllocation s own apart = let never : is_joined s ≡ true = own (λ e. cc) (λ e. cc) in absurd (cc)
-joined_or_stranger R.System s own apart = let never : is_joined s ≡ true = own (λ e. cc) (λ e. cc) in absurd (cc)
-joined_or_stranger R.PeerEnded s own apart = let never : is_joined s ≡ true = own (λ e. cc) (λ e. cc) in absurd (cc)
-joined_or_stranger R.Confirmed s own apart = let never : is_joined s ≡ true = own (λ e. cc) (λ e. cc) in absurd (cc)
-joined_or_stranger R.Stranger s own apart = inr refl
+joined_or_unknown : (a : Received) (s : State) → ((a ≡ R.Stranger → ⊥) → (a ≡ R.Joined → ⊥) → is_joined s ≡ true) → is_joined s ≡ false → (a ≡ R.Joined) ⊎ (a ≡ R.Stranger)
+joined_or_unknown R.Joined s own apart = inl refl
+joined_or_unknown R.Kept s own apart = let never : is_joined s ≡ true = own (λ e. cc) (λ e. cc) in absurd (cc)
+joined_or_unknown R.Repeat s own apart = let never : is_joined s ≡ true = own (λ e. cc) (λ e. cc) in absurd (cc)
+joined_or_unknown R.Ahead s own apart = let never : is_joined s ≡ true = own (λ e. cc) (λ e. cc) in absurd (cc)
+joined_or_unknown R.OverAllocation s own apart = let never : is_joined s ≡ true = own (λ e. cc) (λ e. cc) in absurd (cc)
+joined_or_unknown R.System s own apart = let never : is_joined s ≡ true = own (λ e. cc) (λ e. cc) in absurd (cc)
+joined_or_unknown R.PeerEnded s own apart = let never : is_joined s ≡ true = own (λ e. cc) (λ e. cc) in absurd (cc)
+joined_or_unknown R.Confirmed s own apart = let never : is_joined s ≡ true = own (λ e. cc) (λ e. cc) in absurd (cc)
+joined_or_unknown R.Stranger s own apart = inr refl
 
 joins_or_stays : (l m : LinkView) (a : Received) → (a ≡ R.Joined) ⊎ (a ≡ R.Stranger) → (a ≡ R.Stranger → m ≡ l) → (a ≡ R.Joined) ⊎ (m ≡ l)
-joins_or_stays l m a (inl joined) stranger = inl joined
-joins_or_stays l m a (inr is) stranger = inr (stranger is)
+joins_or_stays l m a (inl joined) unknown = inl joined
+joins_or_stays l m a (inr is) unknown = inr (unknown is)
 
 pub opening_joins_or_stays : (l : LinkView) (h : SpxHeader) (body : List ℕ) → l.state ≡ S.Opening → ((receive_link l h body).0 ≡ R.Joined) ⊎ ((receive_link l h body).1 ≡ l)
 opening_joins_or_stays l h body opening =
     let says = receive_says l h body in
-    joins_or_stays l (receive_link l h body).1 (receive_link l h body).0 (joined_or_stranger (receive_link l h body).0 l.state (λ read other. (says.own read other).0) (ap is_joined opening)) says.course.stranger
+    joins_or_stays l (receive_link l h body).1 (receive_link l h body).0 (joined_or_unknown (receive_link l h body).0 l.state (λ read other. (says.own read other).0) (ap is_joined opening)) says.course.unknown
 
 -- ---- Opening or Lost
 
@@ -304,7 +304,7 @@ one_of a (inr is) read = absurd (read is)
 
 pub separate_joins : (l : LinkView) (h : SpxHeader) (body : List ℕ) → is_unconnected l.state ≡ true → ((receive_link l h body).0 ≡ R.Stranger → ⊥) → (receive_link l h body).0 ≡ R.Joined
 separate_joins l h body e read =
-    one_of (receive_link l h body).0 (joined_or_stranger (receive_link l h body).0 l.state (λ some other. ((receive_says l h body).own some other).0) (not_joined l.state e)) read
+    one_of (receive_link l h body).0 (joined_or_unknown (receive_link l h body).0 l.state (λ some other. ((receive_says l h body).own some other).0) (not_joined l.state e)) read
 
 refuses_at : (s : State) → is_unconnected s ≡ true → refusal s ≡ None → ⊥
 refuses_at S.Opening e none = absurd (cc)

@@ -90,7 +90,7 @@ pub record Course (l : LinkView) (h : SpxHeader) (r : Received × LinkView) : Ty
   pub end_queued : r.1.end_queued ≡ l.end_queued
   pub peer_ended : r.1.peer_ended ≡ ended_after r.0 l.peer_ended
   pub queue : (r.0 ≡ Stranger → ⊥) → r.1.queue ≡ drop (acknowledged l.next l.out h.ack) l.queue
-  pub stranger : r.0 ≡ Stranger → r.1 ≡ l
+  pub unknown : r.0 ≡ Stranger → r.1 ≡ l
   pub done : r.0 ≡ Confirmed → ConfirmsWhole l r.1
 
 both_tests : (b : Bool) → b ≡ true → b ≡ false → ⊥
@@ -126,7 +126,7 @@ pub record ReadSays (l : LinkView) (h : SpxHeader) (body : List ℕ) (r : Receiv
 
 stranger_says : (l : LinkView) (h : SpxHeader) (body : List ℕ) → false ≡ in_turn l h → ReadSays l h body (Stranger, l)
 stranger_says l h body other = record {
-  course = record { state = refl; end_queued = refl; peer_ended = refl; queue = λ no. absurd (no refl); stranger = λ _. refl; done = λ e. cc };
+  course = record { state = refl; end_queued = refl; peer_ended = refl; queue = λ no. absurd (no refl); unknown = λ _. refl; done = λ e. cc };
   unit = unkept l l h body Stranger other refl refl refl;
 }
 
@@ -148,7 +148,7 @@ confirmed_says l h body system may =
         end_queued = refl;
         peer_ended = refl;
         queue = λ _. refl;
-        stranger = λ e. cc;
+        unknown = λ e. cc;
         done = λ _. record { end_queued = (and_parts l.end_queued others more).0; queue = empty_of m.queue (and_parts (length m.queue == 0) (not (is_confirmed l.state)) rest).0 };
       };
       unit = unkept l (record (R.with_ack_owed (R.read_numbers l h) h.wants_ack) { state = States.Confirmed }) h body Confirmed (of_system (is_own l h) (is_system h) l.peer_ended (wanted l h) system) refl refl refl;
@@ -160,7 +160,7 @@ system_says l h body system =
     by_test (ReadSays l h body) (R.may_confirm m h) (Confirmed, record (R.with_ack_owed m h.wants_ack) { state = States.Confirmed }) (System, R.with_ack_owed m h.wants_ack)
     (λ may. confirmed_says l h body system may)
     (λ _. record {
-      course = record { state = refl; end_queued = refl; peer_ended = refl; queue = λ _. refl; stranger = λ e. cc; done = λ e. cc };
+      course = record { state = refl; end_queued = refl; peer_ended = refl; queue = λ _. refl; unknown = λ e. cc; done = λ e. cc };
       unit = unkept l (R.with_ack_owed m h.wants_ack) h body System (of_system (is_own l h) (is_system h) l.peer_ended (wanted l h) system) refl refl refl;
     })
 
@@ -169,11 +169,11 @@ repeated_says l h body other =
     let m : LinkView = R.read_numbers l h in
     by_test (λ (n : LinkView). ReadSays l h body (Repeat, n)) ((h.stream == end_stream) && m.peer_ended) (record m { owes_confirm = true }) (record m { owes_ack = true })
     (λ _. record {
-      course = record { state = refl; end_queued = refl; peer_ended = refl; queue = λ _. refl; stranger = λ e. cc; done = λ e. cc };
+      course = record { state = refl; end_queued = refl; peer_ended = refl; queue = λ _. refl; unknown = λ e. cc; done = λ e. cc };
       unit = unkept l (record m { owes_confirm = true }) h body Repeat other refl refl refl;
     })
     (λ _. record {
-      course = record { state = refl; end_queued = refl; peer_ended = refl; queue = λ _. refl; stranger = λ e. cc; done = λ e. cc };
+      course = record { state = refl; end_queued = refl; peer_ended = refl; queue = λ _. refl; unknown = λ e. cc; done = λ e. cc };
       unit = unkept l (record m { owes_ack = true }) h body Repeat other refl refl refl;
     })
 
@@ -184,11 +184,11 @@ settle_says l h body next =
     let us : List units.Unit = newly_held l h body in
     by_test (ReadSays l h body) (R.any_end us) (PeerEnded, R.keep_end m us) (Kept, R.keep_units m us (kept_with l h body))
     (λ ends. record {
-      course = record { state = refl; end_queued = refl; peer_ended = refl; queue = λ _. refl; stranger = λ e. cc; done = λ e. cc };
+      course = record { state = refl; end_queued = refl; peer_ended = refl; queue = λ _. refl; unknown = λ e. cc; done = λ e. cc };
       unit = record { turns = next; held = λ _. refl; ahead = λ e. cc; none_ahead = λ _. refl; same = λ e. cc; ends = λ _. ends; goes_on = λ e. cc };
     })
     (λ goes. record {
-      course = record { state = refl; end_queued = refl; peer_ended = refl; queue = λ _. refl; stranger = λ e. cc; done = λ e. cc };
+      course = record { state = refl; end_queued = refl; peer_ended = refl; queue = λ _. refl; unknown = λ e. cc; done = λ e. cc };
       unit = record { turns = next; held = λ _. refl; ahead = λ _. refl; none_ahead = λ e. cc; same = λ e. cc; ends = λ e. cc; goes_on = λ _. goes };
     })
 
@@ -201,12 +201,12 @@ in_turn_says l h body own unit more near =
     by_test (ReadSays l h body) room (R.keep m h body) (OverAllocation, record m { owes_ack = true })
     (λ fits. by_test (ReadSays l h body) taken (Repeat, record m { owes_ack = true }) (R.settle m (kept_with l h body))
     (λ again. record {
-      course = record { state = refl; end_queued = refl; peer_ended = refl; queue = λ _. refl; stranger = λ e. cc; done = λ e. cc };
+      course = record { state = refl; end_queued = refl; peer_ended = refl; queue = λ _. refl; unknown = λ e. cc; done = λ e. cc };
       unit = unkept l (record m { owes_ack = true }) h body Repeat (of_other_place (is_own l h) (is_system h) l.peer_ended (wanted l h) (not_again behind room taken again)) refl refl refl;
     })
     (λ new. settle_says l h body (of_all (is_own l h) (is_system h) l.peer_ended (wanted l h) own unit more (so_wanted behind room taken near fits new))))
     (λ over. record {
-      course = record { state = refl; end_queued = refl; peer_ended = refl; queue = λ _. refl; stranger = λ e. cc; done = λ e. cc };
+      course = record { state = refl; end_queued = refl; peer_ended = refl; queue = λ _. refl; unknown = λ e. cc; done = λ e. cc };
       unit = unkept l (record m { owes_ack = true }) h body OverAllocation (of_other_place (is_own l h) (is_system h) l.peer_ended (wanted l h) (not_over behind room taken over)) refl refl refl;
     })
 
@@ -217,7 +217,7 @@ unit_says l h body own unit =
     (λ far. repeated_says l h body (of_other_place (is_own l h) (is_system h) l.peer_ended (wanted l h) (not_behind (nat_le 32768 (distance h.seq l.expected)) (nat_lt (distance h.seq l.expected) (free l)) (R.is_taken (distance h.seq l.expected) l.ahead) far)))
     (λ near. by_test (ReadSays l h body) m.peer_ended (Ahead, m) (R.in_turn m h body)
     (λ ended. record {
-      course = record { state = refl; end_queued = refl; peer_ended = refl; queue = λ _. refl; stranger = λ e. cc; done = λ e. cc };
+      course = record { state = refl; end_queued = refl; peer_ended = refl; queue = λ _. refl; unknown = λ e. cc; done = λ e. cc };
       unit = unkept l m h body Ahead (of_ended (is_own l h) (is_system h) l.peer_ended (wanted l h) ended) refl refl refl;
     })
     (λ more. in_turn_says l h body own unit more near))
@@ -310,7 +310,7 @@ not_joined l h e = (λ x. cc, λ t. let j : is_joined l.state ≡ true = t.joine
 stranger_receives : (l : LinkView) (h : SpxHeader) (body : List ℕ) → is_joined l.state ≡ false → ReceiveSays l h body (Stranger, l)
 stranger_receives l h body e =
     record {
-      course = record { state = refl; end_queued = refl; peer_ended = refl; queue = λ no. absurd (no refl); stranger = λ _. refl; done = λ x. cc };
+      course = record { state = refl; end_queued = refl; peer_ended = refl; queue = λ no. absurd (no refl); unknown = λ _. refl; done = λ x. cc };
       turns = not_joined l h e;
       held = λ x. cc;
       ahead = λ x. cc;
@@ -325,7 +325,7 @@ reply_receives : (l : LinkView) (h : SpxHeader) (body : List ℕ) → is_joined 
 reply_receives l h body e =
     by_test (ReceiveSays l h body) (R.is_reply l h) (Joined, R.read_numbers (R.joined_link l h) h) (Stranger, l)
     (λ _. record {
-      course = record { state = refl; end_queued = refl; peer_ended = refl; queue = λ _. refl; stranger = λ x. cc; done = λ x. cc };
+      course = record { state = refl; end_queued = refl; peer_ended = refl; queue = λ _. refl; unknown = λ x. cc; done = λ x. cc };
       turns = not_joined l h e;
       held = λ x. cc;
       ahead = λ x. cc;

@@ -121,7 +121,7 @@ pub fn receive_reads_its_own()
     ensures own { (l : LinkView) (h : SpxHeader) (body : List ℕ)
         → (receive_link l h body).0 ≢ Stranger → (receive_link l h body).0 ≢ Joined
         → (is_joined l.state ≡ true) × (is_own l h ≡ true) }
-    ensures stranger { (l : LinkView) (h : SpxHeader) (body : List ℕ)
+    ensures unknown { (l : LinkView) (h : SpxHeader) (body : List ℕ)
         → (receive_link l h body).0 ≡ Stranger → (receive_link l h body).1 ≡ l }
 {}
 

@@ -54,9 +54,9 @@ other_still parcels c x y what who k differ = ap (λ (h : Half). h.end) (other_h
 
 module _ (c d a b : ℕ) (differ : c ≢ d) (ends : List PresentEnd) (parcels : List (List ℕ)) (s : Scan) (p : Pair) where
   -- the packet of an end that is neither
-  pub stranger_gives : (what : Sent) (who : ℕ) (bytes : List ℕ) → who ≢ c → who ≢ d → Whole c d ends parcels s.marks s.sent p.one p.two
+  pub unknown_gives : (what : Sent) (who : ℕ) (bytes : List ℕ) → who ≢ c → who ≢ d → Whole c d ends parcels s.marks s.sent p.one p.two
       → WholeAfter c d ends (parcels ++ bytes ∷ []) s p.one p.two (note_of what who (length parcels))
-  stranger_gives what who bytes not_c not_d w =
+  unknown_gives what who bytes not_c not_d w =
       subst (λ h. Whole c d ends (parcels ++ bytes ∷ []) (seen s n).marks (seen s n).sent h (half_after (parcels ++ bytes ∷ []) d p.two p.one n)) (sym (other_half (parcels ++ bytes ∷ []) c p.one p.two what who (length parcels) not_c))
       (subst (λ h. Whole c d ends (parcels ++ bytes ∷ []) (seen s n).marks (seen s n).sent (not_mine p.one) h) (sym (other_half (parcels ++ bytes ∷ []) d p.two p.one what who (length parcels) not_d))
       (by_kind what))
@@ -148,7 +148,7 @@ module _ (c d a b : ℕ) (differ : c ≢ d) (ends : List PresentEnd) (parcels : 
               record {
                 whole = elsewhere c d ends ends' parcels' (seen s n).marks (seen s n).sent (half_after parcels' c p.one p.two n) (half_after parcels' d p.two p.one n)
                     (λ f there. other_end ends who c (linked e l') f not_c there) (λ f there. other_end ends who d (linked e l') f not_d there)
-                    (stranger_gives g.what who bytes not_c not_d h.whole);
+                    (unknown_gives g.what who bytes not_c not_d h.whole);
                 early = λ u. subst (IsNew a) (sym (other_still parcels' c p.one p.two g.what who (length parcels) not_c)) (h.early (before u));
                 quiet = λ u f m there link. h.quiet (before u) f m (other_end ends who c (linked e l') f not_c there) link;
                 unmade = λ past. subst (IsNew b) (sym (other_still parcels' d p.two p.one g.what who (length parcels) not_d)) (h.unmade (omega (arith, past, length-set ends who (linked e l'))));

@@ -5,5 +5,5 @@ pub returns : goal.returns
 returns c =
     record {
       own = λ l h body. (receive_says l h body).own;
-      stranger = λ l h body. (receive_says l h body).course.stranger;
+      unknown = λ l h body. (receive_says l h body).course.unknown;
     }
