@@ -5,7 +5,7 @@ use std::{fmt, io};
 use thiserror::Error;
 
 /// Why a socket could not be bound to an IP address and a UDP port: the system's error.
-#[derive(Clone, Copy)]
+#[derive(Clone, Copy, Debug, PartialEq, Eq)]
 pub struct BindError {
     pub ip: [u8; 4],
     pub udp_port: u16,
