@@ -1,4 +1,4 @@
--- How many bytes are acknowledged, of messages of which the first ones are gone.
+-- How many bytes are acknowledged, after the first messages are removed.
 use Rattle.std.proofs.Common.{◌≡◌, ℕ, ◌+◌, ◌-◌, ◌*◌, ◌^◌, ◌<◌, ◌≤◌, List, [], ◌∷◌, ◌++◌, refl, sym, ap, ◌∙◌, subst, arith, append_assoc, append-nil, min, length, get_or}
 use Rattle.std.specs.Prelude.{sum}
 use Rattle.std.proofs.lemmas.List.Sums.{sum_by-cons, sum_by_push}
@@ -18,7 +18,7 @@ no_bytes (b ∷ more) =
     let none : 0 - units_in b ≡ 0 = omega arith in
     omega (arith, ap (bytes_acknowledged more) none ∙ no_bytes more)
 
--- the first ones count whole
+-- the first ones count fully
 bytes_gone : (gone left : List ℕ) (begun : ℕ) → bytes_acknowledged (gone ++ left) (all_units gone + begun) ≡ sum gone + bytes_acknowledged left begun
 bytes_gone [] left begun =
     let all : all_units [] + begun ≡ begun = omega arith in
@@ -32,7 +32,7 @@ bytes_gone (b ∷ gone) left begun =
     let others : bytes_acknowledged (gone ++ left) (units - units_in b) ≡ sum gone + bytes_acknowledged left begun = ap (bytes_acknowledged (gone ++ left)) rest ∙ bytes_gone gone left begun in
     omega (arith, first, others, bytes)
 
--- of the first that is left so many units count, and nothing behind it does
+-- so many units of the first remaining message count, and none after it
 bytes_open : (b : ℕ) (more : List ℕ) (begun : ℕ) → begun < units_in b → bytes_acknowledged (b ∷ more) begun ≡ min b (534 * begun)
 bytes_open b more begun h =
     let none : begun - units_in b ≡ 0 = omega arith in
@@ -57,11 +57,11 @@ exact_some given units [] begun whole first c unclosed some is = absurd (omega a
 exact_some given units (b ∷ more) begun whole first c unclosed some is =
     omega (arith, counts_bytes given units (b ∷ more) begun whole c, bytes_open b more begun unclosed)
 
--- nothing was handed in
+-- nothing was queued
 pub counts_none : CountsAcknowledged [] 0 [] 0 0
 counts_none = record { gone = []; in_order = refl; acknowledged = refl; bytes = refl }
 
--- a message more
+-- one more message
 pub counts_pushed : (given : List ℕ) (units : ℕ) (left : List ℕ) (begun whole bytes : ℕ) → CountsAcknowledged given units left begun whole → CountsAcknowledged (given ++ bytes ∷ []) units (left ++ bytes ∷ []) begun whole
 counts_pushed given units left begun whole bytes c =
     record {
@@ -71,7 +71,7 @@ counts_pushed given units left begun whole bytes c =
       bytes = c.bytes;
     }
 
--- it is not acknowledged whole, where no more units are than were handed in
+-- it is not fully acknowledged, if no more units are than were queued
 pub open_pushed : (given : List ℕ) (units : ℕ) (left : List ℕ) (begun whole bytes : ℕ) → CountsAcknowledged given units left begun whole → units ≤ all_units given
     → IsFirstOpen left begun → IsFirstOpen (left ++ bytes ∷ []) begun
 open_pushed given units [] begun whole bytes c few unclosed =
@@ -79,7 +79,7 @@ open_pushed given units [] begun whole bytes c few unclosed =
     omega (arith, all, c.acknowledged, few, one_unit bytes)
 open_pushed given units (b ∷ more) begun whole bytes c few unclosed = unclosed
 
--- the first that is left goes
+-- the first remaining message is removed
 pub counts_closed : (given : List ℕ) (units b : ℕ) (left more : List ℕ) (begun begun' whole whole' : ℕ) → left ≡ b ∷ more → begun ≡ units_in b + begun' → whole' ≡ counted (whole + b)
     → CountsAcknowledged given units left begun whole → CountsAcknowledged given units more begun' whole'
 counts_closed given units b left more begun begun' whole whole' is enough bytes c =

@@ -1,4 +1,4 @@
--- What is noted of a connection that comes.
+-- What is noted of a new connection.
 use Rattle.std.proofs.Common.{◌≡◌, ◌∙◌, ℕ, Bool, List, Option, Some, None, ap, subst, sym}
 use Rattle.spx_messages.specs.EndpointView.{EndpointView}
 use Rattle.ipx_host.specs.Sessions.{Admits, DoesNoted, NotesHeard, session_of}

@@ -1,4 +1,4 @@
--- What a host that asks for a connection leaves of its address.
+-- What a host that dials keeps of its address.
 use Rattle.std.proofs.Common.{refl, ◌∙◌}
 use Rattle.spx_messages.specs.Changes.{SameSelf}
 use Rattle.spx_messages.specs.EndpointView.{EndpointView}

@@ -1,4 +1,4 @@
--- What a host that sends lets go of what came.
+-- What a sending host drops of what it received.
 use Rattle.std.proofs.Common.{◌≡◌, ◌≢◌, ◌∙◌, ◌⊎◌, ◌+◌, ◌<◌, ℕ, suc, Bool, true, false, List, [], ◌∷◌, Option, Some, None, Result, Ok, Err, inl, inr, refl, sym, ap, subst, arith}
 use Rattle.std.specs.Prelude.{IfSome}
 use Rattle.spx_link.specs.declared.unit.Unit.{Unit as Piece}
@@ -18,7 +18,8 @@ use Rattle.ipx_host.proofs.Fed.{either_one, for_memory, no_memory}
 
 -- ---- one take
 
--- what a take gives, by what is held: nothing where nothing is, else something, or too long a message
+-- what a take gives, by what is held: nothing if nothing is held, otherwise something, or that a message is
+-- too long
 abbrev IsGiven : List Piece → Result TakenView EndFault → Type 0
 IsGiven [] r = r ≡ Ok Nothing
 IsGiven (u ∷ us) r = (r ≡ Err overlong) ⊎ ((t : TakenView) × (r ≡ Ok t) × (t ≢ Nothing))
@@ -31,7 +32,7 @@ given_first h (u ∷ us) =
     let given : P (takes_data h u) = either_one P (is_overlong h.rest u) (Err overlong, overrun h) (joins_on h u) (inl refl) joined in
     either_one P (is_end u) (Ok PeerEnd, taken_held h) (takes_data h u) (inr (PeerEnd, refl, λ e. cc)) given
 
--- so nothing is taken only where nothing is held
+-- so nothing is taken only if nothing is held
 none_held : (us : List Piece) (r : Result TakenView EndFault) → IsGiven us r → r ≡ Ok Nothing → us ≡ []
 none_held [] r given is = refl
 none_held (u ∷ us) r (inl e) is = absurd (cc)
@@ -39,12 +40,12 @@ none_held (u ∷ us) r (inr (t, e, some)) is =
     let same : t ≡ Nothing = (let it : ◌≡◌ {A = Result TakenView EndFault} (Ok t) (Ok Nothing) = sym e ∙ is in cc) in
     absurd (some same)
 
--- and something only where something is
+-- and something only if something is held
 some_held : (us : List Piece) (r : Result TakenView EndFault) → IsGiven us r → (r ≡ Ok Nothing → ⊥) → us ≢ []
 some_held [] r given other = λ e. other given
 some_held (u ∷ us) r given other = λ e. cc
 
--- a fault is of too long a message
+-- a fault is that of a message that is too long
 fault_of : (us : List Piece) (r : Result TakenView EndFault) (f : EndFault) → IsGiven us r → r ≡ Err f → r ≡ Err overlong
 fault_of [] r f given is = absurd (cc)
 fault_of (u ∷ us) r f (inl e) is = e
@@ -56,7 +57,7 @@ Takes old new id r o = IfSome o (λ h. r ≢ Err no_memory → (result_view r �
 abbrev Refuses : EndpointView → EndpointView → Result Taken EndFault → Option Held → Type 0
 Refuses old new r o = IfSome o (λ h. r ≡ Err no_memory → IsPushed h × SameBut old new)
 
--- what is taken goes
+-- what is taken is removed
 drops_at : (old new : EndpointView) (id : ℕ) (t : Taken) (o : Option Held) → t ≢ Takens.Nothing → Takes old new id (Ok t) o
     → IfSome o (λ h. (h.link.held ≢ []) × (held_at new id ≡ Some (take_end h).1))
 drops_at old new id t None some takes = tt
@@ -71,7 +72,7 @@ drops_at old new id t (Some h) some takes =
     is_something (Takens.Whole m) some is = cc
     is_something Takens.PeerEnd some is = cc
 
--- what is not taken stays, or is lost with its link
+-- what is not taken remains, or is lost with its link
 stops_none : (old new : EndpointView) (id : ℕ) (o : Option Held) → Takes old new id (Ok Takens.Nothing) o → IfSome o (λ h. StopsAt h (held_at new id))
 stops_none old new id None takes = tt
 stops_none old new id (Some h) takes =

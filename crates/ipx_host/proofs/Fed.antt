@@ -1,4 +1,4 @@
--- What a host that sends leaves of its link as it takes what came, and what it feeds.
+-- What a sending host keeps of its link as it takes what it received, and what it feeds.
 use Rattle.std.proofs.Common.{◌≡◌, ◌≢◌, ◌↔◌, ◌⊎◌, ℕ, zero, suc, ◌+◌, ◌<◌, ◌%◌, Bool, true, false, List, [], ◌∷◌, length, Option, Some, None, Result, Ok, Err, inl, inr, refl, sym, ap, ◌∙◌, subst, arith}
 use Rattle.std.specs.Prelude.{IfSome, IsSome, IsTrue, if◌then◌else◌}
 use Rattle.std.specs.Option.{option_map}
@@ -30,7 +30,7 @@ use Rattle.ipx_host.specs.declared.acked_bytes.Ledger.{Ledger}
 use Rattle.ipx_host.specs.declared.send_outcome.SendOutcome.{SendOutcome}
 use Rattle.ipx_host.specs.declared.send_outcome.SendOutcome.TheVariants.{Unwaited}
 
--- ---- what came is taken
+-- ---- what was received is taken
 
 queue_kept : (l : LinkView) → SameQueue l l
 queue_kept l = record { queue = refl; out = refl; next = refl; ended = refl }
@@ -113,7 +113,7 @@ none_live : (links : List LinkView) (id : ℕ) → length links ≡ 0 → IsSome
 none_live [] id none live = absurd (cc)
 none_live (l ∷ ls) id none live = absurd (omega arith)
 
--- where no link is held, the next id is the one behind the last
+-- if no link is held, the next id is the one after the last
 free_next : (s : LinksView) (id steps : ℕ) → id ≡ (s.last + steps) % 65534 + 1 → ((k : ℕ) → k < steps → IsSome (link_of s.links ((s.last + k) % 65534 + 1)))
     → count_of s ≡ 0 → s.last < 65534 → id ≡ s.last + 1
 free_next s id zero is passed none few = omega arith
@@ -139,7 +139,7 @@ sees joined joined' left left' core core' id id' closed closed' whole waits stat
       tells = ap (option_map (ended_at closed)) (tells ∙ ap (verdict_at whole joined' waits) at);
     }
 
--- what was noted stays so, as the step goes on
+-- what was noted remains while the step goes on
 pub sees_later : (joined joined' : Bool) (left left' : Option ℕ) (old : SeenSoFar) (seen : EndpointView) (moment id : ℕ) (closed : Bool) (verdict : Option SendOutcome) → joined' ≡ joined → left' ≡ left
     → Sees old (record { joined = joined; left = left }) seen moment id closed verdict → Sees old (record { joined = joined'; left = left' }) seen moment id closed verdict
 sees_later joined joined' left left' old seen moment id closed verdict p q s =
@@ -156,7 +156,7 @@ sees_later joined joined' left left' old seen moment id closed verdict p q s =
 pub same_intake : (e e' : EndpointView) (r r' c c' : Bool) (l l' : Ledger) (k : Option (List ℕ)) → e' ≡ e → r' ≡ r → c' ≡ c → l' ≡ l → feed_state e' r' c' l' k ≡ feed_state e r c l k
 same_intake e e' r r' c c' l l' k p q s t = cc
 
--- what the link acknowledges was counted, what came was dropped, and then the link was fed
+-- what the link acknowledges was counted, what was received was dropped, and then the link was fed
 pub stepped : (id id' : ℕ) (core core' : PacedHostCore) (start dropped : EndpointView) (read read' closed closed' : Bool) (acked_bytes acked_bytes' : Ledger) (known : Option (List ℕ)) (new : FeedState) (bytes : List ℕ)
     → id' ≡ id → core' ≡ core → read' ≡ read → closed' ≡ closed → EntersAcknowledged (held_at core.endpoint id) acked_bytes acked_bytes' → DropsCame core'.endpoint dropped id'
     → Feeds (feed_state dropped read' closed' acked_bytes' known) new id' bytes → (state_at core.endpoint id ≢ Some Live → LeavesIntake (feed_state dropped read' closed' acked_bytes' known) new bytes)
@@ -179,7 +179,7 @@ pub turned : {K : Type 0} (clock now after : K) (tells : K → ℕ → K → Typ
     → after ≡ now → TakesHostTurn clock now tells peers old seen turn → TakesHostTurn clock after tells peers old seen turn
 turned {K} clock now after tells peers old seen turn same taken = subst (λ (k : K). TakesHostTurn clock k tells peers old seen turn) (sym same) taken
 
--- and the core, but for its endpoint
+-- and so is the core, except its endpoint
 pub same_core : (seen core : PacedHostCore) → core ≡ seen → core ≡ record seen { endpoint = core.endpoint }
 same_core seen core same = subst (λ (k : PacedHostCore). k ≡ record seen { endpoint = k.endpoint }) (sym same) refl
 
@@ -240,7 +240,7 @@ step_err old new f tells peers id s = record {
   core = s.core;
 }
 
--- where the clock and the core stay, a place does
+-- if the clock and the core are unchanged, a place is
 pub same_place : {K : Type 0} (clock clock' : K) (core core' : PacedHostCore) (n : SeenSoFar) (r c : Bool) (l : Ledger) (k : Option (List ℕ))
     → clock' ≡ clock → core' ≡ core → place clock core n r c l k ≡ place clock' core' n r c l k
 same_place clock clock' core core' n r c l k p q = cc

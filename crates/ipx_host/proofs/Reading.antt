@@ -48,7 +48,7 @@ read_on (Err x) (Ok b) e e' read read' closed closed' l l' k k' buf room id unre
   },
 )
 
--- where it can't be read, nothing was read
+-- if it can't be read, nothing was read
 pub unread_on : {E : Type 0} (r : Result ℕ E) (answer : Result Bool SendOutcome) (e e' : EndpointView) (read read' : Bool) (l l' : Ledger) (k k' : Option (List ℕ)) (room : List ℕ)
     → ReadConsumes k k' r room → IfOk r (λ n. IfErr answer (λ v. v ≡ Verdicts.OutOfMemory))
     → OnErr r ((e' ≡ e) × (read' ≡ read) × (l' ≡ l)) → answer ≡ Err Verdicts.Unread → Keeps k k' × (e' ≡ e)
@@ -56,12 +56,12 @@ unread_on (Ok n) (Ok b) e e' read read' l l' k k' room consumes memory still is 
 unread_on (Ok n) (Err v) e e' read read' l l' k k' room consumes memory still is = absurd (cc)
 unread_on (Err x) answer e e' read read' l l' k k' room consumes memory still is = (consumes, still.0)
 
--- what was read and handed in
+-- what was read and queued
 pub on_some : (e e' : EndpointView) (id : ℕ) (l l' : Ledger) (xs : List ℕ) (n : ℕ) → length xs ≡ n → n ≢ 0 → HandsIn e e' id xs → Enters l l' n → HandsOn e e' id xs × EntersRead l l' xs
 on_some e e' id l l' [] n len some h en = absurd (some (sym len))
 on_some e e' id l l' (b ∷ bs) n len some h en = (h, subst (λ m. Enters l l' m) (sym len) en)
 
--- what is so where a call succeeds, which it did
+-- what holds if a call succeeds, which it did
 pub by_ok : {T E : Type 0} (P : Type 0) (r : Result T E) → IsOk r → OnOk r P → P
 by_ok P (Ok x) is p = p
 by_ok P (Err e) is p = absurd (cc)

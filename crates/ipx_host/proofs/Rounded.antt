@@ -1,4 +1,4 @@
--- The rounds of a host that sends, one after another.
+-- The rounds of a sending host, one after another.
 use Rattle.std.proofs.Common.{◌≡◌, ◌≤◌, ◌∙◌, ◌+◌, lit≤, ℕ, true, false, List, [], ◌∷◌, ◌++◌, Option, Some, None, Result, Ok, Err, inl, inr, refl, sym, ap, subst, append_assoc, arith, length, length-append}
 use Rattle.std.proofs.lemmas.List.Elements.{All-cons}
 use Rattle.std.specs.List.{All, concat}
@@ -39,7 +39,7 @@ fed_bytes old new id bytes (inr (inl ends)) =
 fed_bytes old new id bytes (inr (inr rests)) =
     subst (λ l. Consumes old.known new.known l) (sym rests.none) (subst (λ (i : FeedState). Consumes old.known i.known []) (sym rests.same) (consumes_none old.known))
 
--- and in one after another the bodies, one behind the other
+-- and in a sequence of rounds the bodies, one after another
 pub rounds_bytes : {K : Type 0} (old : SendState K) (bodies : List (List ℕ)) (new : SendState K) (tells : K → ℕ → K → Type 0) (peers : Peers) (id : ℕ)
     → Rounds old bodies new tells peers id → Consumes old.known new.known (concat bodies)
 rounds_bytes {K} old [] new tells peers id same = subst (λ (p : SendState K). Consumes old.known p.known []) (sym same) (consumes_none old.known)
@@ -69,7 +69,7 @@ rounds_short old (bytes ∷ more) new tells peers id (next, round, rest) =
     (fed_short (record (feeding_of old) { endpoint = round.fed.dropped; acked_bytes = round.fed.acked_bytes }) (feeding_of next) id bytes round.fed.feeds)
     (rounds_short next more new tells peers id rest)
 
--- where all is read, the reader is at its end
+-- if all is read, the reader is at its end
 fed_end : (old new : FeedState) (id : ℕ) (bytes : List ℕ) → Feeds old new id bytes → (old.read ≡ true → IsAtEnd old.known) → new.read ≡ true → IsAtEnd new.known
 fed_end old new id bytes (inl reads) was is = (reads.all is).1
 fed_end old new id bytes (inr (inl ends)) was is = subst (λ (i : FeedState). IsAtEnd i.known) (sym ends.is) (was ends.read)
@@ -96,7 +96,7 @@ pub same_step : {K T : Type 0} (faults : Option State → SendOutcome → Type 0
 same_step faults old new answer tells peers here id id' same among s =
     subst (λ (i : ℕ). IsSendStep faults old new answer tells peers i) same (subst (λ (p : Peers). IsSendStep faults old new answer tells p id') among s)
 
--- a run goes on by a step that answers no verdict
+-- a run goes on by a step without an outcome
 round_of : {K : Type 0} (last new : SendState K) (tells : K → ℕ → K → Type 0) (peers : Peers) (id : ℕ) (s : IsSendStep {T = Unit {0}} IsStepFault last new (Ok tt) tells peers id) (v : Option SendOutcome) → s.verdict ≡ v
     → (bytes : List ℕ) × Round last new bytes tells peers id
 round_of last new tells peers id s (Some w) is =
@@ -131,7 +131,7 @@ not_fault state (inl (live, inl e)) = cc
 not_fault state (inl (live, inr e)) = cc
 not_fault state (inr e) = cc
 
--- and takes a last turn in the one that answers that it is done
+-- and takes a last turn in the step that answers that it is done
 last_of : {K : Type 0} (last new : SendState K) (tells : K → ℕ → K → Type 0) (peers : Peers) (id : ℕ) (s : IsSendStep {T = Unit {0}} IsStepFault last new (Err Done) tells peers id) (v : Option SendOutcome) → s.verdict ≡ v
     → LastRound last new tells peers id
 last_of last new tells peers id s None is =
@@ -159,7 +159,7 @@ last_round last new tells peers id f done step =
     let s = subst (λ (v : SendOutcome). IsSendStep {T = Unit {0}} IsStepFault last new (Err v) tells peers id) done step in
     last_of last new tells peers id s s.verdict refl
 
--- where a transfer ended well, the reader is at its end
+-- if a transfer ended well, the reader is at its end
 pub transfers_end : {K : Type 0} (old new : SendState K) (tells : K → ℕ → K → Type 0) (peers : Peers) (id : ℕ)
     → Transfers old new tells peers id → (old.read ≡ true → IsAtEnd old.known) → IsAtEnd new.known
 transfers_end old new tells peers id t was =
@@ -190,6 +190,6 @@ sends X (Ok s) r file to known left tells at among id goes begins dials ran fail
     }
 sends X (Err e) r file to known left tells at among id goes begins dials ran failed zero = absurd (omega (arith, failed.0, zero))
 
--- what is so of a value that succeeded
+-- what holds of a value that succeeded
 pub on_ok : {S E : Type 0} (P : S → Type 0) (o : Result S E) (s : S) → o ≡ Ok s → P s → IfOk o P
 on_ok {S} {E} P o s is p = subst (λ (x : Result S E). IfOk x P) (sym is) p

@@ -1,4 +1,4 @@
--- How long a host waits, and till when its connections just stay.
+-- How long a host waits, and how long its connections need no action.
 use Rattle.std.proofs.Common.{◌≡◌, ℕ, ◌+◌, ◌<◌, ◌≤◌, ◌^◌, Bool, List, length, take, get_or, min, Option, Some, inl, inr, sym, ap, subst, arith}
 use Rattle.std.proofs.lemmas.Bool.{cases_lt}
 use Rattle.std.proofs.lemmas.List.{take_all}
@@ -50,7 +50,7 @@ up_to_all core items i least past all = record {
   over = all.over;
 }
 
--- a wait behind a step
+-- a wait after a step
 pub may_wait : (shows : Bool) (left : Option ℕ) (core core' : PacedHostCore) (asked asked' : Option ℕ) (most : ℕ) → most ≡ longest_wait shows left → core' ≡ core
     → ((time : ℕ) × IsSleep core most time × (asked' ≡ Some time)) → MayWait shows left core' asked asked'
 may_wait shows left core core' asked asked' most e same (time, sleep, at) =

@@ -1,4 +1,4 @@
--- What the pacer of a connection is told, where it is told nothing.
+-- When the pacer of a connection is told nothing.
 use Rattle.std.proofs.Common.{◌≡◌, ℕ, Option, None, Some, Result, Ok, Err, IfSome, refl, sym, subst}
 use Rattle.spx_link.specs.LinkView.{numbers_of}
 use Rattle.spx_link.specs.declared.numbers.Numbers.{Numbers}
@@ -12,7 +12,7 @@ use Rattle.spx_messages.specs.declared.fault.EndFault.{EndFault}
 use Rattle.spx_congestion.specs.Pacing.{PacerView}
 use Rattle.ipx_host.specs.Paced.{LinkReads, NotesGiven, NotesHeard, PlansLink}
 
--- where no numbers of a link are told it is not there
+-- if no numbers of a link are given, it is not there
 pub absent : (there : Option Held) (told : Result Numbers EndFault) (fault : EndFault)
     → IfSome there (λ h. told ≡ Ok (numbers_of h.link)) → told ≡ Err fault → there ≡ None
 absent None told fault known is = refl
@@ -45,7 +45,7 @@ pub given_other : (id other : ℕ) (what : Sent) (said : Option (ℕ × Sent)) (
 given_other id other what said there pacer is not =
     subst (λ s. NotesGiven id s there pacer pacer) (sym is) (given_beside id other what there pacer not)
 
--- it was for no link, for another one, or was a stranger's
+-- it was for no link, for another one, or from an unknown sender
 pub read_none : (id : ℕ) (arrived : Arrived) → ((x : ℕ) (r : Received) → arrived ≡ Link x r → ⊥) → LinkReads id arrived → ⊥
 read_none id arrived none (received, is, known) = none id received is
 

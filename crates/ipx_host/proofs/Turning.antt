@@ -1,4 +1,4 @@
--- One turn of a host that runs.
+-- One turn of a running host.
 use Rattle.std.proofs.Common.{◌≡◌, ℕ, Result, Ok, Err, IfOk, OnErr, None, false, true, inl, inr, subst}
 use Rattle.ipx_carrier.specs.declared.fault.RunFault.{RunFault}
 use Rattle.ipx_carrier.specs.declared.fault.RunFault.TheVariants.{Device, OutOfMemory}
@@ -10,7 +10,7 @@ use Rattle.ipx_host.specs.declared.paced_host_core.PacedHostCore.{PacedHostCore}
 use Rattle.ipx_host.specs.declared.running_host.Activity.{Activity}
 use Rattle.ipx_host.specs.Turning.{TakesHostTurn, TellsOf, gives, hears, hear_out_of_memory, next_out_of_memory}
 
--- a turn over sockets, which never fail: it is whole, or memory ended it
+-- a turn over sockets, which never fail: it is complete, or it ran out of memory
 pub took : {K : Type 0} (clock clock_after : K) (tells : K → ℕ → K → Type 0) (peers here : Peers) (old new : PacedHostCore) (ran : Result Report RunFault) (turn : Activity)
     → here ≡ peers → 0 ≡ failures_after ran 0
     → TakesTurn hears hear_out_of_memory gives next_out_of_memory tells 1 here None None clock clock_after old new ran

@@ -1,4 +1,4 @@
--- What a writer took of what was left, a part after another.
+-- What a writer took of what was left, one part after another.
 use Rattle.std.proofs.Common.{◌≡◌, ◌↔◌, ◌||◌, Bool, true, false, inl, inr, ℕ, ◌+◌, ◌-◌, ◌<◌, ◌≤◌, List, [], ◌++◌, length, take, drop, length-append, length-drop, length-take, Option, Some, None, refl, sym, ap, ◌∙◌, subst, arith, append_assoc, take-append-drop}
 use Rattle.std.proofs.lemmas.List.{append-nil, nil_from_length, drop-drop, drop_all, take-take, take_rest}
 use Rattle.std.proofs.lemmas.Bool.{cases_lt}
@@ -16,7 +16,7 @@ pub writes_on : (x y z : List ℕ) (a b c : Option (List ℕ)) → Writes x y a 
 writes_on x y z a b c p q =
     (p.0 ++ q.0, p.1 ∙ ap (λ l. p.0 ++ l) q.1 ∙ sym (append_assoc p.0 q.0 z), appends_on a b c p.0 q.0 p.2 q.2)
 
--- the writer took the first bytes of a piece of what is left, which lies in memory as it stands
+-- the writer took the first bytes of a piece of what is left, which is unchanged in memory
 pub writes_piece : (bytes memory : List ℕ) (written most count : ℕ) (a b : Option (List ℕ)) → memory ≡ bytes
     → count ≤ length (take most (take (length memory - written) (drop written memory)))
     → Appends a b (take count (take most (take (length memory - written) (drop written memory)))) → Writes (drop written bytes) (drop (written + count) bytes) a b
@@ -32,12 +32,12 @@ writes_piece bytes memory written most count a b same fits took =
       subst (Appends a b) is took,
     )
 
--- nothing is left just where all is written
+-- nothing is left exactly if everything is written
 pub left_none : (written : ℕ) (bytes : List ℕ) → written ≤ length bytes → (written ≡ length bytes) ↔ (drop written bytes ≡ [])
 left_none written bytes h =
     (λ e. drop_all written bytes (omega arith), λ e. omega (arith, h, length-drop written bytes, ap length e))
 
--- nothing comes to what is left
+-- nothing is added to what is left
 pub writes_less : (x y : List ℕ) (a b : Option (List ℕ)) → Writes x y a b → length y ≤ length x
 writes_less x y a b wrote = omega (arith, ap length wrote.1, length-append wrote.0 y)
 
@@ -55,7 +55,7 @@ pub writes_none : (x : List ℕ) (a : Option (List ℕ)) → Writes x x a a
 writes_none x None = ([], refl, tt)
 writes_none x (Some w) = ([], refl, sym (append-nil w))
 
--- where nothing was left, nothing is left
+-- if nothing was left, nothing is left
 pub writes_nothing : (x y : List ℕ) (a b : Option (List ℕ)) → Writes x y a b → x ≡ [] → y ≡ []
 writes_nothing x y a b wrote none =
     nil_from_length y (omega (arith, ap length wrote.1, length-append wrote.0 y, ap length none))

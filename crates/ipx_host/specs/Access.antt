@@ -1,4 +1,5 @@
--- Whom a host hears and sends to, and who may pass packets on to it, by its file. All of it is own.
+-- The senders and destinations that a host accepts, and which routers may forward packets to it, by its file.
+-- Nothing here is from a public standard.
 use Rattle.std.specs.Prelude.{ℕ, List, [], ◌∷◌, ◌++◌, ◌==◌, ◌||◌, ◌&&◌, Bool, Option, Some, None, is_none, if◌then◌else◌}
 use Rattle.ipx_carrier.specs.Device.{Access}
 use Rattle.ipx_carrier.specs.Mapping.{ip_at}
@@ -7,35 +8,35 @@ use Rattle.ipx_site.specs.declared.host.HostConfig.{HostConfig}
 use Rattle.ipx_wire.specs.Assigned.{local_network}
 use Rattle.ipx_wire.specs.declared.address.Address.{Address}
 
--- the address that a host speaks to: network 0 is its own
+-- the address that a host sends to: network 0 is replaced by its own
 abbrev pub peer_address_of : HostConfig → Address → Address
 peer_address_of file to =
     if to.network.0 == local_network then record to { network = file.network } else to
 
--- a node of the host's own network is reached without a router. 0 is its own network too
+-- a node of the host's own network is reached without a router. Network 0 is its own network too
 abbrev pub is_on_own_network : HostConfig → Address → Bool
 is_on_own_network file to =
     (to.network.0 == file.network.0) || (to.network.0 == local_network)
 
--- on its own network nothing goes to a node that no IP address has
+-- a node on the host's own network that has no IP address can't be reached
 abbrev pub is_nowhere : HostConfig → Address → Bool
 is_nowhere file to = is_on_own_network file to && is_none (ip_at to.node)
 
--- the IP address of a node of its own network that a host dials
+-- the IP address that a host dials for a node on its own network
 abbrev pub dialed_ip : HostConfig → Address → Option (List ℕ)
 dialed_ip file to = if is_on_own_network file to then ip_at to.node else None
 
--- so a list goes on with it, where there is one
+-- a list followed by the dialed IP address, if there is one
 abbrev pub with_dialed : List (List ℕ) → Option (List ℕ) → List (List ℕ)
 with_dialed ips None = ips
 with_dialed ips (Some ip) = ips ++ ip ∷ []
 
--- whom it knows: its peers, its router, and the node that it dials
+-- the IP addresses known to a host: its peers, its router, and the node that it dials
 abbrev pub known_ips : HostConfig → Option (List ℕ) → List (List ℕ)
 known_ips file dials = with_dialed (file.peers.items ++ file.router ∷ []) dials
 
--- a host hears those, and sends to them; or hears everybody, and sends to everybody. Its router and the
--- routers of its file alone pass packets on to it
+-- a host receives from these and sends to these, or receives from everybody and sends to everybody. Only its
+-- router and the routers of its file forward packets to it
 abbrev pub guarded_host : HostConfig → Option (List ℕ) → Access
 guarded_host file dials = record {
   network = file.network;

@@ -1,4 +1,4 @@
--- What was handed in, counted. All of it is own.
+-- The count of what was queued and acknowledged. Nothing here is from a public standard.
 use Rattle.std.specs.Prelude.{◌≡◌, ◌<◌, ℕ, ◌+◌, ◌-◌, ◌*◌, List, [], ◌∷◌, ◌++◌, max, min, sum}
 use Rattle.std.specs.Int.{div_ceil}
 use Rattle.std.specs.List.{sum_by}
@@ -7,16 +7,16 @@ use Rattle.spx_link.specs.SequenceMarks.{distance}
 use Rattle.spx_link.specs.declared.numbers.Numbers.{Numbers}
 use Rattle.ipx_carrier.specs.Counting.{counted}
 
--- how many units a message of so many bytes is cut into: one where it has none
+-- how many units a message of so many bytes is cut into: one if it is empty
 abbrev pub units_in : ℕ → ℕ
 units_in bytes = max 1 (div_ceil bytes spx_max_data_size)
 
--- the sequence number before which all is acknowledged
+-- the sequence number before which everything is acknowledged
 abbrev pub base_of : Numbers → ℕ
 base_of n = distance n.next n.out
 
--- how many bytes are acknowledged, of messages of these lengths of which so many units are: 534 for
--- each unit of a message, and no more than the message has
+-- how many bytes are acknowledged, if so many units of messages of these lengths are: 534 for each unit of a
+-- message, and no more than the message has
 abbrev pub bytes_acknowledged : List ℕ → ℕ → ℕ
 bytes_acknowledged [] units = 0
 bytes_acknowledged (bytes ∷ more) units =
@@ -26,13 +26,13 @@ bytes_acknowledged (bytes ∷ more) units =
 abbrev pub all_units : List ℕ → ℕ
 all_units messages = sum_by units_in messages
 
--- the first message, if there is one, is not acknowledged whole
+-- the first message, if there is one, is not fully acknowledged
 abbrev pub IsFirstOpen : List ℕ → ℕ → Type 0
 IsFirstOpen [] units = Unit {0}
 IsFirstOpen (bytes ∷ more) units = units < units_in bytes
 
--- of messages of these lengths so many units are acknowledged: all of the first ones, which are gone,
--- with so many bytes whole, and so many units of those that are left
+-- so many units of messages of these lengths are acknowledged: all of the first messages, which are removed,
+-- with so many bytes in all, and so many units of the remaining ones
 pub record CountsAcknowledged (given : List ℕ) (units : ℕ) (left : List ℕ) (begun whole : ℕ) : Type 0 where
   pub gone : List ℕ
   pub in_order : given ≡ gone ++ left

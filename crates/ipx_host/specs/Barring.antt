@@ -1,4 +1,5 @@
--- Which requests for a connection a host keeps back, and what its core hears. All of it is own.
+-- Which requests for a connection a host rejects, and what its core reads. Nothing here is from a public
+-- standard.
 use Rattle.std.specs.Prelude.{◌≡◌, ◌⊎◌, ℕ, List, false, None}
 use Rattle.ipx_wire.specs.Connection.{IsConnectionPacket}
 use Rattle.ipx_wire.specs.Ipx.{PacketView}
@@ -11,7 +12,7 @@ use Rattle.ipx_host.specs.Noting.{HearsAndNotes}
 use Rattle.ipx_host.specs.Paced.{NotesAnswer}
 use Rattle.ipx_host.specs.declared.paced_host_core.PacedHostCore.{PacedHostCore}
 
--- bytes ask for a connection, in the name of an address
+-- bytes request a connection, from an address
 pub record IsAskedBy (bytes : List ℕ) (a : Address) : Type 0 where
   pub packet : PacketView
   pub header : SpxHeader
@@ -20,13 +21,13 @@ pub record IsAskedBy (bytes : List ℕ) (a : Address) : Type 0 where
   pub request : IsRequestFor header
   pub from : packet.header.from ≡ a
 
--- they ask, in the name of one who may not
+-- they do, and that address may not connect
 abbrev pub IsBarred : PacedHostCore → List ℕ → Type 0
 IsBarred core bytes = (a : Address) × IsAskedBy bytes a
     × (may_ask (named_in core.from) core.network a ≡ false)
 
--- what the core of a host hears: a request of one who may not ask is counted, and its endpoint is as it
--- was; of anything else its endpoint reads, and what is noted. Its pacer is told
+-- how the core of a host reads a datagram. A request from one who may not connect is counted, and its
+-- endpoint is unchanged. Anything else is read by its endpoint and noted, and its pacer is told
 abbrev pub HearsAllowed : PacedHostCore → List ℕ → ℕ → PacedHostCore → Type 0
 HearsAllowed old bytes now new =
     ((IsBarred old bytes → ⊥) × HearsAndNotes old.endpoint bytes now new.endpoint new.came

@@ -1,5 +1,5 @@
--- How the ledger of a host that sends goes on, message by message and by the numbers of its link. All
--- of it is own.
+-- How the ledger of a sending host changes, with each message and with the numbers of its link. Nothing here
+-- is from a public standard.
 use Rattle.std.specs.Prelude.{◌≡◌, ◌<◌, ◌≤◌, ℕ, ◌+◌, ◌-◌, ◌^◌, List, [], ◌∷◌, ◌++◌, length, Option, Some, None}
 use Rattle.spx_link.specs.LinkView.{numbers_of}
 use Rattle.spx_link.specs.SequenceMarks.{distance}
@@ -9,15 +9,15 @@ use Rattle.ipx_carrier.specs.Counting.{counted}
 use Rattle.ipx_host.specs.AckedBytes.{CountsAcknowledged, IsFirstOpen, all_units, base_of, units_in}
 use Rattle.ipx_host.specs.declared.acked_bytes.Ledger.{Ledger}
 
--- of messages of these lengths so many units are acknowledged, and the ledger says so
+-- so many units of messages of these lengths are acknowledged, and the ledger agrees
 abbrev pub LedgerSays : Ledger → List ℕ → ℕ → Type 0
 LedgerSays l given units = CountsAcknowledged given units l.messages.items l.units l.whole
 
--- its first message, if there is one, is not acknowledged whole
+-- its first message, if there is one, is not fully acknowledged
 abbrev pub HasFirstOpen : Ledger → Type 0
 HasFirstOpen l = IsFirstOpen l.messages.items l.units
 
--- nothing was handed in, and nothing is acknowledged
+-- nothing was queued, and nothing is acknowledged
 pub record IsUnused (l : Ledger) : Type 0 where
   pub base : l.base ≡ 0
   pub ahead : l.ahead ≡ 0
@@ -25,7 +25,7 @@ pub record IsUnused (l : Ledger) : Type 0 where
   pub says : LedgerSays l [] 0
   pub first : HasFirstOpen l
 
--- a message of so many bytes is entered, behind those before
+-- a message of so many bytes is entered, after those before
 pub record Enters (old new : Ledger) (bytes : ℕ) : Type 0 where
   pub base : new.base ≡ old.base
   pub ahead : new.ahead ≡ counted (old.ahead + units_in bytes)
@@ -34,12 +34,12 @@ pub record Enters (old new : Ledger) (bytes : ℕ) : Type 0 where
   pub first : (given : List ℕ) (units : ℕ) → LedgerSays old given units → units ≤ all_units given
       → HasFirstOpen old → HasFirstOpen new
 
--- what one read gave is entered as one message, and nothing where none came
+-- what one read gave is entered as one message, and nothing if it gave no byte
 abbrev pub EntersRead : Ledger → Ledger → List ℕ → Type 0
 EntersRead old new [] = new ≡ old
 EntersRead old new (b ∷ bs) = Enters old new (length (b ∷ bs))
 
--- how many units more these numbers of its link acknowledge
+-- how many more units these numbers of its link acknowledge
 abbrev pub units_more : Ledger → Numbers → ℕ
 units_more l n = distance (base_of n) l.base
 
@@ -52,7 +52,7 @@ pub record Acknowledges (old new : Ledger) (n : Numbers) : Type 0 where
       → LedgerSays new given (units + units_more old n)
   pub first : HasFirstOpen old → HasFirstOpen new
 
--- what the link that is held under an id acknowledges is entered; where none is held, nothing is
+-- what the link with an id acknowledges is entered. If there is no such link, nothing is
 abbrev pub EntersAcknowledged : Option Held → Ledger → Ledger → Type 0
 EntersAcknowledged None old new = new ≡ old
 EntersAcknowledged (Some h) old new = Acknowledges old new (numbers_of h.link)

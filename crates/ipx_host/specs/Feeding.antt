@@ -1,5 +1,6 @@
--- How what a host that sends reads becomes messages of its link, and how its end comes behind them.
--- The entry point is `Feeds`, of one step; Rounds says it of one after another. All of it is own.
+-- How a sending host turns what it reads into messages of its link, and queues the end after them. The entry
+-- point is `Feeds`, of one step. `Rounds` states it for a sequence of steps. Nothing here is from a public
+-- standard.
 use Rattle.std.specs.Prelude.{◌≡◌, ◌≤◌, ◌⊎◌, ℕ, Bool, true, false, List, [], ◌∷◌, length, Option, Some, None}
 use Rattle.std.specs.Io.KnownBytes.{Consumes, IsAtEnd}
 use Rattle.spx_link.specs.LinkView.{LinkView}
@@ -11,8 +12,8 @@ use Rattle.spx_messages.specs.EndpointView.{EndpointView, Held, held_at}
 use Rattle.ipx_host.specs.Books.{EntersRead}
 use Rattle.ipx_host.specs.declared.acked_bytes.Ledger.{Ledger}
 
--- bytes, at most 65,535 of them, are handed in as one message, after all that was handed in before, to a
--- link that is Live
+-- at most 65,535 bytes are queued as one message, after everything that was queued before, on a link that is
+-- Live
 pub record HandsIn (old new : EndpointView) (id : ℕ) (bytes : List ℕ) : Type 0 where
   pub short : length bytes ≤ 65535
   pub held : Held
@@ -22,19 +23,19 @@ pub record HandsIn (old new : EndpointView) (id : ℕ) (bytes : List ℕ) : Type
     link = offer_link held.link (cut_of (record { stream = 0; body = bytes }));
   })
 
--- the end is queued, behind all that was handed in, where the link is Live
+-- the end is queued, after everything that was queued, on a Live link
 pub record QueuesEnd (old new : EndpointView) (id : ℕ) : Type 0 where
   pub held : Held
   pub before : held_at old id ≡ Some held
   pub live : held.link.state ≡ States.Live
   pub after : ChangesEnd old new id (record held { link = end_link held.link })
 
--- what becomes of bytes that were read: one message, and nothing where none came
+-- what happens to the bytes of a read: they become one message, or nothing if there are none
 abbrev pub HandsOn : EndpointView → EndpointView → ℕ → List ℕ → Type 0
 HandsOn old new id [] = new ≡ old
 HandsOn old new id (b ∷ bs) = HandsIn old new id (b ∷ bs)
 
--- the side of a link that sends is as it was: what is queued, and what of it is out
+-- the sending side of a link is unchanged: what is queued, and how much of it is outstanding
 pub record SameQueue (old new : LinkView) : Type 0 where
   pub queue : new.queue ≡ old.queue
   pub out : new.out ≡ old.out
@@ -47,8 +48,8 @@ KeepsQueue None (Some new) = ⊥
 KeepsQueue (Some old) None = ⊥
 KeepsQueue (Some old) (Some new) = SameQueue old.link new.link
 
--- where a transfer stands between its reader and its link: whether all is read, whether the end is
--- queued, what is counted, and what the reader has left, where that is known
+-- the state of a transfer between its reader and its link: whether all is read, whether the end is queued,
+-- what is counted, and what the reader has left, if known
 pub record FeedState : Type 0 where
   pub endpoint : EndpointView
   pub read : Bool
@@ -65,8 +66,7 @@ feed_state endpoint read closed acked_bytes known = record {
   known = known;
 }
 
--- the reader gives these bytes, which are handed in and counted; where all is read then, it has none
--- left
+-- the reader gives these bytes, which are queued and counted. If all is read then, it has none left
 pub record ReadsOn (old new : FeedState) (id : ℕ) (bytes : List ℕ) : Type 0 where
   pub unread : old.read ≡ false
   pub taken : Consumes old.known new.known bytes
@@ -75,7 +75,7 @@ pub record ReadsOn (old new : FeedState) (id : ℕ) (bytes : List ℕ) : Type 0 
   pub same : new.closed ≡ old.closed
   pub all : new.read ≡ true → (bytes ≡ []) × IsAtEnd new.known
 
--- all is read, and the end is queued; nothing is read
+-- all is read, and the end is queued. Nothing is read
 pub record EndsInput (old new : FeedState) (id : ℕ) (bytes : List ℕ) : Type 0 where
   pub read : old.read ≡ true
   pub unqueued : old.closed ≡ false
@@ -83,7 +83,7 @@ pub record EndsInput (old new : FeedState) (id : ℕ) (bytes : List ℕ) : Type 
   pub is : new ≡ record old { endpoint = new.endpoint; closed = true }
   pub none : bytes ≡ []
 
--- nothing is read, handed in, queued or counted
+-- nothing is read, queued or counted
 pub record LeavesIntake (old new : FeedState) (bytes : List ℕ) : Type 0 where
   pub same : new ≡ old
   pub none : bytes ≡ []

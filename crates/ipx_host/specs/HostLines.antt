@@ -1,10 +1,10 @@
--- How often each trouble of a host happened of which it tells a line. All of it is own.
+-- How often each problem that a host reports has happened. Nothing here is from a public standard.
 use Rattle.std.specs.Prelude.{ℕ, List, [], ◌∷◌}
 use Rattle.ipx_site.specs.declared.source_filter.FilterDrops.{FilterDrops}
 use Rattle.ipx_host.specs.declared.telling.Counts.{Counts}
 
--- what its device keeps back, requests of those whom its core bars, what the system refused, and how often
--- memory was refused
+-- what its device filters, requests from those who may not connect, what the system refused, and how often it
+-- was out of memory
 abbrev pub host_counts : FilterDrops → ℕ → ℕ → ℕ → Counts
 host_counts kept rejected system memory = record {
   kept = kept;
@@ -13,7 +13,7 @@ host_counts kept rejected system memory = record {
   memory = memory;
 }
 
--- in the order in which they are told
+-- in the order in which they are reported
 abbrev pub counts_of_host : Counts → List ℕ
 counts_of_host n = n.kept.unknown_senders.count ∷ n.kept.spoofed.count ∷ n.kept.not_a_router.count ∷ n.rejected ∷ n.system
     ∷ n.memory ∷ []

@@ -1,4 +1,4 @@
--- Bytes on their way to a writer. All of it is own.
+-- Bytes on their way to a writer. Nothing here is from a public standard.
 use Rattle.std.specs.Prelude.{◌≡◌, ℕ, List, ◌++◌, drop, Option}
 use Rattle.std.specs.Io.KnownBytes.{Appends}
 use Rattle.ipx_host.specs.declared.output.Outlet.{Outlet}
@@ -7,8 +7,8 @@ use Rattle.ipx_host.specs.declared.output.Outlet.{Outlet}
 abbrev pub left_of : Outlet → List ℕ
 left_of o = drop o.written o.bytes.items
 
--- what a writer took, and then what is left to write, is what was left before: nothing is lost,
--- doubled or put in another order
+-- what a writer took, followed by what is left to write, is what was left before: nothing is lost, duplicated
+-- or reordered
 abbrev pub Writes : List ℕ → List ℕ → Option (List ℕ) → Option (List ℕ) → Type 0
 Writes before after held holds =
     (front : List ℕ) × (before ≡ front ++ after) × Appends held holds front

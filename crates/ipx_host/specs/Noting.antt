@@ -1,4 +1,4 @@
--- What the core of a host notes of a datagram that it hears. All of it is own.
+-- What the core of a host notes of a datagram that it reads. Nothing here is from a public standard.
 use Rattle.std.specs.Prelude.{◌≡◌, ℕ, List, Option, Some, None}
 use Rattle.std.specs.Option.{option_map}
 use Rattle.ipx_wire.specs.declared.address.Address.{Address}
@@ -10,11 +10,11 @@ use Rattle.spx_messages.specs.EndpointView.{EndpointView}
 use Rattle.ipx_host.specs.declared.paced_host_core.Arrival.{Arrival}
 use Rattle.ipx_host.specs.declared.paced_host_core.Arrival.TheVariants as Cames
 
--- the bytes begin with a packet that is from an address
+-- the bytes begin with a packet from this address
 abbrev pub IsPacketFrom : List ℕ → Address → Type 0
 IsPacketFrom bytes from = (packet : PacketView) × BeginsWith bytes packet × (packet.header.from ≡ from)
 
--- what is noted of a datagram that was answered so, and that this link read, if one did
+-- what is noted of a datagram that was answered so. `heard` is the link that read it, if one did
 abbrev pub Notes : Arrived → Option ℕ → List ℕ → Option Arrival → Type 0
 Notes (Arriveds.Bad f) heard bytes came = came ≡ None
 Notes Arriveds.NotOurs heard bytes came = came ≡ None
@@ -26,7 +26,7 @@ Notes (Arriveds.Accepted id) heard bytes came =
     (from : Address) × IsPacketFrom bytes from × (came ≡ Some (Cames.Accepted (record { id = id; from = from })))
 Notes (Arriveds.Link id r) heard bytes came = came ≡ option_map Cames.Heard heard
 
--- an endpoint reads a datagram with some answer, of which that is noted
+-- an endpoint reads a datagram with some answer, and this is noted
 abbrev pub HearsAndNotes : EndpointView → List ℕ → ℕ → EndpointView → Option Arrival → Type 0
 HearsAndNotes old bytes now new came =
     (answer : Arrived) × Arrives old bytes now answer new × Notes answer new.heard bytes came

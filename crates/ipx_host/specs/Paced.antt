@@ -1,4 +1,5 @@
--- How a host that sends paces its connection: what its link may do at the next poll. All of it is own.
+-- How a sending host paces its connection: what its link may do at the next poll. Nothing here is from a
+-- public standard.
 use Rattle.std.specs.Prelude.{◌≡◌, ◌≢◌, ◌<◌, ◌⊎◌, ◌&&◌, ℕ, Bool, List, IfSome, IsTrue, Option, Some, None, option_map, true, false}
 use Rattle.ipx_carrier.specs.HostCore.{HostGives}
 use Rattle.ipx_carrier.specs.Turns.{Given}
@@ -19,49 +20,49 @@ use Rattle.spx_congestion.specs.declared.plan.Plan.{Plan}
 use Rattle.ipx_host.specs.declared.paced_host_core.PacedHostCore.{PacedHostCore}
 use Rattle.ipx_host.specs.declared.pacing.Paced.{Paced}
 
--- a link of which the unit at a place goes again, if there is one
+-- a link that is asked for the unit at a place again, if there is one
 abbrev pub asked_again_at : Option ℕ → LinkView → LinkView
 asked_again_at None l = l
 asked_again_at (Some place) l = again_link l place
 
--- a link by hand, as a plan has it: so many units may be outstanding, and that one goes again
+-- a manual link as a plan sets it: how many units may be outstanding, and which one is sent again
 abbrev pub planned : Plan → LinkView → LinkView
 planned plan l = asked_again_at plan.again (pace_link l plan.window true)
 
--- a plan is that of a pacer, which has counted as many units outstanding as a link has
+-- a plan of a pacer that has counted as many units outstanding as a link has
 pub record IsPlanOf (plan : Plan) (pacer : PacerView) (l : LinkView) : Type 0 where
   pub counts : pacer.out ≡ l.out
   pub value : plan ≡ plan_of pacer
 
--- a link that sends units is given up where its pacer has given up: after ten timeouts in a row
+-- a link that sends units is given up if its pacer has given up, after ten timeouts in a row
 abbrev pub is_given_up : PacerView → LinkView → Bool
 is_given_up pacer l = is_working l.state && has_given_up pacer
 
--- a link that is given up goes, and any other becomes as it is planned; and nothing else changes
+-- a link that is given up is released, and any other is set as planned. Nothing else changes
 abbrev pub FollowsPlan : Bool → ℕ → Plan → Held → EndpointView → EndpointView → Type 0
 FollowsPlan true id plan held old new = ReleasesEnd old new id
 FollowsPlan false id plan held old new = ChangesEnd old new id (record held { link = planned plan held.link })
 
--- the link of an id, where it is there, becomes as its pacer plans, or goes where it is given up
+-- the link of an id, if it is there, is set as its pacer plans, or is released if it is given up
 abbrev pub PlansLink : ℕ → PacerView → PacerView → Option Held → EndpointView → EndpointView → Type 0
 PlansLink id pacer pacer' None old new = (pacer' ≡ pacer) × (new ≡ old)
 PlansLink id pacer pacer' (Some held) old new = (plan : Plan) × IsPlanOf plan pacer' held.link
     × FollowsPlan (is_given_up pacer' held.link) id plan held old new
     × (new.said ≡ old.said) × (new.heard ≡ old.heard)
 
--- that of the connection that is paced does, and where none is, nothing changes
+-- the same for the paced connection. If there is none, nothing changes
 abbrev pub Plans : Option Paced → Option Paced → EndpointView → EndpointView → Type 0
 Plans None after old new = (after ≡ None) × (new ≡ old)
 Plans (Some paced) after old new = (pacer : PacerView) × (after ≡ Some (record paced { pacer = pacer }))
     × PlansLink paced.id paced.pacer pacer (held_at old paced.id) old new
 
--- a packet of a link was given, which has so many units outstanding since: its pacer has counted these, and has less
--- credit where it was a unit
+-- a link gave a packet, and has so many units outstanding since. Its pacer has counted these, and has less
+-- credit if the packet carried a unit
 abbrev pub CountsGiven : Sent → ℕ → PacerView → PacerView → Type 0
 CountsGiven what out pacer pacer' = (pacer'.out ≡ out)
     × ((stream : ℕ) × (pacer'.credit ≡ credit_after pacer.credit (gave_of what stream)))
 
--- behind a poll the pacer of the link of an id was told of what that link gave, and of nothing else
+-- after a poll the pacer of the link of an id was told what that link gave, and nothing else
 abbrev pub NotesGiven : ℕ → Option (ℕ × Sent) → Option Held → PacerView → PacerView → Type 0
 NotesGiven id None held pacer pacer' = pacer' ≡ pacer
 NotesGiven id (Some given) None pacer pacer' = pacer' ≡ pacer
@@ -69,23 +70,23 @@ NotesGiven id (Some given) (Some held) pacer pacer' =
     (given.0 ≡ id → CountsGiven given.1 held.link.out pacer pacer')
     × ((given.0 ≡ id → ⊥) → pacer' ≡ pacer)
 
--- that of the connection that is paced was, if one is
+-- the same for the paced connection, if there is one
 abbrev pub NotesPoll : Option Paced → EndpointView → Option Paced → Type 0
 NotesPoll None e after = after ≡ None
 NotesPoll (Some paced) e after = (pacer : PacerView) × (after ≡ Some (record paced { pacer = pacer }))
     × NotesGiven paced.id e.said (held_at e paced.id) paced.pacer pacer
 
--- the link of an id read a datagram, and took it for its peer's
+-- the link of an id read a datagram as one of its peer
 abbrev pub LinkReads : ℕ → Arrived → Type 0
 LinkReads id arrived = (received : Received) × (arrived ≡ Link id received) × (received ≢ Stranger)
 
--- behind a datagram the pacer of the link of an id has counted as many units outstanding as that link, where it read it
--- and is there; where it did not read it, the pacer is as it was
+-- after a datagram that the link of an id read, its pacer has counted as many units outstanding as the link,
+-- if it is there. If the link did not read it, the pacer is unchanged
 pub record NotesHeard (id : ℕ) (arrived : Arrived) (pacer pacer' : PacerView) (there : Option Held) : Type 0 where
   pub counts : LinkReads id arrived → IfSome there (λ h. pacer'.out ≡ h.link.out)
   pub stays : (LinkReads id arrived → ⊥) → pacer' ≡ pacer
 
--- that of the connection that is paced, if one is
+-- the same for the paced connection, if there is one
 abbrev pub NotesDatagram : Option Paced → Arrived → EndpointView → Option Paced → Type 0
 NotesDatagram None arrived e after = after ≡ None
 NotesDatagram (Some paced) arrived e after = (pacer : PacerView) × (after ≡ Some (record paced { pacer = pacer }))
@@ -96,28 +97,28 @@ abbrev pub NotesAnswer : EndpointView → List ℕ → ℕ → EndpointView → 
 NotesAnswer old bytes now new paced after =
     (answer : Arrived) × Arrives old bytes now answer new × NotesDatagram paced answer new after
 
--- the numbers of the link of the connection that is paced, if one is
+-- the numbers of the link of the paced connection, if there is one
 abbrev pub paced_numbers : Option Paced → EndpointView → Option Numbers
 paced_numbers None e = None
 paced_numbers (Some paced) e = option_map (λ h. numbers_of h.link) (held_at e paced.id)
 
--- the moment at which the pacer of the connection that is paced, if one is, may plan something else
+-- the time at which the plan for the paced connection, if there is one, may change
 abbrev pub paced_due : Option Paced → ℕ → Option ℕ
 paced_due None now = None
 paced_due (Some paced) now = wakes_at paced.pacer now
 
--- a connection is paced whose pacer holds something back
+-- there is a paced connection whose pacer holds something back
 abbrev pub HoldsBack : Option Paced → Type 0
 HoldsBack None = ⊥
 HoldsBack (Some paced) = IsTrue (holds_back paced.pacer)
 
--- one is paced that waits for something: units of it are outstanding, or its pacer holds some back
+-- there is a paced connection that waits: units of it are outstanding, or its pacer holds some back
 abbrev pub IsAwake : Option Paced → Type 0
 IsAwake None = ⊥
 IsAwake (Some paced) = (0 < paced.pacer.out) ⊎ IsTrue (holds_back paced.pacer)
 
--- the core of a host is asked for a packet: the connection that is paced, if one is, may do what is
--- planned, and then its endpoint gives one by a poll, or none, of which its pacer is told
+-- the core of a host is asked for a packet. The paced connection, if there is one, may do what is planned.
+-- Then its endpoint is polled and gives a packet or none, and the pacer is told
 pub record GivesAsPlanned (old : PacedHostCore) (now : ℕ) (given : Option Given) (new : PacedHostCore) : Type 0 where
   pub ready : EndpointView
   pub paced : Option Paced

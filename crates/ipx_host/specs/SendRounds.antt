@@ -1,6 +1,6 @@
--- The rounds of a host that sends, one after another: each is a turn of its host, and then what came
--- is dropped and the link is fed. The entry points are `Transfers`, of one that ended well, and
--- `EndsWith`, of any verdict. All of it is own.
+-- The rounds of a sending host, one after another. In each, the host takes a turn, what it received is
+-- dropped, and the link is fed. The entry points are `Transfers`, of a run that ended well, and `EndsWith`,
+-- of any outcome. Nothing here is from a public standard.
 use Rattle.std.specs.Prelude.{◌≡◌, ◌≤◌, ◌^◌, ◌-◌, ℕ, Bool, true, List, [], ◌∷◌, length, Option, Some, None, Result, Err}
 use Rattle.std.specs.Io.KnownBytes.{Consumes}
 use Rattle.std.specs.List.{All, concat}
@@ -18,8 +18,8 @@ use Rattle.ipx_host.specs.declared.running_host.Activity.{Activity}
 use Rattle.ipx_host.specs.declared.send_outcome.SendOutcome.{SendOutcome}
 use Rattle.ipx_host.specs.declared.send_outcome.SendOutcome.TheVariants.{Done, GivenUp}
 
--- where a run is: its clock and its core, what is noted of the connection, whether all is read,
--- whether the end is queued, what is counted, and what the reader has left, where that is known
+-- the state of a run: its clock and its core, what is noted of the connection, whether all is read, whether
+-- the end is queued, what is counted, and what the reader has left, if known
 pub record SendState (K : Type 0) : Type 0 where
   pub clock : K
   pub core : PacedHostCore
@@ -43,8 +43,8 @@ place clock core noted read closed acked_bytes known = record {
 abbrev pub feeding_of : {K : Type 0} → SendState K → FeedState
 feeding_of p = feed_state p.core.endpoint p.read p.closed p.acked_bytes p.known
 
--- one step, and its answer: a turn, which leaves a core; by this it is noted and told how the
--- connection stands, and the transfer ends or goes on. Nothing else of the core changes
+-- one step, and its answer. A turn leaves a core, whose connection is noted and judged, and the transfer ends
+-- or goes on. Nothing else of the core changes
 pub record IsSendStep {K T : Type 0} (faults : Option State → SendOutcome → Type 0) (old new : SendState K)
     (answer : Result T SendOutcome) (tells : K → ℕ → K → Type 0) (peers : Peers) (id : ℕ) : Type 0 where
   pub seen : PacedHostCore
@@ -55,7 +55,7 @@ pub record IsSendStep {K T : Type 0} (faults : Option State → SendOutcome → 
   pub goes : GoesOnOrEnds faults id seen.endpoint (feeding_of old) (feeding_of new) verdict answer
   pub core : new.core ≡ record seen { endpoint = new.core.endpoint }
 
--- one round: a step with no verdict, which feeds these bytes
+-- one round: a step without an outcome, which feeds these bytes
 pub record Round {K : Type 0} (old new : SendState K) (bytes : List ℕ) (tells : K → ℕ → K → Type 0)
     (peers : Peers) (id : ℕ) : Type 0 where
   pub seen : PacedHostCore
@@ -65,7 +65,7 @@ pub record Round {K : Type 0} (old new : SendState K) (bytes : List ℕ) (tells 
   pub fed : FeedsOn id seen.endpoint (feeding_of old) (feeding_of new) bytes
   pub core : new.core ≡ record seen { endpoint = new.core.endpoint }
 
--- the last one is a turn alone, which tells that all is done
+-- the last round is only a turn, after which all is done
 pub record LastRound {K : Type 0} (old new : SendState K) (tells : K → ℕ → K → Type 0) (peers : Peers)
     (id : ℕ) : Type 0 where
   pub turn : Activity
@@ -76,19 +76,19 @@ pub record LastRound {K : Type 0} (old new : SendState K) (tells : K → ℕ →
   pub closed : new.closed ≡ old.closed
   pub known : new.known ≡ old.known
 
--- one round after another, which feed these bytes each
+-- one round after another, which feed these bytes in order
 abbrev pub Rounds : {K : Type 0} → SendState K → List (List ℕ) → SendState K → (K → ℕ → K → Type 0) → Peers → ℕ → Type 0
 Rounds old [] new tells peers id = new ≡ old
 Rounds {K} old (bytes ∷ more) new tells peers id = (next : SendState K)
     × Round old next bytes tells peers id × Rounds next more new tells peers id
 
--- and a last one
+-- and a last round
 abbrev pub RunsOut : {K : Type 0} → SendState K → List (List ℕ) → SendState K → (K → ℕ → K → Type 0) → Peers → ℕ → Type 0
 RunsOut {K} old bodies new tells peers id = (last : SendState K)
     × Rounds old bodies last tells peers id × LastRound last new tells peers id
 
--- a transfer that ended well: what left the reader is what was fed, one body after the other, each of
--- at most 65,535 bytes; all is read, the end is queued, and the peer has acknowledged all, that end too
+-- a transfer that ended well. What left the reader is what was fed, one body after another, each of at most
+-- 65,535 bytes. All is read, the end is queued, and the peer has acknowledged everything, and that end too
 pub record Transfers {K : Type 0} (old new : SendState K) (tells : K → ℕ → K → Type 0) (peers : Peers)
     (id : ℕ) : Type 0 where
   pub bodies : List (List ℕ)
@@ -99,7 +99,7 @@ pub record Transfers {K : Type 0} (old new : SendState K) (tells : K → ℕ →
   pub closed : new.closed ≡ true
   pub whole : IsWholeAt new.core.endpoint id
 
--- one that a step ended with a verdict, behind some rounds
+-- a transfer that a step ended with an outcome, after some rounds
 pub record EndsWith {K : Type 0} (old new : SendState K) (verdict : SendOutcome) (tells : K → ℕ → K → Type 0)
     (peers : Peers) (id : ℕ) : Type 0 where
   pub bodies : List (List ℕ)
@@ -107,7 +107,7 @@ pub record EndsWith {K : Type 0} (old new : SendState K) (verdict : SendOutcome)
   pub rounds : Rounds old bodies last tells peers id
   pub step : IsSendStep {T = Unit {0}} IsStepFault last new (Err verdict) tells peers id
 
--- one that no step ended in so many rounds, and that is given up
+-- a transfer that no step ended in so many rounds, and that is given up
 pub record LastsOn {K : Type 0} (old new : SendState K) (verdict : SendOutcome) (tells : K → ℕ → K → Type 0)
     (peers : Peers) (id : ℕ) : Type 0 where
   pub bodies : List (List ℕ)

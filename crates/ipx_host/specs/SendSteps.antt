@@ -1,5 +1,5 @@
--- One step of a host that sends: what it sees, what that tells, and what it feeds then. All of it is
--- own.
+-- One step of a sending host: what it sees, what follows from that, and what it feeds then. Nothing here is
+-- from a public standard.
 use Rattle.std.specs.Prelude.{◌≡◌, ◌≢◌, ◌↔◌, ◌⊎◌, ℕ, Bool, IsTrue, List, Option, Some, None, Result, Err, IfErr, OnOk}
 use Rattle.std.specs.Option.{option_map}
 use Rattle.spx_link.specs.declared.state.State.{State}
@@ -13,7 +13,7 @@ use Rattle.ipx_host.specs.declared.acked_bytes.Ledger.{Ledger}
 use Rattle.ipx_host.specs.declared.send_outcome.SendOutcome.{SendOutcome}
 use Rattle.ipx_host.specs.declared.send_outcome.SendOutcome.TheVariants as Verdicts
 
--- what is noted of a connection: whether it was open, and when the end of its peer was seen
+-- what is noted of a connection: whether it was ever open, and when its peer's end was seen
 pub record SeenSoFar : Type 0 where
   pub joined : Bool
   pub left : Option ℕ
@@ -21,7 +21,7 @@ pub record SeenSoFar : Type 0 where
 abbrev pub noted : Bool → Option ℕ → SeenSoFar
 noted joined left = record { joined = joined; left = left }
 
--- the endpoint was seen at a moment, and this is noted and told then
+-- the endpoint was seen at this time, and this is noted and decided
 pub record Sees (old new : SeenSoFar) (seen : EndpointView) (moment id : ℕ) (closed : Bool)
     (verdict : Option SendOutcome) : Type 0 where
   pub joined : new.joined ≡ joined_at old.joined (state_at seen id)
@@ -33,8 +33,8 @@ pub record Sees (old new : SeenSoFar) (seen : EndpointView) (moment id : ℕ) (c
   pub tells : verdict
       ≡ option_map (ended_at closed) (verdict_at whole new.joined waits (state_at seen id))
 
--- what the link that was seen acknowledges is counted; what came is let go; and then the link is fed
--- these bytes, where it was seen Live, and nothing else
+-- what the seen link acknowledges is counted, and what was received is dropped. Then the link is fed these
+-- bytes if it was Live, and otherwise nothing
 pub record FeedsOn (id : ℕ) (seen : EndpointView) (old new : FeedState) (bytes : List ℕ) : Type 0 where
   pub acked_bytes : Ledger
   pub follows : EntersAcknowledged (held_at seen id) old.acked_bytes acked_bytes
@@ -44,25 +44,26 @@ pub record FeedsOn (id : ℕ) (seen : EndpointView) (old new : FeedState) (bytes
   pub only : state_at seen id ≢ Some Live
       → LeavesIntake (record old { endpoint = dropped; acked_bytes = acked_bytes }) new bytes
 
--- what the link that was seen acknowledges is counted, and nothing is dropped or fed
+-- what the seen link acknowledges is counted, and nothing is dropped or fed
 pub record FeedsNothing (id : ℕ) (seen : EndpointView) (old new : FeedState) : Type 0 where
   pub follows : EntersAcknowledged (held_at seen id) old.acked_bytes new.acked_bytes
   pub is : new ≡ record old { endpoint = seen; acked_bytes = new.acked_bytes }
 
--- a verdict ends the transfer, and nothing is fed; with none it goes on, but for faults of its own
+-- an outcome ends the transfer, and nothing is fed. Without one it goes on, unless it meets one of these
+-- faults
 abbrev pub GoesOnOrEnds : {T : Type 0} → (Option State → SendOutcome → Type 0) → ℕ → EndpointView → FeedState → FeedState → Option SendOutcome → Result T SendOutcome → Type 0
 GoesOnOrEnds faults id seen old new (Some v) answer = (answer ≡ Err v) × FeedsNothing id seen old new
 GoesOnOrEnds faults id seen old new None answer = IfErr answer (faults (state_at seen id))
     × OnOk answer ((bytes : List ℕ) × FeedsOn id seen old new bytes)
 
--- the faults of what reads, hands in and queues
+-- the faults of reading and queueing
 abbrev pub IsReadFault : SendOutcome → Type 0
 IsReadFault v = (v ≡ Verdicts.Unread) ⊎ (v ≡ Verdicts.OutOfMemory)
 
--- which come only where the link was seen Live
+-- these occur only if the link was seen Live
 abbrev pub IsFeedFault : Option State → SendOutcome → Type 0
 IsFeedFault state v = (state ≡ Some Live) × IsReadFault v
 
--- and of what waits
+-- and the fault of waiting
 abbrev pub IsStepFault : Option State → SendOutcome → Type 0
 IsStepFault state v = IsFeedFault state v ⊎ (v ≡ Verdicts.Unwaited)

@@ -1,4 +1,5 @@
--- What `ipx send` has done where it ends well. The entry point is `SendsWholeInput`. All of it is own.
+-- What `ipx send` has done when it ends well. The entry point is `SendsWholeInput`. Nothing here is from a
+-- public standard.
 use Rattle.std.specs.Prelude.{◌≡◌, ◌≢◌, ◌<◌, ◌≤◌, ℕ, false, List, [], ◌∷◌, Option, Some, None}
 use Rattle.std.specs.Io.KnownBytes.{IsAtEnd}
 use Rattle.ipx_carrier.specs.Mapping.{node_at}
@@ -20,9 +21,9 @@ use Rattle.ipx_host.specs.Transfer.{IsWholeAt}
 abbrev pub HasBuffers : HostConfig → Type 0
 HasBuffers file = (0 < file.buffers) × (file.buffers ≤ 8192)
 
--- a host as its file says it, which listens nowhere, and whose one link asks for a connection to an
--- address, and is paced. Its id is the one last given, and neither 0 nor FFFF; it has the buffers that its
--- file says. Nothing was seen of it, and nothing is read or counted
+-- a host as its file describes it, which listens at no socket. Its one link requests a connection to an
+-- address, and is paced. Its id is the one assigned last, and neither 0 nor FFFF, and it has the buffers that
+-- the file says. Nothing was seen of it, and nothing is read or counted
 pub record IsDialing {K : Type 0} (file : HostConfig) (to : Address) (p : SendState K) (peers : Peers)
     (id : ℕ) : Type 0 where
   pub network : p.core.endpoint.network ≡ file.network
@@ -42,9 +43,9 @@ pub record IsDialing {K : Type 0} (file : HostConfig) (to : Address) (p : SendSt
   pub unended : p.closed ≡ false
   pub unused : IsUnused p.acked_bytes
 
--- such a host has run a transfer to an address to which something goes. It ended well, from what a
--- reader had to what it has left, which is nothing. Its link is there, its end is queued, and all that was
--- queued on it is acknowledged
+-- such a host has run a transfer to an address that can be reached. It ended well, from what a reader had to
+-- what it has left, which is nothing. Its link is there, its end is queued, and everything that was queued on
+-- it is acknowledged
 pub record SendsInput {K : Type 0} (file : HostConfig) (to : Address) (known left : Option (List ℕ))
     (tells : K → ℕ → K → Type 0) : Type 0 where
   pub goes : is_nowhere file to ≡ false
@@ -59,7 +60,7 @@ pub record SendsInput {K : Type 0} (file : HostConfig) (to : Address) (known lef
   pub all : IsAtEnd left
   pub whole : IsWholeAt last.core.endpoint id
 
--- so it has, and the file gives its connection 1 to 8,192 buffers
+-- the same, and the file gives its connection 1 to 8,192 buffers
 pub record SendsWholeInput {K : Type 0} (file : HostConfig) (to : Address) (known left : Option (List ℕ))
     (tells : K → ℕ → K → Type 0) : Type 0 where
   pub buffers : HasBuffers file

@@ -1,4 +1,5 @@
--- What becomes of a connection that a listening host accepted. All of it is own.
+-- The action that is due for a connection that a listening host accepted. Nothing here is from a public
+-- standard.
 use Rattle.std.specs.Prelude.{◌≡◌, ◌≢◌, ◌≤◌, ◌⊎◌, ℕ, Bool, true, false, Option, Some, None}
 use Rattle.spx_link.specs.declared.state.State.{State}
 use Rattle.spx_link.specs.declared.state.State.TheVariants as States
@@ -7,7 +8,7 @@ use Rattle.ipx_host.specs.declared.sessions.SessionAction.TheVariants.{Stays, As
 use Rattle.ipx_host.specs.declared.sessions.Phase.{Phase}
 use Rattle.ipx_host.specs.declared.sessions.Phase.TheVariants as Standings
 
--- nothing was heard of it since it was accepted
+-- nothing was received on it since it was accepted
 abbrev pub is_unheard : Phase → Bool
 is_unheard Standings.New = true
 is_unheard Standings.NewProbed = true
@@ -27,17 +28,17 @@ ends Standings.Ended = true
 abbrev pub IsHeld : Option State → Type 0
 IsHeld state = (state ≢ None) × (state ≢ Some States.Lost) × (state ≢ Some States.Confirmed)
 
--- its link is gone or Confirmed; or its end came, and nothing was heard of it for three seconds
+-- its link is gone or Confirmed, or its end was received and then nothing for three seconds
 abbrev pub IsOver : Phase → Option State → ℕ → Type 0
 IsOver phase state silent = (state ≡ None) ⊎ (state ≡ Some States.Confirmed)
     ⊎ (IsHeld state × (phase ≡ Standings.Ended) × (3000 ≤ silent))
 
--- it is open, and nothing was heard of it for a minute; or it called, and nothing was for a second
+-- it is open and silent for a minute, or it only requested and is silent for a second
 abbrev pub IsToAsk : Phase → Option State → ℕ → Type 0
 IsToAsk phase state silent = IsHeld state × (((phase ≡ Standings.Open) × (60000 ≤ silent))
     ⊎ ((phase ≡ Standings.New) × (1000 ≤ silent)))
 
--- what becomes of it; it stays where nothing of this is so
+-- the action that is due. It stays if none of the other actions is
 abbrev pub IsSessionAction : SessionAction → Phase → Option State → ℕ → Type 0
 IsSessionAction Stays phase state silent = (state ≢ Some States.Lost)
     × (IsOver phase state silent → ⊥) × (IsToAsk phase state silent → ⊥)
@@ -45,7 +46,7 @@ IsSessionAction Asks phase state silent = IsToAsk phase state silent
 IsSessionAction Over phase state silent = IsOver phase state silent
 IsSessionAction GivenUp phase state silent = state ≡ Some States.Lost
 
--- how a connection stands once it is asked: whether it was heard before stays to be seen
+-- the phase of a connection after it is probed. Whether it was heard from before is kept
 abbrev pub phase_asked : Phase → Phase
 phase_asked Standings.New = Standings.NewProbed
 phase_asked Standings.NewProbed = Standings.NewProbed
@@ -53,7 +54,7 @@ phase_asked Standings.Open = Standings.KeepaliveSent
 phase_asked Standings.KeepaliveSent = Standings.KeepaliveSent
 phase_asked Standings.Ended = Standings.Ended
 
--- how a connection stands once it was heard: it is open, if its end was not taken
+-- the phase of a connection after a datagram is received on it: open, unless its end was taken
 abbrev pub phase_heard : Phase → Phase
 phase_heard Standings.New = Standings.Open
 phase_heard Standings.NewProbed = Standings.Open

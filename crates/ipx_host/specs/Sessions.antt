@@ -1,4 +1,5 @@
--- The connections that a listening host holds, as they come, are heard, and go. All of it is own.
+-- The connections that a listening host holds, as they are accepted, heard from and released. Nothing here is
+-- from a public standard.
 use Rattle.std.specs.Prelude.{◌≡◌, ◌≤◌, ◌⊎◌, ◌==◌, ◌&&◌, ◌-◌, ℕ, Bool, true, false, not, IsTrue, List, [], ◌∷◌, ◌++◌, length, map, position, remove, count_by, slice_get, slice_set, nat_eq, nat_le, Option, Some, None, IfSome, MatchOption, if◌then◌else◌}
 use Rattle.std.specs.List.{list_any}
 use Rattle.std.specs.Cmp.Lexicographic.{pointwise}
@@ -25,26 +26,26 @@ use Rattle.ipx_host.specs.declared.paced_host_core.Arrival.{Arrival}
 use Rattle.ipx_host.specs.declared.paced_host_core.Arrival.TheVariants as Cames
 use Rattle.ipx_host.specs.declared.paced_host_core.PacedHostCore.{PacedHostCore}
 
--- a connection that is heard at a moment
+-- a connection on which a datagram is received at this time
 abbrev pub once_heard : ℕ → Session → Session
 once_heard now c = record c { heard = now; phase = phase_heard c.phase }
 
--- a datagram of an id is heard: the connection of that id is heard, and no other one
+-- a datagram with an id is received: the connection with that id notes it, and no other
 abbrev pub heard_by : ℕ → ℕ → Session → Session
 heard_by id now c = if c.id == id then once_heard now c else c
 
--- a connection that was accepted at a moment
+-- a connection that was accepted at this time
 abbrev pub session_of : Accepted → ℕ → Session
 session_of a now = record { id = a.id; from = a.from; heard = now; phase = Standings.New }
 
--- the link of an id is forgotten, with its part of a message, and nothing else changes; where there is
--- none, nothing does
+-- the link of an id is released, with its partial message, and nothing else changes. If there is none,
+-- nothing changes
 pub record LetsLinkGo (old new : EndpointView) (id : ℕ) : Type 0 where
   pub goes : ReleasesEnd old new id ⊎ ((held_at old id ≡ None) × SameBut old new)
   pub said : new.said ≡ old.said
   pub heard : new.heard ≡ old.heard
 
--- two addresses are of one node of one network, for a host of this one
+-- two addresses belong to one node of one network, for a host on this network
 abbrev pub is_same_node : Network → Address → Address → Bool
 is_same_node own a b = home_network own a == home_network own b && pointwise nat_eq a.node.0 b.node.0
 
@@ -54,28 +55,29 @@ has_spoken c = not (is_unheard c.phase)
 abbrev pub is_ended : Session → Bool
 is_ended c = ends c.phase
 
--- a connection was not heard, and is of the node of an address
+-- a connection was not heard from, and belongs to the node of an address
 abbrev pub is_unheard_of : Network → Address → Session → Bool
 is_unheard_of own from c = is_unheard c.phase && is_same_node own c.from from
 
--- there is no place at a host of a network for one more from an address: with `once` one was heard; or 16
--- are held; or 4 of its node were not heard
+-- a host has no place for one more connection from an address: with `once` if one was heard from, or if 16
+-- are held, or if 4 of its node were not heard from
 abbrev pub HasNoPlaceFor : Bool → Network → Address → List Session → Type 0
 HasNoPlaceFor once own from sessions = (IsTrue once × (list_any has_spoken sessions ≡ true))
     ⊎ (16 ≤ length sessions) ⊎ (4 ≤ count_by (is_unheard_of own from) sessions)
 
--- a connection comes: where there is a place it is the last one then, and else its link is let go
+-- a connection is accepted: if there is a place, it is added last, otherwise its link is released
 abbrev pub Admits : Bool → Session → EndpointView → EndpointView → List Session → List Session → Type 0
 Admits once c old new sessions sessions' =
     ((HasNoPlaceFor once old.network c.from sessions → ⊥) × (sessions' ≡ sessions ++ c ∷ []) × (new ≡ old))
     ⊎ (HasNoPlaceFor once old.network c.from sessions × (sessions' ≡ sessions) × LetsLinkGo old new c.id)
 
--- the links of connections are forgotten, one after another
+-- the links of connections are released, one after another
 abbrev pub LetsLinksGo : List Session → EndpointView → EndpointView → Type 0
 LetsLinksGo [] old new = new ≡ old
 LetsLinksGo (c ∷ cs) old new = (mid : EndpointView) × LetsLinkGo old mid c.id × LetsLinksGo cs mid new
 
--- with `once` the first connection that was heard, if one was, stays alone: the others go
+-- with `once` only the first connection that was heard from, if there is one, is kept: the others are
+-- released
 abbrev pub KeepsHeard : Bool → EndpointView → EndpointView → List Session → List Session → Type 0
 KeepsHeard false old new sessions sessions' = (sessions' ≡ sessions) × (new ≡ old)
 KeepsHeard true old new sessions sessions' = MatchOption (position has_spoken sessions)
@@ -83,22 +85,22 @@ KeepsHeard true old new sessions sessions' = MatchOption (position has_spoken se
     (λ place. IfSome (slice_get sessions place) (λ c. sessions' ≡ c ∷ [])
     × LetsLinksGo (remove sessions place) old new)
 
--- a connection was not heard, and a second ago or longer it came, or could not be asked
+-- a connection was not heard from, and was accepted, or could not be probed, a second ago or longer
 abbrev pub is_overdue : ℕ → Session → Bool
 is_overdue now c = is_unheard c.phase && nat_le 1000 (now - c.heard)
 
--- there was no link for one that asked: the first connection that is overdue goes, if one is
+-- there was no link for a new request: the first overdue connection is released, if there is one
 abbrev pub MakesSpace : ℕ → EndpointView → EndpointView → List Session → List Session → Type 0
 MakesSpace now old new sessions sessions' = MatchOption (position (is_overdue now) sessions)
     ((sessions' ≡ sessions) × (new ≡ old))
     (λ place. (sessions' ≡ remove sessions place)
     × IfSome (slice_get sessions place) (λ c. LetsLinkGo old new c.id))
 
--- a count, one higher where so it is
+-- a count, raised by one if this holds
 abbrev pub raised_if : Bool → ℕ → ℕ
 raised_if more n = if more then raised n else n
 
--- what a host does of what its core noted: a connection is heard, or one comes, or one makes room
+-- how a host handles what its core noted: a connection is heard from, or one is accepted, or one is evicted
 abbrev pub DoesNoted : Bool → Option Arrival → ℕ → EndpointView → EndpointView → List Session → List Session → Type 0
 DoesNoted once None now old new sessions sessions' = (sessions' ≡ sessions) × (new ≡ old)
 DoesNoted once (Some (Cames.Heard id)) now old new sessions sessions' =
@@ -107,13 +109,13 @@ DoesNoted once (Some (Cames.Accepted a)) now old new sessions sessions' =
     Admits once (session_of a now) old new sessions sessions'
 DoesNoted once (Some Cames.NoRoom) now old new sessions sessions' = MakesSpace now old new sessions sessions'
 
--- it is done of what the core heard last, which is told once
+-- the same for what the core noted last, which is handled once
 abbrev pub NotesHeard : Bool → PacedHostCore → PacedHostCore → List Session → List Session → Type 0
 NotesHeard once old new sessions sessions' =
     (new ≡ record old { endpoint = new.endpoint; came = None })
     × DoesNoted once old.came old.moment old.endpoint new.endpoint sessions sessions'
 
--- a connection is asked whether it is there: a message of no bytes is queued on its link, which is Live
+-- a connection is probed: a message of no bytes is queued on its link, which is Live
 abbrev pub QueuesNothing : EndpointView → EndpointView → Session → Session → Type 0
 QueuesNothing old new c c' =
     (h : Held) × (held_at old c.id ≡ Some h) × (h.link.state ≡ States.Live)
@@ -121,32 +123,32 @@ QueuesNothing old new c c' =
     (record h { link = offer_link h.link (cut_of (record { stream = 0; body = [] })) })
     × (c' ≡ record c { phase = phase_asked c.phase })
 
--- so it is, or that is refused, and its silence counts anew
+-- it is probed, or that is refused, and its silence starts again
 abbrev pub Asks : ℕ → EndpointView → EndpointView → Session → Session → Type 0
 Asks now old new c c' =
     QueuesNothing old new c c' ⊎ (SameBut old new × (c' ≡ record c { heard = now }))
 
--- the link of an id is Live, the one state in which it takes messages
+-- the link of an id is Live, the only state in which it takes messages
 abbrev pub TakesMessages : EndpointView → ℕ → Type 0
 TakesMessages e id = (h : Held) × (held_at e id ≡ Some h) × (h.link.state ≡ States.Live)
 
--- it is asked where its link takes messages, and memory was not refused
+-- it is probed if its link takes messages, and if not out of memory
 abbrev pub IsAskedUnless : Bool → EndpointView → EndpointView → Session → Session → Type 0
 IsAskedUnless refused old new c c' =
     TakesMessages old c.id → refused ≡ false → QueuesNothing old new c c'
 
--- so it is with the connection at a place; and where memory was refused, that is counted
+-- the same for the connection at a place. If out of memory, that is counted
 abbrev pub AsksOrCounts : EndpointView → EndpointView → Session → ℕ → List Session → List Session → ℕ → ℕ → Type 0
 AsksOrCounts old new c place sessions sessions' count count' = (refused : Bool) × (c' : Session)
     × (sessions' ≡ slice_set sessions place c') × IsAskedUnless refused old new c c'
     × (count' ≡ raised_if refused count)
 
--- a message was refused for want of memory
+-- a message was refused as out of memory
 abbrev pub IsOutOfMemory : EndFault → Type 0
 IsOutOfMemory f = (f ≡ EndFaults.Message MessageFaults.OutOfMemory)
     ⊎ (f ≡ EndFaults.Offer OfferFaults.OutOfMemory)
 
--- with `once` a connection that was heard is the only one, and where its end was taken nothing is left to
+-- with `once` a connection that was heard from is the only one. If its end was taken, nothing is left to
 -- write
 abbrev pub KeepsOne : Bool → List Session → List ℕ → Type 0
 KeepsOne false sessions left = Unit {0}

@@ -1,4 +1,4 @@
--- The words that name an address. All of it is own.
+-- The arguments that name an address. Nothing here is from a public standard.
 use Rattle.std.specs.Prelude.{◌≡◌, Some, None}
 use Rattle.ipx_wire.specs.AddressText.{spelled_network, spelled_node, spelled_socket}
 use Rattle.ipx_wire.specs.declared.address.Address.{Address}
@@ -6,13 +6,13 @@ use Rattle.ipx_host.specs.declared.target.Target.{Target}
 use Rattle.ipx_host.specs.declared.target.TargetFault.{TargetFault}
 use Rattle.ipx_host.specs.declared.target.TargetFault.TheVariants.{Network, Node, Socket}
 
--- three words name an address, in eight, twelve and four hex digits
+-- three arguments name an address, in eight, twelve and four hex digits
 pub record NamesAddress (t : Target) (a : Address) : Type 0 where
   pub network : spelled_network t.network.now ≡ Some a.network
   pub node : spelled_node t.node.now ≡ Some a.node
   pub socket : spelled_socket t.socket.now ≡ Some a.socket
 
--- the word that names nothing
+-- the argument that is wrong
 abbrev pub IsTargetFault : Target → TargetFault → Type 0
 IsTargetFault t Network = spelled_network t.network.now ≡ None
 IsTargetFault t Node = spelled_node t.node.now ≡ None

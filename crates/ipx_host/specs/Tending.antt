@@ -1,4 +1,4 @@
--- What is done with a connection that a listening host holds. All of it is own.
+-- How a listening host tends the connections that it holds. Nothing here is from a public standard.
 use Rattle.std.specs.Prelude.{◌≡◌, ◌≤◌, ◌<◌, ◌-◌, ℕ, zero, suc, Bool, List, All, take, remove, slice_get, slice_set, Option, Some, None}
 use Rattle.spx_messages.specs.EndpointView.{EndpointView}
 use Rattle.ipx_host.specs.Sessions.{Asks, LetsLinkGo}
@@ -11,21 +11,22 @@ use Rattle.ipx_host.specs.declared.sessions.SessionAction.TheVariants as Actions
 use Rattle.ipx_host.specs.declared.paced_host_core.PacedHostCore.{PacedHostCore}
 use Rattle.ipx_host.specs.declared.listening.ListenOutcome.{ListenOutcome}
 
--- what becomes of a connection of a host, by its link and its silence
+-- the action that is due for a connection of a host, by its link and its silence
 abbrev pub IsActionFor : PacedHostCore → Session → SessionAction → Type 0
 IsActionFor core c fate =
     IsSessionAction fate c.phase (state_at core.endpoint c.id) (core.moment - c.heard)
 
--- nothing is to be done with a connection
+-- no action is due for a connection
 abbrev pub JustStays : PacedHostCore → Session → Type 0
 JustStays core c = IsActionFor core c ActionsOfSessions.Stays
 
--- the connection at a place goes, and its link; whether the host stops then, its fate tells
+-- the connection at a place is removed, and its link is released. Its action tells whether the host then
+-- stops
 abbrev pub Parts : Bool → Session → ℕ → SessionAction → EndpointView → EndpointView → List Session → List Session → Option ListenOutcome → Type 0
 Parts once c place fate old new sessions sessions' stop = LetsLinkGo old new c.id
     × (sessions' ≡ remove sessions place) × (stop ≡ parted once fate c.phase)
 
--- what is done with the connection at a place, by its fate
+-- what is done with the connection at a place, by its action
 abbrev pub DoesAction : Bool → ℕ → Session → ℕ → SessionAction → EndpointView → EndpointView → List Session → List Session → Option ListenOutcome → Type 0
 DoesAction once now c place ActionsOfSessions.Stays old new sessions sessions' stop =
     (new ≡ old) × (sessions' ≡ sessions) × (stop ≡ None)
@@ -40,7 +41,7 @@ abbrev pub Tends : Bool → PacedHostCore → Session → ℕ → EndpointView �
 Tends once core c place new sessions sessions' stop = (fate : SessionAction) × IsActionFor core c fate
     × DoesAction once core.moment c place fate core.endpoint new sessions sessions' stop
 
--- one tending: of the first connection that does not just stay
+-- one tending: of the first connection for which an action is due
 pub record TendsFirst (once : Bool) (old new : PacedHostCore) (sessions sessions' : List Session)
     (stop : Option ListenOutcome) : Type 0 where
   pub place : ℕ
@@ -57,7 +58,7 @@ TendsOn zero once old new sessions sessions' = (new ≡ old) × (sessions' ≡ s
 TendsOn (suc n) once old new sessions sessions' = (mid : PacedHostCore) × (among : List Session)
     × TendsOn n once old mid sessions among × TendsFirst once mid new among sessions' None
 
--- one after another, until all just stay or there were 16; or until one stops the host
+-- one after another, until none is due or 16 were done, or until one stops the host
 abbrev pub Tidies : Bool → PacedHostCore → PacedHostCore → List Session → List Session → Option ListenOutcome → Type 0
 Tidies once old new sessions sessions' None = (count : ℕ) × (count ≤ 16)
     × TendsOn count once old new sessions sessions' × (count < 16 → All (JustStays new) sessions')

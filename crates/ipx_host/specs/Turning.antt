@@ -1,4 +1,4 @@
--- What one turn of a host that runs does to its core and its clock. All of it is own.
+-- What one turn of a running host does to its core and its clock. Nothing here is from a public standard.
 use Rattle.std.specs.Prelude.{◌≡◌, ◌<◌, ◌↔◌, ◌⊎◌, ℕ, IsTrue, false, true, List, Option, None, Ok, Err}
 use Rattle.ipx_carrier.specs.declared.fault.RunFault.TheVariants.{OutOfMemory}
 use Rattle.ipx_carrier.specs.declared.report.Report.{Report}
@@ -10,9 +10,9 @@ use Rattle.ipx_host.specs.Paced.{GivesAsPlanned}
 use Rattle.ipx_host.specs.declared.paced_host_core.PacedHostCore.{PacedHostCore}
 use Rattle.ipx_host.specs.declared.running_host.Activity.{Activity}
 
--- a core of one port hears all but requests of those who may not ask, gives as its pacer and its
--- endpoint do, misses as its endpoint does, and withholds nothing. It notes what the datagram was that
--- it heard last, and the moment
+-- a core of one port reads everything except requests from those who may not connect. It gives as its pacer
+-- and its endpoint do, and withholds nothing. If out of memory, it misses a datagram as its endpoint does. It
+-- notes what the last datagram was, and the time
 abbrev pub hears : PacedHostCore → ℕ → List ℕ → ℕ → PacedHostCore → Type 0
 hears old port bytes now new = HearsAllowed old bytes now new
 
@@ -26,15 +26,15 @@ hear_out_of_memory old port bytes now new = HearOutOfMemory old.endpoint bytes n
 abbrev pub next_out_of_memory : PacedHostCore → ℕ → PacedHostCore → Type 0
 next_out_of_memory old now new = ⊥
 
--- what is told of a whole turn: whether a datagram was heard, and whether anything happened. What was
--- kept back no turn of a core has
+-- what is reported of a whole turn: whether a datagram was read, and whether anything happened. The report
+-- does not have the filtered datagrams
 pub record TellsOf (report : Report) (turn : Activity) : Type 0 where
   pub heard : IsTrue turn.heard ↔ (0 < report.heard)
   pub active : IsTrue turn.active
       ↔ ((0 < report.heard) ⊎ ((0 < report.sent) ⊎ ((0 < report.unmapped) ⊎ IsTrue turn.kept)))
 
--- one turn over sockets, whose traffic is not told, and what is told of it; or a part of one, since memory
--- was refused: then nothing was heard
+-- one turn over sockets, whose traffic is not shown, with its report. Or a part of one, because out of
+-- memory: then nothing was read
 abbrev pub TakesHostTurn : {K : Type 0} → K → K → (K → ℕ → K → Type 0) → Peers → PacedHostCore → PacedHostCore → Activity → Type 0
 TakesHostTurn {K} clock clock_after tells peers old new turn =
     ((report : Report) × TakesTurn hears hear_out_of_memory gives next_out_of_memory tells 1 peers None None clock clock_after old new (Ok report)

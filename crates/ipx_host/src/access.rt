@@ -1,4 +1,4 @@
-//! Whom a host hears and sends to.
+//! The senders and destinations that a host accepts.
 
 ghost use Rattle.std.specs.Prelude.{◌≡◌, ◌∷◌, ◌++◌, [], IfOk};
 ghost use Rattle.ipx_site.specs.SitePorts.{access_by, heard_at_port, named};
@@ -10,8 +10,8 @@ use ipx_site::{Accept, AccessList, HostConfig};
 use ipx_wire::{Address, Network, Node};
 use std::alloc::Global;
 
-/// The address that the host of a file speaks to: network 0 is the host's own, which answers have as
-/// their source.
+/// The address that the host of a file sends to. Network 0 is replaced by the host's own network,
+/// which is the source of its answers.
 pub fn peer_address_of(file: &HostConfig, to: Address) -> Address
     ensures { result ≡ peer_address_of file.now to }
 {
@@ -25,21 +25,21 @@ pub fn peer_address_of(file: &HostConfig, to: Address) -> Address
     }
 }
 
-/// Whether an address is on the host's own network, whose nodes are reached without a router.
+/// Whether an address is on the host's own network. Nodes there are reached without a router.
 pub fn is_on_own_network(file: &HostConfig, to: Address) -> bool
     ensures { result ≡ is_on_own_network file.now to }
 {
     to.network == file.network || to.network == Network::LOCAL
 }
 
-/// Whether nothing goes to an address: on the host's own network to a node that no IP address has.
+/// Whether an address can't be reached: a node on the host's own network that has no IP address.
 pub fn is_nowhere(file: &HostConfig, to: Address) -> bool
     ensures { result ≡ is_nowhere file.now to }
 {
     is_on_own_network(file, to) && ip_of(to.node).is_err()
 }
 
-/// Prints that nothing goes to a node of the network of a file's host, and answers the status 2.
+/// Prints that a node on the network of a file's host can't be reached, and returns status 2.
 pub fn tell_nowhere<R: Eprint>(rt: &R, path: &str, node: Node) -> u8
     ensures { result ≡ 2 }
 {
@@ -47,8 +47,8 @@ pub fn tell_nowhere<R: Eprint>(rt: &R, path: &str, node: Node) -> u8
     2
 }
 
-/// The IP address of a node of its own network that a host dials. None where it dials another
-/// network, or a node that has none.
+/// The IP address that a host dials for a node on its own network. None for another network, or for
+/// a node without an IP address.
 pub fn dialed_ip(file: &HostConfig, to: Address) -> Option<[u8; 4]>
     ensures { result ≡ dialed_ip file.now to }
 {
@@ -58,7 +58,7 @@ pub fn dialed_ip(file: &HostConfig, to: Address) -> Option<[u8; 4]>
     ip_of(to.node).ok()
 }
 
-/// IP addresses, and that of the router behind them.
+/// These IP addresses, followed by that of the router.
 fn with_router(
     alloc: Global,
     file: &HostConfig,
@@ -71,7 +71,7 @@ fn with_router(
     Ok(all)
 }
 
-/// Whom a host knows that dials this IP address: its peers, its router, and that one.
+/// The IP addresses known to a host that dials this one: its peers, its router, and the dialed one.
 fn known_ips(
     alloc: Global,
     file: &HostConfig,
@@ -86,7 +86,7 @@ fn known_ips(
     Ok(ips)
 }
 
-/// Those, or everybody.
+/// The known IP addresses, or None if the host accepts everybody.
 fn heard_ips(
     alloc: Global,
     file: &HostConfig,
@@ -100,7 +100,7 @@ fn heard_ips(
     }
 }
 
-/// The guard of a host that dials this IP address.
+/// The access list of a host that dials this IP address.
 pub fn access_list_of(
     alloc: Global,
     file: &HostConfig,

@@ -1,4 +1,4 @@
-//! How much of what was handed in is acknowledged.
+//! How much of what was sent is acknowledged.
 
 ghost use Rattle.std.specs.Prelude.{◌≡◌, ◌<◌, ◌≤◌, ◌+◌, ◌-◌, ◌^◌, ℕ, List, [], ◌∷◌, ◌++◌, OnErr, OnOk, false, length, sum, true};
 ghost use Rattle.spx_link.specs.SequenceMarks.{distance};
@@ -11,39 +11,39 @@ use spx_link::Numbers;
 use std::alloc::{AllocError, Global};
 use std::collections::VecDeque;
 
-/// The bytes of a unit that ends no message.
+/// The number of bytes of a unit that does not end a message.
 const UNIT: u64 = SPX_MAX_DATA_SIZE as u64;
 
-/// The units of a message of so many bytes.
+/// The number of units of a message with so many bytes.
 fn units_of(bytes: u64) -> u64
     ensures value { result ≡ units_in bytes }
-    // That many units the message is cut into.
+    // The message is cut into that many units.
     ensures cut { (body : List ℕ) → length body ≡ bytes
         → length (cut_of (record { stream = 0; body = body })) ≡ result }
 {
     bytes.div_ceil(UNIT).max(1)
 }
 
-/// What was handed in, and what of it is acknowledged.
+/// The messages that were queued, and how much of them is acknowledged.
 #[derive(Drop)]
 pub struct Ledger {
-    /// The sequence number before which all is acknowledged.
+    /// The sequence number before which everything is acknowledged.
     base: u16,
-    /// The bytes of the messages that are not acknowledged whole, in their order.
+    /// The lengths of the messages that are not fully acknowledged, in order.
     messages: VecDeque<u64>,
-    /// The units of the first of them that are acknowledged.
+    /// How many units of the first of them are acknowledged.
     units: u64,
-    /// The units that are not acknowledged.
+    /// How many units are not acknowledged.
     ahead: u64,
-    /// The bytes of the messages that are acknowledged whole.
+    /// The total length of the messages that are fully acknowledged.
     whole: u64,
-    /// All bytes that were handed in.
+    /// The total length of all messages queued.
     given: u64,
     ghost all: { given ≡ counted (whole + sum messages.items) },
 }
 
 impl Ledger {
-    /// Nothing was handed in.
+    /// Nothing was queued yet.
     pub fn new(alloc: Global) -> Ledger
         ensures given { result.given ≡ 0 }
         ensures ahead { result.ahead ≡ 0 }
@@ -61,17 +61,17 @@ impl Ledger {
         }
     }
 
-    /// A message of so many bytes was handed in.
+    /// Adds a message of so many bytes.
     pub fn add(&mut self, bytes: u64) -> Result<(), AllocError>
         ensures given { OnOk result (self.new.given ≡ counted (self.old.given + bytes)) }
         ensures ahead { OnOk result (self.new.ahead ≡ counted (self.old.ahead + units_in bytes)) }
         ensures base { self.new.base ≡ self.old.base }
-        // It stands behind those that were handed in before.
+        // It comes after those that were queued before.
         ensures counts { OnOk result ((given : List ℕ) (units : ℕ)
             → CountsAcknowledged given units self.old.messages.items self.old.units self.old.whole
             → CountsAcknowledged (given ++ bytes ∷ []) units
             self.new.messages.items self.new.units self.new.whole) }
-        // Where no more units were acknowledged than were handed in.
+        // Provided that no more units were acknowledged than were queued.
         ensures first { OnOk result ((given : List ℕ) (units : ℕ)
             → CountsAcknowledged given units self.old.messages.items self.old.units self.old.whole
             → units ≤ all_units given → IsFirstOpen self.old.messages.items self.old.units
@@ -87,20 +87,20 @@ impl Ledger {
         Ok(())
     }
 
-    /// The link has these numbers now.
+    /// Updates the ledger to the present numbers of the link.
     pub fn acknowledge(&mut self, numbers: Numbers)
         ensures base { self.new.base ≡ base_of numbers }
-        // As many units less as the numbers went on.
+        // `ahead` falls by as many units as the numbers advanced.
         ensures ahead { self.new.ahead
             ≡ self.old.ahead - distance (base_of numbers) self.old.base }
         ensures given { self.new.given ≡ self.old.given }
-        // As many units more are acknowledged, of all that was handed in.
+        // As many more units are acknowledged, of everything that was queued.
         ensures counts { (given : List ℕ) (units : ℕ)
             → CountsAcknowledged given units self.old.messages.items self.old.units self.old.whole
             → units + distance (base_of numbers) self.old.base < 2 ^ 64
             → CountsAcknowledged given (units + distance (base_of numbers) self.old.base)
             self.new.messages.items self.new.units self.new.whole }
-        // Each message is let go all of whose units are acknowledged.
+        // Each message whose units are all acknowledged is removed.
         ensures first { IsFirstOpen self.old.messages.items self.old.units
             → IsFirstOpen self.new.messages.items self.new.units }
     {
@@ -116,7 +116,7 @@ impl Ledger {
         }
     }
 
-    /// Lets the first message go, where all its units are acknowledged.
+    /// Removes the first message if all its units are acknowledged.
     fn close_first(&mut self) -> bool
         ensures base { self.new.base ≡ self.old.base }
         ensures ahead { self.new.ahead ≡ self.old.ahead }
@@ -141,7 +141,7 @@ impl Ledger {
         true
     }
 
-    /// How many units were handed in and are not acknowledged.
+    /// How many units were queued and are not acknowledged.
     pub fn ahead(&self) -> u64
         ensures { result ≡ self.now.ahead }
     {
@@ -152,7 +152,7 @@ impl Ledger {
     pub fn acknowledged(&self) -> u64
         ensures most { result ≤ self.now.given }
         ensures least { self.now.whole ≤ result }
-        // Of all that was handed in, while the first message that is left is not acknowledged whole.
+        // It is exact while the first remaining message is not fully acknowledged.
         ensures exact { (given : List ℕ) (units : ℕ)
             → CountsAcknowledged given units self.now.messages.items self.now.units self.now.whole
             → IsFirstOpen self.now.messages.items self.now.units
@@ -165,7 +165,7 @@ impl Ledger {
         self.whole.saturating_add(begun)
     }
 
-    /// How many bytes were handed in.
+    /// How many bytes were queued.
     pub fn given(&self) -> u64
         ensures { result ≡ self.now.given }
     {

@@ -1,4 +1,4 @@
-//! What a host says of its file, without a socket: `ipx listen --check`.
+//! What a host prints about its file, without a socket: `ipx listen --check`.
 
 ghost use Rattle.std.specs.Prelude.{◌≡◌, ◌≤◌, ℕ, List, IfOk, string_bytes};
 ghost use Rattle.std.specs.Io.KnownBytes.{Appends};
@@ -24,7 +24,7 @@ fn listen_address_to_text(alloc: Global, file: &HostConfig) -> Result<String, Al
     format!(in alloc; "socket {socket} network {network} node {node}")
 }
 
-/// Where a host listens: `socket .. network .. node .. udp ..`, and ` accept any` where it hears
+/// Where a host listens: `socket .. network .. node .. udp ..`, and ` accept any` if it accepts
 /// everybody.
 pub fn listener_to_text(alloc: Global, file: &HostConfig) -> Result<String, AllocError>
     ensures { IfOk result (λ t. string_bytes t ≡ listener_text file.now) }
@@ -35,7 +35,7 @@ pub fn listener_to_text(alloc: Global, file: &HostConfig) -> Result<String, Allo
     format!(in alloc; "{place} udp {reached}{others}")
 }
 
-/// What is remarked on the router of a host.
+/// The remark on the router of a host.
 fn remark_on_router(file: &HostConfig) -> &'static str
     ensures { result.now ≡ router_remark file.now }
 {
@@ -46,14 +46,14 @@ fn remark_on_router(file: &HostConfig) -> &'static str
     }
 }
 
-/// What is remarked on the peers of a host.
+/// The remarks on the peers of a host.
 fn remarks_on_peers(alloc: Global, file: &HostConfig) -> Result<String, AllocError>
     ensures { IfOk result (λ t. string_bytes t ≡ peers_remarks file.now) }
 {
     peers_to_remarks(alloc, "", file.address, &file.peers)
 }
 
-/// The line of the file itself.
+/// The line about the file itself.
 fn file_to_line(alloc: Global, path: &str, file: &HostConfig) -> Result<String, AllocError>
     ensures { IfOk result (λ t. string_bytes t ≡ host_line path.now file.now) }
 {
@@ -72,12 +72,12 @@ fn host_to_lines(alloc: Global, path: &str, file: &HostConfig) -> Result<String,
     format!(in alloc; "{listener}\n{remark}{peers}{line}")
 }
 
-/// The command `listen --check`: reads the file of a host, and writes the line that it has as it
-/// starts to listen, what is to be remarked, and a line of the file. It opens no socket: no `Net`
-/// comes in.
+/// The command `listen --check`: reads the file of a host, and writes what it would print when it
+/// starts to listen. It also writes remarks, and a line about the file. It opens no socket: it has
+/// no `Net`.
 ///
-/// The answer is the status: 0 where that is written; 1 where memory is refused or the writer
-/// fails; 2 for a fault of the file, which is told as `listen` does, and nothing is written.
+/// It returns the status: 0 if all that is written; 1 if out of memory or if the writer fails; 2
+/// for a fault of the file, which is printed as `listen` does, and nothing is written.
 pub fn check_host<R: Files + Eprint, W: Write>(
     rt: &R,
     alloc: Global,
@@ -85,7 +85,7 @@ pub fn check_host<R: Files + Eprint, W: Write>(
     writer: &mut W,
 ) -> u8
     ensures few { result ≤ 2 }
-    // What it writes is of the host that some text describes.
+    // What it writes is about the host that some text describes.
     ensures lines { result ≡ 0 → (text : List ℕ) × (file : AHostFile)
         × IsFileText text × IsHostText text file
         × Appends (W.contents writer.old) (W.contents writer.new) (host_lines path.now file) }

@@ -1,4 +1,4 @@
-//! What a host that sends hands in, and what it lets go.
+//! What a sending host queues, and what it drops.
 
 ghost use Rattle.std.specs.Prelude.{◌≡◌, ◌≢◌, ℕ, [], false, true, IfSome, OnErr, OnOk, None, Some};
 ghost use Rattle.spx_link.specs.Links.{count_of};
@@ -11,7 +11,7 @@ ghost use Rattle.ipx_host.specs.Feeding.{HandsIn, KeepsQueue};
 use spx_messages::{EndFault, Endpoint, Message, MessageFault, Taken};
 use std::alloc::Global;
 
-/// Hands bytes in as one message.
+/// Queues bytes as one message.
 pub fn hand_in(
     alloc: Global,
     endpoint: &mut Endpoint,
@@ -28,8 +28,8 @@ pub fn hand_in(
     endpoint.send(alloc, id, &Message { stream: 0, body })
 }
 
-/// Takes what the link of an id holds first, and lets it go. It answers whether it did: where not,
-/// nothing more is let go.
+/// Takes and drops the first unit that the link of an id holds. Returns whether it did. If not,
+/// nothing more is dropped.
 fn drop_first(alloc: Global, endpoint: &mut Endpoint, id: u16) -> bool
     ensures drops { IfSome (held_at endpoint.old id) (λ h. result ≡ true
         → (h.link.held ≢ []) × (held_at endpoint.new id ≡ Some (take_end h).1)) }
@@ -46,7 +46,7 @@ fn drop_first(alloc: Global, endpoint: &mut Endpoint, id: u16) -> bool
     !matches!(taken, Ok(Taken::Nothing) | Err(_))
 }
 
-/// Lets go what the peer of an id sends: its buffers are free again. What is queued stays.
+/// Drops what the peer of an id sent, so that its buffers are free again. What is queued is kept.
 pub fn drop_what_came(alloc: Global, endpoint: &mut Endpoint, id: u16)
     ensures { DropsCame endpoint.old endpoint.new id }
 {

@@ -1,5 +1,5 @@
-//! What a host that listens has to do with its connections, and how long it has nothing to do,
-//! unless something comes.
+//! What a listening host has to do with its connections, and how long it may wait if nothing is
+//! received.
 
 ghost use Rattle.std.specs.Prelude.{◌≡◌, ◌<◌, length, slice_get, take, All, IfSome, MatchOption};
 ghost use Rattle.ipx_host.specs.Sleeping.{AllStayFor, StaysFor};
@@ -14,7 +14,7 @@ use crate::sessions::{
 /// The longest wait, in milliseconds.
 const LONG: u64 = 3_600_000;
 
-/// What becomes of a connection of a host by now.
+/// The action that is due for a connection of a host now.
 pub fn action_in(core: &PacedHostCore, session: &Session) -> SessionAction
     ensures fate { IsActionFor core.now session.now result }
     ensures asks { IsActionFor core.now session.now ActionsOfSessions.Asks → result ≡ ActionsOfSessions.Asks }
@@ -24,7 +24,7 @@ pub fn action_in(core: &PacedHostCore, session: &Session) -> SessionAction
     session_action(session.phase, state, silent)
 }
 
-/// The place of the first connection that does not just stay.
+/// The place of the first connection with an action other than `Stays`.
 pub fn first_to_tend(core: &PacedHostCore, sessions: &[Session]) -> Option<usize>
     ensures there { IfSome result (λ place. place < length sessions.now) }
     ensures first { MatchOption result (All (JustStays core.now) sessions.now)
@@ -39,7 +39,7 @@ pub fn first_to_tend(core: &PacedHostCore, sessions: &[Session]) -> Option<usize
     None
 }
 
-/// How long a connection just stays, by its silence: none where something is to be done now.
+/// How long a connection needs no action, by its silence. It is 0 if an action is due now.
 fn stay_of(core: &PacedHostCore, session: &Session) -> u64
     ensures { StaysFor core.now session.now result }
 {
@@ -58,7 +58,7 @@ fn stay_of(core: &PacedHostCore, session: &Session) -> u64
     }
 }
 
-/// How long there is nothing to do with any connection, in milliseconds: an hour at most.
+/// How long no connection needs an action, in milliseconds: at most an hour.
 pub fn rest_of(core: &PacedHostCore, sessions: &[Session]) -> u64
     ensures { AllStayFor core.now sessions.now result }
 {

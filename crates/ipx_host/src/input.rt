@@ -1,4 +1,4 @@
-//! What a host that sends reads, and hands into its link.
+//! What a sending host reads, and queues on its link.
 
 ghost use Rattle.std.specs.Prelude.{◌≡◌, ◌≢◌, ◌<◌, ◌≤◌, ◌+◌, ◌⊎◌, ℕ, List, false, true, length, take, IfErr, IfOk, OnErr, OnOk, Err, Ok};
 ghost use Rattle.std.specs.Io.KnownBytes.{Keeps};
@@ -20,13 +20,13 @@ use std::io::{self, ErrorKind, Read};
 use std::net::Net;
 use std::os::fd::RawFd;
 
-/// The most units that are handed in and not acknowledged before no more is read.
+/// While so many units are queued and not acknowledged, nothing more is read.
 const MAX_AHEAD: u64 = 16_384;
 
 /// The descriptor of standard input.
 const STDIN: RawFd = 0;
 
-/// What is read and handed into a link, and what of it is acknowledged.
+/// The state of the input: what is read and queued on a link, and how much of it is acknowledged.
 pub struct Intake {
     pub gate: Gate,
     pub room: Vec<u8>,
@@ -35,7 +35,7 @@ pub struct Intake {
     pub read: bool,
     /// Whether the end is queued.
     pub closed: bool,
-    /// The end is queued only where all is read.
+    /// The end is queued only after all is read.
     ghost order: { closed ≡ true → read ≡ true },
     /// A read always has room.
     ghost roomy: { 0 < length room.items },
@@ -56,7 +56,7 @@ impl Drop for Intake {
 impl Intake {
     ghost use Rattle.ipx_host.specs.Midway.{feeding_at};
 
-    /// Nothing was read.
+    /// Nothing was read yet.
     pub fn new<R: Net>(rt: &R, alloc: Global) -> Result<Intake, AllocError>
         ensures unread { IfOk result (λ i. i.read ≡ false) }
         ensures unended { IfOk result (λ i. i.closed ≡ false) }
@@ -71,8 +71,8 @@ impl Intake {
         })
     }
 
-    /// Does what is to be done with what one read gave: bytes are handed in as one message, and
-    /// no byte is the end. It answers whether there may be more to read at once.
+    /// Handles the result of one read: bytes are queued as one message, and no byte is the end of
+    /// the input. Returns whether there may be more to read at once.
     fn take_read(
         &mut self,
         alloc: Global,
@@ -82,16 +82,16 @@ impl Intake {
     ) -> Result<bool, SendOutcome>
         requires { IfOk read (λ n. n ≤ length self.old.room.items) }
         ensures closed { self.new.closed ≡ self.old.closed }
-        // What came is handed in whole, and counted. Only memory refuses that.
+        // What was read is queued whole, and counted. Only lack of memory prevents that.
         ensures came { IfOk read (λ n. OnOk result (
             HandsOn endpoint.old endpoint.new id (take n self.old.room.items)
             × EntersRead self.old.acked_bytes self.new.acked_bytes (take n self.old.room.items))) }
         ensures memory { IfOk read (λ n. IfErr result (λ v. v ≡ Verdicts.OutOfMemory)) }
-        // No byte is the end, and nothing else is.
+        // No byte means the end, and nothing else does.
         ensures over { IfOk read (λ n. n ≡ 0
             → (result ≡ Ok true) × (self.new.read ≡ true)) }
         ensures more { IfOk read (λ n. n ≢ 0 → self.new.read ≡ self.old.read) }
-        // An interruption is not the end, and a read that would wait is not, either.
+        // An interruption is not the end, nor is a read that would wait.
         ensures again { IfErr read (λ e. error_kind e ≡ Interrupted
             → result ≡ Ok true) }
         ensures later { IfErr read (λ e. error_kind e ≡ WouldBlock
@@ -123,8 +123,8 @@ impl Intake {
         Ok(true)
     }
 
-    /// Reads once, and hands in what came as one message. It answers whether something came, or
-    /// the end did.
+    /// Reads once, and queues what was read as one message. Returns whether there was anything, or
+    /// the end.
     fn read_some<I: Read>(
         &mut self,
         alloc: Global,
@@ -132,7 +132,7 @@ impl Intake {
         id: u16,
         reader: &mut I,
     ) -> Result<bool, SendOutcome>
-        // What comes is handed in whole, and counted.
+        // What was read is queued whole, and counted.
         ensures reads { self.old.read ≡ false → OnOk result ((bytes : List ℕ) × ReadsOn
             (feeding_at self.old endpoint.old (I.remaining reader.old))
             (feeding_at self.new endpoint.new (I.remaining reader.new))
@@ -146,8 +146,8 @@ impl Intake {
         self.take_read(alloc, endpoint, id, read)
     }
 
-    /// Reads where there is something to read and not too much is on its way, and queues the end
-    /// behind it, for the link of an id. It answers whether anything was queued.
+    /// Reads if there is something to read and not too much is unacknowledged. After the last read
+    /// it queues the end, on the link of an id. Returns whether anything was queued.
     pub fn feed<I: Read>(
         &mut self,
         alloc: Global,
@@ -159,10 +159,10 @@ impl Intake {
             (feeding_at self.old endpoint.old (I.remaining reader.old))
             (feeding_at self.new endpoint.new (I.remaining reader.new))
             id bytes) }
-        // Where all is read, the end is queued at once.
+        // If all is read, the end is queued at once.
         ensures ends { self.old.read ≡ true → self.old.closed ≡ false
             → OnOk result (self.new.closed ≡ true) }
-        // Nothing is read where all is, or too much is on its way.
+        // Nothing is read if all is read, or if too much is unacknowledged.
         ensures idle { (self.old.read ≡ true) ⊎ (16384 ≤ self.old.acked_bytes.ahead)
             → reader.new ≡ reader.old }
         ensures fault { IfErr result IsReadFault }

@@ -1,9 +1,8 @@
-//! The hosts that one runs at a site: one that listens, `ipx listen`, and one that sends, `ipx
-//! send`.
+//! The two hosts that a site runs: one that listens, `ipx listen`, and one that sends, `ipx send`.
 //!
-//! [`do_listen`] takes connections and writes the messages that come. [`do_send`] asks for one, and
-//! sends what it reads. Each runs by the file of a host until it is over. [`check_host`] says what
-//! stands in such a file.
+//! [`do_listen`] accepts connections and writes the messages that it receives. [`do_send`] dials,
+//! and sends what it reads. Each runs by the file of a host until it is done. [`check_host`] prints
+//! what such a file says.
 #![tactic(auto)]
 
 mod access;

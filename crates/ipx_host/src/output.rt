@@ -1,4 +1,4 @@
-//! Messages on their way out.
+//! Messages that are being written.
 
 ghost use Rattle.std.specs.Prelude.{◌≡◌, ◌≤◌, ◌<◌, ◌↔◌, IfOk, IsTrue, [], length};
 
@@ -6,18 +6,18 @@ use crate::readiness_gate::Gate;
 use std::alloc::Global;
 use std::io::{ErrorKind, Write};
 
-/// The most bytes that one write takes: a pipe that is writable takes so many without waiting.
+/// The most bytes of one write: a writable pipe takes so many without waiting.
 const PIECE: usize = 4096;
 
-/// The most pieces that are written before the network is asked again.
+/// The most pieces that are written before the network gets its turn.
 const MAX_PIECES: u32 = 64;
 
-/// A writer could not write.
+/// A write failed.
 #[derive(Clone, Copy)]
 pub struct WriteFault;
 
-/// The bytes of a message, of which the first are written. A slow reader behind the writer stops
-/// no turn: what is left waits here.
+/// The bytes of a message, of which the first are written. What a slow reader does not take waits
+/// here, and holds up nothing else.
 #[derive(Drop)]
 pub struct Outlet {
     gate: Gate,
@@ -29,7 +29,7 @@ pub struct Outlet {
 impl Outlet {
     ghost use Rattle.ipx_host.specs.HostOutput.{Writes, left_of};
 
-    /// An outlet that holds nothing, for a writer behind this gate.
+    /// An empty outlet, for a writer with this gate.
     pub fn new(alloc: Global, gate: Gate) -> Outlet
         ensures { left_of result ≡ [] }
     {
@@ -40,14 +40,14 @@ impl Outlet {
         }
     }
 
-    /// Whether all that was put in is written.
+    /// Whether everything that was put in is written.
     pub fn is_empty(&self) -> bool
         ensures { IsTrue result ↔ (left_of self.now ≡ []) }
     {
         self.written == self.bytes.len()
     }
 
-    /// Puts in the bytes of a message. What was there before is written already, or lost.
+    /// Puts in the bytes of a message. What was there before must be written already, or is lost.
     pub fn put(&mut self, bytes: Vec<u8>)
         ensures { left_of self.new ≡ bytes.items }
     {
@@ -55,9 +55,9 @@ impl Outlet {
         self.bytes = bytes;
     }
 
-    /// Writes what the writer takes without waiting. It answers whether it wrote anything.
+    /// Writes what the writer takes without waiting. Returns whether it wrote anything.
     pub fn write<W: Write>(&mut self, writer: &mut W) -> Result<bool, WriteFault>
-        // So it is where the writer fails, too: the first bytes of what was left are written then.
+        // This also holds if the writer fails. Then the first bytes of what was left are written.
         ensures writes { Writes (left_of self.old) (left_of self.new)
             (W.contents writer.old) (W.contents writer.new) }
         ensures wrote { IfOk result (λ wrote. IsTrue wrote
@@ -73,7 +73,7 @@ impl Outlet {
         Ok(wrote)
     }
 
-    /// Writes one piece. It answers whether anything was written.
+    /// Writes one piece. Returns whether anything was written.
     fn write_piece<W: Write>(&mut self, writer: &mut W) -> Result<bool, WriteFault>
         ensures writes { Writes (left_of self.old) (left_of self.new)
             (W.contents writer.old) (W.contents writer.new) }

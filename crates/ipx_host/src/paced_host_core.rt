@@ -1,4 +1,4 @@
-//! The core of a host that one runs.
+//! The core of a running host.
 
 ghost use Rattle.std.specs.Prelude.{◌≡◌, ◌↔◌, ◌-◌, ℕ, IfOk, IfSome, IsNone, IsTrue, None, OnErr, OnOk, Some, min};
 ghost use Rattle.ipx_wire.specs.Ipx.{BeginsWith, PacketView};
@@ -19,37 +19,37 @@ use ipx_wire::{Address, Network, Node, OutOfMemory, decode};
 use spx_messages::{Arrived, Endpoint};
 use std::alloc::{AllocError, Global};
 
-/// A connection that was accepted: its id, and the address that asked for it.
+/// A connection that was accepted: its id, and the address that requested it.
 #[derive(Clone, Copy)]
 pub struct Accepted {
     pub id: u16,
     pub from: Address,
 }
 
-/// What came with a datagram.
+/// The result of a datagram.
 #[derive(Clone, Copy)]
 pub enum Arrival {
     /// The link of this id read it.
     Heard(u16),
     /// It made a connection.
     Accepted(Accepted),
-    /// It asked for one, and no link was free.
+    /// It requested one, and no link was free.
     NoRoom,
 }
 
-/// A host of one port, as `HostCore` of the carrier is, that says who may ask it for a connection.
-/// It keeps what came last, and the moment at which it was called last. The connection that it paces
-/// goes by hand, as its pacer plans.
+/// A host with one port, as `HostCore` of the carrier is, with a list of who may request a
+/// connection. It keeps the result of the last datagram, and the time of the last call. The
+/// connection that it paces is manual, and follows its pacer's plan.
 pub struct PacedHostCore {
     pub endpoint: Endpoint,
     /// The network that it is on.
     network: Network,
-    /// Who may ask it. None stands for everybody.
+    /// Who may request a connection. None means everybody.
     from: Option<Vec<AllowedPeer>>,
     came: Option<Arrival>,
-    /// The connection that is paced, if one is.
+    /// The paced connection, if there is one.
     paced: Option<Paced>,
-    /// The requests of those who may not ask.
+    /// The number of requests from those who may not connect.
     rejected: u64,
     moment: u64,
 }
@@ -68,7 +68,7 @@ impl Drop for PacedHostCore {
     }
 }
 
-/// How long it is till a moment, and no longer than `most`, in milliseconds.
+/// How long it is until a time, and no longer than `most`, in milliseconds.
 fn till(now: u64, due: Option<u64>, most: u64) -> u64
     ensures none { IsNone due → result ≡ most }
     ensures some { IfSome due (λ due. result ≡ min most (due - now)) }
@@ -79,7 +79,7 @@ fn till(now: u64, due: Option<u64>, most: u64) -> u64
     }
 }
 
-/// A copy of who may ask.
+/// A copy of the list of who may connect.
 pub fn copy_origins(
     alloc: Global,
     from: &Option<Vec<AllowedPeer>>,
@@ -92,7 +92,7 @@ pub fn copy_origins(
     }
 }
 
-/// The address that a packet is from.
+/// The source address of a packet.
 fn sender_of(bytes: &[u8]) -> Option<Address>
     ensures { (p : PacketView) → BeginsWith bytes.now p → result ≡ Some p.header.from }
 {
@@ -104,7 +104,7 @@ fn sender_of(bytes: &[u8]) -> Option<Address>
 
 /// The connection that a datagram made.
 fn accepted_by(id: u16, bytes: &[u8]) -> Option<Arrival>
-    // Of a datagram that an endpoint answered so.
+    // For a datagram that an endpoint answered so.
     ensures { (old new : EndpointView) (now : ℕ)
         → Arrives old bytes.now now (Arriveds.Accepted id) new
         → Notes (Arriveds.Accepted id) new.heard bytes.now result }
@@ -114,7 +114,7 @@ fn accepted_by(id: u16, bytes: &[u8]) -> Option<Arrival>
 }
 
 impl PacedHostCore {
-    /// The core of an endpoint on a network, and who may ask it.
+    /// The core of an endpoint on a network, with the list of who may connect.
     pub fn new(
         endpoint: Endpoint,
         network: Network,
@@ -137,7 +137,7 @@ impl PacedHostCore {
         }
     }
 
-    /// The connection of this id is paced from now on. It is refused only for want of memory.
+    /// Paces the connection with this id from now on. It is refused only if out of memory.
     pub fn pace(&mut self, alloc: Global, id: u16) -> Result<(), OutOfMemory>
         ensures paced { OnOk result (self.new ≡ record self.old {
           paced = Some (record { id = id; pacer = made_pacer });
@@ -148,8 +148,8 @@ impl PacedHostCore {
         Ok(())
     }
 
-    /// How long there is nothing to do by itself, and no longer than `most`, in milliseconds: no link
-    /// has anything to send, and no pacer to plan.
+    /// How long nothing is due by itself, and no longer than `most`, in milliseconds: no link has
+    /// anything to send, and no pacer to plan.
     pub fn sleep(&self, most: u64) -> u64
         ensures { IsSleep self.now most result }
     {
@@ -157,21 +157,21 @@ impl PacedHostCore {
         links.min(till(self.moment, due_of(&self.paced, self.moment), most))
     }
 
-    /// The moment of the last turn, in milliseconds.
+    /// The time of the last turn, in milliseconds.
     pub fn moment(&self) -> u64
         ensures { result ≡ self.now.moment }
     {
         self.moment
     }
 
-    /// How many requests came of those who may not ask.
+    /// How many requests were received from those who may not connect.
     pub fn rejected(&self) -> u64
         ensures { result ≡ self.now.rejected }
     {
         self.rejected
     }
 
-    /// What came with the last datagram, told once.
+    /// The result of the last datagram, returned only once.
     pub fn take_came(&mut self) -> Option<Arrival>
         ensures told { result ≡ self.old.came }
         ensures once { self.new ≡ record self.old { came = None } }
@@ -179,7 +179,7 @@ impl PacedHostCore {
         self.came.take()
     }
 
-    /// Whether an address may ask for a connection.
+    /// Whether an address may request a connection.
     fn may_ask(&self, from: &Address) -> bool
         ensures { result ≡ may_be_asked_by (named_in self.now.from) self.now.network from.now }
     {
@@ -189,7 +189,7 @@ impl PacedHostCore {
         }
     }
 
-    /// Whether bytes are a request of one who may not ask.
+    /// Whether bytes are a request from one who may not connect.
     fn bars(&self, bytes: &[u8]) -> bool
         ensures { IsTrue result ↔ IsBarred self.now bytes.now }
     {
@@ -199,7 +199,7 @@ impl PacedHostCore {
         }
     }
 
-    /// What came with a datagram that the endpoint answered so.
+    /// The result of a datagram that the endpoint answered so.
     fn came_of(&self, arrived: Arrived, bytes: &[u8]) -> Option<Arrival>
         ensures { (old : EndpointView) (now : ℕ)
             → Arrives old bytes.now now arrived self.now.endpoint

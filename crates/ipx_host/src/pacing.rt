@@ -1,4 +1,4 @@
-//! The pacer of the connection of a host that sends.
+//! The pacer of the connection of a sending host.
 
 ghost use Rattle.std.specs.Prelude.{◌≡◌, ◌≤◌, ◌+◌, IfOk, IfSome, IsNone, Some};
 ghost use Rattle.spx_congestion.specs.Pacing.{made_pacer};
@@ -13,15 +13,14 @@ use spx_link::{Numbers, Received, State};
 use spx_messages::{Arrived, Endpoint};
 use std::alloc::Global;
 
-/// A connection that is paced: its id, and its pacer.
+/// A paced connection: its id, and its pacer.
 #[derive(Drop)]
 pub struct Paced {
     id: u16,
     pacer: Pacer,
 }
 
-/// The link of an id may do at the next poll what is planned, and goes by hand. If it is given up,
-/// it is released.
+/// Applies a plan to the link of an id for the next poll. The link becomes manual.
 fn follow(endpoint: &mut Endpoint, id: u16, plan: Plan, given_up: bool)
     ensures follows { IfSome (held_at endpoint.old id)
         (λ h. FollowsPlan given_up id plan h endpoint.old endpoint.new) }
@@ -38,7 +37,7 @@ fn follow(endpoint: &mut Endpoint, id: u16, plan: Plan, given_up: bool)
     }
 }
 
-/// The datastream type of a packet of a connection.
+/// The datastream type of an SPX packet.
 fn stream_of(bytes: &[u8]) -> Option<u8> {
     let packet = decode(bytes).ok()?;
     let (header, _) = decode_spx(packet.body).ok()?;
@@ -46,7 +45,7 @@ fn stream_of(bytes: &[u8]) -> Option<u8> {
 }
 
 impl Paced {
-    /// The connection of an id, as it is asked for.
+    /// The pacer of a connection that is about to be requested.
     pub fn new(alloc: Global, id: u16) -> Result<Paced, OutOfMemory>
         ensures { IfOk result (λ p. p ≡ record { id = id; pacer = made_pacer }) }
     {
@@ -54,7 +53,7 @@ impl Paced {
         Ok(Paced { id, pacer })
     }
 
-    /// Whether the connection is given up: ten timeouts in a row came while it sends units.
+    /// Whether the connection is given up: ten timeouts in a row while it sends units.
     fn is_given_up(&self, endpoint: &Endpoint) -> bool
         ensures { IfSome (held_at endpoint.now self.now.id)
             (λ h. result ≡ is_given_up_by self.now.pacer h.link) }
@@ -65,8 +64,8 @@ impl Paced {
         }
     }
 
-    /// The link of the connection may do what its pacer plans, at the next poll. It goes by hand.
-    /// Where the connection is given up, its link is released.
+    /// Applies the plan of the pacer to the link for the next poll. The link becomes manual. If the
+    /// connection is given up, its link is released.
     fn plan(&mut self, endpoint: &mut Endpoint, now: u64)
         ensures { Plans (Some self.old) (Some self.new) endpoint.old endpoint.new }
     {
@@ -78,8 +77,8 @@ impl Paced {
         follow(endpoint, self.id, plan, given_up);
     }
 
-    /// The endpoint was polled, and has written a packet at the front of these bytes, if it gave
-    /// one.
+    /// Tells the pacer that the endpoint was polled. If it gave a packet, it wrote it to the start
+    /// of these bytes.
     fn gave(&mut self, endpoint: &Endpoint, bytes: &[u8], now: u64)
         ensures { NotesPoll (Some self.old) endpoint.now (Some self.new) }
     {
@@ -95,7 +94,8 @@ impl Paced {
         }
     }
 
-    /// The endpoint answered a datagram so. The link of the connection had these numbers before.
+    /// Tells the pacer how the endpoint answered a datagram. `before` are the numbers of the link
+    /// before.
     fn heard(&mut self, endpoint: &Endpoint, arrived: Arrived, before: Option<Numbers>, now: u64)
         ensures { NotesDatagram (Some self.old) arrived endpoint.now (Some self.new) }
     {
@@ -117,8 +117,7 @@ impl Paced {
     }
 }
 
-/// The moment at which a plan of the connection that is paced, if one is, may differ from the last
-/// one.
+/// The time at which the plan of the paced connection, if there is one, may change.
 pub fn due_of(paced: &Option<Paced>, now: u64) -> Option<u64>
     ensures value { result ≡ paced_due paced.now now }
     ensures soon { HoldsBack paced.now → IfSome result (λ at. at ≤ now + 1) }
@@ -131,7 +130,7 @@ pub fn due_of(paced: &Option<Paced>, now: u64) -> Option<u64>
     paced.pacer.next_due(now)
 }
 
-/// Before a poll: the link of the connection that is paced, if one is, may do what its pacer plans.
+/// Before a poll: applies the plan of the pacer to the paced connection, if there is one.
 pub fn plan(paced: &mut Option<Paced>, endpoint: &mut Endpoint, now: u64)
     ensures { Plans paced.old paced.new endpoint.old endpoint.new }
 {
@@ -140,7 +139,7 @@ pub fn plan(paced: &mut Option<Paced>, endpoint: &mut Endpoint, now: u64)
     }
 }
 
-/// Behind a poll, which wrote these bytes: the pacer is told of them.
+/// After a poll, which wrote these bytes: tells the pacer.
 pub fn note_poll(paced: &mut Option<Paced>, endpoint: &Endpoint, bytes: &[u8], now: u64)
     ensures { NotesPoll paced.old endpoint.now paced.new }
 {
@@ -149,7 +148,7 @@ pub fn note_poll(paced: &mut Option<Paced>, endpoint: &Endpoint, bytes: &[u8], n
     }
 }
 
-/// The numbers of the link of the connection that is paced, if one is.
+/// The numbers of the link of the paced connection, if there is one.
 pub fn numbers_of(paced: &Option<Paced>, endpoint: &Endpoint) -> Option<Numbers>
     ensures { result ≡ paced_numbers paced.now endpoint.now }
 {
@@ -157,8 +156,8 @@ pub fn numbers_of(paced: &Option<Paced>, endpoint: &Endpoint) -> Option<Numbers>
     endpoint.numbers(paced.id).ok()
 }
 
-/// Behind a datagram, which the endpoint answered so: the pacer is told of it. The link of the
-/// connection that is paced had these numbers before, where it was there.
+/// After a datagram, which the endpoint answered so: tells the pacer. `before` are the numbers of
+/// the paced link before, if it was there.
 pub fn note_datagram(
     paced: &mut Option<Paced>,
     endpoint: &Endpoint,

@@ -1,4 +1,4 @@
-//! Whether a read or a write would wait.
+//! Whether a read or a write would block.
 
 use mio::unix::SourceFd;
 use mio::{Events, Interest, Poll, Token};
@@ -7,17 +7,17 @@ use std::net::Net;
 use std::os::fd::{AsRawFd, RawFd};
 use std::time::Duration;
 
-/// What the system is asked with.
+/// The system's poll of a descriptor, and its events.
 #[derive(Drop)]
 struct Watch {
     poll: Poll,
     events: Events,
 }
 
-/// A descriptor, as that of standard input, which is asked before each read or write whether it
-/// would wait.
+/// A descriptor, such as standard input, that is checked before each read or write: would it block?
 ///
-/// What the system can't watch, as a file of a disk, is always open, and so is a descriptor where
+/// A descriptor that the system can't poll, such as a file on a disk, is always open. So is one for
+/// which the system or memory refuses the poll. Then a read or a write may block.
 /// the system or memory refuses the watch: then a read or a write may wait.
 #[derive(Drop)]
 pub struct Gate {
@@ -27,7 +27,7 @@ pub struct Gate {
     open: bool,
 }
 
-/// A watch of a descriptor.
+/// A poll of a descriptor.
 fn watch_of<R: Net>(rt: &R, alloc: Global, fd: RawFd, interest: Interest) -> Option<Watch> {
     let poll = Poll::new(rt).ok()?;
     let events = Events::with_capacity(alloc, 1).ok()?;
@@ -38,7 +38,7 @@ fn watch_of<R: Net>(rt: &R, alloc: Global, fd: RawFd, interest: Interest) -> Opt
 }
 
 impl Gate {
-    /// A gate of a descriptor, for reads or for writes.
+    /// A gate for reads or for writes of a descriptor.
     pub fn new<R: Net>(rt: &R, alloc: Global, fd: RawFd, interest: Interest) -> Gate {
         Gate {
             fd,
@@ -48,7 +48,7 @@ impl Gate {
         }
     }
 
-    /// Whether a read, or a write of at most 4,096 bytes, goes through without waiting.
+    /// Whether a read, or a write of at most 4,096 bytes, would not block.
     pub fn is_open(&mut self) -> bool {
         let Some(watch) = &mut self.watch else {
             return true;
@@ -62,7 +62,7 @@ impl Gate {
         self.open
     }
 
-    /// Is to be called behind each read or write: the system is asked anew.
+    /// Must be called after each read or write, so that the system is asked again.
     pub fn pass(&mut self) {
         self.open = false;
         if let Some(watch) = &self.watch {
@@ -72,7 +72,7 @@ impl Gate {
         }
     }
 
-    /// A descriptor that is readable once the gate opens. None where it is always open.
+    /// A descriptor that becomes readable when the gate opens. None if it is always open.
     pub fn fd(&self) -> Option<RawFd> {
         let watch = self.watch.as_ref()?;
         Some(watch.poll.as_raw_fd())

@@ -1,22 +1,22 @@
-//! Whether the socket of a host holds what may come at once.
+//! Whether the receive buffer of a host's socket is large enough for a burst.
 
 ghost use Rattle.std.specs.Prelude.{◌<◌, ◌*◌, ◌↔◌, IsTrue};
 
 use ipx_site::{RCVBUF_SIZE, UdpSockets};
 use log::{Log, warn};
 
-/// How many bytes of the room of a socket a unit takes.
+/// How many bytes of a socket's receive buffer a unit takes.
 const UNIT_BUFFER: u64 = 1280;
 
-/// Whether a socket with this room gets less than it asks for, and holds less than half of what so
-/// many buffers let a peer send.
+/// Whether a socket got less receive buffer than it asks for, and this is less than half of what a
+/// peer may send to so many buffers.
 fn is_short(buffers: u16, room: u32) -> bool
     ensures { IsTrue result ↔ ((room < 4194304) × (2 * room < buffers * 1280)) }
 {
     room < RCVBUF_SIZE && 2 * u64::from(room) < u64::from(buffers) * UNIT_BUFFER
 }
 
-/// Tells that the socket of a host holds less than its buffers want.
+/// Warns that the receive buffer of a host's socket is too small for its buffers.
 pub fn warn_small_rcvbuf<R: Log>(rt: &R, sockets: &UdpSockets, buffers: u16) {
     let room = sockets.room(0).unwrap_or(0);
     if is_short(buffers, room) {

@@ -1,4 +1,4 @@
-//! A host by its file: its endpoint, its socket and its clock.
+//! A running host: its endpoint, its socket and its clock.
 
 ghost use Rattle.std.specs.Prelude.{◌≡◌, ◌<◌, ◌↔◌, ◌∷◌, [], ℕ, false, true, IfOk, IsTrue, None, OnErr, Some, length, map, replicate};
 ghost use Rattle.ipx_carrier.specs.Mapping.{node_at};
@@ -35,17 +35,17 @@ use std::rt::Clock;
 /// What a turn did.
 #[derive(Clone, Copy)]
 pub struct Activity {
-    /// A datagram was heard.
+    /// A datagram was received and read.
     pub heard: bool,
-    /// One was kept back.
+    /// A datagram was filtered.
     pub kept: bool,
-    /// A datagram was heard, kept back or sent, a packet had no IP address to go to, or memory was
-    /// refused: the next turn may have something to do as well.
+    /// A datagram was read, filtered or sent, a packet had no IP address to go to, or out of
+    /// memory. The next turn may then have something to do as well.
     pub active: bool,
 }
 
-/// The socket of a host with its guard, and the peers that a broadcast goes to: there is one port,
-/// so a turn can always be begun.
+/// The socket of a host with its access list, and the peers that get a broadcast. There is one
+/// port, so a turn can always begin.
 #[derive(Drop)]
 struct HostSocket {
     device: SourceFilter<UdpSockets>,
@@ -55,7 +55,7 @@ struct HostSocket {
 }
 
 impl HostSocket {
-    /// Something may have come to its port, whether a wait said so or not.
+    /// Marks that a datagram may be waiting at its port, whether or not a wait said so.
     fn mark_all(&mut self)
         ensures { self.new ≡ record self.old {
           device = record self.old.device {
@@ -69,13 +69,13 @@ impl HostSocket {
     }
 }
 
-/// A host that runs.
+/// A running host.
 pub struct RunningHost<'a, R: Clock> {
     pub core: PacedHostCore,
     host_socket: HostSocket,
     clock: SteadyClock<'a, R>,
     poller: Poller,
-    /// How often memory was refused.
+    /// How often it was out of memory.
     refused: u64,
     telling: Telling,
 }
@@ -94,7 +94,7 @@ impl<'a, R: Clock> Drop for RunningHost<'a, R> {
 }
 
 impl HostSocket {
-    /// One socket with its guard, and one list of peers.
+    /// One socket with its access list, and one list of peers.
     fn new(
         sockets: UdpSockets,
         access_lists: Vec<AccessList>,
@@ -112,7 +112,7 @@ impl HostSocket {
         }
     }
 
-    /// The socket of a host by its file, bound, with what waits for it.
+    /// The bound socket of a host by its file, and what waits for it.
     fn open<R: Net + Log>(
         rt: &R,
         alloc: Global,
@@ -156,7 +156,7 @@ fn core_of(alloc: Global, file: &HostConfig) -> Result<PacedHostCore, StartFault
     Ok(PacedHostCore::new(endpoint, file.network, origins))
 }
 
-/// What a turn did that answered this, and whether a datagram was kept back in it.
+/// What a turn with this result did, and whether it filtered a datagram.
 fn activity_of(ran: Result<Report, RunFault>, kept: bool) -> Activity
     ensures whole { IfOk ran (λ report. TellsOf report result) }
     ensures ended { OnErr ran ((result.heard ≡ false) × (result.active ≡ true)) }
@@ -177,8 +177,8 @@ fn activity_of(ran: Result<Report, RunFault>, kept: bool) -> Activity
 }
 
 impl<'a, R: Net + Log + Clock> RunningHost<'a, R> {
-    /// A host that is bound as its file says. It hears whom its file names, and the node at the IP
-    /// address that it dials, or everybody.
+    /// A host that is bound as its file says. It accepts datagrams from those that its file names
+    /// and from the node at the IP address that it dials, or from everybody.
     pub fn open(
         rt: &'a R,
         alloc: Global,
@@ -188,7 +188,7 @@ impl<'a, R: Net + Log + Clock> RunningHost<'a, R> {
         ensures network { IfOk result (λ s. s.core.endpoint.network ≡ file.now.network) }
         ensures node { IfOk result (λ s. s.core.endpoint.node ≡ node_at file.now.address) }
         ensures router { IfOk result (λ s. s.core.endpoint.router ≡ node_at file.now.router) }
-        // No link is there yet, and no id was given; and no socket listens.
+        // It has no link yet, no id was assigned, and no socket listens.
         ensures links { IfOk result (λ s. (id : ℕ) → held_at s.core.endpoint id ≡ None) }
         ensures last { IfOk result (λ s. s.core.endpoint.links.last ≡ 0) }
         ensures count { IfOk result (λ s. count_of s.core.endpoint.links ≡ 0) }
@@ -199,13 +199,13 @@ impl<'a, R: Net + Log + Clock> RunningHost<'a, R> {
         ensures unpaced { IfOk result (λ s. s.core.paced ≡ None) }
         ensures from { IfOk result (λ s. named_in s.core.from ≡ named_in file.now.from) }
         ensures own { IfOk result (λ s. s.core.network ≡ file.now.network) }
-        // A broadcast goes to its router alone.
+        // A broadcast goes only to its router.
         ensures peers { IfOk result (λ s.
             peers_of s.host_socket.peers.items ≡ (file.now.router ∷ []) ∷ []) }
         // Its one socket has the UDP port of the file.
         ensures udp_port { IfOk result (λ s.
             map (λ s. s.udp_port) s.host_socket.device.device.sockets.items ≡ file.now.udp_port ∷ []) }
-        // Whom it hears and sends to.
+        // Its access list is that of the file and the dialed node.
         ensures access_list { IfOk result (λ s.
             map access_by s.host_socket.device.access_lists.items ≡ guarded_host file.now dials ∷ []) }
     {
@@ -223,7 +223,7 @@ impl<'a, R: Net + Log + Clock> RunningHost<'a, R> {
         })
     }
 
-    /// Ends a wait when this descriptor is readable, too.
+    /// Also ends a wait when this descriptor becomes readable.
     pub fn watch(&mut self, fd: Option<RawFd>)
         ensures core { self.new.core ≡ self.old.core }
         ensures clock { self.new.clock ≡ self.old.clock }
@@ -234,7 +234,7 @@ impl<'a, R: Net + Log + Clock> RunningHost<'a, R> {
         }
     }
 
-    /// Counts that memory was refused, where it was.
+    /// Counts one out-of-memory refusal, if it happened.
     pub fn count_refusal(&mut self, is_refused: bool)
         ensures { self.new ≡ record self.old {
           refused = raised_if is_refused self.old.refused;
@@ -243,32 +243,32 @@ impl<'a, R: Net + Log + Clock> RunningHost<'a, R> {
         self.refused = count_if(is_refused, self.refused);
     }
 
-    /// The moment of the last turn, in milliseconds from the start.
+    /// The time of the last turn, in milliseconds from the start.
     pub fn moment(&self) -> u64
         ensures { result ≡ self.now.core.moment }
     {
         self.core.moment()
     }
 
-    /// Takes one turn. What the system or memory refuses is counted and told, and goes on; the
-    /// datagram of a turn that memory ends is lost.
+    /// Takes one turn. What the system or memory refuses is counted and reported, and the host goes
+    /// on. If a turn runs out of memory, its datagram is lost.
     pub fn turn(&mut self, rt: &R, alloc: Global) -> Activity
         ensures core { TakesHostTurn self.old.clock self.new.clock
             NeverGoesBack (peers_of self.old.host_socket.peers.items) self.old.core self.new.core result }
-        // What was kept back is something that happened: behind it more may lie.
+        // A filtered datagram counts as activity, since more may be waiting after it.
         ensures kept { IsTrue result.kept
             ↔ drops_in self.old.host_socket.device.kept < drops_in self.new.host_socket.device.kept }
         ensures peers { self.new.host_socket.peers ≡ self.old.host_socket.peers }
-        // Who may speak is as before.
+        // The access list is unchanged.
         ensures access { map access_by self.new.host_socket.device.access_lists.items
             ≡ map access_by self.old.host_socket.device.access_lists.items }
         ensures poller { self.new.poller ≡ self.old.poller }
-        // Each trouble that is due behind the turn is told, and no other.
+        // Exactly the warnings that are due after the turn are printed.
         ensures told { AreLoggedIfDue (counts_of_host (host_counts self.new.host_socket.device.kept
             self.new.core.rejected self.new.host_socket.device.device.faults self.new.refused))
             self.new.core.moment self.old.telling.causes self.new.telling.causes }
     {
-        // (a host has one port: it asks there in each turn, whether the wait said so or not)
+        // (a host has one port: each turn checks it, whether or not the wait said so)
         self.host_socket.mark_all();
         let before = self.host_socket.device.filtered();
         let ran = turn(
@@ -285,7 +285,7 @@ impl<'a, R: Net + Log + Clock> RunningHost<'a, R> {
         activity_of(ran, kept)
     }
 
-    /// How often something went wrong.
+    /// How often each problem happened.
     fn counts(&self) -> Counts
         ensures { result ≡ host_counts self.now.host_socket.device.kept self.now.core.rejected
             self.now.host_socket.device.device.faults self.now.refused }
@@ -298,13 +298,13 @@ impl<'a, R: Net + Log + Clock> RunningHost<'a, R> {
         }
     }
 
-    /// Waits until something may be done: a datagram came, a descriptor that is watched is
-    /// readable, the endpoint has something to send, or so many milliseconds are over.
+    /// Waits until something may be done: a datagram was received, a watched descriptor is
+    /// readable, the endpoint has something to send, or so many milliseconds have passed.
     pub fn wait(&mut self, most: u64) -> Result<(), WaitFault>
         ensures core { self.new.core ≡ self.old.core }
         ensures clock { self.new.clock ≡ self.old.clock }
         ensures host_socket { self.new.host_socket ≡ self.old.host_socket }
-        // So long the system is asked to wait, and till then no link has anything to do.
+        // The system is asked to wait so long, and until then no link has anything to do.
         ensures sleeps { (time : ℕ) × IsSleep self.old.core most time
             × (self.new.poller.asked ≡ Some time) }
     {

@@ -1,4 +1,4 @@
-//! The command `send`: a host that asks for a connection, and sends what it reads.
+//! The command `send`: a host that requests a connection, and sends what it reads.
 
 ghost use Rattle.std.specs.Prelude.{◌≡◌, ◌<◌, ◌≤◌, ◌+◌, ℕ, List, false, true, IfErr, IfOk, OnErr, Err, Ok};
 ghost use Rattle.std.specs.Io.KnownBytes.{IsAtEnd};
@@ -26,7 +26,7 @@ use std::io::Read;
 use std::net::Net;
 use std::rt::{Clock, Files};
 
-/// Runs what was opened. Where nothing was, why not is told.
+/// Runs the opened host. If it could not be opened, prints why.
 fn send_opened<R: Net + Log + Clock + Eprint, I: Read>(
     rt: &R,
     alloc: Global,
@@ -37,13 +37,13 @@ fn send_opened<R: Net + Log + Clock + Eprint, I: Read>(
 ) -> u8
     ensures status { result < 2 }
     ensures unopened { OnErr opened.entry ((result ≡ 1) × (reader.new ≡ reader.old)) }
-    // Where it ends well, it was a transfer from what was opened.
+    // If it ends well, it was a transfer that began with the opened host.
     ensures sent { IfOk opened.entry (λ s. result ≡ 0 → (last : SendState (SteadyClock R))
         × Transfers (sending_at s (I.remaining reader.old))
         last NeverGoesBack
         (peers_of s.station.host_socket.peers.items) s.id
         × (last.known ≡ I.remaining reader.new)) }
-    // Where what was opened has read nothing, all is read.
+    // If the opened host had read nothing, all is read.
     ensures all { IfOk opened.entry (λ s. (s.input.read ≡ false) × (s.input.closed ≡ false)) → result ≡ 0
         → IsAtEnd (I.remaining reader.new) }
 {
@@ -53,8 +53,8 @@ fn send_opened<R: Net + Log + Clock + Eprint, I: Read>(
     }
 }
 
-/// Runs the host of a file that was loaded. Where none was, the status is that of the fault, which
-/// is told already.
+/// Runs the host of a file that was loaded. If none was, the status is that of the fault, which is
+/// already printed.
 fn send_loaded<R: Net + Log + Clock + Eprint, I: Read>(
     rt: &R,
     alloc: Global,
@@ -64,12 +64,12 @@ fn send_loaded<R: Net + Log + Clock + Eprint, I: Read>(
     reader: &mut I,
     shows: bool,
 ) -> u8
-    // Where nothing goes to the address from its host, that is told, and nothing is read.
+    // If the address can't be reached from its host, that is printed, and nothing is read.
     ensures nowhere { IfOk loaded (λ file. is_nowhere file (peer_address_of file to) ≡ true
         → (result ≡ 2) × (reader.new ≡ reader.old)) }
     ensures status { IfOk loaded (λ file. is_nowhere file (peer_address_of file to) ≡ false
         → result < 2) }
-    // Where it ends well, the host of the file sent to the address all that the reader had.
+    // If it ends well, the host of the file sent to the address all that the reader had.
     ensures sent { IfOk loaded (λ file. result ≡ 0
         → SendsInput {K = SteadyClock R} file (peer_address_of file to)
         (I.remaining reader.old) (I.remaining reader.new) NeverGoesBack) }
@@ -87,15 +87,15 @@ fn send_loaded<R: Net + Log + Clock + Eprint, I: Read>(
     send_opened(rt, alloc, path, opened, to, reader)
 }
 
-/// The command `send`: runs the host of a file, asks for a connection to an address, sends what it
-/// reads, and ends the connection behind it. What one read gives, at most 65,535 bytes, is one
-/// message. Where the input pauses, the connection stays. Network 0 is the host's own.
+/// The command `send`: runs the host of a file, requests a connection to an address, sends what it
+/// reads, and then ends the connection. What one read gives, at most 65,535 bytes, is one message.
+/// While the input pauses, the connection stays. Network 0 is the host's own.
 ///
-/// The answer is the status: 0 where the other end has acknowledged all, the end too, which stands
-/// behind all that was read; 1 where nobody answers, the connection is lost or ended by the other
-/// end, the input fails, the socket can't be had or memory is refused; 2 for a fault of the words or
-/// the file, or where nothing goes to the address. What is wrong is a line on standard error. With
-/// `shows` a line there tells how far it is.
+/// It returns the status. It is 0 if the peer has acknowledged everything that was read, and the
+/// end after it. It is 1 if nobody answers, the connection is lost or ended by the peer, the input
+/// fails, the socket can't be opened, or out of memory. It is 2 for a fault of the arguments or the
+/// file, or if the address can't be reached. Faults are printed as a line on standard error. With
+/// `shows` it also prints the progress there.
 pub fn do_send<R: Net + Log + Files + Clock + Eprint, I: Read>(
     rt: &R,
     alloc: Global,
@@ -104,16 +104,18 @@ pub fn do_send<R: Net + Log + Files + Clock + Eprint, I: Read>(
     reader: &mut I,
     shows: bool,
 ) -> u8
-    // Words that name no address are told, and nothing is read or bound.
+    // Arguments that name no address are reported, and nothing is read or bound.
     ensures words { ((a : Address) → NamesAddress target.entry a → ⊥)
         → (result ≡ 2) × (reader.new ≡ reader.old) }
     ensures few { result ≤ 2 }
-    // For a fault of the words or of the file, or where nothing goes to the address, nothing is read.
+    // For a fault of the arguments or the file, or if the address can't be reached, nothing is
+    // read.
     ensures untouched { result ≡ 2 → reader.new ≡ reader.old }
-    // Where it ends well, the reader has nothing left.
+    // If it ends well, the reader has nothing left.
     ensures all { result ≡ 0 → IsAtEnd (I.remaining reader.new) }
-    // And a host as some text of a file says it has sent to the address that the words name all
-    // that the reader had, by rounds of which the last one saw all of it acknowledged, the end too.
+    // Some text of a file describes a host that has sent all that the reader had to the address of
+    // the arguments. It did so in rounds, and the last one saw all of it acknowledged, and the end
+    // too.
     ensures sent { result ≡ 0 → (text : List ℕ) × (file : HostConfig) × (to : Address)
         × IsFileText text × IsHostText text file × NamesAddress target.entry to
         × SendsWholeInput {K = SteadyClock R} file (peer_address_of file to)

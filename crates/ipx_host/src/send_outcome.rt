@@ -9,15 +9,15 @@ use spx_link::State;
 /// How a transfer ends.
 #[derive(Clone, Copy)]
 pub enum SendOutcome {
-    /// The peer has acknowledged all that was sent, and the end behind it.
+    /// The peer has acknowledged everything that was sent, and the end after it.
     Done,
-    /// Nobody answered the call.
+    /// Nobody answered the request.
     Unanswered,
     /// The connection was given up.
     GivenUp,
     /// The peer ended the connection first.
     PeerLeft,
-    /// Standard input could not be read.
+    /// Reading standard input failed.
     Unread,
     OutOfMemory,
     /// The system can't wait for the socket.
@@ -25,7 +25,7 @@ pub enum SendOutcome {
 }
 
 impl SendOutcome {
-    /// The status that goes with it.
+    /// The exit status.
     pub fn status(&self) -> u8
         ensures done { (result ≡ 0) ↔ (self.now ≡ Verdicts.Done) }
         ensures other { self.now ≢ Verdicts.Done → result ≡ 1 }
@@ -37,16 +37,16 @@ impl SendOutcome {
     }
 }
 
-/// What the state of a link tells of a transfer, if it is over. `whole` says whether the peer has
-/// acknowledged all, the end too; `joined` whether the connection was open at any time; and `waits`
-/// whether the rest may still be acknowledged.
+/// What the state of a link says about a transfer, if it is over. `whole` says whether the peer has
+/// acknowledged everything, and the end too. `joined` says whether the connection was ever open,
+/// and `waits` whether the rest may still be acknowledged.
 pub fn verdict_of(
     state: Option<State>,
     whole: bool,
     joined: bool,
     waits: bool,
 ) -> Option<SendOutcome>
-    // Done just where the link is whole, and Ending, PeerEnded or Confirmed.
+    // Done exactly if the link is whole, and Ending, PeerEnded or Confirmed.
     ensures done { (result ≡ Some Verdicts.Done) ↔ (IsTrue whole × IsClosing state) }
     ensures verdict { result ≡ verdict_at whole joined waits state }
 {
@@ -63,9 +63,9 @@ pub fn verdict_of(
     }
 }
 
-/// How a transfer ends whose end is queued, or is not. A link is whole only where its end was
-/// queued, so there is nothing to give up here: but it is seen from this alone that a transfer is
-/// done only where all of the input is read.
+/// The outcome, with regard to whether the end is queued. A link is whole only if its end was
+/// queued, so this never changes an outcome. But it alone shows that a transfer is done only if all
+/// of the input is read.
 pub fn ended_by(verdict: SendOutcome, closed: bool) -> SendOutcome
     ensures { result ≡ ended_at closed verdict }
 {

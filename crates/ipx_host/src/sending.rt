@@ -1,4 +1,4 @@
-//! A host that sends: what it sees of its link after each turn, and how its transfer ends.
+//! A sending host: what it sees of its link after each turn, and how its transfer ends.
 
 ghost use Rattle.std.specs.Prelude.{◌≡◌, ◌<◌, ◌+◌, ◌↔◌, ◌⊎◌, ◌∷◌, [], ℕ, List, false, true, length, map, IfOk, IsTrue, Err, Ok, None, Option, Some};
 ghost use Rattle.std.specs.Io.KnownBytes.{IsAtEnd};
@@ -33,11 +33,11 @@ use std::io::Read;
 use std::net::Net;
 use std::rt::Clock;
 
-/// How long the rest of the acknowledgements is waited for once the peer ended the connection too,
+/// How long to wait for the remaining acknowledgements after the peer has ended the connection too,
 /// in milliseconds.
 const CLOSE_TIMEOUT: u64 = 6000;
 
-/// The time between two lines of progress, and the longest wait, in milliseconds.
+/// The time between two lines of progress, and the longest wait meanwhile, in milliseconds.
 const SECOND: u64 = 1000;
 
 const LONG: u64 = 3_600_000;
@@ -47,9 +47,9 @@ pub struct SendingHost<'a, R: Clock> {
     pub station: RunningHost<'a, R>,
     pub id: u16,
     pub input: Intake,
-    /// Whether the connection was open.
+    /// Whether the connection was ever open.
     pub joined: bool,
-    /// When the end of the peer was seen.
+    /// When the peer's end was seen.
     pub left: Option<u64>,
     pub shows: bool,
     pub next_shown: u64,
@@ -72,7 +72,7 @@ impl<'a, R: Clock> Drop for SendingHost<'a, R> {
 impl<'a, R: Net + Log + Clock + Eprint> SendingHost<'a, R> {
     ghost use Rattle.ipx_host.specs.Midway.{sending_at};
 
-    /// A host that asks for a connection. Nothing was read, and nothing seen.
+    /// A host that requests a connection. Nothing was read yet, and nothing seen.
     pub fn open(
         rt: &'a R,
         alloc: Global,
@@ -82,7 +82,7 @@ impl<'a, R: Net + Log + Clock + Eprint> SendingHost<'a, R> {
     ) -> Result<SendingHost<'a, R>, StartFault>
         ensures dialing { IfOk result (λ s. (known : Option (List ℕ)) → IsDialing file.now to
             (sending_at s known) (peers_of s.station.host_socket.peers.items) s.id) }
-        // It hears and sends to whom its file says, and the node that it dials.
+        // Its access list is that of its file and the node that it dials.
         ensures access_list { IfOk result (λ s. map access_by s.station.host_socket.device.access_lists.items
             ≡ guarded_host file.now (ip_dialed file.now to) ∷ []) }
     {
@@ -105,7 +105,7 @@ impl<'a, R: Net + Log + Clock + Eprint> SendingHost<'a, R> {
         })
     }
 
-    /// Notes how the connection stands, and answers its state.
+    /// Notes the state of the connection, and returns it.
     fn look(&mut self) -> Option<State>
         ensures state { result ≡ state_at self.old.station.core.endpoint self.old.id }
         ensures station { self.new.station ≡ self.old.station }
@@ -134,7 +134,7 @@ impl<'a, R: Net + Log + Clock + Eprint> SendingHost<'a, R> {
         state
     }
 
-    /// Whether the peer has acknowledged all, the end too.
+    /// Whether the peer has acknowledged everything, and the end too.
     fn is_all_acked(&self) -> bool
         ensures { IsTrue result ↔ IsWholeAt self.now.station.core.endpoint self.now.id }
     {
@@ -142,7 +142,7 @@ impl<'a, R: Net + Log + Clock + Eprint> SendingHost<'a, R> {
         endpoint.is_all_acked(self.id).unwrap_or(false)
     }
 
-    /// Whether the rest may still be acknowledged, where the peer ended the connection.
+    /// Whether the rest may still be acknowledged after the peer ended the connection.
     fn waits(&self) -> bool
         ensures { IsTrue result
             ↔ IsWaiting self.now.input.closed self.now.left self.now.station.core.moment }
@@ -155,7 +155,7 @@ impl<'a, R: Net + Log + Clock + Eprint> SendingHost<'a, R> {
         }
     }
 
-    /// Shows how far it is, once a second.
+    /// Prints the progress, once a second.
     fn show(&mut self, rt: &R)
         ensures station { self.new.station ≡ self.old.station }
         ensures id { self.new.id ≡ self.old.id }
@@ -173,13 +173,13 @@ impl<'a, R: Net + Log + Clock + Eprint> SendingHost<'a, R> {
         let _ = eprint!(rt; "\r{acknowledged} of {given} bytes acknowledged");
     }
 
-    /// Takes a turn, and reads. It answers whether there may be more to do at once.
+    /// Takes a turn, and reads. Returns whether there may be more to do at once.
     fn step<I: Read>(&mut self, rt: &R, alloc: Global, reader: &mut I) -> Result<bool, SendOutcome>
-        // Behind what was kept back more may lie.
+        // After a filtered datagram more may be waiting.
         ensures kept { drops_in self.old.station.host_socket.device.kept
             < drops_in self.new.station.host_socket.device.kept → IfOk result IsTrue }
         ensures id { self.new.id ≡ self.old.id }
-        // It notes, tells and feeds by what the turn left.
+        // It notes, judges and feeds by the state that the turn left.
         ensures steps { IsSendStep IsFeedFault (sending_at self.old (I.remaining reader.old))
             (sending_at self.new (I.remaining reader.new))
             result NeverGoesBack (peers_of self.old.station.host_socket.peers.items) self.old.id }
@@ -207,7 +207,7 @@ impl<'a, R: Net + Log + Clock + Eprint> SendingHost<'a, R> {
         Ok(turn.active | fed)
     }
 
-    /// How long it waits at most, in milliseconds.
+    /// The longest wait, in milliseconds.
     fn longest(&self) -> u64
         ensures { result ≡ longest_wait self.now.shows self.now.left }
     {
@@ -218,27 +218,27 @@ impl<'a, R: Net + Log + Clock + Eprint> SendingHost<'a, R> {
         }
     }
 
-    /// Takes a turn, and waits where there is nothing to do.
+    /// Takes a turn, and waits if there is nothing to do.
     fn step_or_wait<I: Read>(
         &mut self,
         rt: &R,
         alloc: Global,
         reader: &mut I,
     ) -> Result<(), SendOutcome>
-        // Behind what was kept back more may lie: it does not wait.
+        // After a filtered datagram more may be waiting, so it does not wait.
         ensures kept { drops_in self.old.station.host_socket.device.kept
             < drops_in self.new.station.host_socket.device.kept →
             self.new.station.poller.asked ≡ self.old.station.poller.asked }
         ensures id { self.new.id ≡ self.old.id }
-        // It notes, tells and feeds by what the turn left.
+        // It notes, judges and feeds by the state that the turn left.
         ensures steps { IsSendStep IsStepFault (sending_at self.old (I.remaining reader.old))
             (sending_at self.new (I.remaining reader.new))
             result NeverGoesBack (peers_of self.old.station.host_socket.peers.items) self.old.id }
         ensures peers { self.new.station.host_socket.peers ≡ self.old.station.host_socket.peers }
         ensures access { map access_by self.new.station.host_socket.device.access_lists.items
             ≡ map access_by self.old.station.host_socket.device.access_lists.items }
-        // It waits only as long as no link has anything to do; and a second at most where it shows
-        // how far it is, or the end of the peer was seen.
+        // It waits only as long as no link has anything to do. It waits at most a second if it
+        // prints the progress, or if the peer's end was seen.
         ensures waits { MayWait self.new.shows self.new.left self.new.station.core
             self.old.station.poller.asked self.new.station.poller.asked }
         ensures done { result ≡ Err Verdicts.Done
@@ -261,8 +261,7 @@ impl<'a, R: Net + Log + Clock + Eprint> SendingHost<'a, R> {
     /// Runs until the transfer is over.
     fn serve<I: Read>(&mut self, rt: &R, alloc: Global, reader: &mut I) -> SendOutcome
         ensures id { self.new.id ≡ self.old.id }
-        // Round by round: all that left the reader was handed in, in its order, one body behind the
-        // other.
+        // In each round, what left the reader was queued, in order, one body after another.
         ensures fed { result ≡ Verdicts.Done → Transfers
             (sending_at self.old (I.remaining reader.old))
             (sending_at self.new (I.remaining reader.new))
@@ -273,7 +272,7 @@ impl<'a, R: Net + Log + Clock + Eprint> SendingHost<'a, R> {
         ensures done { result ≡ Verdicts.Done
             → IsWholeAt self.new.station.core.endpoint self.new.id }
         ensures unanswered { result ≡ Verdicts.Unanswered → self.new.joined ≡ false }
-        // Any verdict is that of a step, behind some rounds; or they never end.
+        // Any outcome is that of a step after some rounds, or the rounds never end.
         ensures ends { EndsWith (sending_at self.old (I.remaining reader.old))
             (sending_at self.new (I.remaining reader.new))
             result NeverGoesBack (peers_of self.old.station.host_socket.peers.items) self.old.id
@@ -289,7 +288,7 @@ impl<'a, R: Net + Log + Clock + Eprint> SendingHost<'a, R> {
         SendOutcome::GivenUp
     }
 
-    /// Prints how a transfer ended. Where all went well that is a line on a terminal alone.
+    /// Prints how a transfer ended. If all went well, it prints only with `shows`.
     fn tell(&self, rt: &R, to: Address, verdict: SendOutcome) {
         let given = self.input.acked_bytes.given();
         let acknowledged = self.input.acked_bytes.acknowledged();
@@ -308,14 +307,13 @@ impl<'a, R: Net + Log + Clock + Eprint> SendingHost<'a, R> {
         let _ = eprintln!(rt; "{what}: {acknowledged} of {given} bytes acknowledged");
     }
 
-    /// Runs until the transfer is over, prints how it ended, and answers the status: 0 only where
-    /// the peer has acknowledged all, the end too.
+    /// Runs until the transfer is over, prints how it ended, and returns the status: 0 only if the
+    /// peer has acknowledged everything, and the end too.
     pub fn finish<I: Read>(&mut self, rt: &R, alloc: Global, to: Address, reader: &mut I) -> u8
         ensures id { self.new.id ≡ self.old.id }
         ensures status { result < 2 }
         ensures done { result ≡ 0 → IsWholeAt self.new.station.core.endpoint self.new.id }
-        // Then, round by round, all that left the reader was handed in, in its order, one body
-        // behind the other.
+        // Then, in each round, what left the reader was queued, in order, one body after another.
         ensures fed { result ≡ 0 → Transfers (sending_at self.old (I.remaining reader.old))
             (sending_at self.new (I.remaining reader.new))
             NeverGoesBack (peers_of self.old.station.host_socket.peers.items) self.old.id }

@@ -16,7 +16,7 @@ const STDERR: RawFd = 2;
 #[derive(Clone, Copy)]
 pub enum StartFault {
     OutOfMemory,
-    /// Its socket can't be had.
+    /// Its socket can't be opened.
     Bind(BindError),
     /// The system has no way to wait.
     Wait,
@@ -68,8 +68,8 @@ impl From<WaitFault> for StartFault {
     }
 }
 
-/// Refuses to start where standard input, output or error is closed. What is opened gets the lowest
-/// number that is free: a socket would get theirs, and be read or written in their place.
+/// Refuses to start if standard input, output or error is closed. A newly opened descriptor gets
+/// the lowest free number. A socket would get theirs, and be read or written instead of them.
 pub fn check_streams<R: Net>(rt: &R) -> Result<(), StartFault> {
     match Poll::new(rt) {
         Ok(poll) if poll.as_raw_fd() > STDERR => Ok(()),
@@ -78,7 +78,7 @@ pub fn check_streams<R: Net>(rt: &R) -> Result<(), StartFault> {
     }
 }
 
-/// Prints why the host of a file does not start, and answers the status 1.
+/// Prints why the host of a file does not start, and returns status 1.
 pub fn tell_start<R: Eprint>(rt: &R, path: &str, fault: StartFault) -> u8
     ensures { result ≡ 1 }
 {

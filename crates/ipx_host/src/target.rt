@@ -1,4 +1,4 @@
-//! The address that words name.
+//! The address that arguments name.
 
 ghost use Rattle.std.specs.Prelude.{IfErr, IfOk};
 ghost use Rattle.ipx_host.specs.Target.{IsTargetFault, NamesAddress};
@@ -6,7 +6,7 @@ ghost use Rattle.ipx_host.specs.Target.{IsTargetFault, NamesAddress};
 use ipx_wire::{Address, Network, Node, Socket};
 use std::fmt;
 
-/// The words that name the address of a socket: its network, node and socket in hex.
+/// The arguments that name the address of a socket: its network, node and socket in hex.
 #[derive(Clone, Copy)]
 pub struct Target<'a> {
     pub network: &'a str,
@@ -14,7 +14,7 @@ pub struct Target<'a> {
     pub socket: &'a str,
 }
 
-/// The word that is wrong, the first of those that are.
+/// The first argument that is wrong.
 #[derive(Clone, Copy)]
 pub enum TargetFault {
     Network,
@@ -22,7 +22,7 @@ pub enum TargetFault {
     Socket,
 }
 
-/// One line without its end.
+/// One line, without its newline.
 impl fmt::Display for TargetFault {
     fn fmt<W: fmt::Write>(&self, f: &mut fmt::Formatter<W>) -> fmt::Result {
         f.write_str(match self {

@@ -1,4 +1,4 @@
-//! What goes wrong at a host again and again, and is told.
+//! Warnings about problems of a host that may happen again and again.
 
 ghost use Rattle.std.specs.Prelude.{◌≡◌, replicate};
 ghost use Rattle.ipx_site.specs.IdleTime.{counts_of};
@@ -8,29 +8,29 @@ ghost use Rattle.ipx_host.specs.HostLines.{counts_of_host};
 use ipx_site::{FilterDrops, ThrottledLog, Warning, tell_each};
 use log::Log;
 
-/// How often each of it happened.
+/// How often each problem happened.
 #[derive(Clone, Copy)]
 pub struct Counts {
-    /// Datagrams that came and were not heard.
+    /// Datagrams that were filtered.
     pub kept: FilterDrops,
-    /// Requests of those who may not connect.
+    /// Requests from those who may not connect.
     pub rejected: u64,
     /// Datagrams that the system refused.
     pub system: u64,
-    /// How often memory was refused: for a turn, or to ask a connection whether it is there.
+    /// How often it was out of memory, in a turn or when a connection was to be probed.
     pub memory: u64,
 }
 
-/// How many causes a host has.
+/// How many kinds of problem a host has.
 const CAUSES: usize = 6;
 
-/// What is told of it, each once a minute at most, in the order of the lines.
+/// When each kind was last reported, at most once a minute, in the order of the lines.
 #[derive(Clone, Copy)]
 pub struct Telling {
     causes: [ThrottledLog; CAUSES],
 }
 
-/// The troubles of a host.
+/// The warnings of a host.
 fn warnings_in(counts: Counts) -> [Warning; CAUSES]
     ensures { counts_of result ≡ counts_of_host counts }
 {
@@ -49,7 +49,7 @@ fn warnings_in(counts: Counts) -> [Warning; CAUSES]
 }
 
 impl Telling {
-    /// Nothing was told yet.
+    /// Nothing was reported yet.
     pub fn new() -> Telling
         ensures { result.causes ≡ replicate 6 untold }
     {
@@ -58,7 +58,7 @@ impl Telling {
         }
     }
 
-    /// Tells what it is time to tell.
+    /// Prints the warnings that are due.
     pub fn tell<R: Log>(&mut self, rt: &R, counts: Counts, now: u64)
         ensures { AreLoggedIfDue (counts_of_host counts) now self.old.causes self.new.causes }
     {

@@ -1,4 +1,4 @@
--- A poll and a delivery have one outcome, and so has each event.
+-- A poll and a delivery have one outcome, and so does each event.
 use Rattle.std.proofs.Common.{ℕ, ◌≡◌, ◌++◌, ◌∷◌, [], List, Bool, true, false, length, length-set, set, MatchBool, Option, refl, sym, ◌∙◌, ap, subst}
 use Rattle.ipx_router.specs.Answer.{Receives}
 use Rattle.ipx_router.specs.Knowledge.{HoldsRoutes, HoldsServices, Known, known_at, routes_in, services_in, tables}
@@ -32,7 +32,7 @@ use Rattle.ipx_net.specs.declared.routers.RouterNow.{RouterNow}
 use Rattle.ipx_net.proofs.OneOutcome.{AreSameWorlds, calls_have_one_outcome, count_both, hosts_both, hosts_same, routers_both, same_nets, same_read}
 use Rattle.ipx_net.proofs.PollOutcome.{polls_host_both}
 
--- what is one of endpoints and routers
+-- what is known to be unique at endpoints and routers
 pub record MemberLaws : Type 0 where
   pub answer : (old new other : EndpointView) (bytes : List ℕ) (now : ℕ) (a b : Arrived) → Arrives old bytes now a new → Arrives old bytes now b other → a ≡ b
   pub same : (old new other : EndpointView) (bytes : List ℕ) (now : ℕ) (a b : Arrived) → Arrives old bytes now a new → Arrives old bytes now b other → SameBut new other

@@ -1,4 +1,4 @@
--- A network that takes an event goes on.
+-- An event keeps what holds for every network.
 use Rattle.std.proofs.Common.{ℕ, ◌≡◌, ◌<◌, ◌+◌, ◌++◌, ◌∙◌, ap, arith, length, map, List, [], ◌∷◌, Bool, true, false, cond, Option, None, Some, Result, Ok, Err, OnErr, OnOk, inl, refl, sym, subst}
 use Rattle.std.specs.Result.{is_err}
 use Rattle.std.proofs.lemmas.List.{length-map}
@@ -59,7 +59,7 @@ goes_on hosts hosts' routers routers' b b' g now now' spent e order reached goin
     let there : GoesOn (world_of hosts' b'.parcels b'.log now') = subst (λ (x : IndexedLogView). GoesOn (world_of hosts' x.parcels x.log now')) (sym written) is in
     subst (IsKept (world_of hosts' b'.parcels b'.log now')) (sym going) there
 
--- ---- memory was refused
+-- ---- out of memory
 
 -- an event made something if it made entries, or parcels or entries
 pub entries_made : (g : StepResult) → 0 < length g.entries.items → IsMade (Ok g)
@@ -68,7 +68,7 @@ entries_made g some = omega (arith, some, length-map g.entries.items entry_note)
 pub both_made : (g : StepResult) → 0 < length g.parcels.items + length g.entries.items → IsMade (Ok g)
 both_made g some = omega (arith, some, length-map g.entries.items entry_note, length-map g.parcels.items parcel_view)
 
--- the marks of ends are those of their stands in the scene
+-- the marks of ends are those of the scene's ends
 scene_marks : (w : World) → map (λ (e : PresentEnd). e.overlong) (scene_of w).ends ≡ marks_of w.ends
 scene_marks w = of w.ends
   where
@@ -76,7 +76,7 @@ scene_marks w = of w.ends
     of [] = refl
     of (e ∷ es) = ap (λ b. b ∷ map (λ (x : PresentEnd). x.overlong) (map (present_of w.hosts) es)) (overlong_of_stand e (held_of w.hosts e)) ∙ ap (λ bs. e.overlong ∷ bs) (of es)
 
--- whatever the event, one end at most is new
+-- for any event, at most one end is new
 follows_marks : (event : Event) (old new : List EndNow) → LeavesMarks event old new → FollowsMarks (marks_of old) (marks_of new)
 follows_marks (Events.Dial host socket to buffers) old new leaves = leaves
 follows_marks (Events.Send who message) old new leaves = inl leaves
@@ -91,7 +91,7 @@ follows_marks (Events.Deliver parcel (Places.Host host)) old new leaves = leaves
 follows_marks (Events.Deliver parcel (Places.Port router port)) old new leaves = inl leaves
 follows_marks (Events.Inject segment next bytes) old new leaves = inl leaves
 
--- it stands still, with its log and its parcels, and its hosts have the same addresses
+-- the network stops, with its log and its parcels, and its hosts have the same addresses
 pub holds_still : (event : Event) (hosts hosts' : HostsView) (b b' : IndexedLogView) (now now' : ℕ) (spent : Bool)
     → spent ≡ false → IsKept (world_of hosts b.parcels b.log now) spent
     → SameHomes hosts hosts' → LeavesMarks event hosts.ends hosts'.ends → b'.log ≡ b.log → b'.parcels ≡ b.parcels

@@ -1,5 +1,5 @@
--- A call on a host or an end, the clock, or a packet from outside has one outcome, unless memory
--- ran out.
+-- A call on a host or an end, a clock tick, and a packet from outside each have one outcome, unless out of
+-- memory.
 use Rattle.std.proofs.Common.{ℕ, ◌≡◌, ◌≢◌, ◌⊎◌, inl, inr, true, false, List, [], ◌∷◌, ◌++◌, length, set, Option, Some, None, Result, Ok, Err, refl, sym, ◌∙◌, ap, arith, subst, length-set}
 use Rattle.std.specs.Prelude.{IsSome, slice_get}
 use Rattle.std.proofs.lemmas.Bool.{cases_eq, cases_lt}
@@ -53,7 +53,7 @@ self_both e a b x y =
 alike_refl : (s : HostState) → AreAlike s s
 alike_refl s = record { endpoint = record { held = λ q. refl; last = refl; count = refl; self = record { network = refl; node = refl; router = refl; buffers = λ k. refl } }; here = λ id. refl }
 
--- what an id holds, where both hold the same under one and are as they were beside
+-- what an id holds, if both hold the same under one id and the others are unchanged
 held_both : (e a b : EndpointView) (id : ℕ) → held_at b id ≡ held_at a id → ((q : ℕ) → q ≢ id → held_at a q ≡ held_at e q) → ((q : ℕ) → q ≢ id → held_at b q ≡ held_at e q)
     → (q : ℕ) → held_at b q ≡ held_at a q
 held_both e a b id at one two q =
@@ -100,7 +100,7 @@ but_both e a b x y =
 
 -- ---- hosts
 
--- one host of a list changed in either
+-- one host of a list changed in both
 pub hosts_both : (old xs ys : List HostState) (host : ℕ) (a b : HostState) → xs ≡ set old host a → ys ≡ set old host b → AreAlike a b
     → (k : ℕ) (s t : HostState) → slice_get xs k ≡ Some s → slice_get ys k ≡ Some t → AreAlike s t
 hosts_both old xs ys host a b is is' alike k s t at at' =
@@ -119,7 +119,7 @@ pub hosts_same : (old xs ys : List HostState) → xs ≡ old → ys ≡ old → 
 hosts_same old xs ys is is' k s t at at' =
     subst (AreAlike s) (one_some (sym at ∙ ap (λ zs. slice_get zs k) (is ∙ sym is') ∙ at')) (alike_refl s)
 
--- the worlds after one event, whose routers stay
+-- the worlds after one event that changes no router
 pub record AreSameWorlds (x y : World) : Type 0 where
   pub count : length y.hosts ≡ length x.hosts
   pub hosts : (k : ℕ) (a b : HostState) → slice_get x.hosts k ≡ Some a → slice_get y.hosts k ≡ Some b → AreAlike a b
@@ -136,7 +136,7 @@ router_alike r =
 pub routers_same : (xs ys : List RouterNow) → xs ≡ ys → (k : ℕ) (a b : RouterNow) → slice_get xs k ≡ Some a → slice_get ys k ≡ Some b → AreAlikeRouters a b
 routers_same xs ys is k a b at at' = subst (AreAlikeRouters a) (one_some (sym at ∙ ap (λ zs. slice_get zs k) is ∙ at')) (router_alike a)
 
--- one router of a list changed in either
+-- one router of a list changed in both
 pub routers_both : (old xs ys : List RouterNow) (router : ℕ) (a b : RouterNow) → xs ≡ set old router a → ys ≡ set old router b → AreAlikeRouters a b
     → (k : ℕ) (s t : RouterNow) → slice_get xs k ≡ Some s → slice_get ys k ≡ Some t → AreAlikeRouters s t
 routers_both old xs ys router a b is is' alike k s t at at' =
@@ -239,7 +239,7 @@ module _ (old x y : World) where
         moment = two.moment ∙ sym one.moment;
       }
 
-  -- a refusal leaves all as it was, at whatever host
+  -- a refusal changes nothing, at any host
   refuses_both : (host host' : ℕ) → host' ≡ host → RefusesAt old host x → RefusesAt old host' y → AreSameWorlds x y
   refuses_both host host' same one two =
       let b : two.before ≡ one.before = same_read old.hosts host' host two.before one.before same two.there one.there in

@@ -1,6 +1,6 @@
--- What is always so of a network: while it goes on, its scene is one that is reached; once memory
--- was refused, its log and its parcels are those of one, and the addresses of its hosts, and of each
--- end whether a message of it grew too long. One end may be new to it.
+-- What holds for every network. Until memory is refused, its scene is a reached one. Afterwards its log, its
+-- parcels and the addresses of its hosts are those of a reached scene. So is, for each end, whether a message
+-- of it grew too long. One end may be added.
 use Rattle.std.specs.Prelude.{◌≡◌, Bool, true, false, map}
 use Rattle.spx_theory.specs.Deeds.{Reached}
 use Rattle.spx_theory.specs.Scene.{Scene}

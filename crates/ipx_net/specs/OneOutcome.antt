@@ -1,4 +1,4 @@
--- An event has one outcome, unless memory ran out.
+-- An event has one outcome, unless out of memory.
 use Rattle.std.specs.Prelude.{ℕ, ◌≡◌, ◌⊎◌, length, Some, slice_get}
 use Rattle.ipx_router.specs.Knowledge.{HoldsRoutes, HoldsServices, KeepsAllButOffers, routes_in, services_in}
 use Rattle.ipx_net_hosts.specs.Refusing.{want, no_memory_for_link, no_memory_for_queue}
@@ -10,7 +10,7 @@ use Rattle.ipx_net.specs.NetView.{NetNow}
 use Rattle.ipx_net.specs.declared.event.Event.{Event}
 use Rattle.ipx_net.specs.declared.routers.RouterNow.{RouterNow}
 
--- an end refused because memory ran out
+-- an end refused as out of memory
 abbrev pub IsForMemory : AnswerView → Type 0
 IsForMemory a = (a ≡ Refused want) ⊎ (a ≡ Refused no_memory_for_link) ⊎ (a ≡ Refused no_memory_for_queue)
 
@@ -19,8 +19,8 @@ pub record AreAlike (x y : HostState) : Type 0 where
   pub endpoint : SameBut x.endpoint y.endpoint
   pub here : (id : ℕ) → end_at y.here id ≡ end_at x.here id
 
--- two routers with the same ports, and the same offers of each network and each service. They told
--- last at the same time, and both asked their neighbours as they started, or neither
+-- two routers with the same ports, and the same offers of each network and each service. They last advertised
+-- at the same time, and both asked their neighbours when they started, or neither did
 pub record AreAlikeRouters (x y : RouterNow) : Type 0 where
   pub kept : KeepsAllButOffers x.router y.router
   pub routes : HoldsRoutes x.router.routes (routes_in y.router.routes)
@@ -28,7 +28,7 @@ pub record AreAlikeRouters (x y : RouterNow) : Type 0 where
   pub told : y.router.told ≡ x.router.told
   pub started : y.started ≡ x.started
 
--- two networks with alike hosts and alike routers that are the same beside
+-- two networks with alike hosts and alike routers that are otherwise the same
 pub record AreSameNets (x y : NetNow) : Type 0 where
   pub count : length y.world.hosts ≡ length x.world.hosts
   pub hosts : (k : ℕ) (a b : HostState) → slice_get x.world.hosts k ≡ Some a

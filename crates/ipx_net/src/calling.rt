@@ -1,4 +1,4 @@
-//! What users of ends do: each call adds its entry to the book.
+//! The calls of users on ends. Each call adds its entry to the log.
 
 ghost use Rattle.std.specs.Prelude.{◌≡◌, ◌<◌, ◌≤◌, ◌++◌, [], IfOk, None, Ok, OnErr, length, slice_get, true};
 ghost use Rattle.spx_link.specs.Limits.{most_units};
@@ -22,7 +22,7 @@ use spx_link::Unit;
 use spx_messages::{Message, Taken};
 use std::alloc::Global;
 
-/// A host asks for a connection. The caller owes 1 to 8,192 buffers.
+/// A host requests a connection. The caller owes 1 to 8,192 buffers.
 pub fn dial(
     alloc: Global,
     hosts: &mut Hosts,
@@ -52,7 +52,7 @@ pub fn dial(
     }
 }
 
-/// A message is handed in at an end that stands.
+/// Queues a message at a live end.
 pub fn send(
     alloc: Global,
     hosts: &mut Hosts,
@@ -76,7 +76,7 @@ pub fn send(
     }
 }
 
-/// An end that stands is asked to end its connection.
+/// Ends the connection of a live end.
 pub fn close(
     alloc: Global,
     hosts: &mut Hosts,
@@ -99,7 +99,7 @@ pub fn close(
     }
 }
 
-/// The link of an end that stands gets a window. No end refuses that, and it wants no memory.
+/// Sets the window of a live end's link. No end refuses that, and it needs no memory.
 pub fn pace(
     alloc: Global,
     hosts: &mut Hosts,
@@ -121,8 +121,8 @@ pub fn pace(
     quiet(alloc, Answer::Done)
 }
 
-/// A place of the link of an end that stands is asked for again. No end refuses that, and it wants
-/// no memory.
+/// Asks the link of a live end for the unit at a place again. No end refuses that, and it needs no
+/// memory.
 pub fn again(
     alloc: Global,
     hosts: &mut Hosts,
@@ -143,7 +143,7 @@ pub fn again(
     quiet(alloc, Answer::Done)
 }
 
-/// An end that stands goes. No end refuses that.
+/// Releases a live end. No end refuses that.
 pub fn release(
     alloc: Global,
     hosts: &mut Hosts,
@@ -162,7 +162,7 @@ pub fn release(
     noted(alloc, Entry::Released { who }, Answer::Done)
 }
 
-/// A message like this one.
+/// A copy of a message.
 fn copy_of(alloc: Global, message: &Message) -> Result<Message, OutOfMemory>
     ensures { IfOk result (λ m. message_view m ≡ message_view message.now) }
 {
@@ -173,7 +173,7 @@ fn copy_of(alloc: Global, message: &Message) -> Result<Message, OutOfMemory>
     })
 }
 
-/// A unit as the log keeps it.
+/// A unit as the log stores it.
 fn kept(alloc: Global, unit: &Unit) -> Result<TakenUnit, OutOfMemory>
     ensures { IfOk result (λ u. taken_unit u ≡ unit.now) }
 {
@@ -185,7 +185,7 @@ fn kept(alloc: Global, unit: &Unit) -> Result<TakenUnit, OutOfMemory>
     })
 }
 
-/// What is told of a take that was not refused: the unit that was held, and the message that it
+/// What the log has of a take that was not refused: the unit that was held, and the message that it
 /// ended.
 fn taken(
     alloc: Global,
@@ -218,7 +218,7 @@ fn taken(
     })
 }
 
-/// A unit is taken from an end that stands.
+/// Takes a unit from a live end.
 pub fn take(
     alloc: Global,
     hosts: &mut Hosts,

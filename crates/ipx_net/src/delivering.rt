@@ -19,7 +19,7 @@ use spx_link::Received;
 use spx_messages::Arrived;
 use std::alloc::Global;
 
-/// The entries of a packet that an end read; a stranger's is not read.
+/// The entries of a packet that an end read. A packet of an unknown sender is not read.
 fn read_by(
     alloc: Global,
     who: usize,
@@ -76,8 +76,8 @@ fn accepted_by(
     Ok(entries)
 }
 
-/// The end that a datagram was for, if there is one, and the entries that tell of it. `who` is the
-/// number of the end that it made, if it made one.
+/// The end that a datagram was for, if there is one, and the entries about it. `who` is the number
+/// of the end that the datagram made, if it made one.
 fn told_of(
     alloc: Global,
     hosts: &Hosts,
@@ -112,7 +112,7 @@ fn told_of(
     }
 }
 
-/// A parcel of a number comes to a host as these bytes.
+/// Delivers the parcel with this number to a host, as these bytes.
 pub fn deliver_host(
     alloc: Global,
     hosts: &mut Hosts,

@@ -29,8 +29,8 @@ use spx_theory::peer_is_found;
 use std::alloc::Global;
 use std::marker::Model;
 
-/// A network in memory: its hosts and routers, the packets on their way, and the log; and what is
-/// told of its ends.
+/// A network in memory: its hosts and routers, the packets on their way, the log, and what is
+/// reported of its ends.
 #[derive(Drop)]
 pub struct Net {
     course: NetState,
@@ -48,7 +48,7 @@ impl Model for Net {
     ghost invariant = { λ n. TellsEnds n.course n.told.infos.items };
 }
 
-/// What an event does that meets no fault before, and what is told of the ends after it.
+/// Does an event that has no fault so far, and updates what is reported of the ends.
 fn go_on(
     course: &mut NetState,
     told: &mut EndSummaries,
@@ -85,7 +85,7 @@ fn go_on(
     }
 }
 
-/// Takes one event, and answers what became of it.
+/// Takes one event, and returns its answer.
 fn take_in(
     course: &mut NetState,
     told: &mut EndSummaries,
@@ -117,12 +117,12 @@ fn take_in(
 }
 
 impl Net {
-    /// A network of these hosts and routers, numbered from 0 in their order, at moment 0. Nothing
+    /// A network of these hosts and routers, numbered from 0 in their order, at time 0. Nothing has
     /// happened in it, its routers know nothing, and its hosts have no connections.
     ///
-    /// The caller owes networks other than 0 and FFFFFFFF, of hosts and of ports, and 1 to 8,192
-    /// buffers where a host listens. It is refused with the fault of the first router that is
-    /// refused, else for want of memory.
+    /// The caller owes networks other than 0 and FFFFFFFF, for hosts and for ports. If a host
+    /// listens, the caller owes 1 to 8,192 buffers. It is refused with the fault of the first
+    /// router that is refused, otherwise only if out of memory.
     pub fn new(alloc: Global, hosts: Vec<Host>, routers: Vec<Vec<Port>>) -> Result<Net, NewFault>
         requires hosts { All IsHostOwed hosts.items }
         requires ports { All ArePortsOwed routers.items }
@@ -144,14 +144,14 @@ impl Net {
         }
     }
 
-    /// Takes one event, and answers what became of it.
+    /// Takes one event, and returns its answer.
     ///
-    /// The caller owes 1 to 8,192 buffers of what is dialled. It is refused as `Spent` where memory
-    /// was refused before, else as `Full` where the log holds 1,000,000 entries, else where it
-    /// names what is not there, else for want of memory. Then the log and the parcels stay, and the
-    /// ends with what is known of messages that grew too long, but that one end may be new after a
-    /// dial or a delivery to a host; and no further step is taken. Any other refusal leaves all as
-    /// it was.
+    /// The caller owes 1 to 8,192 buffers for a dial. It is refused as `Spent` if memory was
+    /// refused before. Otherwise it is refused as `Full` if the log holds 1,000,000 entries, or
+    /// with a fault if it names something that does not exist, or as out of memory. If out of
+    /// memory, the log and the parcels remain, and so do the ends, with what is known of messages
+    /// that grew too long. Only a dial or a delivery to a host may then add one end. No further
+    /// step is taken. Any other refusal leaves everything unchanged.
     pub fn step(&mut self, alloc: Global, event: Event) -> Result<Answer, NetFault>
         requires { IsOwed event }
         ensures ok { IfOk result (λ a. Happens event (answer_view a) self.old.now self.new.now) }
@@ -161,14 +161,14 @@ impl Net {
             → (first_fault self.old event ≡ Some f) × (self.new ≡ self.old)) }
         ensures memory { result ≡ Err NetFaults.OutOfMemory
             → (first_fault self.old event ≡ None) × (self.new.spent ≡ true) }
-        // Only what makes an entry or a parcel, or makes a router's table grow, wants memory.
+        // Only an event that makes an entry or a parcel, or a router's table grow, needs memory.
         ensures wanted { result ≡ Err NetFaults.OutOfMemory
             → EventNeedsMemory self.old.now event }
         ensures log { result ≡ Err NetFaults.OutOfMemory
             → self.new.now.world.log ≡ self.old.now.world.log }
         ensures parcels { result ≡ Err NetFaults.OutOfMemory
             → self.new.now.world.parcels ≡ self.old.now.world.parcels }
-        // Each end is still there, and of each is known whether a message of it grew too long.
+        // Every end is still there, and whether a message of it grew too long is still known.
         ensures marks { result ≡ Err NetFaults.OutOfMemory
             → LeavesMarks event self.old.now.world.ends self.new.now.world.ends }
         ensures theorems { Theorems self.new }
@@ -178,14 +178,14 @@ impl Net {
         result
     }
 
-    /// What is so of every network. It does nothing.
+    /// What holds for every network. It does nothing.
     pub fn holds(&self)
         ensures { Theorems self.now }
     {
         NetState::holds(&self.course);
     }
 
-    /// The log: what happened, from the beginning on.
+    /// The log: everything that happened, from the start on.
     pub fn log(&self) -> &[Entry]
         ensures entries { entry_notes result.now ≡ self.now.now.world.log }
         ensures theorems { Theorems self.now }
@@ -203,12 +203,12 @@ impl Net {
         self.course.parcels()
     }
 
-    /// Whether what an end handed out is a beginning of what its peer handed in. Without a peer: it
-    /// handed out nothing. It is false for a number of no end.
+    /// Whether what an end handed out is a prefix of what its peer handed in. If it has no peer,
+    /// whether it handed out nothing. It is false for a number of no end.
     pub fn begins(&self, end: usize) -> bool
         ensures begins { IsTrue result ↔ Begins self.now.now.world.log end }
-        // The headline, also after want of memory: under its premises each end that there is
-        // begins.
+        // The main theorem, also after running out of memory: under its premises this holds for
+        // every end.
         ensures headline { LogPremises self.now.now.world.log → IsEnd self.now.now.world.log end
             → IsTrue result }
         ensures theorems { Theorems self.now }
@@ -217,8 +217,8 @@ impl Net {
         self.course.begins(end)
     }
 
-    /// Whether each packet that an end read of its peer was sent fewer than 32,768 units of each of
-    /// the two before.
+    /// Whether every packet that an end read from its peer was fresh: after it was sent and before
+    /// it was read, each of the two sent fewer than 32,768 units.
     pub fn fresh(&self) -> bool
         ensures fresh { IsTrue result ↔ ReadsRecent self.now.now.world.log }
         ensures theorems { Theorems self.now }
@@ -227,8 +227,8 @@ impl Net {
         self.course.fresh()
     }
 
-    /// What is told of each end, by its number. A released end keeps what it had, and has no state.
-    /// After want of memory hosts and states tell nothing.
+    /// What is reported of each end, by its number. A released end keeps what it had, and has no
+    /// state. After running out of memory nothing is reported of hosts and states.
     pub fn ends(&self) -> &[EndInfo]
         ensures told { TellsEnds self.now result.now }
         ensures count { self.now.spent ≡ false
@@ -236,7 +236,7 @@ impl Net {
         ensures next { self.now.spent ≡ false → TellsNext self.now.now.world result.now }
         ensures opened { self.now.spent ≡ false → TellsOpened self.now.now.world result.now }
         ensures released { self.now.spent ≡ false → TellsReleased self.now.now.world result.now }
-        // The close, in the words of what is told.
+        // The theorem about closing, in terms of what is reported.
         ensures closed { self.now.spent ≡ false → TellsClosed self.now.now.world result.now }
         ensures ended { TellsEnded self.now.now.world result.now }
         ensures theorems { Theorems self.now }

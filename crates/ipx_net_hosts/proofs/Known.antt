@@ -1,4 +1,4 @@
--- The ends of a host by their ids: what is found, and what stands once an id is forgotten.
+-- The ends of a host by their ids: what is found, and what remains after an id is removed.
 use Rattle.std.proofs.Common.{◌≡◌, ◌≢◌, ℕ, List, [], ◌∷◌, Bool, true, false, not, cond, ◌==◌, refl, ap, sym, ◌∙◌, Option, None, Some, filter, find, arith}
 use Rattle.std.specs.Prelude.{option_map}
 use Rattle.std.proofs.lemmas.Bool.Decides.{nat_tests, Decides-eqb}

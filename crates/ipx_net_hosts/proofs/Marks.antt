@@ -17,7 +17,7 @@ pub marks_pushed : (v : HostsView) (ss : List HostState) (es es' : List EndNow) 
 marks_pushed v ss es es' e view pushed unmarked =
     inr (ap marks_of pushed ∙ map-append (λ (x : EndNow). x.overlong) es (e ∷ []) ∙ ap (λ b. marks_of es ++ b ∷ []) unmarked ∙ ap (λ (u : HostsView). marks_of u.ends ++ false ∷ []) view)
 
--- one end becomes another with the same mark
+-- one end is replaced by another with the same mark
 pub marks_changed : (v : HostsView) (ss : List HostState) (es : List EndNow) (k : ℕ) (x y : EndNow) → made ss es ≡ v → x ≡ get_or es k x → y.overlong ≡ x.overlong → KeepsMarks v (made ss (set es k y))
 marks_changed v ss es k x y view read mark =
     map-set_same (λ (z : EndNow). z.overlong) es k y x (mark ∙ ap (λ (z : EndNow). z.overlong) read) ∙ ap (λ (u : HostsView). marks_of u.ends) view

@@ -1,4 +1,4 @@
--- Where ends stand, and what a call on one host does to all of them.
+-- Where ends are, and what a call on one host does to all of them.
 use Rattle.std.proofs.Common.{◌≡◌, ◌≢◌, ◌<◌, ◌≤◌, ◌⊎◌, inl, inr, ℕ, zero, suc, List, [], ◌∷◌, ◌++◌, Bool, true, false, cond, not, length, map, set, get_or, refl, ap, sym, subst, ◌∙◌, Option, None, Some, Result, Ok, Err, OnErr, OnOk, IfSome, arith, append_assoc}
 use Rattle.std.specs.Prelude.{slice_get}
 use Rattle.std.proofs.lemmas.Option.{slice_get_read}
@@ -253,7 +253,7 @@ taken v ss es es' who host id x y r u t view read s unit takes not_want ends =
           moment = refl;
         }
 
--- ---- a link becomes another one, and nothing is noted
+-- ---- a link is replaced by another, and nothing is noted
 
 quietly : (v : HostsView) (ss : List HostState) (es : List EndNow) (who host id : ℕ) (x y : HostState) (t : ℕ) (f : LinkView → LinkView) → made ss es ≡ v → x ≡ get_or ss host x
     → StillPresent v who host id → IfSome (held_at x.endpoint id) (λ h. ChangesAt x id (record h { link = f h.link }) y)
@@ -344,7 +344,7 @@ held_there v ss es who host id x view read s =
     ap (λ k. held_in (slice_get v.stations k) s.end'.id) s.host_is ∙ ap (λ k. held_in (slice_get v.stations host) k) s.id_is ∙ ap (λ (o : Option HostState). held_in o id) s.there in
     ap (λ (z : HostState). held_at z.endpoint id) same ∙ sym (of_end ∙ not_released ∙ at_host)
 
--- what stands at a host is what was read of it
+-- what is at a host is what was read of it
 pub station_there : (v : HostsView) (ss : List HostState) (es : List EndNow) (host : ℕ) (x : HostState) → made ss es ≡ v → x ≡ get_or ss host x → host < length ss → Some x ≡ slice_get v.stations host
 station_there v ss es host x view read within =
     sym (slice_get_read ss (length ss) host x refl within read) ∙ ap (λ (u : HostsView). slice_get u.stations host) view

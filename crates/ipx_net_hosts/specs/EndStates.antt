@@ -1,4 +1,4 @@
--- What is told of the ends of a host: those that its ids are, and the states of their links.
+-- What is reported of the ends of a host: which ids are ends, and the states of their links.
 use Rattle.std.specs.Prelude.{ℕ, List, [], Option, Some, None, slice_get}
 use Rattle.spx_link.specs.declared.state.State.{State}
 use Rattle.spx_messages.specs.EndpointView.{Held}
@@ -13,7 +13,7 @@ here_in (Some s) = s.here
 abbrev pub here_at : HostsView → ℕ → List (ℕ × ℕ)
 here_at v host = here_in (slice_get v.stations host)
 
--- the state of a link, where there is one
+-- the state of a link, if there is one
 abbrev pub state_of : Option Held → Option State
 state_of None = None
 state_of (Some h) = Some h.link.state

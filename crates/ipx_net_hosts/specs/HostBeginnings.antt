@@ -1,4 +1,4 @@
--- A host as a network is made with it: an address, no links, and one socket that listens at most.
+-- A host as a network creates it: an address, no links, and at most one socket that listens.
 use Rattle.std.specs.Prelude.{ℕ, ◌≡◌, ◌==◌, List, [], ◌∷◌, ◌++◌, Option, Some, None, if◌then◌else◌}
 use Rattle.ipx_wire.specs.declared.address.Network.{Network}
 use Rattle.ipx_wire.specs.declared.address.Node.{Node}
@@ -19,14 +19,14 @@ pub record BeginsAt (network : Network) (node router : Node) (listen : Option (S
   pub router_is : s.endpoint.router ≡ router
   pub none : (id : ℕ) → held_at s.endpoint id ≡ None
   pub count : count_of s.endpoint.links ≡ 0
-  -- no id was given yet, no packet was given, and none was read
+  -- no id was assigned yet, no packet was given, and none was read
   pub last : s.endpoint.links.last ≡ 0
   pub said : s.endpoint.said ≡ None
   pub heard : s.endpoint.heard ≡ None
   pub here : s.here ≡ []
   pub buffers : (socket : Socket) → buffers_at s.endpoint socket ≡ listens_at listen socket
 
--- such a host comes behind the others
+-- appends such a host
 pub record AddsHost (old new : List HostState) (network : Network) (node router : Node)
     (listen : Option (Socket × ℕ)) : Type 0 where
   pub station : HostState

@@ -19,12 +19,12 @@ pub record StaysAt (old new : HostState) : Type 0 where
   pub heard : new.endpoint.heard ≡ old.endpoint.heard
   pub here : new.here ≡ old.here
 
--- an end that refuses stays as it is. Of want of memory in the host itself nothing is said
+-- an end that refuses stays as it is. If the host itself is out of memory, nothing is promised
 abbrev pub RefusalKeeps : Refusal → HostState → HostState → Type 0
 RefusalKeeps (Refusals.ByEnd f) old new = StaysAt old new
 RefusalKeeps Refusals.OutOfMemory old new = Unit {0}
 
--- a link is dialled, which is the end of that number
+-- a link is dialled, and becomes the end with this number
 pub record DialsAt (old : HostState) (who : ℕ) (socket : Socket) (to : Address)
     (buffers now id : ℕ) (new : HostState) : Type 0 where
   pub room : count_of old.endpoint.links ≢ most_links
@@ -32,18 +32,18 @@ pub record DialsAt (old : HostState) (who : ℕ) (socket : Socket) (to : Address
   pub adds : AddsEnd old.endpoint new.endpoint id (dialed id socket to buffers now)
   pub here : new.here ≡ old.here ++ (id, who) ∷ []
 
--- what is held under an id becomes this
+-- what is held under an id is replaced by this
 pub record ChangesAt (old : HostState) (id : ℕ) (after : Held) (new : HostState) : Type 0 where
   pub changes : ChangesEnd old.endpoint new.endpoint id after
   pub here : new.here ≡ old.here
 
--- an id goes
+-- an id is released
 pub record ReleasesAt (old : HostState) (id : ℕ) (new : HostState) : Type 0 where
   pub releases : ReleasesEnd old.endpoint new.endpoint id
   pub forgotten : end_at new.here id ≡ None
   pub known : (q : ℕ) → q ≢ id → end_at new.here q ≡ end_at old.here q
 
--- whose packet was given last, and what it was
+-- which end gave the last packet, and what kind of packet it was
 abbrev pub given_as : Option ℕ → Sent → Option (ℕ × Sent)
 given_as None what = None
 given_as (Some who) what = Some (who, what)

@@ -1,5 +1,5 @@
--- Which fault a call on a host or on an end meets, by what stands there before it, and what it is
--- refused with: that fault, or want of memory.
+-- Which fault a call on a host or on an end causes, by the state before it, and how it is refused: with that
+-- fault, or as out of memory.
 use Rattle.std.specs.Prelude.{ℕ, ◌≡◌, ◌⊎◌, ◌==◌, if◌then◌else◌, List, Option, Some, None, Err, option_map, slice_get}
 use Rattle.std.specs.Option.{option_or}
 use Rattle.spx_link.specs.Limits.{most_links}
@@ -17,7 +17,7 @@ use Rattle.spx_theory.specs.World.{EndNow, HostState, held_of}
 use Rattle.ipx_net_hosts.specs.declared.refusal.Refusal.{Refusal}
 use Rattle.ipx_net_hosts.specs.declared.refusal.Refusal.TheVariants as Refusals
 
--- what stands under the number of an end: nothing once it is released
+-- what is held under the number of an end: nothing once it is released
 abbrev pub held_by : List HostState → Option EndNow → Option Held
 held_by hosts None = None
 held_by hosts (Some e) = held_of hosts e
@@ -25,8 +25,8 @@ held_by hosts (Some e) = held_of hosts e
 abbrev pub end_held : List HostState → List EndNow → ℕ → Option Held
 end_held hosts ends who = held_by hosts (slice_get ends who)
 
--- want of memory, by what it is wanted for: a link, a message that is cut or joined, units that are
--- queued
+-- the out-of-memory faults, by what the memory is for: a link, a message that is cut or joined, and units
+-- that are queued
 abbrev pub no_memory_for_link : EndFault
 no_memory_for_link = EndFaults.Links LinksFaults.OutOfMemory
 
@@ -36,7 +36,7 @@ want = EndFaults.Message MessageFaults.OutOfMemory
 abbrev pub no_memory_for_queue : EndFault
 no_memory_for_queue = EndFaults.Offer OfferFaults.OutOfMemory
 
--- ---- dial: just where 16 links stand
+-- ---- dial: refused exactly if 16 links are live
 
 abbrev pub too_many : EndFault
 too_many = EndFaults.Links LinksFaults.TooMany
@@ -44,7 +44,7 @@ too_many = EndFaults.Links LinksFaults.TooMany
 abbrev pub full_fault : LinksView → Option EndFault
 full_fault s = if count_of s == most_links then Some too_many else None
 
--- a host that is not there is refused by no end
+-- no end refuses a call on a host that does not exist
 abbrev pub dial_fault : Option HostState → Option EndFault
 dial_fault None = None
 dial_fault (Some s) = full_fault s.endpoint.links
@@ -52,7 +52,7 @@ dial_fault (Some s) = full_fault s.endpoint.links
 abbrev pub DialIsRefused : Option HostState → EndFault → Type 0
 DialIsRefused s f = (dial_fault s ≡ Some f) ⊎ ((f ≡ no_memory_for_link) × (dial_fault s ≡ None))
 
--- the same, where memory may be refused beside the endpoint
+-- the same, if memory may be refused outside of the endpoint
 abbrev pub DialIsLeft : Option HostState → Refusal → Type 0
 DialIsLeft s (Refusals.ByEnd f) = DialIsRefused s f
 DialIsLeft s Refusals.OutOfMemory = dial_fault s ≡ None
@@ -75,14 +75,14 @@ message_fault (Some h) m = option_map EndFaults.Message (cut_fault m)
 abbrev pub send_fault : Option Held → MessageView → Option EndFault
 send_fault h m = option_or (message_fault h m) (close_fault h)
 
--- the message is cut before the state is looked at: so want of memory for that may come in the
--- place of the state's fault
+-- the message is cut before the state is checked, so out of memory for that may replace the fault of the
+-- state
 abbrev pub SendIsRefused : Option Held → MessageView → EndFault → Type 0
 SendIsRefused h m f = (send_fault h m ≡ Some f)
     ⊎ ((f ≡ want) × (message_fault h m ≡ None))
     ⊎ ((f ≡ no_memory_for_queue) × (send_fault h m ≡ None))
 
--- ---- take: where a message grew too long; and where a unit joins a message, for want of memory
+-- ---- take: if a message grew too long; and as out of memory, if a unit joins a message
 
 abbrev pub Overruns : Option Held → Type 0
 Overruns None = ⊥

@@ -1,9 +1,9 @@
-//! An end of a connection, where it stands.
+//! An end of a connection, and its place.
 
 use std::marker::Model;
 
-/// An end: its host, its id there, whether it was released, and whether a message came to it that
-/// grew too long.
+/// An end: its host, its id there, whether it was released, and whether it received a message that
+/// was too long.
 #[derive(Drop)]
 pub struct EndNow {
     pub host: usize,

@@ -1,4 +1,4 @@
-//! A host, and which end each of its links is.
+//! A host, and the number of the end of each of its links.
 
 ghost use Rattle.std.specs.Prelude.{◌≡◌, ◌≢◌, ◌≤◌, ◌↔◌, ◌++◌, ◌∷◌, ◌==◌, ℕ, [], Err, IfErr, IfOk, IfSome, IsOk, None, OnErr, OnOk, Some, filter, find, length, not, option_map, slice_get};
 ghost use Rattle.ipx_wire.specs.Assigned.{spx_max_packet_size};
@@ -26,7 +26,7 @@ use spx_messages::{Arrived, EndFault, Endpoint, Message, Taken};
 use std::alloc::Global;
 use std::marker::Model;
 
-/// A host: its endpoint, and of each of its links the number of the end.
+/// A host: its endpoint, and the number of the end of each of its links.
 #[derive(Drop)]
 pub struct HostState {
     endpoint: Endpoint,
@@ -41,7 +41,7 @@ impl Model for HostState {
     ghost view = { λ s. record { endpoint = s.endpoint; here = s.here.items } };
 }
 
-/// The number behind an id.
+/// The number of the end with this id.
 fn number_of(here: &[(u16, usize)], id: u16) -> Option<usize>
     ensures { result ≡ option_map (λ x. x.1) (find (λ x. x.0 == id) here.now) }
 {
@@ -49,14 +49,14 @@ fn number_of(here: &[(u16, usize)], id: u16) -> Option<usize>
     Some(known.1)
 }
 
-/// The end that an id is.
+/// The end with this id.
 fn end_of(here: &[(u16, usize)], id: u16) -> Option<usize>
     ensures { result ≡ end_at here.now id }
 {
     number_of(here, id)
 }
 
-/// A unit like this one.
+/// A copy of a unit.
 fn copy_of(unit: &Unit) -> Unit
     ensures { result ≡ unit.now }
 {
@@ -69,7 +69,7 @@ fn copy_of(unit: &Unit) -> Unit
     }
 }
 
-/// An id is no end from now on.
+/// Removes an id: it is no end from now on.
 fn forget(here: &mut Vec<(u16, usize)>, id: u16)
     ensures kept { here.new.items ≡ filter (λ x. not (x.0 == id)) here.old.items }
     ensures forgotten { end_at here.new.items id ≡ None }
@@ -89,7 +89,7 @@ impl HostState {
         }
     }
 
-    /// A host without links, which listens at one socket, if at one.
+    /// A host without links, which listens at one socket or at none.
     pub fn listening(
         alloc: Global,
         network: Network,
@@ -106,7 +106,7 @@ impl HostState {
         Ok(station)
     }
 
-    /// Links are accepted at a socket.
+    /// Accepts links at a socket.
     fn listen(&mut self, alloc: Global, socket: Socket, buffers: u16) -> Result<(), OutOfMemory>
         ensures listens { OnOk result (Listens self.old.endpoint self.new.endpoint socket buffers) }
         ensures here { self.new.here ≡ self.old.here }
@@ -116,14 +116,14 @@ impl HostState {
         self.endpoint.listen(alloc, socket, buffers)
     }
 
-    /// Its network.
+    /// The network of the host.
     pub fn network(&self) -> Network
         ensures { result ≡ self.now.endpoint.network }
     {
         self.endpoint.network()
     }
 
-    /// A connection is asked for, whose end has that number. It is refused where 16 links stand.
+    /// Requests a connection, whose end gets the number `who`. It is refused if 16 links are live.
     pub fn dial(
         &mut self,
         alloc: Global,
@@ -144,8 +144,8 @@ impl HostState {
         Ok(id)
     }
 
-    /// A message is handed in. It is refused where no link has the id, else where the message is
-    /// not cut, else by the state of the link.
+    /// Queues a message. It is refused if no link has the id, otherwise if the message is not cut,
+    /// otherwise by the state of the link.
     pub fn send(&mut self, alloc: Global, id: u16, message: &Message) -> Result<(), EndFault>
         ensures ok { IfSome (held_at self.old.endpoint id) (λ h. OnOk result (ChangesAt self.old id
             (record h { link = offer_link h.link (cut_of (message_view message.now)) }) self.new)) }
@@ -161,8 +161,7 @@ impl HostState {
         self.endpoint.send(alloc, id, message)
     }
 
-    /// The end of a connection is asked for. It is refused where no link has the id, else by the
-    /// state of the link.
+    /// Ends a connection. It is refused if no link has the id, otherwise by the state of the link.
     pub fn close(&mut self, alloc: Global, id: u16) -> Result<(), EndFault>
         ensures ok { IfSome (held_at self.old.endpoint id) (λ h. OnOk result
             (ChangesAt self.old id (record h { link = end_link h.link }) self.new)) }
@@ -176,7 +175,7 @@ impl HostState {
         self.endpoint.close(alloc, id)
     }
 
-    /// A link gets a window, by the clock or by hand. It is refused where no link has the id.
+    /// Sets the window of a link, and whether it is manual. It is refused if no link has the id.
     pub fn pace(&mut self, id: u16, window: u16, manual: bool) -> Result<(), EndFault>
         ensures ok { IfSome (held_at self.old.endpoint id) (λ h. OnOk result (ChangesAt self.old id
             (record h { link = pace_link h.link window manual }) self.new)) }
@@ -190,7 +189,7 @@ impl HostState {
         Ok(())
     }
 
-    /// A place of a link is asked for again. It is refused where no link has the id.
+    /// Asks a link for the unit at a place again. It is refused if no link has the id.
     pub fn again(&mut self, id: u16, place: u16) -> Result<(), EndFault>
         ensures ok { IfSome (held_at self.old.endpoint id) (λ h. OnOk result (ChangesAt self.old id
             (record h { link = again_link h.link place }) self.new)) }
@@ -204,7 +203,7 @@ impl HostState {
         Ok(())
     }
 
-    /// A link goes.
+    /// Releases a link.
     pub fn release(&mut self, id: u16) -> Result<(), EndFault>
         ensures ok { OnOk result (ReleasesAt self.old id self.new) }
         ensures done { IfSome (held_at self.old.endpoint id) (λ _. IsOk result) }
@@ -229,7 +228,7 @@ impl HostState {
         }
     }
 
-    /// A unit is taken, and told with what came of it.
+    /// Takes a unit, and returns it with the result of the take.
     pub fn take(&mut self, alloc: Global, id: u16) -> (Option<Unit>, Result<Taken, EndFault>)
         ensures unit { IfSome (held_at self.old.endpoint id)
             (λ h. result.0 ≡ first_of h.link.held) }
@@ -248,7 +247,7 @@ impl HostState {
         (unit, self.endpoint.take(alloc, id))
     }
 
-    /// A host is asked what it has to send.
+    /// The next packet that the host has to send.
     pub fn poll(&mut self, now: u64, room: &mut [u8]) -> Option<(Node, usize)>
         requires { spx_max_packet_size ≤ length room.old }
         ensures polls { Polls self.old.endpoint now result room.old room.new self.new.endpoint }
@@ -258,7 +257,7 @@ impl HostState {
         self.endpoint.poll(now, room)
     }
 
-    /// The end that gave the last packet, and what that is.
+    /// The end that gave the last packet, and what kind of packet it was.
     pub fn spoke(&self) -> Option<(usize, Sent)>
         ensures { result ≡ speaker self.now.here self.now.endpoint.said }
     {
@@ -267,7 +266,7 @@ impl HostState {
         Some((who, sent))
     }
 
-    /// A datagram comes. A link that it makes is the end of that number.
+    /// Delivers a datagram. A link that it makes becomes the end with this number.
     pub fn deliver(
         &mut self,
         alloc: Global,
@@ -288,7 +287,7 @@ impl HostState {
         Ok(arrived)
     }
 
-    /// The end that an id is.
+    /// The end with this id.
     pub fn end(&self, id: u16) -> Option<usize>
         ensures { result ≡ end_at self.now.here id }
     {
@@ -303,7 +302,7 @@ impl HostState {
         end_of(&self.here, id)
     }
 
-    /// The buffers of a link; 0 where there is none.
+    /// The buffers of a link; 0 if there is none.
     pub fn buffers(&self, id: u16) -> u16
         ensures { result ≡ buffers_of (held_at self.now.endpoint id) }
     {
@@ -328,7 +327,7 @@ impl HostState {
         Some(known.0)
     }
 
-    /// The state of a link; None where there is none.
+    /// The state of a link; None if there is none.
     pub fn state(&self, id: u16) -> Option<State>
         ensures { result ≡ state_of (held_at self.now.endpoint id) }
     {

@@ -27,7 +27,7 @@ use spx_messages::{Arrived, EndFault, Message, MessageFault, Taken};
 use std::alloc::Global;
 use std::marker::Model;
 
-/// The hosts of a network, and the ends of connections that were ever made, by their numbers.
+/// The hosts of a network, and all ends of connections that were ever made, by their numbers.
 #[derive(Drop)]
 pub struct Hosts {
     stations: Vec<HostState>,
@@ -43,7 +43,7 @@ impl Model for Hosts {
 }
 
 impl Hosts {
-    /// No hosts. It takes no memory.
+    /// A network without hosts. It needs no memory.
     pub fn new(alloc: Global) -> Hosts
         ensures stations { result.stations ≡ [] }
         ensures ends { result.ends ≡ [] }
@@ -54,7 +54,7 @@ impl Hosts {
         }
     }
 
-    /// A host comes behind the others: without links, and listening at one socket, if at one.
+    /// Appends a host without links, which listens at one socket or at none.
     pub fn add(
         &mut self,
         alloc: Global,
@@ -73,7 +73,7 @@ impl Hosts {
         Ok(())
     }
 
-    /// There is such an end, and it was not released.
+    /// Whether there is such an end, and it was not released.
     pub fn stands(&self, who: usize) -> bool
         ensures { result ≡ stands self.now who }
     {
@@ -83,7 +83,7 @@ impl Hosts {
         }
     }
 
-    /// The host of an end that stands, and its id there.
+    /// The host of a live end, and its id there.
     fn place(&self, who: usize) -> (usize, u16)
         requires order { FitTogether self.now }
         requires stands { stands self.now who ≡ true }
@@ -93,8 +93,8 @@ impl Hosts {
         (end.host, end.id)
     }
 
-    /// A host asks for a connection, whose end gets the next number. The caller owes 1 to 8,192
-    /// buffers. It is refused where 16 links stand, else only for want of memory.
+    /// A host requests a connection, whose end gets the next number. The caller owes 1 to 8,192
+    /// buffers. It is refused if 16 links are live, otherwise only if out of memory.
     pub fn dial(
         &mut self,
         alloc: Global,
@@ -130,9 +130,9 @@ impl Hosts {
         Ok(who)
     }
 
-    /// A message is handed in at an end that stands. It is refused where the message is not cut,
-    /// else by the state of the link. Want of memory may refuse it in the place of the latter, or
-    /// where neither holds.
+    /// Queues a message at a live end. It is refused if the message is not cut, otherwise by the
+    /// state of the link. An out-of-memory refusal may replace the latter, or come if neither
+    /// holds.
     pub fn send(
         &mut self,
         alloc: Global,
@@ -157,8 +157,8 @@ impl Hosts {
         self.stations[host].send(alloc, id, message)
     }
 
-    /// An end that stands is asked to end its connection. It is refused by the state of the link,
-    /// else only for want of memory.
+    /// Ends the connection of a live end. It is refused by the state of the link, otherwise only if
+    /// out of memory.
     pub fn close(&mut self, alloc: Global, who: usize, now: u64) -> Result<(), EndFault>
         requires order { FitTogether self.old }
         requires stands { stands self.old who ≡ true }
@@ -176,7 +176,7 @@ impl Hosts {
         self.stations[host].close(alloc, id)
     }
 
-    /// The link of an end that stands gets a window, by the clock or by hand. It is not refused.
+    /// Sets the window of a live end's link, and whether it is manual. It is not refused.
     pub fn pace(&mut self, who: usize, window: u16, manual: bool, now: u64) -> Result<(), EndFault>
         requires order { FitTogether self.old }
         requires stands { stands self.old who ≡ true }
@@ -190,7 +190,7 @@ impl Hosts {
         self.stations[host].pace(id, window, manual)
     }
 
-    /// A place of the link of an end that stands is asked for again. It is not refused.
+    /// Asks the link of a live end for the unit at a place again. It is not refused.
     pub fn again(&mut self, who: usize, place: u16, now: u64) -> Result<(), EndFault>
         requires order { FitTogether self.old }
         requires stands { stands self.old who ≡ true }
@@ -204,7 +204,7 @@ impl Hosts {
         self.stations[host].again(id, place)
     }
 
-    /// An end that stands goes, with its link. It is not refused.
+    /// Releases a live end, with its link. It is not refused.
     pub fn release(&mut self, who: usize, now: u64) -> Result<(), EndFault>
         requires order { FitTogether self.old }
         requires stands { stands self.old who ≡ true }
@@ -222,8 +222,8 @@ impl Hosts {
         Ok(())
     }
 
-    /// A unit is taken from an end that stands, and told with what came of it. It is refused where
-    /// the message grew too long; and for want of memory, only where the unit joins a message.
+    /// Takes a unit from a live end, and returns it with the result of the take. It is refused if
+    /// the message grew too long. It is refused as out of memory only if the unit joins a message.
     pub fn take(
         &mut self,
         alloc: Global,
@@ -253,8 +253,8 @@ impl Hosts {
         (unit, taken)
     }
 
-    /// A host is asked what it has to send, and writes it to the front of the room. The caller owes
-    /// room of 576 bytes.
+    /// Asks a host for its next packet, which it writes to the start of the buffer. The caller owes
+    /// a buffer of 576 bytes.
     pub fn poll(&mut self, host: usize, now: u64, room: &mut [u8]) -> Option<(Node, usize)>
         requires there { host < length self.old.stations }
         requires room { spx_max_packet_size ≤ length room.old }
@@ -266,7 +266,7 @@ impl Hosts {
         self.stations[host].poll(now, room)
     }
 
-    /// A datagram comes to a host. Memory is wanted only where it asks for a connection that would
+    /// Delivers a datagram to a host. Memory is needed only if it requests a connection that would
     /// be accepted.
     pub fn deliver(
         &mut self,
@@ -302,14 +302,14 @@ impl Hosts {
         self.stations.len()
     }
 
-    /// How many ends there ever were.
+    /// How many ends were ever made.
     pub fn ends(&self) -> usize
         ensures { result ≡ length self.now.ends }
     {
         self.ends.len()
     }
 
-    /// The network of a host. None where there is no such host.
+    /// The network of a host. None if there is no such host.
     pub fn network(&self, host: usize) -> Option<Network>
         ensures { result ≡ option_map (λ s. s.endpoint.network) (slice_get self.now.stations host) }
     {
@@ -317,8 +317,8 @@ impl Hosts {
         Some(station.network())
     }
 
-    /// The end that gave the last packet of a host, and what that is. None where there is no such
-    /// host.
+    /// The end that gave the last packet of a host, and what kind of packet it was. None if there
+    /// is no such host.
     pub fn spoke(&self, host: usize) -> Option<(usize, Sent)>
         ensures absent { IfNone (slice_get self.now.stations host) (result ≡ None) }
         ensures there { IfSome (slice_get self.now.stations host) (λ s.
@@ -327,7 +327,7 @@ impl Hosts {
         self.stations.get(host)?.spoke()
     }
 
-    /// The end that read the last datagram of a host. None where there is no such host.
+    /// The end that read the last datagram of a host. None if there is no such host.
     pub fn reader(&self, host: usize) -> Option<usize>
         ensures absent { IfNone (slice_get self.now.stations host) (result ≡ None) }
         ensures there { IfSome (slice_get self.now.stations host) (λ s.
@@ -336,7 +336,7 @@ impl Hosts {
         self.stations.get(host)?.reader()
     }
 
-    /// The end that an id of a host is. None where there is no such host.
+    /// The end with this id of a host. None if there is no such host.
     pub fn end(&self, host: usize, id: u16) -> Option<usize>
         ensures absent { IfNone (slice_get self.now.stations host) (result ≡ None) }
         ensures there { IfSome (slice_get self.now.stations host) (λ s. result ≡ end_at s.here id) }
@@ -344,7 +344,7 @@ impl Hosts {
         self.stations.get(host)?.end(id)
     }
 
-    /// The buffers of a link of a host; 0 where there is no such link or host.
+    /// The buffers of a link of a host; 0 if there is no such link or host.
     pub fn buffers(&self, host: usize, id: u16) -> u16
         ensures absent { IfNone (slice_get self.now.stations host) (result ≡ 0) }
         ensures there { IfSome (slice_get self.now.stations host) (λ s.
@@ -356,7 +356,7 @@ impl Hosts {
         }
     }
 
-    /// How many links of a host are ends; 0 where there is no such host.
+    /// How many links of a host are ends; 0 if there is no such host.
     pub fn links(&self, host: usize) -> usize
         ensures { result ≡ length (here_at self.now host) }
     {
@@ -376,7 +376,7 @@ impl Hosts {
         }
     }
 
-    /// The end that an id of a host is, if there is such a host and such an end.
+    /// The end with this id of a host, if there is such a host and such an end.
     pub fn known(&self, host: usize, id: u16) -> Option<usize>
         ensures { result ≡ end_at (here_at self.now host) id }
     {
@@ -386,7 +386,7 @@ impl Hosts {
         }
     }
 
-    /// The state of a link of a host; None where there is none.
+    /// The state of a link of a host; None if there is none.
     pub fn state(&self, host: usize, id: u16) -> Option<State>
         ensures { result ≡ state_on_host self.now host id }
     {
@@ -407,7 +407,8 @@ impl Hosts {
     }
 }
 
-/// A take was refused, and not for want of memory: the message grew too long, and the link is lost.
+/// Whether a take was refused, but not as out of memory: the message grew too long, and the link is
+/// lost.
 fn is_lost(taken: &Result<Taken, EndFault>) -> bool
     ensures { result ≡ is_lost (result_view taken.now) }
 {

@@ -1,7 +1,7 @@
-//! The hosts of a network in memory and their ends, by their numbers: one call an event.
+//! The hosts of a network in memory and their ends, by their numbers. Each call is one event.
 //!
-//! It is a part of `ipx_net`, which has the packets, the routers and the log: whoever wants a
-//! network calls that.
+//! This crate is a part of `ipx_net`, which has the packets, the routers and the log. To make a
+//! network, call `ipx_net`.
 #![tactic(auto)]
 
 mod end;

@@ -1,4 +1,4 @@
-//! Why a call on an end was not done.
+//! Why a call on an end was refused.
 
 ghost use Rattle.std.specs.Prelude.{◌≡◌};
 ghost use Rattle.ipx_net_hosts.specs.declared.refusal.Refusal.TheVariants as Refusals;
@@ -8,13 +8,13 @@ use spx_messages::EndFault;
 use std::alloc::{AllocError, AllocFailed};
 use thiserror::Error;
 
-/// Why a call on an end was not done.
+/// Why a call on an end was refused.
 #[derive(Clone, Copy, Debug, PartialEq, Eq, Error)]
 pub enum Refusal {
-    /// The endpoint refused it, and all is as it was.
+    /// The endpoint refused it, and nothing changed.
     #[error("{0}")]
     ByEnd(EndFault),
-    /// Memory was refused beside the endpoint, whose call may have been done.
+    /// Out of memory outside of the endpoint, whose own call may have been done.
     #[error("out of memory")]
     OutOfMemory,
 }

@@ -1,4 +1,4 @@
--- A pacer has given up exactly after ten timeouts in a row: the doublings of its wait are their count.
+-- A pacer has given up exactly after ten timeouts in a row, since the doublings of its timeout count them.
 use Rattle.std.proofs.Common.{◌≡◌, ◌+◌, ◌-◌, ◌^◌, ◌∙◌, ◌≤◌, ℕ, Bool, true, false, Some, ap, arith, min, refl, sym, subst, IsTrue}
 use Rattle.std.proofs.lemmas.Bool.{leb-true, le-leb}
 use Rattle.std.specs.Prelude.{if◌then◌else◌, nat_le}
@@ -10,7 +10,7 @@ use Rattle.spx_congestion.specs.declared.sent_kind.SentKind.TheVariants as Gaves
 abbrev most : ℕ
 most = 2 ^ 32 - 1
 
--- after a wait that was over one more, and otherwise as many as before
+-- after a timeout one more, and otherwise as many as before
 after_tending : (timed missing : Bool) (x y p : PacerView) (n : ℕ) → x.trip.doubled ≡ min (n + 1) most → y.trip.doubled ≡ n → p.trip.doubled ≡ n
     → ((if timed then x else (if missing then y else p)).trip.doubled) ≡ (if timed then min (n + 1) most else n)
 after_tending true missing x y p n one same same' = one
@@ -37,7 +37,7 @@ given_count p Gaves.Other now = refl
 if_is : (n m : ℕ) (b c : Bool) → b ≡ c → (if b then n else m) ≡ (if c then n else m)
 if_is n m b c e = ap (λ z. if z then n else m) e
 
--- the doublings are the count, up to the most that there may be
+-- the doublings are the count, up to its maximum
 doublings : (p : PacerView) (count : ℕ) → HasTimedOut p count → p.trip.doubled ≡ min count most
 doublings p count begins = refl
 doublings p count (times_out old new n out now before tends over) =

@@ -28,7 +28,7 @@ idle_of old new now tends =
     let P : PacerView → Type 0 = λ p. (p.out ≡ 0) × (p.in_flight ≡ 0) in
     subst P (sym tends.due) (idle_if (is_over (missing_at w) now) x w (refl, refl) (refl, refl))
 
--- with none outstanding none is to go again
+-- if none is outstanding, none is to be sent again
 and_false : (a b c : Bool) → c ≡ false → (a && b && c) ≡ false
 and_false true true c e = e
 and_false true false c e = refl

@@ -1,4 +1,4 @@
--- What a link gave, as a pacer counts it (own).
+-- What a link gave, as a pacer counts it (defined by this project).
 use Rattle.std.specs.Prelude.{ℕ, ◌==◌, if◌then◌else◌}
 use Rattle.spx_link.specs.Limits.{end_stream}
 use Rattle.spx_link.specs.declared.outgoing.Sent.{Sent}
@@ -6,7 +6,7 @@ use Rattle.spx_link.specs.declared.outgoing.Sent.TheVariants as Sents
 use Rattle.spx_congestion.specs.declared.sent_kind.SentKind.{SentKind}
 use Rattle.spx_congestion.specs.declared.sent_kind.SentKind.TheVariants as Gaves
 
--- by what it was sent for, and its datastream type
+-- by the kind of packet, and its datastream type
 abbrev pub gave_of : Sent → ℕ → SentKind
 gave_of Sents.Request stream = Gaves.Request
 gave_of Sents.Reply stream = Gaves.Other

@@ -1,15 +1,16 @@
--- A measured round trip, and how long an acknowledgement is waited for (RFC 6298; its bounds are own).
+-- A measured round trip, and the timeout of an acknowledgement (RFC 6298; its bounds are this project's).
 use Rattle.std.specs.Prelude.{ℕ, ◌+◌, ◌-◌, ◌*◌, ◌/◌, ◌^◌, min, max, Option, None, Some}
 use Rattle.spx_congestion.specs.declared.round_trip.RoundTrip.{RoundTrip}
 
--- in milliseconds: how long an acknowledgement is waited for, how often in a row that was over, and the smoothed round
+-- in milliseconds: the timeout of an acknowledgement, how often in a row it passed, and the smoothed round
 -- trip
 pub record TripView : Type 0 where
   pub wait : ℕ
   pub doubled : ℕ
   pub smoothed : ℕ
 
--- the smoothed round trip, at least 1, where eight times it is there; else that of the request; else the wait
+-- the smoothed round trip, at least 1, from eight times it, if there is one. Otherwise the round trip of the
+-- request, or else the timeout
 abbrev pub smoothed_of : Option ℕ → Option ℕ → ℕ → ℕ
 smoothed_of None None wait = max wait 1
 smoothed_of None (Some first) wait = max first 1
@@ -19,15 +20,15 @@ smoothed_of (Some smooth) first wait = max (smooth / 8) 1
 abbrev pub trip_of : RoundTrip → TripView
 trip_of t = record { wait = t.wait; doubled = t.doubled; smoothed = smoothed_of t.smooth t.first t.wait }
 
--- the wait, which doubles each time that it is over, up to four seconds
+-- the timeout, which doubles each time that it passes, up to four seconds
 abbrev pub doubled_wait : TripView → ℕ
 doubled_wait t = max (min (t.wait * 2 ^ t.doubled) 4000) t.wait
 
--- the wait for the acknowledgement of the end of a connection, which alone is outstanding, before it goes again: half a
--- second to a second
+-- if only the end of a connection is outstanding, the timeout before the end is sent again: half a second to
+-- one second
 abbrev pub end_wait : TripView → ℕ
 end_wait t = min (max t.wait 500) 1000
 
--- a round trip and what it may vary by: a quarter of it, at least 10
+-- a round trip with its tolerance: a quarter of it, at least 10
 abbrev pub slack : TripView → ℕ
 slack t = min (t.smoothed + max (t.smoothed / 4) 10) (2 ^ 64 - 1)

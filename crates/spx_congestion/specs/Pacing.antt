@@ -1,4 +1,4 @@
--- What a pacer holds, as its contracts see it, and what it lets a link do (own).
+-- The state of a pacer, as its contracts see it, and what it lets a link do (defined by this project).
 use Rattle.std.specs.Prelude.{ℕ, ◌+◌, ◌-◌, ◌*◌, ◌/◌, ◌^◌, ◌&&◌, ◌||◌, ◌==◌, if◌then◌else◌, Bool, true, false, min, max, nat_lt, nat_le}
 use Rattle.std.specs.Prelude.{◌≡◌, ◌<◌, ◌≤◌, ◌⊎◌, IsTrue, Option, None, Some, is_some, option_map, unwrap_or}
 use Rattle.spx_link.specs.Limits.{most_units}
@@ -8,11 +8,12 @@ use Rattle.spx_congestion.specs.declared.sent_kind.SentKind.{SentKind}
 use Rattle.spx_congestion.specs.declared.sent_kind.SentKind.TheVariants as Gaves
 use Rattle.spx_congestion.specs.Measured.{TripView, doubled_wait, end_wait, slack}
 
--- positions count units from 0. `out` units from `base` on are outstanding; `left` of them came, or
--- are given up, and `in_flight` went again; those from `from` up to `to` are to go again. The window
--- and the credit are in 256ths of a unit, and the credit has grown until `tick`. An acknowledgement is waited for since
--- `timer`, where one is, and `ended` is whether the end of the connection was sent. While it `mends` what duplicates say is missing, the first outstanding
--- unit went again at `fixed_at`, and was missing again `tries` times
+-- positions count units from 0. `out` units from `base` on are outstanding. `left` of them were received or
+-- are given up, and `in_flight` were sent again. Those from `from` up to `to` are to be sent again. The
+-- window and the credit are in 256ths of a unit, and the credit has grown until `tick`. `timer` is since when
+-- the pacer waits for an acknowledgement, if it does. `ended` is whether the end of the connection was sent.
+-- While `mends` holds, units that duplicates report as missing are repaired. The first outstanding unit was
+-- sent again at `fixed_at`, and was missing again `tries` times
 pub record PacerView : Type 0 where
   pub base : ℕ
   pub out : ℕ
@@ -30,11 +31,11 @@ pub record PacerView : Type 0 where
   pub fixed_at : ℕ
   pub tries : ℕ
 
--- so long behind a moment, or the last that a clock can show
+-- the time `time` after `now`, or the last that a clock can show
 abbrev pub behind : ℕ → ℕ → ℕ
 behind now time = min (now + time) (2 ^ 64 - 1)
 
--- a pacer as it is made: a window of 27 units, and credit of 10
+-- a new pacer: a window of 27 units, and credit for 10
 abbrev pub made_pacer : PacerView
 made_pacer =
     record {
@@ -55,11 +56,12 @@ made_pacer =
       tries = 0;
     }
 
--- an acknowledgement is waited for where units are outstanding: since when it was, or else from now on
+-- if units are outstanding, the pacer waits for an acknowledgement: since the time it had, or else from now
+-- on
 abbrev pub waited_since : Option ℕ → ℕ → ℕ → Option ℕ
 waited_since timer out now = if nat_lt 0 out then Some (unwrap_or timer now) else None
 
--- as many are outstanding as a link says now; where none is, none is on its way
+-- as many units are outstanding as the link says now. If none is, none is in flight
 abbrev pub with_outstanding : PacerView → ℕ → ℕ → PacerView
 with_outstanding p out now =
     record p {
@@ -69,7 +71,7 @@ with_outstanding p out now =
       timer = waited_since p.timer out now;
     }
 
--- how many units are on their way
+-- how many units are in flight
 abbrev pub flight : PacerView → ℕ
 flight p = (p.out - p.left) + p.in_flight
 
@@ -77,7 +79,8 @@ flight p = (p.out - p.left) + p.in_flight
 abbrev pub spare : PacerView → ℕ
 spare p = p.window / 256 - flight p
 
--- the credit after it has grown until now, at a rate a millisecond: at most what four milliseconds bring, or ten units
+-- the credit after it has grown until now, at a rate per millisecond: at most four milliseconds' worth, or
+-- ten units
 abbrev pub grown_credit : ℕ → PacerView → ℕ → ℕ
 grown_credit rate p now =
     if nat_lt p.tick now then min (p.credit + rate * (now - p.tick)) (max (rate * 4) 2560) else p.credit
@@ -93,17 +96,17 @@ pub record GrowsCredit (old : PacerView) (now : ℕ) (new : PacerView) : Type 0 
 abbrev pub has_credit : PacerView → Bool
 has_credit p = nat_lt 255 p.credit
 
--- the place of the first outstanding unit that is to go again
+-- the place of the first outstanding unit that is to be sent again
 abbrev pub place_again : PacerView → Option ℕ
 place_again p =
     if nat_lt p.from p.to && nat_lt p.base p.to && nat_lt (p.from - p.base) p.out
     then Some (p.from - p.base) else None
 
--- how many units may be outstanding, where none goes again
+-- how many units may be outstanding, if none is to be sent again
 abbrev pub open_to : PacerView → ℕ
 open_to p = min (p.out + min (spare p) (p.credit / 256)) most_units
 
--- without credit nothing goes; a unit that goes again goes alone
+-- without credit nothing is sent. A unit that is sent again goes alone
 abbrev pub plan_of : PacerView → Plan
 plan_of p =
     if has_credit p
@@ -112,23 +115,23 @@ plan_of p =
     else record { window = open_to p; again = None })
     else record { window = min p.out most_units; again = None }
 
--- something would go now, but for its credit or for another that goes first
+-- something would be sent now, if there were credit or nothing else went first
 abbrev pub holds_back : PacerView → Bool
 holds_back p = is_some (place_again p) || (nat_lt p.credit 256 && nat_lt 0 (spare p))
 
--- the end of the connection was sent, and it alone is outstanding, or a wait was over since anything was acknowledged:
--- whether all came is asked often, since a listener keeps a connection some seconds after its end, and no longer
+-- only the end of the connection is outstanding
 abbrev pub asks_often : PacerView → Bool
 asks_often p = p.ended && ((p.out == 1) || nat_lt 0 p.trip.doubled)
 
--- till when an acknowledgement is waited for: no shorter than till the first outstanding unit goes again by that
+-- until when the pacer waits for an acknowledgement. If only the end is outstanding, no shorter than the time
+-- before the end is sent again
 abbrev pub waits_till : PacerView → Option ℕ
 waits_till p =
     option_map (λ since. behind since (if asks_often p then max (doubled_wait p.trip) (end_wait p.trip) else doubled_wait p.trip)) p.timer
 
--- when the first outstanding unit, which went again, is missing again: behind a round trip and its slack, which each
--- time doubles, up to 64 times. None where nothing is mended, or others are to go first. Where it is asked often, each
--- half second to second since it went
+-- when the first outstanding unit, which was sent again, counts as missing again: after a round trip and its
+-- tolerance, which doubles each time, up to 64 times. None if nothing is repaired, or others are to be sent
+-- first. If only the end is outstanding, it is missing half a second to a second after it was last sent
 abbrev pub missing_at : PacerView → Option ℕ
 missing_at p =
     if nat_le p.to (max p.from p.base)
@@ -137,33 +140,34 @@ missing_at p =
     else (if p.mends then Some (behind p.fixed_at (slack p.trip * 2 ^ min p.tries 6)) else None))
     else None
 
--- when it has waited long enough for an acknowledgement, or for a unit that went again
+-- when the wait for an acknowledgement, or for a unit that was sent again, is over
 abbrev pub wakes : PacerView → Option ℕ
 wakes p = option_map (λ till. min till (unwrap_or (missing_at p) till)) (waits_till p)
 
--- the moment at which what is planned may differ, where nothing is heard before: where something is held back in
--- a millisecond, else where units are outstanding in a minute at most; at once where it does not wait
+-- the time at which the plan may change, if nothing is heard before. If something is held back, that is
+-- within a millisecond. Otherwise, if units are outstanding, within a minute, and at once if the pacer does
+-- not wait
 abbrev pub wakes_at : PacerView → ℕ → Option ℕ
 wakes_at p now =
     if holds_back p
     then Some (min (behind now 1) (unwrap_or (wakes p) (behind now 1)))
     else (if nat_lt 0 p.out then Some (min (unwrap_or (wakes p) now) (behind now 60000)) else None)
 
--- after ten waits in a row that were over, with no acknowledgement of anything new since the first began, the connection
--- is given up
+-- the connection is given up after ten timeouts in a row, with no acknowledgement of anything new since the
+-- first wait began
 abbrev pub most_timeouts : ℕ
 most_timeouts = 10
 
 abbrev pub has_given_up : PacerView → Bool
 has_given_up p = nat_le most_timeouts p.trip.doubled
 
--- whether there is such a moment, and it came
+-- whether there is such a time, and it has passed
 abbrev pub is_over : Option ℕ → ℕ → Bool
 is_over None now = false
 is_over (Some at) now = nat_le at now
 
--- what is due by itself: where the wait for an acknowledgement is over, the first outstanding unit goes again, none is
--- on its way, and the next wait is twice as long; where one is missing again, it goes once more
+-- what is due by itself. After a timeout the first outstanding unit is to be sent again, none counts as in
+-- flight, and the next timeout is twice as long. A unit that is missing again is sent once more
 abbrev pub tended : PacerView → ℕ → PacerView
 tended p now =
     if is_over (waits_till p) now
@@ -182,21 +186,22 @@ tended p now =
     then record p { from = p.base; to = behind p.base 1; tries = min (p.tries + 1) (2 ^ 32 - 1) }
     else p)
 
--- a packet acknowledges nothing, brings nothing, and allows no more, while units are outstanding
+-- a duplicate: it acknowledges nothing, brings nothing, and allows no more, while units are outstanding
 abbrev pub is_double : Numbers → Numbers → Bool
 is_double before after =
     nat_le before.out after.out && nat_lt 0 after.out && nat_le after.room before.room && (before.expected == after.expected)
 
--- an acknowledgement is waited for since before, or from now on, where units are outstanding
+-- if units are outstanding, the pacer waits for an acknowledgement: since before, or from now on
 abbrev pub WaitsOn : Option ℕ → ℕ → ℕ → Option ℕ → Type 0
 WaitsOn timer out now timer' = (timer' ≡ waited_since timer out now) ⊎ ((0 < out) × (timer' ≡ Some now))
 
--- where it mends, the first outstanding unit went again now, or as before; it was not missing more often since
+-- while it repairs, the first outstanding unit was sent again now, or when it was before. It was not missing
+-- more often since
 abbrev pub MendsOn : PacerView → ℕ → PacerView → Type 0
 MendsOn old now new = IsTrue new.mends → ((new.fixed_at ≡ now) × (new.tries ≡ 0))
     ⊎ (IsTrue old.mends × (new.fixed_at ≡ old.fixed_at) × (new.tries ≤ old.tries))
 
--- the credit once a packet was given: a unit costs one
+-- the credit after a packet was given: a unit costs one unit of credit
 abbrev pub credit_after : ℕ → SentKind → ℕ
 credit_after credit Gaves.Request = credit
 credit_after credit Gaves.Unit = credit - 256
@@ -204,7 +209,8 @@ credit_after credit Gaves.End = credit - 256
 credit_after credit Gaves.Again = credit - 256
 credit_after credit Gaves.Other = credit
 
--- a packet was given: a unit costs credit, the end is the last one, and of those that are to go again the first went
+-- a packet was given: a unit costs credit, the end comes last, and the first of the units to be sent again
+-- was sent
 abbrev pub given_by : PacerView → SentKind → ℕ → PacerView
 given_by p Gaves.Request now = p
 given_by p Gaves.Unit now = record p { credit = p.credit - 256 }
@@ -218,8 +224,8 @@ given_by p Gaves.Again now =
     }
 given_by p Gaves.Other now = p
 
--- a pacer that plans for a link with so many units outstanding has done what was due, and its credit grew. Its window is 4
--- to 8,192 units
+-- a pacer that plans for a link with so many units outstanding has done what was due, and its credit grew.
+-- Its window is 4 to 8,192 units
 pub record Tends (old : PacerView) (out now : ℕ) (new : PacerView) : Type 0 where
   pub due : new ≡ record (tended (with_outstanding old out now) now) {
     window = new.window;

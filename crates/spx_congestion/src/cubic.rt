@@ -1,6 +1,6 @@
-//! Cubes, and their roots (RFC 9438, CUBIC).
+//! Cubes, and cube roots (RFC 9438, CUBIC).
 
-/// How many cubed milliseconds are a unit, by which a window grows: two and a half a second cubed.
+/// How many cubed milliseconds make the window grow by one unit. It is 2.5 units per cubed second.
 const SCALE: u64 = 400_000_000;
 
 /// The third power.
@@ -22,12 +22,12 @@ fn cube_root(n: u64) -> u64 {
     root
 }
 
-/// In how many milliseconds a window has grown by so much of a unit, in 256ths.
+/// After how many milliseconds a window has grown by `by` 256ths of a unit.
 pub fn grows_in(by: u64) -> u64 {
     cube_root(by.saturating_mul(SCALE) / 256)
 }
 
-/// The window at a moment, where it was `top` at the moment `at`.
+/// The window at the time `now`, if it is `top` at the time `at`.
 pub fn window_at(top: u64, at: u64, now: u64) -> u64 {
     let away = cube(now.abs_diff(at)).saturating_mul(256);
     if now >= at {

@@ -6,22 +6,22 @@ ghost use Rattle.spx_congestion.specs.Pacing.{waits_till, wakes_at};
 
 use crate::pacer::Pacer;
 
-/// The longest time till a plan is asked for again, in milliseconds, where something is outstanding.
+/// The longest time, in milliseconds, until a plan is needed again while something is outstanding.
 const MAX_SLEEP: u64 = 60_000;
 
 /// After so many timeouts in a row a connection is given up.
 const MAX_TIMEOUTS: u32 = 10;
 
 impl Pacer {
-    /// The moment at which a plan may differ from the last one, where nothing is heard before.
+    /// The time at which the plan may change, if nothing is heard before.
     ///
-    /// None only where nothing is outstanding and nothing is held back.
+    /// None only if nothing is outstanding and nothing is held back.
     pub fn next_due(&self, now: u64) -> Option<u64>
         ensures value { result ≡ wakes_at self.now now }
         ensures rests { IsNone result → (self.now.out ≡ 0) × (holds_back self.now ≡ false) }
         ensures none { self.now.out ≡ 0 → holds_back self.now ≡ false → IsNone result }
         ensures soon { IsTrue (holds_back self.now) → IfSome result (λ at. at ≤ now + 1) }
-        // So no timeout is slept through for longer than a minute.
+        // So a caller never sleeps more than a minute past a timeout.
         ensures bound { IfSome result (λ at. at ≤ now + 60000) }
     {
         if self.holds_back() {
@@ -35,18 +35,18 @@ impl Pacer {
         Some(self.wakes().unwrap_or(now).min(latest))
     }
 
-    /// Whether the connection is to be given up: ten timeouts in a row came, and no acknowledgement of
-    /// anything new since the first of these waits began.
+    /// Whether the connection is to be given up: after ten timeouts in a row, with no
+    /// acknowledgement of anything new since the first wait began.
     ///
-    /// Whoever sends by the plans asks this after each.
+    /// A caller asks this after each plan.
     pub fn has_given_up(&self) -> bool
         ensures { result ≡ has_given_up self.now }
     {
         self.trip.timeouts() >= MAX_TIMEOUTS
     }
 
-    /// When it has waited long enough for an acknowledgement, or for a unit that went again. None
-    /// where it does not wait.
+    /// When the wait for an acknowledgement, or for a unit that was sent again, is over. None if it
+    /// does not wait.
     fn wakes(&self) -> Option<u64>
         ensures { result ≡ Rattle.spx_congestion.specs.Pacing.wakes self.now }
     {
@@ -56,14 +56,14 @@ impl Pacer {
         }
     }
 
-    /// Whether something would go now, but for its credit or for another that goes first.
+    /// Whether something would be sent now, if there were credit or nothing else went first.
     fn holds_back(&self) -> bool
         ensures { result ≡ holds_back self.now }
     {
         self.place_again().is_some() || (!self.credit.is_enough() && self.spare() > 0)
     }
 
-    /// Till when an acknowledgement is waited for.
+    /// Until when the pacer waits for an acknowledgement.
     pub(crate) fn waits_till(&self) -> Option<u64>
         ensures { result ≡ waits_till self.now }
     {
@@ -75,17 +75,16 @@ impl Pacer {
         Some(self.timer?.saturating_add(wait))
     }
 
-    /// Whether the end of the connection was sent, and it alone is outstanding, or a wait was over
-    /// since anything was acknowledged.
+    /// Whether only the end of the connection is outstanding.
     fn asks_often(&self) -> bool
         ensures { result ≡ asks_often self.now }
     {
         self.ended && (self.out == 1 || self.trip.timeouts() > 0)
     }
 
-    /// When the first outstanding unit goes again, which went again before. Once the end was sent, a
-    /// short time after it went, so that it is asked often whether all came: a listener keeps a
-    /// connection some seconds after its end. No timeout comes sooner for it.
+    /// When the first outstanding unit, which was sent again, is to be sent once more. If only the
+    /// end of the connection is outstanding, that is a short time after it was sent. So the peer is
+    /// asked often whether it has the end, and timeouts come no sooner.
     pub(crate) fn repair_due(&self) -> Option<u64>
         ensures { result ≡ missing_at self.now }
     {
@@ -96,7 +95,7 @@ impl Pacer {
         self.repair.missing_at(self.base, self.trip.with_slack())
     }
 
-    /// When a window that was not used lessens.
+    /// When an unused window decreases.
     pub(crate) fn rests_at(&self) -> Option<u64> {
         let spoke = self.spoke?;
         if self.out > 0 {

@@ -1,4 +1,4 @@
-//! What a packet that the link gave puts on the line.
+//! How a pacer counts the packets that the link gives.
 
 ghost use Rattle.std.specs.Prelude.{◌≡◌, ◌-◌};
 ghost use Rattle.spx_congestion.specs.Pacing.{credit_after, given_by, with_outstanding};
@@ -9,7 +9,7 @@ use crate::sent_kind::SentKind;
 use spx_link::Numbers;
 
 impl Pacer {
-    /// The link gave a packet, and has these numbers since.
+    /// The link gave a packet, and `after` are its numbers since.
     pub fn gave(&mut self, what: SentKind, after: Numbers, now: u64)
         ensures value { self.new ≡ given_by (with_outstanding self.old after.out now) what now }
         ensures counts { self.new.out ≡ after.out }
@@ -28,7 +28,7 @@ impl Pacer {
         }
     }
 
-    /// The request was sent. One that was sent before measures nothing.
+    /// The request was sent. If it was sent before, it is not measured.
     fn asks(&mut self, now: u64)
         ensures { self.new ≡ self.old }
     {
@@ -46,7 +46,7 @@ impl Pacer {
         self.credit.spend();
     }
 
-    /// The first unit that was to go again went.
+    /// The first of the units to be sent again was sent.
     fn sends_again(&mut self, now: u64)
         ensures { self.new ≡ given_by self.old Gaves.Again now }
     {

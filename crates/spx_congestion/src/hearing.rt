@@ -1,4 +1,4 @@
-//! What a packet that the link read says of the line.
+//! What the pacer learns from a packet that the link read.
 
 ghost use Rattle.std.specs.Prelude.{◌≡◌, ◌+◌, ◌-◌, ◌<◌, ◌≤◌, ◌⊎◌, None, Some, false, true};
 ghost use Rattle.spx_congestion.specs.Pacing.{MendsOn, WaitsOn, behind, is_double, waited_since};
@@ -13,12 +13,12 @@ use spx_link::Numbers;
 const MISSING: u16 = 3;
 
 impl Pacer {
-    /// The link read a packet, which made of its numbers others. `joined` is whether it is the
-    /// answer to the request.
+    /// The link read a packet, which changed its numbers from `before` to `after`. `joined` is
+    /// whether it is the reply to the request.
     ///
-    /// A packet that takes no unit from the queue, brings none, and allows no more than was allowed
-    /// is a duplicate: one of those behind a missing unit came. Three of them say that it is
-    /// missing, fewer where fewer are outstanding (RFC 5681, RFC 5827).
+    /// A packet that acknowledges no unit, brings none, and allows no more is a duplicate: a unit
+    /// after a missing one was received. Three of them mean that a unit is missing, fewer if fewer
+    /// are outstanding (RFC 5681, RFC 5827).
     pub fn heard(&mut self, before: Numbers, after: Numbers, joined: bool, now: u64)
         ensures counts { self.new.out ≡ after.out }
         ensures acknowledged { after.out < before.out
@@ -29,7 +29,7 @@ impl Pacer {
             → self.new ≡ record (with_outstanding self.old after.out now) { trip = self.new.trip } }
         ensures mends { MendsOn self.old now self.new }
         ensures ended { self.new.ended ≡ self.old.ended }
-        // What is acknowledged leaves, and nothing else does.
+        // `base` moves past what is acknowledged, and otherwise stays.
         ensures base { after.out < before.out
             → self.new.base ≡ behind self.old.base (before.out - after.out) }
         ensures stays { before.out ≤ after.out → self.new.base ≡ self.old.base }
@@ -61,7 +61,7 @@ impl Pacer {
         self.asked_at = None;
     }
 
-    /// So many units were acknowledged, and `flight` were on their way before.
+    /// So many units were acknowledged. `flight` units were in flight before.
     fn acknowledged(&mut self, units: u16, out: u16, flight: u64, now: u64)
         ensures counts { self.new.out ≡ out }
         ensures timer { self.new.timer ≡ waited_since None out now }
@@ -89,9 +89,9 @@ impl Pacer {
         }
     }
 
-    /// The last unit that an acknowledgement takes tells the round trip, where it was sent once
-    /// (RFC 6298, Karn's rule). If the least round trip is then forgotten, what may be a queue is
-    /// drained first, so that a longer path is told from a queue.
+    /// The last unit that is acknowledged gives the round trip, if it was sent only once (RFC 6298,
+    /// Karn's rule). If the least round trip is then about to be forgotten, a possible queue is
+    /// drained first, so that a longer path is not taken for a queue.
     fn measure(&mut self, units: u16, now: u64)
         ensures { self.new ≡ record self.old { trip = self.new.trip; window = self.new.window } }
     {
@@ -104,7 +104,7 @@ impl Pacer {
         }
     }
 
-    /// The window grows, where it was the limit.
+    /// The window grows, if it was the limit.
     fn grow(&mut self, units: u16, flight: u64, now: u64)
         ensures { self.new ≡ record self.old { window = self.new.window } }
     {
@@ -113,7 +113,7 @@ impl Pacer {
         }
     }
 
-    /// Units were acknowledged while something is repaired.
+    /// Units were acknowledged during a repair.
     fn mend(&mut self, units: u16, recover: u64, now: u64)
         ensures counts { self.new.out ≡ self.old.out }
         ensures timer { self.new.timer ≡ self.old.timer }
@@ -136,7 +136,7 @@ impl Pacer {
         }
     }
 
-    /// A duplicate came.
+    /// A duplicate was received.
     fn doubled(&mut self, now: u64)
         ensures counts { self.new.out ≡ self.old.out }
         ensures timer { (self.new.timer ≡ self.old.timer) ⊎ (self.new.timer ≡ Some now) }
@@ -164,14 +164,14 @@ impl Pacer {
         }
     }
 
-    /// Whether the duplicates say that the first outstanding unit is missing (RFC 6582: and not
-    /// that one went again which had come).
+    /// Whether the duplicates mean that the first outstanding unit is missing, and not that a
+    /// received unit was sent again (RFC 6582).
     fn first_is_missing(&self) -> bool {
         let wanted = self.out.saturating_sub(1).max(1).min(MISSING);
         self.dup_acks >= wanted && self.base >= self.safe
     }
 
-    /// A packet left the line while something is repaired.
+    /// A packet left the line during a repair.
     fn widen(&mut self)
         ensures { self.new ≡ record self.old { window = self.new.window } }
     {

@@ -3,8 +3,8 @@
 /// How long a period is, in milliseconds.
 const PERIOD: u64 = 10_000;
 
-/// The least round trip of the present period and of the one before, so of the last 10 to 20
-/// seconds: after a move to a longer path that of the shorter one is forgotten.
+/// The least round trip of the present period and of the one before, which are the last 10 to 20
+/// seconds. So after a move to a longer path the shorter round trip is forgotten.
 #[derive(Clone, Copy)]
 pub struct LeastTrip {
     present: Option<u64>,
@@ -23,7 +23,7 @@ impl LeastTrip {
         }
     }
 
-    /// The least one. None before anything is measured.
+    /// The least round trip. None before anything is measured.
     pub fn get(&self) -> Option<u64> {
         match (self.present, self.before) {
             (Some(present), Some(before)) => Some(present.min(before)),
@@ -31,7 +31,7 @@ impl LeastTrip {
         }
     }
 
-    /// Whether the least one is forgotten by the next round trip that is noted, though longer ones
+    /// Whether the least round trip is forgotten when the next one is noted, though longer ones
     /// were measured since.
     pub fn is_forgotten(&self, now: u64) -> bool {
         match (self.present, self.before) {
@@ -40,7 +40,7 @@ impl LeastTrip {
         }
     }
 
-    /// Notes a round trip that was measured now.
+    /// Adds a round trip that was measured now.
     pub fn note(&mut self, trip: u64, now: u64) {
         let age = self.age(now);
         if age >= 2 * PERIOD {
@@ -54,7 +54,7 @@ impl LeastTrip {
         self.present = Some(self.present.map_or(trip, |least| least.min(trip)));
     }
 
-    /// For how long the present period lasts.
+    /// How long the present period has lasted.
     fn age(&self, now: u64) -> u64 {
         now.saturating_sub(self.since)
     }

@@ -6,15 +6,14 @@ ghost use Rattle.spx_congestion.specs.Pacing.{MendsOn};
 use crate::loss_recovery::LossRecovery;
 use crate::pacer::Pacer;
 
-/// How many units that came behind the first outstanding one say that it is missing.
+/// How many received units after the first outstanding one mean that it is missing.
 const MISSING: u16 = 3;
 
 impl Pacer {
-    /// All that was outstanding as the repair began is acknowledged.
+    /// Everything that was outstanding when the repair began is acknowledged.
     ///
-    /// Where more went again than was known to be missing, the acknowledgements of those that had
-    /// come say nothing. Else units that came behind the first outstanding one say that it is
-    /// missing too.
+    /// If more was sent again than was known to be missing, duplicates caused by that mean nothing.
+    /// Otherwise received units after the first outstanding one mean that it is missing too.
     pub(crate) fn leave(&mut self, now: u64)
         ensures counts { self.new.out ≡ self.old.out }
         ensures timer { self.new.timer ≡ self.old.timer }

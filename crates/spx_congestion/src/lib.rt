@@ -1,8 +1,9 @@
-//! When the units of a connection go: how many may be on their way, which one goes again, and when.
+//! When the units of a connection are sent: how many may be in flight, which one is sent again, and
+//! when.
 //!
-//! [`Pacer`] stands beside one link of `spx_link`, and holds no unit, clock or socket: it is told
-//! of each packet that the link read or gave, and plans what the link may do at the next poll.
-//! What comes of a plan in speed is measured, and nothing of it is proved.
+//! [`Pacer`] works beside one link of `spx_link`, and holds no unit, clock or socket. The caller
+//! tells it of each packet that the link read or gave, and it plans what the link may do at the
+//! next poll. The speed that its plans give is measured, not proved.
 #![tactic(auto)]
 
 mod cubic;

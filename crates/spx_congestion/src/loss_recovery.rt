@@ -1,39 +1,39 @@
-//! Units that go again: which are to, and which did.
+//! Retransmission: which units are to be sent again, and which were.
 
 ghost use Rattle.std.specs.Prelude.{◌≡◌, ◌+◌, ◌-◌, ◌*◌, ◌^◌, ◌&&◌, Some, None, if◌then◌else◌, is_some, max, min, nat_le};
 ghost use Rattle.std.specs.Prelude.{◌⊎◌, false, not};
 ghost use Rattle.spx_congestion.specs.Pacing.{behind};
 
-/// What stands of a repair. Positions count units from 0.
+/// The state of a repair. Positions count units from 0.
 ///
-/// It begins with the first unit that is missing, and lasts until all is acknowledged that was
+/// It begins with the first missing unit, and lasts until everything is acknowledged that was
 /// outstanding then.
 #[derive(Clone, Copy)]
 pub struct LossRecovery {
-    /// The position up to which it goes. None where nothing is being repaired.
+    /// The position at which it ends. None if nothing is being repaired.
     pub recover: Option<u64>,
-    /// How many units from the first outstanding one on may go again.
+    /// How many units, from the first outstanding one on, may be sent again.
     pub run: u64,
-    /// The positions that are to go again.
+    /// The range of positions that are to be sent again.
     pub from: u64,
     pub to: u64,
-    /// The position up to which units were to go again so far, and when the first outstanding one
-    /// was.
+    /// The position up to which units were to be sent again so far, and when the first outstanding
+    /// one was.
     pub fixed: u64,
     pub fixed_at: u64,
-    /// How often the first outstanding one went again, and was missing again.
+    /// How often the first outstanding unit was sent again and was missing again.
     pub tries: u32,
-    /// Whether a queue stood on the line as it began.
+    /// Whether there was a queue on the line when it began.
     pub crowded: bool,
-    /// Whether more go again than are known to be missing.
+    /// Whether more units are sent again than are known to be missing.
     pub messy: bool,
-    /// Whether no acknowledgement moved it yet.
+    /// Whether no acknowledgement advanced it yet.
     pub fresh: bool,
-    /// Whether a wait was over.
+    /// Whether a timeout passed.
     pub timed: bool,
 }
 
-/// The longest run after a wait was over.
+/// The longest run after a timeout.
 const MAX_RUN: u64 = 64;
 
 impl LossRecovery {
@@ -60,7 +60,7 @@ impl LossRecovery {
         }
     }
 
-    /// One that begins with the unit at `base`, up to `next`.
+    /// A repair that begins with the unit at `base`, and ends at `next`.
     pub fn begin(base: u64, next: u64, now: u64) -> LossRecovery
         ensures on { result.recover ≡ Some next }
         ensures from { result.from ≡ base }
@@ -91,20 +91,20 @@ impl LossRecovery {
         self.recover.is_some()
     }
 
-    /// Whether nothing is to go again of what is outstanding from `base` on.
+    /// Whether nothing that is outstanding from `base` on is to be sent again.
     pub fn is_idle(&self, base: u64) -> bool
         ensures { result ≡ nat_le self.now.to (max self.now.from base) }
     {
         self.to <= self.from.max(base)
     }
 
-    /// Whether a duplicate says that a repair came, and not that a unit did.
+    /// Whether a duplicate means that a repair was received, and not a unit.
     pub fn counts_repairs(&self) -> bool {
         self.is_on() && (self.run > 1 || self.timed)
     }
 
-    /// An acknowledgement came, and the unit at `base` is the next that is missing: `left` of
-    /// those behind it came.
+    /// An acknowledgement was received, and the unit at `base` is the next missing one. `left` of
+    /// those after it were received.
     pub fn go_on(&mut self, base: u64, left: u64, recover: u64, now: u64)
         ensures recover { self.new.recover ≡ self.old.recover }
         ensures timed { self.new.timed ≡ self.old.timed }
@@ -122,9 +122,9 @@ impl LossRecovery {
         self.ask(base, recover, now);
     }
 
-    /// How many may go again, where so many of those wanted are missing: a sixth of them, where
-    /// many are. Where a queue stood twice as many as are missing, if that is more: of what is too
-    /// much for a line every second one is lost.
+    /// Chooses how many units may be sent again, if `missing` of `wanted` units are missing: a
+    /// sixth of `wanted`, if many are. If there was a queue, twice as many as are missing, if that
+    /// is more, since every second unit beyond a line's capacity is lost.
     fn choose_run(&mut self, wanted: u64, missing: u64)
         ensures { self.new ≡ record self.old { run = self.new.run; messy = self.new.messy } }
     {
@@ -142,7 +142,7 @@ impl LossRecovery {
         }
     }
 
-    /// Those of the run that were not to go again yet are.
+    /// Adds the units of the run that were not yet to be sent again.
     fn ask(&mut self, base: u64, recover: u64, now: u64)
         ensures recover { self.new.recover ≡ self.old.recover }
         ensures timed { self.new.timed ≡ self.old.timed }
@@ -166,8 +166,8 @@ impl LossRecovery {
         }
     }
 
-    /// When the first outstanding unit is missing again, which went again a round trip and its
-    /// slack ago. Each time doubles that. None where others are to go first.
+    /// When the first outstanding unit, which was sent again, counts as missing again: after a
+    /// round trip and its tolerance, which doubles each time. None if others are to be sent first.
     pub fn missing_at(&self, base: u64, slack: u64) -> Option<u64>
         ensures { result ≡ (if is_some self.now.recover && not self.now.timed
             && nat_le self.now.to (max self.now.from base)
@@ -180,7 +180,7 @@ impl LossRecovery {
         Some(self.fixed_at.saturating_add(slack.saturating_mul(times)))
     }
 
-    /// The first outstanding unit goes again once more.
+    /// The first outstanding unit is to be sent once more.
     pub fn repeat(&mut self, base: u64)
         ensures { self.new ≡ record self.old {
           from = base;

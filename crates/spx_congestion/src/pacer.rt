@@ -1,4 +1,4 @@
-//! The pacer of a connection: what it holds.
+//! The state of a pacer.
 
 ghost use Rattle.std.specs.Prelude.{◌≡◌, ◌&&◌, IfOk, is_some, not};
 ghost use Rattle.spx_congestion.specs.Measured.{trip_of};
@@ -14,12 +14,12 @@ use ipx_wire::OutOfMemory;
 use std::alloc::Global;
 use std::marker::Model;
 
-/// When the units of one connection go.
+/// When the units of one connection are sent.
 ///
-/// It stands beside a link that goes by hand, and is told of each packet that the link read, by
-/// [`Pacer::heard`], or gave, by [`Pacer::gave`]. Before each poll of the link one asks it what the
-/// link may do, by [`Pacer::plan`]; what else is to wake the caller, [`Pacer::next_due`] says.
-/// Moments are in milliseconds from any start, and are handed in.
+/// It works beside a manual link. The caller tells it of each packet that the link read, by
+/// [`Pacer::heard`], or gave, by [`Pacer::gave`]. Before each poll of the link the caller asks what
+/// the link may do, by [`Pacer::plan`]. [`Pacer::next_due`] says when to wake up without a packet.
+/// Times are in milliseconds from any start, and the caller passes them.
 #[derive(Drop)]
 pub struct Pacer {
     pub(crate) trip: RoundTrip,
@@ -29,28 +29,28 @@ pub struct Pacer {
     /// The position of the first outstanding unit, and how many are outstanding.
     pub(crate) base: u64,
     pub(crate) out: u16,
-    /// How many of these came, or are given up, and how many went again.
+    /// How many of these were received or are given up, and how many were sent again.
     pub(crate) left: u16,
     pub(crate) in_flight: u16,
-    /// The duplicates since the last acknowledgement of a unit, and how many more are of repairs
-    /// that were not needed, up to the position `past`.
+    /// The number of duplicates since the last acknowledgement of a unit. `ignore` more are
+    /// expected from unneeded repairs, up to the position `past`.
     pub(crate) dup_acks: u16,
     pub(crate) ignore: u64,
     pub(crate) past: u64,
-    /// The position before which nothing begins a repair again.
+    /// No repair begins again before this position.
     pub(crate) safe: u64,
-    /// Since when an acknowledgement is waited for.
+    /// Since when the pacer waits for an acknowledgement.
     pub(crate) timer: Option<u64>,
-    /// When a unit was sent last.
+    /// When a unit was last sent.
     pub(crate) spoke: Option<u64>,
-    /// When the request was sent, where it was sent once.
+    /// When the request was sent, if it was sent only once.
     pub(crate) asked_at: Option<u64>,
     pub(crate) asked: bool,
     /// Whether the end of the connection was sent.
     pub(crate) ended: bool,
-    /// When each unit was sent, where it was sent once.
+    /// When each unit was sent, if it was sent only once.
     pub(crate) sent: SendTimes,
-    /// When units went again, by how many did before.
+    /// When units were sent again, by the number of earlier retransmissions.
     pub(crate) repairs: SendTimes,
     pub(crate) repaired: u64,
 }
@@ -78,8 +78,8 @@ impl Model for Pacer {
 }
 
 impl Pacer {
-    /// A pacer of a connection that is to be made. It takes all the memory that it ever wants, and
-    /// is refused only for want of that.
+    /// A pacer for a connection that is about to be made. It allocates all the memory that it ever
+    /// needs, and is refused only if out of memory.
     pub fn new(alloc: Global) -> Result<Pacer, OutOfMemory>
         ensures { IfOk result (λ p. p ≡ made_pacer) }
     {
@@ -114,7 +114,7 @@ impl Pacer {
         self.base.saturating_add(u64::from(self.out))
     }
 
-    /// How many units are on their way.
+    /// How many units are in flight.
     pub(crate) fn flight(&self) -> u64
         ensures { result ≡ flight self.now }
     {
@@ -128,7 +128,7 @@ impl Pacer {
         (self.window.size() / UNIT).saturating_sub(self.flight())
     }
 
-    /// The place of the first outstanding unit that is to go again.
+    /// The place of the first outstanding unit that is to be sent again.
     pub(crate) fn place_again(&self) -> Option<u16>
         ensures { result ≡ place_again self.now }
     {

@@ -5,6 +5,6 @@
 pub struct Plan {
     /// How many units may be outstanding, at most 8,192.
     pub window: u16,
-    /// The place of the unit that goes again, counted from the first that is outstanding.
+    /// The place of the unit to send again, counted from the first outstanding unit.
     pub again: Option<u16>,
 }

@@ -10,10 +10,10 @@ use crate::plan::Plan;
 use spx_link::{MAX_UNITS, Numbers};
 
 impl Pacer {
-    /// What the link of these numbers may do at its next poll, at this moment.
+    /// What the link with these numbers may do at its next poll, at this time.
     ///
-    /// A unit goes again where it is missing, one where the wait for an acknowledgement was over;
-    /// with it no new one goes. What the window allows is spread over the round trip.
+    /// A missing unit is sent again, also the first one after a timeout, and then no new unit goes.
+    /// What the window allows is spread over the round trip.
     pub fn plan(&mut self, numbers: Numbers, now: u64) -> Plan
         ensures value { result ≡ plan_of self.new }
         ensures tends { Tends self.old numbers.out now self.new }
@@ -48,8 +48,8 @@ impl Pacer {
         }
     }
 
-    /// The wait for an acknowledgement was over: the first outstanding unit goes again, and the
-    /// others in order as it is acknowledged.
+    /// A timeout passed: the first outstanding unit is sent again, and the others in order as units
+    /// are acknowledged.
     fn time_out(&mut self, now: u64)
         ensures { IsTrue (is_over (waits_till self.old) now)
             → self.new ≡ record (tended self.old now) { window = self.new.window } }
@@ -65,7 +65,7 @@ impl Pacer {
         self.repair.timed = true;
     }
 
-    /// The plan.
+    /// The plan for the present state.
     fn choose(&self) -> Plan
         ensures value { result ≡ plan_of self.now }
         ensures most { result.window ≤ 8192 }
@@ -94,7 +94,7 @@ impl Pacer {
         }
     }
 
-    /// How many units may be outstanding, where none goes again.
+    /// How many units may be outstanding, if none is to be sent again.
     fn open_to(&self) -> u16
         ensures { result ≡ Rattle.spx_congestion.specs.Pacing.open_to self.now }
     {
@@ -103,7 +103,7 @@ impl Pacer {
     }
 }
 
-/// Whether there is such a moment, and it came.
+/// Whether there is such a time, and it has passed.
 fn is_over(at: Option<u64>, now: u64) -> bool
     ensures { result ≡ is_over at now }
 {

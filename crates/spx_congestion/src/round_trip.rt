@@ -1,29 +1,29 @@
-//! The measured round trip, and how long an acknowledgement is waited for (RFC 6298).
+//! The measured round trip, and the timeout of an acknowledgement (RFC 6298).
 
 ghost use Rattle.std.specs.Prelude.{◌≡◌, ◌+◌, ◌-◌, ◌^◌, min};
 ghost use Rattle.spx_congestion.specs.Measured.{doubled_wait, slack, trip_of};
 
 use crate::least_trip::LeastTrip;
 
-/// How long it is waited for before anything is measured, in milliseconds.
+/// The timeout before anything is measured, in milliseconds.
 const FIRST_WAIT: u64 = 500;
 
-/// The shortest and the longest such wait.
+/// The least and the greatest timeout, without doubling.
 const LEAST_WAIT: u64 = 200;
 
 const MAX_WAIT: u64 = 60_000;
 
-/// The longest wait that comes of doubling.
+/// The greatest timeout that doubling gives.
 const MAX_DOUBLED: u64 = 4000;
 
-/// How long the end of a connection is waited for at most, before it goes again: a listener keeps a
-/// connection some seconds behind its end, and no longer.
+/// The longest time before the end of a connection is sent again. A listener keeps a connection
+/// only some seconds after its end.
 const MAX_END_WAIT: u64 = 1000;
 
-/// The shortest time that the end of a connection is waited for, which alone is outstanding.
+/// The shortest time before the end of a connection is sent again, if only the end is outstanding.
 const LEAST_END_WAIT: u64 = 500;
 
-/// How many samples tell whether a queue stands.
+/// How many samples are used to detect a queue.
 const RECENT: usize = 8;
 
 /// The round trips of a connection, in milliseconds.
@@ -33,14 +33,14 @@ pub struct RoundTrip {
     smooth: Option<u64>,
     /// Four times its variation.
     variation: u64,
-    /// That of the request, which is no sample.
+    /// The round trip of the request, which is no sample.
     first: Option<u64>,
     wait: u64,
-    /// How often the wait was over in a row.
+    /// How often in a row the timeout passed.
     doubled: u32,
     least: LeastTrip,
     recent: [u64; RECENT],
-    /// Which of the recent ones is replaced next.
+    /// Which of the recent samples is replaced next.
     turn: usize,
 }
 
@@ -69,7 +69,7 @@ impl RoundTrip {
         self.wait = trip.saturating_mul(3).max(LEAST_WAIT);
     }
 
-    /// A unit that was sent once was acknowledged now.
+    /// A unit that was sent only once was acknowledged now.
     pub fn sample(&mut self, trip: u64, now: u64) {
         let trip = trip.max(1);
         let smooth = match self.smooth {
@@ -93,8 +93,8 @@ impl RoundTrip {
         self.note(trip);
     }
 
-    /// The round trip without a queue and the present one, where the first is about to be forgotten
-    /// and a queue seems to be on the line.
+    /// The round trip without a queue and the present one, if the first is about to be forgotten
+    /// and there seems to be a queue on the line.
     pub fn forgotten(&self, now: u64) -> Option<(u64, u64)> {
         if self.least.is_forgotten(now) && self.is_queued() {
             Some((self.least.get()?, self.smoothed()))
@@ -103,7 +103,7 @@ impl RoundTrip {
         }
     }
 
-    /// Notes a sample among the recent ones.
+    /// Adds a sample to the recent ones.
     fn note(&mut self, trip: u64) {
         if let Some(place) = self.recent.get_mut(self.turn) {
             *place = trip;
@@ -115,8 +115,8 @@ impl RoundTrip {
         };
     }
 
-    /// The smoothed round trip, at least 1. Before a sample that of the request, and where it was
-    /// asked more than once the wait.
+    /// The smoothed round trip, at least 1. Before the first sample it is the round trip of the
+    /// request. If the request was sent more than once, it is the timeout.
     pub fn smoothed(&self) -> u64
         ensures { result ≡ (trip_of self.now).smoothed }
     {
@@ -127,8 +127,8 @@ impl RoundTrip {
         }
     }
 
-    /// A round trip and what it may vary by: what was sent again and did not come by then is
-    /// missing again (RFC 8985, the reordering window).
+    /// A round trip with its tolerance. A unit that was sent again and is not acknowledged by then
+    /// is missing again (RFC 8985, the reordering window).
     pub fn with_slack(&self) -> u64
         ensures { result ≡ slack (trip_of self.now) }
     {
@@ -136,19 +136,19 @@ impl RoundTrip {
         trip.saturating_add((trip / 4).max(10))
     }
 
-    /// Whether a queue stands on the line: the least of the last eight samples is over the least
+    /// Whether there is a queue on the line: the least of the last eight samples exceeds the least
     /// of the last seconds by an eighth, at least 4 and at most 16 (RFC 9406, its threshold).
     pub fn is_queued(&self) -> bool {
         self.is_over(8, 16)
     }
 
-    /// Whether one begins to stand: it is over by a 32nd, at least 4 and at most 8.
+    /// Whether a queue begins to form: the excess is a 32nd, at least 4 and at most 8.
     pub fn is_slowing(&self) -> bool {
         self.is_over(32, 8)
     }
 
-    /// Whether the last eight samples are over the least of all by that part of it, at least 4 and
-    /// at most so many.
+    /// Whether the last eight samples exceed the least of all by that fraction of it, at least 4
+    /// and at most `most`.
     fn is_over(&self, part: u64, most: u64) -> bool {
         let Some(least) = self.least.get() else {
             return false;
@@ -159,12 +159,12 @@ impl RoundTrip {
             .all(|trip| *trip >= least.saturating_add(over))
     }
 
-    /// The plain wait, without doubling.
+    /// The timeout without doubling.
     pub fn plain_wait(&self) -> u64 {
         self.wait
     }
 
-    /// How long an acknowledgement is waited for.
+    /// The timeout of an acknowledgement.
     pub fn wait(&self) -> u64
         ensures { result ≡ doubled_wait (trip_of self.now) }
     {
@@ -175,27 +175,26 @@ impl RoundTrip {
             .max(self.wait)
     }
 
-    /// How long that of the end of a connection is waited for, which alone is outstanding, before it
-    /// goes again.
+    /// If only the end of a connection is outstanding, how long to wait before it is sent again.
     pub fn end_wait(&self) -> u64
         ensures { result ≡ Rattle.spx_congestion.specs.Measured.end_wait (trip_of self.now) }
     {
         self.wait.max(LEAST_END_WAIT).min(MAX_END_WAIT)
     }
 
-    /// Whether the wait was not over since the last acknowledgement.
+    /// Whether no timeout passed since the last acknowledgement.
     pub fn is_first_wait(&self) -> bool {
         self.doubled == 0
     }
 
-    /// How often in a row the wait was over.
+    /// How many timeouts passed in a row.
     pub fn timeouts(&self) -> u32
         ensures { result ≡ (trip_of self.now).doubled }
     {
         self.doubled
     }
 
-    /// The wait was over.
+    /// A timeout passed.
     pub fn back_off(&mut self)
         ensures { self.new ≡ record self.old { doubled = min (self.old.doubled + 1) (2 ^ 32 - 1) } }
     {

@@ -1,22 +1,22 @@
-//! Credit: what may be sent at once, so that sends are spread over the round trip.
+//! Credit: how much may be sent at once, so that units are spread over the round trip.
 
 ghost use Rattle.std.specs.Prelude.{◌≡◌, ◌<◌, ◌+◌, ◌-◌, ◌*◌, ◌/◌, ◌^◌, if◌then◌else◌, max, min, nat_lt};
 
 use crate::window::UNIT;
 
-/// The credit at first, and what it may always grow to, in 256ths of a unit.
+/// The initial credit, to which it may always grow, in 256ths of a unit.
 const FIRST: u64 = 10 * UNIT;
 
-/// The credit of a sender, in 256ths of a unit. Each unit takes one of them away.
+/// The credit of a sender, in 256ths of a unit. Each unit sent costs 256.
 #[derive(Clone, Copy)]
 pub struct SendBudget {
     amount: u64,
-    /// Till when it has grown.
+    /// Until when it has grown.
     tick: u64,
 }
 
 impl SendBudget {
-    /// The credit at first.
+    /// The initial credit.
     pub fn new() -> SendBudget
         ensures { result ≡ record { amount = 2560; tick = 0 } }
     {
@@ -26,7 +26,8 @@ impl SendBudget {
         }
     }
 
-    /// It grows till a moment by `rate` a millisecond, up to what four of them bring.
+    /// Grows the credit until `now` by `rate` a millisecond, up to four milliseconds' worth, or ten
+    /// units.
     pub fn grow(&mut self, rate: u64, now: u64)
         requires { rate < 2 ^ 62 }
         ensures amount { self.new.amount ≡ (if nat_lt self.old.tick now
@@ -50,7 +51,7 @@ impl SendBudget {
         self.amount >= UNIT
     }
 
-    /// For how many units there is.
+    /// How many units the credit is enough for.
     pub fn units(&self) -> u64
         ensures { result ≡ self.now.amount / 256 }
     {

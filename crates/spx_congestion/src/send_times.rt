@@ -1,36 +1,36 @@
-//! Moments in a ring, by the positions of what they are of.
+//! Times in a ring, by position.
 
 use std::alloc::{AllocError, Global};
 
-/// How many moments a ring holds.
+/// How many times a ring holds.
 const PLACES: usize = 8192;
 
-/// The moments of the last 8,192 positions, of which each has one or none.
+/// The times of the last 8,192 positions. Each position has one or none.
 #[derive(Drop)]
 pub struct SendTimes {
     ring: Vec<Option<u64>>,
 }
 
 impl SendTimes {
-    /// No moment at any position.
+    /// A ring without times.
     pub fn new(alloc: Global) -> Result<SendTimes, AllocError> {
         let ring = vec![in alloc; None; PLACES]?;
         Ok(SendTimes { ring })
     }
 
-    /// The moment at a position.
+    /// The time at a position.
     pub fn at(&self, position: u64) -> Option<u64> {
         self.ring.get(place_of(position)).copied().flatten()
     }
 
-    /// Notes a moment at a position, in place of that of 8,192 positions before.
+    /// Stores a time at a position. It replaces that of the position 8,192 before.
     pub fn put(&mut self, position: u64, moment: Option<u64>) {
         if let Some(place) = self.ring.get_mut(place_of(position)) {
             *place = moment;
         }
     }
 
-    /// How many moments are no earlier than one.
+    /// How many times are no earlier than `moment`.
     pub fn count_since(&self, moment: u64) -> u64 {
         let mut count: u64 = 0;
         for at in &self.ring {

@@ -8,23 +8,23 @@ use spx_link::Sent;
 /// The datastream type of the end of a connection.
 const END_STREAM: u8 = 0xfe;
 
-/// What a packet was that a link gave.
+/// What kind of packet a link gave.
 #[derive(Clone, Copy, Debug, PartialEq, Eq)]
 pub enum SentKind {
-    /// It asks for a connection.
+    /// It requests a connection.
     Request,
     /// A unit for the first time.
     Unit,
-    /// The end of the connection for the first time. No unit comes behind it.
+    /// The end of the connection for the first time. No unit comes after it.
     End,
     /// A unit, or the end, that was sent before.
     Again,
-    /// Anything else: it is of no unit of this side.
+    /// Anything else: it carries no unit of this side.
     Other,
 }
 
 impl SentKind {
-    /// What a packet was, by what it was sent for and by the datastream type that it has.
+    /// The kind of a packet, by what it was sent for and by its datastream type.
     pub fn of(what: Sent, stream: u8) -> SentKind
         ensures { result ≡ gave_of what stream }
     {

@@ -1,4 +1,4 @@
-//! The window: how many units may be on their way, in 256ths of a unit.
+//! The window: how many units may be in flight, in 256ths of a unit.
 
 ghost use Rattle.std.specs.Prelude.{◌≡◌, ◌<◌, ◌≤◌, ◌^◌};
 
@@ -8,19 +8,19 @@ use crate::round_trip::RoundTrip;
 /// A unit, as windows count it.
 pub const UNIT: u64 = 256;
 
-/// The window at first: 14,418 bytes (RFC 6928: 14,600).
+/// The initial window: 14,418 bytes (RFC 6928: 14,600).
 const FIRST: u64 = 27 * UNIT;
 
-/// Under it little is lost where slow start ends too late.
+/// Below this size little is lost if slow start ends too late.
 const SMALL: u64 = 256 * UNIT;
 
-/// The least window of a decrease, and the most of all.
+/// The least window after a decrease, and the greatest window.
 const LEAST: u64 = 4 * UNIT;
 
 const MAX: u64 = 8192 * UNIT;
 
-/// Since when the window follows the cubic, and in how many milliseconds that comes back to where
-/// the last decrease was.
+/// When the cubic growth of the window began, and after how many milliseconds the window is back at
+/// the size before the last decrease.
 #[derive(Clone, Copy)]
 struct Epoch {
     since: u64,
@@ -31,12 +31,12 @@ struct Epoch {
 #[derive(Clone, Copy)]
 pub struct Window {
     size: u64,
-    /// Under it the window is in slow start.
+    /// Below it the window is in slow start.
     threshold: u64,
-    /// What it was at the last decrease.
+    /// The size before the last decrease.
     top: u64,
     epoch: Option<Epoch>,
-    /// What three flows that grow by one unit a round trip would have.
+    /// The window of three flows that each grow by one unit a round trip.
     estimate: u64,
     /// Whether a queue ended slow start, and nothing was missing since.
     fresh: bool,
@@ -45,7 +45,7 @@ pub struct Window {
 }
 
 impl Window {
-    /// The window at first.
+    /// The initial window.
     pub fn new() -> Window
         ensures { result.size ≡ 6912 }
     {
@@ -71,8 +71,8 @@ impl Window {
         self.size < self.threshold
     }
 
-    /// Whether it was the limit, where so many units were on their way. In slow start half of it is
-    /// enough: what acknowledgements allow then waits for its credit.
+    /// Whether the window was the limit, with so many units in flight. In slow start half of it is
+    /// enough, since the rest still waits for credit.
     pub fn is_limit(&self, flight: u64) -> bool {
         let used = if self.is_starting() {
             flight.saturating_mul(2)
@@ -100,8 +100,8 @@ impl Window {
         }
     }
 
-    /// Whether the queue that ended slow start was none: within five round trips it is gone (RFC 9406,
-    /// its conservative slow start).
+    /// Whether the queue that ended slow start was a false alarm: it is gone within five round
+    /// trips (RFC 9406, its conservative slow start).
     fn is_to_start_again(&self, now: u64, trip: &RoundTrip) -> bool {
         let since = match self.epoch {
             Some(epoch) => epoch.since,
@@ -111,13 +111,13 @@ impl Window {
         self.fresh && !trip.is_slowing() && now.saturating_sub(since) <= soon
     }
 
-    /// Whether slow start ends: a queue stands on the line, or one begins to, and the window is not
-    /// small any more.
+    /// Whether slow start ends: there is a queue on the line, or one begins and the window is no
+    /// longer small.
     fn ends_start(&self, trip: &RoundTrip) -> bool {
         trip.is_queued() || (self.size >= SMALL && trip.is_slowing())
     }
 
-    /// Grows as RFC 9438 has it, of three flows.
+    /// Grows as in RFC 9438, as fast as three flows.
     fn climb(&mut self, units: u64, now: u64, trip: &RoundTrip) {
         let epoch = self.epoch_at(now);
         let share = self.share_of(units.saturating_mul(3));
@@ -135,7 +135,7 @@ impl Window {
         self.widen(part);
     }
 
-    /// The epoch, which begins now where none has.
+    /// The epoch. If there is none, one begins now.
     fn epoch_at(&mut self, now: u64) -> Epoch {
         if let Some(epoch) = self.epoch {
             return epoch;
@@ -149,29 +149,30 @@ impl Window {
         epoch
     }
 
-    /// What half of so many units a round trip are at the acknowledgement of one.
+    /// The growth at the acknowledgement of one unit, if the window grows by half of `units` a
+    /// round trip.
     fn share_of(&self, units: u64) -> u64 {
         units.saturating_mul(UNIT * UNIT) / self.size.saturating_mul(2).max(1)
     }
 
-    /// Wider, up to the most.
+    /// Widens the window, up to the greatest.
     fn widen(&mut self, by: u64) {
         self.size = self.size.saturating_add(by).min(MAX);
     }
 
-    /// Wider, up to where slow start ends.
+    /// Widens the window, up to the threshold of slow start.
     pub fn widen_to_threshold(&mut self, by: u64) {
         let wider = self.size.saturating_add(by).min(self.threshold);
         self.size = self.size.max(wider).min(MAX);
     }
 
-    /// A packet left the line while units are sent again, and no queue stood there.
+    /// A packet left the line during a repair, and there was no queue.
     pub fn widen_in_repair(&mut self) {
         self.widen(self.share_of(3));
     }
 
-    /// A unit is missing: the window lessens, more where a queue stands on the line, and where slow
-    /// start may have gone too far.
+    /// A unit is missing, so the window decreases. It decreases more if there is a queue on the
+    /// line, or if slow start may have gone too far.
     pub fn lessen(&mut self, queued: bool) {
         self.top = self.size;
         self.epoch = None;
@@ -187,8 +188,8 @@ impl Window {
         self.fresh = false;
     }
 
-    /// As much as a round trip without a queue carries, and an eighth less: what is on the line
-    /// drains.
+    /// Sets the window to what a round trip without a queue carries, less an eighth, so that the
+    /// queue drains.
     pub fn drain(&mut self, least: u64, trip: u64) {
         self.top = self.size;
         self.epoch = None;
@@ -198,8 +199,7 @@ impl Window {
         self.fresh = false;
     }
 
-    /// The wait for an acknowledgement was over. `first` is whether it is so for the first time
-    /// since one came.
+    /// A timeout passed. `first` is whether it is the first since an acknowledgement.
     pub fn collapse(&mut self, first: bool) {
         if first {
             self.threshold = fraction(self.size, 7, 10);
@@ -210,13 +210,13 @@ impl Window {
         self.size = LEAST;
     }
 
-    /// Nothing was on its way for as long as an acknowledgement is waited for (RFC 5681).
+    /// Nothing was in flight for as long as the timeout (RFC 5681).
     pub fn rest(&mut self) {
         self.size = self.size.min(FIRST);
     }
 
-    /// By how much credit grows in a millisecond, in 256ths of a unit: twice what a round trip
-    /// carries in slow start, else five quarters of it.
+    /// By how much credit grows in a millisecond, in 256ths of a unit. In slow start it is twice
+    /// what a round trip carries, otherwise five quarters of it.
     pub fn rate(&self, trip: u64) -> u64
         ensures some { 1 ≤ result }
         ensures bound { result < 2 ^ 62 }
@@ -230,7 +230,7 @@ impl Window {
     }
 }
 
-/// A part of a window, and no less than the least.
+/// A fraction of a window, and no less than the least.
 fn fraction(size: u64, part: u64, of: u64) -> u64
     ensures least { 1024 ≤ result }
     ensures most { result ≤ 2097152 }

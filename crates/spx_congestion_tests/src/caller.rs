@@ -5,7 +5,7 @@ use spx_congestion::{Pacer, Plan, SentKind};
 use spx_link::{Link, Received, Unit};
 use std::test::Fail;
 
-/// A link, and the pacer beside it.
+/// A link and its pacer.
 #[derive(Drop)]
 struct Sender {
     link: Link,
@@ -36,7 +36,7 @@ impl Sender {
     }
 }
 
-/// A packet of the connection itself.
+/// A system packet of the connection.
 fn system(ack: u16, limit: u16) -> SpxHeader {
     SpxHeader {
         system: true,
@@ -51,7 +51,7 @@ fn system(ack: u16, limit: u16) -> SpxHeader {
     }
 }
 
-/// A link that asks and is answered after 30 ms, one unit, and its acknowledgement.
+/// A link that dials and is answered after 30 ms, one unit, and its acknowledgement.
 #[test]
 fn a_link_and_its_pacer(rt: HostRuntime) -> Result<(), Fail> {
     let far = Address {

@@ -1,5 +1,5 @@
-//! Tests of the pacing of a connection, with literal values, and over lines with a clock of their
-//! own. They call what that crate makes public, and no crate stands on this one.
+//! Tests of the pacing of a connection, with literal values, and over simulated lines with a clock
+//! of their own. They call the public functions of that crate, and no crate depends on this one.
 #![tactic(auto)]
 
 #[cfg(test)]

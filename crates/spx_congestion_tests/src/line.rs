@@ -1,4 +1,4 @@
-//! A line between a sender that is paced and a listener, with a clock of its own.
+//! A simulated line between a paced sender and a listener, with a clock of its own.
 
 use spx_congestion::{Pacer, SentKind};
 use spx_link::Numbers;
@@ -9,7 +9,7 @@ use std::test::Fail;
 /// How many buffers the listener has.
 const BUFFERS: u64 = 8192;
 
-/// The bytes of a unit and of an acknowledgement on the wire, with the headers of IP and UDP.
+/// The bytes of a unit and of an acknowledgement on the line, with the headers of IP and UDP.
 const UNIT: u64 = 604;
 
 const ACKNOWLEDGEMENT: u64 = 70;
@@ -17,21 +17,21 @@ const ACKNOWLEDGEMENT: u64 = 70;
 /// The seeds of the two directions.
 const SEEDS: [u64; 2] = [1, 2];
 
-/// A millisecond, in nanoseconds, which the clock counts.
+/// A millisecond in nanoseconds, in which the clock counts.
 const MS: u64 = 1_000_000;
 
-/// What a line does, the same in both directions.
+/// The properties of a line, the same in both directions.
 #[derive(Clone, Copy)]
 pub struct Terms {
     /// Kilobits a second.
     pub rate: u64,
     /// The round trip, in milliseconds.
     pub trip: u64,
-    /// How many packets wait for the rate. One more is dropped.
+    /// How many packets fit in the queue for the rate. One more is dropped.
     pub queue: usize,
-    /// Of so many packets the last is lost. None where 0.
+    /// The last of every so many packets is lost. None is if 0.
     pub every: u64,
-    /// Of a thousand so many are lost, drawn from a seed.
+    /// How many of a thousand packets are lost at random, drawn from a seed.
     pub drawn: u64,
 }
 
@@ -43,9 +43,9 @@ struct Way {
     draws: u64,
     /// When the last packet has left the queue.
     free: u64,
-    /// When those that wait leave it.
+    /// When the waiting packets leave the queue.
     waiting: VecDeque<u64>,
-    /// What is on its way, and when it comes.
+    /// The packets on their way, and when they arrive.
     coming: VecDeque<(u64, u64)>,
 }
 
@@ -71,7 +71,7 @@ impl Way {
         (every > 0 && self.count % every == 0) || self.draws % 1000 < self.terms.drawn
     }
 
-    /// A packet of so many bytes comes in.
+    /// A packet of so many bytes enters the line.
     fn put(&mut self, now: u64, bytes: u64, what: u64) -> Result<(), Fail> {
         if self.loses() {
             return Ok(());
@@ -89,12 +89,12 @@ impl Way {
         Ok(())
     }
 
-    /// When the next packet comes out.
+    /// When the next packet leaves the line.
     fn next(&self) -> u64 {
         self.coming.front().map_or(u64::MAX, |it| it.0)
     }
 
-    /// The packet that comes out at a moment.
+    /// The packet that leaves the line at this time.
     fn take(&mut self, now: u64) -> Option<u64> {
         if self.next() != now {
             return None;
@@ -103,8 +103,8 @@ impl Way {
     }
 }
 
-/// A sender with units without end, a line, and a listener that takes each unit at once and
-/// acknowledges each packet.
+/// A sender with an endless supply of units, a line, and a listener that takes each unit at once
+/// and acknowledges each packet.
 #[derive(Drop)]
 pub struct Course {
     pacer: Pacer,
@@ -113,10 +113,10 @@ pub struct Course {
     /// The first outstanding unit, and the next new one.
     base: u64,
     next: u64,
-    /// The unit that the listener waits for, and which of the next it has.
+    /// The unit that the listener waits for, and which of the following ones it has.
     expected: u64,
     came: Vec<bool>,
-    /// How often any unit was sent.
+    /// How many units were sent, with retransmissions.
     sent: u64,
     now: u64,
     /// Whether the connection was given up.
@@ -124,7 +124,7 @@ pub struct Course {
 }
 
 impl Course {
-    /// A connection that was asked for at 0.
+    /// A connection that was requested at 0.
     pub fn new(alloc: Global, terms: Terms) -> Result<Course, Fail> {
         let mut course = Course {
             pacer: Pacer::new(alloc)?,
@@ -159,7 +159,7 @@ impl Course {
         }
     }
 
-    /// Goes on till a moment, in milliseconds.
+    /// Runs until a time, in milliseconds.
     pub fn run_till(&mut self, till: u64) -> Result<(), Fail> {
         while self.now < till * MS && !self.lost {
             self.poll()?;
@@ -178,13 +178,13 @@ impl Course {
         Ok(())
     }
 
-    /// The sender's turn: polls till nothing is given.
+    /// The sender's turn: polls until nothing is given.
     fn poll(&mut self) -> Result<(), Fail> {
         while self.poll_once()? {}
         Ok(())
     }
 
-    /// One poll, as a link by hand answers it: whether it gave anything.
+    /// One poll, which answers as a manual link does. Returns whether it gave anything.
     fn poll_once(&mut self) -> Result<bool, Fail> {
         let numbers = self.numbers();
         let plan = self.pacer.plan(numbers, self.now / MS);
@@ -210,7 +210,7 @@ impl Course {
         Ok(true)
     }
 
-    /// A unit comes to the listener, which acknowledges it.
+    /// A unit arrives at the listener, which acknowledges it.
     fn arrive(&mut self) -> Result<(), Fail> {
         let Some(position) = self.there.take(self.now) else {
             return Ok(());
@@ -225,7 +225,7 @@ impl Course {
         self.back.put(self.now, ACKNOWLEDGEMENT, self.expected)
     }
 
-    /// An acknowledgement comes to the sender.
+    /// An acknowledgement arrives at the sender.
     fn hear(&mut self) {
         let Some(expected) = self.back.take(self.now) else {
             return;
@@ -241,7 +241,7 @@ impl Course {
         self.expected * 534 * 1000 / (self.now / MS)
     }
 
-    /// How many units were sent for a hundred that were needed.
+    /// How many units were sent for each hundred that were needed.
     pub fn sent_for_a_hundred(&self) -> u64 {
         self.sent * 100 / self.expected.max(1)
     }

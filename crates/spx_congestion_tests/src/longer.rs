@@ -4,9 +4,9 @@ use crate::numbers::Paced;
 use std::collections::VecDeque;
 use std::test::Fail;
 
-/// Round trips of 50 ms, and half a minute later of 70, which is over 50 by more than an eighth.
-/// The shorter ones are forgotten by then, so that no queue is suspected and slow start goes on: at
-/// 27 units and twice as many each 70 ms, over 100 are on their way half a second later.
+/// Round trips of 50 ms, and of 70 half a minute later, which is over an eighth more than 50. The
+/// shorter ones are forgotten by then. So no queue is suspected, and slow start goes on. From 27
+/// units, doubled every 70 ms, over 100 are in flight half a second later.
 #[test]
 fn a_longer_path_is_no_queue(rt: HostRuntime) -> Result<(), Fail> {
     let mut paced = Paced::joined(rt.alloc(), 50)?;

@@ -1,4 +1,4 @@
-//! The numbers of a link, and a pacer beside one.
+//! The numbers of a link, and a pacer that is told of them.
 
 use spx_congestion::{Pacer, Plan, SentKind};
 use spx_link::Numbers;
@@ -18,7 +18,7 @@ pub fn numbers(base: u16, out: u16) -> Numbers {
     }
 }
 
-/// A pacer beside a link of which it is told.
+/// A pacer, and the link state that it is told of.
 #[derive(Drop)]
 pub struct Paced {
     pub pacer: Pacer,
@@ -27,7 +27,7 @@ pub struct Paced {
 }
 
 impl Paced {
-    /// A link that asked at 0, and was answered after so many milliseconds.
+    /// A link that dialed at 0, and was answered after so many milliseconds.
     pub fn joined(alloc: Global, trip: u64) -> Result<Paced, Fail> {
         let mut pacer = Pacer::new(alloc)?;
         pacer.plan(numbers(0, 0), 0);
@@ -53,7 +53,7 @@ impl Paced {
         }
     }
 
-    /// The link gives as many units as the plan lets go.
+    /// The link gives as many units as the plan allows.
     pub fn fill(&mut self, now: u64) {
         let more = self.plan(now).window.saturating_sub(self.out);
         self.send(more, now);
@@ -71,7 +71,7 @@ impl Paced {
             .gave(SentKind::End, numbers(self.base, self.out), now);
     }
 
-    /// The link gives a unit again.
+    /// The link sends a unit again.
     pub fn send_again(&mut self, now: u64) {
         self.pacer
             .gave(SentKind::Again, numbers(self.base, self.out), now);
@@ -86,7 +86,7 @@ impl Paced {
             .heard(before, numbers(self.base, self.out), false, now);
     }
 
-    /// So many acknowledgements come that say the same as the last one.
+    /// So many duplicates of the last acknowledgement are received.
     pub fn double(&mut self, count: u16, now: u64) {
         for _ in 0..count {
             let same = numbers(self.base, self.out);
@@ -95,7 +95,7 @@ impl Paced {
     }
 }
 
-/// A plan that lets so many units be outstanding.
+/// A plan that allows so many outstanding units.
 pub fn window(window: u16) -> Plan {
     Plan {
         window,

@@ -1,12 +1,12 @@
-//! A pacer where memory is refused.
+//! A pacer when memory is refused.
 
 use crate::numbers::numbers;
 use ipx_wire::OutOfMemory;
 use spx_congestion::{Pacer, SentKind};
 use std::test::Fail;
 
-/// The two requests for memory of a pacer: where one is refused, no pacer is made, and the same
-/// call again succeeds. No other call asks for any.
+/// A pacer makes two allocations. If one is refused, no pacer is made, and the same call succeeds
+/// the next time. No other call allocates.
 #[test]
 fn refused_pacer(rt: HostRuntime) -> Result<(), Fail> {
     let mut pacer = match Pacer::new(rt.alloc()) {

@@ -1,4 +1,4 @@
-//! Units that are missing, and go again before a wait is over.
+//! Missing units that are sent again before a timeout.
 
 use crate::numbers::{Paced, again, window};
 use std::alloc::Global;
@@ -12,8 +12,9 @@ fn with_ten_out(alloc: Global) -> Result<Paced, Fail> {
     Ok(paced)
 }
 
-/// Three duplicates say that it is missing: 27 x 3/5 = 16 units from then on, of which 8 are on
-/// their way: 10 - 3 that came + 1 that goes again. Credit is for ten, less that one.
+/// Three duplicates mean that it is missing. The window is then 27 x 3/5 = 16 units, and 8 are in
+/// flight: 10, less 3 that were received, and 1 that is sent again. Credit is for ten, less that
+/// one.
 #[test]
 fn three_duplicates(rt: HostRuntime) -> Result<(), Fail> {
     let mut paced = with_ten_out(rt.alloc())?;
@@ -25,13 +26,13 @@ fn three_duplicates(rt: HostRuntime) -> Result<(), Fail> {
     assert_eq!(rt; paced.plan(200), window(18));
     paced.send(8, 200);
     assert_eq!(rt; paced.plan(200), window(18));
-    // A duplicate more: 1.5 / 16.2 of a unit, and one fewer is on its way: 15 of 16.
+    // One duplicate more: 1.5 / 16.2 of a unit, and one fewer is in flight: 15 of 16.
     paced.double(1, 300);
     assert_eq!(rt; paced.plan(300), window(19));
     Ok(())
 }
 
-/// Fewer where fewer are outstanding: two of three, and one of two.
+/// Fewer duplicates if fewer are outstanding: two of three, and one of two.
 #[test]
 fn few_outstanding(rt: HostRuntime) -> Result<(), Fail> {
     for (out, wanted) in [(1, 1), (2, 1), (3, 2), (4, 3), (5, 3)] {
@@ -46,8 +47,8 @@ fn few_outstanding(rt: HostRuntime) -> Result<(), Fail> {
     Ok(())
 }
 
-/// Each acknowledgement shows the next that is missing, until all is acknowledged that was
-/// outstanding as it began.
+/// Each acknowledgement shows the next missing unit, until everything is acknowledged that was
+/// outstanding when the repair began.
 #[test]
 fn a_second_hole(rt: HostRuntime) -> Result<(), Fail> {
     let mut paced = with_ten_out(rt.alloc())?;
@@ -65,15 +66,15 @@ fn a_second_hole(rt: HostRuntime) -> Result<(), Fail> {
     Ok(())
 }
 
-/// What went again and is missing again goes once more a round trip and a quarter later, and then
-/// after twice that.
+/// A unit that was sent again and is missing again is sent once more a round trip and a quarter
+/// later. The time after that is twice as long.
 #[test]
 fn missing_again(rt: HostRuntime) -> Result<(), Fail> {
     let mut paced = with_ten_out(rt.alloc())?;
     paced.double(9, 200);
     paced.plan(200);
     paced.send_again(200);
-    // All came but that one: the wait would be over at 500.
+    // All were received except that one: the timeout would be at 500.
     assert_eq!(rt; paced.pacer.next_due(200), Some(325));
     assert_eq!(rt; paced.plan(324).again, None);
     assert_eq!(rt; paced.plan(325), again(0));
@@ -84,8 +85,8 @@ fn missing_again(rt: HostRuntime) -> Result<(), Fail> {
     Ok(())
 }
 
-/// Acknowledgements that come behind a wait that was too short say nothing of what is missing:
-/// as many as went again in the last round trip.
+/// Acknowledgements after a timeout that was too short do not show what is missing: as many as were
+/// sent again in the last round trip.
 #[test]
 fn repairs_that_were_not_needed(rt: HostRuntime) -> Result<(), Fail> {
     let mut paced = with_ten_out(rt.alloc())?;

@@ -1,12 +1,12 @@
-//! Worked rows: moment, window and place.
+//! Worked examples: time, window and place.
 
 use crate::numbers::{Paced, again, numbers, window};
 use spx_congestion::{Pacer, SentKind};
 use spx_link::{Numbers, Sent};
 use std::test::Fail;
 
-/// A window of 27 units, of which ten go at once, and the others spread over the round trip: of
-/// 100 ms a unit each two, since 2 x 6,912 / 100 = 138 of 256 come in a millisecond.
+/// A window of 27 units. Ten are sent at once, and the others are spread over the round trip: one
+/// every two milliseconds at 100 ms, since 2 x 6,912 / 100 = 138 of 256 come in a millisecond.
 #[test]
 fn a_window_is_spread(rt: HostRuntime) -> Result<(), Fail> {
     let mut paced = Paced::joined(rt.alloc(), 100)?;
@@ -26,13 +26,13 @@ fn a_window_is_spread(rt: HostRuntime) -> Result<(), Fail> {
     paced.send(10, 200);
     assert_eq!(rt; paced.plan(250), window(27));
     paced.send(6, 250);
-    // All 27 are on their way: nothing is held back, and the wait is 3 x 100 from the first on.
+    // All 27 are in flight: nothing is held back, and the wait is 3 x 100 from the first on.
     assert_eq!(rt; paced.plan(251), window(27));
     assert_eq!(rt; paced.pacer.next_due(251), Some(400));
     Ok(())
 }
 
-/// In slow start a unit that is acknowledged lets two go.
+/// In slow start each acknowledged unit lets two go.
 #[test]
 fn slow_start(rt: HostRuntime) -> Result<(), Fail> {
     let mut paced = Paced::joined(rt.alloc(), 100)?;
@@ -41,12 +41,12 @@ fn slow_start(rt: HostRuntime) -> Result<(), Fail> {
         assert!(rt; more <= 27);
         paced.send(if now < 300 { 10 } else { 7 }, now);
     }
-    // A unit of the first ten: 28 units, 26 of them on their way. Its round trip is 200 ms, so
-    // credit grows by 2 x 7,168 / 200 = 71.
+    // A unit of the first ten: 28 units, 26 of them in flight. Its round trip is 200 ms, so credit
+    // grows by 2 x 7,168 / 200 = 71.
     paced.acknowledge(1, 300);
     assert_eq!(rt; paced.plan(310), window(28));
-    // Nine more at once count as four: 32, and 17 on their way. The round trip is 1,620 / 8 = 202,
-    // and the credit 3 x 256 + 10 x 71 + 10 x (2 x 8,192 / 202 = 81) = 2,288, for eight.
+    // Nine more at once count as four: 32, and 17 in flight. The round trip is 1,620 / 8 = 202, and
+    // the credit 3 x 256 + 10 x 71 + 10 x (2 x 8,192 / 202 = 81) = 2,288, for eight.
     paced.acknowledge(9, 320);
     assert_eq!(rt; paced.plan(320), window(25));
     assert_eq!(rt; paced.plan(360), window(27));
@@ -55,7 +55,7 @@ fn slow_start(rt: HostRuntime) -> Result<(), Fail> {
     Ok(())
 }
 
-/// What is neither an acknowledgement that came before nor a loss.
+/// Packets that are neither a duplicate nor a sign of loss.
 #[test]
 fn what_is_no_duplicate(rt: HostRuntime) -> Result<(), Fail> {
     let mut paced = Paced::joined(rt.alloc(), 100)?;
@@ -81,7 +81,7 @@ fn what_is_no_duplicate(rt: HostRuntime) -> Result<(), Fail> {
     Ok(())
 }
 
-/// After an idle wait the window is 27 units at most.
+/// After an idle timeout the window is at most 27 units.
 #[test]
 fn idle(rt: HostRuntime) -> Result<(), Fail> {
     let mut paced = Paced::joined(rt.alloc(), 10)?;
@@ -104,7 +104,7 @@ fn idle(rt: HostRuntime) -> Result<(), Fail> {
     Ok(())
 }
 
-/// Whatever numbers are handed in, a call returns, and a plan keeps its bounds.
+/// Whatever numbers are passed, a call returns, and a plan keeps its bounds.
 #[test]
 fn numbers_that_do_not_fit(rt: HostRuntime) -> Result<(), Fail> {
     let most = Numbers {
@@ -137,7 +137,7 @@ fn numbers_that_do_not_fit(rt: HostRuntime) -> Result<(), Fail> {
     Ok(())
 }
 
-/// What a packet is counted as.
+/// How each packet is counted.
 #[test]
 fn what_a_link_gave(rt: HostRuntime) {
     for (what, stream, gave) in [
@@ -155,7 +155,8 @@ fn what_a_link_gave(rt: HostRuntime) {
     }
 }
 
-/// A place is counted from the first outstanding unit, and a plan that asks lets no new unit go.
+/// A place is counted from the first outstanding unit. A plan that asks for one lets no new unit
+/// go.
 #[test]
 fn a_plan_that_asks(rt: HostRuntime) -> Result<(), Fail> {
     let mut paced = Paced::joined(rt.alloc(), 100)?;

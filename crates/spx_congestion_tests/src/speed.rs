@@ -1,13 +1,13 @@
-//! A sender over lines: what the listener gets, with a queue of 100 packets each way. The bounds
-//! are those of a simulation that was made before, apart from this code, of the same lines and of
-//! TCP beside them; nothing of it is proved.
+//! A sender over simulated lines: what the listener gets, with a queue of 100 packets each way. The
+//! bounds are from an earlier simulation, separate from this code, of the same lines with TCP for
+//! comparison. None of this is proved.
 
 use crate::line::{Course, Terms};
 use std::process::Abort;
 use std::test::Fail;
 
-/// A line, how many seconds it is used, the least bytes a second, and the most units sent for a
-/// hundred.
+/// A line, how many seconds it is used, the least bytes per second, and the most units sent for
+/// each hundred needed.
 type Row = (Terms, u64, u64, u64);
 
 const fn line(rate: u64, trip: u64, every: u64, drawn: u64) -> Terms {
@@ -54,8 +54,9 @@ fn lines_without_loss(rt: HostRuntime) -> Result<(), Fail> {
     Ok(())
 }
 
-/// Where every hundredth packet is lost each way: 0.95 of what was simulated where one of a hundred
-/// is, by chance, and what TCP has at 20 Mbit/s and 50 ms: losses at even distances are dearer.
+/// Every hundredth packet is lost each way. The bound is 0.95 of what was simulated with a random
+/// loss of one in a hundred. At 20 Mbit/s and 50 ms it is what TCP has, since evenly spaced losses
+/// cost more.
 #[test]
 fn every_hundredth_lost(rt: HostRuntime) -> Result<(), Fail> {
     for row in [
@@ -70,7 +71,7 @@ fn every_hundredth_lost(rt: HostRuntime) -> Result<(), Fail> {
     Ok(())
 }
 
-/// Where one of a hundred is lost by chance: 0.5 MB/s at 20 Mbit/s and 50 ms.
+/// One of a hundred is lost at random: 0.5 MB/s at 20 Mbit/s and 50 ms.
 #[test]
 fn one_of_a_hundred_lost(rt: HostRuntime) -> Result<(), Fail> {
     for row in [
@@ -82,9 +83,9 @@ fn one_of_a_hundred_lost(rt: HostRuntime) -> Result<(), Fail> {
     Ok(())
 }
 
-/// Where one of ten is lost by chance, each way, a connection is not lost: 0.95 of 0.0235, 0.053 and
-/// 0.048 MB/s. The first was given as 0.024, which 0.0235 rounds to: 0.95 of 0.024 would be 22,800
-/// bytes a second, and 22,353 come.
+/// If one of ten is lost at random, each way, a connection is not lost: 0.95 of 0.0235, 0.053 and
+/// 0.048 MB/s. The first was given as 0.024, to which 0.0235 rounds. 0.95 of 0.024 would be 22,800
+/// bytes a second, and 22,353 arrive.
 #[test]
 fn one_of_ten_lost(rt: HostRuntime) -> Result<(), Fail> {
     for row in [
@@ -97,7 +98,7 @@ fn one_of_ten_lost(rt: HostRuntime) -> Result<(), Fail> {
     Ok(())
 }
 
-/// A queue of ten: 0.95 of 2.12 MB/s at 20 Mbit/s and 50 ms.
+/// A queue of ten packets: 0.95 of 2.12 MB/s at 20 Mbit/s and 50 ms.
 #[test]
 fn a_short_queue(rt: HostRuntime) -> Result<(), Fail> {
     let terms = Terms {

@@ -1,9 +1,9 @@
-//! How long an acknowledgement is waited for, and what comes of a wait that is over.
+//! The timeout of an acknowledgement, and what follows a timeout.
 
 use crate::numbers::{Paced, again, window};
 use std::test::Fail;
 
-/// 500 ms before anything is measured; of a request 3 times its round trip, and 200 at least.
+/// 500 ms before anything is measured. After a request 3 times its round trip, and at least 200.
 #[test]
 fn the_first_wait(rt: HostRuntime) -> Result<(), Fail> {
     for (trip, wait) in [(10, 200), (66, 200), (67, 201), (100, 300), (2000, 6000)] {
@@ -19,8 +19,8 @@ fn the_first_wait(rt: HostRuntime) -> Result<(), Fail> {
     Ok(())
 }
 
-/// RFC 6298: of 100 the variation is 50 and the wait 100 + 4 x 50; of 60 behind it 760 / 8 = 95 is
-/// the round trip, and 4 x 50 - 50 + 40 = 190 beside it.
+/// RFC 6298: after a sample of 100 the variation is 50 and the timeout 100 + 4 x 50. After a sample
+/// of 60 the round trip is 760 / 8 = 95, and 4 x 50 - 50 + 40 = 190 is added.
 #[test]
 fn the_measured_wait(rt: HostRuntime) -> Result<(), Fail> {
     let mut paced = Paced::joined(rt.alloc(), 1)?;
@@ -37,7 +37,7 @@ fn the_measured_wait(rt: HostRuntime) -> Result<(), Fail> {
     Ok(())
 }
 
-/// One unit goes again, then four are on their way; the wait doubles up to four seconds.
+/// One unit is sent again, then four are in flight. The timeout doubles up to four seconds.
 #[test]
 fn a_wait_that_is_over(rt: HostRuntime) -> Result<(), Fail> {
     let mut paced = Paced::joined(rt.alloc(), 100)?;
@@ -56,7 +56,7 @@ fn a_wait_that_is_over(rt: HostRuntime) -> Result<(), Fail> {
     Ok(())
 }
 
-/// After ten in a row the connection is given up, and not if one before acknowledges anything new.
+/// After ten in a row the connection is given up, but not if anything new is acknowledged before.
 #[test]
 fn ten_waits_that_are_over(rt: HostRuntime) -> Result<(), Fail> {
     let mut paced = Paced::joined(rt.alloc(), 100)?;
@@ -77,7 +77,8 @@ fn ten_waits_that_are_over(rt: HostRuntime) -> Result<(), Fail> {
     Ok(())
 }
 
-/// After it what is outstanding goes again in order: 1, then 2, 4 more at each acknowledgement.
+/// After a timeout outstanding units are sent again in order: 1, then 2, 4 more at each
+/// acknowledgement.
 #[test]
 fn all_goes_again_in_order(rt: HostRuntime) -> Result<(), Fail> {
     let mut paced = Paced::joined(rt.alloc(), 100)?;
@@ -100,7 +101,8 @@ fn all_goes_again_in_order(rt: HostRuntime) -> Result<(), Fail> {
     Ok(())
 }
 
-/// The end alone goes again half a second at least and a second at most after it went, and never later.
+/// The end alone is sent again at least half a second and at most a second after it was sent, and
+/// never later.
 #[test]
 fn the_end_alone(rt: HostRuntime) -> Result<(), Fail> {
     for (trip, wait) in [(100, 500), (250, 750), (2000, 1000)] {
@@ -118,8 +120,8 @@ fn the_end_alone(rt: HostRuntime) -> Result<(), Fail> {
     Ok(())
 }
 
-/// It goes again each half second, but only these waits are timeouts: 0.5, 0.6, 1.2 and 2.4 seconds,
-/// and six times 4. Then it is given up.
+/// It is sent again each half second, but only these waits are timeouts: 0.5, 0.6, 1.2 and 2.4
+/// seconds, and six times 4. Then it is given up.
 #[test]
 fn the_end_is_given_up(rt: HostRuntime) -> Result<(), Fail> {
     let mut paced = Paced::joined(rt.alloc(), 100)?;
@@ -136,7 +138,7 @@ fn the_end_is_given_up(rt: HostRuntime) -> Result<(), Fail> {
     Ok(())
 }
 
-/// With a unit before it the end is waited for as any unit is.
+/// With a unit before it the end has the timeout of any unit.
 #[test]
 fn the_end_after_a_unit(rt: HostRuntime) -> Result<(), Fail> {
     let mut paced = Paced::joined(rt.alloc(), 2000)?;
@@ -145,7 +147,8 @@ fn the_end_after_a_unit(rt: HostRuntime) -> Result<(), Fail> {
     paced.send_end(5000);
     assert_eq!(rt; paced.pacer.next_due(5000), Some(11_000));
     paced.acknowledge(1, 5100);
-    // Its round trip was 100 ms, and the wait is 300: half a second for the end, which is alone now.
+    // Its round trip was 100 ms, and the timeout is 300: half a second for the end, which is now
+    // alone.
     assert_eq!(rt; paced.pacer.next_due(5100), Some(5600));
     Ok(())
 }

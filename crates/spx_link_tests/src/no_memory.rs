@@ -6,8 +6,8 @@ use std::alloc::Global;
 use std::process::Abort;
 use std::test::Fail;
 
-/// Requests so many bytes. The sizes 77,777 and 77,778 mark the start and the end of the allocations
-/// that may be refused.
+/// Requests so many bytes. The sizes 77,777 and 77,778 mark the start and the end of the
+/// allocations that may be refused.
 fn asks_for(alloc: Global, size: usize) -> bool {
     let block: Result<Vec<u8>, _> = Vec::with_capacity(alloc, size);
     block.is_ok()

@@ -6,7 +6,7 @@ use Rattle.ipx_host.specs.Feeding.{KeepsQueue}
 use Rattle.ipx_host.proofs.Dropped.{SoFar}
 use Rattle.ipx_host.proofs.handing.drop_what_came.Given as goal
 
--- so many units went, and what is queued is as it was
+-- so many units were dropped, and what is queued is unchanged
 abbrev pub invariant-loop : goal.invariant-loop
 invariant-loop l = record {
   so : SoFar l.counter (held_at l.fn.endpoint l.id) (held_at l.endpoint l.id);

@@ -10,11 +10,11 @@ use Rattle.ipx_host.specs.Target.{NamesAddress}
 use Rattle.ipx_host.specs.declared.target.Target.{Target}
 use Rattle.ipx_host.proofs.send.do_send.Goals as goal
 
--- words that were read name an address
+-- arguments that were read name an address
 pub returns-clause-words : goal.returns-clause-words
 returns-clause-words g c = λ nothing. absurd (nothing c.in-Ok.to c.in-Ok.ensures.named)
 
--- where something goes from a host the status is 0 or 1, and else 2
+-- if the address can be reached from the host, the status is 0 or 1, and otherwise 2
 few_from : (X : Type 0) (nowhere : Bool) (r : ℕ) → (nowhere ≡ true → (r ≡ 2) × X) → (nowhere ≡ false → r < 2) → r ≤ 2
 few_from X true r told few = omega (arith, (told refl).0)
 few_from X false r told few = omega (arith, few refl)
@@ -31,7 +31,7 @@ untouched_from : (X : Type 0) (nowhere : Bool) (r : ℕ) → (nowhere ≡ true �
 untouched_from X true r told few two = (told refl).1
 untouched_from X false r told few two = absurd (omega (arith, few refl, two))
 
--- nor where none was loaded
+-- nor if none was loaded
 untouched_of : {T : Type 0} (X : Type 0) (is_nowhere : T → Bool) (loaded : Result T ℕ) (r : ℕ)
     → IfOk loaded (λ h. is_nowhere h ≡ true → (r ≡ 2) × X) → IfOk loaded (λ h. is_nowhere h ≡ false → r < 2) → IfErr loaded (λ s. (r ≡ s) × X) → r ≡ 2 → X
 untouched_of X is_nowhere (Ok h) r told few unloaded two = untouched_from X (is_nowhere h) r told few two

@@ -2,8 +2,8 @@ use Rattle.std.proofs.Common.{◌≡◌, ◌≤◌, ◌+◌, ◌⊎◌, ℕ, Lis
 use Rattle.ipx_host.specs.AckedBytes.{CountsAcknowledged, IsFirstOpen}
 use Rattle.ipx_host.proofs.acked_bytes.Ledger.acknowledge.Given as goal
 
--- to let messages go changes none of the first three, and what they count; so many messages at most
--- are let go as units came
+-- removing messages changes none of the first three, nor what they count. At most as many messages are
+-- removed as units were acknowledged
 abbrev pub invariant-loop : goal.invariant-loop
 invariant-loop l = record {
   base : l.self.base ≡ l.initial.self.base;

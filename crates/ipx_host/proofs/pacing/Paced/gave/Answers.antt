@@ -3,7 +3,7 @@ use Rattle.spx_messages.specs.EndpointView.{held_at}
 use Rattle.ipx_host.proofs.Told.{absent, given_gone, given_none, given_other}
 use Rattle.ipx_host.proofs.pacing.Paced.gave.Goals as goal
 
--- src/pacing.rt:57:13
+-- the endpoint gave nothing
 pub returns-in_default : goal.returns-in_default
 returns-in_default c =
     let paced = c.args.self.now in
@@ -13,7 +13,7 @@ returns-in_default c =
     let nothing : e.said ≡ None = (cc) in
     (paced.pacer, refl, given_none paced.id e.said (held_at e paced.id) paced.pacer nothing)
 
--- src/pacing.rt:60:13
+-- the link is not there any more
 pub returns-in_default-numbers : goal.returns-in_default-numbers
 returns-in_default-numbers c =
     let paced = c.args.self.now in
@@ -24,7 +24,7 @@ returns-in_default-numbers c =
           (absent (held_at e paced.id) c.numbers.result c.in_default-numbers.field-0 c.numbers.ensures.known c.in_default-numbers.is),
     )
 
--- src/pacing.rt:53:5
+-- another link gave the packet
 pub returns-else-id-self : goal.returns-else-id-self
 returns-else-id-self c =
     let paced = c.args.self.now in
