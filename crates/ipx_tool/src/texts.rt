@@ -87,9 +87,9 @@ is hex, or - for nothing; other numbers are decimal. First the layout, then the 
   host NAME NET NODE ROUTERNODE [listen SOCKET BUFFERS]
   router NAME NET NODE COST ..             (three fields per port)
   dial HOST SOCKET NET NODE SOCKET BUFFERS end K: requests a connection
-  send E SS HEX, fill E N                  end E sends a message, or one of N bytes
+  send E SS HEX, fill E N                  end E sends a message, or N messages of one byte
   take E                                   what end E received
-  close E, release E                       closes an end, or removes it
+  close E, release E                       closes an end, or releases it
   tick MS                                  advances the time
   poll NAME                                parcel N NET NODE HEX for each packet, or quiet
   deliver N PLACE                          delivers a parcel to a host, or to ROUTER.PORT
