@@ -11,7 +11,7 @@ use Rattle.ipx_wire.specs.declared.spx.packet.SpxHeader.{SpxHeader}
 use Rattle.spx_link.specs.SequenceMarks.{mark, distance}
 use Rattle.spx_theory.specs.Spelling.{Carries}
 use Rattle.spx_link.specs.Machine.{End, AreSound}
-use Rattle.spx_link.specs.Poll.{OutgoingView}
+use Rattle.spx_link.specs.Poll.{OutgoingView, count_again}
 use Rattle.spx_link.specs.Receive.{is_system}
 use Rattle.spx_theory.specs.Tracks.{Follows}
 use Rattle.spx_theory.proofs.Having.{Has}
@@ -45,7 +45,7 @@ entry Sents.Unit a m now g c d o f kind at number k q below is =
       | inr other ↦ inl (omega (arith, kind.out, below, other.0), other.1)
     ]
 entry Sents.Again a m now g c d o f kind at number k q below is =
-    elim (get_set a.queue kind.place k (record { unit = kind.unit.unit; at = now; count = kind.unit.count + 1 }) q (ap (λ qs. slice_get qs k) (sym kind.queue) ∙ is)) [
+    elim (get_set a.queue kind.place k (record { unit = kind.unit.unit; at = now; count = count_again a kind.unit.count }) q (ap (λ qs. slice_get qs k) (sym kind.queue) ∙ is)) [
       | inl here ↦
           let t = f.tracks.counts in
           let place : at.0 ≡ c.base + kind.place = same_place at.0 c.base a.out a.next c.sent kind.place g.header.seq t.next t.out t.window kind.below at.2 at.3 (number at.0 at.1) kind.number in

@@ -13,7 +13,7 @@ use Rattle.spx_link.specs.SequenceMarks.{mark}
 use Rattle.spx_link.specs.Offer.{the_end, queued}
 use Rattle.spx_link.specs.Receive.{is_system}
 use Rattle.spx_link.specs.LinkTurns.{is_joined}
-use Rattle.spx_link.specs.Poll.{OutgoingView, base, late, asked_again, wanted, late_if_working, poll_link, replies, confirms, sends, sends_again, acknowledges, most_probes, probes_once}
+use Rattle.spx_link.specs.Poll.{OutgoingView, base, late, asked_again, wanted, late_if_working, count_again, poll_link, replies, confirms, sends, sends_again, acknowledges, most_probes, probes_once}
 use Rattle.spx_theory.proofs.PollCases.{IsResting, probing, poll_by}
 use Rattle.spx_theory.proofs.Ending.{late_due, place_under, wanted_working}
 
@@ -46,7 +46,7 @@ pub record SentAgain (l : LinkView) (now : ℕ) (g : OutgoingView) (m : LinkView
   pub unit : Queued
   pub below : place < l.out
   pub there : slice_get l.queue place ≡ Some unit
-  pub queue : m.queue ≡ set l.queue place (record { unit = unit.unit; at = now; count = unit.count + 1 })
+  pub queue : m.queue ≡ set l.queue place (record { unit = unit.unit; at = now; count = count_again l unit.count })
   pub out : m.out ≡ l.out
   pub probes : m.probes ≡ l.probes
   pub number : g.header.seq ≡ mark (base l + place)
