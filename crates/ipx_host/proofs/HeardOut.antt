@@ -12,7 +12,7 @@ use Rattle.ipx_wire.specs.declared.address.Address.{Address}
 use Rattle.spx_messages.specs.EndpointView.{EndpointView, Held, held_at}
 use Rattle.spx_messages.specs.Taking.{TakenView, Nothing, Part, PeerEnd, Whole, take_end}
 use Rattle.spx_messages.specs.declared.fault.EndFault.{EndFault}
-use Rattle.ipx_host.specs.Hosting.{HearsOneOut, Host, IsOneIfHeard, NotesIf, Serves, StepView, Steps, StepsWithoutStop, WritesAndPasses, end_of, takes_of}
+use Rattle.ipx_host.specs.Hosting.{HearsOneOut, Host, IsOneIfHeard, MovesSome, NotesIf, Serves, StepView, Steps, StepsWithoutStop, WritesAndPasses, end_of, takes_of}
 use Rattle.ipx_host.specs.Passing.{PassesEach, PassesFrom, Take, TakesWhileOpen, held_after, phase_after, phase_with, takes_after, takes_each, takes_from}
 use Rattle.ipx_host.specs.SessionActions.{ends, is_unheard, phase_heard}
 use Rattle.ipx_host.specs.Sessions.{Admits, Asks as IsAsked, DoesNoted, LetsLinkGo, LetsLinksGo, has_spoken, heard_by, is_ended, is_overdue, once_heard, session_of}
@@ -27,7 +27,7 @@ use Rattle.ipx_host.specs.declared.sessions.Phase.TheVariants as Standings
 use Rattle.ipx_host.specs.declared.sessions.Session.{Session}
 use Rattle.ipx_host.specs.declared.sessions.SessionAction.{SessionAction}
 use Rattle.ipx_host.specs.declared.sessions.SessionAction.TheVariants.{Stays, Asks, Over, GivenUp}
-use Rattle.ipx_host.proofs.Holding.{after_heard, any_at, any_ended, any_heard_by, any_removed, any_set, asked_ends, asked_unheard, done_ends, each_heard, none_heard, or_left, parted_some, same_some}
+use Rattle.ipx_host.proofs.Holding.{after_heard, any_at, any_ended, any_heard_by, any_removed, any_set, asked_ends, asked_unheard, done_ends, each_heard, none_heard, or_left, parted_some, same_head, same_some}
 
 -- ---- one connection alone, of an id and from an address, which was heard
 
@@ -238,6 +238,27 @@ passed_alone id from old new c cs x y a b takes before is told m =
       subst (λ (i : ℕ). All (IsOf i) takes) is.0 (subst (λ (l : List Take). All (IsOf c.id) l) (sym all) so.1),
     )
 
+-- the same whether that connection passed data or it was not its turn
+passed_one : (id : ℕ) (from : Address) (old new : PacedHostCore) (c : Session) (front front' rest cs : List Session) (x y : List ℕ) (a b : Option (List ℕ)) (takes before : List Take)
+    → Is id from c → Tells id (is_ended c) before → front ++ rest ≡ c ∷ [] → cs ≡ rest ++ front' → WritesAndPasses old new front front' x y a b takes
+    → (c' : Session) × (cs ≡ c' ∷ []) × Is id from c' × Tells id (is_ended c') (before ++ takes) × All (IsOf id) takes
+passed_one id from old new c [] front' rest cs x y a b takes before is told only after m =
+    let none : takes ≡ [] = m.made in
+    let alone : cs ≡ c ∷ [] = after ∙ (ap (λ (l : List Session). rest ++ l) m.passes.0 ∙ (append-nil rest ∙ only)) in (
+      c,
+      alone,
+      is,
+      subst (Tells id (is_ended c)) (sym (ap (λ l. before ++ l) none ∙ append-nil before)) told,
+      subst (λ (l : List Take). All (IsOf id) l) (sym none) (All-nil (IsOf id)),
+    )
+passed_one id from old new c (k ∷ []) front' [] cs x y a b takes before is told only after m =
+    let same = same_head k c [] [] only in
+    let mine : WritesAndPasses old new (c ∷ []) front' x y a b takes = subst (λ (j : Session). WritesAndPasses old new (j ∷ []) front' x y a b takes) same.0 m in
+    let q = passed_alone id from old new c front' x y a b takes before is told mine in
+    (q.0, after ∙ q.1, q.2, q.3, q.4)
+passed_one id from old new c (k ∷ []) front' (r ∷ rs) cs x y a b takes before is told only after m = absurd (omega (arith, ap length only))
+passed_one id from old new c (k ∷ j ∷ ks) front' rest cs x y a b takes before is told only after m = absurd (omega (arith, ap length only))
+
 -- from none that was not heard
 passed_none : (old new : EndpointView) (x y : List ℕ) (a b : Option (List ℕ)) (cs cs' : List Session) → list_any has_spoken cs ≡ false → (p : PassesEach old new x y a b cs cs')
     → takes_each old new x y a b cs cs' p ≡ []
@@ -358,11 +379,14 @@ one_only id from c cs at is =
     (All-cons (IsOneIfHeard id from) c [] (λ spoken. (is.0, is.1)) (All-nil (IsOneIfHeard id from)))
 
 passed_so : (old new : PacedHostCore) (s : StepView) (cs : List Session) (x y : List ℕ) (a b : Option (List ℕ)) (steps : List StepView)
-    → WritesAndPasses old new s.there cs x y a b s.takes → So s.there steps → So cs (steps ++ s ∷ [])
+    → MovesSome old new s.there cs x y a b s.takes → So s.there steps → So cs (steps ++ s ∷ [])
 passed_so old new s cs x y a b steps m (inl n) =
-    let nothing : s.takes ≡ [] = m.made ∙ passed_none old.endpoint new.endpoint m.between y m.writing b s.there cs n.0 m.passes in
+    let w = m.moves in
+    let none = or_none (list_any has_spoken m.front) (list_any has_spoken m.rest) (sym (list_any-append has_spoken m.front m.rest) ∙ (sym (ap (list_any has_spoken) m.before) ∙ n.0)) in
+    let nothing : s.takes ≡ [] = w.made ∙ passed_none old.endpoint new.endpoint w.between y w.writing b m.front m.front' none.0 w.passes in
     inl (
-      each_heard old.endpoint new.endpoint m.between y m.writing b s.there cs m.passes ∙ n.0,
+      ap (list_any has_spoken) m.after ∙ (list_any-append has_spoken m.rest m.front'
+          ∙ (ap (λ k. k || list_any has_spoken m.front') none.1 ∙ (each_heard old.endpoint new.endpoint w.between y w.writing b m.front m.front' w.passes ∙ none.0))),
       takes_push steps s ∙ ap (λ l. l ++ s.takes) n.1 ∙ nothing,
       λ id from. All-push (IsOnly id from) steps s (n.2 id from) (none_only id from s.there n.0),
     )
@@ -371,9 +395,8 @@ passed_so old new s cs x y a b steps m (inr o) =
     let from = o.1 in
     let one = o.2 in
     let g = one.1 in
-    let mine : WritesAndPasses old new (g.0 ∷ []) cs x y a b s.takes = subst (λ (l : List Session). WritesAndPasses old new l cs x y a b s.takes) g.1 m in
     let told : Tells id (is_ended g.0) (takes_of steps) = subst (λ (e : Bool). Tells id e (takes_of steps)) (sym g.3) one.4 in
-    let q = passed_alone id from old new g.0 cs x y a b s.takes (takes_of steps) g.2 told mine in
+    let q = passed_one id from old new g.0 m.front m.front' m.rest cs x y a b s.takes (takes_of steps) g.2 told (sym m.before ∙ g.1) m.after m.moves in
     inr (
       id,
       from,
@@ -398,7 +421,7 @@ tended_so n old new cs cs' steps run (inr o) =
 heard_and_passed : {K : Type 0} (old new : Host K) (stop : Option ListenOutcome) (tells : K → ℕ → K → Type 0) (peers : Peers) (s : StepView) (steps : List StepView)
     → (st : Steps old new true stop tells peers s) → So old.sessions steps → So st.still (steps ++ s ∷ [])
 heard_and_passed old new stop tells peers s steps st so =
-    passed_so st.heard st.moved s st.still old.left new.left old.written new.written steps st.moves
+    passed_so st.heard st.moved s st.still old.left new.left old.written new.written steps st.moves.0
     (heard_so st.hears.turn.heard st.hears.seen st.heard old.sessions s.there steps st.hears.noted so)
 
 step_so : {K : Type 0} (old new : Host K) (tells : K → ℕ → K → Type 0) (peers : Peers) (s : StepView) (steps : List StepView)

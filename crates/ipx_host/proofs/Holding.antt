@@ -1,6 +1,6 @@
 -- Connections of a host, one behind the other.
-use Rattle.std.proofs.Common.{◌≡◌, ◌||◌, ◌⊎◌, inl, inr, slice_get, ℕ, zero, suc, ◌+◌, ◌<◌, ◌==◌, Bool, true, false, not, cond, List, [], ◌∷◌, ◌++◌, length, take, drop, set, get_or, length-append, length-drop, length-set, take-append-drop, Option, Some, None, map, Result, Ok, Err, refl, sym, ap, ◌∙◌, subst, arith, append-nil}
-use Rattle.std.proofs.lemmas.List.{drop_more, drop-set-lt, get_or_default, take_more, take_more_set}
+use Rattle.std.proofs.Common.{◌≡◌, ◌||◌, ◌⊎◌, inl, inr, slice_get, ℕ, zero, suc, ◌+◌, ◌<◌, ◌≤◌, ◌==◌, Bool, true, false, not, cond, List, [], ◌∷◌, ◌++◌, length, take, drop, set, get_or, length-append, length-set, Option, Some, None, map, Result, Ok, Err, refl, sym, ap, ◌∙◌, subst, arith, append_assoc, append-nil}
+use Rattle.std.proofs.lemmas.List.{get_or_default, take_more}
 use Rattle.std.proofs.lemmas.List.Edits.{map_over_more}
 use Rattle.std.proofs.lemmas.List.Elements.{All-more}
 use Rattle.std.proofs.lemmas.Iterator.Adapters.{position_from-zero}
@@ -21,7 +21,7 @@ use Rattle.ipx_host.specs.ListenOutcomes.{parted}
 use Rattle.ipx_host.specs.declared.listening.ListenOutcome.{ListenOutcome}
 use Rattle.ipx_host.specs.declared.listening.ListenOutcome.TheVariants as Stops
 use Rattle.ipx_host.specs.SessionActions.{IsSessionAction, ends, is_unheard, phase_asked, phase_heard}
-use Rattle.ipx_host.specs.Passing.{PassesEach, PassesFrom, PassesOne, PassesSome, held_after, phase_after, phase_with}
+use Rattle.ipx_host.specs.Passing.{PassesEach, PassesFirst, PassesFrom, PassesOne, PassesSome, PassesUntilFull, held_after, phase_after, phase_with}
 use Rattle.ipx_host.specs.declared.sessions.Session.{Session}
 use Rattle.ipx_host.specs.declared.sessions.SessionAction.{SessionAction}
 use Rattle.ipx_host.specs.declared.sessions.SessionAction.TheVariants.{Stays, Asks, Over, GivenUp}
@@ -41,36 +41,64 @@ fate_stays Asks phase state silent is not stays = stays.2 is
 fate_stays Over phase state silent is not stays = stays.1 is
 fate_stays GivenUp phase state silent is not stays = stays.0 is
 
-same_head : (x y : Session) (xs ys : List Session) → x ∷ xs ≡ y ∷ ys → (x ≡ y) × (xs ≡ ys)
+pub same_head : (x y : Session) (xs ys : List Session) → x ∷ xs ≡ y ∷ ys → (x ≡ y) × (xs ≡ ys)
 same_head x y xs ys e = ((cc), (cc))
 
--- one more connection passed, at a place, and those behind it are as they were
-pub each_more : (old mid new : EndpointView) (x y z : List ℕ) (a b d : Option (List ℕ)) (was now : List Session) (i : ℕ) (k c' : Session) → i < length now
-    → drop i now ≡ drop i was → PassesEach old mid x y a b (take i was) (take i now) → PassesOne mid new y z b d (get_or now i k) c'
-    → PassesEach old new x z a d (take (i + 1) was) (take (i + 1) (set now i c')) × (drop (i + 1) (set now i c') ≡ drop (i + 1) was)
-each_more old mid new x y z a b d was now i k c' within rest passes one =
-    let there : i < length was = omega (arith, within, ap length rest, length-drop i now, length-drop i was) in
-    let same = same_head (get_or now i k) (get_or was i k) (drop (i + 1) now) (drop (i + 1) was) (sym (drop_more now i k within) ∙ rest ∙ drop_more was i k there) in
-    let mine : PassesOne mid new y z b d (get_or was i k) c' = subst (λ (c : Session). PassesOne mid new y z b d c c') same.0 one in
-    let all = each_on old mid new x y z a b d (take i was) (take i now) (get_or was i k) c' passes mine in
-    let before : take (i + 1) was ≡ take i was ++ get_or was i k ∷ [] = take_more was i k there in
-    let after : take (i + 1) (set now i c') ≡ take i now ++ c' ∷ [] = take_more_set now i c' within in (
-      subst (λ (l : List Session). PassesEach old new x z a d l (take (i + 1) (set now i c'))) (sym before)
-          (subst (λ (l : List Session). PassesEach old new x z a d (take i was ++ get_or was i k ∷ []) l) (sym after) all),
-      drop-set-lt (i + 1) now i c' (omega arith) ∙ same.1,
+-- the first connection passed data and was moved to the end of the list
+pub first_passed : (old new : EndpointView) (x y : List ℕ) (a b : Option (List ℕ)) (was now : List Session) (k c' : Session) → 0 < length was
+    → now ≡ drop 1 (set was 0 c') ++ take 1 (set was 0 c') → PassesOne old new x y a b (get_or was 0 k) c' → x ≡ [] → PassesFirst old new x y a b was now
+first_passed old new x y a b [] now k c' within turned one empty = absurd (omega arith)
+first_passed old new x y a b (c ∷ cs) now k c' within turned one empty = (c, c', cs, refl, turned, one, empty)
+
+-- no connection passed data yet
+pub some_start : (e : EndpointView) (x : List ℕ) (a : Option (List ℕ)) (cs : List Session) → (p : PassesSome e e x x a a cs cs) × (length p.0 ≡ 0)
+some_start e x a cs = (([], [], cs, refl, sym (append-nil cs), (refl, refl, refl, refl)), refl)
+
+each_length : (old new : EndpointView) (x y : List ℕ) (a b : Option (List ℕ)) (cs cs' : List Session) → PassesEach old new x y a b cs cs' → length cs' ≡ length cs
+each_length old new x y a b [] cs' p = ap length p.0
+each_length old new x y a b (c ∷ cs) cs' p = ap length p.5 ∙ ap suc (each_length p.0 new p.1 y p.2 b cs p.4 p.7)
+
+pub some_length : (old new : EndpointView) (x y : List ℕ) (a b : Option (List ℕ)) (was now : List Session) → PassesSome old new x y a b was now → length now ≡ length was
+some_length old new x y a b was now p =
+    omega (arith, ap length p.3, ap length p.4, length-append p.0 p.2, length-append p.2 p.1, each_length old new x y a b p.0 p.1 p.5)
+
+some_step : (old mid new : EndpointView) (x y z : List ℕ) (a b d : Option (List ℕ)) (was now after first first' rest : List Session)
+    → was ≡ first ++ rest → now ≡ rest ++ first' → PassesEach old mid x y a b first first' → length first < length was → PassesFirst mid new y z b d now after
+    → (q : PassesSome old new x z a d was after) × (length q.0 ≡ length first + 1)
+some_step old mid new x y z a b d was now after first first' [] is there each within p =
+    absurd (omega (arith, within, ap length is, length-append first []))
+some_step old mid new x y z a b d was now after first first' (r ∷ rs) is there each within p =
+    let same = same_head r p.0 (rs ++ first') p.2 (sym there ∙ p.3) in
+    let one : PassesOne mid new y z b d r p.1 = subst (λ (c : Session). PassesOne mid new y z b d c p.1) (sym same.0) p.5 in (
+      (
+        first ++ r ∷ [],
+        first' ++ p.1 ∷ [],
+        rs,
+        is ∙ sym (append_assoc first (r ∷ []) rs),
+        p.4 ∙ ap (λ (l : List Session). l ++ p.1 ∷ []) (sym same.1) ∙ append_assoc rs first' (p.1 ∷ []),
+        each_on old mid new x y z a b d first first' r p.1 each one p.6,
+      ),
+      length-append first (r ∷ []),
     )
 
--- so it is of the first ones
-pub some_more : (old new : EndpointView) (x z : List ℕ) (a d : Option (List ℕ)) (was now : List Session) (i : ℕ)
-    → PassesEach old new x z a d (take i was) (take i now) × (drop i now ≡ drop i was) → PassesSome old new x z a d was now
-some_more old new x z a d was now i p = (
-  take i was,
-  take i now,
-  drop i was,
-  sym (take-append-drop i was),
-  sym (take-append-drop i now) ∙ ap (λ l. take i now ++ l) p.1,
-  p.0,
-)
+-- one more connection passed data, after the first `i`
+pub some_more : (old mid new : EndpointView) (x y z : List ℕ) (a b d : Option (List ℕ)) (was now after : List Session) (i : ℕ)
+    → (p : PassesSome old mid x y a b was now) × (length p.0 ≡ i) → i < length was → PassesFirst mid new y z b d now after
+    → (q : PassesSome old new x z a d was after) × (length q.0 ≡ i + 1)
+some_more old mid new x y z a b d was now after i p within one =
+    let q = some_step old mid new x y z a b d was now after p.0.0 p.0.1 p.0.2 p.0.3 p.0.4 p.0.5 (omega (arith, within, p.1)) one in
+    (q.0, q.1 ∙ ap (λ n. n + 1) p.1)
+
+no_more : (cs : List Session) → length cs ≡ 0 → cs ≡ []
+no_more [] none = refl
+no_more (c ∷ cs) none = absurd (omega (arith, none))
+
+-- all connections passed data
+pub some_all : (old new : EndpointView) (x y : List ℕ) (a b : Option (List ℕ)) (was now : List Session) (i : ℕ)
+    → (p : PassesSome old new x y a b was now) × (length p.0 ≡ i) → length was ≤ i → PassesUntilFull old new x y a b was now
+some_all old new x y a b was now i p all =
+    let none : length p.0.2 ≡ 0 = omega (arith, all, p.1, ap length p.0.3, length-append p.0.0 p.0.2) in
+    (p.0, λ some. absurd (some (no_more p.0.2 none)))
 
 -- ---- one that was heard is the only one, and its end leaves nothing to write
 
@@ -107,10 +135,6 @@ each_heard old new x y a b (c ∷ cs) cs' p =
     ap (list_any has_spoken) p.5
     ∙ (ap (λ k. k || list_any has_spoken p.4) (one_heard old p.0 x p.1 a p.2 c p.3 (either (is_unheard c.phase)) p.6)
     ∙ ap (λ k. has_spoken c || k) (each_heard p.0 new p.1 y p.2 b cs p.4 p.7))
-
-each_length : (old new : EndpointView) (x y : List ℕ) (a b : Option (List ℕ)) (cs cs' : List Session) → PassesEach old new x y a b cs cs' → length cs' ≡ length cs
-each_length old new x y a b [] cs' p = ap length p.0
-each_length old new x y a b (c ∷ cs) cs' p = ap length p.5 ∙ ap suc (each_length p.0 new p.1 y p.2 b cs p.4 p.7)
 
 ended_phase : (s : Phase) → ends s ≡ true → s ≡ Standings.Ended
 ended_phase Standings.New e = absurd (cc)
@@ -167,7 +191,7 @@ some_ends old new x y a b (k ∷ []) first' (r ∷ rs) before one p same ended =
 some_ends old new x y a b (k ∷ j ∷ ks) first' rest before one p same ended =
     absurd (omega (arith, one (sym same ∙ any_ended (first' ++ rest) ended)))
 
-pub keeps_some : (once : Bool) (old new : EndpointView) (x y : List ℕ) (a b : Option (List ℕ)) (first first' rest : List Session)
+keeps_some : (once : Bool) (old new : EndpointView) (x y : List ℕ) (a b : Option (List ℕ)) (first first' rest : List Session)
     → KeepsOne once (first ++ rest) x → PassesEach old new x y a b first first' → KeepsOne once (first' ++ rest) y
 keeps_some false old new x y a b first first' rest keeps p = tt
 keeps_some true old new x y a b first first' rest keeps p =
@@ -179,12 +203,6 @@ keeps_some true old new x y a b first first' rest keeps p =
       λ heard. size ∙ k.0 (sym same ∙ heard),
       λ ended. some_ends old new x y a b first first' rest k.1 k.0 p same ended,
     )
-
-pub keeps_each : (once : Bool) (old new : EndpointView) (x y : List ℕ) (a b : Option (List ℕ)) (cs cs' : List Session)
-    → KeepsOne once cs x → PassesEach old new x y a b cs cs' → KeepsOne once cs' y
-keeps_each once old new x y a b cs cs' keeps p =
-    subst (λ (l : List Session). KeepsOne once l y) (append-nil cs')
-    (keeps_some once old new x y a b cs cs' [] (subst (λ (l : List Session). KeepsOne once l x) (sym (append-nil cs)) keeps) p)
 
 -- there is none yet
 pub keeps_none : (once : Bool) (cs : List Session) (left : List ℕ) → cs ≡ [] → KeepsOne once cs left
@@ -509,9 +527,32 @@ keeps_asks once cs left place c' d now old new within (inr p) keeps =
     let same : c'.phase ≡ (get_or cs place d).phase = ap (λ (k : Session). k.phase) p.1 in
     keeps_set once cs left place c' d within (ap is_unheard same) (ap ends same) keeps
 
+or_turned : (x y : Bool) → (x || y) ≡ (y || x)
+or_turned true true = refl
+or_turned true false = refl
+or_turned false true = refl
+or_turned false false = refl
+
+any_turned : (f : Session → Bool) (xs ys : List Session) → list_any f (xs ++ ys) ≡ list_any f (ys ++ xs)
+any_turned f xs ys =
+    list_any-append f xs ys ∙ or_turned (list_any f xs) (list_any f ys) ∙ sym (list_any-append f ys xs)
+
+-- the order of connections does not matter
+keeps_turned : (once : Bool) (xs ys : List Session) (left : List ℕ) → KeepsOne once (xs ++ ys) left → KeepsOne once (ys ++ xs) left
+keeps_turned false xs ys left keeps = tt
+keeps_turned true xs ys left keeps =
+    let size : length (ys ++ xs) ≡ length (xs ++ ys) = omega (arith, length-append xs ys, length-append ys xs) in (
+      λ heard. size ∙ keeps.0 (any_turned has_spoken xs ys ∙ heard),
+      λ ended. keeps.1 (any_turned is_ended xs ys ∙ ended),
+    )
+
+keeps_passed : (once : Bool) (old new : EndpointView) (x y : List ℕ) (a b : Option (List ℕ)) (cs cs' : List Session)
+    → PassesSome old new x y a b cs cs' → KeepsOne once cs x → KeepsOne once cs' y
+keeps_passed once old new x y a b cs cs' p keeps =
+    subst (λ (l : List Session). KeepsOne once l y) (sym p.4)
+    (keeps_turned once p.1 p.2 y (keeps_some once old new x y a b p.0 p.1 p.2 (subst (λ (l : List Session). KeepsOne once l x) p.3 keeps) p.5))
+
 pub keeps_taken : {T E : Type 0} (once : Bool) (old new : EndpointView) (x y : List ℕ) (a b : Option (List ℕ)) (cs cs' : List Session) (r : Result T E)
-    → OnOk r (PassesEach old new x y a b cs cs') → OnErr r (PassesSome old new x y a b cs cs') → KeepsOne once cs x → KeepsOne once cs' y
-keeps_taken once old new x y a b cs cs' (Ok t) all some keeps = keeps_each once old new x y a b cs cs' keeps all
-keeps_taken once old new x y a b cs cs' (Err e) all some keeps =
-    subst (λ (l : List Session). KeepsOne once l y) (sym some.4)
-    (keeps_some once old new x y a b some.0 some.1 some.2 (subst (λ (l : List Session). KeepsOne once l x) some.3 keeps) some.5)
+    → OnOk r (PassesUntilFull old new x y a b cs cs') → OnErr r (PassesSome old new x y a b cs cs') → KeepsOne once cs x → KeepsOne once cs' y
+keeps_taken once old new x y a b cs cs' (Ok t) all some keeps = keeps_passed once old new x y a b cs cs' all.0 keeps
+keeps_taken once old new x y a b cs cs' (Err e) all some keeps = keeps_passed once old new x y a b cs cs' some keeps

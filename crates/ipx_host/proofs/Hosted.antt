@@ -10,9 +10,9 @@ use Rattle.ipx_site.specs.AllowedPeers.{named_in}
 use Rattle.ipx_site.specs.declared.host.HostConfig.{HostConfig}
 use Rattle.ipx_wire.specs.declared.address.Socket.{Socket}
 use Rattle.spx_messages.specs.EndpointView.{EndpointView, Held, buffers_at, held_at}
-use Rattle.ipx_host.specs.Hosting.{HearsAndNotesAll, Host, ListensWell, WritesAndPasses, MovesSome, Serves, ServesWell, StepView, Steps, StepsWithoutStop, StepsTo, WriterBreaksOff, bytes_of, host, takes_of}
+use Rattle.ipx_host.specs.Hosting.{HearsAndNotesAll, Host, ListensWell, WritesAndPasses, MovesSome, MovesUntilFull, Serves, ServesWell, StepView, Steps, StepsWithoutStop, StepsTo, WriterBreaksOff, bytes_of, host, takes_of}
 use Rattle.ipx_host.specs.HostOutput.{Writes, left_of}
-use Rattle.ipx_host.specs.Passing.{PassesEach, PassesFrom, PassesSome, Take, bodies_after, bodies_of, held_after, left_with, takes_after, takes_each, takes_from}
+use Rattle.ipx_host.specs.Passing.{PassesEach, PassesFrom, PassesSome, PassesUntilFull, Take, bodies_after, bodies_of, held_after, left_with, takes_after, takes_each, takes_from}
 use Rattle.ipx_host.specs.ListenOutcomes.{parted, stop_status}
 use Rattle.ipx_host.specs.Tending.{DoesAction, JustStays, Tends, TendsFirst, TendsOn, Tidies}
 use Rattle.ipx_host.specs.declared.sessions.Session.{Session}
@@ -139,27 +139,48 @@ moves_writes old new cs cs' x y a b takes m =
     let rest = each_writes old.endpoint new.endpoint m.between y m.writing b cs cs' m.passes in
     writes_through x m.between (bodies_of takes) y a m.writing b m.first (subst (λ (ts : List Take). Writes (m.between ++ bodies_of ts) y m.writing b) (sym m.made) rest)
 
-pub moved_all : (core core' : PacedHostCore) (cs cs' : List Session) (x y z : List ℕ) (a b d : Option (List ℕ)) → Writes x y a b → PassesEach core.endpoint core'.endpoint y z b d cs cs'
-    → core' ≡ record core { endpoint = core'.endpoint } → (takes : List Take) × WritesAndPasses core core' cs cs' x z a d takes
+pub moved_all : (core core' : PacedHostCore) (cs cs' : List Session) (x y z : List ℕ) (a b d : Option (List ℕ)) → Writes x y a b → PassesUntilFull core.endpoint core'.endpoint y z b d cs cs'
+    → core' ≡ record core { endpoint = core'.endpoint } → (takes : List Take) × MovesUntilFull core core' cs cs' x z a d takes
 moved_all core core' cs cs' x y z a b d wrote passes same =
-    (takes_each core.endpoint core'.endpoint y z b d cs cs' passes, record { between = y; writing = b; first = wrote; passes = passes; made = refl; core = same })
+    let p = passes.0 in (
+      takes_each core.endpoint core'.endpoint y z b d p.0 p.1 p.5,
+      (
+        record {
+          front = p.0;
+          front' = p.1;
+          rest = p.2;
+          before = p.3;
+          after = p.4;
+          moves = record { between = y; writing = b; first = wrote; passes = p.5; made = refl; core = same };
+        },
+        passes.1,
+      ),
+    )
 
 pub moved_some : (core core' : PacedHostCore) (cs cs' : List Session) (x y z : List ℕ) (a b d : Option (List ℕ)) → Writes x y a b → PassesSome core.endpoint core'.endpoint y z b d cs cs'
     → core' ≡ record core { endpoint = core'.endpoint } → (takes : List Take) × MovesSome core core' cs cs' x z a d takes
-moved_some core core' cs cs' x y z a b d wrote passes same =
-    let all = moved_all core core' passes.0 passes.1 x y z a b d wrote passes.5 same in
-    (all.0, record { front = passes.0; front' = passes.1; rest = passes.2; before = passes.3; after = passes.4; moves = all.1 })
+moved_some core core' cs cs' x y z a b d wrote p same = (
+  takes_each core.endpoint core'.endpoint y z b d p.0 p.1 p.5,
+  record {
+    front = p.0;
+    front' = p.1;
+    rest = p.2;
+    before = p.3;
+    after = p.4;
+    moves = record { between = y; writing = b; first = wrote; passes = p.5; made = refl; core = same };
+  },
+)
 
 -- the writer fails before anything is taken
 pub moved_none : (core : PacedHostCore) (cs : List Session) (x y : List ℕ) (a b : Option (List ℕ)) → Writes x y a b → (takes : List Take) × MovesSome core core cs cs x y a b takes
-moved_none core cs x y a b wrote = moved_some core core cs cs x y y a b b wrote ([], [], cs, refl, refl, (refl, refl, refl, refl)) refl
+moved_none core cs x y a b wrote = moved_some core core cs cs x y y a b b wrote ([], [], cs, refl, sym (append-nil cs), (refl, refl, refl, refl)) refl
 
 -- ---- one step
 
 pub stepped : {K : Type 0} (clock clock1 clock2 clock3 : K) (core core1 core2 core3 : PacedHostCore) (cs cs1 cs2 cs3 : List Session) (o o1 o2 o3 : Outlet) (once once' : Bool) (a b : Option (List ℕ))
     (stop : Option ListenOutcome) (tells : K → ℕ → K → Type 0) (peers : Peers) (takes : List Take)
     → HearsAndNotesAll clock clock1 core core1 cs cs1 once tells peers → o1 ≡ o → clock2 ≡ clock1 → once' ≡ once
-    → WritesAndPasses core1 core2 cs1 cs2 (left_of o1) (left_of o2) a b takes → clock3 ≡ clock2 → o3 ≡ o2 → Tidies once' core2 core3 cs2 cs3 stop
+    → MovesUntilFull core1 core2 cs1 cs2 (left_of o1) (left_of o2) a b takes → clock3 ≡ clock2 → o3 ≡ o2 → Tidies once' core2 core3 cs2 cs3 stop
     → Steps (host clock core cs (left_of o) a) (host clock3 core3 cs3 (left_of o3) b) once stop tells peers (record { there = cs1; takes = takes })
 stepped {K} clock clock1 clock2 clock3 core core1 core2 core3 cs cs1 cs2 cs3 o o1 o2 o3 once once' a b stop tells peers takes hears unheard ticks same moves tidied unwritten tidies =
     record {
@@ -167,8 +188,8 @@ stepped {K} clock clock1 clock2 clock3 core core1 core2 core3 cs cs1 cs2 cs3 o o
       hears = subst (λ (k : K). HearsAndNotesAll clock k core core1 cs cs1 once tells peers) (sym (tidied ∙ ticks)) hears;
       moved = core2;
       still = cs2;
-      moves = subst (λ (k : Outlet). WritesAndPasses core1 core2 cs1 cs2 (left_of k) (left_of o3) a b takes) unheard
-          (subst (λ (k : Outlet). WritesAndPasses core1 core2 cs1 cs2 (left_of o1) (left_of k) a b takes) (sym unwritten) moves);
+      moves = subst (λ (k : Outlet). MovesUntilFull core1 core2 cs1 cs2 (left_of k) (left_of o3) a b takes) unheard
+          (subst (λ (k : Outlet). MovesUntilFull core1 core2 cs1 cs2 (left_of o1) (left_of k) a b takes) (sym unwritten) moves);
       tidied = subst (λ (k : Bool). Tidies k core2 core3 cs2 cs3 stop) same tidies;
     }
 
@@ -195,12 +216,12 @@ tidied_to old new once Unwaited tells peers step s = absurd (tidied_parts once s
 
 to_writes : {K : Type 0} (old new : Host K) (once : Bool) (stop : Option ListenOutcome) (tells : K → ℕ → K → Type 0) (peers : Peers) (step : StepView)
     → StepsTo old new once stop tells peers step → Writes (old.left ++ bodies_of step.takes) new.left old.written new.written
-to_writes old new once None tells peers step s = moves_writes s.heard s.moved step.there s.still old.left new.left old.written new.written step.takes s.moves
-to_writes old new once (Some Ended) tells peers step s = moves_writes s.heard s.moved step.there s.still old.left new.left old.written new.written step.takes s.moves
-to_writes old new once (Some Lost) tells peers step s = moves_writes s.heard s.moved step.there s.still old.left new.left old.written new.written step.takes s.moves
+to_writes old new once None tells peers step s = moves_writes s.heard s.moved s.moves.0.front s.moves.0.front' old.left new.left old.written new.written step.takes s.moves.0.moves
+to_writes old new once (Some Ended) tells peers step s = moves_writes s.heard s.moved s.moves.0.front s.moves.0.front' old.left new.left old.written new.written step.takes s.moves.0.moves
+to_writes old new once (Some Lost) tells peers step s = moves_writes s.heard s.moved s.moves.0.front s.moves.0.front' old.left new.left old.written new.written step.takes s.moves.0.moves
 to_writes old new once (Some Unwritten) tells peers step s =
     moves_writes s.heard new.core s.moves.front s.moves.front' old.left new.left old.written new.written step.takes s.moves.moves
-to_writes old new once (Some Unwaited) tells peers step s = moves_writes s.heard s.moved step.there s.still old.left new.left old.written new.written step.takes s.moves
+to_writes old new once (Some Unwaited) tells peers step s = moves_writes s.heard s.moved s.moves.0.front s.moves.0.front' old.left new.left old.written new.written step.takes s.moves.0.moves
 
 -- what more was taken is written after what was taken before
 more_writes : (x y z before now bytes : List ℕ) (a b c : Option (List ℕ)) → bytes ≡ before ++ now → Writes (x ++ before) y a b → Writes (y ++ now) z b c → Writes (x ++ bytes) z a c

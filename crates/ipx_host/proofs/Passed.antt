@@ -153,12 +153,12 @@ from_passes (Some h) after x y a b c c' p = (p.0, p.1, p.2)
 
 -- one more connection behind the others
 pub each_on : (old mid new : EndpointView) (x y z : List ℕ) (a b d : Option (List ℕ)) (cs cs' : List Session) (c c' : Session)
-    → PassesEach old mid x y a b cs cs' → PassesOne mid new y z b d c c' → PassesEach old new x z a d (cs ++ c ∷ []) (cs' ++ c' ∷ [])
-each_on old mid new x y z a b d [] cs' c c' p one =
+    → PassesEach old mid x y a b cs cs' → PassesOne mid new y z b d c c' → y ≡ [] → PassesEach old new x z a d (cs ++ c ∷ []) (cs' ++ c' ∷ [])
+each_on old mid new x y z a b d [] cs' c c' p one empty =
     let same : PassesOne old new x z a d c c' =
     subst (λ (e : EndpointView). PassesOne e new x z a d c c') p.1
     (subst (λ (l : List ℕ). PassesOne mid new l z a d c c') p.2
     (subst (λ (w : Option (List ℕ)). PassesOne mid new y z w d c c') p.3 one)) in
-    (new, z, d, c', [], ap (λ (l : List Session). l ++ c' ∷ []) p.0, same, (refl, refl, refl, refl))
-each_on old mid new x y z a b d (k ∷ ks) cs' c c' p one =
-    (p.0, p.1, p.2, p.3, p.4 ++ c' ∷ [], ap (λ (l : List Session). l ++ c' ∷ []) p.5, p.6, each_on p.0 mid new p.1 y z p.2 b d ks p.4 c c' p.7 one)
+    (new, z, d, c', [], ap (λ (l : List Session). l ++ c' ∷ []) p.0, same, (refl, refl, refl, refl), sym p.2 ∙ empty)
+each_on old mid new x y z a b d (k ∷ ks) cs' c c' p one empty =
+    (p.0, p.1, p.2, p.3, p.4 ++ c' ∷ [], ap (λ (l : List Session). l ++ c' ∷ []) p.5, p.6, each_on p.0 mid new p.1 y z p.2 b d ks p.4 c c' p.7 one empty, p.8)

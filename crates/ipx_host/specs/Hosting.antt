@@ -58,15 +58,20 @@ pub record WritesAndPasses (old new : PacedHostCore) (sessions sessions' : List 
   pub made : takes ≡ takes_each old.endpoint new.endpoint between left writing writes sessions sessions' passes
   pub core : new ≡ record old { endpoint = new.endpoint }
 
--- the same, of the first connections; the others are as before
+-- the same for the first connections, which move to the end of the list; the others are as before
 pub record MovesSome (old new : PacedHostCore) (sessions sessions' : List Session) (waiting left : List ℕ)
     (written writes : Option (List ℕ)) (takes : List Take) : Type 0 where
   pub front : List Session
   pub front' : List Session
   pub rest : List Session
   pub before : sessions ≡ front ++ rest
-  pub after : sessions' ≡ front' ++ rest
+  pub after : sessions' ≡ rest ++ front'
   pub moves : WritesAndPasses old new front front' waiting left written writes takes
+
+-- the same for all connections, or for as many as pass data until something is left to write
+abbrev pub MovesUntilFull : PacedHostCore → PacedHostCore → List Session → List Session → List ℕ → List ℕ → Option (List ℕ) → Option (List ℕ) → List Take → Type 0
+MovesUntilFull old new sessions sessions' waiting left written writes takes =
+    (some : MovesSome old new sessions sessions' waiting left written writes takes) × (some.rest ≢ [] → left ≢ [])
 
 -- what a step has: the connections once it noted what came, and the takes of them
 pub record StepView : Type 0 where
@@ -80,7 +85,7 @@ pub record Steps {K : Type 0} (old new : Host K) (once : Bool) (stop : Option Li
   pub hears : HearsAndNotesAll old.clock new.clock old.core heard old.sessions step.there once tells peers
   pub moved : PacedHostCore
   pub still : List Session
-  pub moves : WritesAndPasses heard moved step.there still old.left new.left old.written new.written step.takes
+  pub moves : MovesUntilFull heard moved step.there still old.left new.left old.written new.written step.takes
   pub tidied : Tidies once moved new.core still new.sessions stop
 
 -- one that the writer breaks off

@@ -1,5 +1,5 @@
 -- What the core of a host notes of a datagram that it reads. Nothing here is from a public standard.
-use Rattle.std.specs.Prelude.{◌≡◌, ℕ, List, Option, Some, None}
+use Rattle.std.specs.Prelude.{◌≡◌, ℕ, Bool, true, false, List, Option, Some, None}
 use Rattle.std.specs.Option.{option_map}
 use Rattle.ipx_wire.specs.declared.address.Address.{Address}
 use Rattle.ipx_wire.specs.Ipx.{BeginsWith, PacketView}
@@ -13,6 +13,13 @@ use Rattle.ipx_host.specs.declared.paced_host_core.Arrival.TheVariants as Cames
 -- the bytes begin with a packet from this address
 abbrev pub IsPacketFrom : List ℕ → Address → Type 0
 IsPacketFrom bytes from = (packet : PacketView) × BeginsWith bytes packet × (packet.header.from ≡ from)
+
+-- a connection was accepted, and the host has not yet taken note of it
+abbrev pub is_untold : Option Arrival → Bool
+is_untold None = false
+is_untold (Some (Cames.Heard id)) = false
+is_untold (Some (Cames.Accepted a)) = true
+is_untold (Some Cames.NoRoom) = false
 
 -- what is noted of a datagram that was answered so. `heard` is the link that read it, if one did
 abbrev pub Notes : Arrived → Option ℕ → List ℕ → Option Arrival → Type 0

@@ -17,6 +17,7 @@ use Rattle.spx_messages.specs.declared.arrived.Arrived.TheVariants.{Link}
 use Rattle.spx_congestion.specs.Giving.{gave_of}
 use Rattle.spx_congestion.specs.Pacing.{PacerView, credit_after, has_given_up, wakes_at, holds_back, plan_of}
 use Rattle.spx_congestion.specs.declared.plan.Plan.{Plan}
+use Rattle.ipx_host.specs.Noting.{is_untold}
 use Rattle.ipx_host.specs.declared.paced_host_core.PacedHostCore.{PacedHostCore}
 use Rattle.ipx_host.specs.declared.pacing.Paced.{Paced}
 
@@ -126,3 +127,10 @@ pub record GivesAsPlanned (old : PacedHostCore) (now : ℕ) (given : Option Give
   pub gives : HostGives ready now given new.endpoint
   pub notes : NotesPoll paced new.endpoint new.paced
   pub core : new ≡ record old { endpoint = new.endpoint; moment = now; paced = new.paced }
+
+-- while the host has not taken note of an accepted connection, nothing is given, so that one for which there
+-- is no slot is not answered; otherwise packets are given as planned
+abbrev pub GivesOnceTold : PacedHostCore → ℕ → Option Given → PacedHostCore → Type 0
+GivesOnceTold old now given new =
+    ((is_untold old.came ≡ true) × (given ≡ None) × (new ≡ record old { moment = now }))
+    ⊎ ((is_untold old.came ≡ false) × GivesAsPlanned old now given new)

@@ -128,20 +128,32 @@ pub record PassesOne (old new : EndpointView) (waiting left : List ℕ)
   pub behind : (session.phase ≡ Standings.Ended → waiting ≡ [])
       → session'.phase ≡ Standings.Ended → left ≡ []
 
--- what passes from connections, one behind the other
+-- what passes from connections, one after another, each while nothing is left to write
 abbrev pub PassesEach : EndpointView → EndpointView → List ℕ → List ℕ → Option (List ℕ) → Option (List ℕ) → List Session → List Session → Type 0
 PassesEach old new waiting left written writes [] sessions =
     (sessions ≡ []) × (new ≡ old) × (left ≡ waiting) × (writes ≡ written)
 PassesEach old new waiting left written writes (c ∷ cs) sessions = (mid : EndpointView)
     × (between : List ℕ) × (writing : Option (List ℕ)) × (c' : Session) × (cs' : List Session)
     × (sessions ≡ c' ∷ cs') × PassesOne old mid waiting between written writing c c'
-    × PassesEach mid new between left writing writes cs cs'
+    × PassesEach mid new between left writing writes cs cs' × (waiting ≡ [])
 
--- the same, of the first ones; the others are as before
+-- what passes from the first connection while nothing is left to write; it then moves to the end of the list
+abbrev pub PassesFirst : EndpointView → EndpointView → List ℕ → List ℕ → Option (List ℕ) → Option (List ℕ) → List Session → List Session → Type 0
+PassesFirst old new waiting left written writes sessions sessions' =
+    (c c' : Session) × (rest : List Session) × (sessions ≡ c ∷ rest) × (sessions' ≡ rest ++ c' ∷ [])
+    × PassesOne old new waiting left written writes c c' × (waiting ≡ [])
+
+-- the same for the first connections, one after another, which move to the end; the others are as before
 abbrev pub PassesSome : EndpointView → EndpointView → List ℕ → List ℕ → Option (List ℕ) → Option (List ℕ) → List Session → List Session → Type 0
 PassesSome old new waiting left written writes sessions sessions' =
-    (first first' rest : List Session) × (sessions ≡ first ++ rest) × (sessions' ≡ first' ++ rest)
+    (first first' rest : List Session) × (sessions ≡ first ++ rest) × (sessions' ≡ rest ++ first')
     × PassesEach old new waiting left written writes first first'
+
+-- the same for all connections, or for as many as pass data until something is left to write. The next turn
+-- begins with the connection after them
+abbrev pub PassesUntilFull : EndpointView → EndpointView → List ℕ → List ℕ → Option (List ℕ) → Option (List ℕ) → List Session → List Session → Type 0
+PassesUntilFull old new waiting left written writes sessions sessions' =
+    (some : PassesSome old new waiting left written writes sessions sessions') × (some.2 ≢ [] → left ≢ [])
 
 -- the takes of connections, one after the other
 abbrev pub takes_each : (old new : EndpointView) (waiting left : List ℕ) (written writes : Option (List ℕ)) (sessions sessions' : List Session)

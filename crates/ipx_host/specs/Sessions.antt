@@ -1,6 +1,6 @@
 -- The connections that a listening host holds, as they are accepted, heard from and released. Nothing here is
 -- from a public standard.
-use Rattle.std.specs.Prelude.{◌≡◌, ◌≤◌, ◌⊎◌, ◌==◌, ◌&&◌, ◌-◌, ℕ, Bool, true, false, not, IsTrue, List, [], ◌∷◌, ◌++◌, length, map, position, remove, count_by, slice_get, slice_set, nat_eq, nat_le, Option, Some, None, IfSome, MatchOption, if◌then◌else◌}
+use Rattle.std.specs.Prelude.{◌≡◌, ◌≤◌, ◌↔◌, ◌⊎◌, ◌==◌, ◌&&◌, ◌-◌, ℕ, Bool, true, false, not, IsTrue, List, [], ◌∷◌, ◌++◌, length, map, position, remove, count_by, slice_get, slice_set, nat_eq, nat_le, Option, Some, None, IfSome, MatchOption, if◌then◌else◌}
 use Rattle.std.specs.List.{list_any}
 use Rattle.std.specs.Cmp.Lexicographic.{pointwise}
 use Rattle.std.specs.Coded.{Unit-prop}
@@ -99,6 +99,11 @@ MakesSpace now old new sessions sessions' = MatchOption (position (is_overdue no
 -- a count, raised by one if this holds
 abbrev pub raised_if : Bool → ℕ → ℕ
 raised_if more n = if more then raised n else n
+
+-- a request is counted exactly if there is no place for its connection
+abbrev pub CountsTurnedAway : Bool → Network → Address → List Session → ℕ → ℕ → Type 0
+CountsTurnedAway once own from sessions count count' = (is : Bool)
+    × (IsTrue is ↔ HasNoPlaceFor once own from sessions) × (count' ≡ raised_if is count)
 
 -- how a host handles what its core noted: a connection is heard from, or one is accepted, or one is evicted
 abbrev pub DoesNoted : Bool → Option Arrival → ℕ → EndpointView → EndpointView → List Session → List Session → Type 0

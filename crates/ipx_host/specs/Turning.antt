@@ -6,18 +6,18 @@ use Rattle.ipx_carrier.specs.Driving.{TakesTurn}
 use Rattle.ipx_carrier.specs.HostCore.{HearOutOfMemory}
 use Rattle.ipx_carrier.specs.Turns.{Given, Peers}
 use Rattle.ipx_host.specs.Barring.{HearsAllowed}
-use Rattle.ipx_host.specs.Paced.{GivesAsPlanned}
+use Rattle.ipx_host.specs.Paced.{GivesOnceTold}
 use Rattle.ipx_host.specs.declared.paced_host_core.PacedHostCore.{PacedHostCore}
 use Rattle.ipx_host.specs.declared.running_host.Activity.{Activity}
 
 -- a core of one port reads everything except requests from those who may not connect. It gives as its pacer
--- and its endpoint do, and withholds nothing. If out of memory, it misses a datagram as its endpoint does. It
--- notes what the last datagram was, and the time
+-- and its endpoint do, once the host has taken note of an accepted connection, and withholds nothing. If out
+-- of memory, it misses a datagram as its endpoint does. It notes what the last datagram was, and the time
 abbrev pub hears : PacedHostCore → ℕ → List ℕ → ℕ → PacedHostCore → Type 0
 hears old port bytes now new = HearsAllowed old bytes now new
 
 abbrev pub gives : PacedHostCore → ℕ → Option Given → PacedHostCore → Type 0
-gives old now given new = GivesAsPlanned old now given new
+gives old now given new = GivesOnceTold old now given new
 
 abbrev pub hear_out_of_memory : PacedHostCore → ℕ → List ℕ → ℕ → PacedHostCore → Type 0
 hear_out_of_memory old port bytes now new = HearOutOfMemory old.endpoint bytes new.endpoint

@@ -67,16 +67,26 @@ fn is_full(endpoint: &Endpoint, once: bool, sessions: &[Session], from: &Address
     is_full_on(endpoint.network(), once, sessions, from)
 }
 
-/// Holds a connection that comes, where there is a place for it. Else its link goes.
-pub fn hold(once: bool, endpoint: &mut Endpoint, sessions: &mut Vec<Session>, session: Session)
+/// Holds an accepted connection if there is a free slot. Otherwise its link is released, and it is
+/// turned away. Returns whether it was turned away.
+pub fn hold(
+    once: bool,
+    endpoint: &mut Endpoint,
+    sessions: &mut Vec<Session>,
+    session: Session,
+) -> bool
     requires { 16 ≤ vec_capacity sessions.old }
     ensures admits { Admits once session endpoint.old endpoint.new
         sessions.old.items sessions.new.items }
+    ensures turned_away { IsTrue result
+        ↔ HasNoPlaceFor once endpoint.old.network session.from sessions.old.items }
     ensures room { 16 ≤ vec_capacity sessions.new }
 {
     if is_full(endpoint, once, sessions, &session.from) || sessions.push(session).is_err() {
         let_link_go(endpoint, session.id);
+        return true;
     }
+    false
 }
 
 /// The place of the first connection that was heard.

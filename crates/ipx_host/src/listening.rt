@@ -152,7 +152,7 @@ impl<'a, R: Net + Log + Clock> ListeningHost<'a, R> {
         ensures once { self.new.sessions.once ≡ self.old.sessions.once }
     {
         let turn = self.station.turn(rt, alloc);
-        self.sessions.tell_silent(rt, self.station.moment());
+        self.sessions.tell(rt, self.station.moment());
         if turn.heard {
             self.sessions.note(&mut self.station.core);
         }

@@ -1,6 +1,6 @@
 //! The core of a running host.
 
-ghost use Rattle.std.specs.Prelude.{◌≡◌, ◌↔◌, ◌-◌, ℕ, IfOk, IfSome, IsNone, IsTrue, None, OnErr, OnOk, Some, min};
+ghost use Rattle.std.specs.Prelude.{◌≡◌, ◌↔◌, ◌-◌, ◌<◌, ◌≤◌, ℕ, IfOk, IfSome, IsNone, IsTrue, None, OnErr, OnOk, Some, length, min};
 ghost use Rattle.ipx_wire.specs.Ipx.{BeginsWith, PacketView};
 ghost use Rattle.spx_messages.specs.Arrives.{Arrives};
 ghost use Rattle.spx_messages.specs.EndpointView.{EndpointView};
@@ -8,7 +8,9 @@ ghost use Rattle.spx_messages.specs.declared.arrived.Arrived.TheVariants as Arri
 ghost use Rattle.spx_congestion.specs.Pacing.{made_pacer};
 ghost use Rattle.ipx_site.specs.AllowedPeers.{may_ask as may_be_asked_by, named_in};
 ghost use Rattle.ipx_host.specs.Barring.{IsBarred};
-ghost use Rattle.ipx_host.specs.Noting.{Notes};
+ghost use Rattle.ipx_host.specs.Noting.{Notes, is_untold};
+ghost use Rattle.ipx_carrier.specs.GivenPackets.{given_in};
+ghost use Rattle.ipx_host.specs.Paced.{GivesAsPlanned};
 ghost use Rattle.ipx_host.specs.Sleeping.{IsSleep};
 
 use crate::asking::{asker_of, is_among};
@@ -38,8 +40,9 @@ pub enum Arrival {
 }
 
 /// A host with one port, as `HostCore` of the carrier is, with a list of who may request a
-/// connection. It keeps the result of the last datagram, and the time of the last call. The
-/// connection that it paces is manual, and follows its pacer's plan.
+/// connection. It keeps the result of the last datagram, and the time of the last call. It gives
+/// nothing until an accepted connection is taken by `take_came`: there may be no slot for it, and then
+/// it is not answered. The connection that it paces is manual, and follows its pacer's plan.
 pub struct PacedHostCore {
     pub endpoint: Endpoint,
     /// The network that it is on.
@@ -179,6 +182,13 @@ impl PacedHostCore {
         self.came.take()
     }
 
+    /// Whether the last datagram made a connection that `take_came` did not return yet.
+    fn is_untold(&self) -> bool
+        ensures { result ≡ is_untold self.now.came }
+    {
+        matches!(self.came, Some(Arrival::Accepted(_)))
+    }
+
     /// Whether an address may request a connection.
     fn may_ask(&self, from: &Address) -> bool
         ensures { result ≡ may_be_asked_by (named_in self.now.from) self.now.network from.now }
@@ -197,6 +207,23 @@ impl PacedHostCore {
             Some(from) => !self.may_ask(&from),
             None => false,
         }
+    }
+
+    /// Gives the next packet of the endpoint, after its pacer has planned.
+    fn give(&mut self, now: u64, room: &mut [u8]) -> Option<(usize, Node, usize)>
+        requires { 1536 ≤ length room.old }
+        ensures given { GivesAsPlanned self.old now (given_in room.new result) self.new }
+        ensures within { IfSome result (λ g. g.2 ≤ length room.old) }
+        ensures there { IfSome result (λ g. g.0 < 1) }
+    {
+        self.moment = now;
+        plan(&mut self.paced, &mut self.endpoint, now);
+        let polled = self.endpoint.poll(now, room);
+        note_poll(&mut self.paced, &self.endpoint, room, now);
+        let Some((node, count)) = polled else {
+            return None;
+        };
+        Some((0, node, count))
     }
 
     /// The result of a datagram that the endpoint answered so.
@@ -218,13 +245,13 @@ impl Core for PacedHostCore {
     ghost use Rattle.std.specs.Prelude.{◌≡◌};
     ghost use Rattle.ipx_carrier.specs.HostCore.{HearOutOfMemory};
     ghost use Rattle.ipx_host.specs.Barring.{HearsAllowed};
-    ghost use Rattle.ipx_host.specs.Paced.{GivesAsPlanned};
+    ghost use Rattle.ipx_host.specs.Paced.{GivesOnceTold};
 
     ghost port_count = { λ c. 1 };
 
     ghost hears = { λ old port bytes now new. HearsAllowed old bytes now new };
 
-    ghost gives = { λ old now given new. GivesAsPlanned old now given new };
+    ghost gives = { λ old now given new. GivesOnceTold old now given new };
 
     ghost hear_out_of_memory = { λ old port bytes now new. HearOutOfMemory old.endpoint bytes new.endpoint
         × (new ≡ record old { endpoint = new.endpoint; moment = now }) };
@@ -261,13 +288,10 @@ impl Core for PacedHostCore {
         now: u64,
         room: &mut [u8],
     ) -> Result<Option<(usize, Node, usize)>, OutOfMemory> {
-        self.moment = now;
-        plan(&mut self.paced, &mut self.endpoint, now);
-        let polled = self.endpoint.poll(now, room);
-        note_poll(&mut self.paced, &self.endpoint, room, now);
-        let Some((node, count)) = polled else {
+        if self.is_untold() {
+            self.moment = now;
             return Ok(None);
-        };
-        Ok(Some((0, node, count)))
+        }
+        Ok(self.give(now, room))
     }
 }

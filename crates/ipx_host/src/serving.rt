@@ -1,14 +1,15 @@
 //! The connections of a host that listens: they come, pass what they hold, are asked, and go.
 
 ghost use Rattle.std.specs.Prelude.{◌≡◌, ◌<◌, ◌≤◌, [], ℕ, List, false, is_some, length, map, position, remove, slice_get, slice_set, vec_capacity, IfOk, IfSome, IsTrue, OnErr, OnOk, Err, Ok};
+ghost use Rattle.ipx_carrier.specs.Counting.{raised};
 ghost use Rattle.ipx_site.specs.Moments.{IsLoggedIfDue};
 ghost use Rattle.spx_messages.specs.EndpointView.{held_at};
-ghost use Rattle.ipx_host.specs.Sessions.{Admits, Asks, AsksOrCounts, OnlyEnded, KeepsHeard, KeepsOne, LetsLinkGo, MakesSpace, NotesHeard, session_of, heard_by, is_overdue, keeps_one_prop, raised_if};
+ghost use Rattle.ipx_host.specs.Sessions.{Admits, Asks, AsksOrCounts, CountsTurnedAway, OnlyEnded, KeepsHeard, KeepsOne, LetsLinkGo, MakesSpace, NotesHeard, session_of, heard_by, is_overdue, keeps_one_prop, raised_if};
 ghost use Rattle.ipx_host.specs.SessionActions.{is_unheard};
-ghost use Rattle.ipx_host.specs.Hosting.{MovesSome, WritesAndPasses};
+ghost use Rattle.ipx_host.specs.Hosting.{MovesSome, MovesUntilFull};
 ghost use Rattle.ipx_host.specs.ListenOutcomes.{parted, stop_in};
 ghost use Rattle.ipx_host.specs.HostOutput.{left_of};
-ghost use Rattle.ipx_host.specs.Passing.{PassesEach, PassesSome, Take};
+ghost use Rattle.ipx_host.specs.Passing.{PassesSome, PassesUntilFull, Take};
 ghost use Rattle.ipx_host.specs.Tending.{IsActionFor, Tends, Tidies};
 ghost use Rattle.ipx_host.specs.declared.sessions.Session.{Session};
 ghost use Rattle.ipx_host.specs.declared.sessions.SessionAction.TheVariants as ActionsOfSessions;
@@ -65,6 +66,9 @@ pub struct Sessions {
     /// How many connections went by their silence, of which nothing was ever heard.
     never_heard: u64,
     of_never_heard: ThrottledLog,
+    /// The number of requests that found no free slot and got no answer.
+    turned_away: u64,
+    of_turned_away: ThrottledLog,
     ghost room: { 16 ≤ vec_capacity held },
     ghost one: { KeepsOne once held.items (left_of output) } by { keeps_one_prop once held.items (left_of output) },
 }
@@ -77,6 +81,8 @@ impl Drop for Sessions {
             once: _,
             never_heard: _,
             of_never_heard: _,
+            turned_away: _,
+            of_turned_away: _,
         } = self;
     }
 }
@@ -94,6 +100,8 @@ impl Sessions {
             once,
             never_heard: 0,
             of_never_heard: ThrottledLog::new(),
+            turned_away: 0,
+            of_turned_away: ThrottledLog::new(),
         })
     }
 
@@ -104,7 +112,7 @@ impl Sessions {
         endpoint: &mut Endpoint,
         writer: &mut W,
     ) -> Result<bool, WriteFault>
-        ensures all { OnOk result (PassesEach endpoint.old endpoint.new
+        ensures all { OnOk result (PassesUntilFull endpoint.old endpoint.new
             (left_of self.old.output) (left_of self.new.output)
             (W.contents writer.old) (W.contents writer.new)
             self.old.held.items self.new.held.items) }
@@ -127,7 +135,7 @@ impl Sessions {
         core: &mut PacedHostCore,
         writer: &mut W,
     ) -> Result<bool, WriteFault>
-        ensures all { OnOk result ((takes : List Take) × WritesAndPasses core.old core.new
+        ensures all { OnOk result ((takes : List Take) × MovesUntilFull core.old core.new
             self.old.held.items self.new.held.items
             (left_of self.old.output) (left_of self.new.output)
             (W.contents writer.old) (W.contents writer.new) takes) }
@@ -143,10 +151,14 @@ impl Sessions {
         Ok(wrote | took)
     }
 
-    /// Holds a connection that was accepted at a moment, where there is a place for it.
+    /// Holds a connection that was accepted at a moment if there is a free slot. Otherwise it is turned
+    /// away before it is answered.
     fn admit(&mut self, endpoint: &mut Endpoint, accepted: Accepted, moment: u64)
         ensures admits { Admits self.old.once (session_of accepted moment)
             endpoint.old endpoint.new self.old.held.items self.new.held.items }
+        // It is counted exactly if there is no slot for it.
+        ensures counts { CountsTurnedAway self.old.once endpoint.old.network accepted.from
+            self.old.held.items self.old.turned_away self.new.turned_away }
         ensures output { self.new.output ≡ self.old.output }
         ensures once { self.new.once ≡ self.old.once }
     {
@@ -156,7 +168,8 @@ impl Sessions {
             heard: moment,
             phase: Phase::New,
         };
-        hold(self.once, endpoint, &mut self.held, session);
+        let is_turned_away = hold(self.once, endpoint, &mut self.held, session);
+        self.turned_away = count_if(is_turned_away, self.turned_away);
     }
 
     /// Notes that a connection was heard. With `once` it stays alone.
@@ -169,19 +182,21 @@ impl Sessions {
         hear_session(self.once, endpoint, &mut self.held, id, moment);
     }
 
-    /// Lets a connection go of which nothing was heard for long, since there was no link for
-    /// another.
+    /// Releases the first connection that sent nothing for a second, if there is one, since there was
+    /// no link for a new request. That request is turned away.
     fn make_space(&mut self, endpoint: &mut Endpoint, moment: u64)
         ensures room { MakesSpace moment endpoint.old endpoint.new
             self.old.held.items self.new.held.items }
         ensures counts { self.new.never_heard
             ≡ raised_if (is_some (position (is_overdue moment) self.old.held.items))
             self.old.never_heard }
+        ensures turned_away { self.new.turned_away ≡ raised self.old.turned_away }
         ensures output { self.new.output ≡ self.old.output }
         ensures once { self.new.once ≡ self.old.once }
     {
         let went = make_space(endpoint, &mut self.held, moment);
         self.never_heard = count_if(went, self.never_heard);
+        self.turned_away = count_if(true, self.turned_away);
     }
 
     /// Notes which connection the last datagram was of, or made, or did not find room for.
@@ -230,11 +245,46 @@ impl Sessions {
         station.count_refusal(is_refused);
     }
 
-    /// Tells how many connections went before anything was heard of them, once a minute at most.
-    pub fn tell_silent<R: Log>(&mut self, rt: &R, moment: u64)
+    /// Logs how many requests were turned away, at most once a minute.
+    fn tell_turned_away<R: Log>(&mut self, rt: &R, moment: u64)
+        ensures told { IsLoggedIfDue self.old.turned_away moment
+            self.old.of_turned_away self.new.of_turned_away }
+        ensures count { self.new.turned_away ≡ self.old.turned_away }
+        ensures never_heard { self.new.never_heard ≡ self.old.never_heard }
+        ensures of_never_heard { self.new.of_never_heard ≡ self.old.of_never_heard }
+        ensures held { self.new.held ≡ self.old.held }
+        ensures output { self.new.output ≡ self.old.output }
+        ensures once { self.new.once ≡ self.old.once }
+    {
+        let count = self.turned_away;
+        if let Some(more) = self.of_turned_away.tell(count, moment) {
+            warn!(rt; target: "ipx",
+                "{more} requests were turned away: no free slot ({count} since the start)");
+        }
+    }
+
+    /// Logs how many connections ended without sending data, and how many requests were turned away.
+    /// Each is logged at most once a minute.
+    pub fn tell<R: Log>(&mut self, rt: &R, moment: u64)
+        ensures silent { IsLoggedIfDue self.old.never_heard moment
+            self.old.of_never_heard self.new.of_never_heard }
+        ensures turned_away { IsLoggedIfDue self.old.turned_away moment
+            self.old.of_turned_away self.new.of_turned_away }
+        ensures held { self.new.held ≡ self.old.held }
+        ensures output { self.new.output ≡ self.old.output }
+        ensures once { self.new.once ≡ self.old.once }
+    {
+        self.tell_silent(rt, moment);
+        self.tell_turned_away(rt, moment);
+    }
+
+    /// Logs how many connections ended without sending data, at most once a minute.
+    fn tell_silent<R: Log>(&mut self, rt: &R, moment: u64)
         ensures told { IsLoggedIfDue self.old.never_heard moment
             self.old.of_never_heard self.new.of_never_heard }
         ensures count { self.new.never_heard ≡ self.old.never_heard }
+        ensures turned_away { self.new.turned_away ≡ self.old.turned_away }
+        ensures of_turned_away { self.new.of_turned_away ≡ self.old.of_turned_away }
         ensures held { self.new.held ≡ self.old.held }
         ensures output { self.new.output ≡ self.old.output }
         ensures once { self.new.once ≡ self.old.once }

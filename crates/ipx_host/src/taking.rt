@@ -1,10 +1,10 @@
 //! What a host that listens takes of its connections, on its way to the output.
 
-ghost use Rattle.std.specs.Prelude.{◌≡◌, ◌<◌, ℕ, take, false, IfSome, IsTrue, None, OnErr, OnOk, Err, Ok};
+ghost use Rattle.std.specs.Prelude.{◌≡◌, ◌<◌, [], ℕ, take, false, length, IfSome, IsTrue, None, OnErr, OnOk, Err, Ok};
 ghost use Rattle.spx_messages.specs.EndpointView.{held_at};
 ghost use Rattle.spx_messages.specs.Taking.{PeerEnd as TheEnd, take_end};
 ghost use Rattle.ipx_host.specs.HostOutput.{left_of};
-ghost use Rattle.ipx_host.specs.Passing.{PassesHeld, PassesEach, PassesOne, PassesSome, SameOthers, Takes, TakesNothing};
+ghost use Rattle.ipx_host.specs.Passing.{PassesFirst, PassesHeld, PassesOne, PassesSome, PassesUntilFull, SameOthers, Takes, TakesNothing};
 ghost use Rattle.ipx_host.specs.declared.sessions.Session.{Session};
 
 use crate::output::{Outlet, WriteFault};
@@ -84,7 +84,31 @@ fn take_some<W: Write>(
     Ok(took)
 }
 
-/// Takes from each connection, in their order. It answers whether there was anything.
+/// Takes from the first connection while nothing is left to write, and moves it to the end of the
+/// list. Returns whether it took anything.
+fn take_from_first<W: Write>(
+    alloc: Global,
+    endpoint: &mut Endpoint,
+    output: &mut Outlet,
+    sessions: &mut [Session],
+    writer: &mut W,
+) -> Result<bool, WriteFault>
+    requires some { 0 < length sessions.old }
+    requires empty { left_of output.old ≡ [] }
+    ensures passes { PassesFirst endpoint.old endpoint.new (left_of output.old)
+        (left_of output.new) (W.contents writer.old) (W.contents writer.new)
+        sessions.old sessions.new }
+    ensures still { result ≡ Ok false
+        → (id : ℕ) → held_at endpoint.new id ≡ held_at endpoint.old id }
+{
+    let took = take_some(alloc, endpoint, output, &mut sessions[0], writer);
+    sessions.rotate_left(1);
+    took
+}
+
+/// Takes from each connection, in their order, until something is left to write. Those that had their
+/// turn move to the end of the list, so that the next call begins with the one after them. Returns
+/// whether there was anything.
 pub fn take_each<W: Write>(
     alloc: Global,
     endpoint: &mut Endpoint,
@@ -92,7 +116,7 @@ pub fn take_each<W: Write>(
     sessions: &mut [Session],
     writer: &mut W,
 ) -> Result<bool, WriteFault>
-    ensures all { OnOk result (PassesEach endpoint.old endpoint.new (left_of output.old)
+    ensures all { OnOk result (PassesUntilFull endpoint.old endpoint.new (left_of output.old)
         (left_of output.new) (W.contents writer.old) (W.contents writer.new)
         sessions.old sessions.new) }
     // Where the writer fails, so it is of the first ones, and the others are as they were.
@@ -103,8 +127,11 @@ pub fn take_each<W: Write>(
         → (id : ℕ) → held_at endpoint.new id ≡ held_at endpoint.old id }
 {
     let mut took = false;
-    for session in sessions.iter_mut() {
-        took |= take_some(alloc, endpoint, output, session, writer)?;
+    for _turn in 0..sessions.len() {
+        if !output.is_empty() {
+            break;
+        }
+        took |= take_from_first(alloc, endpoint, output, sessions, writer)?;
     }
     Ok(took)
 }

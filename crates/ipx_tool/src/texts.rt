@@ -299,9 +299,9 @@ the next request is sent and no answer came:
   00000022 00000a02001e 4002: no answer 3
 and then how many were sent and answered, and the times. An answer that comes after the next request
 counts for that one. There is no answer from a socket on which nobody listens, or from a host that
-is full or does not allow this one to connect. A listener keeps one connection slot for all of the
-requests, and frees it as that of a caller that sends no data.
-No listen or send with the same address may run meanwhile.";
+is full, as one with --once that has its sender, or does not allow this one to connect. A listener
+keeps one connection slot for all of the requests, and frees it as that of a caller that sends no
+data. No listen or send with the same address may run meanwhile.";
 
 pub const PING_STATUSES: &str = "\
 It ends once the last request is answered, or two seconds after it.
