@@ -326,11 +326,11 @@ fn texts_of_sites(rt: HostRuntime) -> Result<(), Fail> {
     let rows = [
         (
             ServerDrop::NotBehind(FIRST_NODE),
-            "a joined router sent from a node that is not behind it: 7f000001bc47",
+            "a joined server sent from a node that is none of its clients: 7f000001bc47",
         ),
         (
             ServerDrop::ForElsewhere(Network(0x99)),
-            "a joined router sent for network 00000099",
+            "a joined server sent to network 00000099",
         ),
     ];
     for (drop, wanted) in rows {

@@ -111,7 +111,9 @@ fn the_end_alone(rt: HostRuntime) -> Result<(), Fail> {
         paced.plan(now);
         paced.send_end(now);
         for _ in 0..5 {
-            assert_eq!(rt; paced.pacer.next_due(now), Some(now + wait));
+            let due = paced.pacer.next_due(now);
+            assert!(rt; due.is_some_and(|at| at > now && at <= now + wait));
+            assert_eq!(rt; paced.plan(now + wait - 1).again, None);
             now += wait;
             assert_eq!(rt; paced.plan(now), again(0));
             paced.send_again(now);
