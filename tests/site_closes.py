@@ -111,7 +111,7 @@ def check_closes(sites, closes):
         good = close.peer.out == close.data
         if way == "silent":
             lost = f"connection lost: {BYTES} of {BYTES} bytes acknowledged"
-            good = good and status == 1 and said == [lost] and 4 < seconds < 10 and ends == 10
+            good = good and status == 1 and said == [lost] and 20 < seconds < 30 and 40 <= ends <= 70
         else:
             good = good and status == 0 and not said and seconds < 1 and ends == (2 if way == "late" else 1)
         sites.check({
