@@ -23,7 +23,7 @@ pub const KEEPALIVE_AFTER: u64 = 60_000;
 pub const FIRST_DATA_TIMEOUT: u64 = 1000;
 
 /// How a connection that was accepted stands with this host.
-#[derive(Clone, Copy)]
+#[derive(Clone, Copy, PartialEq, Eq)]
 pub enum Phase {
     /// Nothing was heard of it since it was accepted.
     New,
@@ -135,7 +135,7 @@ pub fn hear_one(sessions: &mut [Session], heard: u16, moment: u64)
 }
 
 /// What becomes of a connection.
-#[derive(Clone, Copy)]
+#[derive(Clone, Copy, PartialEq, Eq)]
 pub enum SessionAction {
     /// It is held on.
     Stays,
