@@ -119,19 +119,21 @@ plan_of p =
 abbrev pub holds_back : PacerView → Bool
 holds_back p = is_some (place_again p) || (nat_lt p.credit 256 && nat_lt 0 (spare p))
 
--- only the end of the connection is outstanding
+-- the end of the connection was sent, and either only the end is outstanding, or a timeout came since anything
+-- new was acknowledged. Then the peer is asked often, since a listener keeps a connection only some seconds
+-- after its end
 abbrev pub asks_often : PacerView → Bool
 asks_often p = p.ended && ((p.out == 1) || nat_lt 0 p.trip.doubled)
 
--- until when the pacer waits for an acknowledgement. If only the end is outstanding, no shorter than the time
--- before the end is sent again
+-- until when the pacer waits for an acknowledgement. If the peer is asked often, no shorter than until the
+-- first outstanding unit is sent again for that reason
 abbrev pub waits_till : PacerView → Option ℕ
 waits_till p =
     option_map (λ since. behind since (if asks_often p then max (doubled_wait p.trip) (end_wait p.trip) else doubled_wait p.trip)) p.timer
 
 -- when the first outstanding unit, which was sent again, counts as missing again: after a round trip and its
 -- tolerance, which doubles each time, up to 64 times. None if nothing is repaired, or others are to be sent
--- first. If only the end is outstanding, it is missing half a second to a second after it was last sent
+-- first. If the peer is asked often, it is missing half a second to a second after it was last sent
 abbrev pub missing_at : PacerView → Option ℕ
 missing_at p =
     if nat_le p.to (max p.from p.base)

@@ -75,16 +75,16 @@ impl Pacer {
         Some(self.timer?.saturating_add(wait))
     }
 
-    /// Whether only the end of the connection is outstanding.
+    /// Whether the peer is asked often. The end of the connection was sent, and either only the end
+    /// is outstanding, or a timeout came since anything new was acknowledged.
     fn asks_often(&self) -> bool
         ensures { result ≡ asks_often self.now }
     {
         self.ended && (self.out == 1 || self.trip.timeouts() > 0)
     }
 
-    /// When the first outstanding unit, which was sent again, is to be sent once more. If only the
-    /// end of the connection is outstanding, that is a short time after it was sent. So the peer is
-    /// asked often whether it has the end, and timeouts come no sooner.
+    /// When the first outstanding unit, which was sent again, is sent once more. If the peer is
+    /// asked often, that is half a second to a second after it was sent.
     pub(crate) fn repair_due(&self) -> Option<u64>
         ensures { result ≡ missing_at self.now }
     {
