@@ -1,6 +1,6 @@
 -- The connections that a listening host holds, as they are accepted, heard from and released. Nothing here is
 -- from a public standard.
-use Rattle.std.specs.Prelude.{◌≡◌, ◌≤◌, ◌↔◌, ◌⊎◌, ◌==◌, ◌&&◌, ◌-◌, ℕ, Bool, true, false, not, IsTrue, List, [], ◌∷◌, ◌++◌, length, map, position, remove, count_by, slice_get, slice_set, nat_eq, nat_le, Option, Some, None, IfSome, MatchOption, if◌then◌else◌}
+use Rattle.std.specs.Prelude.{◌≡◌, ◌≤◌, ◌↔◌, ◌⊎◌, ◌==◌, ◌&&◌, ◌||◌, ◌-◌, ℕ, Bool, true, false, not, IsTrue, List, [], ◌∷◌, ◌++◌, length, map, position, remove, count_by, slice_get, slice_set, nat_eq, nat_le, nat_lt, is_some, Option, Some, None, IfSome, MatchOption, if◌then◌else◌}
 use Rattle.std.specs.List.{list_any}
 use Rattle.std.specs.Cmp.Lexicographic.{pointwise}
 use Rattle.std.specs.Coded.{Unit-prop}
@@ -55,17 +55,22 @@ has_spoken c = not (is_unheard c.phase)
 abbrev pub is_ended : Session → Bool
 is_ended c = ends c.phase
 
+-- a connection belongs to the node of an address
+abbrev pub is_of_node : Network → Address → Session → Bool
+is_of_node own from c = is_same_node own c.from from
+
 -- a connection was not heard from, and belongs to the node of an address
 abbrev pub is_unheard_of : Network → Address → Session → Bool
-is_unheard_of own from c = is_unheard c.phase && is_same_node own c.from from
+is_unheard_of own from c = is_unheard c.phase && is_of_node own from c
 
--- a host has no place for one more connection from an address: with `once` if one was heard from, or if 16
--- are held, or if 4 of its node were not heard from
+-- a host has no slot for one more connection from an address: with `once` if one was heard from, or if 16
+-- are held, or 8 of its node, or 4 of its node that were not heard from
 abbrev pub HasNoPlaceFor : Bool → Network → Address → List Session → Type 0
 HasNoPlaceFor once own from sessions = (IsTrue once × (list_any has_spoken sessions ≡ true))
-    ⊎ (16 ≤ length sessions) ⊎ (4 ≤ count_by (is_unheard_of own from) sessions)
+    ⊎ (16 ≤ length sessions) ⊎ (8 ≤ count_by (is_of_node own from) sessions)
+    ⊎ (4 ≤ count_by (is_unheard_of own from) sessions)
 
--- a connection is accepted: if there is a place, it is added last, otherwise its link is released
+-- a connection is accepted: if there is a slot, it is added last, otherwise its link is released
 abbrev pub Admits : Bool → Session → EndpointView → EndpointView → List Session → List Session → Type 0
 Admits once c old new sessions sessions' =
     ((HasNoPlaceFor once old.network c.from sessions → ⊥) × (sessions' ≡ sessions ++ c ∷ []) × (new ≡ old))
@@ -89,9 +94,31 @@ KeepsHeard true old new sessions sessions' = MatchOption (position has_spoken se
 abbrev pub is_overdue : ℕ → Session → Bool
 is_overdue now c = is_unheard c.phase && nat_le 1000 (now - c.heard)
 
--- there was no link for a new request: the first overdue connection is released, if there is one
-abbrev pub MakesSpace : ℕ → EndpointView → EndpointView → List Session → List Session → Type 0
-MakesSpace now old new sessions sessions' = MatchOption (position (is_overdue now) sessions)
+-- nothing was received on a connection for ten seconds
+abbrev pub is_silent : ℕ → Session → Bool
+is_silent now c = nat_le 10000 (now - c.heard)
+
+-- a connection goes before another if its node has more connections, or as many and it was silent for longer
+abbrev pub goes_before : Network → List Session → Session → Session → Bool
+goes_before own sessions d c =
+    let of_d = count_by (is_of_node own d.from) sessions in
+    let of_c = count_by (is_of_node own c.from) sessions in
+    nat_lt of_c of_d || (of_d == of_c && nat_lt d.heard c.heard)
+
+-- a connection is silent, and no other goes before it: none belongs to a node with more connections
+abbrev pub is_to_go : Network → ℕ → List Session → Session → Bool
+is_to_go own now sessions c = is_silent now c && not (list_any (λ d. goes_before own sessions d c) sessions)
+
+-- the connection that is evicted for a new request: the first overdue one, or else, without `once`, a silent
+-- one of the node with the most connections
+abbrev pub place_to_free : Bool → Network → ℕ → List Session → Option ℕ
+place_to_free once own now sessions =
+    let overdue = position (is_overdue now) sessions in
+    if once || is_some overdue then overdue else position (is_to_go own now sessions) sessions
+
+-- there was no link for a new request: a connection is evicted and its link released, if there is one to evict
+abbrev pub MakesSpace : Bool → ℕ → EndpointView → EndpointView → List Session → List Session → Type 0
+MakesSpace once now old new sessions sessions' = MatchOption (place_to_free once old.network now sessions)
     ((sessions' ≡ sessions) × (new ≡ old))
     (λ place. (sessions' ≡ remove sessions place)
     × IfSome (slice_get sessions place) (λ c. LetsLinkGo old new c.id))
@@ -100,7 +127,12 @@ MakesSpace now old new sessions sessions' = MatchOption (position (is_overdue no
 abbrev pub raised_if : Bool → ℕ → ℕ
 raised_if more n = if more then raised n else n
 
--- a request is counted exactly if there is no place for its connection
+-- a silent connection is evicted: it was not the first overdue one
+abbrev pub is_silent_evicted : Bool → Network → ℕ → List Session → Bool
+is_silent_evicted once own now sessions = is_some (place_to_free once own now sessions)
+    && not (is_some (position (is_overdue now) sessions))
+
+-- a request is counted exactly if there is no slot for its connection
 abbrev pub CountsTurnedAway : Bool → Network → Address → List Session → ℕ → ℕ → Type 0
 CountsTurnedAway once own from sessions count count' = (is : Bool)
     × (IsTrue is ↔ HasNoPlaceFor once own from sessions) × (count' ≡ raised_if is count)
@@ -112,7 +144,7 @@ DoesNoted once (Some (Cames.Heard id)) now old new sessions sessions' =
     KeepsHeard once old new (map (heard_by id now) sessions) sessions'
 DoesNoted once (Some (Cames.Accepted a)) now old new sessions sessions' =
     Admits once (session_of a now) old new sessions sessions'
-DoesNoted once (Some Cames.NoRoom) now old new sessions sessions' = MakesSpace now old new sessions sessions'
+DoesNoted once (Some Cames.NoRoom) now old new sessions sessions' = MakesSpace once now old new sessions sessions'
 
 -- the same for what the core noted last, which is handled once
 abbrev pub NotesHeard : Bool → PacedHostCore → PacedHostCore → List Session → List Session → Type 0

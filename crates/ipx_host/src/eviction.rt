@@ -1,8 +1,9 @@
-//! Who keeps a place among the connections of a host that listens, and who goes for others.
+//! Who gets a slot among the connections of a host that listens, and which connection is evicted for a
+//! new request.
 
 ghost use Rattle.std.specs.Prelude.{◌≡◌, ◌↔◌, ◌<◌, ◌≤◌, true, count_by, is_some, length, map, position, vec_capacity, IfSome, IsTrue};
 ghost use Rattle.std.specs.List.{list_any};
-ghost use Rattle.ipx_host.specs.Sessions.{Admits, Asks, IsAskedUnless, HasNoPlaceFor, IsOutOfMemory, KeepsHeard, LetsLinkGo, LetsLinksGo, MakesSpace, heard_by, has_spoken, is_overdue, is_unheard_of, raised_if};
+ghost use Rattle.ipx_host.specs.Sessions.{Admits, Asks, IsAskedUnless, HasNoPlaceFor, IsOutOfMemory, KeepsHeard, LetsLinkGo, LetsLinksGo, MakesSpace, goes_before, heard_by, has_spoken, is_of_node, is_overdue, is_to_go, is_unheard_of, place_to_free, raised_if};
 
 use crate::sessions::{Session, hear_one};
 use ipx_wire::{Address, Network};
@@ -13,7 +14,10 @@ use std::alloc::Global;
 /// The most connections that a host holds.
 pub const MAX_SESSIONS: usize = 16;
 
-/// The most connections of one node of which nothing was heard yet.
+/// The most connections of one node.
+const MAX_OF_NODE: usize = 8;
+
+/// The most connections of one node that were not heard from yet.
 const MAX_UNHEARD: usize = 4;
 
 /// Forgets the link of an id.
@@ -39,7 +43,17 @@ fn is_any_heard(sessions: &[Session]) -> bool
     sessions.iter().any(|session| session.is_heard())
 }
 
-/// How many connections of the node of an address are held of which nothing was heard.
+/// The number of connections of the node of an address.
+fn count_of_node(sessions: &[Session], own: Network, from: &Address) -> usize
+    ensures { result ≡ count_by (is_of_node own from.now) sessions.now }
+{
+    sessions
+        .iter()
+        .filter(|session| session.is_of_node(own, from))
+        .count()
+}
+
+/// The number of connections of the node of an address that were not heard from.
 fn count_unheard_of(sessions: &[Session], own: Network, from: &Address) -> usize
     ensures { result ≡ count_by (is_unheard_of own from.now) sessions.now }
 {
@@ -49,18 +63,20 @@ fn count_unheard_of(sessions: &[Session], own: Network, from: &Address) -> usize
         .count()
 }
 
-/// Whether a host of a network lets a connection that comes from an address go at once: with `once`
-/// where one was heard; where 16 are held; and where of its node 4 are, of which nothing was heard.
+/// Whether a host of a network has no slot for a connection from an address: with `once` if one was
+/// heard from; if 16 are held, or 8 of its node, or 4 of its node that were not heard from.
 fn is_full_on(own: Network, once: bool, sessions: &[Session], from: &Address) -> bool
     ensures { IsTrue result ↔ HasNoPlaceFor once own from.now sessions.now }
 {
     if once && is_any_heard(sessions) {
         return true;
     }
-    sessions.len() >= MAX_SESSIONS || count_unheard_of(sessions, own, from) >= MAX_UNHEARD
+    sessions.len() >= MAX_SESSIONS
+        || count_of_node(sessions, own, from) >= MAX_OF_NODE
+        || count_unheard_of(sessions, own, from) >= MAX_UNHEARD
 }
 
-/// Whether the host of an endpoint does.
+/// The same for the host of an endpoint.
 fn is_full(endpoint: &Endpoint, once: bool, sessions: &[Session], from: &Address) -> bool
     ensures { IsTrue result ↔ HasNoPlaceFor once endpoint.now.network from.now sessions.now }
 {
@@ -97,14 +113,72 @@ fn place_of_heard(sessions: &[Session]) -> Option<usize>
     sessions.iter().position(|session| session.is_heard())
 }
 
-/// The place of the first connection that is overdue at a moment.
-fn place_of_overdue(sessions: &[Session], moment: u64) -> Option<usize>
+/// The place of the first connection that is overdue.
+pub fn place_of_overdue(sessions: &[Session], moment: u64) -> Option<usize>
     ensures place { result ≡ position (is_overdue moment) sessions.now }
     ensures there { IfSome result (λ place. place < length sessions.now) }
 {
     sessions
         .iter()
         .position(|session| session.is_overdue(moment))
+}
+
+/// Whether a connection goes before another: its node has more connections, or as many and it was
+/// silent for longer.
+fn goes_before(own: Network, sessions: &[Session], session: &Session, other: &Session) -> bool
+    ensures { result ≡ goes_before own sessions.now session.now other.now }
+{
+    let count = count_of_node(sessions, own, &session.from);
+    let others = count_of_node(sessions, own, &other.from);
+    count > others || (count == others && session.heard < other.heard)
+}
+
+/// Whether another connection goes before this one.
+fn goes_any_before(own: Network, sessions: &[Session], session: &Session) -> bool
+    ensures { result ≡ list_any (λ d. goes_before own sessions.now d session.now) sessions.now }
+{
+    sessions
+        .iter()
+        .any(|other| goes_before(own, sessions, other, session))
+}
+
+/// Whether a connection is silent, and no other goes before it.
+fn is_to_go(own: Network, sessions: &[Session], session: &Session, moment: u64) -> bool
+    ensures { result ≡ is_to_go own moment sessions.now session.now }
+{
+    session.is_silent(moment) && !goes_any_before(own, sessions, session)
+}
+
+/// The place of the silent connection that is evicted, if there is one.
+fn place_of_silent(own: Network, sessions: &[Session], moment: u64) -> Option<usize>
+    ensures place { result ≡ position (is_to_go own moment sessions.now) sessions.now }
+    ensures there { IfSome result (λ place. place < length sessions.now) }
+{
+    sessions
+        .iter()
+        .position(|session| is_to_go(own, sessions, session, moment))
+}
+
+/// The place of the connection that is evicted for a new request: the first overdue one, or else,
+/// without `once`, a silent one of the node with the most connections.
+fn place_to_evict(once: bool, own: Network, sessions: &[Session], moment: u64) -> Option<usize>
+    ensures place { result ≡ place_to_free once own moment sessions.now }
+    ensures there { IfSome result (λ place. place < length sessions.now) }
+{
+    let overdue = place_of_overdue(sessions, moment);
+    if once || overdue.is_some() {
+        overdue
+    } else {
+        place_of_silent(own, sessions, moment)
+    }
+}
+
+/// The same for the host of an endpoint.
+fn place_in(once: bool, endpoint: &Endpoint, sessions: &[Session], moment: u64) -> Option<usize>
+    ensures place { result ≡ place_to_free once endpoint.now.network moment sessions.now }
+    ensures there { IfSome result (λ place. place < length sessions.now) }
+{
+    place_to_evict(once, endpoint.network(), sessions, moment)
 }
 
 /// Keeps the first connection that was heard alone, where one was: the others go, and their links.
@@ -141,15 +215,22 @@ pub fn hear_session(
     }
 }
 
-/// Lets the first connection go that is overdue at a moment, and its link. It answers whether there
-/// was one.
-pub fn make_space(endpoint: &mut Endpoint, sessions: &mut Vec<Session>, moment: u64) -> bool
+/// Evicts a connection for a new request, and releases its link. Returns whether there was one to
+/// evict.
+pub fn make_space(
+    once: bool,
+    endpoint: &mut Endpoint,
+    sessions: &mut Vec<Session>,
+    moment: u64,
+) -> bool
     requires { 16 ≤ vec_capacity sessions.old }
-    ensures makes { MakesSpace moment endpoint.old endpoint.new sessions.old.items sessions.new.items }
-    ensures one { result ≡ is_some (position (is_overdue moment) sessions.old.items) }
+    ensures makes { MakesSpace once moment endpoint.old endpoint.new
+        sessions.old.items sessions.new.items }
+    ensures one { result
+        ≡ is_some (place_to_free once endpoint.old.network moment sessions.old.items) }
     ensures room { 16 ≤ vec_capacity sessions.new }
 {
-    let Some(place) = place_of_overdue(sessions, moment) else {
+    let Some(place) = place_in(once, endpoint, sessions, moment) else {
         return false;
     };
     let session = sessions.remove(place);

@@ -4,7 +4,7 @@ ghost use Rattle.std.specs.Prelude.{◌≡◌, ◌<◌, ◌≤◌, [], ℕ, List
 ghost use Rattle.ipx_carrier.specs.Counting.{raised};
 ghost use Rattle.ipx_site.specs.Moments.{IsLoggedIfDue};
 ghost use Rattle.spx_messages.specs.EndpointView.{held_at};
-ghost use Rattle.ipx_host.specs.Sessions.{Admits, Asks, AsksOrCounts, CountsTurnedAway, OnlyEnded, KeepsHeard, KeepsOne, LetsLinkGo, MakesSpace, NotesHeard, session_of, heard_by, is_overdue, keeps_one_prop, raised_if};
+ghost use Rattle.ipx_host.specs.Sessions.{Admits, Asks, AsksOrCounts, CountsTurnedAway, OnlyEnded, KeepsHeard, KeepsOne, LetsLinkGo, MakesSpace, NotesHeard, session_of, heard_by, is_overdue, is_silent_evicted, keeps_one_prop, raised_if};
 ghost use Rattle.ipx_host.specs.SessionActions.{is_unheard};
 ghost use Rattle.ipx_host.specs.Hosting.{MovesSome, MovesUntilFull};
 ghost use Rattle.ipx_host.specs.ListenOutcomes.{parted, stop_in};
@@ -16,7 +16,9 @@ ghost use Rattle.ipx_host.specs.declared.sessions.SessionAction.TheVariants as A
 ghost use Rattle.ipx_host.specs.declared.sessions.Phase.TheVariants as Standings;
 ghost use Rattle.ipx_host.specs.declared.listening.ListenOutcome.TheVariants as Stops;
 
-use crate::eviction::{MAX_SESSIONS, ask, count_if, hear_session, hold, let_link_go, make_space};
+use crate::eviction::{
+    MAX_SESSIONS, ask, count_if, hear_session, hold, let_link_go, make_space, place_of_overdue,
+};
 use crate::idle::{action_in, first_to_tend};
 use crate::listening::ListenOutcome;
 use crate::output::{Outlet, WriteFault};
@@ -63,9 +65,12 @@ pub struct Sessions {
     pub output: Outlet,
     /// Whether the first connection that is heard is the only one, and all is over with it.
     pub once: bool,
-    /// How many connections went by their silence, of which nothing was ever heard.
+    /// The number of connections that ended without sending data.
     never_heard: u64,
     of_never_heard: ThrottledLog,
+    /// The number of silent connections that were evicted for a new request.
+    evicted: u64,
+    of_evicted: ThrottledLog,
     /// The number of requests that found no free slot and got no answer.
     turned_away: u64,
     of_turned_away: ThrottledLog,
@@ -81,6 +86,8 @@ impl Drop for Sessions {
             once: _,
             never_heard: _,
             of_never_heard: _,
+            evicted: _,
+            of_evicted: _,
             turned_away: _,
             of_turned_away: _,
         } = self;
@@ -100,6 +107,8 @@ impl Sessions {
             once,
             never_heard: 0,
             of_never_heard: ThrottledLog::new(),
+            evicted: 0,
+            of_evicted: ThrottledLog::new(),
             turned_away: 0,
             of_turned_away: ThrottledLog::new(),
         })
@@ -182,20 +191,24 @@ impl Sessions {
         hear_session(self.once, endpoint, &mut self.held, id, moment);
     }
 
-    /// Releases the first connection that sent nothing for a second, if there is one, since there was
-    /// no link for a new request. That request is turned away.
+    /// Evicts a connection, if there is one to evict, since there was no link for a new request. That
+    /// request is turned away.
     fn make_space(&mut self, endpoint: &mut Endpoint, moment: u64)
-        ensures room { MakesSpace moment endpoint.old endpoint.new
+        ensures room { MakesSpace self.old.once moment endpoint.old endpoint.new
             self.old.held.items self.new.held.items }
         ensures counts { self.new.never_heard
             ≡ raised_if (is_some (position (is_overdue moment) self.old.held.items))
             self.old.never_heard }
+        ensures evicted { self.new.evicted ≡ raised_if (is_silent_evicted self.old.once
+            endpoint.old.network moment self.old.held.items) self.old.evicted }
         ensures turned_away { self.new.turned_away ≡ raised self.old.turned_away }
         ensures output { self.new.output ≡ self.old.output }
         ensures once { self.new.once ≡ self.old.once }
     {
-        let went = make_space(endpoint, &mut self.held, moment);
-        self.never_heard = count_if(went, self.never_heard);
+        let is_overdue = place_of_overdue(&self.held, moment).is_some();
+        let is_evicted = make_space(self.once, endpoint, &mut self.held, moment);
+        self.never_heard = count_if(is_overdue, self.never_heard);
+        self.evicted = count_if(is_evicted && !is_overdue, self.evicted);
         self.turned_away = count_if(true, self.turned_away);
     }
 
@@ -252,6 +265,8 @@ impl Sessions {
         ensures count { self.new.turned_away ≡ self.old.turned_away }
         ensures never_heard { self.new.never_heard ≡ self.old.never_heard }
         ensures of_never_heard { self.new.of_never_heard ≡ self.old.of_never_heard }
+        ensures evicted { self.new.evicted ≡ self.old.evicted }
+        ensures of_evicted { self.new.of_evicted ≡ self.old.of_evicted }
         ensures held { self.new.held ≡ self.old.held }
         ensures output { self.new.output ≡ self.old.output }
         ensures once { self.new.once ≡ self.old.once }
@@ -263,11 +278,32 @@ impl Sessions {
         }
     }
 
-    /// Logs how many connections ended without sending data, and how many requests were turned away.
-    /// Each is logged at most once a minute.
+    /// Logs how many silent connections were evicted, at most once a minute.
+    fn tell_evicted<R: Log>(&mut self, rt: &R, moment: u64)
+        ensures told { IsLoggedIfDue self.old.evicted moment
+            self.old.of_evicted self.new.of_evicted }
+        ensures never_heard { self.new.never_heard ≡ self.old.never_heard }
+        ensures of_never_heard { self.new.of_never_heard ≡ self.old.of_never_heard }
+        ensures turned_away { self.new.turned_away ≡ self.old.turned_away }
+        ensures of_turned_away { self.new.of_turned_away ≡ self.old.of_turned_away }
+        ensures held { self.new.held ≡ self.old.held }
+        ensures output { self.new.output ≡ self.old.output }
+        ensures once { self.new.once ≡ self.old.once }
+    {
+        let count = self.evicted;
+        if let Some(more) = self.of_evicted.tell(count, moment) {
+            warn!(rt; target: "ipx",
+                "{more} connections were evicted after 10 s of silence, since all were taken ({count} since the start)");
+        }
+    }
+
+    /// Logs how many connections ended without sending data, how many were evicted, and how many
+    /// requests were turned away. Each is logged at most once a minute.
     pub fn tell<R: Log>(&mut self, rt: &R, moment: u64)
         ensures silent { IsLoggedIfDue self.old.never_heard moment
             self.old.of_never_heard self.new.of_never_heard }
+        ensures evicted { IsLoggedIfDue self.old.evicted moment
+            self.old.of_evicted self.new.of_evicted }
         ensures turned_away { IsLoggedIfDue self.old.turned_away moment
             self.old.of_turned_away self.new.of_turned_away }
         ensures held { self.new.held ≡ self.old.held }
@@ -275,6 +311,7 @@ impl Sessions {
         ensures once { self.new.once ≡ self.old.once }
     {
         self.tell_silent(rt, moment);
+        self.tell_evicted(rt, moment);
         self.tell_turned_away(rt, moment);
     }
 
@@ -283,6 +320,8 @@ impl Sessions {
         ensures told { IsLoggedIfDue self.old.never_heard moment
             self.old.of_never_heard self.new.of_never_heard }
         ensures count { self.new.never_heard ≡ self.old.never_heard }
+        ensures evicted { self.new.evicted ≡ self.old.evicted }
+        ensures of_evicted { self.new.of_evicted ≡ self.old.of_evicted }
         ensures turned_away { self.new.turned_away ≡ self.old.turned_away }
         ensures of_turned_away { self.new.of_turned_away ≡ self.old.of_turned_away }
         ensures held { self.new.held ≡ self.old.held }

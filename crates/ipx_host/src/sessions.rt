@@ -3,7 +3,7 @@
 ghost use Rattle.std.specs.Prelude.{◌≡◌, ◌↔◌, Some, map};
 ghost use Rattle.spx_link.specs.declared.state.State.TheVariants as States;
 ghost use Rattle.ipx_host.specs.SessionActions.{IsSessionAction, IsOver, IsToAsk, is_unheard, phase_asked, phase_heard};
-ghost use Rattle.ipx_host.specs.Sessions.{heard_by, has_spoken, is_overdue, is_unheard_of};
+ghost use Rattle.ipx_host.specs.Sessions.{heard_by, has_spoken, is_of_node, is_overdue, is_silent, is_unheard_of};
 ghost use Rattle.ipx_host.specs.declared.sessions.SessionAction.TheVariants as ActionsOfSessions;
 ghost use Rattle.ipx_site.specs.AllowedPeers.{home_network};
 
@@ -21,6 +21,9 @@ pub const KEEPALIVE_AFTER: u64 = 60_000;
 /// How long a connection of which nothing was heard yet is waited for, before it is asked whether
 /// it is there, or makes room, in milliseconds.
 pub const FIRST_DATA_TIMEOUT: u64 = 1000;
+
+/// How long a connection is silent before it may be evicted for a new request, in milliseconds.
+pub const EVICT_AFTER: u64 = 10_000;
 
 /// How a connection that was accepted stands with this host.
 #[derive(Clone, Copy, PartialEq, Eq)]
@@ -106,13 +109,25 @@ impl Session {
         self.phase.is_unheard() && now.saturating_sub(self.heard) >= FIRST_DATA_TIMEOUT
     }
 
-    /// Whether nothing was heard of it, and it is of the node of an address, as a host of a network
-    /// sees it.
+    /// Whether nothing was received on it for ten seconds.
+    pub fn is_silent(&self, now: u64) -> bool
+        ensures { result ≡ is_silent now self.now }
+    {
+        now.saturating_sub(self.heard) >= EVICT_AFTER
+    }
+
+    /// Whether it belongs to the node of an address, as a host of a network sees it.
+    pub fn is_of_node(&self, own: Network, from: &Address) -> bool
+        ensures { result ≡ is_of_node own from.now self.now }
+    {
+        home_of(own, &self.from) == home_of(own, from) && self.from.node == from.node
+    }
+
+    /// Whether it was not heard from, and belongs to the node of an address.
     pub fn is_unheard_of(&self, own: Network, from: &Address) -> bool
         ensures { result ≡ is_unheard_of own from.now self.now }
     {
-        let here = home_of(own, &self.from) == home_of(own, from);
-        self.phase.is_unheard() && here && self.from.node == from.node
+        self.phase.is_unheard() && self.is_of_node(own, from)
     }
 
     /// It is heard at a moment, if it is the one that was heard.

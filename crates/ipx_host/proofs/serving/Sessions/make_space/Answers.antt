@@ -6,6 +6,6 @@ pub invariant_of-self : goal.invariant_of-self
 invariant_of-self c =
     let old = c.args.self.now in
     record {
-      room = c.make_space-went.ensures.room;
-      one = keeps_room old.once c.args.moment old.held.items c.make_space-went.new.sessions.items (left_of old.output) c.args.endpoint.now c.make_space-went.new.endpoint c.make_space-went.ensures.makes old.one;
+      room = c.make_space-is_evicted.ensures.room;
+      one = keeps_room old.once c.args.moment old.held.items c.make_space-is_evicted.new.sessions.items (left_of old.output) c.args.endpoint.now c.make_space-is_evicted.new.endpoint c.make_space-is_evicted.ensures.makes old.one;
     }
