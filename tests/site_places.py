@@ -1,22 +1,36 @@
-"""Who gets a slot of a listener with --once, and the share of each sender if the output is read slowly, for tests/sites."""
+"""Who gets a slot of a listener with --once, who gets one where other nodes hold all that they may, and the share of each
+sender if the output is read slowly, for tests/sites."""
 import os
 import re
+import struct
 import threading
 import time
 
-from site_world import Watch, listed, node, some_bytes, until
+from site_callers import call
+from site_packets import ipx
+from site_world import Watch, bound, listed, node, some_bytes, until
 
 # Listeners and senders on a network without a router: one with --once, which two senders call; and one whose output is read
 # slowly, with two senders.
 NETWORK = "00000044"
 ONCE, FIRST, SECOND = "127.0.1.22", "127.0.1.23", "127.0.1.24"
 SLOW, BOTH = "127.0.1.35", ("127.0.1.36", "127.0.1.37")
-PLACES = [ONCE, FIRST, SECOND, SLOW, *BOTH]
-# A second sender to a listener with --once ends within this number of seconds.
-ENDS = 6
+# Listeners of which other nodes hold connections: its address, that of a sender, and those of these nodes.
+HELD = {"one": ("127.0.1.43", "127.0.1.44", ["127.0.1.45"]),
+        "silent": ("127.0.1.46", "127.0.1.47", ["127.0.1.48", "127.0.1.49"]),
+        "busy": ("127.0.1.73", "127.0.1.74", ["127.0.1.75", "127.0.1.76"])}
+HELD_ADDRESSES = [address for listener, sender, nodes in HELD.values() for address in (listener, sender, *nodes)]
+PLACES = [ONCE, FIRST, SECOND, SLOW, *BOTH, *HELD_ADDRESSES]
+# A sender that gets no answer ends within this number of seconds, and one that is to get through where nodes hold connections
+# within that.
+ENDS, THROUGH = 6, 15
+# The most connections of a listener, and of one node there; for how many seconds one is silent that may be evicted where all
+# are taken, and a little more.
+MOST, OF_A_NODE, SILENCE = 16, 8, 10.1
 # How many bytes of the slow output are read each second, for how many seconds, and the least share of each sender.
 RATE, SECONDS, SHARE = 1_000_000, 6, 1 / 3
 AWAY = r"\[WARN  ipx\] \d+ requests were turned away: no free slot \((\d+) since the start\)"
+EVICTED = r"\[WARN  ipx\] 1 connections were evicted after 10 s of silence, since all were taken \(1 since the start\)"
 
 
 class Ending:
@@ -96,3 +110,167 @@ def check_shares(sites):
     for process in (listener, *senders):
         process.end()
     os.close(read)
+
+
+class Holder:
+    """A node that asks a listener for connections, sends a byte on each as it is accepted, and again when it is told to."""
+
+    def __init__(self, sites, ip, listener, wanted):
+        self.ip, self.listener, self.port = ip, listener, sites.port
+        self.socket = bound(ip, sites.port)
+        self.numbers = range(1, wanted + 1)
+        # By the connection's id here: the listener's id of it, how many bytes were sent on it, and how many were acknowledged.
+        self.accepted, self.sent, self.acknowledged = {}, {}, {}
+
+    def read(self):
+        """Reads all that came. It sends a byte on each connection that was accepted."""
+        while True:
+            try:
+                packet = self.socket.recv(2048)
+            except BlockingIOError:
+                return
+            there, here, _, acknowledged = struct.unpack(">HHHH", packet[32:40])
+            self.acknowledged[here] = acknowledged
+            if here not in self.accepted:
+                self.accepted[here], self.sent[here] = there, 0
+                self.send(here)
+
+    def send(self, number):
+        header = struct.pack(">BBHHHHH", 0x50, 0, number, self.accepted[number], self.sent[number], 0, 7)
+        self.sent[number] += 1
+        packet = ipx(5, (NETWORK, node(self.listener), "4002"), (NETWORK, node(self.ip), "4003"), header + b".")
+        self.socket.sendto(packet, (self.listener, self.port))
+
+    def ask(self):
+        """Asks for each connection that was not accepted, and waits a little for the answer, and until the byte on it is
+        acknowledged: a node may have few connections of which nothing was heard."""
+        for number in self.numbers:
+            if number not in self.accepted:
+                call(self.socket, self.ip, self.listener, self.port, number)
+                until(lambda: self.is_heard(number), 0.05)  # pylint: disable=cell-var-from-loop
+
+    def is_heard(self, number):
+        """Whether all that was sent on a connection is acknowledged."""
+        self.read()
+        return number in self.accepted and self.acknowledged[number] == self.sent[number]
+
+    def speak(self):
+        for number in self.accepted:
+            self.send(number)
+
+    def heard(self):
+        """The connections on which all is acknowledged that was sent."""
+        return [number for number in self.numbers if self.is_heard(number)]
+
+
+class Held:
+    """A listener of which nodes hold connections, and a sender of another node. So many of the nodes, `speaking`, speak again
+    each `every` seconds. The sender starts after `after` seconds, and all goes on for `every` seconds at least. In the end each
+    node speaks on each connection, which shows which of them are still held."""
+
+    def __init__(self, sites, name, wanted, speaking, every, after):
+        address, sender, nodes = HELD[name]
+        self.speaking, self.every, self.after = speaking, every, after
+        sites.host(f"{name}-holders", NETWORK, address, "127.0.1.89", "4002", listed("peers", [sender, *nodes]))
+        sites.host(f"{name}-kept-out", NETWORK, sender, "127.0.1.89", "4003")
+        self.data = bytes(byte | 128 for byte in some_bytes(sites.seed + 14, 20_000))
+        self.listener = sites.start_listener(name=f"{name}-holders")
+        # The main thread starts the sender, which waits for a line first.
+        self.go, self.ending = threading.Event(), None
+        self.sender = sites.world.start(
+            f"{name}-kept-out", "-c", 'read -r line && exec "$0" "$@"', sites.world.program, "send",
+            sites.world.path(f"{name}-kept-out.toml"), NETWORK, node(address), "4002", stdin=True, program="/bin/sh")
+        self.sender.feed([self.go, b"\n", self.data])
+        until(self.listener.said, 5)
+        self.holders = [Holder(sites, ip, address, wanted) for ip in nodes]
+        # The connections that were accepted of each node as the sender starts, and on which all is acknowledged at last.
+        self.accepted = self.heard = None
+        self.thread = threading.Thread(target=self.run, daemon=True)
+        self.thread.start()
+
+    def ask(self):
+        """Asks for what was not accepted, and answers whether all is."""
+        for holder in self.holders:
+            holder.ask()
+        return all(len(holder.accepted) == len(holder.numbers) for holder in self.holders)
+
+    def run(self):
+        until(self.ask, 1)
+        start = asked = spoke = time.monotonic()
+        while not self.ending or self.ending.thread.is_alive() or time.monotonic() < start + self.every:
+            time.sleep(0.02)
+            now = time.monotonic()
+            if now >= asked + 0.5:
+                asked = now
+                self.ask()
+            if now >= spoke + self.every:
+                spoke = now
+                for holder in self.holders[:self.speaking]:
+                    holder.speak()
+            if now >= start + self.after and not self.ending:
+                self.accepted = [len(holder.accepted) for holder in self.holders]
+                self.ending = Ending(self.sender)
+                self.go.set()
+        for holder in self.holders:
+            holder.speak()
+        time.sleep(0.5)
+        self.heard = [len(holder.heard()) for holder in self.holders]
+
+    def ended(self):
+        """The status of the sender, after how many seconds it ended, what it said, and its bytes that the listener wrote."""
+        self.thread.join(40)
+        seconds = 99
+        if self.ending:
+            self.ending.thread.join(5)
+            seconds = self.ending.seconds or 99
+        came = bytes(byte for byte in self.listener.out if byte >= 128)
+        return self.sender.status(0), seconds, self.sender.said(), came
+
+    def end(self):
+        for holder in self.holders:
+            holder.socket.close()
+        for process in (self.listener, self.sender):
+            process.end()
+
+
+def start_held(sites):
+    """A node that asks for all connections; two that hold all, of which one is silent then; and two that go on to speak."""
+    return {"one": Held(sites, "one", MOST, 1, 5, 0), "silent": Held(sites, "silent", OF_A_NODE, 1, 3, SILENCE),
+            "busy": Held(sites, "busy", OF_A_NODE, 2, 3, SILENCE)}
+
+
+def check_held(sites, held):
+    """Who gets a slot there, and who keeps one."""
+    one = held["one"]
+    check_through(sites, "a sender to a listener of which another node asks for all connections gets through", one)
+    sites.check(f"of {MOST} connections that one node asks for it gets {OF_A_NODE}",
+                one.accepted == [OF_A_NODE] and one.heard == [OF_A_NODE], f"{one.accepted} accepted, {one.heard} acknowledged")
+    check_line(sites, "and its other requests are counted", one, AWAY)
+    silent = held["silent"]
+    check_through(sites, "a sender to one whose connections are all taken, half of them silent for 10 s, gets through", silent)
+    sites.check("for which one of those is evicted, and none that speaks",
+                silent.accepted == [OF_A_NODE] * 2 and silent.heard == [OF_A_NODE, OF_A_NODE - 1],
+                f"{silent.accepted} accepted, {silent.heard} acknowledged")
+    check_line(sites, "and is counted", silent, EVICTED)
+    busy = held["busy"]
+    status, took, said, _ = busy.ended()
+    line = f"no answer from {NETWORK} {node(HELD['busy'][0])} 4002"
+    sites.check(f"a sender to one whose connections are all taken, and speak, ends within {ENDS} seconds, and says why",
+                status == 1 and said == [line] and took < ENDS, f"{status}, after {took:.2f} s, {said}")
+    sites.check("and all of them stay", busy.accepted == busy.heard == [OF_A_NODE] * 2,
+                f"{busy.accepted} accepted, {busy.heard} acknowledged")
+    check_line(sites, "and its requests are counted", busy, AWAY)
+    for it in held.values():
+        it.end()
+
+
+def check_through(sites, name, held):
+    """The sender ends with status 0 soon, and all its bytes came."""
+    status, took, said, came = held.ended()
+    sites.check(name, status == 0 and took < THROUGH and came == held.data,
+                f"{status}, after {took:.2f} s, {len(came)} of {len(held.data)} bytes, {said}")
+
+
+def check_line(sites, name, held, line):
+    """The listener logged such a line."""
+    sites.check(name, any(re.fullmatch(line, said) for said in held.listener.said()), str(held.listener.said()[-2:]))
