@@ -64,7 +64,7 @@ fn frames_over_sockets(rt: HostRuntime) -> Result<(), Fail> {
     let at = place(20_920);
     let mut first = bound(&rt, alloc, place(20_921), &[at])?;
     let mut second = bound(&rt, alloc, place(20_922), &[at])?;
-    let mut stranger = bound(&rt, alloc, place(20_923), &[at])?;
+    let mut unknown = bound(&rt, alloc, place(20_923), &[at])?;
     let ends = bound(&rt, alloc, at, &[place(20_921), place(20_922)])?;
     let mut ethernet = ethernet(alloc, ends)?;
     let mut room = [0; 1536];
@@ -75,7 +75,7 @@ fn frames_over_sockets(rt: HostRuntime) -> Result<(), Fail> {
     assert!(rt; next_frame(&mut second, &mut room)? == Some(FrameCame { end: 0, size: 44 }));
     assert_eq!(rt; &room[..44], frame(Node::BROADCAST, FIRST).as_slice());
     // What the unknown sender sends is dropped.
-    assert!(rt; stranger.send(0, 0, &frame(PORT.own, SECOND)).is_ok());
+    assert!(rt; unknown.send(0, 0, &frame(PORT.own, SECOND)).is_ok());
     assert!(rt; next_packet(&mut ethernet, &mut room)? == None);
     assert_eq!(rt; ethernet.sockets().unknown_senders(), 1);
     assert_eq!(rt; ethernet.filtered(), 1);
@@ -91,7 +91,7 @@ fn frames_over_sockets(rt: HostRuntime) -> Result<(), Fail> {
     // Nothing else arrived anywhere.
     assert!(rt; first.receive(0, &mut room)? == None);
     assert!(rt; second.receive(0, &mut room)? == None);
-    assert!(rt; stranger.receive(0, &mut room)? == None);
+    assert!(rt; unknown.receive(0, &mut room)? == None);
     assert_eq!(rt; ethernet.sockets().sent(), 2);
     assert_eq!(rt; ethernet.sockets().failures(), 0);
     assert_eq!(rt; ethernet.sockets().faults(), 0);

@@ -53,7 +53,7 @@ pub read_other : (id other : ℕ) (r : Received) (arrived : Arrived) → arrived
 read_other id other r arrived said not (received, is, known) = not (cc)
 
 pub read_unknown_sender : (id other : ℕ) (r : Received) (arrived : Arrived) → arrived ≡ Link other r → r ≡ Stranger → LinkReads id arrived → ⊥
-read_unknown_sender id other r arrived said stranger (received, is, known) = known (cc)
+read_unknown_sender id other r arrived said unknown (received, is, known) = known (cc)
 
 pub unread : (id : ℕ) (arrived : Arrived) (pacer : PacerView) (there : Option Held) → (LinkReads id arrived → ⊥)
     → NotesHeard id arrived pacer pacer there

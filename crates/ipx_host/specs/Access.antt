@@ -35,8 +35,8 @@ with_dialed ips (Some ip) = ips ++ ip ∷ []
 abbrev pub known_ips : HostConfig → Option (List ℕ) → List (List ℕ)
 known_ips file dials = with_dialed (file.peers.items ++ file.router ∷ []) dials
 
--- a host receives from these and sends to these, or receives from everybody and sends to everybody. Only its
--- router and the routers of its file forward packets to it
+-- a host receives from these addresses and sends to them, or accepts everybody. Only its router and the
+-- routers of its file forward packets to it
 abbrev pub guarded_host : HostConfig → Option (List ℕ) → Access
 guarded_host file dials = record {
   network = file.network;

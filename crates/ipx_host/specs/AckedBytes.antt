@@ -1,4 +1,4 @@
--- The count of what was queued and acknowledged. Nothing here is from a public standard.
+-- The number of bytes that were queued and acknowledged. Nothing here is from a public standard.
 use Rattle.std.specs.Prelude.{◌≡◌, ◌<◌, ℕ, ◌+◌, ◌-◌, ◌*◌, List, [], ◌∷◌, ◌++◌, max, min, sum}
 use Rattle.std.specs.Int.{div_ceil}
 use Rattle.std.specs.List.{sum_by}
@@ -7,7 +7,7 @@ use Rattle.spx_link.specs.SequenceMarks.{distance}
 use Rattle.spx_link.specs.declared.numbers.Numbers.{Numbers}
 use Rattle.ipx_carrier.specs.Counting.{counted}
 
--- how many units a message of so many bytes is cut into: one if it is empty
+-- the number of units that a message of this length is cut into: one if it is empty
 abbrev pub units_in : ℕ → ℕ
 units_in bytes = max 1 (div_ceil bytes spx_max_data_size)
 
@@ -15,14 +15,14 @@ units_in bytes = max 1 (div_ceil bytes spx_max_data_size)
 abbrev pub base_of : Numbers → ℕ
 base_of n = distance n.next n.out
 
--- how many bytes are acknowledged, if so many units of messages of these lengths are: 534 for each unit of a
--- message, and no more than the message has
+-- the number of acknowledged bytes, if this many units of messages of these lengths are acknowledged. Each
+-- unit counts as 534 bytes, but no message counts more than its length
 abbrev pub bytes_acknowledged : List ℕ → ℕ → ℕ
 bytes_acknowledged [] units = 0
 bytes_acknowledged (bytes ∷ more) units =
     min bytes (spx_max_data_size * units) + bytes_acknowledged more (units - units_in bytes)
 
--- all units of messages of these lengths
+-- the number of units in messages of these lengths
 abbrev pub all_units : List ℕ → ℕ
 all_units messages = sum_by units_in messages
 
@@ -31,8 +31,8 @@ abbrev pub IsFirstOpen : List ℕ → ℕ → Type 0
 IsFirstOpen [] units = Unit {0}
 IsFirstOpen (bytes ∷ more) units = units < units_in bytes
 
--- so many units of messages of these lengths are acknowledged: all of the first messages, which are removed,
--- with so many bytes in all, and so many units of the remaining ones
+-- this many units of messages of these lengths are acknowledged: all units of the first messages, which are
+-- removed and have this many bytes together, and this many units of the remaining ones
 pub record CountsAcknowledged (given : List ℕ) (units : ℕ) (left : List ℕ) (begun whole : ℕ) : Type 0 where
   pub gone : List ℕ
   pub in_order : given ≡ gone ++ left

@@ -12,7 +12,7 @@ use Rattle.ipx_host.specs.Noting.{HearsAndNotes}
 use Rattle.ipx_host.specs.Paced.{NotesAnswer}
 use Rattle.ipx_host.specs.declared.paced_host_core.PacedHostCore.{PacedHostCore}
 
--- bytes request a connection, from an address
+-- these bytes request a connection, from this address
 pub record IsAskedBy (bytes : List ℕ) (a : Address) : Type 0 where
   pub packet : PacketView
   pub header : SpxHeader
@@ -21,13 +21,13 @@ pub record IsAskedBy (bytes : List ℕ) (a : Address) : Type 0 where
   pub request : IsRequestFor header
   pub from : packet.header.from ≡ a
 
--- they do, and that address may not connect
+-- these bytes request a connection, and their source address may not connect
 abbrev pub IsBarred : PacedHostCore → List ℕ → Type 0
 IsBarred core bytes = (a : Address) × IsAskedBy bytes a
     × (may_ask (named_in core.from) core.network a ≡ false)
 
--- how the core of a host reads a datagram. A request from one who may not connect is counted, and its
--- endpoint is unchanged. Anything else is read by its endpoint and noted, and its pacer is told
+-- how the core of a host reads a datagram. A request from one who may not connect is counted, and the
+-- endpoint is unchanged. Anything else is read by the endpoint and noted, and the pacer is updated
 abbrev pub HearsAllowed : PacedHostCore → List ℕ → ℕ → PacedHostCore → Type 0
 HearsAllowed old bytes now new =
     ((IsBarred old bytes → ⊥) × HearsAndNotes old.endpoint bytes now new.endpoint new.came

@@ -23,19 +23,19 @@ pub record HandsIn (old new : EndpointView) (id : ℕ) (bytes : List ℕ) : Type
     link = offer_link held.link (cut_of (record { stream = 0; body = bytes }));
   })
 
--- the end is queued, after everything that was queued, on a Live link
+-- the end is queued on a Live link, after everything that was queued
 pub record QueuesEnd (old new : EndpointView) (id : ℕ) : Type 0 where
   pub held : Held
   pub before : held_at old id ≡ Some held
   pub live : held.link.state ≡ States.Live
   pub after : ChangesEnd old new id (record held { link = end_link held.link })
 
--- what happens to the bytes of a read: they become one message, or nothing if there are none
+-- the bytes of a read become one message, or nothing if there are none
 abbrev pub HandsOn : EndpointView → EndpointView → ℕ → List ℕ → Type 0
 HandsOn old new id [] = new ≡ old
 HandsOn old new id (b ∷ bs) = HandsIn old new id (b ∷ bs)
 
--- the sending side of a link is unchanged: what is queued, and how much of it is outstanding
+-- the sending side of a link is unchanged: what is queued, and how many units are outstanding
 pub record SameQueue (old new : LinkView) : Type 0 where
   pub queue : new.queue ≡ old.queue
   pub out : new.out ≡ old.out
@@ -66,7 +66,8 @@ feed_state endpoint read closed acked_bytes known = record {
   known = known;
 }
 
--- the reader gives these bytes, which are queued and counted. If all is read then, it has none left
+-- the reader gives these bytes, which are queued and counted. If everything is read then, the reader has
+-- nothing left
 pub record ReadsOn (old new : FeedState) (id : ℕ) (bytes : List ℕ) : Type 0 where
   pub unread : old.read ≡ false
   pub taken : Consumes old.known new.known bytes
@@ -75,7 +76,7 @@ pub record ReadsOn (old new : FeedState) (id : ℕ) (bytes : List ℕ) : Type 0 
   pub same : new.closed ≡ old.closed
   pub all : new.read ≡ true → (bytes ≡ []) × IsAtEnd new.known
 
--- all is read, and the end is queued. Nothing is read
+-- everything is read, and the end is queued. Nothing more is read
 pub record EndsInput (old new : FeedState) (id : ℕ) (bytes : List ℕ) : Type 0 where
   pub read : old.read ≡ true
   pub unqueued : old.closed ≡ false
@@ -88,6 +89,6 @@ pub record LeavesIntake (old new : FeedState) (bytes : List ℕ) : Type 0 where
   pub same : new ≡ old
   pub none : bytes ≡ []
 
--- what one step feeds into a link, of the bytes that leave the reader
+-- the bytes that leave the reader in one step, and what the step feeds into a link
 abbrev pub Feeds : FeedState → FeedState → ℕ → List ℕ → Type 0
 Feeds old new id bytes = ReadsOn old new id bytes ⊎ EndsInput old new id bytes ⊎ LeavesIntake old new bytes

@@ -1,4 +1,4 @@
--- What the program prints about a host when it starts to listen, and about its file when that is checked.
+-- The lines that the program prints when a host starts to listen, and when the file of a host is checked.
 -- Nothing here is from a public standard.
 use Rattle.std.specs.Prelude.{ℕ, List, [], ◌∷◌, ◌++◌, codes, if◌then◌else◌, nat_eq}
 use Rattle.std.specs.Cmp.Lexicographic.{pointwise}
@@ -9,24 +9,24 @@ use Rattle.ipx_carrier.specs.Mapping.{node_at}
 use Rattle.ipx_site.specs.Checked.{dotted_text, each_after, others_text, peer_remark, reached_text}
 use Rattle.ipx_site.specs.declared.host.HostConfig.{HostConfig}
 
--- where it listens: its socket in 4 hex digits, its network in 8 and its node in 12
+-- where a host listens: its socket in 4 hex digits, its network in 8 and its node in 12
 abbrev pub listen_address_text : HostConfig → List ℕ
 listen_address_text h =
     codes "socket " ++ (encode_lower (to_be_bytes w16 h.socket.0)
     ++ (codes " network " ++ (encode_lower (to_be_bytes w32 h.network.0)
     ++ (codes " node " ++ encode_lower (node_at h.address).0))))
 
--- when it starts, also its UDP address, and whether it accepts everybody
+-- when it starts, the line also has its UDP address, and says whether it accepts everybody
 abbrev pub listener_text : HostConfig → List ℕ
 listener_text h =
     listen_address_text h ++ (codes " udp " ++ (reached_text h.address h.udp_port ++ others_text h.accept))
 
--- its router is another machine
+-- the remark that is printed if the router of the host is its own address
 abbrev pub router_remark : HostConfig → List ℕ
 router_remark h =
     if pointwise nat_eq h.router h.address then codes "the router is the local address\n" else []
 
--- its own address is not among its peers, and no peer is listed twice
+-- the remarks that are printed if the host's own address is among its peers, or if a peer is listed twice
 abbrev pub peers_remarks : HostConfig → List ℕ
 peers_remarks h = each_after (peer_remark [] h.address) [] h.peers.items
 
@@ -36,7 +36,7 @@ host_line path h =
     path ++ (codes ": router " ++ (dotted_text h.router ++ (codes ", buffers "
     ++ (decimal h.buffers ++ 10 ∷ []))))
 
--- everything that is printed about a host's file
+-- everything that is printed about the file of a host
 abbrev pub host_lines : List ℕ → HostConfig → List ℕ
 host_lines path h =
     listener_text h ++ (10 ∷ (router_remark h ++ (peers_remarks h ++ host_line path h)))

@@ -3,8 +3,8 @@ use Rattle.std.specs.Prelude.{ℕ, List, [], ◌∷◌}
 use Rattle.ipx_site.specs.declared.source_filter.FilterDrops.{FilterDrops}
 use Rattle.ipx_host.specs.declared.telling.Counts.{Counts}
 
--- what its device filters, requests from those who may not connect, what the system refused, and how often it
--- was out of memory
+-- the filtered datagrams, the requests from those who may not connect, the datagrams that the system refused,
+-- and how often the host ran out of memory
 abbrev pub host_counts : FilterDrops → ℕ → ℕ → ℕ → Counts
 host_counts kept rejected system memory = record {
   kept = kept;
@@ -13,7 +13,7 @@ host_counts kept rejected system memory = record {
   memory = memory;
 }
 
--- in the order in which they are reported
+-- the counts in the order in which they are reported
 abbrev pub counts_of_host : Counts → List ℕ
 counts_of_host n = n.kept.unknown_senders.count ∷ n.kept.spoofed.count ∷ n.kept.not_a_router.count ∷ n.rejected ∷ n.system
     ∷ n.memory ∷ []

@@ -1,6 +1,7 @@
--- What a host that listens does, one step after another: each is a turn, of which it notes what came;
--- then what waits is written, the connections pass what they hold, and they are tidied. The entry point
--- is `Serves`, of a whole run, and for one that ends well `ListensWell`. All of it is own.
+-- The steps of a listening host, one after another. In each step it takes a turn and notes what was received.
+-- Then it writes what is left, takes data from its connections, and tends them. The entry points are
+-- `Serves`, of a whole run, and `ListensWell`, of a run that ends well. Nothing here is from a public
+-- standard.
 use Rattle.std.specs.Prelude.{◌≡◌, ◌≢◌, ◌⊎◌, ◌-◌, ◌^◌, ℕ, zero, suc, Bool, true, false, All, List, [], ◌∷◌, ◌++◌, Option, Some, None, Ok}
 use Rattle.std.specs.Io.KnownBytes.{Appends}
 use Rattle.ipx_carrier.specs.Mapping.{node_at}
@@ -22,8 +23,8 @@ use Rattle.ipx_host.specs.declared.listening.ListenOutcome.{ListenOutcome}
 use Rattle.ipx_host.specs.declared.listening.ListenOutcome.TheVariants.{Ended, Lost, Unwritten, Unwaited}
 use Rattle.ipx_host.specs.declared.running_host.Activity.{Activity}
 
--- where it is between two steps: its clock and its core, its connections, what is left to write, and
--- what its writer took, where that is known
+-- the state of a host between two steps: its clock and its core, its connections, what is left to write, and
+-- what its writer took, if known
 pub record Host (K : Type 0) : Type 0 where
   pub clock : K
   pub core : PacedHostCore
@@ -35,7 +36,7 @@ abbrev pub host : {K : Type 0} → K → PacedHostCore → List Session → List
 host clock core sessions left written =
     record { clock = clock; core = core; sessions = sessions; left = left; written = written }
 
--- where a datagram was heard it is noted, and else all is as it was
+-- if a datagram was received, it is noted. Otherwise nothing changes
 abbrev pub NotesIf : Bool → Bool → PacedHostCore → PacedHostCore → List Session → List Session → Type 0
 NotesIf true once old new sessions sessions' = NotesHeard once old new sessions sessions'
 NotesIf false once old new sessions sessions' = (new ≡ old) × (sessions' ≡ sessions)
@@ -48,7 +49,7 @@ pub record HearsAndNotesAll {K : Type 0} (clock clock' : K) (old new : PacedHost
   pub turned : TakesHostTurn clock clock' tells peers old seen turn
   pub noted : NotesIf turn.heard once seen new sessions sessions'
 
--- what waits is written, and then each connection passes what it holds, by these takes in all
+-- what was left is written, and then each connection passes on what it holds, in these takes
 pub record WritesAndPasses (old new : PacedHostCore) (sessions sessions' : List Session) (waiting left : List ℕ)
     (written writes : Option (List ℕ)) (takes : List Take) : Type 0 where
   pub between : List ℕ
@@ -58,7 +59,7 @@ pub record WritesAndPasses (old new : PacedHostCore) (sessions sessions' : List 
   pub made : takes ≡ takes_each old.endpoint new.endpoint between left writing writes sessions sessions' passes
   pub core : new ≡ record old { endpoint = new.endpoint }
 
--- the same for the first connections, which move to the end of the list; the others are as before
+-- the same for the first connections, which move to the end of the list. The others are unchanged
 pub record MovesSome (old new : PacedHostCore) (sessions sessions' : List Session) (waiting left : List ℕ)
     (written writes : Option (List ℕ)) (takes : List Take) : Type 0 where
   pub front : List Session
@@ -68,12 +69,12 @@ pub record MovesSome (old new : PacedHostCore) (sessions sessions' : List Sessio
   pub after : sessions' ≡ rest ++ front'
   pub moves : WritesAndPasses old new front front' waiting left written writes takes
 
--- the same for all connections, or for as many as pass data until something is left to write
+-- the same for all connections, or for the first ones until something is left to write
 abbrev pub MovesUntilFull : PacedHostCore → PacedHostCore → List Session → List Session → List ℕ → List ℕ → Option (List ℕ) → Option (List ℕ) → List Take → Type 0
 MovesUntilFull old new sessions sessions' waiting left written writes takes =
     (some : MovesSome old new sessions sessions' waiting left written writes takes) × (some.rest ≢ [] → left ≢ [])
 
--- what a step has: the connections once it noted what came, and the takes of them
+-- the view of a step: the connections after it noted what was received, and the takes from them
 pub record StepView : Type 0 where
   pub there : List Session
   pub takes : List Take
@@ -88,14 +89,14 @@ pub record Steps {K : Type 0} (old new : Host K) (once : Bool) (stop : Option Li
   pub moves : MovesUntilFull heard moved step.there still old.left new.left old.written new.written step.takes
   pub tidied : Tidies once moved new.core still new.sessions stop
 
--- one that the writer breaks off
+-- a step in which the writer fails
 pub record WriterBreaksOff {K : Type 0} (old new : Host K) (once : Bool) (tells : K → ℕ → K → Type 0)
     (peers : Peers) (step : StepView) : Type 0 where
   pub heard : PacedHostCore
   pub hears : HearsAndNotesAll old.clock new.clock old.core heard old.sessions step.there once tells peers
   pub moves : MovesSome heard new.core step.there new.sessions old.left new.left old.written new.written step.takes
 
--- what a step does by why it stops the host, if it does; the wait after a step changes nothing
+-- a step, by why it stops the host, if it does. The wait after a step changes nothing
 abbrev pub StepsTo : {K : Type 0} → Host K → Host K → Bool → Option ListenOutcome → (K → ℕ → K → Type 0) → Peers → StepView → Type 0
 StepsTo old new once None tells peers step = Steps old new once None tells peers step
 StepsTo old new once (Some Ended) tells peers step = Steps old new once (Some Ended) tells peers step
@@ -103,14 +104,15 @@ StepsTo old new once (Some Lost) tells peers step = Steps old new once (Some Los
 StepsTo old new once (Some Unwritten) tells peers step = WriterBreaksOff old new once tells peers step
 StepsTo old new once (Some Unwaited) tells peers step = Steps old new once None tells peers step
 
--- so many steps, one after another, none of which stops the host
+-- this many steps, one after another, none of which stops the host
 abbrev pub StepsWithoutStop : {K : Type 0} → ℕ → Host K → Host K → Bool → (K → ℕ → K → Type 0) → Peers → List StepView → Type 0
 StepsWithoutStop zero old new once tells peers steps = (new ≡ old) × (steps ≡ [])
 StepsWithoutStop {K} (suc n) old new once tells peers steps = (last : Host K) × (before : List StepView)
     × (now : StepView) × (steps ≡ before ++ now ∷ [])
     × StepsWithoutStop n old last once tells peers before × Steps last new once None tells peers now
 
--- a whole run: steps, and one that stops the host. Lost is told, too, where none of 2^64 - 1 steps did
+-- a whole run: steps, and one step that stops the host. The outcome is also Lost if none of 2^64 - 1 steps
+-- did
 abbrev pub Serves : {K : Type 0} → Host K → Host K → Bool → ListenOutcome → (K → ℕ → K → Type 0) → Peers → List StepView → Type 0
 Serves {K} old new once stop tells peers steps =
     ((count : ℕ) × (last : Host K) × (before : List StepView) × (now : StepView)
@@ -119,7 +121,7 @@ Serves {K} old new once stop tells peers steps =
     ⊎ ((stop ≡ Lost) × (count : ℕ) × (count ≡ 2 ^ 64 - 1)
     × StepsWithoutStop count old new once tells peers steps)
 
--- the takes of all steps, one after the other, and the bodies that they gave
+-- the takes of all steps, one after another, and the bodies of their messages
 abbrev pub takes_of : List StepView → List Take
 takes_of [] = []
 takes_of (s ∷ ss) = s.takes ++ takes_of ss
@@ -127,23 +129,23 @@ takes_of (s ∷ ss) = s.takes ++ takes_of ss
 abbrev pub bytes_of : List StepView → List ℕ
 bytes_of steps = bodies_of (takes_of steps)
 
--- a run that ends well: its writer took what was left to write, and then the bodies that its takes gave,
--- and nothing is left
+-- a run that ends well. Its writer took what was left to write, and then the bodies of the messages of its
+-- takes, and nothing is left
 abbrev pub ServesWell : {K : Type 0} → Host K → Bool → Option (List ℕ) → (K → ℕ → K → Type 0) → Peers → List StepView → Type 0
 ServesWell {K} old once writes tells peers steps = (new : Host K)
     × Serves old new once Ended tells peers steps × (new.left ≡ []) × (new.written ≡ writes)
     × Appends old.written writes (old.left ++ bytes_of steps)
 
--- a connection that was heard is the one of this id, from this address
+-- if a connection was heard from, it has this id and this address
 abbrev pub IsOneIfHeard : ℕ → Address → Session → Type 0
 IsOneIfHeard id from c = has_spoken c ≡ true → (c.id ≡ id) × (c.from ≡ from)
 
--- the take of the end of its peer
+-- the take that gives the end of the peer
 abbrev pub end_of : ℕ → Take
 end_of id = record { id = id; gave = Ok PeerEnd }
 
--- in all steps no connection was heard but this one, and all that was taken is of it: last of all the end
--- of its peer, and no end before
+-- in all steps no connection but this one was heard from, and all takes are from it. The last take gives the
+-- end of its peer, and no earlier one does
 pub record HearsOneOut (steps : List StepView) (id : ℕ) (from : Address) : Type 0 where
   pub only : All (λ s. All (IsOneIfHeard id from) s.there) steps
   pub of_it : All (λ t. t.id ≡ id) (takes_of steps)
@@ -151,8 +153,8 @@ pub record HearsOneOut (steps : List StepView) (id : ℕ) (from : Address) : Typ
   pub last : takes_of steps ≡ earlier ++ end_of id ∷ []
   pub no_other : All (λ t. t.gave ≢ Ok PeerEnd) earlier
 
--- a host as its file says it, which listens at the socket of that, and nowhere else, and paces no
--- connection. It has none yet, and nothing to write
+-- a host as its file describes it, which listens at the socket of the file and nowhere else. It paces no
+-- connection, holds none yet, and has nothing to write
 pub record BeginsListening {K : Type 0} (file : HostConfig) (start : Host K) (peers : Peers)
     (written : Option (List ℕ)) : Type 0 where
   pub network : start.core.endpoint.network ≡ file.network
@@ -170,8 +172,8 @@ pub record BeginsListening {K : Type 0} (file : HostConfig) (start : Host K) (pe
   pub nothing : start.left ≡ []
   pub known : start.written ≡ written
 
--- such a host has run until it ended well. It heard one connection out, the first that was heard, since no
--- other ever was; and its writer took the bodies of the messages of that one, one after the other, and
+-- such a host has run until it ended well. It heard from one connection only, and took the end of that
+-- connection last. Its writer took the bodies of the messages of that connection, one after another, and
 -- nothing else
 pub record ListensWell {K : Type 0} (file : HostConfig) (once : Bool)
     (written writes : Option (List ℕ)) (tells : K → ℕ → K → Type 0) : Type 0 where

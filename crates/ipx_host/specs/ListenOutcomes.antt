@@ -7,7 +7,7 @@ use Rattle.ipx_host.specs.declared.sessions.Phase.TheVariants as Standings
 use Rattle.ipx_host.specs.declared.listening.ListenOutcome.{ListenOutcome}
 use Rattle.ipx_host.specs.declared.listening.ListenOutcome.TheVariants.{Ended, Lost, Unwritten, Unwaited}
 
--- its exit status: 0 if the end of the first connection that was heard from was received
+-- the exit status is 0 if the end of the first connection that was heard from was received
 abbrev pub stop_status : ListenOutcome → ℕ
 stop_status Ended = 0
 stop_status Lost = 1
@@ -19,8 +19,8 @@ abbrev pub stop_in : {T : Type 0} → Result T ListenOutcome → Option ListenOu
 stop_in (Ok x) = None
 stop_in (Err s) = Some s
 
--- whether a host stops after a connection is released: only with `once`, and only if the connection was heard
--- from. It stops well if the connection is over and its end was taken
+-- whether a host stops after a connection is released. It stops only with `once`, and only if the connection
+-- was heard from. It stops well if the connection is over and its end was taken
 abbrev pub parted : Bool → SessionAction → Phase → Option ListenOutcome
 parted false fate phase = None
 parted true fate Standings.New = None

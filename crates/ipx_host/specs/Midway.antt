@@ -12,16 +12,16 @@ use Rattle.ipx_host.specs.declared.input.Intake.{Intake}
 use Rattle.ipx_host.specs.declared.listening.ListeningHost.{ListeningHost}
 use Rattle.ipx_host.specs.declared.sending.SendingHost.{SendingHost}
 
--- an intake with this endpoint, whose reader has this left, if known
+-- an intake with this endpoint. Its reader has this left, if known
 abbrev pub feeding_at : Intake → EndpointView → Option (List ℕ) → FeedState
 feeding_at i endpoint known = feed_state endpoint i.read i.closed i.acked_bytes known
 
--- a sending host, whose reader has this left, if known
+-- a sending host. Its reader has this left, if known
 abbrev pub sending_at : {R : Type 0} → SendingHost R → Option (List ℕ) → SendState (SteadyClock R)
 sending_at s known =
     place s.station.clock s.station.core (noted s.joined s.left) s.input.read s.input.closed s.input.acked_bytes known
 
--- a listening host, whose writer took this, if known
+-- a listening host. Its writer took this, if known
 abbrev pub listening_at : {R : Type 0} → ListeningHost R → Option (List ℕ) → Host (SteadyClock R)
 listening_at l written =
     host l.station.clock l.station.core l.sessions.held.items (left_of l.sessions.output) written

@@ -21,7 +21,8 @@ is_untold (Some (Cames.Heard id)) = false
 is_untold (Some (Cames.Accepted a)) = true
 is_untold (Some Cames.NoRoom) = false
 
--- what is noted of a datagram that was answered so. `heard` is the link that read it, if one did
+-- what is noted of a datagram for which the endpoint returned this result. `heard` is the link that read it,
+-- if one did
 abbrev pub Notes : Arrived → Option ℕ → List ℕ → Option Arrival → Type 0
 Notes (Arriveds.Bad f) heard bytes came = came ≡ None
 Notes Arriveds.NotOurs heard bytes came = came ≡ None
@@ -33,7 +34,7 @@ Notes (Arriveds.Accepted id) heard bytes came =
     (from : Address) × IsPacketFrom bytes from × (came ≡ Some (Cames.Accepted (record { id = id; from = from })))
 Notes (Arriveds.Link id r) heard bytes came = came ≡ option_map Cames.Heard heard
 
--- an endpoint reads a datagram with some answer, and this is noted
+-- an endpoint reads a datagram and returns some result, and this is noted
 abbrev pub HearsAndNotes : EndpointView → List ℕ → ℕ → EndpointView → Option Arrival → Type 0
 HearsAndNotes old bytes now new came =
     (answer : Arrived) × Arrives old bytes now answer new × Notes answer new.heard bytes came

@@ -21,7 +21,7 @@ use Rattle.ipx_host.specs.Noting.{is_untold}
 use Rattle.ipx_host.specs.declared.paced_host_core.PacedHostCore.{PacedHostCore}
 use Rattle.ipx_host.specs.declared.pacing.Paced.{Paced}
 
--- a link that is asked for the unit at a place again, if there is one
+-- a link that is to send the unit at this place again, if a place is given
 abbrev pub asked_again_at : Option ℕ → LinkView → LinkView
 asked_again_at None l = l
 asked_again_at (Some place) l = again_link l place
@@ -30,7 +30,7 @@ asked_again_at (Some place) l = again_link l place
 abbrev pub planned : Plan → LinkView → LinkView
 planned plan l = asked_again_at plan.again (pace_link l plan.window true)
 
--- a plan of a pacer that has counted as many units outstanding as a link has
+-- a plan of a pacer that counts as many outstanding units as the link has
 pub record IsPlanOf (plan : Plan) (pacer : PacerView) (l : LinkView) : Type 0 where
   pub counts : pacer.out ≡ l.out
   pub value : plan ≡ plan_of pacer
@@ -57,13 +57,13 @@ Plans None after old new = (after ≡ None) × (new ≡ old)
 Plans (Some paced) after old new = (pacer : PacerView) × (after ≡ Some (record paced { pacer = pacer }))
     × PlansLink paced.id paced.pacer pacer (held_at old paced.id) old new
 
--- a link gave a packet, and has so many units outstanding since. Its pacer has counted these, and has less
--- credit if the packet carried a unit
+-- a link gave a packet, and has this many outstanding units after it. Its pacer has counted them, and has
+-- less credit if the packet carried a unit
 abbrev pub CountsGiven : Sent → ℕ → PacerView → PacerView → Type 0
 CountsGiven what out pacer pacer' = (pacer'.out ≡ out)
     × ((stream : ℕ) × (pacer'.credit ≡ credit_after pacer.credit (gave_of what stream)))
 
--- after a poll the pacer of the link of an id was told what that link gave, and nothing else
+-- after a poll the pacer of the link of an id is updated with what that link gave, and with nothing else
 abbrev pub NotesGiven : ℕ → Option (ℕ × Sent) → Option Held → PacerView → PacerView → Type 0
 NotesGiven id None held pacer pacer' = pacer' ≡ pacer
 NotesGiven id (Some given) None pacer pacer' = pacer' ≡ pacer
@@ -81,8 +81,8 @@ NotesPoll (Some paced) e after = (pacer : PacerView) × (after ≡ Some (record 
 abbrev pub LinkReads : ℕ → Arrived → Type 0
 LinkReads id arrived = (received : Received) × (arrived ≡ Link id received) × (received ≢ Stranger)
 
--- after a datagram that the link of an id read, its pacer has counted as many units outstanding as the link,
--- if it is there. If the link did not read it, the pacer is unchanged
+-- after the link of an id read a datagram, its pacer counts as many outstanding units as the link has, if the
+-- link is there. If the link did not read the datagram, the pacer is unchanged
 pub record NotesHeard (id : ℕ) (arrived : Arrived) (pacer pacer' : PacerView) (there : Option Held) : Type 0 where
   pub counts : LinkReads id arrived → IfSome there (λ h. pacer'.out ≡ h.link.out)
   pub stays : (LinkReads id arrived → ⊥) → pacer' ≡ pacer
@@ -93,7 +93,7 @@ NotesDatagram None arrived e after = after ≡ None
 NotesDatagram (Some paced) arrived e after = (pacer : PacerView) × (after ≡ Some (record paced { pacer = pacer }))
     × NotesHeard paced.id arrived paced.pacer pacer (held_at e paced.id)
 
--- an endpoint answers a datagram, and the pacer is told
+-- an endpoint returns a result for a datagram, and the pacer is updated
 abbrev pub NotesAnswer : EndpointView → List ℕ → ℕ → EndpointView → Option Paced → Option Paced → Type 0
 NotesAnswer old bytes now new paced after =
     (answer : Arrived) × Arrives old bytes now answer new × NotesDatagram paced answer new after
@@ -118,8 +118,8 @@ abbrev pub IsAwake : Option Paced → Type 0
 IsAwake None = ⊥
 IsAwake (Some paced) = (0 < paced.pacer.out) ⊎ IsTrue (holds_back paced.pacer)
 
--- the core of a host is asked for a packet. The paced connection, if there is one, may do what is planned.
--- Then its endpoint is polled and gives a packet or none, and the pacer is told
+-- the core of a host is asked for a packet. The paced connection, if there is one, follows its plan. Then the
+-- endpoint is polled and gives a packet or none, and the pacer is updated
 pub record GivesAsPlanned (old : PacedHostCore) (now : ℕ) (given : Option Given) (new : PacedHostCore) : Type 0 where
   pub ready : EndpointView
   pub paced : Option Paced
@@ -128,8 +128,8 @@ pub record GivesAsPlanned (old : PacedHostCore) (now : ℕ) (given : Option Give
   pub notes : NotesPoll paced new.endpoint new.paced
   pub core : new ≡ record old { endpoint = new.endpoint; moment = now; paced = new.paced }
 
--- while the host has not taken note of an accepted connection, nothing is given, so that one for which there
--- is no slot is not answered; otherwise packets are given as planned
+-- no packet is given until the host has noted an accepted connection. So a connection for which there is no
+-- slot gets no reply. After that, packets are given as planned
 abbrev pub GivesOnceTold : PacedHostCore → ℕ → Option Given → PacedHostCore → Type 0
 GivesOnceTold old now given new =
     ((is_untold old.came ≡ true) × (given ≡ None) × (new ≡ record old { moment = now }))

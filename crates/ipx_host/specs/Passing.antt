@@ -1,4 +1,5 @@
--- What passes from a connection to an outlet, by takes one after another. All of it is own.
+-- What passes from a connection to an outlet, by takes one after another. Nothing here is from a public
+-- standard.
 use Rattle.std.specs.Prelude.{◌≡◌, ◌≢◌, ℕ, zero, suc, true, List, [], ◌∷◌, ◌++◌, Option, Some, None, Result, Ok, Err}
 use Rattle.spx_link.specs.Links.{count_of}
 use Rattle.spx_messages.specs.Changes.{ChangesEnd, SameBut, SameSelf}
@@ -12,8 +13,8 @@ use Rattle.ipx_host.specs.declared.sessions.Phase.{Phase}
 use Rattle.ipx_host.specs.declared.sessions.Phase.TheVariants as Standings
 use Rattle.ipx_host.specs.declared.output.Outlet.{Outlet}
 
--- what is left to write once a take gave this: the body of the message that its unit ended, or else
--- what was left before
+-- what is left to write after a take with this result: the body of the message that its unit ended, or what
+-- was left before
 abbrev pub left_with : Result TakenView EndFault → List ℕ → List ℕ
 left_with (Ok Nothing) left = left
 left_with (Ok Part) left = left
@@ -21,7 +22,7 @@ left_with (Ok (Whole m)) left = m.body
 left_with (Ok PeerEnd) left = left
 left_with (Err f) left = left
 
--- how a connection stands once a take gave this: the end of its peer ends it, and nothing else does
+-- the phase of a connection after a take with this result. Only the end of its peer ends it
 abbrev pub phase_with : Result TakenView EndFault → Phase → Phase
 phase_with (Ok Nothing) phase = phase
 phase_with (Ok Part) phase = phase
@@ -29,7 +30,7 @@ phase_with (Ok (Whole m)) phase = phase
 phase_with (Ok PeerEnd) phase = Standings.Ended
 phase_with (Err f) phase = phase
 
--- one take of a connection, whose id holds this: what it gave is to be written, and an end is noted
+-- one take from a connection, whose id holds this. What it gave is to be written, and an end is noted
 pub record Takes (h : Held) (old new : EndpointView) (output output' : Outlet)
     (session session' : Session) : Type 0 where
   pub held : ChangesEnd old new session.id (take_end h).1
@@ -39,44 +40,44 @@ pub record Takes (h : Held) (old new : EndpointView) (output output' : Outlet)
     phase = phase_with (take_end h).0 session.phase;
   }
 
--- nothing was taken of a connection, and nothing changes
+-- nothing was taken from a connection, and nothing changes
 pub record TakesNothing (old new : EndpointView) (output output' : Outlet)
     (session session' : Session) : Type 0 where
   pub held : SameBut old new
   pub kept : output' ≡ output
   pub same : session' ≡ session
 
--- what is held under an id after so many takes
+-- what is held under an id after this many takes
 abbrev pub held_after : ℕ → Held → Held
 held_after zero h = h
 held_after (suc n) h = (take_end (held_after n h)).1
 
--- the bodies of the messages that so many takes end, one behind the other
+-- the bodies of the messages that this many takes end, one after another
 abbrev pub bodies_after : ℕ → Held → List ℕ
 bodies_after zero h = []
 bodies_after (suc n) h = bodies_after n h ++ left_with (take_end (held_after n h)).0 []
 
--- what waited to be written, and then the bodies that so many takes give, are what a writer took, and
--- then what is left to write; and what is held is what those takes leave
+-- a writer took the first of these bytes, and the rest is left to write: what was left before, and then the
+-- bodies that this many takes give. What is held after the takes is what they leave
 abbrev pub PassesHeld : Held → Option Held → List ℕ → List ℕ → Option (List ℕ) → Option (List ℕ) → Type 0
 PassesHeld h after waiting left written writes = (count : ℕ) × (after ≡ Some (held_after count h))
     × Writes (waiting ++ bodies_after count h) left written writes
 
--- how a connection stands after so many takes
+-- the phase of a connection after this many takes
 abbrev pub phase_after : ℕ → Held → Phase → Phase
 phase_after zero h phase = phase
 phase_after (suc n) h phase =
     phase_with (take_end (held_after n h)).0 (phase_after n h phase)
 
--- so many takes were made while the end of the peer was not taken, and each of them gave something
+-- this many takes, each of which gave something. None comes after the take of the end of the peer
 abbrev pub TakesWhileOpen : ℕ → Held → Phase → Type 0
 TakesWhileOpen zero h phase = Unit {0}
 TakesWhileOpen (suc n) h phase = TakesWhileOpen n h phase
     × (phase_after n h phase ≢ Standings.Ended) × ((take_end (held_after n h)).0 ≢ Ok Nothing)
 
--- what passes from a connection whose id holds this, if anything: its takes pass to the outlet and the
--- writer, and tell how it stands; the end of its peer is the last one. Of one whose link is gone nothing
--- is taken
+-- what passes from a connection whose id holds this, if anything. Its takes pass to the outlet and the
+-- writer, and determine its phase. The end of its peer is the last take. Nothing is taken from a connection
+-- whose link is gone
 abbrev pub PassesFrom : Option Held → Option Held → List ℕ → List ℕ → Option (List ℕ) → Option (List ℕ) → Session → Session → Type 0
 PassesFrom None after waiting left written writes session session' =
     (after ≡ None) × Writes waiting left written writes × (session' ≡ session)
@@ -86,30 +87,30 @@ PassesFrom (Some h) after waiting left written writes session session' = (count 
     × (session' ≡ record session { phase = phase_after count h session.phase })
     × TakesWhileOpen count h session.phase
 
--- one take: of the connection of which id, and what it gave
+-- one take: the id of its connection, and what the take gave
 pub record Take : Type 0 where
   pub id : ℕ
   pub gave : Result TakenView EndFault
 
--- the bodies of the messages that takes gave, one after the other
+-- the bodies of the messages that takes gave, one after another
 abbrev pub bodies_of : List Take → List ℕ
 bodies_of [] = []
 bodies_of (t ∷ ts) = left_with t.gave [] ++ bodies_of ts
 
--- so many takes of what is held under an id
+-- this many takes of what is held under an id
 abbrev pub takes_after : ℕ → ℕ → Held → List Take
 takes_after id zero h = []
 takes_after id (suc n) h =
     takes_after id n h ++ record { id = id; gave = (take_end (held_after n h)).0 } ∷ []
 
--- the takes of one connection
+-- the takes from one connection
 abbrev pub takes_from : (before after : Option Held) (waiting left : List ℕ) (written writes : Option (List ℕ)) (session session' : Session)
     → PassesFrom before after waiting left written writes session session' → List Take
 takes_from None after waiting left written writes session session' p = []
 takes_from (Some h) after waiting left written writes session session' p = takes_after session.id p.0 h
 
--- what is held under any other id, how many links are held, the id last given, and what listens are as
--- before
+-- what is held under any other id, the number of links, the id assigned last, and the listening sockets are
+-- unchanged
 pub record SameOthers (old new : EndpointView) (id : ℕ) : Type 0 where
   pub others : (q : ℕ) → q ≢ id → held_at new q ≡ held_at old q
   pub last : new.links.last ≡ old.links.last
@@ -117,8 +118,8 @@ pub record SameOthers (old new : EndpointView) (id : ℕ) : Type 0 where
   pub self : SameSelf old new
   pub heard : new.heard ≡ old.heard
 
--- what passes from one connection of a host: nothing if it was not heard. Where an end that was taken
--- before left nothing to write, one that is taken now leaves nothing, either
+-- what passes from one connection of a host. Nothing passes if it was not heard from. If its end was taken in
+-- this pass, nothing is left to write. The same holds if its end was taken before and nothing was left then
 pub record PassesOne (old new : EndpointView) (waiting left : List ℕ)
     (written writes : Option (List ℕ)) (session session' : Session) : Type 0 where
   pub from : PassesFrom (held_at old session.id) (held_at new session.id) waiting left written writes session session'
@@ -128,7 +129,7 @@ pub record PassesOne (old new : EndpointView) (waiting left : List ℕ)
   pub behind : (session.phase ≡ Standings.Ended → waiting ≡ [])
       → session'.phase ≡ Standings.Ended → left ≡ []
 
--- what passes from connections, one after another, each while nothing is left to write
+-- what passes from connections, one after another, while nothing is left to write
 abbrev pub PassesEach : EndpointView → EndpointView → List ℕ → List ℕ → Option (List ℕ) → Option (List ℕ) → List Session → List Session → Type 0
 PassesEach old new waiting left written writes [] sessions =
     (sessions ≡ []) × (new ≡ old) × (left ≡ waiting) × (writes ≡ written)
@@ -137,25 +138,25 @@ PassesEach old new waiting left written writes (c ∷ cs) sessions = (mid : Endp
     × (sessions ≡ c' ∷ cs') × PassesOne old mid waiting between written writing c c'
     × PassesEach mid new between left writing writes cs cs' × (waiting ≡ [])
 
--- what passes from the first connection while nothing is left to write; it then moves to the end of the list
+-- what passes from the first connection while nothing is left to write. It then moves to the end of the list
 abbrev pub PassesFirst : EndpointView → EndpointView → List ℕ → List ℕ → Option (List ℕ) → Option (List ℕ) → List Session → List Session → Type 0
 PassesFirst old new waiting left written writes sessions sessions' =
     (c c' : Session) × (rest : List Session) × (sessions ≡ c ∷ rest) × (sessions' ≡ rest ++ c' ∷ [])
     × PassesOne old new waiting left written writes c c' × (waiting ≡ [])
 
--- the same for the first connections, one after another, which move to the end; the others are as before
+-- the same for the first connections, one after another, which move to the end. The others are unchanged
 abbrev pub PassesSome : EndpointView → EndpointView → List ℕ → List ℕ → Option (List ℕ) → Option (List ℕ) → List Session → List Session → Type 0
 PassesSome old new waiting left written writes sessions sessions' =
     (first first' rest : List Session) × (sessions ≡ first ++ rest) × (sessions' ≡ rest ++ first')
     × PassesEach old new waiting left written writes first first'
 
--- the same for all connections, or for as many as pass data until something is left to write. The next turn
--- begins with the connection after them
+-- the same for all connections, or for the first ones until something is left to write. The next turn begins
+-- with the connection after them
 abbrev pub PassesUntilFull : EndpointView → EndpointView → List ℕ → List ℕ → Option (List ℕ) → Option (List ℕ) → List Session → List Session → Type 0
 PassesUntilFull old new waiting left written writes sessions sessions' =
     (some : PassesSome old new waiting left written writes sessions sessions') × (some.2 ≢ [] → left ≢ [])
 
--- the takes of connections, one after the other
+-- the takes from connections, one after another
 abbrev pub takes_each : (old new : EndpointView) (waiting left : List ℕ) (written writes : Option (List ℕ)) (sessions sessions' : List Session)
     → PassesEach old new waiting left written writes sessions sessions' → List Take
 takes_each old new waiting left written writes [] sessions' p = []

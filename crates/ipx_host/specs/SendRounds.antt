@@ -1,4 +1,4 @@
--- The rounds of a sending host, one after another. In each, the host takes a turn, what it received is
+-- The rounds of a sending host, one after another. In each round the host takes a turn, what it received is
 -- dropped, and the link is fed. The entry points are `Transfers`, of a run that ended well, and `EndsWith`,
 -- of any outcome. Nothing here is from a public standard.
 use Rattle.std.specs.Prelude.{◌≡◌, ◌≤◌, ◌^◌, ◌-◌, ℕ, Bool, true, List, [], ◌∷◌, length, Option, Some, None, Result, Err}
@@ -18,8 +18,8 @@ use Rattle.ipx_host.specs.declared.running_host.Activity.{Activity}
 use Rattle.ipx_host.specs.declared.send_outcome.SendOutcome.{SendOutcome}
 use Rattle.ipx_host.specs.declared.send_outcome.SendOutcome.TheVariants.{Done, GivenUp}
 
--- the state of a run: its clock and its core, what is noted of the connection, whether all is read, whether
--- the end is queued, what is counted, and what the reader has left, if known
+-- the state of a run: its clock and its core, what is noted of the connection, whether everything is read,
+-- whether the end is queued, what is counted, and what the reader has left, if known
 pub record SendState (K : Type 0) : Type 0 where
   pub clock : K
   pub core : PacedHostCore
@@ -43,8 +43,8 @@ place clock core noted read closed acked_bytes known = record {
 abbrev pub feeding_of : {K : Type 0} → SendState K → FeedState
 feeding_of p = feed_state p.core.endpoint p.read p.closed p.acked_bytes p.known
 
--- one step, and its answer. A turn leaves a core, whose connection is noted and judged, and the transfer ends
--- or goes on. Nothing else of the core changes
+-- one step, and its result. A turn leaves a core, whose connection is noted and judged, and the transfer ends
+-- or continues. Nothing else of the core changes
 pub record IsSendStep {K T : Type 0} (faults : Option State → SendOutcome → Type 0) (old new : SendState K)
     (answer : Result T SendOutcome) (tells : K → ℕ → K → Type 0) (peers : Peers) (id : ℕ) : Type 0 where
   pub seen : PacedHostCore
@@ -65,7 +65,7 @@ pub record Round {K : Type 0} (old new : SendState K) (bytes : List ℕ) (tells 
   pub fed : FeedsOn id seen.endpoint (feeding_of old) (feeding_of new) bytes
   pub core : new.core ≡ record seen { endpoint = new.core.endpoint }
 
--- the last round is only a turn, after which all is done
+-- the last round is only a turn, after which everything is done
 pub record LastRound {K : Type 0} (old new : SendState K) (tells : K → ℕ → K → Type 0) (peers : Peers)
     (id : ℕ) : Type 0 where
   pub turn : Activity
@@ -82,13 +82,14 @@ Rounds old [] new tells peers id = new ≡ old
 Rounds {K} old (bytes ∷ more) new tells peers id = (next : SendState K)
     × Round old next bytes tells peers id × Rounds next more new tells peers id
 
--- and a last round
+-- the same rounds, followed by a last round
 abbrev pub RunsOut : {K : Type 0} → SendState K → List (List ℕ) → SendState K → (K → ℕ → K → Type 0) → Peers → ℕ → Type 0
 RunsOut {K} old bodies new tells peers id = (last : SendState K)
     × Rounds old bodies last tells peers id × LastRound last new tells peers id
 
--- a transfer that ended well. What left the reader is what was fed, one body after another, each of at most
--- 65,535 bytes. All is read, the end is queued, and the peer has acknowledged everything, and that end too
+-- a transfer that ended well. The bytes that left the reader were fed, one body after another, each of at
+-- most 65,535 bytes. Everything is read, the end is queued, and the peer has acknowledged everything, and
+-- that end too
 pub record Transfers {K : Type 0} (old new : SendState K) (tells : K → ℕ → K → Type 0) (peers : Peers)
     (id : ℕ) : Type 0 where
   pub bodies : List (List ℕ)
@@ -107,7 +108,7 @@ pub record EndsWith {K : Type 0} (old new : SendState K) (verdict : SendOutcome)
   pub rounds : Rounds old bodies last tells peers id
   pub step : IsSendStep {T = Unit {0}} IsStepFault last new (Err verdict) tells peers id
 
--- a transfer that no step ended in so many rounds, and that is given up
+-- a transfer that did not end in 2^64 - 1 rounds, and is given up
 pub record LastsOn {K : Type 0} (old new : SendState K) (verdict : SendOutcome) (tells : K → ℕ → K → Type 0)
     (peers : Peers) (id : ℕ) : Type 0 where
   pub bodies : List (List ℕ)

@@ -1,4 +1,4 @@
--- One step of a sending host: what it sees, what follows from that, and what it feeds then. Nothing here is
+-- One step of a sending host: what it notes, what follows from that, and what it feeds then. Nothing here is
 -- from a public standard.
 use Rattle.std.specs.Prelude.{◌≡◌, ◌≢◌, ◌↔◌, ◌⊎◌, ℕ, Bool, IsTrue, List, Option, Some, None, Result, Err, IfErr, OnOk}
 use Rattle.std.specs.Option.{option_map}
@@ -21,7 +21,7 @@ pub record SeenSoFar : Type 0 where
 abbrev pub noted : Bool → Option ℕ → SeenSoFar
 noted joined left = record { joined = joined; left = left }
 
--- the endpoint was seen at this time, and this is noted and decided
+-- the endpoint was seen at this time, and its state is noted and judged
 pub record Sees (old new : SeenSoFar) (seen : EndpointView) (moment id : ℕ) (closed : Bool)
     (verdict : Option SendOutcome) : Type 0 where
   pub joined : new.joined ≡ joined_at old.joined (state_at seen id)
@@ -33,8 +33,8 @@ pub record Sees (old new : SeenSoFar) (seen : EndpointView) (moment id : ℕ) (c
   pub tells : verdict
       ≡ option_map (ended_at closed) (verdict_at whole new.joined waits (state_at seen id))
 
--- what the seen link acknowledges is counted, and what was received is dropped. Then the link is fed these
--- bytes if it was Live, and otherwise nothing
+-- the units that the seen link acknowledges are counted, and what was received is dropped. Then the link is
+-- fed these bytes if it was Live, and nothing otherwise
 pub record FeedsOn (id : ℕ) (seen : EndpointView) (old new : FeedState) (bytes : List ℕ) : Type 0 where
   pub acked_bytes : Ledger
   pub follows : EntersAcknowledged (held_at seen id) old.acked_bytes acked_bytes
@@ -44,13 +44,13 @@ pub record FeedsOn (id : ℕ) (seen : EndpointView) (old new : FeedState) (bytes
   pub only : state_at seen id ≢ Some Live
       → LeavesIntake (record old { endpoint = dropped; acked_bytes = acked_bytes }) new bytes
 
--- what the seen link acknowledges is counted, and nothing is dropped or fed
+-- the units that the seen link acknowledges are counted, and nothing is dropped or fed
 pub record FeedsNothing (id : ℕ) (seen : EndpointView) (old new : FeedState) : Type 0 where
   pub follows : EntersAcknowledged (held_at seen id) old.acked_bytes new.acked_bytes
   pub is : new ≡ record old { endpoint = seen; acked_bytes = new.acked_bytes }
 
--- an outcome ends the transfer, and nothing is fed. Without one it goes on, unless it meets one of these
--- faults
+-- an outcome ends the transfer, and nothing is fed. Without an outcome the transfer continues, unless one of
+-- these faults occurs
 abbrev pub GoesOnOrEnds : {T : Type 0} → (Option State → SendOutcome → Type 0) → ℕ → EndpointView → FeedState → FeedState → Option SendOutcome → Result T SendOutcome → Type 0
 GoesOnOrEnds faults id seen old new (Some v) answer = (answer ≡ Err v) × FeedsNothing id seen old new
 GoesOnOrEnds faults id seen old new None answer = IfErr answer (faults (state_at seen id))
@@ -60,10 +60,10 @@ GoesOnOrEnds faults id seen old new None answer = IfErr answer (faults (state_at
 abbrev pub IsReadFault : SendOutcome → Type 0
 IsReadFault v = (v ≡ Verdicts.Unread) ⊎ (v ≡ Verdicts.OutOfMemory)
 
--- these occur only if the link was seen Live
+-- these faults occur only if the link was seen Live
 abbrev pub IsFeedFault : Option State → SendOutcome → Type 0
 IsFeedFault state v = (state ≡ Some Live) × IsReadFault v
 
--- and the fault of waiting
+-- the fault of waiting
 abbrev pub IsStepFault : Option State → SendOutcome → Type 0
 IsStepFault state v = IsFeedFault state v ⊎ (v ≡ Verdicts.Unwaited)

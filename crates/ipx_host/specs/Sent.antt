@@ -22,8 +22,8 @@ abbrev pub HasBuffers : HostConfig → Type 0
 HasBuffers file = (0 < file.buffers) × (file.buffers ≤ 8192)
 
 -- a host as its file describes it, which listens at no socket. Its one link requests a connection to an
--- address, and is paced. Its id is the one assigned last, and neither 0 nor FFFF, and it has the buffers that
--- the file says. Nothing was seen of it, and nothing is read or counted
+-- address, and is paced. Its id is the one assigned last, and neither 0 nor FFFF. The link has the buffers
+-- that the file says. Nothing was noted of it yet, and nothing is read or counted
 pub record IsDialing {K : Type 0} (file : HostConfig) (to : Address) (p : SendState K) (peers : Peers)
     (id : ℕ) : Type 0 where
   pub network : p.core.endpoint.network ≡ file.network
@@ -43,9 +43,9 @@ pub record IsDialing {K : Type 0} (file : HostConfig) (to : Address) (p : SendSt
   pub unended : p.closed ≡ false
   pub unused : IsUnused p.acked_bytes
 
--- such a host has run a transfer to an address that can be reached. It ended well, from what a reader had to
--- what it has left, which is nothing. Its link is there, its end is queued, and everything that was queued on
--- it is acknowledged
+-- such a host has run a transfer to an address that can be reached. The transfer ended well, and its reader
+-- has nothing left of what it had. Its link is there, the end is queued, and everything that was queued on
+-- the link is acknowledged
 pub record SendsInput {K : Type 0} (file : HostConfig) (to : Address) (known left : Option (List ℕ))
     (tells : K → ℕ → K → Type 0) : Type 0 where
   pub goes : is_nowhere file to ≡ false

@@ -8,7 +8,7 @@ use Rattle.ipx_host.specs.declared.sessions.SessionAction.TheVariants.{Stays, As
 use Rattle.ipx_host.specs.declared.sessions.Phase.{Phase}
 use Rattle.ipx_host.specs.declared.sessions.Phase.TheVariants as Standings
 
--- nothing was received on it since it was accepted
+-- nothing was received on this connection since it was accepted
 abbrev pub is_unheard : Phase → Bool
 is_unheard Standings.New = true
 is_unheard Standings.NewProbed = true
@@ -16,7 +16,7 @@ is_unheard Standings.Open = false
 is_unheard Standings.KeepaliveSent = false
 is_unheard Standings.Ended = false
 
--- its end was taken
+-- the end of this connection was taken
 abbrev pub ends : Phase → Bool
 ends Standings.New = false
 ends Standings.NewProbed = false
@@ -24,7 +24,7 @@ ends Standings.Open = false
 ends Standings.KeepaliveSent = false
 ends Standings.Ended = true
 
--- its link is there, and neither Lost nor Confirmed
+-- the link of this connection is there, and neither Lost nor Confirmed
 abbrev pub IsHeld : Option State → Type 0
 IsHeld state = (state ≢ None) × (state ≢ Some States.Lost) × (state ≢ Some States.Confirmed)
 
@@ -38,7 +38,7 @@ abbrev pub IsToAsk : Phase → Option State → ℕ → Type 0
 IsToAsk phase state silent = IsHeld state × (((phase ≡ Standings.Open) × (60000 ≤ silent))
     ⊎ ((phase ≡ Standings.New) × (1000 ≤ silent)))
 
--- the action that is due. It stays if none of the other actions is
+-- the action that is due. The connection stays if no other action is due
 abbrev pub IsSessionAction : SessionAction → Phase → Option State → ℕ → Type 0
 IsSessionAction Stays phase state silent = (state ≢ Some States.Lost)
     × (IsOver phase state silent → ⊥) × (IsToAsk phase state silent → ⊥)

@@ -1,5 +1,5 @@
--- How long a host waits. Until then its links have nothing to do by themselves, nor its connections because
--- of their silence. Nothing here is from a public standard.
+-- How long a host waits. Until then, its links have nothing to do by themselves, and its connections need no
+-- action because of their silence. Nothing here is from a public standard.
 use Rattle.std.specs.Prelude.{◌≡◌, ◌≤◌, ◌<◌, ◌⊎◌, ◌^◌, ◌-◌, ◌+◌, ℕ, Bool, List, Option, Some, All, IfSome, IsSomeAnd, is_some, slice_get, if◌then◌else◌}
 use Rattle.spx_link.specs.Due.{IsQuiet}
 use Rattle.spx_link.specs.LinkView.{LinkView}
@@ -11,15 +11,16 @@ use Rattle.ipx_host.specs.declared.sessions.Session.{Session}
 use Rattle.ipx_host.specs.declared.sessions.SessionAction.TheVariants.{Stays}
 use Rattle.ipx_host.specs.declared.paced_host_core.PacedHostCore.{PacedHostCore}
 
--- from this time on, the polls of some link send something or give it up
+-- from this time on, the polls of some link send something or give the link up
 abbrev pub IsDueFrom : LinksView → ℕ → Type 0
 IsDueFrom links moment = (id : ℕ) × (l : LinkView) × (link_at links id ≡ Some l)
     × ((t : ℕ) → moment ≤ t → IsQuiet l t → ⊥)
 
--- for so long from now no poll of any link, as it is, sends anything or gives a link up, at any time that a
--- clock can show. Nor does the plan for the paced connection, if there is one, change before. The time is at
--- most what was asked for. If it is less, the polls of some link do so from then on, or the plan may change
--- then. What a pacer holds back waits at most a millisecond, and an acknowledgement a minute
+-- a time that a host may wait, at most the time that was asked for. Until then no poll of any link, as it is
+-- now, sends anything or gives the link up, at any time that the clock can show. Nor does the plan for the
+-- paced connection, if there is one, change. If the wait is shorter, the polls of some link do so from then
+-- on, or the plan may change then. The wait is at most a millisecond if the pacer holds something back, and
+-- at most a minute if units are outstanding
 pub record IsSleep (core : PacedHostCore) (most time : ℕ) : Type 0 where
   pub few : time ≤ most
   pub quiet : (id t : ℕ) (l : LinkView) → link_at core.endpoint.links id ≡ Some l
@@ -31,18 +32,18 @@ pub record IsSleep (core : PacedHostCore) (most time : ℕ) : Type 0 where
   pub soon : HoldsBack core.paced → time ≤ 1
   pub awake : IsAwake core.paced → time ≤ 60000
 
--- at this time no action is due for a connection, if nothing was received and its link is unchanged
+-- no action is due for a connection at this time, if nothing was received and its link is unchanged
 abbrev pub JustStaysAt : PacedHostCore → ℕ → Session → Type 0
 JustStaysAt core t c = IsSessionAction Stays c.phase (state_at core.endpoint c.id) (t - c.heard)
 
--- for so long no action is due for a connection: at most an hour. If it is less, one is due then
+-- no action is due for a connection for this long, which is at most an hour. If it is less, one is due then
 pub record StaysFor (core : PacedHostCore) (c : Session) (time : ℕ) : Type 0 where
   pub most : time ≤ 3600000
   pub stays : (t : ℕ) → core.moment ≤ t → t < core.moment + time → t < 2 ^ 64 → JustStaysAt core t c
   pub over : time < 3600000 → JustStaysAt core (core.moment + time) c → ⊥
 
--- for so long no action is due for any of these connections. If it is less than an hour, one is due then. So
--- it is 0 if one is due now
+-- no action is due for any of these connections for this long. If it is less than an hour, one is due then.
+-- So it is 0 if one is due now
 pub record AllStayFor (core : PacedHostCore) (sessions : List Session) (time : ℕ) : Type 0 where
   pub most : time ≤ 3600000
   pub stay : (t : ℕ) → core.moment ≤ t → t < core.moment + time → t < 2 ^ 64
@@ -50,19 +51,19 @@ pub record AllStayFor (core : PacedHostCore) (sessions : List Session) (time : �
   pub over : time < 3600000 → (place : ℕ) × (c : Session) × (slice_get sessions place ≡ Some c)
       × (JustStaysAt core (core.moment + time) c → ⊥)
 
--- the longest wait of a sending host: a second if it prints the progress, or if its peer's end was seen.
--- Otherwise an hour
+-- the longest wait of a sending host. It is a second if the host prints the progress, or if its peer's end
+-- was seen. Otherwise it is an hour
 abbrev pub longest_wait : Bool → Option ℕ → ℕ
 longest_wait shows left = if shows then 1000 else (if is_some left then 1000 else 3600000)
 
--- after a step a sending host waits so, or not at all. The time of its last wait is given too
+-- after a step a sending host waits this long, or not at all. The time of its last wait is given too
 abbrev pub MayWait : Bool → Option ℕ → PacedHostCore → Option ℕ → Option ℕ → Type 0
 MayWait shows left core asked asked' = (asked' ≡ asked)
     ⊎ ((time : ℕ) × IsSleep core (longest_wait shows left) time
     × (asked' ≡ Some time))
 
--- after a step a listening host waits so, or not at all: as long as no action is due for any connection and
--- no link has anything to do
+-- after a step a listening host waits this long, or not at all. It waits only while no action is due for any
+-- connection and no link has anything to do
 abbrev pub MayRest : PacedHostCore → List Session → Option ℕ → Option ℕ → Type 0
 MayRest core sessions asked asked' = (asked' ≡ asked)
     ⊎ ((rest time : ℕ) × AllStayFor core sessions rest

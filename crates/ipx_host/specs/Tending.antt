@@ -20,7 +20,7 @@ IsActionFor core c fate =
 abbrev pub JustStays : PacedHostCore → Session → Type 0
 JustStays core c = IsActionFor core c ActionsOfSessions.Stays
 
--- the connection at a place is removed, and its link is released. Its action tells whether the host then
+-- the connection at a place is removed, and its link is released. Its action determines whether the host then
 -- stops
 abbrev pub Parts : Bool → Session → ℕ → SessionAction → EndpointView → EndpointView → List Session → List Session → Option ListenOutcome → Type 0
 Parts once c place fate old new sessions sessions' stop = LetsLinkGo old new c.id
@@ -41,7 +41,7 @@ abbrev pub Tends : Bool → PacedHostCore → Session → ℕ → EndpointView �
 Tends once core c place new sessions sessions' stop = (fate : SessionAction) × IsActionFor core c fate
     × DoesAction once core.moment c place fate core.endpoint new sessions sessions' stop
 
--- one tending: of the first connection for which an action is due
+-- one step of tending, for the first connection for which an action is due
 pub record TendsFirst (once : Bool) (old new : PacedHostCore) (sessions sessions' : List Session)
     (stop : Option ListenOutcome) : Type 0 where
   pub place : ℕ
@@ -52,13 +52,13 @@ pub record TendsFirst (once : Bool) (old new : PacedHostCore) (sessions sessions
   pub tends : Tends once old session place new.endpoint sessions sessions' stop
   pub core : new ≡ record old { endpoint = new.endpoint }
 
--- so many, one after another, none of which stops the host
+-- this many steps of tending, one after another, none of which stops the host
 abbrev pub TendsOn : ℕ → Bool → PacedHostCore → PacedHostCore → List Session → List Session → Type 0
 TendsOn zero once old new sessions sessions' = (new ≡ old) × (sessions' ≡ sessions)
 TendsOn (suc n) once old new sessions sessions' = (mid : PacedHostCore) × (among : List Session)
     × TendsOn n once old mid sessions among × TendsFirst once mid new among sessions' None
 
--- one after another, until none is due or 16 were done, or until one stops the host
+-- steps of tending until no action is due, until 16 were done, or until one stops the host
 abbrev pub Tidies : Bool → PacedHostCore → PacedHostCore → List Session → List Session → Option ListenOutcome → Type 0
 Tidies once old new sessions sessions' None = (count : ℕ) × (count ≤ 16)
     × TendsOn count once old new sessions sessions' × (count < 16 → All (JustStays new) sessions')

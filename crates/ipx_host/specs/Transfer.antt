@@ -9,7 +9,7 @@ use Rattle.spx_messages.specs.EndpointView.{EndpointView, Held, held_at}
 use Rattle.ipx_host.specs.declared.send_outcome.SendOutcome.{SendOutcome}
 use Rattle.ipx_host.specs.declared.send_outcome.SendOutcome.TheVariants as Verdicts
 
--- the outcome of a transfer, by whether its link is whole, and by its state, or that it is gone. It is done
+-- the outcome of a transfer, by whether its link is whole, and by its state, if it is there. It is done
 -- exactly if the peer has acknowledged everything, and the end too. Whether the peer confirmed that end as
 -- well does not matter. If a link is lost before it was open, nobody answered. If the peer ends the
 -- connection first, the host waits while the rest may still be acknowledged
@@ -27,7 +27,7 @@ verdict_at false joined waits (Some Confirmed) = Some Verdicts.GivenUp
 verdict_at whole true waits (Some Lost) = Some Verdicts.GivenUp
 verdict_at whole false waits (Some Lost) = Some Verdicts.Unanswered
 
--- an end was queued here, or received from the peer, and the link is not lost
+-- the end was queued here, or received from the peer, and the link is not lost
 abbrev pub IsClosing : Option State → Type 0
 IsClosing state = (state ≡ Some Ending) ⊎ (state ≡ Some PeerEnded) ⊎ (state ≡ Some Confirmed)
 
@@ -50,7 +50,7 @@ state_at e id = option_map (λ h. h.link.state) (held_at e id)
 abbrev pub IsWholeAt : EndpointView → ℕ → Type 0
 IsWholeAt e id = (h : Held) × (held_at e id ≡ Some h) × IsWhole h.link
 
--- whether a connection was ever open, after its link was seen in a state, or gone
+-- whether a connection was ever open, after its link was seen in this state, or gone
 abbrev pub joined_at : Bool → Option State → Bool
 joined_at joined None = joined
 joined_at joined (Some Opening) = joined
@@ -60,7 +60,7 @@ joined_at joined (Some PeerEnded) = true
 joined_at joined (Some Confirmed) = true
 joined_at joined (Some Lost) = joined
 
--- when the peer's end was first seen, after a state was seen at this time
+-- when the peer's end was first seen, after this state was seen at this time
 abbrev pub left_at : Option ℕ → Option State → ℕ → Option ℕ
 left_at (Some moment) state now = Some moment
 left_at None None now = None
@@ -71,8 +71,8 @@ left_at None (Some PeerEnded) now = Some now
 left_at None (Some Confirmed) now = None
 left_at None (Some Lost) now = None
 
--- the rest may still be acknowledged: the peer's end was not seen, or it was seen less than six seconds ago
--- and the end is queued here
+-- the rest may still be acknowledged if the peer's end was not seen, or if it was seen less than six seconds
+-- ago and the end is queued here
 abbrev pub IsWaiting : Bool → Option ℕ → ℕ → Type 0
 IsWaiting closed None now = Unit {0}
 IsWaiting closed (Some left) now = IsTrue closed × (now < left + 6000)

@@ -10,9 +10,9 @@ use Rattle.ipx_host.specs.Paced.{GivesOnceTold}
 use Rattle.ipx_host.specs.declared.paced_host_core.PacedHostCore.{PacedHostCore}
 use Rattle.ipx_host.specs.declared.running_host.Activity.{Activity}
 
--- a core of one port reads everything except requests from those who may not connect. It gives as its pacer
--- and its endpoint do, once the host has taken note of an accepted connection, and withholds nothing. If out
--- of memory, it misses a datagram as its endpoint does. It notes what the last datagram was, and the time
+-- a core of one port reads everything except requests from those who may not connect. It sends what its pacer
+-- and its endpoint give, once the host has noted an accepted connection, and withholds nothing. If out of
+-- memory, it loses a datagram as its endpoint does. It notes the last datagram, and the time
 abbrev pub hears : PacedHostCore → ℕ → List ℕ → ℕ → PacedHostCore → Type 0
 hears old port bytes now new = HearsAllowed old bytes now new
 
@@ -26,15 +26,15 @@ hear_out_of_memory old port bytes now new = HearOutOfMemory old.endpoint bytes n
 abbrev pub next_out_of_memory : PacedHostCore → ℕ → PacedHostCore → Type 0
 next_out_of_memory old now new = ⊥
 
--- what is reported of a whole turn: whether a datagram was read, and whether anything happened. The report
--- does not have the filtered datagrams
+-- the report of a whole turn: whether a datagram was read, and whether anything happened. Filtered datagrams
+-- are not part of the report
 pub record TellsOf (report : Report) (turn : Activity) : Type 0 where
   pub heard : IsTrue turn.heard ↔ (0 < report.heard)
   pub active : IsTrue turn.active
       ↔ ((0 < report.heard) ⊎ ((0 < report.sent) ⊎ ((0 < report.unmapped) ⊎ IsTrue turn.kept)))
 
--- one turn over sockets, whose traffic is not shown, with its report. Or a part of one, because out of
--- memory: then nothing was read
+-- one turn over sockets, whose traffic is not shown, with its report. If out of memory, it is only a part of
+-- a turn, and nothing was read
 abbrev pub TakesHostTurn : {K : Type 0} → K → K → (K → ℕ → K → Type 0) → Peers → PacedHostCore → PacedHostCore → Activity → Type 0
 TakesHostTurn {K} clock clock_after tells peers old new turn =
     ((report : Report) × TakesTurn hears hear_out_of_memory gives next_out_of_memory tells 1 peers None None clock clock_after old new (Ok report)

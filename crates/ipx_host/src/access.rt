@@ -10,8 +10,8 @@ use ipx_site::{Accept, AccessList, HostConfig};
 use ipx_wire::{Address, Network, Node};
 use std::alloc::Global;
 
-/// The address that the host of a file sends to. Network 0 is replaced by the host's own network,
-/// which is the source of its answers.
+/// Returns the address that the host of a file sends to. Network 0 is replaced by the host's own
+/// network, which is the source of the peer's replies.
 pub fn peer_address_of(file: &HostConfig, to: Address) -> Address
     ensures { result ≡ peer_address_of file.now to }
 {
@@ -25,14 +25,16 @@ pub fn peer_address_of(file: &HostConfig, to: Address) -> Address
     }
 }
 
-/// Whether an address is on the host's own network. Nodes there are reached without a router.
+/// Returns whether an address is on the host's own network. Nodes there are reached without a
+/// router.
 pub fn is_on_own_network(file: &HostConfig, to: Address) -> bool
     ensures { result ≡ is_on_own_network file.now to }
 {
     to.network == file.network || to.network == Network::LOCAL
 }
 
-/// Whether an address can't be reached: a node on the host's own network that has no IP address.
+/// Returns whether an address can't be reached: it is a node on the host's own network that has no
+/// IP address.
 pub fn is_nowhere(file: &HostConfig, to: Address) -> bool
     ensures { result ≡ is_nowhere file.now to }
 {
@@ -47,8 +49,8 @@ pub fn tell_nowhere<R: Eprint>(rt: &R, path: &str, node: Node) -> u8
     2
 }
 
-/// The IP address that a host dials for a node on its own network. None for another network, or for
-/// a node without an IP address.
+/// Returns the IP address that a host dials for a node on its own network. Returns None for another
+/// network, or for a node without an IP address.
 pub fn dialed_ip(file: &HostConfig, to: Address) -> Option<[u8; 4]>
     ensures { result ≡ dialed_ip file.now to }
 {
@@ -58,7 +60,7 @@ pub fn dialed_ip(file: &HostConfig, to: Address) -> Option<[u8; 4]>
     ip_of(to.node).ok()
 }
 
-/// These IP addresses, followed by that of the router.
+/// Returns these IP addresses, followed by that of the router.
 fn with_router(
     alloc: Global,
     file: &HostConfig,
@@ -71,7 +73,8 @@ fn with_router(
     Ok(all)
 }
 
-/// The IP addresses known to a host that dials this one: its peers, its router, and the dialed one.
+/// Returns the IP addresses known to a host that dials this one: its peers, its router, and the
+/// dialed one.
 fn known_ips(
     alloc: Global,
     file: &HostConfig,
@@ -86,7 +89,7 @@ fn known_ips(
     Ok(ips)
 }
 
-/// The known IP addresses, or None if the host accepts everybody.
+/// Returns the known IP addresses, or None if the host accepts everybody.
 fn heard_ips(
     alloc: Global,
     file: &HostConfig,
@@ -100,7 +103,7 @@ fn heard_ips(
     }
 }
 
-/// The access list of a host that dials this IP address.
+/// Returns the access list of a host that dials this IP address.
 pub fn access_list_of(
     alloc: Global,
     file: &HostConfig,

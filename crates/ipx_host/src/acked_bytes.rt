@@ -14,7 +14,7 @@ use std::collections::VecDeque;
 /// The number of bytes of a unit that does not end a message.
 const UNIT: u64 = SPX_MAX_DATA_SIZE as u64;
 
-/// The number of units of a message with so many bytes.
+/// Returns the number of units in a message of this length in bytes.
 fn units_of(bytes: u64) -> u64
     ensures value { result ≡ units_in bytes }
     // The message is cut into that many units.
@@ -43,7 +43,7 @@ pub struct Ledger {
 }
 
 impl Ledger {
-    /// Nothing was queued yet.
+    /// Creates an empty ledger: nothing was queued yet.
     pub fn new(alloc: Global) -> Ledger
         ensures given { result.given ≡ 0 }
         ensures ahead { result.ahead ≡ 0 }
@@ -61,17 +61,17 @@ impl Ledger {
         }
     }
 
-    /// Adds a message of so many bytes.
+    /// Adds a message of this length in bytes.
     pub fn add(&mut self, bytes: u64) -> Result<(), AllocError>
         ensures given { OnOk result (self.new.given ≡ counted (self.old.given + bytes)) }
         ensures ahead { OnOk result (self.new.ahead ≡ counted (self.old.ahead + units_in bytes)) }
         ensures base { self.new.base ≡ self.old.base }
-        // It comes after those that were queued before.
+        // The message comes after those that were queued before.
         ensures counts { OnOk result ((given : List ℕ) (units : ℕ)
             → CountsAcknowledged given units self.old.messages.items self.old.units self.old.whole
             → CountsAcknowledged (given ++ bytes ∷ []) units
             self.new.messages.items self.new.units self.new.whole) }
-        // Provided that no more units were acknowledged than were queued.
+        // This needs that no more units were acknowledged than were queued.
         ensures first { OnOk result ((given : List ℕ) (units : ℕ)
             → CountsAcknowledged given units self.old.messages.items self.old.units self.old.whole
             → units ≤ all_units given → IsFirstOpen self.old.messages.items self.old.units
@@ -87,14 +87,14 @@ impl Ledger {
         Ok(())
     }
 
-    /// Updates the ledger to the present numbers of the link.
+    /// Updates the ledger from the current numbers of the link.
     pub fn acknowledge(&mut self, numbers: Numbers)
         ensures base { self.new.base ≡ base_of numbers }
-        // `ahead` falls by as many units as the numbers advanced.
+        // `ahead` decreases by the number of units that the numbers advanced.
         ensures ahead { self.new.ahead
             ≡ self.old.ahead - distance (base_of numbers) self.old.base }
         ensures given { self.new.given ≡ self.old.given }
-        // As many more units are acknowledged, of everything that was queued.
+        // The newly acknowledged units come from everything that was queued.
         ensures counts { (given : List ℕ) (units : ℕ)
             → CountsAcknowledged given units self.old.messages.items self.old.units self.old.whole
             → units + distance (base_of numbers) self.old.base < 2 ^ 64
@@ -141,18 +141,18 @@ impl Ledger {
         true
     }
 
-    /// How many units were queued and are not acknowledged.
+    /// Returns the number of units that were queued and are not acknowledged.
     pub fn ahead(&self) -> u64
         ensures { result ≡ self.now.ahead }
     {
         self.ahead
     }
 
-    /// How many bytes are acknowledged.
+    /// Returns the number of bytes that are acknowledged.
     pub fn acknowledged(&self) -> u64
         ensures most { result ≤ self.now.given }
         ensures least { self.now.whole ≤ result }
-        // It is exact while the first remaining message is not fully acknowledged.
+        // The count is exact while the first remaining message is not fully acknowledged.
         ensures exact { (given : List ℕ) (units : ℕ)
             → CountsAcknowledged given units self.now.messages.items self.now.units self.now.whole
             → IsFirstOpen self.now.messages.items self.now.units
@@ -165,7 +165,7 @@ impl Ledger {
         self.whole.saturating_add(begun)
     }
 
-    /// How many bytes were queued.
+    /// Returns the number of bytes that were queued.
     pub fn given(&self) -> u64
         ensures { result ≡ self.now.given }
     {

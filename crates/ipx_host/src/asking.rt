@@ -10,13 +10,13 @@ ghost use Rattle.ipx_host.specs.Barring.{IsAskedBy};
 use ipx_site::AllowedPeer;
 use ipx_wire::{Address, Network, SpxHeader, decode, decode_spx, packet_type};
 
-/// The connection id that means none.
+/// The connection id that means "no connection".
 const NO_ID: u16 = 0xffff;
 
 /// The datastream type of the end of a connection.
 const END_STREAM: u8 = 0xfe;
 
-/// Whether an SPX packet requests a connection.
+/// Returns whether an SPX packet requests a connection.
 fn is_request(header: &SpxHeader) -> bool
     ensures { IsTrue result ↔ IsRequestFor header.now }
 {
@@ -24,7 +24,7 @@ fn is_request(header: &SpxHeader) -> bool
     header.system && header.to_id == NO_ID && header.stream < END_STREAM && names_one
 }
 
-/// The source address of a connection request. None if the bytes are no request.
+/// Returns the source address of a connection request, or None if the bytes are not a request.
 pub fn asker_of(bytes: &[u8]) -> Option<Address>
     ensures asks { IfSome result (IsAskedBy bytes.now) }
     ensures only { (a : AnAddress) → IsAskedBy bytes.now a → result ≡ Some a }
@@ -40,7 +40,7 @@ pub fn asker_of(bytes: &[u8]) -> Option<Address>
     Some(packet.header.from)
 }
 
-/// Whether an address is among these, as a host on that network sees it.
+/// Returns whether an address is in this list, as a host on that network sees it.
 pub fn is_among(origins: &[AllowedPeer], own: Network, address: &Address) -> bool
     ensures { result ≡ list_any (is_of own address.now) origins.now }
 {

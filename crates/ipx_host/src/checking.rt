@@ -24,8 +24,8 @@ fn listen_address_to_text(alloc: Global, file: &HostConfig) -> Result<String, Al
     format!(in alloc; "socket {socket} network {network} node {node}")
 }
 
-/// Where a host listens: `socket .. network .. node .. udp ..`, and ` accept any` if it accepts
-/// everybody.
+/// Returns where a host listens: `socket .. network .. node .. udp ..`, and ` accept any` if it
+/// accepts everybody.
 pub fn listener_to_text(alloc: Global, file: &HostConfig) -> Result<String, AllocError>
     ensures { IfOk result (λ t. string_bytes t ≡ listener_text file.now) }
 {
@@ -35,7 +35,7 @@ pub fn listener_to_text(alloc: Global, file: &HostConfig) -> Result<String, Allo
     format!(in alloc; "{place} udp {reached}{others}")
 }
 
-/// The remark on the router of a host.
+/// Returns the remark on the router of a host.
 fn remark_on_router(file: &HostConfig) -> &'static str
     ensures { result.now ≡ router_remark file.now }
 {
@@ -46,14 +46,14 @@ fn remark_on_router(file: &HostConfig) -> &'static str
     }
 }
 
-/// The remarks on the peers of a host.
+/// Returns the remarks on the peers of a host.
 fn remarks_on_peers(alloc: Global, file: &HostConfig) -> Result<String, AllocError>
     ensures { IfOk result (λ t. string_bytes t ≡ peers_remarks file.now) }
 {
     peers_to_remarks(alloc, "", file.address, &file.peers)
 }
 
-/// The line about the file itself.
+/// Returns the line about the file itself.
 fn file_to_line(alloc: Global, path: &str, file: &HostConfig) -> Result<String, AllocError>
     ensures { IfOk result (λ t. string_bytes t ≡ host_line path.now file.now) }
 {
@@ -72,12 +72,13 @@ fn host_to_lines(alloc: Global, path: &str, file: &HostConfig) -> Result<String,
     format!(in alloc; "{listener}\n{remark}{peers}{line}")
 }
 
-/// The command `listen --check`: reads the file of a host, and writes what it would print when it
-/// starts to listen. It also writes remarks, and a line about the file. It opens no socket: it has
-/// no `Net`.
+/// Runs the command `listen --check`. It reads the file of a host, and writes what the host would
+/// print when it starts to listen. It also writes remarks, and a line about the file. It opens no
+/// socket, because it has no `Net`.
 ///
-/// It returns the status: 0 if all that is written; 1 if out of memory or if the writer fails; 2
-/// for a fault of the file, which is printed as `listen` does, and nothing is written.
+/// Returns the status. It is 0 if everything is written, and 1 if out of memory or if the writer
+/// fails. It is 2 for a fault of the file: the fault is printed as `listen` prints it, and nothing
+/// is written.
 pub fn check_host<R: Files + Eprint, W: Write>(
     rt: &R,
     alloc: Global,
@@ -85,7 +86,7 @@ pub fn check_host<R: Files + Eprint, W: Write>(
     writer: &mut W,
 ) -> u8
     ensures few { result ≤ 2 }
-    // What it writes is about the host that some text describes.
+    // The written lines describe a host that some text of a file describes.
     ensures lines { result ≡ 0 → (text : List ℕ) × (file : AHostFile)
         × IsFileText text × IsHostText text file
         × Appends (W.contents writer.old) (W.contents writer.new) (host_lines path.now file) }

@@ -28,8 +28,8 @@ pub fn hand_in(
     endpoint.send(alloc, id, &Message { stream: 0, body })
 }
 
-/// Takes and drops the first unit that the link of an id holds. Returns whether it did. If not,
-/// nothing more is dropped.
+/// Takes and drops the first unit that the link of an id holds. Returns whether it did. If it did
+/// not, dropping stops.
 fn drop_first(alloc: Global, endpoint: &mut Endpoint, id: u16) -> bool
     ensures drops { IfSome (held_at endpoint.old id) (λ h. result ≡ true
         → (h.link.held ≢ []) × (held_at endpoint.new id ≡ Some (take_end h).1)) }
@@ -46,7 +46,7 @@ fn drop_first(alloc: Global, endpoint: &mut Endpoint, id: u16) -> bool
     !matches!(taken, Ok(Taken::Nothing) | Err(_))
 }
 
-/// Drops what the peer of an id sent, so that its buffers are free again. What is queued is kept.
+/// Drops what the peer of an id sent, so that its buffers are free again. Queued messages are kept.
 pub fn drop_what_came(alloc: Global, endpoint: &mut Endpoint, id: u16)
     ensures { DropsCame endpoint.old endpoint.new id }
 {

@@ -14,7 +14,7 @@ use crate::sessions::{
 /// The longest wait, in milliseconds.
 const LONG: u64 = 3_600_000;
 
-/// The action that is due for a connection of a host now.
+/// Returns the action that is due for a connection of a host now.
 pub fn action_in(core: &PacedHostCore, session: &Session) -> SessionAction
     ensures fate { IsActionFor core.now session.now result }
     ensures asks { IsActionFor core.now session.now ActionsOfSessions.Asks → result ≡ ActionsOfSessions.Asks }
@@ -24,7 +24,7 @@ pub fn action_in(core: &PacedHostCore, session: &Session) -> SessionAction
     session_action(session.phase, state, silent)
 }
 
-/// The place of the first connection with an action other than `Stays`.
+/// Returns the place of the first connection with an action other than `Stays`.
 pub fn first_to_tend(core: &PacedHostCore, sessions: &[Session]) -> Option<usize>
     ensures there { IfSome result (λ place. place < length sessions.now) }
     ensures first { MatchOption result (All (JustStays core.now) sessions.now)
@@ -39,7 +39,8 @@ pub fn first_to_tend(core: &PacedHostCore, sessions: &[Session]) -> Option<usize
     None
 }
 
-/// How long a connection needs no action, by its silence. It is 0 if an action is due now.
+/// Returns how long a connection needs no action, judged by its silence. It is 0 if an action is
+/// due now.
 fn stay_of(core: &PacedHostCore, session: &Session) -> u64
     ensures { StaysFor core.now session.now result }
 {
@@ -58,7 +59,7 @@ fn stay_of(core: &PacedHostCore, session: &Session) -> u64
     }
 }
 
-/// How long no connection needs an action, in milliseconds: at most an hour.
+/// Returns how long no connection needs an action, in milliseconds. It is at most an hour.
 pub fn rest_of(core: &PacedHostCore, sessions: &[Session]) -> u64
     ensures { AllStayFor core.now sessions.now result }
 {

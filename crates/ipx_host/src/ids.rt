@@ -17,9 +17,9 @@ use std::time::SystemTime;
 /// How many ids a host has for its connections.
 const IDS: u128 = 65_534;
 
-/// How many ids this run skips before it dials. They follow from the milliseconds of the time of
-/// day, so two runs within a minute have different ids. A peer that still holds the connection of
-/// the run before would take a request with the same id for that connection.
+/// Returns how many ids this run skips before it dials. The number follows from the milliseconds of
+/// the time of day, so two runs within a minute have different ids. A peer that still holds the
+/// connection of the previous run would take a request with the same id for that connection.
 pub fn passed_ids<R: Clock>(rt: &R) -> u16
     ensures { result < 65534 }
 {
@@ -29,7 +29,7 @@ pub fn passed_ids<R: Clock>(rt: &R) -> u16
     }
 }
 
-/// How many ids are skipped at a time of day.
+/// Returns how many ids are skipped at a time of day.
 fn ids_at(now: SystemTime) -> u16
     ensures { result ≡ system_time_nanos now / 1000000 % 65534 }
 {
@@ -39,7 +39,7 @@ fn ids_at(now: SystemTime) -> u16
     u16::try_from(since.as_millis() % IDS).unwrap_or(0)
 }
 
-/// Makes an endpoint skip so many ids, which grow with each connection.
+/// Makes an endpoint skip this many ids. Ids grow with each connection.
 fn pass_ids(
     alloc: Global,
     endpoint: &mut Endpoint,
@@ -49,7 +49,8 @@ fn pass_ids(
 ) -> Result<(), EndFault>
     ensures none_left { (q : ℕ) → held_at endpoint.new q ≡ held_at endpoint.old q }
     ensures count { count_of endpoint.new.links ≡ count_of endpoint.old.links }
-    // If it holds no link, it skips exactly that many. The next connection has the id after them.
+    // An endpoint without a link skips exactly that many ids. The next connection has the id after
+    // them.
     ensures last { count_of endpoint.old.links ≡ 0 → endpoint.old.links.last + count < 65535
         → OnOk result (endpoint.new.links.last ≡ endpoint.old.links.last + count) }
     ensures host { SameSelf endpoint.old endpoint.new }
@@ -61,7 +62,7 @@ fn pass_ids(
     Ok(())
 }
 
-/// The id of a new connection, after so many skipped ids.
+/// Returns the id of a new connection, after this many ids are skipped.
 pub fn dialed(
     alloc: Global,
     endpoint: &mut Endpoint,
@@ -73,10 +74,10 @@ pub fn dialed(
       link = link_dialed id file.now.socket to file.now.buffers 0;
       rest = None;
     })) }
-    // If it held no link, and the ids do not wrap.
+    // This holds if the endpoint held no link, and the ids do not wrap.
     ensures id { count_of endpoint.old.links ≡ 0 → endpoint.old.links.last + count < 65534
         → IfOk result (λ id. id ≡ endpoint.old.links.last + count + 1) }
-    // It is neither 0 nor FFFF, and is the id assigned last.
+    // The id is neither 0 nor FFFF, and is the id assigned last.
     ensures range { IfOk result (λ id. (0 < id) × (id < 65535)) }
     ensures last { IfOk result (λ id. endpoint.new.links.last ≡ id) }
     ensures count { OnOk result (count_of endpoint.new.links ≡ count_of endpoint.old.links + 1) }

@@ -20,7 +20,7 @@ use std::io::{self, ErrorKind, Read};
 use std::net::Net;
 use std::os::fd::RawFd;
 
-/// While so many units are queued and not acknowledged, nothing more is read.
+/// The host reads no more while this many units are queued and not acknowledged.
 const MAX_AHEAD: u64 = 16_384;
 
 /// The descriptor of standard input.
@@ -31,7 +31,7 @@ pub struct Intake {
     pub gate: Gate,
     pub room: Vec<u8>,
     pub acked_bytes: Ledger,
-    /// Whether all of the input is read.
+    /// Whether all of the input was read.
     pub read: bool,
     /// Whether the end is queued.
     pub closed: bool,
@@ -56,7 +56,7 @@ impl Drop for Intake {
 impl Intake {
     ghost use Rattle.ipx_host.specs.Midway.{feeding_at};
 
-    /// Nothing was read yet.
+    /// Creates an intake that has read nothing yet.
     pub fn new<R: Net>(rt: &R, alloc: Global) -> Result<Intake, AllocError>
         ensures unread { IfOk result (λ i. i.read ≡ false) }
         ensures unended { IfOk result (λ i. i.closed ≡ false) }
@@ -71,8 +71,8 @@ impl Intake {
         })
     }
 
-    /// Handles the result of one read: bytes are queued as one message, and no byte is the end of
-    /// the input. Returns whether there may be more to read at once.
+    /// Handles the result of one read. Bytes are queued as one message, and a read of no bytes is
+    /// the end of the input. Returns whether there may be more to read at once.
     fn take_read(
         &mut self,
         alloc: Global,
@@ -82,16 +82,16 @@ impl Intake {
     ) -> Result<bool, SendOutcome>
         requires { IfOk read (λ n. n ≤ length self.old.room.items) }
         ensures closed { self.new.closed ≡ self.old.closed }
-        // What was read is queued whole, and counted. Only lack of memory prevents that.
+        // The bytes of a read are queued whole, and counted. This fails only if out of memory.
         ensures came { IfOk read (λ n. OnOk result (
             HandsOn endpoint.old endpoint.new id (take n self.old.room.items)
             × EntersRead self.old.acked_bytes self.new.acked_bytes (take n self.old.room.items))) }
         ensures memory { IfOk read (λ n. IfErr result (λ v. v ≡ Verdicts.OutOfMemory)) }
-        // No byte means the end, and nothing else does.
+        // A read of no bytes means the end, and nothing else does.
         ensures over { IfOk read (λ n. n ≡ 0
             → (result ≡ Ok true) × (self.new.read ≡ true)) }
         ensures more { IfOk read (λ n. n ≢ 0 → self.new.read ≡ self.old.read) }
-        // An interruption is not the end, nor is a read that would wait.
+        // Neither an interruption nor a read that would block is the end.
         ensures again { IfErr read (λ e. error_kind e ≡ Interrupted
             → result ≡ Ok true) }
         ensures later { IfErr read (λ e. error_kind e ≡ WouldBlock
@@ -123,7 +123,7 @@ impl Intake {
         Ok(true)
     }
 
-    /// Reads once, and queues what was read as one message. Returns whether there was anything, or
+    /// Reads once, and queues the bytes as one message. Returns whether there were any bytes, or
     /// the end.
     fn read_some<I: Read>(
         &mut self,
@@ -132,7 +132,7 @@ impl Intake {
         id: u16,
         reader: &mut I,
     ) -> Result<bool, SendOutcome>
-        // What was read is queued whole, and counted.
+        // The bytes of a read are queued whole, and counted.
         ensures reads { self.old.read ≡ false → OnOk result ((bytes : List ℕ) × ReadsOn
             (feeding_at self.old endpoint.old (I.remaining reader.old))
             (feeding_at self.new endpoint.new (I.remaining reader.new))
@@ -147,7 +147,7 @@ impl Intake {
     }
 
     /// Reads if there is something to read and not too much is unacknowledged. After the last read
-    /// it queues the end, on the link of an id. Returns whether anything was queued.
+    /// it queues the end on the link of an id. Returns whether anything was queued.
     pub fn feed<I: Read>(
         &mut self,
         alloc: Global,

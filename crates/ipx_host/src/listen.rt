@@ -1,4 +1,4 @@
-//! The command `listen`: a host that takes connections, and writes the messages that come.
+//! The command `listen`: a host that accepts connections, and writes the messages that it receives.
 
 ghost use Rattle.std.specs.Prelude.{◌≡◌, ◌<◌, ◌≤◌, ℕ, List, IfErr, IfOk, IsTrue, OnErr, OnOk, Err, Ok};
 ghost use Rattle.ipx_carrier.specs.Turns.{peers_of};
@@ -27,7 +27,8 @@ fn tell_place<R: Log>(rt: &R, alloc: Global, file: &HostConfig) -> Result<(), St
     Ok(())
 }
 
-/// Runs a host that was started, and answers its status. Why one was not is told, and is 1.
+/// Runs a started host, and returns its status. If the host did not start, prints the reason and
+/// returns 1.
 fn run_listening<R: Net + Log + Clock + Eprint, W: Write>(
     rt: &R,
     alloc: Global,
@@ -37,7 +38,7 @@ fn run_listening<R: Net + Log + Clock + Eprint, W: Write>(
     writer: &mut W,
 ) -> u8
     ensures unstarted { OnErr started.entry ((result ≡ 1) × (writer.new ≡ writer.old)) }
-    // Where it ends well, the writer took the bodies that the takes gave, one behind the other.
+    // If it ends well, the writer took the bodies of the received messages, one after another.
     ensures well { result ≡ 0 → IfOk started.entry (λ l. (steps : List StepView) × ServesWell
         (listening_at l (W.contents writer.old))
         l.sessions.once (W.contents writer.new)
@@ -55,7 +56,7 @@ fn run_listening<R: Net + Log + Clock + Eprint, W: Write>(
     }
 }
 
-/// Runs the host of a file that was loaded. The status of one that was not is passed on.
+/// Runs the host of a file that was loaded. If loading failed, returns the status of the failure.
 fn listen_by<R: Net + Log + Clock + Eprint, W: Write>(
     rt: &R,
     alloc: Global,
@@ -66,10 +67,10 @@ fn listen_by<R: Net + Log + Clock + Eprint, W: Write>(
 ) -> u8
     ensures unloaded { IfErr loaded (λ status. (result ≡ status) × (writer.new ≡ writer.old)) }
     ensures few { OnOk loaded (result ≤ 1) }
-    // Without `once` a host that was loaded never ends well.
+    // Without `once` a loaded host never ends well.
     ensures once { OnOk loaded (result ≡ 0 → IsTrue once) }
-    // Where it ends well, the host of the file has run, and its writer took the bodies that the
-    // takes of one connection gave, one after the other.
+    // If it ends well, the host of the file has run. Its writer took the bodies of the messages of
+    // one connection, one after another.
     ensures well { IfOk loaded (λ file. result ≡ 0 → ListensWell {K = SteadyClock R} file once
         (W.contents writer.old) (W.contents writer.new) NeverGoesBack) }
 {
@@ -81,14 +82,15 @@ fn listen_by<R: Net + Log + Clock + Eprint, W: Write>(
     run_listening(rt, alloc, path, &file, started, writer)
 }
 
-/// The command `listen`: runs the host of a file, takes connections at its socket, and writes the
-/// bytes of each message when it is whole, with nothing between them. It goes on until it is ended,
-/// or with `once` until three seconds after the end of the first connection that is heard: the others
-/// are let go then, later ones as they come, and nothing of them is written.
+/// Runs the command `listen`. The host of the file accepts connections at its socket, and writes
+/// the bytes of each message when the message is complete. Nothing is written between messages. It
+/// runs until the process is stopped. With `once` it ends three seconds after it receives the end
+/// of the first connection that was heard from. Once that connection is heard from, all others are
+/// released, no more are accepted, and nothing of them is written.
 ///
-/// The answer is the status: 0 where the end of that connection came; 1 where that connection was
-/// lost, the writer failed, the socket can't be had or memory for the start is refused; 2 for a
-/// fault of the file. What is wrong is a line on standard error.
+/// Returns the status. It is 0 if the end of that connection was received. It is 1 if that
+/// connection was lost, the writer failed, the socket can't be opened, or the start ran out of
+/// memory. It is 2 for a fault of the file. Each fault is printed as a line on standard error.
 pub fn do_listen<R: Net + Log + Files + Clock + Eprint, W: Write>(
     rt: &R,
     alloc: Global,
@@ -97,16 +99,17 @@ pub fn do_listen<R: Net + Log + Files + Clock + Eprint, W: Write>(
     writer: &mut W,
 ) -> u8
     ensures few { result ≤ 2 }
-    // Without `once` it never ends well.
+    // Without `once` the command never ends well.
     ensures once { result ≡ 0 → IsTrue once }
-    // Where it ends well, a host as some text of a file says it has run, from no connection and
-    // nothing to write. It heard one connection, the first, and took its end last; its writer took
-    // the bodies of the messages of that one, one after the other, and nothing else.
+    // If it ends well, some text of a file describes the host that has run. The host began with no
+    // connection and nothing to write. It heard from one connection only, and took the end of that
+    // connection last. Its writer took the bodies of the messages of that connection, one after
+    // another, and nothing else.
     ensures well { result ≡ 0 → (text : List ℕ) × (file : AHostFile)
         × IsFileText text × IsHostText text file
         × ListensWell {K = SteadyClock R} file once (W.contents writer.old) (W.contents writer.new)
         NeverGoesBack }
-    // For a fault of the file nothing is written.
+    // If the file has a fault, nothing is written.
     ensures untouched { result ≡ 2 → writer.new ≡ writer.old }
 {
     let loaded = load_host(rt, alloc, path);

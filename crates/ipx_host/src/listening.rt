@@ -1,4 +1,4 @@
-//! A host that listens: its steps, and how it comes to stop.
+//! A host that listens: its steps, and why it stops.
 
 ghost use Rattle.std.specs.Prelude.{◌≡◌, ◌≢◌, ◌<◌, ◌≤◌, ◌∷◌, ◌++◌, [], ℕ, List, IfOk, IsTrue, None, Some, Err, Ok, map};
 ghost use Rattle.ipx_carrier.specs.Mapping.{node_at};
@@ -35,10 +35,10 @@ use std::rt::Clock;
 /// The descriptor of standard output.
 const STDOUT: RawFd = 1;
 
-/// Why a listening host ends.
+/// Why a listening host stops.
 #[derive(Clone, Copy)]
 pub enum ListenOutcome {
-    /// The end of the first connection that was heard came.
+    /// The end of the first connection that was heard from was received.
     Ended,
     /// That connection was lost.
     Lost,
@@ -88,7 +88,7 @@ impl<'a, R: Clock> Drop for ListeningHost<'a, R> {
 impl<'a, R: Net + Log + Clock> ListeningHost<'a, R> {
     ghost use Rattle.ipx_host.specs.Midway.{listening_at};
 
-    /// A host that listens at the socket of its file. It holds no connection yet.
+    /// Opens a host that listens at the socket of its file. It holds no connection yet.
     pub fn open(
         rt: &'a R,
         alloc: Global,
@@ -98,7 +98,8 @@ impl<'a, R: Net + Log + Clock> ListeningHost<'a, R> {
         ensures nobody { IfOk result (λ l. l.sessions.held.items ≡ []) }
         ensures nothing { IfOk result (λ l. left_of l.sessions.output ≡ []) }
         ensures once { IfOk result (λ l. l.sessions.once ≡ once) }
-        // It listens at the socket of its file, with the buffers of it, and nowhere else.
+        // It listens at the socket of its file, with the buffers that the file says, and nowhere
+        // else.
         ensures listens { IfOk result (λ l.
             buffers_at l.station.core.endpoint file.now.socket ≡ Some file.now.buffers) }
         ensures alone { IfOk result (λ l. (socket : Socket) → socket.0 ≢ file.now.socket.0
@@ -112,13 +113,13 @@ impl<'a, R: Net + Log + Clock> ListeningHost<'a, R> {
         ensures links { IfOk result (λ l. (id : ℕ) → held_at l.station.core.endpoint id ≡ None) }
         ensures accepted { IfOk result (λ l. l.station.core.came ≡ None) }
         ensures unpaced { IfOk result (λ l. l.station.core.paced ≡ None) }
-        // Who may ask it for a connection, its file says.
+        // The file says who may request a connection.
         ensures from { IfOk result (λ l.
             named_in l.station.core.from ≡ named_in file.now.from) }
         ensures own { IfOk result (λ l. l.station.core.network ≡ file.now.network) }
         ensures peers { IfOk result (λ l.
             peers_of l.station.host_socket.peers.items ≡ (file.now.router ∷ []) ∷ []) }
-        // Whom it hears and sends to, its file says.
+        // The file says which hosts it receives from and sends to.
         ensures access_list { IfOk result (λ l.
             map access_by l.station.host_socket.device.access_lists.items ≡ guarded_host file.now None ∷ []) }
     {
@@ -135,9 +136,9 @@ impl<'a, R: Net + Log + Clock> ListeningHost<'a, R> {
         })
     }
 
-    /// Takes a turn, and notes the datagram that it heard.
+    /// Takes a turn, and notes the datagram that was received.
     fn hear(&mut self, rt: &R, alloc: Global) -> Activity
-        // Behind what was kept back more may lie.
+        // More may be waiting after a filtered datagram.
         ensures kept { drops_in self.old.station.host_socket.device.kept
             < drops_in self.new.station.host_socket.device.kept → IsTrue result.active }
         ensures hears { HearsAndNotesAll self.old.station.clock self.new.station.clock
@@ -159,14 +160,15 @@ impl<'a, R: Net + Log + Clock> ListeningHost<'a, R> {
         turn
     }
 
-    /// Takes a turn, and all that came. It answers whether there may be more to do at once.
+    /// Takes a turn, and handles what was received. Returns whether there may be more to do at
+    /// once.
     fn step<W: Write>(
         &mut self,
         rt: &R,
         alloc: Global,
         writer: &mut W,
     ) -> Result<bool, ListenOutcome>
-        // Behind what was kept back more may lie.
+        // More may be waiting after a filtered datagram.
         ensures kept { drops_in self.old.station.host_socket.device.kept
             < drops_in self.new.station.host_socket.device.kept → IfOk result IsTrue }
         ensures steps { (step : StepView) × StepsTo (listening_at self.old (W.contents writer.old))
@@ -187,14 +189,14 @@ impl<'a, R: Net + Log + Clock> ListeningHost<'a, R> {
         Ok(turn.active | moved)
     }
 
-    /// Takes a turn, and waits where there is nothing to do.
+    /// Takes a turn, and waits if there is nothing to do.
     fn step_or_wait<W: Write>(
         &mut self,
         rt: &R,
         alloc: Global,
         writer: &mut W,
     ) -> Result<(), ListenOutcome>
-        // Behind what was kept back more may lie: it does not wait.
+        // More may be waiting after a filtered datagram, so the host does not wait.
         ensures kept { drops_in self.old.station.host_socket.device.kept
             < drops_in self.new.station.host_socket.device.kept →
             self.new.station.poller.asked ≡ self.old.station.poller.asked }
@@ -205,7 +207,7 @@ impl<'a, R: Net + Log + Clock> ListeningHost<'a, R> {
         ensures peers { self.new.station.host_socket.peers ≡ self.old.station.host_socket.peers }
         ensures access { map access_by self.new.station.host_socket.device.access_lists.items
             ≡ map access_by self.old.station.host_socket.device.access_lists.items }
-        // It waits only as long as no link has anything to do and each connection just stays.
+        // The host waits only while no link has anything to do and no connection needs an action.
         ensures rests { MayRest self.new.station.core self.new.sessions.held.items
             self.old.station.poller.asked self.new.station.poller.asked }
         ensures written { result ≡ Err Stops.Ended
@@ -219,10 +221,11 @@ impl<'a, R: Net + Log + Clock> ListeningHost<'a, R> {
         Ok(())
     }
 
-    /// Runs until it is to end.
+    /// Runs until the host stops.
     fn serve<W: Write>(&mut self, rt: &R, alloc: Global, writer: &mut W) -> ListenOutcome
-        // What was left to write, and then the bodies that the takes gave, are what the writer
-        // took, and then what is left to write: also from one step to the next.
+        // The bytes that were left to write are written first, and then the bodies of the received
+        // messages. The writer took the first of these bytes, and the rest is left to write. This
+        // also holds from one step to the next.
         ensures serves { (steps : List StepView) × Serves (listening_at self.old (W.contents writer.old))
             (listening_at self.new (W.contents writer.new))
             self.old.sessions.once result
@@ -246,8 +249,8 @@ impl<'a, R: Net + Log + Clock> ListeningHost<'a, R> {
 impl<'a, R: Net + Log + Clock + Eprint> ListeningHost<'a, R> {
     ghost use Rattle.ipx_host.specs.Midway.{listening_at};
 
-    /// Runs until it is to end, prints why it ends, and answers the status: 0 only with `once`, and
-    /// where all that was taken is written.
+    /// Runs until the host stops, prints why, and returns the status. The status is 0 only with
+    /// `once`, and only if everything that was taken is written.
     pub fn finish<W: Write>(&mut self, rt: &R, alloc: Global, writer: &mut W) -> u8
         ensures serves { (stop : AStop) × (result ≡ stop_status stop)
             × (steps : List StepView) × Serves
@@ -268,7 +271,7 @@ impl<'a, R: Net + Log + Clock + Eprint> ListeningHost<'a, R> {
     }
 }
 
-/// Prints why a host stopped, where that is to be said, and answers its status.
+/// Prints why a host stopped, if that needs a message, and returns its status.
 fn tell_stop<R: Eprint>(rt: &R, stopped: ListenOutcome) -> u8
     ensures { result ≡ stop_status stopped }
 {

@@ -6,18 +6,18 @@ use crate::readiness_gate::Gate;
 use std::alloc::Global;
 use std::io::{ErrorKind, Write};
 
-/// The most bytes of one write: a writable pipe takes so many without waiting.
+/// The most bytes of one write: a writable pipe takes this many without blocking.
 const PIECE: usize = 4096;
 
-/// The most pieces that are written before the network gets its turn.
+/// The most pieces that are written before the next turn of the network.
 const MAX_PIECES: u32 = 64;
 
 /// A write failed.
 #[derive(Clone, Copy)]
 pub struct WriteFault;
 
-/// The bytes of a message, of which the first are written. What a slow reader does not take waits
-/// here, and holds up nothing else.
+/// The bytes of a message, of which the first may be written already. What a slow reader has not
+/// taken yet is kept here, and blocks nothing else.
 #[derive(Drop)]
 pub struct Outlet {
     gate: Gate,
@@ -29,7 +29,7 @@ pub struct Outlet {
 impl Outlet {
     ghost use Rattle.ipx_host.specs.HostOutput.{Writes, left_of};
 
-    /// An empty outlet, for a writer with this gate.
+    /// Creates an empty outlet, for a writer with this gate.
     pub fn new(alloc: Global, gate: Gate) -> Outlet
         ensures { left_of result ≡ [] }
     {
@@ -40,14 +40,14 @@ impl Outlet {
         }
     }
 
-    /// Whether everything that was put in is written.
+    /// Returns whether everything that was put in is written.
     pub fn is_empty(&self) -> bool
         ensures { IsTrue result ↔ (left_of self.now ≡ []) }
     {
         self.written == self.bytes.len()
     }
 
-    /// Puts in the bytes of a message. What was there before must be written already, or is lost.
+    /// Puts in the bytes of a message. The bytes before must be written already, or they are lost.
     pub fn put(&mut self, bytes: Vec<u8>)
         ensures { left_of self.new ≡ bytes.items }
     {
@@ -55,9 +55,9 @@ impl Outlet {
         self.bytes = bytes;
     }
 
-    /// Writes what the writer takes without waiting. Returns whether it wrote anything.
+    /// Writes what the writer takes without blocking. Returns whether it wrote anything.
     pub fn write<W: Write>(&mut self, writer: &mut W) -> Result<bool, WriteFault>
-        // This also holds if the writer fails. Then the first bytes of what was left are written.
+        // This also holds if the writer fails. The first bytes of what was left are written then.
         ensures writes { Writes (left_of self.old) (left_of self.new)
             (W.contents writer.old) (W.contents writer.new) }
         ensures wrote { IfOk result (λ wrote. IsTrue wrote

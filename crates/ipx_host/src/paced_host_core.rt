@@ -39,10 +39,11 @@ pub enum Arrival {
     NoRoom,
 }
 
-/// A host with one port, as `HostCore` of the carrier is, with a list of who may request a
-/// connection. It keeps the result of the last datagram, and the time of the last call. It gives
-/// nothing until an accepted connection is taken by `take_came`: there may be no slot for it, and then
-/// it is not answered. The connection that it paces is manual, and follows its pacer's plan.
+/// A host with one port, like `HostCore` of the carrier, with a list of who may request a
+/// connection. It keeps the result of the last datagram, and the time of the last call. After it
+/// accepts a connection, it sends nothing until `take_came` returns that connection. There may be
+/// no slot for the connection, and then the request gets no reply. The paced connection is manual,
+/// and follows the plan of its pacer.
 pub struct PacedHostCore {
     pub endpoint: Endpoint,
     /// The network that it is on.
@@ -71,7 +72,7 @@ impl Drop for PacedHostCore {
     }
 }
 
-/// How long it is until a time, and no longer than `most`, in milliseconds.
+/// Returns the time left until `due`, and no more than `most`, in milliseconds.
 fn till(now: u64, due: Option<u64>, most: u64) -> u64
     ensures none { IsNone due → result ≡ most }
     ensures some { IfSome due (λ due. result ≡ min most (due - now)) }
@@ -82,7 +83,7 @@ fn till(now: u64, due: Option<u64>, most: u64) -> u64
     }
 }
 
-/// A copy of the list of who may connect.
+/// Copies the list of who may connect.
 pub fn copy_origins(
     alloc: Global,
     from: &Option<Vec<AllowedPeer>>,
@@ -95,7 +96,7 @@ pub fn copy_origins(
     }
 }
 
-/// The source address of a packet.
+/// Returns the source address of a packet.
 fn sender_of(bytes: &[u8]) -> Option<Address>
     ensures { (p : PacketView) → BeginsWith bytes.now p → result ≡ Some p.header.from }
 {
@@ -105,9 +106,9 @@ fn sender_of(bytes: &[u8]) -> Option<Address>
     }
 }
 
-/// The connection that a datagram made.
+/// Returns the connection that a datagram made.
 fn accepted_by(id: u16, bytes: &[u8]) -> Option<Arrival>
-    // For a datagram that an endpoint answered so.
+    // The endpoint returned this result for the datagram.
     ensures { (old new : EndpointView) (now : ℕ)
         → Arrives old bytes.now now (Arriveds.Accepted id) new
         → Notes (Arriveds.Accepted id) new.heard bytes.now result }
@@ -117,7 +118,7 @@ fn accepted_by(id: u16, bytes: &[u8]) -> Option<Arrival>
 }
 
 impl PacedHostCore {
-    /// The core of an endpoint on a network, with the list of who may connect.
+    /// Creates the core of an endpoint on a network, with the list of who may connect.
     pub fn new(
         endpoint: Endpoint,
         network: Network,
@@ -140,7 +141,7 @@ impl PacedHostCore {
         }
     }
 
-    /// Paces the connection with this id from now on. It is refused only if out of memory.
+    /// Paces the connection with this id from now on. It fails only if out of memory.
     pub fn pace(&mut self, alloc: Global, id: u16) -> Result<(), OutOfMemory>
         ensures paced { OnOk result (self.new ≡ record self.old {
           paced = Some (record { id = id; pacer = made_pacer });
@@ -151,8 +152,8 @@ impl PacedHostCore {
         Ok(())
     }
 
-    /// How long nothing is due by itself, and no longer than `most`, in milliseconds: no link has
-    /// anything to send, and no pacer to plan.
+    /// Returns how long no link has anything to send and no pacer has anything to plan, in
+    /// milliseconds. It is at most `most`.
     pub fn sleep(&self, most: u64) -> u64
         ensures { IsSleep self.now most result }
     {
@@ -160,21 +161,21 @@ impl PacedHostCore {
         links.min(till(self.moment, due_of(&self.paced, self.moment), most))
     }
 
-    /// The time of the last turn, in milliseconds.
+    /// Returns the time of the last turn, in milliseconds.
     pub fn moment(&self) -> u64
         ensures { result ≡ self.now.moment }
     {
         self.moment
     }
 
-    /// How many requests were received from those who may not connect.
+    /// Returns how many requests were received from those who may not connect.
     pub fn rejected(&self) -> u64
         ensures { result ≡ self.now.rejected }
     {
         self.rejected
     }
 
-    /// The result of the last datagram, returned only once.
+    /// Returns the result of the last datagram, and returns it only once.
     pub fn take_came(&mut self) -> Option<Arrival>
         ensures told { result ≡ self.old.came }
         ensures once { self.new ≡ record self.old { came = None } }
@@ -182,14 +183,14 @@ impl PacedHostCore {
         self.came.take()
     }
 
-    /// Whether the last datagram made a connection that `take_came` did not return yet.
+    /// Returns whether the last datagram made a connection that `take_came` has not returned yet.
     fn is_untold(&self) -> bool
         ensures { result ≡ is_untold self.now.came }
     {
         matches!(self.came, Some(Arrival::Accepted(_)))
     }
 
-    /// Whether an address may request a connection.
+    /// Returns whether an address may request a connection.
     fn may_ask(&self, from: &Address) -> bool
         ensures { result ≡ may_be_asked_by (named_in self.now.from) self.now.network from.now }
     {
@@ -199,7 +200,7 @@ impl PacedHostCore {
         }
     }
 
-    /// Whether bytes are a request from one who may not connect.
+    /// Returns whether bytes are a request from one who may not connect.
     fn bars(&self, bytes: &[u8]) -> bool
         ensures { IsTrue result ↔ IsBarred self.now bytes.now }
     {
@@ -209,7 +210,7 @@ impl PacedHostCore {
         }
     }
 
-    /// Gives the next packet of the endpoint, after its pacer has planned.
+    /// Returns the next packet of the endpoint, after its pacer has planned.
     fn give(&mut self, now: u64, room: &mut [u8]) -> Option<(usize, Node, usize)>
         requires { 1536 ≤ length room.old }
         ensures given { GivesAsPlanned self.old now (given_in room.new result) self.new }
@@ -226,7 +227,7 @@ impl PacedHostCore {
         Some((0, node, count))
     }
 
-    /// The result of a datagram that the endpoint answered so.
+    /// Returns what to note of a datagram for which the endpoint returned this result.
     fn came_of(&self, arrived: Arrived, bytes: &[u8]) -> Option<Arrival>
         ensures { (old : EndpointView) (now : ℕ)
             → Arrives old bytes.now now arrived self.now.endpoint

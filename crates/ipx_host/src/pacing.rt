@@ -37,7 +37,7 @@ fn follow(endpoint: &mut Endpoint, id: u16, plan: Plan, given_up: bool)
     }
 }
 
-/// The datastream type of an SPX packet.
+/// Returns the datastream type of an SPX packet.
 fn stream_of(bytes: &[u8]) -> Option<u8> {
     let packet = decode(bytes).ok()?;
     let (header, _) = decode_spx(packet.body).ok()?;
@@ -45,7 +45,7 @@ fn stream_of(bytes: &[u8]) -> Option<u8> {
 }
 
 impl Paced {
-    /// The pacer of a connection that is about to be requested.
+    /// Creates the pacer of a connection that is about to be requested.
     pub fn new(alloc: Global, id: u16) -> Result<Paced, OutOfMemory>
         ensures { IfOk result (λ p. p ≡ record { id = id; pacer = made_pacer }) }
     {
@@ -53,7 +53,7 @@ impl Paced {
         Ok(Paced { id, pacer })
     }
 
-    /// Whether the connection is given up: ten timeouts in a row while it sends units.
+    /// Returns whether the connection is given up: ten timeouts in a row while it sends units.
     fn is_given_up(&self, endpoint: &Endpoint) -> bool
         ensures { IfSome (held_at endpoint.now self.now.id)
             (λ h. result ≡ is_given_up_by self.now.pacer h.link) }
@@ -77,8 +77,8 @@ impl Paced {
         follow(endpoint, self.id, plan, given_up);
     }
 
-    /// Tells the pacer that the endpoint was polled. If it gave a packet, it wrote it to the start
-    /// of these bytes.
+    /// Updates the pacer after a poll of the endpoint. If the endpoint returned a packet, it wrote
+    /// the packet to the start of these bytes.
     fn gave(&mut self, endpoint: &Endpoint, bytes: &[u8], now: u64)
         ensures { NotesPoll (Some self.old) endpoint.now (Some self.new) }
     {
@@ -94,8 +94,8 @@ impl Paced {
         }
     }
 
-    /// Tells the pacer how the endpoint answered a datagram. `before` are the numbers of the link
-    /// before.
+    /// Updates the pacer after a datagram, for which the endpoint returned this result. `before`
+    /// has the numbers of the link before the datagram.
     fn heard(&mut self, endpoint: &Endpoint, arrived: Arrived, before: Option<Numbers>, now: u64)
         ensures { NotesDatagram (Some self.old) arrived endpoint.now (Some self.new) }
     {
@@ -117,7 +117,7 @@ impl Paced {
     }
 }
 
-/// The time at which the plan of the paced connection, if there is one, may change.
+/// Returns the time at which the plan of the paced connection, if there is one, may change.
 pub fn due_of(paced: &Option<Paced>, now: u64) -> Option<u64>
     ensures value { result ≡ paced_due paced.now now }
     ensures soon { HoldsBack paced.now → IfSome result (λ at. at ≤ now + 1) }
@@ -130,7 +130,8 @@ pub fn due_of(paced: &Option<Paced>, now: u64) -> Option<u64>
     paced.pacer.next_due(now)
 }
 
-/// Before a poll: applies the plan of the pacer to the paced connection, if there is one.
+/// Applies the plan of the pacer to the paced connection, if there is one. Must be called before
+/// each poll.
 pub fn plan(paced: &mut Option<Paced>, endpoint: &mut Endpoint, now: u64)
     ensures { Plans paced.old paced.new endpoint.old endpoint.new }
 {
@@ -139,7 +140,7 @@ pub fn plan(paced: &mut Option<Paced>, endpoint: &mut Endpoint, now: u64)
     }
 }
 
-/// After a poll, which wrote these bytes: tells the pacer.
+/// Updates the pacer after a poll, which wrote these bytes.
 pub fn note_poll(paced: &mut Option<Paced>, endpoint: &Endpoint, bytes: &[u8], now: u64)
     ensures { NotesPoll paced.old endpoint.now paced.new }
 {
@@ -148,7 +149,7 @@ pub fn note_poll(paced: &mut Option<Paced>, endpoint: &Endpoint, bytes: &[u8], n
     }
 }
 
-/// The numbers of the link of the paced connection, if there is one.
+/// Returns the numbers of the link of the paced connection, if there is one.
 pub fn numbers_of(paced: &Option<Paced>, endpoint: &Endpoint) -> Option<Numbers>
     ensures { result ≡ paced_numbers paced.now endpoint.now }
 {
@@ -156,8 +157,8 @@ pub fn numbers_of(paced: &Option<Paced>, endpoint: &Endpoint) -> Option<Numbers>
     endpoint.numbers(paced.id).ok()
 }
 
-/// After a datagram, which the endpoint answered so: tells the pacer. `before` are the numbers of
-/// the paced link before, if it was there.
+/// Updates the pacer after a datagram, for which the endpoint returned this result. `before` has
+/// the numbers of the paced link before the datagram, if the link was there.
 pub fn note_datagram(
     paced: &mut Option<Paced>,
     endpoint: &Endpoint,

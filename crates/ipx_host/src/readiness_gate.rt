@@ -14,11 +14,12 @@ struct Watch {
     events: Events,
 }
 
-/// A descriptor, such as standard input, that is checked before each read or write: would it block?
+/// A descriptor, such as standard input, that is checked before each read or write: would the call
+/// block?
 ///
-/// A descriptor that the system can't poll, such as a file on a disk, is always open. So is one for
-/// which the system or memory refuses the poll. Then a read or a write may block.
-/// the system or memory refuses the watch: then a read or a write may wait.
+/// A descriptor that the system can't poll, such as a file on a disk, is always open. So is a
+/// descriptor whose poll failed, because the system refused it or it ran out of memory. A read or a
+/// write may block then.
 #[derive(Drop)]
 pub struct Gate {
     fd: RawFd,
@@ -27,7 +28,7 @@ pub struct Gate {
     open: bool,
 }
 
-/// A poll of a descriptor.
+/// Creates a poll of a descriptor.
 fn watch_of<R: Net>(rt: &R, alloc: Global, fd: RawFd, interest: Interest) -> Option<Watch> {
     let poll = Poll::new(rt).ok()?;
     let events = Events::with_capacity(alloc, 1).ok()?;
@@ -38,7 +39,7 @@ fn watch_of<R: Net>(rt: &R, alloc: Global, fd: RawFd, interest: Interest) -> Opt
 }
 
 impl Gate {
-    /// A gate for reads or for writes of a descriptor.
+    /// Creates a gate for reads or for writes of a descriptor.
     pub fn new<R: Net>(rt: &R, alloc: Global, fd: RawFd, interest: Interest) -> Gate {
         Gate {
             fd,
@@ -48,7 +49,7 @@ impl Gate {
         }
     }
 
-    /// Whether a read, or a write of at most 4,096 bytes, would not block.
+    /// Returns whether a read, or a write of at most 4,096 bytes, would not block.
     pub fn is_open(&mut self) -> bool {
         let Some(watch) = &mut self.watch else {
             return true;
@@ -62,7 +63,7 @@ impl Gate {
         self.open
     }
 
-    /// Must be called after each read or write, so that the system is asked again.
+    /// Must be called after each read or write, so that the descriptor is polled again.
     pub fn pass(&mut self) {
         self.open = false;
         if let Some(watch) = &self.watch {
@@ -72,7 +73,8 @@ impl Gate {
         }
     }
 
-    /// A descriptor that becomes readable when the gate opens. None if it is always open.
+    /// Returns a descriptor that becomes readable when the gate opens, or None if it is always
+    /// open.
     pub fn fd(&self) -> Option<RawFd> {
         let watch = self.watch.as_ref()?;
         Some(watch.poll.as_raw_fd())

@@ -5,11 +5,11 @@ ghost use Rattle.std.specs.Prelude.{◌<◌, ◌*◌, ◌↔◌, IsTrue};
 use ipx_site::{RCVBUF_SIZE, UdpSockets};
 use log::{Log, warn};
 
-/// How many bytes of a socket's receive buffer a unit takes.
+/// The number of bytes of a socket's receive buffer that a unit takes.
 const UNIT_BUFFER: u64 = 1280;
 
-/// Whether a socket got less receive buffer than it asks for, and this is less than half of what a
-/// peer may send to so many buffers.
+/// Returns whether a socket got a smaller receive buffer than it requested, and less than half of
+/// what a peer may send to this many buffers.
 fn is_short(buffers: u16, room: u32) -> bool
     ensures { IsTrue result ↔ ((room < 4194304) × (2 * room < buffers * 1280)) }
 {

@@ -39,8 +39,8 @@ pub struct Activity {
     pub heard: bool,
     /// A datagram was filtered.
     pub kept: bool,
-    /// A datagram was read, filtered or sent, a packet had no IP address to go to, or out of
-    /// memory. The next turn may then have something to do as well.
+    /// A datagram was read, filtered or sent, a packet had no IP address to go to, or the turn ran
+    /// out of memory. The next turn may then have something to do as well.
     pub active: bool,
 }
 
@@ -75,7 +75,7 @@ pub struct RunningHost<'a, R: Clock> {
     host_socket: HostSocket,
     clock: SteadyClock<'a, R>,
     poller: Poller,
-    /// How often it was out of memory.
+    /// How often the host ran out of memory.
     refused: u64,
     telling: Telling,
 }
@@ -94,7 +94,7 @@ impl<'a, R: Clock> Drop for RunningHost<'a, R> {
 }
 
 impl HostSocket {
-    /// One socket with its access list, and one list of peers.
+    /// Creates the socket of a host from one socket with its access list, and one list of peers.
     fn new(
         sockets: UdpSockets,
         access_lists: Vec<AccessList>,
@@ -112,7 +112,7 @@ impl HostSocket {
         }
     }
 
-    /// The bound socket of a host by its file, and what waits for it.
+    /// Binds the socket of a host as its file says, and creates the poll that waits for it.
     fn open<R: Net + Log>(
         rt: &R,
         alloc: Global,
@@ -135,7 +135,7 @@ impl HostSocket {
     }
 }
 
-/// The core of a host by its file, without a link.
+/// Creates the core of a host by its file, without a link.
 fn core_of(alloc: Global, file: &HostConfig) -> Result<PacedHostCore, StartFault>
     ensures network { IfOk result (λ c. c.endpoint.network ≡ file.now.network) }
     ensures node { IfOk result (λ c. c.endpoint.node ≡ node_at file.now.address) }
@@ -156,7 +156,7 @@ fn core_of(alloc: Global, file: &HostConfig) -> Result<PacedHostCore, StartFault
     Ok(PacedHostCore::new(endpoint, file.network, origins))
 }
 
-/// What a turn with this result did, and whether it filtered a datagram.
+/// Returns what a turn with this result did, and whether it filtered a datagram.
 fn activity_of(ran: Result<Report, RunFault>, kept: bool) -> Activity
     ensures whole { IfOk ran (λ report. TellsOf report result) }
     ensures ended { OnErr ran ((result.heard ≡ false) × (result.active ≡ true)) }
@@ -177,8 +177,8 @@ fn activity_of(ran: Result<Report, RunFault>, kept: bool) -> Activity
 }
 
 impl<'a, R: Net + Log + Clock> RunningHost<'a, R> {
-    /// A host that is bound as its file says. It accepts datagrams from those that its file names
-    /// and from the node at the IP address that it dials, or from everybody.
+    /// Opens a host that is bound as its file says. It accepts datagrams from everybody, or only
+    /// from those that its file names and from the node at the IP address that it dials.
     pub fn open(
         rt: &'a R,
         alloc: Global,
@@ -188,7 +188,7 @@ impl<'a, R: Net + Log + Clock> RunningHost<'a, R> {
         ensures network { IfOk result (λ s. s.core.endpoint.network ≡ file.now.network) }
         ensures node { IfOk result (λ s. s.core.endpoint.node ≡ node_at file.now.address) }
         ensures router { IfOk result (λ s. s.core.endpoint.router ≡ node_at file.now.router) }
-        // It has no link yet, no id was assigned, and no socket listens.
+        // The host has no link yet, no id was assigned, and no socket listens.
         ensures links { IfOk result (λ s. (id : ℕ) → held_at s.core.endpoint id ≡ None) }
         ensures last { IfOk result (λ s. s.core.endpoint.links.last ≡ 0) }
         ensures count { IfOk result (λ s. count_of s.core.endpoint.links ≡ 0) }
@@ -234,7 +234,7 @@ impl<'a, R: Net + Log + Clock> RunningHost<'a, R> {
         }
     }
 
-    /// Counts one out-of-memory refusal, if it happened.
+    /// Counts one refusal for lack of memory, if there was one.
     pub fn count_refusal(&mut self, is_refused: bool)
         ensures { self.new ≡ record self.old {
           refused = raised_if is_refused self.old.refused;
@@ -243,15 +243,15 @@ impl<'a, R: Net + Log + Clock> RunningHost<'a, R> {
         self.refused = count_if(is_refused, self.refused);
     }
 
-    /// The time of the last turn, in milliseconds from the start.
+    /// Returns the time of the last turn, in milliseconds from the start.
     pub fn moment(&self) -> u64
         ensures { result ≡ self.now.core.moment }
     {
         self.core.moment()
     }
 
-    /// Takes one turn. What the system or memory refuses is counted and reported, and the host goes
-    /// on. If a turn runs out of memory, its datagram is lost.
+    /// Takes one turn. Failures of the system and lack of memory are counted and reported, and the
+    /// host continues. If a turn runs out of memory, its datagram is lost.
     pub fn turn(&mut self, rt: &R, alloc: Global) -> Activity
         ensures core { TakesHostTurn self.old.clock self.new.clock
             NeverGoesBack (peers_of self.old.host_socket.peers.items) self.old.core self.new.core result }
@@ -268,7 +268,7 @@ impl<'a, R: Net + Log + Clock> RunningHost<'a, R> {
             self.new.core.rejected self.new.host_socket.device.device.faults self.new.refused))
             self.new.core.moment self.old.telling.causes self.new.telling.causes }
     {
-        // (a host has one port: each turn checks it, whether or not the wait said so)
+        // (a host has one port: each turn checks it, whether or not the wait reported it)
         self.host_socket.mark_all();
         let before = self.host_socket.device.filtered();
         let ran = turn(
@@ -285,7 +285,7 @@ impl<'a, R: Net + Log + Clock> RunningHost<'a, R> {
         activity_of(ran, kept)
     }
 
-    /// How often each problem happened.
+    /// Returns how often each problem happened.
     fn counts(&self) -> Counts
         ensures { result ≡ host_counts self.now.host_socket.device.kept self.now.core.rejected
             self.now.host_socket.device.device.faults self.now.refused }
@@ -298,13 +298,13 @@ impl<'a, R: Net + Log + Clock> RunningHost<'a, R> {
         }
     }
 
-    /// Waits until something may be done: a datagram was received, a watched descriptor is
-    /// readable, the endpoint has something to send, or so many milliseconds have passed.
+    /// Waits until there may be something to do. A datagram was received, a watched descriptor is
+    /// readable, the endpoint has something to send, or this many milliseconds have passed.
     pub fn wait(&mut self, most: u64) -> Result<(), WaitFault>
         ensures core { self.new.core ≡ self.old.core }
         ensures clock { self.new.clock ≡ self.old.clock }
         ensures host_socket { self.new.host_socket ≡ self.old.host_socket }
-        // The system is asked to wait so long, and until then no link has anything to do.
+        // The host asks the system to wait this long. No link has anything to do until then.
         ensures sleeps { (time : ℕ) × IsSleep self.old.core most time
             × (self.new.poller.asked ≡ Some time) }
     {

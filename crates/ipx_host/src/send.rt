@@ -43,7 +43,7 @@ fn send_opened<R: Net + Log + Clock + Eprint, I: Read>(
         last NeverGoesBack
         (peers_of s.station.host_socket.peers.items) s.id
         × (last.known ≡ I.remaining reader.new)) }
-    // If the opened host had read nothing, all is read.
+    // If the opened host had read nothing before, all of the input is read.
     ensures all { IfOk opened.entry (λ s. (s.input.read ≡ false) × (s.input.closed ≡ false)) → result ≡ 0
         → IsAtEnd (I.remaining reader.new) }
 {
@@ -53,8 +53,8 @@ fn send_opened<R: Net + Log + Clock + Eprint, I: Read>(
     }
 }
 
-/// Runs the host of a file that was loaded. If none was, the status is that of the fault, which is
-/// already printed.
+/// Runs the host of a file that was loaded. If loading failed, returns the status of the fault,
+/// which is already printed.
 fn send_loaded<R: Net + Log + Clock + Eprint, I: Read>(
     rt: &R,
     alloc: Global,
@@ -64,7 +64,7 @@ fn send_loaded<R: Net + Log + Clock + Eprint, I: Read>(
     reader: &mut I,
     shows: bool,
 ) -> u8
-    // If the address can't be reached from its host, that is printed, and nothing is read.
+    // If the host can't reach the address, that is printed, and nothing is read.
     ensures nowhere { IfOk loaded (λ file. is_nowhere file (peer_address_of file to) ≡ true
         → (result ≡ 2) × (reader.new ≡ reader.old)) }
     ensures status { IfOk loaded (λ file. is_nowhere file (peer_address_of file to) ≡ false
@@ -87,15 +87,15 @@ fn send_loaded<R: Net + Log + Clock + Eprint, I: Read>(
     send_opened(rt, alloc, path, opened, to, reader)
 }
 
-/// The command `send`: runs the host of a file, requests a connection to an address, sends what it
-/// reads, and then ends the connection. What one read gives, at most 65,535 bytes, is one message.
-/// While the input pauses, the connection stays. Network 0 is the host's own.
+/// Runs the command `send`. The host of the file requests a connection to an address, sends what it
+/// reads, and then ends the connection. The bytes of one read, at most 65,535, are one message.
+/// While the input pauses, the connection stays open. Network 0 is the host's own.
 ///
-/// It returns the status. It is 0 if the peer has acknowledged everything that was read, and the
-/// end after it. It is 1 if nobody answers, the connection is lost or ended by the peer, the input
+/// Returns the status. It is 0 if the peer has acknowledged everything that was read, and the end
+/// after it. It is 1 if nobody answers, the connection is lost or ended by the peer, the input
 /// fails, the socket can't be opened, or out of memory. It is 2 for a fault of the arguments or the
-/// file, or if the address can't be reached. Faults are printed as a line on standard error. With
-/// `shows` it also prints the progress there.
+/// file, or if the address can't be reached. Each fault is printed as a line on standard error.
+/// With `shows` the progress is printed there too.
 pub fn do_send<R: Net + Log + Files + Clock + Eprint, I: Read>(
     rt: &R,
     alloc: Global,
@@ -104,7 +104,7 @@ pub fn do_send<R: Net + Log + Files + Clock + Eprint, I: Read>(
     reader: &mut I,
     shows: bool,
 ) -> u8
-    // Arguments that name no address are reported, and nothing is read or bound.
+    // If the arguments name no address, that is reported, and nothing is read or bound.
     ensures words { ((a : Address) → NamesAddress target.entry a → ⊥)
         → (result ≡ 2) × (reader.new ≡ reader.old) }
     ensures few { result ≤ 2 }
@@ -114,8 +114,8 @@ pub fn do_send<R: Net + Log + Files + Clock + Eprint, I: Read>(
     // If it ends well, the reader has nothing left.
     ensures all { result ≡ 0 → IsAtEnd (I.remaining reader.new) }
     // Some text of a file describes a host that has sent all that the reader had to the address of
-    // the arguments. It did so in rounds, and the last one saw all of it acknowledged, and the end
-    // too.
+    // the arguments. It did so in rounds. In the last one the peer had acknowledged all of it, and
+    // the end too.
     ensures sent { result ≡ 0 → (text : List ℕ) × (file : HostConfig) × (to : Address)
         × IsFileText text × IsHostText text file × NamesAddress target.entry to
         × SendsWholeInput {K = SteadyClock R} file (peer_address_of file to)

@@ -37,16 +37,16 @@ impl SendOutcome {
     }
 }
 
-/// What the state of a link says about a transfer, if it is over. `whole` says whether the peer has
-/// acknowledged everything, and the end too. `joined` says whether the connection was ever open,
-/// and `waits` whether the rest may still be acknowledged.
+/// Returns the outcome of a transfer by the state of its link, if the transfer is over. `whole`
+/// says whether the peer has acknowledged everything, and the end too. `joined` says whether the
+/// connection was ever open, and `waits` whether the rest may still be acknowledged.
 pub fn verdict_of(
     state: Option<State>,
     whole: bool,
     joined: bool,
     waits: bool,
 ) -> Option<SendOutcome>
-    // Done exactly if the link is whole, and Ending, PeerEnded or Confirmed.
+    // It is done exactly if the link is whole, and Ending, PeerEnded or Confirmed.
     ensures done { (result ≡ Some Verdicts.Done) ↔ (IsTrue whole × IsClosing state) }
     ensures verdict { result ≡ verdict_at whole joined waits state }
 {
@@ -63,9 +63,9 @@ pub fn verdict_of(
     }
 }
 
-/// The outcome, with regard to whether the end is queued. A link is whole only if its end was
-/// queued, so this never changes an outcome. But it alone shows that a transfer is done only if all
-/// of the input is read.
+/// Returns this outcome, or `GivenUp` instead of `Done` if the end is not queued. A link is whole
+/// only if its end was queued, so this never changes an outcome. But only this check shows that a
+/// done transfer has read all of its input.
 pub fn ended_by(verdict: SendOutcome, closed: bool) -> SendOutcome
     ensures { result ≡ ended_at closed verdict }
 {

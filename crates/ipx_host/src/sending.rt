@@ -1,4 +1,4 @@
-//! A sending host: what it sees of its link after each turn, and how its transfer ends.
+//! A sending host: what it notes of its link after each turn, and how its transfer ends.
 
 ghost use Rattle.std.specs.Prelude.{◌≡◌, ◌<◌, ◌+◌, ◌↔◌, ◌⊎◌, ◌∷◌, [], ℕ, List, false, true, length, map, IfOk, IsTrue, Err, Ok, None, Option, Some};
 ghost use Rattle.std.specs.Io.KnownBytes.{IsAtEnd};
@@ -72,7 +72,7 @@ impl<'a, R: Clock> Drop for SendingHost<'a, R> {
 impl<'a, R: Net + Log + Clock + Eprint> SendingHost<'a, R> {
     ghost use Rattle.ipx_host.specs.Midway.{sending_at};
 
-    /// A host that requests a connection. Nothing was read yet, and nothing seen.
+    /// Opens a host that requests a connection. It has read nothing yet, and noted nothing.
     pub fn open(
         rt: &'a R,
         alloc: Global,
@@ -112,7 +112,7 @@ impl<'a, R: Net + Log + Clock + Eprint> SendingHost<'a, R> {
         ensures id { self.new.id ≡ self.old.id }
         ensures read { self.new.input.read ≡ self.old.input.read }
         ensures closed { self.new.input.closed ≡ self.old.input.closed }
-        // What the link acknowledges is counted.
+        // The units that the peer acknowledged are counted.
         ensures acked_bytes { EntersAcknowledged (held_at self.old.station.core.endpoint self.old.id)
             self.old.input.acked_bytes self.new.input.acked_bytes }
         ensures joined { self.new.joined ≡ joined_at self.old.joined result }
@@ -134,7 +134,7 @@ impl<'a, R: Net + Log + Clock + Eprint> SendingHost<'a, R> {
         state
     }
 
-    /// Whether the peer has acknowledged everything, and the end too.
+    /// Returns whether the peer has acknowledged everything, and the end too.
     fn is_all_acked(&self) -> bool
         ensures { IsTrue result ↔ IsWholeAt self.now.station.core.endpoint self.now.id }
     {
@@ -142,7 +142,7 @@ impl<'a, R: Net + Log + Clock + Eprint> SendingHost<'a, R> {
         endpoint.is_all_acked(self.id).unwrap_or(false)
     }
 
-    /// Whether the rest may still be acknowledged after the peer ended the connection.
+    /// Returns whether the rest may still be acknowledged after the peer ended the connection.
     fn waits(&self) -> bool
         ensures { IsTrue result
             ↔ IsWaiting self.now.input.closed self.now.left self.now.station.core.moment }
@@ -175,11 +175,11 @@ impl<'a, R: Net + Log + Clock + Eprint> SendingHost<'a, R> {
 
     /// Takes a turn, and reads. Returns whether there may be more to do at once.
     fn step<I: Read>(&mut self, rt: &R, alloc: Global, reader: &mut I) -> Result<bool, SendOutcome>
-        // After a filtered datagram more may be waiting.
+        // More may be waiting after a filtered datagram.
         ensures kept { drops_in self.old.station.host_socket.device.kept
             < drops_in self.new.station.host_socket.device.kept → IfOk result IsTrue }
         ensures id { self.new.id ≡ self.old.id }
-        // It notes, judges and feeds by the state that the turn left.
+        // The host notes, judges and feeds by the state after the turn.
         ensures steps { IsSendStep IsFeedFault (sending_at self.old (I.remaining reader.old))
             (sending_at self.new (I.remaining reader.new))
             result NeverGoesBack (peers_of self.old.station.host_socket.peers.items) self.old.id }
@@ -189,7 +189,7 @@ impl<'a, R: Net + Log + Clock + Eprint> SendingHost<'a, R> {
         ensures poller { self.new.station.poller ≡ self.old.station.poller }
         ensures done { result ≡ Err Verdicts.Done
             → IsWholeAt self.new.station.core.endpoint self.new.id }
-        // Then all is read, and the end is queued.
+        // If the transfer is done, all of the input is read, and the end is queued.
         ensures ended { result ≡ Err Verdicts.Done
             → (self.new.input.closed ≡ true) × (self.new.input.read ≡ true) }
         ensures unanswered { result ≡ Err Verdicts.Unanswered → self.new.joined ≡ false }
@@ -207,7 +207,7 @@ impl<'a, R: Net + Log + Clock + Eprint> SendingHost<'a, R> {
         Ok(turn.active | fed)
     }
 
-    /// The longest wait, in milliseconds.
+    /// Returns the longest wait, in milliseconds.
     fn longest(&self) -> u64
         ensures { result ≡ longest_wait self.now.shows self.now.left }
     {
@@ -225,25 +225,25 @@ impl<'a, R: Net + Log + Clock + Eprint> SendingHost<'a, R> {
         alloc: Global,
         reader: &mut I,
     ) -> Result<(), SendOutcome>
-        // After a filtered datagram more may be waiting, so it does not wait.
+        // More may be waiting after a filtered datagram, so the host does not wait.
         ensures kept { drops_in self.old.station.host_socket.device.kept
             < drops_in self.new.station.host_socket.device.kept →
             self.new.station.poller.asked ≡ self.old.station.poller.asked }
         ensures id { self.new.id ≡ self.old.id }
-        // It notes, judges and feeds by the state that the turn left.
+        // The host notes, judges and feeds by the state after the turn.
         ensures steps { IsSendStep IsStepFault (sending_at self.old (I.remaining reader.old))
             (sending_at self.new (I.remaining reader.new))
             result NeverGoesBack (peers_of self.old.station.host_socket.peers.items) self.old.id }
         ensures peers { self.new.station.host_socket.peers ≡ self.old.station.host_socket.peers }
         ensures access { map access_by self.new.station.host_socket.device.access_lists.items
             ≡ map access_by self.old.station.host_socket.device.access_lists.items }
-        // It waits only as long as no link has anything to do. It waits at most a second if it
+        // The host waits only while no link has anything to do. It waits at most a second if it
         // prints the progress, or if the peer's end was seen.
         ensures waits { MayWait self.new.shows self.new.left self.new.station.core
             self.old.station.poller.asked self.new.station.poller.asked }
         ensures done { result ≡ Err Verdicts.Done
             → IsWholeAt self.new.station.core.endpoint self.new.id }
-        // Then all is read, and the end is queued.
+        // If the transfer is done, all of the input is read, and the end is queued.
         ensures ended { result ≡ Err Verdicts.Done
             → (self.new.input.closed ≡ true) × (self.new.input.read ≡ true) }
         ensures unanswered { result ≡ Err Verdicts.Unanswered → self.new.joined ≡ false }
@@ -261,18 +261,19 @@ impl<'a, R: Net + Log + Clock + Eprint> SendingHost<'a, R> {
     /// Runs until the transfer is over.
     fn serve<I: Read>(&mut self, rt: &R, alloc: Global, reader: &mut I) -> SendOutcome
         ensures id { self.new.id ≡ self.old.id }
-        // In each round, what left the reader was queued, in order, one body after another.
+        // If the transfer is done, each round queued the bytes that left the reader, in order, one
+        // body after another.
         ensures fed { result ≡ Verdicts.Done → Transfers
             (sending_at self.old (I.remaining reader.old))
             (sending_at self.new (I.remaining reader.new))
             NeverGoesBack (peers_of self.old.station.host_socket.peers.items) self.old.id }
-        // And the reader has nothing left.
+        // If the transfer is done, the reader has nothing left.
         ensures all { result ≡ Verdicts.Done → (self.old.input.read ≡ true → IsAtEnd (I.remaining reader.old))
             → IsAtEnd (I.remaining reader.new) }
         ensures done { result ≡ Verdicts.Done
             → IsWholeAt self.new.station.core.endpoint self.new.id }
         ensures unanswered { result ≡ Verdicts.Unanswered → self.new.joined ≡ false }
-        // Any outcome is that of a step after some rounds, or the rounds never end.
+        // Any outcome comes from a step after some rounds, or the rounds never end.
         ensures ends { EndsWith (sending_at self.old (I.remaining reader.old))
             (sending_at self.new (I.remaining reader.new))
             result NeverGoesBack (peers_of self.old.station.host_socket.peers.items) self.old.id
@@ -288,7 +289,7 @@ impl<'a, R: Net + Log + Clock + Eprint> SendingHost<'a, R> {
         SendOutcome::GivenUp
     }
 
-    /// Prints how a transfer ended. If all went well, it prints only with `shows`.
+    /// Prints how a transfer ended. If it ended well, prints only with `shows`.
     fn tell(&self, rt: &R, to: Address, verdict: SendOutcome) {
         let given = self.input.acked_bytes.given();
         let acknowledged = self.input.acked_bytes.acknowledged();
@@ -307,17 +308,18 @@ impl<'a, R: Net + Log + Clock + Eprint> SendingHost<'a, R> {
         let _ = eprintln!(rt; "{what}: {acknowledged} of {given} bytes acknowledged");
     }
 
-    /// Runs until the transfer is over, prints how it ended, and returns the status: 0 only if the
-    /// peer has acknowledged everything, and the end too.
+    /// Runs until the transfer is over, prints how it ended, and returns the status. The status is
+    /// 0 only if the peer has acknowledged everything, and the end too.
     pub fn finish<I: Read>(&mut self, rt: &R, alloc: Global, to: Address, reader: &mut I) -> u8
         ensures id { self.new.id ≡ self.old.id }
         ensures status { result < 2 }
         ensures done { result ≡ 0 → IsWholeAt self.new.station.core.endpoint self.new.id }
-        // Then, in each round, what left the reader was queued, in order, one body after another.
+        // If the transfer is done, each round queued the bytes that left the reader, in order, one
+        // body after another.
         ensures fed { result ≡ 0 → Transfers (sending_at self.old (I.remaining reader.old))
             (sending_at self.new (I.remaining reader.new))
             NeverGoesBack (peers_of self.old.station.host_socket.peers.items) self.old.id }
-        // And the reader has nothing left.
+        // If the transfer is done, the reader has nothing left.
         ensures all { result ≡ 0 → (self.old.input.read ≡ true → IsAtEnd (I.remaining reader.old))
             → IsAtEnd (I.remaining reader.new) }
     {

@@ -20,7 +20,7 @@ pub enum StartFault {
     Bind(BindError),
     /// The system has no way to wait.
     Wait,
-    /// The system does not tell the time.
+    /// The system can't report the time.
     Clock,
     /// Standard input, output or error is closed.
     Closed,

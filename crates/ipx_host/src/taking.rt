@@ -1,4 +1,4 @@
-//! What a host that listens takes of its connections, on its way to the output.
+//! What a listening host takes from its connections for the output.
 
 ghost use Rattle.std.specs.Prelude.{◌≡◌, ◌<◌, [], ℕ, take, false, length, IfSome, IsTrue, None, OnErr, OnOk, Err, Ok};
 ghost use Rattle.spx_messages.specs.EndpointView.{held_at};
@@ -13,10 +13,10 @@ use spx_messages::{EndFault, Endpoint, Message, MessageFault, Taken};
 use std::alloc::Global;
 use std::io::Write;
 
-/// The most units that are taken of a connection before the network is asked again.
+/// The most units that are taken from a connection before the next turn of the network.
 const MAX_TAKES: u32 = 256;
 
-/// Takes one unit of a connection, which may end a message. It answers whether there was one.
+/// Takes one unit from a connection. The unit may end a message. Returns whether there was one.
 fn take_next(
     alloc: Global,
     endpoint: &mut Endpoint,
@@ -27,7 +27,7 @@ fn take_next(
         endpoint.old endpoint.new output.old output.new session.old session.new) }
     ensures nothing { result ≡ false → TakesNothing
         endpoint.old endpoint.new output.old output.new session.old session.new }
-    // No want of memory holds up the end of the peer.
+    // The end of the peer can be taken even if out of memory.
     ensures ends { IfSome (held_at endpoint.old session.old.id) (λ h.
         (take_end h).0 ≡ Ok TheEnd → IsTrue result) }
     ensures unknown { held_at endpoint.old session.old.id ≡ None → result ≡ false }
@@ -48,8 +48,8 @@ fn take_next(
     }
 }
 
-/// Takes what a connection that was heard holds, and writes each message. It stops where one can't
-/// be written without waiting. It answers whether it took anything.
+/// Takes what a connection holds, if it was heard from, and writes each message. It stops if a
+/// message can't be written without blocking. Returns whether it took anything.
 fn take_some<W: Write>(
     alloc: Global,
     endpoint: &mut Endpoint,
@@ -57,15 +57,16 @@ fn take_some<W: Write>(
     session: &mut Session,
     writer: &mut W,
 ) -> Result<bool, WriteFault>
-    // What was left to write, and then the bodies of the messages that were taken, are what the
-    // writer took, and then what is left to write; where the writer fails, too.
+    // The bytes that were left to write are written first, and then the bodies of the taken
+    // messages. The writer took the first of these bytes, and the rest is left to write. This also
+    // holds if the writer fails.
     ensures passes { IfSome (held_at endpoint.old session.old.id) (λ h.
         PassesHeld h (held_at endpoint.new session.old.id) (left_of output.old) (left_of output.new)
         (W.contents writer.old) (W.contents writer.new)) }
     ensures one { PassesOne endpoint.old endpoint.new (left_of output.old) (left_of output.new)
         (W.contents writer.old) (W.contents writer.new) session.old session.new }
     ensures id { session.new.id ≡ session.old.id }
-    // Where it took nothing, all that is held is as it was.
+    // If nothing was taken, everything that is held is unchanged.
     ensures still { result ≡ Ok false
         → (id : ℕ) → held_at endpoint.new id ≡ held_at endpoint.old id }
 {
@@ -106,9 +107,9 @@ fn take_from_first<W: Write>(
     took
 }
 
-/// Takes from each connection, in their order, until something is left to write. Those that had their
-/// turn move to the end of the list, so that the next call begins with the one after them. Returns
-/// whether there was anything.
+/// Takes from each connection in order, until something is left to write. The connections that had
+/// their turn move to the end of the list, so the next call begins with the one after them. Returns
+/// whether it took anything.
 pub fn take_each<W: Write>(
     alloc: Global,
     endpoint: &mut Endpoint,
@@ -119,7 +120,7 @@ pub fn take_each<W: Write>(
     ensures all { OnOk result (PassesUntilFull endpoint.old endpoint.new (left_of output.old)
         (left_of output.new) (W.contents writer.old) (W.contents writer.new)
         sessions.old sessions.new) }
-    // Where the writer fails, so it is of the first ones, and the others are as they were.
+    // If the writer fails, this holds for the first connections, and the others are unchanged.
     ensures some { OnErr result (PassesSome endpoint.old endpoint.new (left_of output.old)
         (left_of output.new) (W.contents writer.old) (W.contents writer.new)
         sessions.old sessions.new) }

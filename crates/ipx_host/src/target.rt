@@ -22,7 +22,7 @@ pub enum TargetFault {
     Socket,
 }
 
-/// One line, without its newline.
+/// Formats one line, without its newline.
 impl fmt::Display for TargetFault {
     fn fmt<W: fmt::Write>(&self, f: &mut fmt::Formatter<W>) -> fmt::Result {
         f.write_str(match self {
@@ -34,7 +34,7 @@ impl fmt::Display for TargetFault {
 }
 
 impl Target<'_> {
-    /// The address: eight, twelve and four hex digits, and nothing else.
+    /// Parses the address. It is eight, twelve and four hex digits, and nothing else.
     pub fn address(&self) -> Result<Address, TargetFault>
         ensures named { IfOk result (NamesAddress self.now) }
         ensures fault { IfErr result (IsTargetFault self.now) }

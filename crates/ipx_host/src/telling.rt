@@ -17,7 +17,7 @@ pub struct Counts {
     pub rejected: u64,
     /// Datagrams that the system refused.
     pub system: u64,
-    /// How often it was out of memory, in a turn or when a connection was to be probed.
+    /// How often the host ran out of memory, in a turn or when a connection was to be probed.
     pub memory: u64,
 }
 
@@ -49,7 +49,7 @@ fn warnings_in(counts: Counts) -> [Warning; CAUSES]
 }
 
 impl Telling {
-    /// Nothing was reported yet.
+    /// Creates warnings of which none was reported yet.
     pub fn new() -> Telling
         ensures { result.causes ≡ replicate 6 untold }
     {

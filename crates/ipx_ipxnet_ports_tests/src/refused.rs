@@ -112,8 +112,8 @@ fn refused_relays(rt: HostRuntime) -> Result<(), Fail> {
         // One did not come: the first one's registration, without which its packet is an unknown
         // sender's, or another.
         assert_eq!(rt; (servers.filtered(), failures), (3, 1));
-        let strangers = servers.servers()[0].counts().unregistered;
-        assert_eq!(rt; went as u64 + strangers, 3);
+        let unregistered = servers.servers()[0].counts().unregistered;
+        assert_eq!(rt; went as u64 + unregistered, 3);
     }
     let sent = servers.send(0, Node::BROADCAST, &CAME);
     assert!(rt; matches!(sent, Ok(PacketSent::Transmitted(1))));

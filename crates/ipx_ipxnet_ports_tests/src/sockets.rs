@@ -114,7 +114,7 @@ fn players_over_sockets(rt: HostRuntime) -> Result<(), Fail> {
     let alloc = rt.alloc();
     let mut first = bound(&rt, alloc, FIRST)?;
     let mut second = bound(&rt, alloc, SECOND)?;
-    let mut stranger = bound(&rt, alloc, UNKNOWN_SENDER)?;
+    let mut unknown = bound(&rt, alloc, UNKNOWN_SENDER)?;
     let mut servers = servers(alloc, bound(&rt, alloc, AT)?)?;
     let mut room = [0; 1536];
     // Both players register, and each is answered.
@@ -131,7 +131,7 @@ fn players_over_sockets(rt: HostRuntime) -> Result<(), Fail> {
     assert_eq!(rt; &room[10..16], [0x7f, 0, 0, 0x2c, 0x51, 0xc4].as_slice());
     // What the first one sends to all arrives at the second, and what an unknown sender sends
     // arrives nowhere.
-    assert!(rt; stranger.send(0, AT, &TO_ALL).is_ok());
+    assert!(rt; unknown.send(0, AT, &TO_ALL).is_ok());
     assert!(rt; next_packet(&mut servers, &mut room)? == None);
     assert_eq!(rt; servers.filtered(), 3);
     assert!(rt; first.send(0, AT, &TO_ALL).is_ok());
@@ -154,7 +154,7 @@ fn players_over_sockets(rt: HostRuntime) -> Result<(), Fail> {
     // Nothing else arrived anywhere.
     assert!(rt; first.receive(0, &mut room)? == None);
     assert!(rt; second.receive(0, &mut room)? == None);
-    assert!(rt; stranger.receive(0, &mut room)? == None);
+    assert!(rt; unknown.receive(0, &mut room)? == None);
     assert_eq!(rt; servers.filtered(), 4);
     assert_eq!(rt; servers.sockets().sent(), 4);
     assert_eq!(rt; servers.sockets().failures(), 0);
@@ -275,7 +275,7 @@ fn a_datagram_that_the_system_refuses(rt: HostRuntime) -> Result<(), Fail> {
 }
 
 #[test]
-fn a_lobbys_place_in_use_is_refused(rt: HostRuntime) -> Result<(), Fail> {
+fn a_servers_place_in_use_is_refused(rt: HostRuntime) -> Result<(), Fail> {
     let alloc = rt.alloc();
     let mut sockets = bound(&rt, alloc, place(20_936))?;
     assert!(rt; sockets.bind(&rt, place(20_936), None).is_err());

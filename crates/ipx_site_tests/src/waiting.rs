@@ -94,9 +94,9 @@ fn tells_that_something_came(rt: HostRuntime) -> Result<(), Fail> {
 fn a_batch_ends_quietly(rt: HostRuntime) -> Result<(), Fail> {
     let alloc = rt.alloc();
     let mut peer = socket(&rt, 4)?;
-    let mut stranger = socket(&rt, 5)?;
+    let mut unknown = socket(&rt, 5)?;
     let mut device = guarded(alloc, socket(&rt, 3)?)?;
-    send(&mut stranger, 3)?;
+    send(&mut unknown, 3)?;
     send(&mut peer, 3)?;
     let peers = vec![in alloc; Vec::new(alloc)]?;
     let mut clock = SteadyClock::new(&rt)?;
