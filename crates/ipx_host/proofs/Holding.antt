@@ -8,7 +8,7 @@ use Rattle.std.proofs.lemmas.List.Folds.{list_any-append}
 use Rattle.std.proofs.lemmas.List.Quantifiers.{position-Some}
 use Rattle.std.proofs.lemmas.Option.{get_or_from_slice_get, same_Some, slice_get-get_or}
 use Rattle.std.specs.List.{list_any, position, position_from}
-use Rattle.std.specs.Prelude.{All, IfSome, IsTrue, MatchOption, OnErr, OnOk, if◌then◌else◌, is_some, remove}
+use Rattle.std.specs.Prelude.{All, IfSome, IsTrue, MatchOption, OnErr, OnOk, if◌then◌else◌, remove}
 use Rattle.spx_link.specs.declared.state.State.{State}
 use Rattle.spx_messages.specs.EndpointView.{EndpointView, Held, held_at}
 use Rattle.spx_messages.specs.Taking.{TakenView, Nothing, Part, PeerEnd, Whole, take_end}
@@ -511,26 +511,22 @@ keeps_admitted once cs cs' left c old new called (inl p) keeps =
 keeps_admitted once cs cs' left c old new called (inr p) keeps = subst (λ (l : List Session). KeepsOne once l left) (sym p.1) keeps
 
 -- the place of a connection that is evicted is one of the list
-freed_by : (once some : Bool) (now : ℕ) (own : Network) (cs : List Session) (place : ℕ) (d : Session)
-    → (if once || some then position (is_overdue now) cs else position (is_to_go own now cs) cs) ≡ Some place → place < length cs
-freed_by true some now own cs place d is = (position-Some (is_overdue now) cs place d is).0
-freed_by false true now own cs place d is = (position-Some (is_overdue now) cs place d is).0
-freed_by false false now own cs place d is = (position-Some (is_to_go own now cs) cs place d is).0
+freed_by : (of : Bool) (e : EndpointView) (now : ℕ) (own : Network) (cs : List Session) (place : ℕ) (d : Session)
+    → (if of then position (is_overdue now) cs else position (is_to_go own e now cs) cs) ≡ Some place → place < length cs
+freed_by true e now own cs place d is = (position-Some (is_overdue now) cs place d is).0
+freed_by false e now own cs place d is = (position-Some (is_to_go own e now cs) cs place d is).0
 
-pub freed_there : (once : Bool) (now : ℕ) (own : Network) (cs : List Session) (place : ℕ) (d : Session) → place_to_free once own now cs ≡ Some place → place < length cs
-freed_there once now own cs place d is = freed_by once (is_some (position (is_overdue now) cs)) now own cs place d is
-
-room_kept : (once : Bool) (now : ℕ) (cs cs' : List Session) (left : List ℕ) (old new : EndpointView) (found : Option ℕ) → place_to_free once old.network now cs ≡ found → KeepsOne once cs left
+room_kept : (once : Bool) (now : ℕ) (cs cs' : List Session) (left : List ℕ) (old new : EndpointView) (found : Option ℕ) → place_to_free once old.network old now cs ≡ found → KeepsOne once cs left
     → MatchOption found ((cs' ≡ cs) × (new ≡ old)) (λ place. (cs' ≡ remove cs place) × IfSome (slice_get cs place) (λ c. LetsLinkGo old new c.id)) → KeepsOne once cs' left
 room_kept once now cs cs' left old new None is keeps k = subst (λ (l : List Session). KeepsOne once l left) (sym k.0) keeps
 room_kept true now [] cs' left old new (Some place) is keeps k = absurd (cc)
 room_kept false now [] cs' left old new (Some place) is keeps k = absurd (cc)
 room_kept once now (d ∷ ds) cs' left old new (Some place) is keeps k =
     subst (λ (l : List Session). KeepsOne once l left) (sym k.0)
-    (keeps_removed once (d ∷ ds) left place (freed_there once now old.network (d ∷ ds) place d is) keeps)
+    (keeps_removed once (d ∷ ds) left place (freed_by (once || list_any (λ (c : Session). is_unheard c.phase) (d ∷ ds)) old now old.network (d ∷ ds) place d is) keeps)
 
 pub keeps_room : (once : Bool) (now : ℕ) (cs cs' : List Session) (left : List ℕ) (old new : EndpointView) → MakesSpace once now old new cs cs' → KeepsOne once cs left → KeepsOne once cs' left
-keeps_room once now cs cs' left old new k keeps = room_kept once now cs cs' left old new (place_to_free once old.network now cs) refl keeps k
+keeps_room once now cs cs' left old new k keeps = room_kept once now cs cs' left old new (place_to_free once old.network old now cs) refl keeps k
 
 pub keeps_asks : (once : Bool) (cs : List Session) (left : List ℕ) (place : ℕ) (c' d : Session) (now : ℕ) (old new : EndpointView) → place < length cs → IsAsked now old new (get_or cs place d) c'
     → KeepsOne once cs left → KeepsOne once (set cs place c') left

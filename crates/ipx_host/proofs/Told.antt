@@ -5,7 +5,7 @@ use Rattle.spx_link.specs.declared.numbers.Numbers.{Numbers}
 use Rattle.spx_link.specs.declared.outgoing.Sent.{Sent}
 use Rattle.spx_link.specs.declared.received.Received.{Received}
 use Rattle.spx_link.specs.declared.received.Received.TheVariants.{Stranger}
-use Rattle.spx_messages.specs.EndpointView.{EndpointView, Held, held_at}
+use Rattle.spx_messages.specs.EndpointView.{EndpointView, Held}
 use Rattle.spx_messages.specs.declared.arrived.Arrived.{Arrived}
 use Rattle.spx_messages.specs.declared.arrived.Arrived.TheVariants.{Link}
 use Rattle.spx_messages.specs.declared.fault.EndFault.{EndFault}

@@ -7,6 +7,7 @@ use Rattle.std.specs.Coded.{Unit-prop}
 use Rattle.std.proofs.Props.{props}
 use Rattle.spx_link.specs.Offer.{offer_link}
 use Rattle.spx_link.specs.declared.fault.OfferFault.TheVariants as OfferFaults
+use Rattle.spx_link.specs.declared.state.State.{State}
 use Rattle.spx_link.specs.declared.state.State.TheVariants as States
 use Rattle.spx_messages.specs.declared.message_fault.MessageFault.TheVariants as MessageFaults
 use Rattle.spx_messages.specs.declared.fault.EndFault.{EndFault}
@@ -18,6 +19,7 @@ use Rattle.ipx_carrier.specs.Counting.{raised}
 use Rattle.ipx_site.specs.AllowedPeers.{home_network}
 use Rattle.ipx_wire.specs.declared.address.Address.{Address}
 use Rattle.ipx_wire.specs.declared.address.Network.{Network}
+use Rattle.ipx_host.specs.Transfer.{state_at}
 use Rattle.ipx_host.specs.SessionActions.{ends, is_unheard, phase_asked, phase_heard}
 use Rattle.ipx_host.specs.declared.sessions.Session.{Session}
 use Rattle.ipx_host.specs.declared.sessions.Phase.TheVariants as Standings
@@ -94,31 +96,47 @@ KeepsHeard true old new sessions sessions' = MatchOption (position has_spoken se
 abbrev pub is_overdue : ℕ → Session → Bool
 is_overdue now c = is_unheard c.phase && nat_le 1000 (now - c.heard)
 
--- nothing was received on a connection for ten seconds
+-- nothing was received on a connection for ten seconds, or it could not be probed so long ago
 abbrev pub is_silent : ℕ → Session → Bool
 is_silent now c = nat_le 10000 (now - c.heard)
 
--- a connection goes before another if its node has more connections, or as many and it was silent for longer
-abbrev pub goes_before : Network → List Session → Session → Session → Bool
-goes_before own sessions d c =
+-- a link in this state is Live: its peer has not ended
+abbrev pub is_live : Option State → Bool
+is_live None = false
+is_live (Some States.Opening) = false
+is_live (Some States.Live) = true
+is_live (Some States.Ending) = false
+is_live (Some States.PeerEnded) = false
+is_live (Some States.Confirmed) = false
+is_live (Some States.Lost) = false
+
+-- a connection may be evicted if it is silent and its peer has not ended
+abbrev pub may_go : EndpointView → ℕ → Session → Bool
+may_go e now c = is_silent now c && is_live (state_at e c.id)
+
+-- a connection goes before another if its node has more connections, or as many, and it may be evicted and
+-- was silent for longer
+abbrev pub goes_before : Network → EndpointView → ℕ → List Session → Session → Session → Bool
+goes_before own e now sessions d c =
     let of_d = count_by (is_of_node own d.from) sessions in
     let of_c = count_by (is_of_node own c.from) sessions in
-    nat_lt of_c of_d || (of_d == of_c && nat_lt d.heard c.heard)
+    nat_lt of_c of_d || (of_d == of_c && may_go e now d && nat_lt d.heard c.heard)
 
--- a connection is silent, and no other goes before it: none belongs to a node with more connections
-abbrev pub is_to_go : Network → ℕ → List Session → Session → Bool
-is_to_go own now sessions c = is_silent now c && not (list_any (λ d. goes_before own sessions d c) sessions)
+-- a connection may be evicted, and no other goes before it: no node has more connections than its node
+abbrev pub is_to_go : Network → EndpointView → ℕ → List Session → Session → Bool
+is_to_go own e now sessions c =
+    may_go e now c && not (list_any (λ d. goes_before own e now sessions d c) sessions)
 
--- the connection that is evicted for a new request: the first overdue one, or else, without `once`, a silent
--- one of the node with the most connections
-abbrev pub place_to_free : Bool → Network → ℕ → List Session → Option ℕ
-place_to_free once own now sessions =
-    let overdue = position (is_overdue now) sessions in
-    if once || is_some overdue then overdue else position (is_to_go own now sessions) sessions
+-- the connection that is evicted for a new request: the first overdue one, or if each was heard from, and
+-- without `once`, a silent one of a node with the most connections
+abbrev pub place_to_free : Bool → Network → EndpointView → ℕ → List Session → Option ℕ
+place_to_free once own e now sessions =
+    if once || list_any (λ c. is_unheard c.phase) sessions then position (is_overdue now) sessions
+    else position (is_to_go own e now sessions) sessions
 
 -- there was no link for a new request: a connection is evicted and its link released, if there is one to evict
 abbrev pub MakesSpace : Bool → ℕ → EndpointView → EndpointView → List Session → List Session → Type 0
-MakesSpace once now old new sessions sessions' = MatchOption (place_to_free once old.network now sessions)
+MakesSpace once now old new sessions sessions' = MatchOption (place_to_free once old.network old now sessions)
     ((sessions' ≡ sessions) × (new ≡ old))
     (λ place. (sessions' ≡ remove sessions place)
     × IfSome (slice_get sessions place) (λ c. LetsLinkGo old new c.id))
@@ -127,9 +145,9 @@ MakesSpace once now old new sessions sessions' = MatchOption (place_to_free once
 abbrev pub raised_if : Bool → ℕ → ℕ
 raised_if more n = if more then raised n else n
 
--- a silent connection is evicted: it was not the first overdue one
-abbrev pub is_silent_evicted : Bool → Network → ℕ → List Session → Bool
-is_silent_evicted once own now sessions = is_some (place_to_free once own now sessions)
+-- a connection that was heard from is evicted
+abbrev pub is_silent_evicted : Bool → Network → EndpointView → ℕ → List Session → Bool
+is_silent_evicted once own e now sessions = is_some (place_to_free once own e now sessions)
     && not (is_some (position (is_overdue now) sessions))
 
 -- a request is counted exactly if there is no slot for its connection

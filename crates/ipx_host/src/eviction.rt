@@ -3,11 +3,12 @@
 
 ghost use Rattle.std.specs.Prelude.{◌≡◌, ◌↔◌, ◌<◌, ◌≤◌, true, count_by, is_some, length, map, position, vec_capacity, IfSome, IsTrue};
 ghost use Rattle.std.specs.List.{list_any};
-ghost use Rattle.ipx_host.specs.Sessions.{Admits, Asks, IsAskedUnless, HasNoPlaceFor, IsOutOfMemory, KeepsHeard, LetsLinkGo, LetsLinksGo, MakesSpace, goes_before, heard_by, has_spoken, is_of_node, is_overdue, is_to_go, is_unheard_of, place_to_free, raised_if};
+ghost use Rattle.ipx_host.specs.SessionActions.{is_unheard};
+ghost use Rattle.ipx_host.specs.Sessions.{Admits, Asks, IsAskedUnless, HasNoPlaceFor, IsOutOfMemory, KeepsHeard, LetsLinkGo, LetsLinksGo, MakesSpace, goes_before, heard_by, has_spoken, is_of_node, is_overdue, is_to_go, is_unheard_of, may_go, place_to_free, raised_if};
 
 use crate::sessions::{Session, hear_one};
 use ipx_wire::{Address, Network};
-use spx_link::OfferFault;
+use spx_link::{OfferFault, State};
 use spx_messages::{EndFault, Endpoint, Message, MessageFault};
 use std::alloc::Global;
 
@@ -123,62 +124,107 @@ pub fn place_of_overdue(sessions: &[Session], moment: u64) -> Option<usize>
         .position(|session| session.is_overdue(moment))
 }
 
-/// Whether a connection goes before another: its node has more connections, or as many and it was
-/// silent for longer.
-fn goes_before(own: Network, sessions: &[Session], session: &Session, other: &Session) -> bool
-    ensures { result ≡ goes_before own sessions.now session.now other.now }
+/// Whether a connection was not heard from.
+fn is_any_unheard(sessions: &[Session]) -> bool
+    ensures { result ≡ list_any (λ c. is_unheard c.phase) sessions.now }
+{
+    sessions.iter().any(|session| session.phase.is_unheard())
+}
+
+/// Whether a connection may be evicted: it is silent, and its peer has not ended. What a peer sent
+/// before its end is kept until it is taken.
+fn may_go(endpoint: &Endpoint, session: &Session, moment: u64) -> bool
+    ensures { result ≡ may_go endpoint.now moment session.now }
+{
+    session.is_silent(moment) && endpoint.state(session.id) == Ok(State::Live)
+}
+
+/// Whether a connection goes before another: its node has more connections, or as many, and it may
+/// be evicted and was silent for longer.
+fn goes_before(
+    own: Network,
+    endpoint: &Endpoint,
+    sessions: &[Session],
+    moment: u64,
+    session: &Session,
+    other: &Session,
+) -> bool
+    ensures { result
+        ≡ goes_before own endpoint.now moment sessions.now session.now other.now }
 {
     let count = count_of_node(sessions, own, &session.from);
     let others = count_of_node(sessions, own, &other.from);
-    count > others || (count == others && session.heard < other.heard)
+    let may_go = may_go(endpoint, session, moment);
+    count > others || (count == others && may_go && session.heard < other.heard)
 }
 
 /// Whether another connection goes before this one.
-fn goes_any_before(own: Network, sessions: &[Session], session: &Session) -> bool
-    ensures { result ≡ list_any (λ d. goes_before own sessions.now d session.now) sessions.now }
+fn goes_any_before(
+    own: Network,
+    endpoint: &Endpoint,
+    sessions: &[Session],
+    moment: u64,
+    session: &Session,
+) -> bool
+    ensures { result ≡ list_any
+        (λ d. goes_before own endpoint.now moment sessions.now d session.now) sessions.now }
 {
-    sessions
-        .iter()
-        .any(|other| goes_before(own, sessions, other, session))
+    sessions.iter().any(|other| goes_before(own, endpoint, sessions, moment, other, session))
 }
 
-/// Whether a connection is silent, and no other goes before it.
-fn is_to_go(own: Network, sessions: &[Session], session: &Session, moment: u64) -> bool
-    ensures { result ≡ is_to_go own moment sessions.now session.now }
+/// Whether a connection may be evicted, and no other goes before it.
+fn is_to_go(
+    own: Network,
+    endpoint: &Endpoint,
+    sessions: &[Session],
+    moment: u64,
+    session: &Session,
+) -> bool
+    ensures { result ≡ is_to_go own endpoint.now moment sessions.now session.now }
 {
-    session.is_silent(moment) && !goes_any_before(own, sessions, session)
+    may_go(endpoint, session, moment) && !goes_any_before(own, endpoint, sessions, moment, session)
 }
 
 /// The place of the silent connection that is evicted, if there is one.
-fn place_of_silent(own: Network, sessions: &[Session], moment: u64) -> Option<usize>
-    ensures place { result ≡ position (is_to_go own moment sessions.now) sessions.now }
+fn place_of_silent(
+    own: Network,
+    endpoint: &Endpoint,
+    sessions: &[Session],
+    moment: u64,
+) -> Option<usize>
+    ensures place { result
+        ≡ position (is_to_go own endpoint.now moment sessions.now) sessions.now }
     ensures there { IfSome result (λ place. place < length sessions.now) }
 {
-    sessions
-        .iter()
-        .position(|session| is_to_go(own, sessions, session, moment))
+    sessions.iter().position(|session| is_to_go(own, endpoint, sessions, moment, session))
 }
 
-/// The place of the connection that is evicted for a new request: the first overdue one, or else,
-/// without `once`, a silent one of the node with the most connections.
-fn place_to_evict(once: bool, own: Network, sessions: &[Session], moment: u64) -> Option<usize>
-    ensures place { result ≡ place_to_free once own moment sessions.now }
+/// The place of the connection that is evicted for a new request: the first overdue one, or if each
+/// was heard from, and without `once`, a silent one of a node with the most connections.
+fn place_to_evict(
+    once: bool,
+    own: Network,
+    endpoint: &Endpoint,
+    sessions: &[Session],
+    moment: u64,
+) -> Option<usize>
+    ensures place { result ≡ place_to_free once own endpoint.now moment sessions.now }
     ensures there { IfSome result (λ place. place < length sessions.now) }
 {
-    let overdue = place_of_overdue(sessions, moment);
-    if once || overdue.is_some() {
-        overdue
+    if once || is_any_unheard(sessions) {
+        place_of_overdue(sessions, moment)
     } else {
-        place_of_silent(own, sessions, moment)
+        place_of_silent(own, endpoint, sessions, moment)
     }
 }
 
-/// The same for the host of an endpoint.
+/// The same for the network of the endpoint.
 fn place_in(once: bool, endpoint: &Endpoint, sessions: &[Session], moment: u64) -> Option<usize>
-    ensures place { result ≡ place_to_free once endpoint.now.network moment sessions.now }
+    ensures place { result
+        ≡ place_to_free once endpoint.now.network endpoint.now moment sessions.now }
     ensures there { IfSome result (λ place. place < length sessions.now) }
 {
-    place_to_evict(once, endpoint.network(), sessions, moment)
+    place_to_evict(once, endpoint.network(), endpoint, sessions, moment)
 }
 
 /// Keeps the first connection that was heard alone, where one was: the others go, and their links.
@@ -215,27 +261,25 @@ pub fn hear_session(
     }
 }
 
-/// Evicts a connection for a new request, and releases its link. Returns whether there was one to
-/// evict.
+/// Evicts a connection for a new request, and releases its link. Returns the connection, if there was
+/// one to evict.
 pub fn make_space(
     once: bool,
     endpoint: &mut Endpoint,
     sessions: &mut Vec<Session>,
     moment: u64,
-) -> bool
+) -> Option<Session>
     requires { 16 ≤ vec_capacity sessions.old }
     ensures makes { MakesSpace once moment endpoint.old endpoint.new
         sessions.old.items sessions.new.items }
-    ensures one { result
-        ≡ is_some (place_to_free once endpoint.old.network moment sessions.old.items) }
+    ensures one { is_some result ≡ is_some
+        (place_to_free once endpoint.old.network endpoint.old moment sessions.old.items) }
     ensures room { 16 ≤ vec_capacity sessions.new }
 {
-    let Some(place) = place_in(once, endpoint, sessions, moment) else {
-        return false;
-    };
+    let place = place_in(once, endpoint, sessions, moment)?;
     let session = sessions.remove(place);
     let_link_go(endpoint, session.id);
-    true
+    Some(session)
 }
 
 /// A count, one higher where so it is.

@@ -155,7 +155,7 @@ impl<'a, R: Net + Log + Clock> ListeningHost<'a, R> {
         let turn = self.station.turn(rt, alloc);
         self.sessions.tell(rt, self.station.moment());
         if turn.heard {
-            self.sessions.note(&mut self.station.core);
+            self.sessions.note(rt, &mut self.station.core);
         }
         turn
     }

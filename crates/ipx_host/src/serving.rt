@@ -193,27 +193,30 @@ impl Sessions {
 
     /// Evicts a connection, if there is one to evict, since there was no link for a new request. That
     /// request is turned away.
-    fn make_space(&mut self, endpoint: &mut Endpoint, moment: u64)
+    fn make_space<R: Log>(&mut self, rt: &R, endpoint: &mut Endpoint, moment: u64)
         ensures room { MakesSpace self.old.once moment endpoint.old endpoint.new
             self.old.held.items self.new.held.items }
         ensures counts { self.new.never_heard
             ≡ raised_if (is_some (position (is_overdue moment) self.old.held.items))
             self.old.never_heard }
         ensures evicted { self.new.evicted ≡ raised_if (is_silent_evicted self.old.once
-            endpoint.old.network moment self.old.held.items) self.old.evicted }
+            endpoint.old.network endpoint.old moment self.old.held.items) self.old.evicted }
         ensures turned_away { self.new.turned_away ≡ raised self.old.turned_away }
         ensures output { self.new.output ≡ self.old.output }
         ensures once { self.new.once ≡ self.old.once }
     {
         let is_overdue = place_of_overdue(&self.held, moment).is_some();
-        let is_evicted = make_space(self.once, endpoint, &mut self.held, moment);
+        let evicted = make_space(self.once, endpoint, &mut self.held, moment);
         self.never_heard = count_if(is_overdue, self.never_heard);
-        self.evicted = count_if(is_evicted && !is_overdue, self.evicted);
+        self.evicted = count_if(evicted.is_some() && !is_overdue, self.evicted);
+        if let Some(session) = evicted {
+            tell_parted(rt, &session, SessionAction::GivenUp);
+        }
         self.turned_away = count_if(true, self.turned_away);
     }
 
     /// Notes which connection the last datagram was of, or made, or did not find room for.
-    pub fn note(&mut self, core: &mut PacedHostCore)
+    pub fn note<R: Log>(&mut self, rt: &R, core: &mut PacedHostCore)
         ensures notes { NotesHeard self.old.once core.old core.new
             self.old.held.items self.new.held.items }
         ensures output { self.new.output ≡ self.old.output }
@@ -223,7 +226,7 @@ impl Sessions {
         match core.take_came() {
             Some(Arrival::Heard(id)) => self.hear_session(&mut core.endpoint, id, moment),
             Some(Arrival::Accepted(accepted)) => self.admit(&mut core.endpoint, accepted, moment),
-            Some(Arrival::NoRoom) => self.make_space(&mut core.endpoint, moment),
+            Some(Arrival::NoRoom) => self.make_space(rt, &mut core.endpoint, moment),
             None => {}
         }
     }
@@ -282,6 +285,7 @@ impl Sessions {
     fn tell_evicted<R: Log>(&mut self, rt: &R, moment: u64)
         ensures told { IsLoggedIfDue self.old.evicted moment
             self.old.of_evicted self.new.of_evicted }
+        ensures count { self.new.evicted ≡ self.old.evicted }
         ensures never_heard { self.new.never_heard ≡ self.old.never_heard }
         ensures of_never_heard { self.new.of_never_heard ≡ self.old.of_never_heard }
         ensures turned_away { self.new.turned_away ≡ self.old.turned_away }

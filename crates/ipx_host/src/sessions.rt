@@ -109,7 +109,7 @@ impl Session {
         self.phase.is_unheard() && now.saturating_sub(self.heard) >= FIRST_DATA_TIMEOUT
     }
 
-    /// Whether nothing was received on it for ten seconds.
+    /// Whether nothing was received on it for ten seconds, or it could not be probed so long ago.
     pub fn is_silent(&self, now: u64) -> bool
         ensures { result ≡ is_silent now self.now }
     {

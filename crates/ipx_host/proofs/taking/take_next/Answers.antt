@@ -1,5 +1,4 @@
 use Rattle.std.proofs.Common.{rules, refl}
-use Rattle.spx_messages.specs.EndpointView.{EndpointView}
 use Rattle.ipx_host.proofs.Fed.{took}
 use Rattle.ipx_host.proofs.taking.take_next.Goals as goal
 

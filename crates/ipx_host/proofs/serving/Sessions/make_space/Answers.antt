@@ -3,9 +3,9 @@ use Rattle.ipx_host.proofs.Holding.{keeps_room}
 use Rattle.ipx_host.proofs.serving.Sessions.make_space.Goals as goal
 
 pub invariant_of-self : goal.invariant_of-self
-invariant_of-self c =
+invariant_of-self g c =
     let old = c.args.self.now in
     record {
-      room = c.make_space-is_evicted.ensures.room;
-      one = keeps_room old.once c.args.moment old.held.items c.make_space-is_evicted.new.sessions.items (left_of old.output) c.args.endpoint.now c.make_space-is_evicted.new.endpoint c.make_space-is_evicted.ensures.makes old.one;
+      room = c.make_space-evicted.ensures.room;
+      one = keeps_room old.once c.args.moment old.held.items c.make_space-evicted.new.sessions.items (left_of old.output) c.args.endpoint.now c.make_space-evicted.new.endpoint c.make_space-evicted.ensures.makes old.one;
     }

@@ -3,7 +3,7 @@ use Rattle.ipx_host.proofs.Coming.{noted_accepted}
 use Rattle.ipx_host.proofs.serving.Sessions.note.Goals as goal
 
 pub returns-in-Some-Accepted-clause-notes : goal.returns-in-Some-Accepted-clause-notes
-returns-in-Some-Accepted-clause-notes c =
+returns-in-Some-Accepted-clause-notes g c =
     let old = c.args.self.now in
     let told = c.take_came.new.self in
     let new = record told { endpoint = c.admit.new.endpoint } in
