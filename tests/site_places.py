@@ -1,7 +1,9 @@
-"""Who gets a slot of a listener with --once, who gets one where other nodes hold all that they may, and the share of each
-sender if the output is read slowly, for tests/sites."""
+"""Who gets a slot of a listener with --once, who gets one where other nodes hold all that they may, what comes of those that
+ended before their bytes were written, and the share of each sender if the output is read slowly, for tests/sites."""
+import collections
 import os
 import re
+import select
 import struct
 import threading
 import time
@@ -18,7 +20,8 @@ SLOW, BOTH = "127.0.1.35", ("127.0.1.36", "127.0.1.37")
 # Listeners of which other nodes hold connections: its address, that of a sender, and those of these nodes.
 HELD = {"one": ("127.0.1.43", "127.0.1.44", ["127.0.1.45"]),
         "silent": ("127.0.1.46", "127.0.1.47", ["127.0.1.48", "127.0.1.49"]),
-        "busy": ("127.0.1.73", "127.0.1.74", ["127.0.1.75", "127.0.1.76"])}
+        "busy": ("127.0.1.73", "127.0.1.74", ["127.0.1.75", "127.0.1.76"]),
+        "ended": ("127.0.1.176", "127.0.1.177", ["127.0.1.178", "127.0.1.179"])}
 HELD_ADDRESSES = [address for listener, sender, nodes in HELD.values() for address in (listener, sender, *nodes)]
 PLACES = [ONCE, FIRST, SECOND, SLOW, *BOTH, *HELD_ADDRESSES]
 # A sender that gets no answer ends within this number of seconds, and one that is to get through where nodes hold connections
@@ -27,6 +30,9 @@ ENDS, THROUGH = 6, 15
 # The most connections of a listener, and of one node there; for how many seconds one is silent that may be evicted where all
 # are taken, and a little more.
 MOST, OF_A_NODE, SILENCE = 16, 8, 10.1
+# The units of each connection that ends before its bytes are written, the bytes of each unit, and the buffers of the listener.
+UNITS, UNIT, BUFFERS = 56, 534, 64
+END, CONFIRMATION = 0xfe, 0xff
 # How many bytes of the slow output are read each second, for how many seconds, and the least share of each sender.
 RATE, SECONDS, SHARE = 1_000_000, 6, 1 / 3
 AWAY = r"\[WARN  ipx\] \d+ requests were turned away: no free slot \((\d+) since the start\)"
@@ -121,6 +127,12 @@ class Holder:
         self.numbers = range(1, wanted + 1)
         # By the connection's id here: the listener's id of it, how many bytes were sent on it, and how many were acknowledged.
         self.accepted, self.sent, self.acknowledged = {}, {}, {}
+        # The connections whose end was confirmed.
+        self.confirmed = set()
+
+    def body(self, _number):
+        """What is sent on a connection at once."""
+        return b"."
 
     def read(self):
         """Reads all that came. It sends a byte on each connection that was accepted."""
@@ -129,16 +141,19 @@ class Holder:
                 packet = self.socket.recv(2048)
             except BlockingIOError:
                 return
-            there, here, _, acknowledged = struct.unpack(">HHHH", packet[32:40])
+            stream, there, here, _, acknowledged = struct.unpack(">BHHHH", packet[31:40])
             self.acknowledged[here] = acknowledged
+            if stream == CONFIRMATION:
+                self.confirmed.add(here)
             if here not in self.accepted:
                 self.accepted[here], self.sent[here] = there, 0
                 self.send(here)
 
-    def send(self, number):
-        header = struct.pack(">BBHHHHH", 0x50, 0, number, self.accepted[number], self.sent[number], 0, 7)
+    def send(self, number, stream=0):
+        header = struct.pack(">BBHHHHH", 0x50, stream, number, self.accepted[number], self.sent[number], 0, 7)
         self.sent[number] += 1
-        packet = ipx(5, (NETWORK, node(self.listener), "4002"), (NETWORK, node(self.ip), "4003"), header + b".")
+        body = b"" if stream == END else self.body(number)
+        packet = ipx(5, (NETWORK, node(self.listener), "4002"), (NETWORK, node(self.ip), "4003"), header + body)
         self.socket.sendto(packet, (self.listener, self.port))
 
     def ask(self):
@@ -163,6 +178,15 @@ class Holder:
         return [number for number in self.numbers if self.is_heard(number)]
 
 
+def start_later(sites, name, go, data):
+    """The sender to one of the listeners, which waits for an event first."""
+    sender = sites.world.start(
+        f"{name}-kept-out", "-c", 'read -r line && exec "$0" "$@"', sites.world.program, "send",
+        sites.world.path(f"{name}-kept-out.toml"), NETWORK, node(HELD[name][0]), "4002", stdin=True, program="/bin/sh")
+    sender.feed([go, b"\n", data])
+    return sender
+
+
 class Held:
     """A listener of which nodes hold connections, and a sender of another node. So many of the nodes, `speaking`, speak again
     each `every` seconds. The sender starts after `after` seconds, and all goes on for `every` seconds at least. In the end each
@@ -177,10 +201,7 @@ class Held:
         self.listener = sites.start_listener(name=f"{name}-holders")
         # The main thread starts the sender, which waits for a line first.
         self.go, self.ending = threading.Event(), None
-        self.sender = sites.world.start(
-            f"{name}-kept-out", "-c", 'read -r line && exec "$0" "$@"', sites.world.program, "send",
-            sites.world.path(f"{name}-kept-out.toml"), NETWORK, node(address), "4002", stdin=True, program="/bin/sh")
-        self.sender.feed([self.go, b"\n", self.data])
+        self.sender = start_later(sites, name, self.go, self.data)
         until(self.listener.said, 5)
         self.holders = [Holder(sites, ip, address, wanted) for ip in nodes]
         # The connections that were accepted of each node as the sender starts, and on which all is acknowledged at last.
@@ -233,10 +254,96 @@ class Held:
             process.end()
 
 
+class Ender(Holder):
+    """A node that sends UNITS units on each of its connections and ends it. The bytes of each connection have a value of their
+    own, the number of the connection and `before`."""
+
+    def __init__(self, sites, ip, listener, before):
+        super().__init__(sites, ip, listener, OF_A_NODE)
+        self.before = before
+
+    def body(self, number):
+        return bytes([self.before + number]) * UNIT
+
+    def end(self, number):
+        """Sends the rest on a connection, and its end, and again what is not acknowledged. It answers whether all was
+        acknowledged and the end confirmed, as a sender with status 0 has it."""
+        for _ in range(5):
+            self.sent[number] = min(self.acknowledged[number], UNITS)
+            while self.sent[number] < UNITS:
+                self.send(number)
+            self.send(number, END)
+            if until(lambda: self.is_heard(number) and number in self.confirmed, 0.5):
+                return True
+        return False
+
+
+class Ended:
+    """A listener whose output nobody reads: a pipe, full as it starts. Two nodes take all of its connections, send on each and
+    end it. When they were silent for SILENCE seconds a sender of another node starts; and when that ended, the pipe is read
+    until nothing comes any more."""
+
+    def __init__(self, sites):
+        address, sender, nodes = HELD["ended"]
+        sites.host("ended-holders", NETWORK, address, "127.0.1.89", "4002",
+                   f"buffers = {BUFFERS}\n" + listed("peers", [sender, *nodes]))
+        sites.host("ended-kept-out", NETWORK, sender, "127.0.1.89", "4003")
+        self.pipe, write = os.pipe()
+        os.set_blocking(write, False)
+        try:
+            while True:
+                os.write(write, bytes(4096))
+        except BlockingIOError:
+            os.set_blocking(write, True)
+        self.listener = sites.start_listener(name="ended-holders", stdout=write)
+        os.close(write)
+        self.go, self.ending = threading.Event(), None
+        self.sender = start_later(sites, "ended", self.go, bytes([128]) * 1000)
+        until(self.listener.said, 5)
+        self.holders = [Ender(sites, ip, address, OF_A_NODE * number) for number, ip in enumerate(nodes)]
+        # The values of the connections that ended well, and how many bytes of each value came.
+        self.well, self.came = [], collections.Counter()
+        self.thread = threading.Thread(target=self.run, daemon=True)
+        self.thread.start()
+
+    def ask(self):
+        """Asks for what was not accepted, and answers whether all is."""
+        for holder in self.holders:
+            holder.ask()
+        return all(len(holder.accepted) == OF_A_NODE for holder in self.holders)
+
+    def run(self):
+        until(self.ask, 10)
+        self.well = [holder.before + number for holder in self.holders for number in holder.accepted if holder.end(number)]
+        time.sleep(SILENCE)
+        self.ending = Ending(self.sender)
+        self.go.set()
+        self.ending.thread.join(ENDS + 2)
+        while select.select([self.pipe], [], [], 3)[0] and (some := os.read(self.pipe, 1 << 16)):
+            self.came.update(some)
+
+    def ended(self):
+        """The status of the sender, after how many seconds it ended, and what it said."""
+        self.thread.join(40)
+        seconds = 99
+        if self.ending:
+            self.ending.thread.join(5)
+            seconds = self.ending.seconds or 99
+        return self.sender.status(0), seconds, self.sender.said()
+
+    def end(self):
+        for holder in self.holders:
+            holder.socket.close()
+        for process in (self.listener, self.sender):
+            process.end()
+        os.close(self.pipe)
+
+
 def start_held(sites):
-    """A node that asks for all connections; two that hold all, of which one is silent then; and two that go on to speak."""
+    """A node that asks for all connections; two that hold all, of which one is silent then; two that go on to speak; and two
+    that end all before their bytes are written."""
     return {"one": Held(sites, "one", MOST, 1, 5, 0), "silent": Held(sites, "silent", OF_A_NODE, 1, 3, SILENCE),
-            "busy": Held(sites, "busy", OF_A_NODE, 2, 3, SILENCE)}
+            "busy": Held(sites, "busy", OF_A_NODE, 2, 3, SILENCE), "ended": Ended(sites)}
 
 
 def check_held(sites, held):
@@ -260,8 +367,23 @@ def check_held(sites, held):
     sites.check("and all of them stay", busy.accepted == busy.heard == [OF_A_NODE] * 2,
                 f"{busy.accepted} accepted, {busy.heard} acknowledged")
     check_line(sites, "and its requests are counted", busy, AWAY)
+    check_ended(sites, held["ended"])
     for it in held.values():
         it.end()
+
+
+def check_ended(sites, it):
+    """None is evicted that ended well, and its bytes come as the output is read."""
+    status, took, said = it.ended()
+    sites.check(f"{MOST} connections end well although nothing that they sent can be written",
+                it.well == list(range(1, MOST + 1)), f"{len(it.well)} of them")
+    line = f"no answer from {NETWORK} {node(HELD['ended'][0])} 4002"
+    sites.check(f"a sender that asks 10 s later ends within {ENDS} seconds, and says why",
+                status == 1 and said == [line] and took < ENDS, f"{status}, after {took:.2f} s, {said}")
+    check_line(sites, "and its requests are counted there", it, AWAY)
+    missing = {value: UNITS * UNIT - it.came[value] for value in it.well if it.came[value] != UNITS * UNIT}
+    sites.check("and as the output is read, all bytes of those that ended well come", it.well and not missing,
+                f"missing, by their value: {missing}" if missing else "")
 
 
 def check_through(sites, name, held):
