@@ -90,7 +90,7 @@ ipx_address = "00000011 00000a010014 4002"
 
 
 IN_USE = "Address already in use (os error 98)"
-NOT_HERE = "Cannot assign requested address (os error 99)"
+NOT_HERE = "Cannot assign requested address (os error 99); no interface of this machine has this address"
 CLOSED = "standard input, output or error is closed"
 FREE = "127.0.1.52", "127.0.1.53"
 UNREAD = [
@@ -133,6 +133,8 @@ ROUTER_FILES = [
     (PORT + 'frame = "802.3"\n', "port 1: `frame` is now `encapsulation`"),
     (WIRE + "hub = true\n", "port 1: `hub` is now `switch`"),
     (PORT + "peer = []\n", f"port 1: unknown key peer: {PORT_KEYS}"),
+    (PORT + "metrics_file = \"x\"\n", "port 1: metrics_file must come before the first [[port]]"),
+    (PORT + SECOND + "tables_file = \"x\"\n", "port 2: tables_file must come before the first [[port]]"),
     (PORT + SECOND + "Accept = \"any\"\n", f"port 2: unknown key Accept: {PORT_KEYS}"),
     (PORT + '"a\\nb\\u001b" = 1\n', f"port 1: unknown key a.b.: {PORT_KEYS}"),
     (without(PORT, "network"), f"port 1: network is missing: expected {NETWORK}"),

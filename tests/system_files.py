@@ -167,7 +167,7 @@ def unit(system):
     early = machine.run(pair.near, "unit-early")
     yield from wait(early.is_over, 10)
     system.check("ExecStart, where the addresses are not there yet: status 1, so that it is started again", early.status(0) == 1
-                 and early.said() == ["/etc/ipx/hq.toml: port 1: bind 192.0.2.10:213: Cannot assign requested address (os error 99)"], str(early.said()))
+                 and early.said() == ["/etc/ipx/hq.toml: port 1: bind 192.0.2.10:213: Cannot assign requested address (os error 99); no interface of this machine has this address"], str(early.said()))
     system.world.write(file, example().replace("00000011", "00000001"))
     wrong = machine.run(pair.near, "unit-wrong")
     yield from wait(wrong.is_over, 10)

@@ -34,14 +34,28 @@ pub fn bind_error(ip: [u8; 4], udp_port: u16, error: &io::Error) -> BindError {
     }
 }
 
+impl BindError {
+    /// What usually causes the error, if the system's text does not say it.
+    fn hint(&self) -> &'static str {
+        match self.kind {
+            ErrorKind::AddrNotAvailable => "; no interface of this machine has this address",
+            ErrorKind::PermissionDenied if self.udp_port < 1024 => {
+                "; UDP ports below 1024 need root or CAP_NET_BIND_SERVICE"
+            }
+            _ => "",
+        }
+    }
+}
+
 /// As `bind 192.0.2.10:213: Address already in use (os error 98)`.
 impl fmt::Display for BindError {
     fn fmt<W: fmt::Write>(&self, f: &mut fmt::Formatter<W>) -> fmt::Result {
         let [a, b, c, d] = self.ip;
         write!(f, "bind {a}.{b}.{c}.{d}:{}: ", self.udp_port)?;
         match self.code {
-            Some(code) => write!(f, "{}", io::Error::from_raw_os_error(code)),
-            None => write!(f, "{}", self.kind),
+            Some(code) => write!(f, "{}", io::Error::from_raw_os_error(code))?,
+            None => write!(f, "{}", self.kind)?,
         }
+        f.write_str(self.hint())
     }
 }

@@ -66,6 +66,11 @@ fn new_name(name: &str) -> Option<Key> {
     }
 }
 
+/// Whether a name is a key of a router's file, and not of one of its tables.
+fn is_of_file(name: &str) -> bool {
+    matches!(name, "metrics_file" | "tables_file")
+}
+
 /// The valid values of a key of a route or a service. These name a port, and no network of the
 /// router itself.
 fn valid_statics(key: Key) -> &'static str {
@@ -137,6 +142,9 @@ impl fmt::Display for ConfigError {
                 write_place(f, *table)?;
                 if let Some(key) = new_name(name.as_str()) {
                     return write!(f, "`{name}` is now `{key}`");
+                }
+                if *table > 0 && is_of_file(name.as_str()) {
+                    return write!(f, "{name} must come before the first [[port]]");
                 }
                 let name = Escaped(name.as_bytes());
                 write!(f, "unknown key {name}: {}", keys_of(*table))
