@@ -6,7 +6,7 @@ import struct
 import threading
 import time
 
-from site_packets import ipx, rip_response
+from site_packets import ipx, rip_response, sap_response
 from site_tables import ITS_ADDRESS, check_tables, start_unwritten
 from site_world import bound, listed, node, port_table, until
 
@@ -25,7 +25,6 @@ CHAIN = {
 }
 OPERATED = sorted({address for ports in CHAIN.values() for _, address, _, _ in ports} | {*ASKING, *sum(ASKING.values(), [])}
                   | {NEAR_SERVER, FAR_SERVER, TELLER, NEAR_HOST, FAR_HOST, MUCH_HOST, ITS_ADDRESS})
-EVERY_NODE = "f" * 12
 # A router holds as many; one network more it has itself.
 MOST_TOLD, MOST_SERVICES = 1023, 4096
 # How a table's last line ends where one router answered.
@@ -47,14 +46,6 @@ MUCH_SERVICES = [("0004", f"S{number:04}", 0x99, 2) for number in range(MOST_SER
 HALF_NETWORKS = [(f"{0x2000 + number:08x}", 1, 2) for number in range(50)]
 HALF_SERVICES = [("0640", f"HALF{number}", 0xb03, 1) for number in range(7)]
 NONE = {"networks": "knows nothing besides this network", "services": "knows no such service"}
-
-
-def sap_response(network, source, services, to=None):
-    """A SAP response from a node of a network, to everybody there or to one; services are type, name, network and hops, at
-    socket 0451 of node 1."""
-    body = struct.pack(">H", 2) + b"".join(
-        struct.pack(">H48sIHIHH", kind, name, place, 0, 1, 0x451, hops) for kind, name, place, hops in services)
-    return ipx(4, to or (network, EVERY_NODE, "0452"), (network, source, "0452"), body)
 
 
 def network_table(networks, by):

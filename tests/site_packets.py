@@ -14,6 +14,14 @@ def rip_response(network, source, routes):
     return ipx(1, (network, "ffffffffffff", "0453"), (network, source, "0453"), body)
 
 
+def sap_response(network, source, services, to=None):
+    """A SAP response from a node of a network, to everybody there or to one; services are type, name, network and hops, at
+    socket 0451 of node 1."""
+    body = struct.pack(">H", 2) + b"".join(
+        struct.pack(">H48sIHIHH", kind, name, place, 0, 1, 0x451, hops) for kind, name, place, hops in services)
+    return ipx(4, to or (network, "ffffffffffff", "0452"), (network, source, "0452"), body)
+
+
 def some_datagram(rng, source_node, nodes):
     """Random bytes; or a packet from a node of network 1 with random bytes in it, for one of these nodes
     or others; or forged control."""

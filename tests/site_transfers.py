@@ -1,8 +1,7 @@
 """Transfers on one machine with room in the sockets, for tests/sites: how many units may be out does not lose them."""
-import os
 import time
 
-from site_world import compiled, leave_out, listed, some_bytes, until
+from site_world import compiled, leave_out, listed, on_one, some_bytes, until
 
 NETWORK = "00000044"
 # 20 MB at these numbers of buffers, and three senders of 5 MB at 64 to one listener.
@@ -19,12 +18,6 @@ LIMIT, THREE_SECONDS = 20, 5
 # On a machine with twice as much else to do as it has processors it had 0.28 to 0.32.
 UNIT, DATAGRAM, PLAIN_COUNT, PLAIN_PIECE = 534, 576, 16_000, 2_000
 ROUNDS, SHARE = 8, 0.2
-
-
-def on_one(*processes):
-    """These run on one processor, the same each time: how they are spread over several changes a rate twofold."""
-    for process in processes:
-        os.sched_setaffinity(process.popen.pid, {max(os.sched_getaffinity(0))})
 
 
 def plain_rate(sites, program):

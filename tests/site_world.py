@@ -265,6 +265,12 @@ def compiled(world):
     return world.path("plain")
 
 
+def on_one(*processes):
+    """These run on one processor, the same each time: how they are spread over several changes a rate twofold."""
+    for process in processes:
+        os.sched_setaffinity(process.popen.pid, {max(os.sched_getaffinity(0))})
+
+
 def waiting_bytes(address, udp_port):
     """How many bytes of datagrams wait in the socket at an address of UDP, as the kernel counts them."""
     place = f"{int.from_bytes(socket.inet_aton(address), sys.byteorder):08X}:{udp_port:04X}"

@@ -59,3 +59,15 @@ def own_packets(network, node, cost, others):
 
     told = routes([(other, 1, cost) for other in sorted(others)])
     return [said(1, RIP, ALL_ROUTES), said(4, SAP, ALL_SERVICES), said(1, RIP, told)]
+
+
+def frames_of(path):
+    """The frames of a file of tcpdump or QEMU."""
+    with open(path, "rb") as file:
+        held = file.read()
+    at, frames = 24, []
+    while at + 16 <= len(held):
+        size, = struct.unpack("<I", held[at + 8:at + 12])
+        frames.append(held[at + 16:at + 16 + size])
+        at += 16 + size
+    return frames

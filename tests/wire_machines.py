@@ -5,8 +5,7 @@ import random
 from site_packets import ipx
 from site_world import free_port, leave_out, node, until
 from wire_deploy import blocks, with_ports, words_of
-from wire_frames import KINDS, passed_on
-from wire_taps import frames_of
+from wire_frames import KINDS, frames_of, passed_on
 from wire_world import End, Router, UdpPort, WirePort, with_colons
 
 CARDS = ["ne2k_pci", "pcnet", "rtl8139", "e1000", "virtio-net-pci"]

@@ -13,7 +13,7 @@ import time
 from site_packets import ipx
 from site_world import LIBC, leave_out, node, port_table, until
 from wire_deploy import blocks, line_of_unit, port_of, with_ports, words_of
-from wire_frames import ALL_ROUTES, EVERYBODY, KINDS, MOST, RIP, frame, routes
+from wire_frames import ALL_ROUTES, EVERYBODY, KINDS, MOST, RIP, frame, frames_of, routes
 from wire_world import End, Router, UdpPort, WirePort, difference, text_of, with_colons
 
 NEW_NETWORK = 0x40000000
@@ -38,18 +38,6 @@ def own_network():
         finally:
             if entered:
                 LIBC.setns(before.fileno(), NEW_NETWORK)
-
-
-def frames_of(path):
-    """The frames of a file of tcpdump or QEMU."""
-    with open(path, "rb") as file:
-        held = file.read()
-    at, frames = 24, []
-    while at + 16 <= len(held):
-        size, = struct.unpack("<I", held[at + 8:at + 12])
-        frames.append(held[at + 16:at + 16 + size])
-        at += 16 + size
-    return frames
 
 
 class Device(End):
