@@ -1,4 +1,4 @@
-//! The frames of a file, one line of hex each, and how each is read. `tests/frames` writes that
+//! The frames of a file, one line of hex each, and how each is read. `tests/system/ethernet/frames` writes that
 //! file; if there is none, nothing is read.
 
 use crate::fixture::STATION;

@@ -1,5 +1,5 @@
 //! Tests of the commands for what the built program cannot show: a reader or a writer that fails,
-//! and out of memory. What it can show is tested by rows of data: tests/rows.
+//! and out of memory. What it can show is tested by rows of data: tests/system/rows.
 #![tactic(auto)]
 
 #[cfg(test)]

@@ -1,5 +1,5 @@
 //! Tests of `sim` that are not rows: a reader or a writer that fails, a routing loop, and what
-//! takes too many packets. The rows are data: tests/rows.
+//! takes too many packets. The rows are data: tests/system/rows.
 #![tactic(auto)]
 
 #[cfg(test)]

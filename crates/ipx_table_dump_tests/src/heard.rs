@@ -1,5 +1,5 @@
 //! After each of 200 random advertisements the text is the one that a second program computes,
-//! `tests/heard`.
+//! `tests/gate/heard`.
 
 use crate::fixture::{PORT, files, route, service};
 use crate::hearings::{HEARINGS, Hearing};

@@ -1,4 +1,4 @@
-//! Advertisements, and the digest of the text after each, which `tests/heard` computed. The fields
+//! Advertisements, and the digest of the text after each, which `tests/gate/heard` computed. The fields
 //! are the time; whether it is of a network; the network, or the index of the service; the port and
 //! node of the neighbour; the hops; the ticks, or the network of the service; and the digest.
 

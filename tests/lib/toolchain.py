@@ -1,0 +1,145 @@
+"""The toolchain's command `rt` as a library, for the scripts of tests/gate and contrib/build: its crates, the words that it
+gives to the prover, and copies of this repository's crates for it to work in."""
+import importlib.machinery
+import importlib.util
+import os
+import re
+import shutil
+import sys
+
+sys.dont_write_bytecode = True
+TOP = os.path.dirname(os.path.dirname(os.path.dirname(os.path.abspath(__file__))))
+# The crates of tests, which are compiled and run and not proved: lines as in crates.txt. Their sources end in
+# .rs, since `rt` refuses any .rt file that no crate of crates.txt names.
+TESTS = f"{TOP}/tests/data/tests.txt"
+# What one check, or the compilation of a crate's tests, is likely to want of memory, in bytes.
+ONE_CHECK = 4_000_000_000
+
+
+def command():
+    """The file that `rt` is, or None."""
+    found = shutil.which("rt")
+    return os.path.realpath(found) if found else None
+
+
+def kit():
+    """The folder of the toolchain."""
+    return os.path.dirname(os.path.dirname(command() or sys.exit("rt is not on the PATH")))
+
+
+def make_kit(at, others):
+    """Makes a toolchain of links to the files of the real one, and answers its `rt`, which works with these. Some files are
+    others: what stands there instead, by their paths. And `rattle`, which `rt try` runs beside the compilation only for a
+    hint on names, does nothing."""
+    own = {"bin/rt", "bin/rtlib.py", "bin/rattle", *others}
+    folders = {above for path in own for above in parents(path)}
+    for folder in sorted(folders):
+        os.makedirs(f"{at}/{folder}", exist_ok=True)
+        for name in os.listdir(f"{kit()}/{folder}"):
+            path = f"{folder}/{name}".lstrip("/")
+            if path not in own | folders:
+                os.symlink(f"{kit()}/{path}", f"{at}/{path}")
+    # (they look for the other files beside themselves)
+    for path in ("bin/rt", "bin/rtlib.py"):
+        shutil.copy(f"{kit()}/{path}", f"{at}/{path}")
+    os.symlink(shutil.which("true"), f"{at}/bin/rattle")
+    for path, text in others.items():
+        with open(f"{at}/{path}", "w", encoding="utf-8") as it:
+            it.write(text)
+        os.chmod(f"{at}/{path}", 0o755)
+    return f"{at}/bin/rt"
+
+
+def parents(path):
+    """The folders above a path, up to the first, which is named ""."""
+    above = os.path.dirname(path)
+    return {above} | (parents(above) if above else set())
+
+
+def load():
+    """`rt` as a module; the one below it, with what it knows of crates, is its `rtlib`."""
+    path = command() or sys.exit("rt is not on the PATH")
+    loader = importlib.machinery.SourceFileLoader("rt", path)
+    made = importlib.util.module_from_spec(importlib.util.spec_from_loader("rt", loader))
+    sys.modules["rt"] = made
+    loader.exec_module(made)
+    # (the first call sets a signal's handler, which only the main thread may)
+    made.rtlib.guarded()
+    return made
+
+
+def listed(path):
+    """The names of a list of crates, each with its line."""
+    lines = {}
+    with open(path, encoding="utf-8") as it:
+        for line in it:
+            name = re.match(r"(\w+)[ :]", line)
+            if name:
+                lines[name[1]] = line.rstrip("\n")
+    return lines
+
+
+def folders():
+    """The names of the folders of crates/."""
+    return sorted(it for it in os.listdir(f"{TOP}/crates") if os.path.isdir(f"{TOP}/crates/{it}"))
+
+
+def files_of(name, top=TOP):
+    """The sources, definitions and proofs of a crate of this repository, or of a copy, by their paths in it."""
+    found = []
+    for part in ("src", "specs", "proofs"):
+        for at, _, names in os.walk(f"{top}/crates/{name}/{part}"):
+            found += [os.path.relpath(f"{at}/{it}", f"{top}/crates/{name}") for it in names]
+    return sorted(found)
+
+
+def as_rattle(path):
+    """How a file of a crate of tests is named where `rt` is to read it."""
+    return path[: -len(".rs")] + ".rt" if path.endswith(".rs") else path
+
+
+def copy_tests(name, to):
+    """Copies the sources of a crate of tests below a folder, under the names that `rt` reads."""
+    for path in files_of(name):
+        made = f"{to}/{as_rattle(path)}"
+        os.makedirs(os.path.dirname(made), exist_ok=True)
+        shutil.copy(f"{TOP}/crates/{name}/{path}", made)
+
+
+def without_static(text):
+    """The text of crates.txt without the static libraries. `rt ci` only checks these, and compiles none; tests/gate/bench does
+    both."""
+    return re.sub(r"(?m)^\w+ staticlib:.*\n", "", text)
+
+
+def copy_crates(to):
+    """Copies the crates that `rt ci` proves, without what was built of them and without their wrong bodies."""
+    leave = shutil.ignore_patterns("out", "must-fail", "wrong-bodies.txt")
+    with open(f"{TOP}/crates.txt", encoding="utf-8") as it:
+        text = without_static(it.read())
+    os.makedirs(to, exist_ok=True)
+    with open(f"{to}/crates.txt", "w", encoding="utf-8") as it:
+        it.write(text)
+    for name in listed(f"{to}/crates.txt"):
+        shutil.copytree(f"{TOP}/crates/{name}", f"{to}/crates/{name}", ignore=leave)
+    shutil.copy(f"{TOP}/HANDLES", to)
+
+
+def free():
+    """How much memory is free, in bytes."""
+    with open("/proc/meminfo", encoding="utf-8") as it:
+        return int(re.search(r"MemAvailable:\s+(\d+)", it.read())[1]) * 1024
+
+
+def room():
+    """How many more checks find memory."""
+    return free() // ONE_CHECK
+
+
+def held(pid):
+    """How much memory a process holds, in bytes."""
+    try:
+        with open(f"/proc/{pid}/statm", encoding="utf-8") as it:
+            return int(it.read().split()[1]) * os.sysconf("SC_PAGE_SIZE")
+    except OSError:
+        return 0

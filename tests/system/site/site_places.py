@@ -1,0 +1,398 @@
+"""Who gets a slot of a listener with --once, who gets one where other nodes hold all that they may, what comes of those that
+ended before their bytes were written, and the share of each sender if the output is read slowly, for `sites`."""
+import collections
+import os
+import re
+import select
+import struct
+import threading
+import time
+
+from site_callers import call
+from site_packets import ipx
+from site_world import Watch, bound, listed, node, some_bytes, until
+
+# Listeners and senders on a network without a router: one with --once, which two senders call; and one whose output is read
+# slowly, with two senders.
+NETWORK = "00000044"
+ONCE, FIRST, SECOND = "127.0.1.22", "127.0.1.23", "127.0.1.24"
+SLOW, BOTH = "127.0.1.35", ("127.0.1.36", "127.0.1.37")
+# Listeners of which other nodes hold connections: its address, that of a sender, and those of these nodes.
+HELD = {"one": ("127.0.1.43", "127.0.1.44", ["127.0.1.45"]),
+        "silent": ("127.0.1.46", "127.0.1.47", ["127.0.1.48", "127.0.1.49"]),
+        "busy": ("127.0.1.73", "127.0.1.74", ["127.0.1.75", "127.0.1.76"]),
+        "ended": ("127.0.1.176", "127.0.1.177", ["127.0.1.178", "127.0.1.179"])}
+HELD_ADDRESSES = [address for listener, sender, nodes in HELD.values() for address in (listener, sender, *nodes)]
+PLACES = [ONCE, FIRST, SECOND, SLOW, *BOTH, *HELD_ADDRESSES]
+# A sender that gets no answer ends within this number of seconds, and one that is to get through where nodes hold connections
+# within that.
+ENDS, THROUGH = 6, 15
+# The most connections of a listener, and of one node there; for how many seconds one is silent that may be evicted where all
+# are taken, and a little more.
+MOST, OF_A_NODE, SILENCE = 16, 8, 10.1
+# The units of each connection that ends before its bytes are written, the bytes of each unit, and the buffers of the listener.
+UNITS, UNIT, BUFFERS = 56, 534, 64
+END, CONFIRMATION = 0xfe, 0xff
+# How many bytes of the slow output are read each second, for how many seconds, and the least share of each sender.
+RATE, SECONDS, SHARE = 1_000_000, 6, 1 / 3
+AWAY = r"\[WARN  ipx\] \d+ requests were turned away: no free slot \((\d+) since the start\)"
+EVICTED = r"\[WARN  ipx\] 1 connections were evicted after 10 s of silence, since all were taken \(1 since the start\)"
+
+
+class Ending:
+    """After how many seconds a process ended, not counting the time that the machine denied to it."""
+
+    def __init__(self, process):
+        self.process, self.seconds = process, None
+        self.watch = Watch(process.popen.pid)
+        self.thread = threading.Thread(target=self.wait, daemon=True)
+        self.thread.start()
+
+    def wait(self):
+        seconds = self.watch.seconds()
+        while not self.process.is_over():
+            seconds = self.watch.seconds()
+            time.sleep(0.02)
+        self.seconds = seconds
+
+
+def start_once(sites):
+    """A listener with --once, a first sender that goes on for some time, and a second one."""
+    sites.host("place-listener", NETWORK, ONCE, "127.0.1.89", "4002", listed("peers", [FIRST, SECOND]))
+    for name, address in (("first", FIRST), ("second", SECOND)):
+        sites.host(f"{name}-sender", NETWORK, address, "127.0.1.89", "4003")
+    data = some_bytes(sites.seed + 13, 20_000)
+    listener = sites.start_listener("--once", name="place-listener")
+    until(listener.said, 5)
+    pieces = [piece for at in range(0, len(data), 1000) for piece in (data[at:at + 1000], 0.5)]
+    first = sites.start_sender("first-sender", pieces, NETWORK, ONCE)
+    until(lambda: listener.out, 5)
+    second = sites.start_sender("second-sender", [b"not of the first one"], NETWORK, ONCE)
+    return listener, first, Ending(second), data
+
+
+def check_once_taken(sites, listener, first, ending, data):
+    """The second sender gets no answer, and the first one is not disturbed."""
+    ending.thread.join(40)
+    status, took, said = ending.process.status(0), ending.seconds or 99, ending.process.said()
+    line = f"no answer from {NETWORK} {node(ONCE)} 4002"
+    sites.check(f"a second sender to a listener with --once ends within {ENDS} seconds, and says why",
+                status == 1 and said == [line] and took < ENDS, f"{status}, after {took:.2f} s, {said}")
+    sites.check_transfer("and the first one goes on", listener, first, data)
+    told = [line for line in listener.said() if re.fullmatch(AWAY, line)]
+    sites.check("requests that were turned away are counted", bool(told), str(listener.said()[-2:]))
+
+
+def read_slowly(pipe, counts, over):
+    """Reads RATE bytes a second, and counts those below 128 and the others."""
+    while not over.is_set():
+        time.sleep(0.01)
+        for byte in os.read(pipe, RATE // 100):
+            counts[byte >= 128] += 1
+
+
+def check_shares(sites):
+    """Two senders to a listener whose output is read slowly each have their share of it."""
+    more = "buffers = 1024\n"
+    sites.host("shared-listener", NETWORK, SLOW, "127.0.1.89", "4002", more + listed("peers", BOTH))
+    read, write = os.pipe()
+    listener = sites.start_listener(name="shared-listener", stdout=write)
+    os.close(write)
+    until(listener.said, 5)
+    senders = []
+    for number, address in enumerate(BOTH):
+        sites.host(f"shared-sender{number}", NETWORK, address, "127.0.1.89", "4003", more)
+        data = bytes([1 + 128 * number]) * (2 * SECONDS * RATE)
+        senders.append(sites.start_sender(f"shared-sender{number}", [data], NETWORK, SLOW))
+    counts, over = [0, 0], threading.Event()
+    thread = threading.Thread(target=read_slowly, args=(read, counts, over), daemon=True)
+    thread.start()
+    time.sleep(SECONDS)
+    over.set()
+    thread.join(5)
+    total = sum(counts)
+    sites.check("two senders to a listener whose output is read slowly have at least a third of it each",
+                total > 0 and min(counts) >= SHARE * total, f"{counts[0]} and {counts[1]} bytes")
+    for process in (listener, *senders):
+        process.end()
+    os.close(read)
+
+
+class Holder:
+    """A node that asks a listener for connections, sends a byte on each as it is accepted, and again when it is told to."""
+
+    def __init__(self, sites, ip, listener, wanted):
+        self.ip, self.listener, self.port = ip, listener, sites.port
+        self.socket = bound(ip, sites.port)
+        self.numbers = range(1, wanted + 1)
+        # By the connection's id here: the listener's id of it, how many bytes were sent on it, and how many were acknowledged.
+        self.accepted, self.sent, self.acknowledged = {}, {}, {}
+        # The connections whose end was confirmed.
+        self.confirmed = set()
+
+    def body(self, _number):
+        """What is sent on a connection at once."""
+        return b"."
+
+    def read(self):
+        """Reads all that came. It sends a byte on each connection that was accepted."""
+        while True:
+            try:
+                packet = self.socket.recv(2048)
+            except BlockingIOError:
+                return
+            stream, there, here, _, acknowledged = struct.unpack(">BHHHH", packet[31:40])
+            self.acknowledged[here] = acknowledged
+            if stream == CONFIRMATION:
+                self.confirmed.add(here)
+            if here not in self.accepted:
+                self.accepted[here], self.sent[here] = there, 0
+                self.send(here)
+
+    def send(self, number, stream=0):
+        header = struct.pack(">BBHHHHH", 0x50, stream, number, self.accepted[number], self.sent[number], 0, 7)
+        self.sent[number] += 1
+        body = b"" if stream == END else self.body(number)
+        packet = ipx(5, (NETWORK, node(self.listener), "4002"), (NETWORK, node(self.ip), "4003"), header + body)
+        self.socket.sendto(packet, (self.listener, self.port))
+
+    def ask(self):
+        """Asks for each connection that was not accepted, and waits a little for the answer, and until the byte on it is
+        acknowledged: a node may have few connections of which nothing was heard."""
+        for number in self.numbers:
+            if number not in self.accepted:
+                call(self.socket, self.ip, self.listener, self.port, number)
+                until(lambda: self.is_heard(number), 0.05)  # pylint: disable=cell-var-from-loop
+
+    def is_heard(self, number):
+        """Whether all that was sent on a connection is acknowledged."""
+        self.read()
+        return number in self.accepted and self.acknowledged[number] == self.sent[number]
+
+    def speak(self):
+        for number in self.accepted:
+            self.send(number)
+
+    def heard(self):
+        """The connections on which all is acknowledged that was sent."""
+        return [number for number in self.numbers if self.is_heard(number)]
+
+
+def start_later(sites, name, go, data):
+    """The sender to one of the listeners, which waits for an event first."""
+    sender = sites.world.start(
+        f"{name}-kept-out", "-c", 'read -r line && exec "$0" "$@"', sites.world.program, "send",
+        sites.world.path(f"{name}-kept-out.toml"), NETWORK, node(HELD[name][0]), "4002", stdin=True, program="/bin/sh")
+    sender.feed([go, b"\n", data])
+    return sender
+
+
+class Held:
+    """A listener of which nodes hold connections, and a sender of another node. So many of the nodes, `speaking`, speak again
+    each `every` seconds. The sender starts after `after` seconds, and all goes on for `every` seconds at least. In the end each
+    node speaks on each connection, which shows which of them are still held."""
+
+    def __init__(self, sites, name, wanted, speaking, every, after):
+        address, sender, nodes = HELD[name]
+        self.speaking, self.every, self.after = speaking, every, after
+        sites.host(f"{name}-holders", NETWORK, address, "127.0.1.89", "4002", listed("peers", [sender, *nodes]))
+        sites.host(f"{name}-kept-out", NETWORK, sender, "127.0.1.89", "4003")
+        self.data = bytes(byte | 128 for byte in some_bytes(sites.seed + 14, 20_000))
+        self.listener = sites.start_listener(name=f"{name}-holders")
+        # The main thread starts the sender, which waits for a line first.
+        self.go, self.ending = threading.Event(), None
+        self.sender = start_later(sites, name, self.go, self.data)
+        until(self.listener.said, 5)
+        self.holders = [Holder(sites, ip, address, wanted) for ip in nodes]
+        # The connections that were accepted of each node as the sender starts, and on which all is acknowledged at last.
+        self.accepted = self.heard = None
+        self.thread = threading.Thread(target=self.run, daemon=True)
+        self.thread.start()
+
+    def ask(self):
+        """Asks for what was not accepted, and answers whether all is."""
+        for holder in self.holders:
+            holder.ask()
+        return all(len(holder.accepted) == len(holder.numbers) for holder in self.holders)
+
+    def run(self):
+        until(self.ask, 1)
+        start = asked = spoke = time.monotonic()
+        while not self.ending or self.ending.thread.is_alive() or time.monotonic() < start + self.every:
+            time.sleep(0.02)
+            now = time.monotonic()
+            if now >= asked + 0.5:
+                asked = now
+                self.ask()
+            if now >= spoke + self.every:
+                spoke = now
+                for holder in self.holders[:self.speaking]:
+                    holder.speak()
+            if now >= start + self.after and not self.ending:
+                self.accepted = [len(holder.accepted) for holder in self.holders]
+                self.ending = Ending(self.sender)
+                self.go.set()
+        for holder in self.holders:
+            holder.speak()
+        time.sleep(0.5)
+        self.heard = [len(holder.heard()) for holder in self.holders]
+
+    def ended(self):
+        """The status of the sender, after how many seconds it ended, what it said, and its bytes that the listener wrote."""
+        self.thread.join(40)
+        seconds = 99
+        if self.ending:
+            self.ending.thread.join(5)
+            seconds = self.ending.seconds or 99
+        came = bytes(byte for byte in self.listener.out if byte >= 128)
+        return self.sender.status(0), seconds, self.sender.said(), came
+
+    def end(self):
+        for holder in self.holders:
+            holder.socket.close()
+        for process in (self.listener, self.sender):
+            process.end()
+
+
+class Ender(Holder):
+    """A node that sends UNITS units on each of its connections and ends it. The bytes of each connection have a value of their
+    own, the number of the connection and `before`."""
+
+    def __init__(self, sites, ip, listener, before):
+        super().__init__(sites, ip, listener, OF_A_NODE)
+        self.before = before
+
+    def body(self, number):
+        return bytes([self.before + number]) * UNIT
+
+    def end(self, number):
+        """Sends the rest on a connection, and its end, and again what is not acknowledged. It answers whether all was
+        acknowledged and the end confirmed, as a sender with status 0 has it."""
+        for _ in range(5):
+            self.sent[number] = min(self.acknowledged[number], UNITS)
+            while self.sent[number] < UNITS:
+                self.send(number)
+            self.send(number, END)
+            if until(lambda: self.is_heard(number) and number in self.confirmed, 0.5):
+                return True
+        return False
+
+
+class Ended:
+    """A listener whose output nobody reads: a pipe, full as it starts. Two nodes take all of its connections, send on each and
+    end it. When they were silent for SILENCE seconds a sender of another node starts; and when that ended, the pipe is read
+    until nothing comes any more."""
+
+    def __init__(self, sites):
+        address, sender, nodes = HELD["ended"]
+        sites.host("ended-holders", NETWORK, address, "127.0.1.89", "4002",
+                   f"buffers = {BUFFERS}\n" + listed("peers", [sender, *nodes]))
+        sites.host("ended-kept-out", NETWORK, sender, "127.0.1.89", "4003")
+        self.pipe, write = os.pipe()
+        os.set_blocking(write, False)
+        try:
+            while True:
+                os.write(write, bytes(4096))
+        except BlockingIOError:
+            os.set_blocking(write, True)
+        self.listener = sites.start_listener(name="ended-holders", stdout=write)
+        os.close(write)
+        self.go, self.ending = threading.Event(), None
+        self.sender = start_later(sites, "ended", self.go, bytes([128]) * 1000)
+        until(self.listener.said, 5)
+        self.holders = [Ender(sites, ip, address, OF_A_NODE * number) for number, ip in enumerate(nodes)]
+        # The values of the connections that ended well, and how many bytes of each value came.
+        self.well, self.came = [], collections.Counter()
+        self.thread = threading.Thread(target=self.run, daemon=True)
+        self.thread.start()
+
+    def ask(self):
+        """Asks for what was not accepted, and answers whether all is."""
+        for holder in self.holders:
+            holder.ask()
+        return all(len(holder.accepted) == OF_A_NODE for holder in self.holders)
+
+    def run(self):
+        until(self.ask, 10)
+        self.well = [holder.before + number for holder in self.holders for number in holder.accepted if holder.end(number)]
+        time.sleep(SILENCE)
+        self.ending = Ending(self.sender)
+        self.go.set()
+        self.ending.thread.join(ENDS + 2)
+        while select.select([self.pipe], [], [], 3)[0] and (some := os.read(self.pipe, 1 << 16)):
+            self.came.update(some)
+
+    def ended(self):
+        """The status of the sender, after how many seconds it ended, and what it said."""
+        self.thread.join(40)
+        seconds = 99
+        if self.ending:
+            self.ending.thread.join(5)
+            seconds = self.ending.seconds or 99
+        return self.sender.status(0), seconds, self.sender.said()
+
+    def end(self):
+        for holder in self.holders:
+            holder.socket.close()
+        for process in (self.listener, self.sender):
+            process.end()
+        os.close(self.pipe)
+
+
+def start_held(sites):
+    """A node that asks for all connections; two that hold all, of which one is silent then; two that go on to speak; and two
+    that end all before their bytes are written."""
+    return {"one": Held(sites, "one", MOST, 1, 5, 0), "silent": Held(sites, "silent", OF_A_NODE, 1, 3, SILENCE),
+            "busy": Held(sites, "busy", OF_A_NODE, 2, 3, SILENCE), "ended": Ended(sites)}
+
+
+def check_held(sites, held):
+    """Who gets a slot there, and who keeps one."""
+    one = held["one"]
+    check_through(sites, "a sender to a listener of which another node asks for all connections gets through", one)
+    sites.check(f"of {MOST} connections that one node asks for it gets {OF_A_NODE}",
+                one.accepted == [OF_A_NODE] and one.heard == [OF_A_NODE], f"{one.accepted} accepted, {one.heard} acknowledged")
+    check_line(sites, "and its other requests are counted", one, AWAY)
+    silent = held["silent"]
+    check_through(sites, "a sender to one whose connections are all taken, half of them silent for 10 s, gets through", silent)
+    sites.check("for which one of those is evicted, and none that speaks",
+                silent.accepted == [OF_A_NODE] * 2 and silent.heard == [OF_A_NODE, OF_A_NODE - 1],
+                f"{silent.accepted} accepted, {silent.heard} acknowledged")
+    check_line(sites, "and is counted", silent, EVICTED)
+    busy = held["busy"]
+    status, took, said, _ = busy.ended()
+    line = f"no answer from {NETWORK} {node(HELD['busy'][0])} 4002"
+    sites.check(f"a sender to one whose connections are all taken, and speak, ends within {ENDS} seconds, and says why",
+                status == 1 and said == [line] and took < ENDS, f"{status}, after {took:.2f} s, {said}")
+    sites.check("and all of them stay", busy.accepted == busy.heard == [OF_A_NODE] * 2,
+                f"{busy.accepted} accepted, {busy.heard} acknowledged")
+    check_line(sites, "and its requests are counted", busy, AWAY)
+    check_ended(sites, held["ended"])
+    for it in held.values():
+        it.end()
+
+
+def check_ended(sites, it):
+    """None is evicted that ended well, and its bytes come as the output is read."""
+    status, took, said = it.ended()
+    sites.check(f"{MOST} connections end well although nothing that they sent can be written",
+                it.well == list(range(1, MOST + 1)), f"{len(it.well)} of them")
+    line = f"no answer from {NETWORK} {node(HELD['ended'][0])} 4002"
+    sites.check(f"a sender that asks 10 s later ends within {ENDS} seconds, and says why",
+                status == 1 and said == [line] and took < ENDS, f"{status}, after {took:.2f} s, {said}")
+    check_line(sites, "and its requests are counted there", it, AWAY)
+    missing = {value: UNITS * UNIT - it.came[value] for value in it.well if it.came[value] != UNITS * UNIT}
+    sites.check("and as the output is read, all bytes of those that ended well come", it.well and not missing,
+                f"missing, by their value: {missing}" if missing else "")
+
+
+def check_through(sites, name, held):
+    """The sender ends with status 0 soon, and all its bytes came."""
+    status, took, said, came = held.ended()
+    sites.check(name, status == 0 and took < THROUGH and came == held.data,
+                f"{status}, after {took:.2f} s, {len(came)} of {len(held.data)} bytes, {said}")
+
+
+def check_line(sites, name, held, line):
+    """The listener logged such a line."""
+    sites.check(name, any(re.fullmatch(line, said) for said in held.listener.said()), str(held.listener.said()[-2:]))

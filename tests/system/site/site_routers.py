@@ -1,0 +1,106 @@
+"""A port whose file says which of its peers are routers, for `sites`."""
+import re
+import struct
+import time
+
+from site_packets import ipx, rip_response
+from site_world import bound, node, port_table, until
+
+# A router between two networks; on the first a router that it names and a host, on the other one more.
+NEAR, FAR = "127.0.1.170", "127.0.1.173"
+NAMED, HOST, AWAY = "127.0.1.171", "127.0.1.172", "127.0.1.174"
+NAMING = [NEAR, FAR, NAMED, HOST, AWAY]
+NAME = "n1"
+EVERY_NODE = "f" * 12
+# Two routes, two services, a packet of another network and two that are handed on along this one.
+KEPT = 6
+
+
+def start_routers(sites):
+    """Starts the router, and binds the three that speak to it."""
+    text = (f'metrics_file = "{sites.world.path(NAME + ".prom")}"\n'
+            + port_table("00000061", NEAR, sites.port, [NAMED, HOST]) + f'routers = ["{NAMED}"]\n'
+            + port_table("00000062", FAR, sites.port, [AWAY]) + "routers = []\n")
+    sites.world.write(f"{NAME}.toml", text)
+    sites.start_router(NAME)
+    ends = {ip: bound(ip, sites.port) for ip in (NAMED, HOST, AWAY)}
+    until(lambda: len(sites.routers[NAME].said()) >= 2, 10)
+    return ends
+
+
+def bodies(one):
+    """The bodies of the packets for socket 4002 that came to a socket."""
+    found = []
+    while True:
+        try:
+            packet = one.recv(2000)
+        except BlockingIOError:
+            return found
+        if packet[16:18] == b"\x40\x02":
+            found.append(packet[30:])
+
+
+def to_away(source, hops, body):
+    """A packet for the one on the other network."""
+    return ipx(4, ("00000062", node(AWAY), "4002"), (*source, "4003"), body, hops)
+
+
+def sap_response(source, operation):
+    """A SAP response with one service, of a node of network 61."""
+    service = struct.pack(">H", 4) + b"SERVER".ljust(48, b"\0") + bytes.fromhex("000000660000000000014444" "0001")
+    return ipx(4, ("00000061", EVERY_NODE, "0452"), ("00000061", source, "0452"),
+               struct.pack(">H", operation) + service)
+
+
+def tell(sites, ends):
+    """Routes that the host tells are not taken, those of the router that is named are."""
+    port = (NEAR, sites.port)
+    ends[HOST].sendto(rip_response("00000061", node(HOST), [(0x63, 1, 1)]), port)
+    ends[HOST].sendto(rip_response("00000000", node(HOST), [(0x63, 1, 1)]), port)
+    ends[NAMED].sendto(rip_response("00000061", node(NAMED), [(0x64, 1, 1)]), port)
+    for operation in (2, 4):
+        ends[HOST].sendto(sap_response(node(HOST), operation), port)
+    time.sleep(0.3)
+    for network in (0x63, 0x64):
+        ends[AWAY].sendto(ipx(4, (f"{network:08x}", "000000000001", "4002"), ("00000062", node(AWAY), "4003"),
+                              bytes([network])), (FAR, sites.port))
+    time.sleep(0.3)
+    sites.check("a route that a host tells is not taken, and that of a router which is named is",
+                [bodies(ends[HOST]), bodies(ends[NAMED])] == [[], [b"\x64"]])
+
+
+def pass_on(sites, ends):
+    """What the host passes on does not arrive, what the router passes on does, and the host's own."""
+    port = (NEAR, sites.port)
+    others = [(("00000065", "000000000001"), 1), (("00000061", node("127.0.1.175")), 1)]
+    for number, (source, hops) in enumerate(others):
+        ends[HOST].sendto(to_away(source, hops, bytes([1, number])), port)
+        ends[NAMED].sendto(to_away(source, hops, bytes([2, number])), port)
+    for network in ("00000061", "00000000"):
+        ends[HOST].sendto(to_away((network, node(HOST)), 0, bytes([3, int(network[-1])])), port)
+    came = []
+    until(lambda: came.extend(bodies(ends[AWAY])) or len(came) >= 4, 1)
+    time.sleep(0.2)
+    came += bodies(ends[AWAY])
+    sites.check("what a host passes on does not arrive; what a router passes on does, and what is the host's own",
+                sorted(came) == [b"\2\0", b"\2\1", b"\3\0", b"\3\1"], str(sorted(came)))
+
+
+def check_routers(sites, ends):
+    """All of it, but for the figures."""
+    tell(sites, ends)
+    pass_on(sites, ends)
+    for one in ends.values():
+        one.close()
+
+
+def check_routers_figures(sites, figures):
+    """What was no router's to send is counted and told, once the figures were written."""
+    count = 'ipx_filtered_total{reason="not_a_router"}'
+    got = figures[NAME].get(count)
+    sites.check("what was no router's to send is counted", got == KEPT, str(got))
+    line = re.compile(r"\[WARN  ipx\] \d+ datagrams routed or RIP/SAP from a host not listed in routers \(\d+ since the start\), the last from "
+                      + re.escape(HOST))
+    said = sites.routers[NAME].said()
+    told = any(line.fullmatch(it) for it in said)
+    sites.check("and it is told", told, "" if told else str(said[-3:]))
