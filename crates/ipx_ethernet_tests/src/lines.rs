@@ -1,5 +1,5 @@
-//! The frames of a file, one line of hex each, and how each is read. `tests/system/ethernet/frames` writes that
-//! file; if there is none, nothing is read.
+//! The frames of a file, one line of hex each, and how each is read. `tests/system/ethernet/frames`
+//! writes that file; if there is none, nothing is read.
 
 use crate::fixture::STATION;
 use ipx_ethernet::decode_frame;

@@ -1,5 +1,5 @@
-//! Rows of datagrams, as tests/data/players.rows has them, at its first router. `row` begins one, and
-//! names it. `in WHO BYTES` is a datagram that is sent, and `out WHO BYTES` one that arrives;
+//! Rows of datagrams, as tests/data/players.rows has them, at its first router. `row` begins one,
+//! and names it. `in WHO BYTES` is a datagram that is sent, and `out WHO BYTES` one that arrives;
 //! nothing else arrives anywhere. `61*9` is nine bytes 61. A line that begins with a blank
 //! continues the line before.
 //!
