@@ -5,7 +5,7 @@ use Rattle.std.proofs.lemmas.List.{map-append, take_more}
 use Rattle.std.proofs.lemmas.List.Elements.{filter-append}
 use Rattle.std.proofs.lemmas.List.Sums.{sum_by-append}
 use Rattle.ipxnet_server.specs.declared.clients.Client.{Client}
-use Rattle.ipxnet_server.specs.declared.place.Place.{Place}
+use Rattle.std.specs.declared.net.socket_addr.SocketAddrV4.{SocketAddrV4}
 use Rattle.ipxnet_server.specs.declared.recipients.Recipients.{Recipients}
 use Rattle.ipxnet_server.specs.ServerHears.{ServerView, takers_join, takers_reach}
 use Rattle.ipx_carrier.specs.Counting.{raised}
@@ -123,27 +123,27 @@ reaches_one sent l takers cs n d port bytes s t u f g i lt is h went none counte
 
 -- ---- joined routers, one after another
 
-abbrev pub joined_among : ServerView → Recipients → List Place → List Place
+abbrev pub joined_among : ServerView → Recipients → List SocketAddrV4 → List SocketAddrV4
 joined_among l takers rs = filter (λ r. takers_join l takers r) rs
 
-joined_more : (l : ServerView) (takers : Recipients) (rs : List Place) (n : ℕ) (d : Place) (b : Bool) → n < length rs → takers_join l takers (get_or rs n d) ≡ b → joined_among l takers (take (n + 1) rs) ≡ joined_among l takers (take n rs) ++ cond b (get_or rs n d ∷ []) []
+joined_more : (l : ServerView) (takers : Recipients) (rs : List SocketAddrV4) (n : ℕ) (d : SocketAddrV4) (b : Bool) → n < length rs → takers_join l takers (get_or rs n d) ≡ b → joined_among l takers (take (n + 1) rs) ≡ joined_among l takers (take n rs) ++ cond b (get_or rs n d ∷ []) []
 joined_more l takers rs n d b lt is =
-    ap (joined_among l takers) (take_more rs n d lt) ∙ filter-append (λ (r : Place). takers_join l takers r) (take n rs) (get_or rs n d ∷ [])
+    ap (joined_among l takers) (take_more rs n d lt) ∙ filter-append (λ (r : SocketAddrV4). takers_join l takers r) (take n rs) (get_or rs n d ∷ [])
     ∙ ap (λ (t : Bool). joined_among l takers (take n rs) ++ cond t (get_or rs n d ∷ []) []) is
 
-pub joins_past : (l : ServerView) (takers : Recipients) (rs : List Place) (n : ℕ) (d : Place) (port : ℕ) (bytes : List ℕ) (s t : Option PlaceTraffic) (f g : ℕ) → n < length rs → takers_join l takers (get_or rs n d) ≡ false
+pub joins_past : (l : ServerView) (takers : Recipients) (rs : List SocketAddrV4) (n : ℕ) (d : SocketAddrV4) (port : ℕ) (bytes : List ℕ) (s t : Option PlaceTraffic) (f g : ℕ) → n < length rs → takers_join l takers (get_or rs n d) ≡ false
     → HandsOver (relayed_on port bytes (joined_among l takers (take n rs))) [] s t f g → HandsOver (relayed_on port bytes (joined_among l takers (take (n + 1) rs))) [] s t f g
 joins_past l takers rs n d port bytes s t f g lt is h =
     let same : joined_among l takers (take (n + 1) rs) ≡ joined_among l takers (take n rs) = joined_more l takers rs n d false lt is ∙ append-nil _ in
-    subst (λ (xs : List Place). HandsOver (relayed_on port bytes xs) [] s t f g) (sym same) h
+    subst (λ (xs : List SocketAddrV4). HandsOver (relayed_on port bytes xs) [] s t f g) (sym same) h
 
-pub joins_one : {T E : Type 0} (sent : Result T E) (l : ServerView) (takers : Recipients) (rs : List Place) (n : ℕ) (d : Place) (port : ℕ) (bytes : List ℕ) (s t u : Option PlaceTraffic) (f g i : ℕ) → n < length rs → takers_join l takers (get_or rs n d) ≡ true
+pub joins_one : {T E : Type 0} (sent : Result T E) (l : ServerView) (takers : Recipients) (rs : List SocketAddrV4) (n : ℕ) (d : SocketAddrV4) (port : ℕ) (bytes : List ℕ) (s t u : Option PlaceTraffic) (f g i : ℕ) → n < length rs → takers_join l takers (get_or rs n d) ≡ true
     → HandsOver (relayed_on port bytes (joined_among l takers (take n rs))) [] s t f g
     → OnOk sent (PlacesPass t u [] (place_datagram port bytes (get_or rs n d) ∷ [])) → OnErr sent (u ≡ t) → i ≡ failures_with sent g
     → HandsOver (relayed_on port bytes (joined_among l takers (take (n + 1) rs))) [] s u f i
 joins_one sent l takers rs n d port bytes s t u f g i lt is h went none counted =
-    let before : List Place = joined_among l takers (take n rs) in
+    let before : List SocketAddrV4 = joined_among l takers (take n rs) in
     let one : PlaceDatagram = place_datagram port bytes (get_or rs n d) in
     let same : relayed_on port bytes (joined_among l takers (take (n + 1) rs)) ≡ relayed_on port bytes before ++ one ∷ [] =
-    ap (relayed_on port bytes) (joined_more l takers rs n d true lt is) ∙ map-append (λ (r : Place). place_datagram port bytes r) before (get_or rs n d ∷ []) in
+    ap (relayed_on port bytes) (joined_more l takers rs n d true lt is) ∙ map-append (λ (r : SocketAddrV4). place_datagram port bytes r) before (get_or rs n d ∷ []) in
     subst (λ (ds : List PlaceDatagram). HandsOver ds [] s u f i) (sym same) (hands_both (relayed_on port bytes before) (one ∷ []) s t u f g i h (hands_one sent one t u g i went none counted))

@@ -13,7 +13,7 @@ use Rattle.ipxnet_server.specs.declared.drops.ServerDrop.{ServerDrop}
 use Rattle.ipxnet_server.specs.declared.drops.ServerDrop.TheVariants.{TooLong}
 use Rattle.ipxnet_server.specs.declared.disposition.Disposition.{Disposition}
 use Rattle.ipxnet_server.specs.declared.disposition.Disposition.TheVariants.{Registered, Pinged, ToClient, ToOthers, ToOthersAndCore, ToCore, ToJoined, FromJoined, Dropped}
-use Rattle.ipxnet_server.specs.declared.place.Place.{Place}
+use Rattle.std.specs.declared.net.socket_addr.SocketAddrV4.{SocketAddrV4}
 use Rattle.ipxnet_server.specs.declared.port.ServerPort.{ServerPort}
 use Rattle.ipxnet_server.specs.declared.recipients.Recipients.{Recipients}
 use Rattle.ipxnet_server.specs.declared.recipients.Recipients.TheVariants.{Joined, Nobody}
@@ -32,11 +32,11 @@ use Rattle.ipx_ipxnet_ports.proofs.Handing.{hands_after}
 abbrev port_in : ServerView → ServerPort × ℕ
 port_in l = (l.port, l.most)
 
-told_stays : (told : Option Node) (from : Place) (now : ℕ) (l : ServerView) → port_in (server_learned told from now l) ≡ port_in l
+told_stays : (told : Option Node) (from : SocketAddrV4) (now : ℕ) (l : ServerView) → port_in (server_learned told from now l) ≡ port_in l
 told_stays None from now l = refl
 told_stays (Some node) from now l = refl
 
-hearing_stays : (heard : Disposition) (from : Place) (now : ℕ) (l : ServerView) → port_in (server_hearing heard from now l) ≡ port_in l
+hearing_stays : (heard : Disposition) (from : SocketAddrV4) (now : ℕ) (l : ServerView) → port_in (server_hearing heard from now l) ≡ port_in l
 hearing_stays (Registered answer) from now l = refl
 hearing_stays (Pinged giver answer) from now l = refl
 hearing_stays (ToClient place) from now l = refl
@@ -95,7 +95,7 @@ relays_known port bytes l takers =
     All-map (λ (d : PlaceDatagram). is_some (client_at d.place l.clients) ≡ true) (λ (c : Client). place_datagram port bytes c.place) (clients_reached l takers)
     (All-weaker (λ (c : Client). takers_reach l takers c.place ≡ true) known (λ c e. both_true (is_some (client_at c.place l.clients)) (is_taker takers c.place) e) (clients_reached l takers) (filter_passes (λ (c : Client). takers_reach l takers c.place) l.clients))
 
-answer_known : (port : ℕ) (place : Place) (l : ServerView) (answer : Option (List ℕ)) → (is_some answer ≡ true → is_some (client_at place l.clients) ≡ true) → AreForClients l (answer_for port place answer)
+answer_known : (port : ℕ) (place : SocketAddrV4) (l : ServerView) (answer : Option (List ℕ)) → (is_some answer ≡ true → is_some (client_at place l.clients) ≡ true) → AreForClients l (answer_for port place answer)
 answer_known port place l None h = All-nil (λ (d : PlaceDatagram). is_some (client_at d.place l.clients) ≡ true)
 answer_known port place l (Some answer) h =
     All-cons (λ (d : PlaceDatagram). is_some (client_at d.place l.clients) ≡ true) (place_datagram port answer place) [] (h refl) (All-nil (λ (d : PlaceDatagram). is_some (client_at d.place l.clients) ≡ true))
@@ -117,8 +117,8 @@ sends_known joined l heard d answer c answered sender unanswered =
 
 pub relays_joined : (port : ℕ) (bytes : List ℕ) (l : ServerView) (takers : Recipients) → AreForRouters l (relayed_on port bytes (routers_reached l takers))
 relays_joined port bytes l takers =
-    All-map (λ (d : PlaceDatagram). is_joined_place d.place l.routers ≡ true) (λ (r : Place). place_datagram port bytes r) (routers_reached l takers)
-    (All-weaker (λ (r : Place). takers_join l takers r ≡ true) (λ (r : Place). is_joined_place r l.routers ≡ true) (λ r e. both_true (is_joined_place r l.routers) (is_joined_taker takers r) e) (routers_reached l takers) (filter_passes (λ (r : Place). takers_join l takers r) l.routers))
+    All-map (λ (d : PlaceDatagram). is_joined_place d.place l.routers ≡ true) (λ (r : SocketAddrV4). place_datagram port bytes r) (routers_reached l takers)
+    (All-weaker (λ (r : SocketAddrV4). takers_join l takers r ≡ true) (λ (r : SocketAddrV4). is_joined_place r l.routers ≡ true) (λ r e. both_true (is_joined_place r l.routers) (is_joined_taker takers r) e) (routers_reached l takers) (filter_passes (λ (r : SocketAddrV4). takers_join l takers r) l.routers))
 
 notice_joined : (port : ℕ) (l : ServerView) (announcement : Option (List ℕ)) → AreForRouters l (notice_for port l announcement)
 notice_joined port l None = All-nil (λ (d : PlaceDatagram). is_joined_place d.place l.routers ≡ true)
@@ -144,7 +144,7 @@ second_false : (a b : Bool) → b ≡ false → (a && b) ≡ false
 second_false true b e = e
 second_false false b e = refl
 
-past_by : (r : Place) (kept : List Place) (b : Bool) → b ≡ false → cond b (r ∷ kept) kept ≡ kept
+past_by : (r : SocketAddrV4) (kept : List SocketAddrV4) (b : Bool) → b ≡ false → cond b (r ∷ kept) kept ≡ kept
 past_by r kept true e = cc
 past_by r kept false e = refl
 
@@ -152,7 +152,7 @@ client_past : (c : Client) (kept : List Client) (b : Bool) → b ≡ false → c
 client_past c kept true e = cc
 client_past c kept false e = refl
 
-none_joined : (l : ServerView) (takers : Recipients) (rs : List Place) → ((place : Place) → is_joined_taker takers place ≡ false) → filter (λ r. takers_join l takers r) rs ≡ []
+none_joined : (l : ServerView) (takers : Recipients) (rs : List SocketAddrV4) → ((place : SocketAddrV4) → is_joined_taker takers place ≡ false) → filter (λ r. takers_join l takers r) rs ≡ []
 none_joined l takers [] ring = refl
 none_joined l takers (r ∷ rs) ring =
     past_by r (filter (λ r. takers_join l takers r) rs) (takers_join l takers r) (second_false (is_joined_place r l.routers) (is_joined_taker takers r) (ring r)) ∙ none_joined l takers rs ring
@@ -186,7 +186,7 @@ nothing_noticed : (port : ℕ) (l : ServerView) (announcement : Option (List ℕ
 nothing_noticed port l None e = refl
 nothing_noticed port l (Some announcement) e = cc
 
-pub nothing_goes_round : (l : ServerView) (heard : Disposition) (d : PlaceDatagram) (announcement : Option (List ℕ)) → is_some announcement ≡ is_some (notice_of heard) → answer_of heard ≡ None → ((place : Place) → is_joined_taker (takers_of heard) place ≡ false)
+pub nothing_goes_round : (l : ServerView) (heard : Disposition) (d : PlaceDatagram) (announcement : Option (List ℕ)) → is_some announcement ≡ is_some (notice_of heard) → answer_of heard ≡ None → ((place : SocketAddrV4) → is_joined_taker (takers_of heard) place ≡ false)
     → joined_sends l heard d announcement ≡ []
 nothing_goes_round l heard d announcement noticed unanswered ring =
     let first : notice_for d.port l announcement ≡ [] = nothing_noticed d.port l announcement (noticed ∙ none_noticed heard unanswered) in

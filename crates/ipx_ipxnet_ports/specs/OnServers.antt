@@ -10,7 +10,7 @@ use Rattle.ipxnet_server.specs.declared.drops.ServerDrop.{ServerDrop}
 use Rattle.ipxnet_server.specs.declared.drops.ServerDrop.TheVariants.{Malformed}
 use Rattle.ipxnet_server.specs.declared.disposition.Disposition.{Disposition}
 use Rattle.ipxnet_server.specs.declared.disposition.Disposition.TheVariants.{Dropped}
-use Rattle.ipxnet_server.specs.declared.place.Place.{Place}
+use Rattle.std.specs.declared.net.socket_addr.SocketAddrV4.{SocketAddrV4}
 use Rattle.ipxnet_server.specs.declared.port.ServerPort.{ServerPort}
 use Rattle.ipxnet_server.specs.declared.recipients.Recipients.{Recipients}
 use Rattle.ipxnet_server.specs.declared.recipients.Recipients.TheVariants.{Nobody, Joined}
@@ -41,14 +41,14 @@ abbrev pub relayed_to : ℕ → List ℕ → List Client → List PlaceDatagram
 relayed_to port bytes clients = map (λ c. place_datagram port bytes c.place) clients
 
 -- the addresses of joined routers that takers have, in order, and the same bytes for each of these
-abbrev pub routers_reached : ServerView → Recipients → List Place
+abbrev pub routers_reached : ServerView → Recipients → List SocketAddrV4
 routers_reached l takers = filter (λ r. takers_join l takers r) l.routers
 
-abbrev pub relayed_on : ℕ → List ℕ → List Place → List PlaceDatagram
+abbrev pub relayed_on : ℕ → List ℕ → List SocketAddrV4 → List PlaceDatagram
 relayed_on port bytes routers = map (λ r. place_datagram port bytes r) routers
 
 -- an answer to an address, if there is one
-abbrev pub answer_for : ℕ → Place → Option (List ℕ) → List PlaceDatagram
+abbrev pub answer_for : ℕ → SocketAddrV4 → Option (List ℕ) → List PlaceDatagram
 answer_for port place None = []
 answer_for port place (Some answer) = place_datagram port answer place ∷ []
 
@@ -78,7 +78,7 @@ abbrev pub AreForClients : ServerView → List PlaceDatagram → Type 0
 AreForClients l datagrams = All (λ d. is_some (client_at d.place l.clients) ≡ true) datagrams
 
 -- what a server makes of bytes from an address, if they are no packet, and if they begin with one
-pub record HearsBytes (l : ServerView) (from : Place) (bytes : List ℕ) (now : ℕ) (heard : Disposition) : Type 0 where
+pub record HearsBytes (l : ServerView) (from : SocketAddrV4) (bytes : List ℕ) (now : ℕ) (heard : Disposition) : Type 0 where
   pub malformed : (f : IpxFault) → ipx_fault bytes ≡ Some f → heard ≡ Dropped (Malformed f)
   pub packet : (p : PacketView) → BeginsWith bytes p
       → heard ≡ server_hears (server_aged now l) from p (length bytes) now

@@ -2,13 +2,13 @@
 -- were sent to which. Defined by this project.
 use Rattle.std.specs.Prelude.{◌≡◌, ℕ, zero, suc, List, [], ◌∷◌, ◌++◌, Bool, not, Option, Some, None, Result, Ok, Err, IfSome, count_by, filter, map, take}
 use Rattle.ipx_carrier.specs.Counting.{raised}
-use Rattle.ipxnet_server.specs.declared.place.Place.{Place}
+use Rattle.std.specs.declared.net.socket_addr.SocketAddrV4.{SocketAddrV4}
 use Rattle.ipx_ipxnet_ports.specs.declared.place_sockets.DatagramCame.{DatagramCame}
 
 -- bytes that came to a port from an address, or were sent from there to it
 pub record PlaceDatagram : Type 0 where
   pub port : ℕ
-  pub place : Place
+  pub place : SocketAddrV4
   pub bytes : List ℕ
 
 -- all that passed so far, in order
@@ -17,7 +17,7 @@ pub record PlaceTraffic : Type 0 where
   pub went : List PlaceDatagram
 
 -- the same bytes for an address
-abbrev pub place_datagram : ℕ → List ℕ → Place → PlaceDatagram
+abbrev pub place_datagram : ℕ → List ℕ → SocketAddrV4 → PlaceDatagram
 place_datagram port bytes place = record { port = port; place = place; bytes = bytes }
 
 -- what came is at the front of the buffer

@@ -8,7 +8,8 @@ ghost use Rattle.ipx_ipxnet_ports.specs.PlaceTraffic.{HandsOver, place_datagram}
 
 use crate::place_sockets::PlaceSockets;
 use ipx_wire::IPX_HEADER_SIZE;
-use ipxnet_server::{Disposition, IpxnetServer, Place, Recipients};
+use ipxnet_server::{Disposition, IpxnetServer, Recipients};
+use std::net::SocketAddrV4;
 
 /// Sends bytes by a port to each client of its server that the takers reach, in order. If that
 /// fails for one, the others still get them.
@@ -82,7 +83,7 @@ fn send_notice<D: PlaceSockets>(
 fn send_answer<D: PlaceSockets>(
     sockets: &mut D,
     port: usize,
-    place: Place,
+    place: SocketAddrV4,
     answer: Option<[u8; IPX_HEADER_SIZE]>,
 )
     requires { port < D.port_count sockets.old }
@@ -107,7 +108,7 @@ pub fn give_on<D: PlaceSockets>(
     port: usize,
     server: &IpxnetServer,
     heard: Disposition,
-    from: Place,
+    from: SocketAddrV4,
     bytes: &[u8],
 )
     requires there { port < D.port_count sockets.old }

@@ -5,6 +5,7 @@
 //! what is for it.
 #![tactic(auto)]
 
+mod allow;
 mod front;
 mod giving_on;
 mod memory;
@@ -12,6 +13,7 @@ mod place_sockets;
 mod server_ports;
 mod sockets;
 
+pub use allow::Allow;
 pub use memory::{MemoryDatagram, MemoryPlaces};
 pub use place_sockets::{DatagramCame, PlaceSockets};
 pub use server_ports::Servers;

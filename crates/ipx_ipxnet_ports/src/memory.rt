@@ -8,14 +8,14 @@ use crate::front::put_front;
 use crate::place_sockets::{DatagramCame, PlaceSockets};
 use ipx_carrier::{DeviceFault, saturating_increment};
 use ipx_wire::OutOfMemory;
-use ipxnet_server::Place;
 use std::alloc::Global;
+use std::net::SocketAddrV4;
 
 /// A datagram that came from an address, or that was sent to one.
 #[derive(Drop)]
 pub struct MemoryDatagram {
     pub port: usize,
-    pub place: Place,
+    pub place: SocketAddrV4,
     pub bytes: Vec<u8>,
 }
 
@@ -31,7 +31,7 @@ pub struct MemoryPlaces {
     waiting: Vec<MemoryDatagram>,
     came: Vec<MemoryDatagram>,
     went: Vec<MemoryDatagram>,
-    broken: Option<Place>,
+    broken: Option<SocketAddrV4>,
     failures: u64,
 }
 
@@ -40,7 +40,7 @@ fn keep_datagram(
     alloc: Global,
     datagrams: &mut Vec<MemoryDatagram>,
     port: usize,
-    place: Place,
+    place: SocketAddrV4,
     bytes: &[u8],
 ) -> Result<(), OutOfMemory>
     ensures kept { OnOk result (memory_datagrams datagrams.new.items
@@ -78,7 +78,7 @@ impl MemoryPlaces {
     }
 
     /// Puts a datagram from an address after those that wait at a port.
-    pub fn put(&mut self, port: usize, place: Place, bytes: &[u8]) -> Result<(), OutOfMemory>
+    pub fn put(&mut self, port: usize, place: SocketAddrV4, bytes: &[u8]) -> Result<(), OutOfMemory>
         ensures put { OnOk result (datagrams_waiting self.new
             ≡ datagrams_waiting self.old ++ place_datagram port bytes.now place ∷ []) }
         ensures refused { OnErr result (datagrams_waiting self.new ≡ datagrams_waiting self.old) }
@@ -91,7 +91,7 @@ impl MemoryPlaces {
     }
 
     /// Sending to this address fails from now on. An address that was named before works again.
-    pub fn break_place(&mut self, place: Place)
+    pub fn break_place(&mut self, place: SocketAddrV4)
         ensures { self.new ≡ record self.old { broken = Some place } }
     {
         self.broken = Some(place);
@@ -127,7 +127,7 @@ impl PlaceSockets for MemoryPlaces {
         0
     }
 
-    fn send(&mut self, port: usize, place: Place, bytes: &[u8]) -> Result<(), DeviceFault> {
+    fn send(&mut self, port: usize, place: SocketAddrV4, bytes: &[u8]) -> Result<(), DeviceFault> {
         if self.broken == Some(place) {
             saturating_increment(&mut self.failures);
             return Err(DeviceFault);

@@ -4,12 +4,12 @@ ghost use Rattle.std.specs.Prelude.{◌≡◌, ◌<◌, ◌≤◌, ℕ, [], ◌�
 ghost use Rattle.ipx_ipxnet_ports.specs.PlaceTraffic.{PlaceTraffic, PlacesPass, came_from_place, failures_with, place_datagram, place_datagrams};
 
 use ipx_carrier::DeviceFault;
-use ipxnet_server::Place;
+use std::net::SocketAddrV4;
 
 /// A datagram that came to a port: its source address, and how many bytes it has.
 #[derive(Clone, Copy, PartialEq, Eq)]
 pub struct DatagramCame {
-    pub from: Place,
+    pub from: SocketAddrV4,
     pub size: usize,
 }
 
@@ -48,7 +48,7 @@ pub trait PlaceSockets {
     /// Sends a datagram by a port to an address. If that fails nothing is sent.
     ///
     /// The port must exist.
-    fn send(&mut self, port: usize, place: Place, bytes: &[u8]) -> Result<(), DeviceFault>
+    fn send(&mut self, port: usize, place: SocketAddrV4, bytes: &[u8]) -> Result<(), DeviceFault>
         requires { port < port_count self.old }
         ensures sent { OnOk result (PlacesPass (traffic self.old) (traffic self.new)
             [] (place_datagram port bytes.now place ∷ [])) }

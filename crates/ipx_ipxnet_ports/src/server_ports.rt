@@ -11,7 +11,8 @@ use crate::place_sockets::PlaceSockets;
 use crate::sockets::ServerSockets;
 use ipx_carrier::{DeviceFault, PacketSent, PortDriver, PortDriverFilters, saturating_increment};
 use ipx_wire::Node;
-use ipxnet_server::{IpxnetServer, MAX_CLIENT_BYTES, Place, Recipients};
+use ipxnet_server::{IpxnetServer, MAX_CLIENT_BYTES, Recipients};
+use std::net::SocketAddrV4;
 
 /// The size of the buffer that a datagram is received into: more than any that is sent on to
 /// clients.
@@ -109,7 +110,7 @@ impl<D: PlaceSockets + Drop> Servers<D> {
     fn hear_datagram(
         &mut self,
         port: usize,
-        from: Place,
+        from: SocketAddrV4,
         bytes: &[u8],
         room: &mut [u8],
     ) -> Option<usize>

@@ -1,25 +1,27 @@
 //! UDP sockets for ipxnet servers.
 
 ghost use Rattle.std.specs.Prelude.{◌≡◌, ◌<◌, ◌≤◌, ◌↔◌, ◌++◌, ◌∷◌, [], Bool, IfOk, IfSome, IsSome, None, Ok, OnErr, OnOk, false, is_some, length, map, slice_get, slice_set, true};
+ghost use Rattle.std.specs.Net.Addr.{ipv4_octets};
+ghost use Rattle.std.specs.Net.Socket.{v4_ip};
 ghost use Rattle.ipx_carrier.specs.Counting.{raised};
 ghost use Rattle.ipx_carrier.specs.ReadySet.{AsksMarked, IsFilteredOrAnswer, is_port_marked};
 ghost use Rattle.ipx_ipxnet_ports.specs.ServerAddresses.{ips_heard, is_ip_heard, listed_ips, ipv4_place, place_heard};
 ghost use Rattle.ipx_ipxnet_ports.specs.PlaceTraffic.{failures_with};
 
+use crate::allow::Allow;
 use crate::place_sockets::{DatagramCame, PlaceSockets};
-use ipx_carrier::{DeviceFault, ReadySet, bind_nonblocking, saturating_increment, socket_addr};
-use ipxnet_server::Place;
+use ipx_carrier::{DeviceFault, ReadySet, bind_nonblocking, saturating_increment};
 use std::alloc::Global;
 use std::io;
 use std::io::ErrorKind;
-use std::net::{Net, SocketAddr, UdpSocket};
+use std::net::{Net, SocketAddr, SocketAddrV4, UdpSocket};
 use std::os::fd::{AsRawFd, RawFd};
 
-/// The socket of a port, and the IP addresses from which it accepts datagrams. None means any.
+/// The socket of a port, and the IP addresses from which it accepts datagrams.
 #[derive(Drop)]
 pub struct ServerSocket {
     socket: UdpSocket,
-    hears: Option<Vec<[u8; 4]>>,
+    allow: Allow,
 }
 
 /// Sockets that have a UDP socket for each port. Datagrams are accepted from these IP addresses,
@@ -46,35 +48,22 @@ pub struct ServerSockets {
 const TRIES: u32 = 8;
 
 /// The source address of a datagram.
-fn place_at(from: SocketAddr) -> Option<Place>
+fn place_at(from: SocketAddr) -> Option<SocketAddrV4>
     ensures { result ≡ ipv4_place from }
 {
     match from {
-        SocketAddr::V4(from) => Some(Place {
-            ip: from.ip().octets(),
-            udp_port: from.port(),
-        }),
+        SocketAddr::V4(from) => Some(from),
         SocketAddr::V6(_) => None,
-    }
-}
-
-/// Whether an IP address is one of these, or any is accepted.
-fn is_heard(ips: &Option<Vec<[u8; 4]>>, ip: [u8; 4]) -> bool
-    ensures { result ≡ is_ip_heard (listed_ips ips.now) ip }
-{
-    match ips {
-        Some(ips) => ips.contains(&ip),
-        None => true,
     }
 }
 
 impl ServerSocket {
     /// The source address of a datagram, if it is accepted.
-    fn place_heard(&self, from: SocketAddr) -> Option<Place>
+    fn place_heard(&self, from: SocketAddr) -> Option<SocketAddrV4>
         ensures { result ≡ place_heard (ips_heard self.now) (ipv4_place from) }
     {
         let place = place_at(from)?;
-        if is_heard(&self.hears, place.ip) {
+        if self.allow.allows(place.ip().octets()) {
             Some(place)
         } else {
             None
@@ -99,18 +88,17 @@ impl ServerSockets {
         }
     }
 
-    /// Binds one more port at an address, where datagrams from these IP addresses are accepted;
-    /// None means any. The error is the system's or out of memory, and the ports are then as
-    /// before.
-    pub fn bind<R: Net>(&mut self, rt: &R, at: Place, hears: Option<Vec<[u8; 4]>>) -> io::Result<()>
+    /// Binds one more port at an address, where datagrams from these IP addresses are accepted. The
+    /// error is the system's or out of memory, and the ports are then as before.
+    pub fn bind<R: Net>(&mut self, rt: &R, at: SocketAddrV4, allow: Allow) -> io::Result<()>
         ensures bound { OnOk result (map ips_heard self.new.sockets.items
-            ≡ map ips_heard self.old.sockets.items ++ listed_ips hears ∷ []) }
+            ≡ map ips_heard self.old.sockets.items ++ listed_ips allow ∷ []) }
         ensures marks { OnOk result (self.new.marks ≡ self.old.marks ++ true ∷ []) }
         ensures refused { OnErr result ((self.new.sockets.items ≡ self.old.sockets.items)
             × (self.new.marks ≡ self.old.marks)) }
     {
-        let socket = bind_nonblocking(rt, at.ip, at.udp_port)?;
-        let socket = ServerSocket { socket, hears };
+        let socket = bind_nonblocking(rt, at.ip().octets(), at.port())?;
+        let socket = ServerSocket { socket, allow };
         let count = self.sockets.len();
         if self.sockets.push(socket).is_err() {
             return Err(io::Error::from(ErrorKind::OutOfMemory));
@@ -184,7 +172,7 @@ impl PlaceSockets for ServerSockets {
         self.nowhere
     }
 
-    fn send(&mut self, port: usize, place: Place, bytes: &[u8]) -> Result<(), DeviceFault>
+    fn send(&mut self, port: usize, place: SocketAddrV4, bytes: &[u8]) -> Result<(), DeviceFault>
         requires { port < length self.old.sockets.items }
         // The system took it or refused it, and that is counted.
         ensures sent { OnOk result (self.new.sent ≡ raised self.old.sent) }
@@ -193,10 +181,7 @@ impl PlaceSockets for ServerSockets {
         ensures rest { (self.new.sockets ≡ self.old.sockets) × (self.new.faults ≡ self.old.faults)
             × (self.new.nowhere ≡ self.old.nowhere) × (self.new.marks ≡ self.old.marks) }
     {
-        match self.sockets[port]
-            .socket
-            .send_to(bytes, socket_addr(place.ip, place.udp_port))
-        {
+        match self.sockets[port].socket.send_to(bytes, place) {
             Ok(count) if count == bytes.len() => {
                 saturating_increment(&mut self.sent);
                 Ok(())
@@ -226,7 +211,7 @@ impl PlaceSockets for ServerSockets {
         // It came from an IP address that is accepted there.
         ensures heard { IfOk result (λ came. IfSome came (λ c.
             IfSome (slice_get self.old.sockets.items port)
-            (λ s. is_ip_heard (ips_heard s) c.from.ip ≡ true))) }
+            (λ s. is_ip_heard (ips_heard s) (ipv4_octets (v4_ip c.from)) ≡ true))) }
         ensures filtered { self.old.nowhere ≤ self.new.nowhere }
         ensures goes_on { OnErr result ⊥ }
         ensures faults { self.old.faults ≤ self.new.faults }

@@ -2,8 +2,8 @@
 //! and the core gets what is for it.
 
 use crate::fixture::{
-    ANSWER, CAME, FIRST, PORT, REGISTRATION, SECOND, THIRD, UNKNOWN_SENDER, after_registrations,
-    packet, servers, went_after,
+    ANSWER, CAME, PORT, REGISTRATION, after_registrations, first_place, packet, second_place,
+    servers, third_place, unknown_place, went_after,
 };
 use ipx_carrier::{PortDriver, PortDriverFilters};
 use ipx_ipxnet_ports::MemoryPlaces;
@@ -26,17 +26,17 @@ const PONG: [u8; 30] = [
 fn a_registration(rt: HostRuntime) -> Result<(), Fail> {
     let alloc = rt.alloc();
     let mut sockets = MemoryPlaces::new(alloc, 1);
-    sockets.put(0, FIRST, &REGISTRATION)?;
+    sockets.put(0, first_place(), &REGISTRATION)?;
     let mut servers = servers(alloc, sockets)?;
     servers.set_time(7);
     let mut room = [0xaa; 1536];
     assert!(rt; matches!(servers.receive(0, &mut room), Ok(None)));
-    assert!(rt; went_after(servers.sockets(), 0, &[FIRST], &ANSWER));
+    assert!(rt; went_after(servers.sockets(), 0, &[first_place()], &ANSWER));
     assert_eq!(rt; room, [0xaa; 1536]);
     assert_eq!(rt; servers.filtered(), 1);
     let known = servers.servers()[0].clients();
     assert_eq!(rt; known.len(), 1);
-    assert_eq!(rt; (known[0].place, known[0].since), (FIRST, 7));
+    assert_eq!(rt; (known[0].place, known[0].since), (first_place(), 7));
     // Now nothing waits.
     assert!(rt; matches!(servers.receive(0, &mut room), Ok(None)));
     assert_eq!(rt; servers.filtered(), 1);
@@ -50,7 +50,14 @@ fn to_all(rt: HostRuntime) -> Result<(), Fail> {
     let mut servers = after_registrations(rt.alloc(), &bytes)?;
     let mut room = [0xaa; 1536];
     assert!(rt; matches!(servers.receive(0, &mut room), Ok(None)));
-    assert!(rt; went_after(servers.sockets(), 3, &[SECOND, THIRD], &bytes));
+    assert!(rt;
+        went_after(
+            servers.sockets(),
+            3,
+            &[second_place(), third_place()],
+            &bytes
+        )
+    );
     assert_eq!(rt; room, [0xaa; 1536]);
     assert_eq!(rt; servers.filtered(), 4);
     Ok(())
@@ -62,7 +69,7 @@ fn to_one(rt: HostRuntime) -> Result<(), Fail> {
     let mut servers = after_registrations(rt.alloc(), &CAME)?;
     let mut room = [0; 1536];
     assert!(rt; matches!(servers.receive(0, &mut room), Ok(None)));
-    assert!(rt; went_after(servers.sockets(), 3, &[SECOND], &CAME));
+    assert!(rt; went_after(servers.sockets(), 3, &[second_place()], &CAME));
     Ok(())
 }
 
@@ -74,9 +81,16 @@ fn a_ping(rt: HostRuntime) -> Result<(), Fail> {
     assert!(rt; matches!(servers.receive(0, &mut room), Ok(None)));
     let sent = servers.sockets().went();
     assert_eq!(rt; sent.len(), 6);
-    assert_eq!(rt; sent[3].place, FIRST);
+    assert_eq!(rt; sent[3].place, first_place());
     assert_eq!(rt; sent[3].bytes.as_slice(), PONG.as_slice());
-    assert!(rt; went_after(servers.sockets(), 4, &[SECOND, THIRD], &PING));
+    assert!(rt;
+        went_after(
+            servers.sockets(),
+            4,
+            &[second_place(), third_place()],
+            &PING
+        )
+    );
     assert_eq!(rt; servers.filtered(), 4);
     Ok(())
 }
@@ -110,7 +124,14 @@ fn to_all_and_the_core(rt: HostRuntime) -> Result<(), Fail> {
     let mut room = [0; 1536];
     assert!(rt; matches!(servers.receive(0, &mut room), Ok(Some(34))));
     assert_eq!(rt; &room[..34], bytes.as_slice());
-    assert!(rt; went_after(servers.sockets(), 3, &[SECOND, THIRD], &bytes));
+    assert!(rt;
+        went_after(
+            servers.sockets(),
+            3,
+            &[second_place(), third_place()],
+            &bytes
+        )
+    );
     assert_eq!(rt; servers.filtered(), 3);
     Ok(())
 }
@@ -120,18 +141,18 @@ fn to_all_and_the_core(rt: HostRuntime) -> Result<(), Fail> {
 fn an_unknown_sender(rt: HostRuntime) -> Result<(), Fail> {
     let alloc = rt.alloc();
     let mut sockets = MemoryPlaces::new(alloc, 1);
-    sockets.put(0, FIRST, &REGISTRATION)?;
-    sockets.put(0, UNKNOWN_SENDER, &CAME)?;
-    sockets.put(0, UNKNOWN_SENDER, &packet(Node::BROADCAST))?;
-    sockets.put(0, UNKNOWN_SENDER, &REGISTRATION[..20])?;
-    sockets.put(0, FIRST, &packet(Node::BROADCAST))?;
+    sockets.put(0, first_place(), &REGISTRATION)?;
+    sockets.put(0, unknown_place(), &CAME)?;
+    sockets.put(0, unknown_place(), &packet(Node::BROADCAST))?;
+    sockets.put(0, unknown_place(), &REGISTRATION[..20])?;
+    sockets.put(0, first_place(), &packet(Node::BROADCAST))?;
     let mut servers = servers(alloc, sockets)?;
     let mut room = [0xaa; 1536];
     for _datagram in 0..5_u32 {
         assert!(rt; matches!(servers.receive(0, &mut room), Ok(None)));
     }
     // Only the answer to the first player was sent.
-    assert!(rt; went_after(servers.sockets(), 0, &[FIRST], &ANSWER));
+    assert!(rt; went_after(servers.sockets(), 0, &[first_place()], &ANSWER));
     assert_eq!(rt; room, [0xaa; 1536]);
     assert_eq!(rt; servers.servers()[0].counts().unregistered, 2);
     assert_eq!(rt; servers.servers()[0].counts().malformed, 1);

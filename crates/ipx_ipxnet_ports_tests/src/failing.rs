@@ -1,8 +1,8 @@
 //! A player that can't be reached: the others get theirs, and so does the core.
 
 use crate::fixture::{
-    CAME, FIRST, REGISTRATION, SECOND, SECOND_NODE, THIRD, UNKNOWN_SENDER, packet, registrations,
-    servers, went_after,
+    CAME, REGISTRATION, SECOND_NODE, first_place, packet, registrations, second_place, servers,
+    third_place, unknown_place, went_after,
 };
 use ipx_carrier::{PacketSent, PortDriver};
 use ipx_ipxnet_ports::PlaceSockets;
@@ -18,8 +18,8 @@ fn a_player_that_fails(rt: HostRuntime) -> Result<(), Fail> {
     bytes[16..18].copy_from_slice(&[4, 0x53]);
     bytes[30..32].copy_from_slice(&[0, 1]);
     let mut sockets = registrations(alloc)?;
-    sockets.put(0, FIRST, &bytes)?;
-    sockets.break_place(SECOND);
+    sockets.put(0, first_place(), &bytes)?;
+    sockets.break_place(second_place());
     let mut servers = servers(alloc, sockets)?;
     let mut room = [0; 1536];
     for _player in 0..3_u32 {
@@ -29,13 +29,13 @@ fn a_player_that_fails(rt: HostRuntime) -> Result<(), Fail> {
     assert_eq!(rt; servers.sockets().failures(), 1);
     assert_eq!(rt; servers.servers()[0].clients().len(), 3);
     assert!(rt; matches!(servers.receive(0, &mut room), Ok(Some(34))));
-    assert!(rt; went_after(servers.sockets(), 2, &[THIRD], &bytes));
+    assert!(rt; went_after(servers.sockets(), 2, &[third_place()], &bytes));
     assert_eq!(rt; servers.sockets().failures(), 2);
     assert_eq!(rt; servers.failures(), 0);
     // A packet of the core.
     let sent = servers.send(0, Node::BROADCAST, &CAME);
     assert!(rt; matches!(sent, Ok(PacketSent::Transmitted(1))));
-    assert!(rt; went_after(servers.sockets(), 3, &[THIRD, FIRST], &CAME));
+    assert!(rt; went_after(servers.sockets(), 3, &[third_place(), first_place()], &CAME));
     let sent = servers.send(0, SECOND_NODE, &CAME);
     assert!(rt; matches!(sent, Ok(PacketSent::Transmitted(1))));
     assert_eq!(rt; servers.sockets().went().len(), 5);
@@ -50,9 +50,9 @@ fn a_player_in_the_middle_that_fails(rt: HostRuntime) -> Result<(), Fail> {
     let alloc = rt.alloc();
     let bytes = packet(Node::BROADCAST);
     let mut sockets = registrations(alloc)?;
-    sockets.put(0, UNKNOWN_SENDER, &REGISTRATION)?;
-    sockets.put(0, FIRST, &bytes)?;
-    sockets.break_place(THIRD);
+    sockets.put(0, unknown_place(), &REGISTRATION)?;
+    sockets.put(0, first_place(), &bytes)?;
+    sockets.break_place(third_place());
     let mut servers = servers(alloc, sockets)?;
     let mut room = [0; 1536];
     for _player in 0..4_u32 {
@@ -66,12 +66,19 @@ fn a_player_in_the_middle_that_fails(rt: HostRuntime) -> Result<(), Fail> {
         went_after(
             servers.sockets(),
             3,
-            &[FIRST, SECOND, UNKNOWN_SENDER],
+            &[first_place(), second_place(), unknown_place()],
             &CAME
         )
     );
     assert!(rt; matches!(servers.receive(0, &mut room), Ok(None)));
-    assert!(rt; went_after(servers.sockets(), 6, &[SECOND, UNKNOWN_SENDER], &bytes));
+    assert!(rt;
+        went_after(
+            servers.sockets(),
+            6,
+            &[second_place(), unknown_place()],
+            &bytes
+        )
+    );
     assert_eq!(rt; servers.sockets().failures(), 3);
     assert_eq!(rt; servers.failures(), 0);
     Ok(())

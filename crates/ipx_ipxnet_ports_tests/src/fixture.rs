@@ -3,8 +3,9 @@
 use ipx_carrier::PortDriver;
 use ipx_ipxnet_ports::{MemoryDatagram, MemoryPlaces, PlaceSockets, Servers};
 use ipx_wire::{Network, Node};
-use ipxnet_server::{IpxnetServer, Place, ServerPort};
+use ipxnet_server::{IpxnetServer, ServerPort};
 use std::alloc::{AllocError, Global};
+use std::net::{Ipv4Addr, SocketAddrV4};
 use std::test::Fail;
 
 /// The port, whose network 0000d05b players are told.
@@ -14,25 +15,21 @@ pub const PORT: ServerPort = ServerPort {
 };
 
 /// Three players, the node of one of them, and one that does not register.
-pub const FIRST: Place = Place {
-    ip: [127, 0, 0, 1],
-    udp_port: 48199,
-};
+pub fn first_place() -> SocketAddrV4 {
+    SocketAddrV4::new(Ipv4Addr::new(127, 0, 0, 1), 48199)
+}
 
-pub const SECOND: Place = Place {
-    ip: [127, 0, 0, 1],
-    udp_port: 48200,
-};
+pub fn second_place() -> SocketAddrV4 {
+    SocketAddrV4::new(Ipv4Addr::new(127, 0, 0, 1), 48200)
+}
 
-pub const THIRD: Place = Place {
-    ip: [10, 0, 0, 9],
-    udp_port: 213,
-};
+pub fn third_place() -> SocketAddrV4 {
+    SocketAddrV4::new(Ipv4Addr::new(10, 0, 0, 9), 213)
+}
 
-pub const UNKNOWN_SENDER: Place = Place {
-    ip: [10, 0, 0, 9],
-    udp_port: 214,
-};
+pub fn unknown_place() -> SocketAddrV4 {
+    SocketAddrV4::new(Ipv4Addr::new(10, 0, 0, 9), 214)
+}
 
 pub const SECOND_NODE: Node = Node([0x7f, 0, 0, 1, 0xbc, 0x48]);
 
@@ -92,7 +89,7 @@ pub fn servers<D: PlaceSockets + Drop>(
 /// Sockets in memory to which the three players sent their registrations.
 pub fn registrations(alloc: Global) -> Result<MemoryPlaces, Fail> {
     let mut sockets = MemoryPlaces::new(alloc, 1);
-    for place in [FIRST, SECOND, THIRD] {
+    for place in [first_place(), second_place(), third_place()] {
         sockets.put(0, place, &REGISTRATION)?;
     }
     Ok(sockets)
@@ -102,7 +99,7 @@ pub fn registrations(alloc: Global) -> Result<MemoryPlaces, Fail> {
 /// one.
 pub fn after_registrations(alloc: Global, bytes: &[u8]) -> Result<Servers<MemoryPlaces>, Fail> {
     let mut sockets = registrations(alloc)?;
-    sockets.put(0, FIRST, bytes)?;
+    sockets.put(0, first_place(), bytes)?;
     let mut servers = servers(alloc, sockets)?;
     let mut room = [0; 1536];
     for _player in 0..3_u32 {
@@ -113,7 +110,12 @@ pub fn after_registrations(alloc: Global, bytes: &[u8]) -> Result<Servers<Memory
 
 /// Whether all that was sent after the first `before` datagrams went to these addresses, in this
 /// order, and is these bytes.
-pub fn went_after(sockets: &MemoryPlaces, before: usize, places: &[Place], bytes: &[u8]) -> bool {
+pub fn went_after(
+    sockets: &MemoryPlaces,
+    before: usize,
+    places: &[SocketAddrV4],
+    bytes: &[u8],
+) -> bool {
     let sent = sockets.went();
     if sent.len() != before + places.len() {
         return false;

@@ -1,11 +1,13 @@
 //! Long datagrams: 1,424 bytes are sent to players as they came, more are not, and the core gets at
 //! most 1,536.
 
-use crate::fixture::{PORT, SECOND, SECOND_NODE, THIRD, after_registrations, packet, went_after};
+use crate::fixture::{
+    PORT, SECOND_NODE, after_registrations, packet, second_place, third_place, went_after,
+};
 use ipx_carrier::{PortDriver, PortDriverFilters};
 use ipx_wire::Node;
-use ipxnet_server::Place;
 use std::alloc::Global;
+use std::net::SocketAddrV4;
 use std::test::Fail;
 
 /// The lengths 34, 1,424, 1,425, 1,500, 1,501 and 2,000, as a header has them.
@@ -36,7 +38,7 @@ fn goes_to(
     to: Node,
     length: [u8; 2],
     size: usize,
-    places: &[Place],
+    places: &[SocketAddrV4],
 ) -> Result<bool, Fail> {
     let bytes = long(to, length);
     let mut servers = after_registrations(alloc, &bytes[..size])?;
@@ -55,8 +57,8 @@ fn goes_to(
 #[test]
 fn long_ones_to_one(rt: HostRuntime) -> Result<(), Fail> {
     let alloc = rt.alloc();
-    assert!(rt; goes_to(alloc, SECOND_NODE, L1424, 1424, &[SECOND])?);
-    assert!(rt; goes_to(alloc, SECOND_NODE, L34, 1424, &[SECOND])?);
+    assert!(rt; goes_to(alloc, SECOND_NODE, L1424, 1424, &[second_place()])?);
+    assert!(rt; goes_to(alloc, SECOND_NODE, L34, 1424, &[second_place()])?);
     for (length, size) in [
         (L1425, 1425),
         (L34, 1425),
@@ -72,8 +74,24 @@ fn long_ones_to_one(rt: HostRuntime) -> Result<(), Fail> {
 #[test]
 fn long_ones_to_all(rt: HostRuntime) -> Result<(), Fail> {
     let alloc = rt.alloc();
-    assert!(rt; goes_to(alloc, Node::BROADCAST, L1424, 1424, &[SECOND, THIRD])?);
-    assert!(rt; goes_to(alloc, Node::BROADCAST, L34, 1424, &[SECOND, THIRD])?);
+    assert!(rt;
+        goes_to(
+            alloc,
+            Node::BROADCAST,
+            L1424,
+            1424,
+            &[second_place(), third_place()]
+        )?
+    );
+    assert!(rt;
+        goes_to(
+            alloc,
+            Node::BROADCAST,
+            L34,
+            1424,
+            &[second_place(), third_place()]
+        )?
+    );
     for (length, size) in [
         (L1425, 1425),
         (L34, 1425),

@@ -2,12 +2,12 @@
 //! new.
 
 use crate::fixture::{
-    ANSWER, CAME, FIRST, REGISTRATION, SECOND, SECOND_ANSWER, THIRD, registrations, servers,
-    went_after,
+    ANSWER, CAME, REGISTRATION, SECOND_ANSWER, first_place, registrations, second_place, servers,
+    third_place, went_after,
 };
 use ipx_carrier::{PortDriver, PortDriverFilters};
 use ipx_ipxnet_ports::{MemoryPlaces, Servers};
-use ipxnet_server::Place;
+use std::net::{Ipv4Addr, SocketAddrV4};
 use std::test::Fail;
 
 /// Receives this many datagrams, of which the core gets nothing.
@@ -27,17 +27,17 @@ fn hear(servers: &mut Servers<MemoryPlaces>, count: u32) -> Result<bool, Fail> {
 fn forgotten_and_back(rt: HostRuntime) -> Result<(), Fail> {
     let alloc = rt.alloc();
     let mut sockets = registrations(alloc)?;
-    sockets.put(0, FIRST, &CAME)?;
-    sockets.put(0, FIRST, &CAME)?;
-    sockets.put(0, SECOND, &CAME)?;
-    sockets.put(0, SECOND, &REGISTRATION)?;
-    sockets.put(0, FIRST, &CAME)?;
+    sockets.put(0, first_place(), &CAME)?;
+    sockets.put(0, first_place(), &CAME)?;
+    sockets.put(0, second_place(), &CAME)?;
+    sockets.put(0, second_place(), &REGISTRATION)?;
+    sockets.put(0, first_place(), &CAME)?;
     let mut servers = servers(alloc, sockets)?;
     servers.set_time(5);
     assert!(rt; hear(&mut servers, 3)?);
     servers.set_time(86_400_004);
     assert!(rt; hear(&mut servers, 1)?);
-    assert!(rt; went_after(servers.sockets(), 3, &[SECOND], &CAME));
+    assert!(rt; went_after(servers.sockets(), 3, &[second_place()], &CAME));
     servers.set_time(86_400_005);
     assert!(rt; hear(&mut servers, 2)?);
     assert_eq!(rt; servers.sockets().went().len(), 4);
@@ -45,11 +45,11 @@ fn forgotten_and_back(rt: HostRuntime) -> Result<(), Fail> {
     assert_eq!(rt; servers.servers()[0].counts().unregistered, 1);
     // The first player was just heard, and is the only one.
     assert_eq!(rt; servers.servers()[0].clients().len(), 1);
-    assert_eq!(rt; servers.servers()[0].clients()[0].place, FIRST);
+    assert_eq!(rt; servers.servers()[0].clients()[0].place, first_place());
     assert!(rt; hear(&mut servers, 1)?);
-    assert!(rt; went_after(servers.sockets(), 4, &[SECOND], &SECOND_ANSWER));
+    assert!(rt; went_after(servers.sockets(), 4, &[second_place()], &SECOND_ANSWER));
     assert!(rt; hear(&mut servers, 1)?);
-    assert!(rt; went_after(servers.sockets(), 5, &[SECOND], &CAME));
+    assert!(rt; went_after(servers.sockets(), 5, &[second_place()], &CAME));
     assert_eq!(rt; servers.filtered(), 8);
     Ok(())
 }
@@ -60,14 +60,21 @@ fn forgotten_and_back(rt: HostRuntime) -> Result<(), Fail> {
 fn registered_again(rt: HostRuntime) -> Result<(), Fail> {
     let alloc = rt.alloc();
     let mut sockets = MemoryPlaces::new(alloc, 1);
-    sockets.put(0, FIRST, &REGISTRATION)?;
-    sockets.put(0, FIRST, &REGISTRATION)?;
+    sockets.put(0, first_place(), &REGISTRATION)?;
+    sockets.put(0, first_place(), &REGISTRATION)?;
     let mut servers = servers(alloc, sockets)?;
     servers.set_time(7);
     assert!(rt; hear(&mut servers, 1)?);
     servers.set_time(9000);
     assert!(rt; hear(&mut servers, 1)?);
-    assert!(rt; went_after(servers.sockets(), 0, &[FIRST, FIRST], &ANSWER));
+    assert!(rt;
+        went_after(
+            servers.sockets(),
+            0,
+            &[first_place(), first_place()],
+            &ANSWER
+        )
+    );
     let known = servers.servers()[0].clients();
     assert_eq!(rt; known.len(), 1);
     assert_eq!(rt; (known[0].since, known[0].heard), (7, 9000));
@@ -79,16 +86,19 @@ fn registered_again(rt: HostRuntime) -> Result<(), Fail> {
 fn a_moment_set_back(rt: HostRuntime) -> Result<(), Fail> {
     let alloc = rt.alloc();
     let mut sockets = registrations(alloc)?;
-    sockets.put(0, FIRST, &CAME)?;
+    sockets.put(0, first_place(), &CAME)?;
     let mut servers = servers(alloc, sockets)?;
     servers.set_time(86_400_005);
     assert!(rt; hear(&mut servers, 3)?);
     servers.set_time(0);
     assert!(rt; hear(&mut servers, 1)?);
-    assert!(rt; went_after(servers.sockets(), 3, &[SECOND], &CAME));
+    assert!(rt; went_after(servers.sockets(), 3, &[second_place()], &CAME));
     let known = servers.servers()[0].clients();
     assert_eq!(rt; known.len(), 3);
-    assert_eq!(rt; (known[0].place, known[1].place), (SECOND, THIRD));
+    assert_eq!(rt;
+        (known[0].place, known[1].place),
+        (second_place(), third_place())
+    );
     assert_eq!(rt; (known[0].since, known[2].since), (86_400_005, 86_400_005));
     Ok(())
 }
@@ -98,9 +108,9 @@ fn a_moment_set_back(rt: HostRuntime) -> Result<(), Fail> {
 fn eleven_at_a_moment(rt: HostRuntime) -> Result<(), Fail> {
     let alloc = rt.alloc();
     let mut sockets = MemoryPlaces::new(alloc, 1);
-    let ip = [192, 0, 2, 1];
+    let ip = Ipv4Addr::new(192, 0, 2, 1);
     for udp_port in [1, 2, 3, 4, 5, 6, 7, 8, 9, 10, 11, 11, 11] {
-        sockets.put(0, Place { ip, udp_port }, &REGISTRATION)?;
+        sockets.put(0, SocketAddrV4::new(ip, udp_port), &REGISTRATION)?;
     }
     let mut servers = servers(alloc, sockets)?;
     assert!(rt; hear(&mut servers, 11)?);
@@ -115,7 +125,7 @@ fn eleven_at_a_moment(rt: HostRuntime) -> Result<(), Fail> {
     assert_eq!(rt; servers.sockets().went().len(), 11);
     assert_eq!(rt;
         servers.sockets().went()[10].place,
-        Place { ip, udp_port: 11 }
+        SocketAddrV4::new(ip, 11)
     );
     assert_eq!(rt; servers.filtered(), 13);
     Ok(())

@@ -1,18 +1,19 @@
 //! Memory is refused as a datagram is put, received or sent.
 
 use crate::fixture::{
-    ANSWER, CAME, FIRST, REGISTRATION, SECOND, SECOND_ANSWER, THIRD, THIRD_ANSWER, packet, server,
-    went_after,
+    ANSWER, CAME, REGISTRATION, SECOND_ANSWER, THIRD_ANSWER, first_place, packet, second_place,
+    server, third_place, went_after,
 };
 use ipx_carrier::{PacketSent, PortDriver, PortDriverFilters};
 use ipx_ipxnet_ports::{MemoryDatagram, MemoryPlaces, PlaceSockets, Servers};
 use ipx_wire::{Node, OutOfMemory};
-use ipxnet_server::{Place, ServerCounts};
+use ipxnet_server::ServerCounts;
 use std::alloc::Global;
+use std::net::SocketAddrV4;
 use std::test::Fail;
 
 /// Puts a datagram, again if memory is refused.
-fn put(sockets: &mut MemoryPlaces, place: Place, bytes: &[u8]) -> Result<(), OutOfMemory> {
+fn put(sockets: &mut MemoryPlaces, place: SocketAddrV4, bytes: &[u8]) -> Result<(), OutOfMemory> {
     match sockets.put(0, place, bytes) {
         Ok(()) => Ok(()),
         Err(_) => sockets.put(0, place, bytes),
@@ -29,7 +30,7 @@ fn over(alloc: Global, sockets: MemoryPlaces) -> Result<Servers<MemoryPlaces>, F
 }
 
 /// Whether all that was sent is among these, in this order, each once.
-fn are_of(went: &[MemoryDatagram], all: &[(Place, &[u8])]) -> bool {
+fn are_of(went: &[MemoryDatagram], all: &[(SocketAddrV4, &[u8])]) -> bool {
     let mut found = 0;
     for (place, bytes) in all {
         if found < went.len()
@@ -48,7 +49,7 @@ fn are_of(went: &[MemoryDatagram], all: &[(Place, &[u8])]) -> bool {
 fn refused_datagrams(rt: HostRuntime) -> Result<(), Fail> {
     let alloc = rt.alloc();
     let mut sockets = MemoryPlaces::new(alloc, 1);
-    put(&mut sockets, FIRST, &REGISTRATION)?;
+    put(&mut sockets, first_place(), &REGISTRATION)?;
     let mut servers = over(alloc, sockets)?;
     let mut room = [0xaa; 1536];
     assert!(rt; matches!(servers.receive(0, &mut room), Ok(None)));
@@ -65,7 +66,7 @@ fn refused_datagrams(rt: HostRuntime) -> Result<(), Fail> {
     } else {
         assert_eq!(rt; failures, 0);
         assert_eq!(rt; servers.filtered(), 1);
-        assert!(rt; went_after(servers.sockets(), 0, &[FIRST], &ANSWER));
+        assert!(rt; went_after(servers.sockets(), 0, &[first_place()], &ANSWER));
     }
     assert_eq!(rt; servers.servers()[0].counts(), ServerCounts::new());
     assert_eq!(rt; servers.failures(), 0);
@@ -83,22 +84,22 @@ fn refused_relays(rt: HostRuntime) -> Result<(), Fail> {
     let alloc = rt.alloc();
     let bytes = packet(Node::BROADCAST);
     let mut sockets = MemoryPlaces::new(alloc, 1);
-    for place in [FIRST, SECOND, THIRD] {
+    for place in [first_place(), second_place(), third_place()] {
         put(&mut sockets, place, &REGISTRATION)?;
     }
-    put(&mut sockets, FIRST, &bytes)?;
+    put(&mut sockets, first_place(), &bytes)?;
     let mut servers = over(alloc, sockets)?;
     let mut room = [0xaa; 1536];
     for _datagram in 0..4_u32 {
         assert!(rt; matches!(servers.receive(0, &mut room), Ok(None)));
     }
     assert_eq!(rt; room, [0xaa; 1536]);
-    let all: [(Place, &[u8]); 5] = [
-        (FIRST, &ANSWER),
-        (SECOND, &SECOND_ANSWER),
-        (THIRD, &THIRD_ANSWER),
-        (SECOND, &bytes),
-        (THIRD, &bytes),
+    let all: [(SocketAddrV4, &[u8]); 5] = [
+        (first_place(), &ANSWER),
+        (second_place(), &SECOND_ANSWER),
+        (third_place(), &THIRD_ANSWER),
+        (second_place(), &bytes),
+        (third_place(), &bytes),
     ];
     let went = servers.sockets().went().len();
     let known = servers.servers()[0].clients().len();

@@ -11,8 +11,9 @@ use ipx_carrier::{Core, PortDriver, RouterCore};
 use ipx_ipxnet_ports::{MemoryPlaces, Servers};
 use ipx_router::{Port, Router};
 use ipx_wire::{Network, Node};
-use ipxnet_server::{IpxnetServer, Place, ServerPort};
+use ipxnet_server::{IpxnetServer, ServerPort};
 use std::alloc::Global;
+use std::net::{Ipv4Addr, SocketAddrV4};
 use std::process::Abort;
 use std::test::Fail;
 
@@ -71,15 +72,12 @@ struct RowWorld {
     came: Vec<Datagram>,
 }
 
-fn place(last: u8, udp_port: u16) -> Place {
-    Place {
-        ip: [127, 0, 6, last],
-        udp_port,
-    }
+fn place(last: u8, udp_port: u16) -> SocketAddrV4 {
+    SocketAddrV4::new(Ipv4Addr::new(127, 0, 6, last), udp_port)
 }
 
 /// The port and the address of a member at a port.
-fn end_of(who: u8) -> Option<(usize, Place)> {
+fn end_of(who: u8) -> Option<(usize, SocketAddrV4)> {
     let end = ENDS.iter().find(|end| end.0 == who)?;
     Some((end.1, place(end.2, end.3)))
 }

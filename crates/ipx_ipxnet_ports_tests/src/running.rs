@@ -1,7 +1,7 @@
 //! A router with two ipxnet servers: what a player asks it, and what is sent from one server to the
 //! other.
 
-use crate::fixture::{ANSWER, FIRST, PORT, REGISTRATION, SECOND, server};
+use crate::fixture::{ANSWER, PORT, REGISTRATION, first_place, second_place, server};
 use ipx_carrier::{
     Core, PortDriver, PortDriverFilters, PriorityRouterCore, SteppedClock, run_batch,
     run_once_over_ports,
@@ -9,8 +9,9 @@ use ipx_carrier::{
 use ipx_ipxnet_ports::{MemoryDatagram, MemoryPlaces, Servers};
 use ipx_router::{Port, Router};
 use ipx_wire::{Network, Node};
-use ipxnet_server::{IpxnetServer, Place, ServerCounts, ServerPort};
+use ipxnet_server::{IpxnetServer, ServerCounts, ServerPort};
 use std::alloc::Global;
+use std::net::SocketAddrV4;
 use std::test::Fail;
 
 /// The other port, whose network 00000099 players are told.
@@ -76,10 +77,10 @@ fn core(alloc: Global) -> Result<PriorityRouterCore, Fail> {
 /// who registers at the other.
 fn both_servers(alloc: Global) -> Result<Servers<MemoryPlaces>, Fail> {
     let mut sockets = MemoryPlaces::new(alloc, 2);
-    sockets.put(0, FIRST, &REGISTRATION)?;
-    sockets.put(1, SECOND, &REGISTRATION)?;
-    sockets.put(0, FIRST, &ASKS)?;
-    sockets.put(0, FIRST, &ACROSS)?;
+    sockets.put(0, first_place(), &REGISTRATION)?;
+    sockets.put(1, second_place(), &REGISTRATION)?;
+    sockets.put(0, first_place(), &ASKS)?;
+    sockets.put(0, first_place(), &ACROSS)?;
     let mut servers = Vec::new(alloc);
     servers.push(IpxnetServer::new(alloc, PORT, 64)?)?;
     servers.push(IpxnetServer::new(alloc, OTHER, 64)?)?;
@@ -87,7 +88,12 @@ fn both_servers(alloc: Global) -> Result<Servers<MemoryPlaces>, Fail> {
 }
 
 /// Whether a datagram was sent by a port to an address, and is these bytes.
-fn is_for(datagram: Option<&MemoryDatagram>, port: usize, place: Place, bytes: &[u8]) -> bool {
+fn is_for(
+    datagram: Option<&MemoryDatagram>,
+    port: usize,
+    place: SocketAddrV4,
+    bytes: &[u8],
+) -> bool {
     match datagram {
         Some(it) => it.port == port && it.place == place && it.bytes.as_slice() == bytes,
         None => false,
@@ -137,18 +143,18 @@ fn a_router_of_two_servers(rt: HostRuntime) -> Result<(), Fail> {
     assert_eq!(rt; (first.heard, first.sent, first.unmapped), (0, 6, 0));
     let went = servers.sockets().went();
     assert_eq!(rt; went.len(), 2);
-    assert!(rt; is_for(went.first(), 0, FIRST, &ANSWER));
-    assert!(rt; is_for(went.get(1), 1, SECOND, &OTHER_ANSWER));
+    assert!(rt; is_for(went.first(), 0, first_place(), &ANSWER));
+    assert!(rt; is_for(went.get(1), 1, second_place(), &OTHER_ANSWER));
     // The first player's request is answered, only to that player.
     let second = run_once_over_ports(alloc, &mut core, &mut servers, &mut clock)?;
     assert_eq!(rt; (second.heard, second.sent, second.unmapped), (1, 1, 0));
     assert_eq!(rt; servers.sockets().went().len(), 3);
-    assert!(rt; is_for(servers.sockets().went().last(), 0, FIRST, &TOLD));
+    assert!(rt; is_for(servers.sockets().went().last(), 0, first_place(), &TOLD));
     // What it sends to the second one arrives at the other server, one hop later.
     let third = run_once_over_ports(alloc, &mut core, &mut servers, &mut clock)?;
     assert_eq!(rt; (third.heard, third.sent, third.unmapped), (1, 1, 0));
     assert_eq!(rt; servers.sockets().went().len(), 4);
-    assert!(rt; is_for(servers.sockets().went().last(), 1, SECOND, &ARRIVES));
+    assert!(rt; is_for(servers.sockets().went().last(), 1, second_place(), &ARRIVES));
     assert_eq!(rt; servers.filtered(), 2);
     Ok(())
 }
@@ -164,7 +170,7 @@ fn a_batch_of_two_servers(rt: HostRuntime) -> Result<(), Fail> {
     assert_eq!(rt; (batch.heard, batch.sent, batch.unmapped), (2, 8, 0));
     assert!(rt; batch.quiet && batch.fault.is_none());
     assert_eq!(rt; servers.sockets().went().len(), 4);
-    assert!(rt; is_for(servers.sockets().went().last(), 1, SECOND, &ARRIVES));
+    assert!(rt; is_for(servers.sockets().went().last(), 1, second_place(), &ARRIVES));
     Ok(())
 }
 
@@ -175,8 +181,8 @@ fn a_full_table_is_told_to_nobody(rt: HostRuntime) -> Result<(), Fail> {
     let alloc = rt.alloc();
     let mut core = core(alloc)?;
     let mut sockets = MemoryPlaces::new(alloc, 2);
-    sockets.put(0, FIRST, &REGISTRATION)?;
-    sockets.put(0, SECOND, &REGISTRATION)?;
+    sockets.put(0, first_place(), &REGISTRATION)?;
+    sockets.put(0, second_place(), &REGISTRATION)?;
     let mut servers_of_both = server(alloc)?;
     servers_of_both.push(IpxnetServer::new(alloc, OTHER, 64)?)?;
     let mut servers = Servers::new(sockets, servers_of_both);
@@ -211,6 +217,10 @@ fn a_full_table_is_told_to_nobody(rt: HostRuntime) -> Result<(), Fail> {
     }
     let went = servers.sockets().went();
     assert_eq!(rt; went.len(), 23);
-    assert!(rt; went[2..].iter().all(|it| it.port == 0 && it.place == FIRST));
+    assert!(rt;
+        went[2..]
+            .iter()
+            .all(|it| it.port == 0 && it.place == first_place())
+    );
     Ok(())
 }

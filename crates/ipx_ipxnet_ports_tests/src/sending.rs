@@ -1,13 +1,13 @@
 //! Packets of the core, and the players that they are sent to.
 
 use crate::fixture::{
-    CAME, FIRST, SECOND, SECOND_NODE, THIRD, UNKNOWN_SENDER, packet, registrations, servers,
-    went_after,
+    CAME, SECOND_NODE, first_place, packet, registrations, second_place, servers, third_place,
+    unknown_place, went_after,
 };
 use ipx_carrier::{PacketSent, PortDriver, PortDriverFilters};
 use ipx_ipxnet_ports::{MemoryPlaces, Servers};
 use ipx_wire::Node;
-use ipxnet_server::ServerCounts;
+use ipxnet_server::{ServerCounts, node_of};
 use std::alloc::Global;
 use std::test::Fail;
 
@@ -28,13 +28,20 @@ fn packets_to_players(rt: HostRuntime) -> Result<(), Fail> {
     let mut servers = three_players(rt.alloc())?;
     let sent = servers.send(0, SECOND_NODE, &CAME);
     assert!(rt; matches!(sent, Ok(PacketSent::Transmitted(1))));
-    assert!(rt; went_after(servers.sockets(), 3, &[SECOND], &CAME));
+    assert!(rt; went_after(servers.sockets(), 3, &[second_place()], &CAME));
     let sent = servers.send(0, Node::BROADCAST, &CAME);
     assert!(rt; matches!(sent, Ok(PacketSent::Transmitted(1))));
-    assert!(rt; went_after(servers.sockets(), 4, &[FIRST, SECOND, THIRD], &CAME));
+    assert!(rt;
+        went_after(
+            servers.sockets(),
+            4,
+            &[first_place(), second_place(), third_place()],
+            &CAME
+        )
+    );
     servers.set_time(86_400_004);
     servers.send(0, SECOND_NODE, &CAME)?;
-    assert!(rt; went_after(servers.sockets(), 7, &[SECOND], &CAME));
+    assert!(rt; went_after(servers.sockets(), 7, &[second_place()], &CAME));
     servers.set_time(86_400_005);
     let sent = servers.send(0, SECOND_NODE, &CAME);
     assert!(rt; matches!(sent, Ok(PacketSent::Transmitted(1))));
@@ -60,13 +67,20 @@ fn what_a_router_tells(rt: HostRuntime) -> Result<(), Fail> {
     let mut answer = packet(SECOND_NODE);
     answer[16..18].copy_from_slice(&[4, 0x53]);
     servers.send(0, SECOND_NODE, &answer)?;
-    assert!(rt; went_after(servers.sockets(), 3, &[SECOND], &answer));
+    assert!(rt; went_after(servers.sockets(), 3, &[second_place()], &answer));
     let mut named = packet(Node::BROADCAST);
     named[5] = 20;
     named[16..18].copy_from_slice(&[4, 0x55]);
     named[28..30].copy_from_slice(&[4, 0x53]);
     servers.send(0, Node::BROADCAST, &named)?;
-    assert!(rt; went_after(servers.sockets(), 4, &[FIRST, SECOND, THIRD], &named));
+    assert!(rt;
+        went_after(
+            servers.sockets(),
+            4,
+            &[first_place(), second_place(), third_place()],
+            &named
+        )
+    );
     assert_eq!(rt; servers.failures(), 0);
     Ok(())
 }
@@ -75,7 +89,7 @@ fn what_a_router_tells(rt: HostRuntime) -> Result<(), Fail> {
 #[test]
 fn packets_to_nobody(rt: HostRuntime) -> Result<(), Fail> {
     let mut servers = three_players(rt.alloc())?;
-    let sent = servers.send(0, UNKNOWN_SENDER.node(), &CAME);
+    let sent = servers.send(0, node_of(unknown_place()), &CAME);
     assert!(rt; matches!(sent, Ok(PacketSent::Transmitted(1))));
     assert_eq!(rt; servers.sockets().went().len(), 3);
     assert_eq!(rt; servers.servers()[0].counts().no_such_node, 1);
@@ -89,7 +103,7 @@ fn packets_that_are_too_long(rt: HostRuntime) -> Result<(), Fail> {
     let bytes = [0x55; 1425];
     let sent = servers.send(0, SECOND_NODE, &bytes[..1424]);
     assert!(rt; matches!(sent, Ok(PacketSent::Transmitted(1))));
-    assert!(rt; went_after(servers.sockets(), 3, &[SECOND], &bytes[..1424]));
+    assert!(rt; went_after(servers.sockets(), 3, &[second_place()], &bytes[..1424]));
     let sent = servers.send(0, SECOND_NODE, &bytes);
     assert!(rt; matches!(sent, Ok(PacketSent::Unmapped)));
     let sent = servers.send(0, Node::BROADCAST, &bytes);

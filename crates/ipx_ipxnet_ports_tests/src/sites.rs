@@ -1,25 +1,24 @@
 //! A server that is joined to those of two other sites, over sockets.
 
 use crate::fixture::{
-    ANSWER, CAME, FIRST, PORT, REGISTRATION, SECOND_NODE, UNKNOWN_SENDER, packet, went_after,
+    ANSWER, CAME, PORT, REGISTRATION, SECOND_NODE, first_place, packet, unknown_place, went_after,
 };
 use ipx_carrier::{PacketSent, PortDriver, PortDriverFilters};
 use ipx_ipxnet_ports::{MemoryPlaces, Servers};
 use ipx_wire::Node;
-use ipxnet_server::{IpxnetServer, Place};
+use ipxnet_server::{IpxnetServer, node_of};
 use std::alloc::{AllocError, Global};
+use std::net::{Ipv4Addr, SocketAddrV4};
 use std::test::Fail;
 
 /// The addresses of the routers of the other sites.
-const SOUTH: Place = Place {
-    ip: [198, 51, 100, 7],
-    udp_port: 2130,
-};
+fn south_place() -> SocketAddrV4 {
+    SocketAddrV4::new(Ipv4Addr::new(198, 51, 100, 7), 2130)
+}
 
-const WEST: Place = Place {
-    ip: [203, 0, 113, 5],
-    udp_port: 2131,
-};
+fn west_place() -> SocketAddrV4 {
+    SocketAddrV4::new(Ipv4Addr::new(203, 0, 113, 5), 2131)
+}
 
 /// What tells them that the first player registered.
 const NOTICE: [u8; 30] = [
@@ -36,7 +35,7 @@ fn between(to: Node, from: Node) -> [u8; 34] {
 
 /// The port over these sockets, joined to the others.
 fn joined(alloc: Global, sockets: MemoryPlaces) -> Result<Servers<MemoryPlaces>, AllocError> {
-    let routers = Vec::from_slice(alloc, &[SOUTH, WEST])?;
+    let routers = Vec::from_slice(alloc, &[south_place(), west_place()])?;
     let server = IpxnetServer::joined_to(alloc, PORT, 64, routers)?;
     let mut servers = Vec::new(alloc);
     servers.push(server)?;
@@ -48,33 +47,40 @@ fn joined(alloc: Global, sockets: MemoryPlaces) -> Result<Servers<MemoryPlaces>,
 #[test]
 fn datagrams_of_sites(rt: HostRuntime) -> Result<(), Fail> {
     let all = packet(Node::BROADCAST);
-    let back = between(FIRST.node(), SECOND_NODE);
+    let back = between(node_of(first_place()), SECOND_NODE);
     let told = between(Node::BROADCAST, SECOND_NODE);
     let mut sockets = MemoryPlaces::new(rt.alloc(), 1);
-    sockets.put(0, FIRST, &REGISTRATION)?;
-    sockets.put(0, FIRST, &all)?;
-    sockets.put(0, FIRST, &CAME)?;
-    sockets.put(0, SOUTH, &back)?;
-    sockets.put(0, FIRST, &CAME)?;
-    sockets.put(0, SOUTH, &told)?;
-    sockets.put(0, SOUTH, &all)?;
+    sockets.put(0, first_place(), &REGISTRATION)?;
+    sockets.put(0, first_place(), &all)?;
+    sockets.put(0, first_place(), &CAME)?;
+    sockets.put(0, south_place(), &back)?;
+    sockets.put(0, first_place(), &CAME)?;
+    sockets.put(0, south_place(), &told)?;
+    sockets.put(0, south_place(), &all)?;
     let mut servers = joined(rt.alloc(), sockets)?;
     let mut room = [0; 1536];
     servers.receive(0, &mut room)?;
     let sent = servers.sockets().went();
-    assert_eq!(rt; sent[0].place, FIRST);
+    assert_eq!(rt; sent[0].place, first_place());
     assert_eq!(rt; sent[0].bytes.as_slice(), ANSWER.as_slice());
-    assert!(rt; went_after(servers.sockets(), 1, &[SOUTH, WEST], &NOTICE));
+    assert!(rt;
+        went_after(
+            servers.sockets(),
+            1,
+            &[south_place(), west_place()],
+            &NOTICE
+        )
+    );
     servers.receive(0, &mut room)?;
-    assert!(rt; went_after(servers.sockets(), 3, &[SOUTH, WEST], &all));
+    assert!(rt; went_after(servers.sockets(), 3, &[south_place(), west_place()], &all));
     servers.receive(0, &mut room)?;
-    assert!(rt; went_after(servers.sockets(), 5, &[SOUTH, WEST], &CAME));
+    assert!(rt; went_after(servers.sockets(), 5, &[south_place(), west_place()], &CAME));
     servers.receive(0, &mut room)?;
-    assert!(rt; went_after(servers.sockets(), 7, &[FIRST], &back));
+    assert!(rt; went_after(servers.sockets(), 7, &[first_place()], &back));
     servers.receive(0, &mut room)?;
-    assert!(rt; went_after(servers.sockets(), 8, &[SOUTH], &CAME));
+    assert!(rt; went_after(servers.sockets(), 8, &[south_place()], &CAME));
     servers.receive(0, &mut room)?;
-    assert!(rt; went_after(servers.sockets(), 9, &[FIRST], &told));
+    assert!(rt; went_after(servers.sockets(), 9, &[first_place()], &told));
     // What the player here sent to all comes back to nobody.
     servers.receive(0, &mut room)?;
     assert_eq!(rt; servers.sockets().went().len(), 10);
@@ -89,19 +95,23 @@ fn datagrams_of_sites(rt: HostRuntime) -> Result<(), Fail> {
 #[test]
 fn packets_of_the_core_by_sites(rt: HostRuntime) -> Result<(), Fail> {
     let mut sockets = MemoryPlaces::new(rt.alloc(), 1);
-    sockets.put(0, FIRST, &REGISTRATION)?;
-    sockets.put(0, WEST, &between(FIRST.node(), SECOND_NODE))?;
+    sockets.put(0, first_place(), &REGISTRATION)?;
+    sockets.put(
+        0,
+        west_place(),
+        &between(node_of(first_place()), SECOND_NODE),
+    )?;
     let mut servers = joined(rt.alloc(), sockets)?;
     let mut room = [0; 1536];
     servers.receive(0, &mut room)?;
     servers.receive(0, &mut room)?;
     let sent = servers.send(0, SECOND_NODE, &CAME);
     assert!(rt; matches!(sent, Ok(PacketSent::Transmitted(1))));
-    assert!(rt; went_after(servers.sockets(), 4, &[WEST], &CAME));
-    servers.send(0, UNKNOWN_SENDER.node(), &CAME)?;
-    assert!(rt; went_after(servers.sockets(), 5, &[SOUTH, WEST], &CAME));
+    assert!(rt; went_after(servers.sockets(), 4, &[west_place()], &CAME));
+    servers.send(0, node_of(unknown_place()), &CAME)?;
+    assert!(rt; went_after(servers.sockets(), 5, &[south_place(), west_place()], &CAME));
     servers.send(0, Node::BROADCAST, &CAME)?;
-    assert!(rt; went_after(servers.sockets(), 7, &[FIRST], &CAME));
+    assert!(rt; went_after(servers.sockets(), 7, &[first_place()], &CAME));
     Ok(())
 }
 
@@ -109,11 +119,11 @@ fn packets_of_the_core_by_sites(rt: HostRuntime) -> Result<(), Fail> {
 #[test]
 fn a_site_that_fails(rt: HostRuntime) -> Result<(), Fail> {
     let mut sockets = MemoryPlaces::new(rt.alloc(), 1);
-    sockets.put(0, FIRST, &REGISTRATION)?;
-    sockets.break_place(SOUTH);
+    sockets.put(0, first_place(), &REGISTRATION)?;
+    sockets.break_place(south_place());
     let mut servers = joined(rt.alloc(), sockets)?;
     let mut room = [0; 1536];
     servers.receive(0, &mut room)?;
-    assert!(rt; went_after(servers.sockets(), 1, &[WEST], &NOTICE));
+    assert!(rt; went_after(servers.sockets(), 1, &[west_place()], &NOTICE));
     Ok(())
 }

@@ -2,39 +2,34 @@
 
 use crate::fixture::{PORT, REGISTRATION, servers};
 use ipx_carrier::{DeviceFault, PacketSent, PortDriver, PortDriverFilters};
-use ipx_ipxnet_ports::{DatagramCame, PlaceSockets, ServerSockets, Servers};
+use ipx_ipxnet_ports::{Allow, DatagramCame, PlaceSockets, ServerSockets, Servers};
 use ipx_wire::Node;
-use ipxnet_server::Place;
 use std::alloc::Global;
 use std::io;
-use std::net::Net;
+use std::net::{Ipv4Addr, Net, SocketAddrV4};
 use std::process::Abort;
 use std::test::Fail;
 
 /// Addresses that nothing else uses: the port's, two players', and that of an unregistered sender.
-const AT: Place = Place {
-    ip: [127, 0, 0, 44],
-    udp_port: 0x51c2,
-};
+fn port_place() -> SocketAddrV4 {
+    SocketAddrV4::new(Ipv4Addr::new(127, 0, 0, 44), 0x51c2)
+}
 
-const FIRST: Place = Place {
-    udp_port: 0x51c3,
-    ..AT
-};
+fn first_place() -> SocketAddrV4 {
+    SocketAddrV4::new(Ipv4Addr::new(127, 0, 0, 44), 0x51c3)
+}
 
-const SECOND: Place = Place {
-    udp_port: 0x51c4,
-    ..AT
-};
+fn second_place() -> SocketAddrV4 {
+    SocketAddrV4::new(Ipv4Addr::new(127, 0, 0, 44), 0x51c4)
+}
 
-const UNKNOWN_SENDER: Place = Place {
-    udp_port: 0x51c5,
-    ..AT
-};
+fn unknown_place() -> SocketAddrV4 {
+    SocketAddrV4::new(Ipv4Addr::new(127, 0, 0, 44), 0x51c5)
+}
 
 /// Another address there.
-fn place(udp_port: u16) -> Place {
-    Place { udp_port, ..AT }
+fn place(udp_port: u16) -> SocketAddrV4 {
+    SocketAddrV4::new(*port_place().ip(), udp_port)
 }
 
 /// The answer to the first player, whose node is 7f00002c51c3.
@@ -50,9 +45,9 @@ const TO_ALL: [u8; 34] = [
 ];
 
 /// Sockets of one port.
-fn bound<R: Net>(rt: &R, alloc: Global, at: Place) -> io::Result<ServerSockets> {
+fn bound<R: Net>(rt: &R, alloc: Global, at: SocketAddrV4) -> io::Result<ServerSockets> {
     let mut sockets = ServerSockets::new(alloc);
-    sockets.bind(rt, at, None)?;
+    sockets.bind(rt, at, Allow::Any)?;
     Ok(sockets)
 }
 
@@ -81,7 +76,7 @@ fn next_by(
 }
 
 /// A datagram of `size` bytes from an address.
-fn came_from(from: Place, size: usize) -> Option<DatagramCame> {
+fn came_from(from: SocketAddrV4, size: usize) -> Option<DatagramCame> {
     Some(DatagramCame { from, size })
 }
 
@@ -104,7 +99,7 @@ fn next_packet(
 /// Whether a datagram came from the port, and is these bytes.
 fn came(came: Option<DatagramCame>, room: &[u8], bytes: &[u8]) -> bool {
     came == Some(DatagramCame {
-        from: AT,
+        from: port_place(),
         size: bytes.len(),
     }) && &room[..bytes.len()] == bytes
 }
@@ -112,29 +107,35 @@ fn came(came: Option<DatagramCame>, room: &[u8], bytes: &[u8]) -> bool {
 #[test]
 fn players_over_sockets(rt: HostRuntime) -> Result<(), Fail> {
     let alloc = rt.alloc();
-    let mut first = bound(&rt, alloc, FIRST)?;
-    let mut second = bound(&rt, alloc, SECOND)?;
-    let mut unknown = bound(&rt, alloc, UNKNOWN_SENDER)?;
-    let mut servers = servers(alloc, bound(&rt, alloc, AT)?)?;
+    let mut first = bound(&rt, alloc, first_place())?;
+    let mut second = bound(&rt, alloc, second_place())?;
+    let mut unknown = bound(&rt, alloc, unknown_place())?;
+    let mut servers = servers(alloc, bound(&rt, alloc, port_place())?)?;
     let mut room = [0; 1536];
     // Both players register, and each is answered.
-    assert!(rt; first.send(0, AT, &REGISTRATION).is_ok());
+    assert!(rt; first.send(0, port_place(), &REGISTRATION).is_ok());
     assert!(rt; next_packet(&mut servers, &mut room)? == None);
     assert_eq!(rt; servers.filtered(), 1);
-    assert!(rt; second.send(0, AT, &REGISTRATION).is_ok());
+    assert!(rt; second.send(0, port_place(), &REGISTRATION).is_ok());
     assert!(rt; next_packet(&mut servers, &mut room)? == None);
     assert_eq!(rt; servers.filtered(), 2);
     let answer = next_datagram(&mut first, &mut room)?;
     assert!(rt; came(answer, &room, &ANSWER));
     let answer = next_datagram(&mut second, &mut room)?;
-    assert!(rt; answer == Some(DatagramCame { from: AT, size: 30 }));
+    assert!(rt;
+        answer
+            == Some(DatagramCame {
+                from: port_place(),
+                size: 30
+            })
+    );
     assert_eq!(rt; &room[10..16], [0x7f, 0, 0, 0x2c, 0x51, 0xc4].as_slice());
     // What the first one sends to all arrives at the second, and what an unknown sender sends
     // arrives nowhere.
-    assert!(rt; unknown.send(0, AT, &TO_ALL).is_ok());
+    assert!(rt; unknown.send(0, port_place(), &TO_ALL).is_ok());
     assert!(rt; next_packet(&mut servers, &mut room)? == None);
     assert_eq!(rt; servers.filtered(), 3);
-    assert!(rt; first.send(0, AT, &TO_ALL).is_ok());
+    assert!(rt; first.send(0, port_place(), &TO_ALL).is_ok());
     assert!(rt; next_packet(&mut servers, &mut room)? == None);
     assert_eq!(rt; servers.filtered(), 4);
     let all = next_datagram(&mut second, &mut room)?;
@@ -143,7 +144,7 @@ fn players_over_sockets(rt: HostRuntime) -> Result<(), Fail> {
     // To the router's node: to the core.
     let mut bytes = TO_ALL;
     bytes[10..16].copy_from_slice(&PORT.own.0);
-    assert!(rt; first.send(0, AT, &bytes).is_ok());
+    assert!(rt; first.send(0, port_place(), &bytes).is_ok());
     assert!(rt; next_packet(&mut servers, &mut room)? == Some(34));
     assert_eq!(rt; &room[..34], bytes.as_slice());
     // A packet of the core is sent to the player of its node.
@@ -172,7 +173,7 @@ fn two_ports_of_servers(rt: HostRuntime) -> Result<(), Fail> {
     let (at, other) = (place(20_940), place(20_941));
     let mut player = bound(&rt, alloc, place(20_942))?;
     let mut sockets = bound(&rt, alloc, at)?;
-    sockets.bind(&rt, other, None)?;
+    sockets.bind(&rt, other, Allow::Any)?;
     assert_eq!(rt; sockets.ports(), 2);
     let descriptors = (sockets.descriptor(0), sockets.descriptor(1));
     let in_order = match descriptors {
@@ -197,7 +198,7 @@ fn two_ports_of_servers(rt: HostRuntime) -> Result<(), Fail> {
     assert!(rt; sockets.send(0, place(20_942), b"by first").is_ok());
     assert!(rt; next_by(&mut player, 0, &mut room)? == came_from(at, 8));
     // Counts stay as one more port is bound.
-    sockets.bind(&rt, place(20_943), None)?;
+    sockets.bind(&rt, place(20_943), Allow::Any)?;
     assert_eq!(rt;
         (sockets.ports(), sockets.sent(), sockets.failures()),
         (3, 2, 0)
@@ -213,9 +214,9 @@ fn who_is_not_named_is_not_heard(rt: HostRuntime) -> Result<(), Fail> {
     let mut sender = bound(&rt, alloc, place(20_945))?;
     let mut sockets = ServerSockets::new(alloc);
     let others = vec![in alloc; [127, 0, 0, 45]]?;
-    sockets.bind(&rt, place(20_946), Some(others))?;
+    sockets.bind(&rt, place(20_946), Allow::List(others))?;
     let both = vec![in alloc; [127, 0, 0, 45], [127, 0, 0, 44]]?;
-    sockets.bind(&rt, place(20_947), Some(both))?;
+    sockets.bind(&rt, place(20_947), Allow::List(both))?;
     let mut room = [0; 1536];
     assert!(rt; sender.send(0, place(20_946), &REGISTRATION).is_ok());
     assert!(rt; sender.send(0, place(20_947), &REGISTRATION).is_ok());
@@ -268,7 +269,7 @@ fn a_datagram_that_the_system_refuses(rt: HostRuntime) -> Result<(), Fail> {
     let alloc = rt.alloc();
     let mut sockets = bound(&rt, alloc, place(20_934))?;
     let bytes = vec![in alloc; 0; 70_000]?;
-    assert!(rt; matches!(sockets.send(0, AT, &bytes), Err(DeviceFault)));
+    assert!(rt; matches!(sockets.send(0, port_place(), &bytes), Err(DeviceFault)));
     assert_eq!(rt; sockets.failures(), 1);
     assert_eq!(rt; sockets.sent(), 0);
     Ok(())
@@ -278,7 +279,7 @@ fn a_datagram_that_the_system_refuses(rt: HostRuntime) -> Result<(), Fail> {
 fn a_servers_place_in_use_is_refused(rt: HostRuntime) -> Result<(), Fail> {
     let alloc = rt.alloc();
     let mut sockets = bound(&rt, alloc, place(20_936))?;
-    assert!(rt; sockets.bind(&rt, place(20_936), None).is_err());
+    assert!(rt; sockets.bind(&rt, place(20_936), Allow::Any).is_err());
     assert_eq!(rt; sockets.ports(), 1);
     assert!(rt; sockets.descriptor(0).is_some());
     assert!(rt; sockets.descriptor(1).is_none());

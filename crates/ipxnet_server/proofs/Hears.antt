@@ -10,7 +10,7 @@ use Rattle.ipxnet_server.specs.declared.drops.ServerDrop.{ServerDrop}
 use Rattle.ipxnet_server.specs.declared.drops.ServerDrop.TheVariants.{NodeTaken, TooManyNew, Full, Unregistered, OtherSource, TooLong, NoSuchNode, ToItself, PingElsewhere, BroadcastElsewhere, FromElsewhere, Response, NotBehind, ForElsewhere}
 use Rattle.ipxnet_server.specs.declared.disposition.Disposition.{Disposition}
 use Rattle.ipxnet_server.specs.declared.disposition.Disposition.TheVariants.{Registered, Pinged, ToClient, ToOthers, ToOthersAndCore, ToCore, ToJoined, FromJoined, Dropped}
-use Rattle.ipxnet_server.specs.declared.place.Place.{Place}
+use Rattle.std.specs.declared.net.socket_addr.SocketAddrV4.{SocketAddrV4}
 use Rattle.ipxnet_server.specs.declared.port.ServerPort.{ServerPort}
 use Rattle.ipxnet_server.specs.declared.peer_servers.RemoteClient.{RemoteClient}
 use Rattle.ipxnet_server.specs.declared.recipients.Recipients.{Recipients}
@@ -71,15 +71,15 @@ found_finds p q [] c found here = cc
 found_finds p q (x ∷ xs) c found here =
     finds_by p q x c (p x) (q x) (find p xs) (find q xs) refl here (λ e. found_finds p q xs c e here) found
 
-known_there : (place : Place) (xs : List Client) (c : Client) → client_at place xs ≡ Some c → is_some (client_at place xs) ≡ true
+known_there : (place : SocketAddrV4) (xs : List Client) (c : Client) → client_at place xs ≡ Some c → is_some (client_at place xs) ≡ true
 known_there place xs c e = ap is_some e
 
 -- the client of a node is the one at its address
-pub taker_known : (node : Node) (place : Place) (xs : List Client) (c : Client) → client_of_node node xs ≡ Some c → c.place ≡ place → is_some (client_at place xs) ≡ true
+pub taker_known : (node : Node) (place : SocketAddrV4) (xs : List Client) (c : Client) → client_of_node node xs ≡ Some c → c.place ≡ place → is_some (client_at place xs) ≡ true
 taker_known node place xs c found is =
-    found_finds (has_client_node node) (is_client_at place) xs c found (ap (λ (p : Place). are_one_place p place) is ∙ same_place place)
+    found_finds (has_client_node node) (is_client_at place) xs c found (ap (λ (p : SocketAddrV4). are_one_place p place) is ∙ same_place place)
 
-pub dropped_hears : (l : ServerView) (from : Place) (size : ℕ) (d : ServerDrop) → IsSoundHearing l from size (Dropped d)
+pub dropped_hears : (l : ServerView) (from : SocketAddrV4) (size : ℕ) (d : ServerDrop) → IsSoundHearing l from size (Dropped d)
 dropped_hears l from size d = record {
   back = refl;
   as_many = λ header answer e a. cc;
@@ -91,7 +91,7 @@ dropped_hears l from size d = record {
   member = λ e. refl;
 }
 
-module _ (l : ServerView) (from : Place) (size : ℕ) (thirty : ipx_header_size ≤ size) where
+module _ (l : ServerView) (from : SocketAddrV4) (size : ℕ) (thirty : ipx_header_size ≤ size) where
   abbrev Sound : Disposition → Type 0
   Sound heard = IsSoundHearing l from size heard
 
@@ -142,7 +142,7 @@ module _ (l : ServerView) (from : Place) (size : ℕ) (thirty : ipx_header_size 
       no_newcomer none = cc
 
       -- to nobody, or to others than the sender, and not to a single client
-      sent : (heard : Disposition) → is_taker (takers_of heard) from ≡ false → ((header : IpxHeader) → heard ≡ Registered header → ⊥) → ((place : Place) → takers_of heard ≡ One place → ⊥) → is_of_client heard ≡ not (is_dropped heard) → Sound heard
+      sent : (heard : Disposition) → is_taker (takers_of heard) from ≡ false → ((header : IpxHeader) → heard ≡ Registered header → ⊥) → ((place : SocketAddrV4) → takers_of heard ≡ One place → ⊥) → is_of_client heard ≡ not (is_dropped heard) → Sound heard
       sent heard back other none of = record {
         back = back;
         as_many = λ header answer e a. absurd (other header e);
@@ -170,7 +170,7 @@ module _ (l : ServerView) (from : Place) (size : ℕ) (thirty : ipx_header_size 
       to_joined None = sent (ToJoined Joined) refl (λ header e. cc) (λ place e. cc) refl
       to_joined (Some f) = sent (ToJoined (JoinedAt f.router)) refl (λ header e. cc) (λ place e. cc) refl
 
-      one_is : (a b : Place) → One a ≡ One b → a ≡ b
+      one_is : (a b : SocketAddrV4) → One a ≡ One b → a ≡ b
       one_is a b e = cc
 
       to_one : (node : Node) (k : Client) → client_of_node node l.clients ≡ Some k → are_one_place k.place from ≡ false → Sound (ToClient k.place)
@@ -234,7 +234,7 @@ module _ (l : ServerView) (from : Place) (size : ℕ) (thirty : ipx_header_size 
   -- ---- what a joined router sent
 
   module _ (is : is_joined_place from l.routers ≡ true) where
-    entering : (told : Option Node) (takers : Recipients) → is_taker takers from ≡ false → ((place : Place) → is_joined_taker takers place ≡ false) → ((place : Place) → takers ≡ One place → is_some (client_at place l.clients) ≡ true) → Sound (FromJoined told takers)
+    entering : (told : Option Node) (takers : Recipients) → is_taker takers from ≡ false → ((place : SocketAddrV4) → is_joined_taker takers place ≡ false) → ((place : SocketAddrV4) → takers ≡ One place → is_some (client_at place l.clients) ≡ true) → Sound (FromJoined told takers)
     entering told takers back ring taker = record {
       back = back;
       as_many = λ header answer e a. cc;
@@ -246,7 +246,7 @@ module _ (l : ServerView) (from : Place) (size : ℕ) (thirty : ipx_header_size 
       member = λ e. cc;
     }
 
-    place_is : (a b : Place) → One a ≡ One b → a ≡ b
+    place_is : (a b : SocketAddrV4) → One a ≡ One b → a ≡ b
     place_is a b e = cc
 
     one_enters : (h : IpxHeader) (o : Option Client) → client_of_node h.to.node l.clients ≡ o → Sound (one_hears_joined l.port from h size o)
@@ -298,7 +298,7 @@ reaches_core port p =
     (λ here. either_by (ReachesCore port p) (tells_router p) _ _ (λ e. λ goes. cc)
     (λ silent. λ goes. rw (is_so (is_from_server port p.header) here, silent) refl))
 
-reaches_all : (port : ServerPort) (from : Place) (p : PacketView) (size : ℕ) → ReachesCore port p (all_hear port from p size)
+reaches_all : (port : ServerPort) (from : SocketAddrV4) (p : PacketView) (size : ℕ) → ReachesCore port p (all_hear port from p size)
 reaches_all port from p size =
     either (ReachesCore port p) (nat_lt max_client_bytes size) _ _ (λ goes. cc)
     (either (ReachesCore port p) (p.header.to.socket.0 == server_socket) _ _ (λ goes. cc)
@@ -310,13 +310,13 @@ reaches_far l node p size =
     either (ReachesCore l.port p) (length l.routers == 0) _ _ (λ goes. cc)
     (either (ReachesCore l.port p) (nat_lt max_client_bytes size) _ _ (λ goes. cc) (λ goes. cc))
 
-reaches_client : (l : ServerView) (from : Place) (p : PacketView) (size : ℕ) (o : Option Client) → ReachesCore l.port p (client_hears l from p.header size o)
+reaches_client : (l : ServerView) (from : SocketAddrV4) (p : PacketView) (size : ℕ) (o : Option Client) → ReachesCore l.port p (client_hears l from p.header size o)
 reaches_client l from p size None = reaches_far l p.header.to.node p size
 reaches_client l from p size (Some c) =
     either (ReachesCore l.port p) (are_one_place c.place from) _ _ (λ goes. cc)
     (either (ReachesCore l.port p) (nat_lt max_client_bytes size) _ _ (λ goes. cc) (λ goes. cc))
 
-reaches_from : (l : ServerView) (from : Place) (p : PacketView) (size : ℕ) (o : Option Client) → ReachesCore l.port p (server_hears_from l from p size o)
+reaches_from : (l : ServerView) (from : SocketAddrV4) (p : PacketView) (size : ℕ) (o : Option Client) → ReachesCore l.port p (server_hears_from l from p size o)
 reaches_from l from p size None = λ goes. cc
 reaches_from l from p size (Some c) =
     either (ReachesCore l.port p) (not (bytes_eq p.header.from.node.0 c.node.0)) _ _ (λ goes. cc)
@@ -331,17 +331,17 @@ reaches_newcomer : (port : ServerPort) (node : Node) (p : PacketView) (o : Optio
 reaches_newcomer port node p None = λ goes. cc
 reaches_newcomer port node p (Some d) = λ goes. cc
 
-reaches_registering : (l : ServerView) (from : Place) (p : PacketView) (now : ℕ) (o : Option Client) → ReachesCore l.port p (registration_hears l from now o)
+reaches_registering : (l : ServerView) (from : SocketAddrV4) (p : PacketView) (now : ℕ) (o : Option Client) → ReachesCore l.port p (registration_hears l from now o)
 reaches_registering l from p now None = reaches_newcomer l.port (node_given l from) p (registration_drop l (node_given l from) now)
 reaches_registering l from p now (Some c) = λ goes. cc
 
-reaches_joined_one : (l : ServerView) (from : Place) (p : PacketView) (size : ℕ) (o : Option Client) → ReachesCore l.port p (one_hears_joined l.port from p.header size o)
+reaches_joined_one : (l : ServerView) (from : SocketAddrV4) (p : PacketView) (size : ℕ) (o : Option Client) → ReachesCore l.port p (one_hears_joined l.port from p.header size o)
 reaches_joined_one l from p size None = λ goes. cc
 reaches_joined_one l from p size (Some c) =
     either (ReachesCore l.port p) (are_one_place c.place from) _ _ (λ goes. cc)
     (either (ReachesCore l.port p) (nat_lt max_client_bytes size) _ _ (λ goes. cc) (λ goes. cc))
 
-reaches_joined : (l : ServerView) (from : Place) (p : PacketView) (size : ℕ) → ReachesCore l.port p (joined_hears l from p.header size)
+reaches_joined : (l : ServerView) (from : SocketAddrV4) (p : PacketView) (size : ℕ) → ReachesCore l.port p (joined_hears l from p.header size)
 reaches_joined l from p size =
     either (ReachesCore l.port p) (not (is_for_server l.port p.header)) _ _ (λ goes. cc)
     (either (ReachesCore l.port p) (is_from_server l.port p.header && is_not_behind l.port l.clients p.header.from.node) _ _ (λ goes. cc)
@@ -350,7 +350,7 @@ reaches_joined l from p size =
     (either (ReachesCore l.port p) (nat_lt max_client_bytes size) _ _ (λ goes. cc) (λ goes. cc))
     (reaches_joined_one l from p size (client_of_node p.header.to.node l.clients)))))
 
-pub core_law : (l : ServerView) (from : Place) (p : PacketView) (size now : ℕ) → goes_to_core (server_hears l from p size now) ≡ true → may_reach_core l.port p ≡ true
+pub core_law : (l : ServerView) (from : SocketAddrV4) (p : PacketView) (size now : ℕ) → goes_to_core (server_hears l from p size now) ≡ true → may_reach_core l.port p ≡ true
 core_law l from p size now =
     either (ReachesCore l.port p) (is_joined_place from l.routers) _ _ (reaches_joined l from p size)
     (either (ReachesCore l.port p) (is_registration p.header size) _ _ (reaches_registering l from p now (client_at from l.clients))

@@ -1,6 +1,8 @@
 -- Each client is known once.
 use Rattle.std.proofs.Common.{◌≡◌, ◌≢◌, ◌≤◌, ◌<◌, ◌+◌, ◌-◌, ℕ, List, [], ◌∷◌, ◌++◌, Bool, true, false, Option, Some, None, length, take, drop, filter, find, not, cond, arith, refl, sym, ap, subst, eq-eqb, ◌∙◌, get_or, suc, zero}
 use Rattle.std.specs.Prelude.{All, AllPairs}
+use Rattle.std.specs.Net.Addr.{ipv4_octets}
+use Rattle.std.specs.Net.Socket.{v4_ip, v4_port}
 use Rattle.std.specs.Str.{bytes_eq}
 use Rattle.std.proofs.lemmas.List.{drop-append-le, length-append, length-drop}
 use Rattle.std.proofs.lemmas.List.Elements.{All-cons, All-drop, All-filter, All-head, All-push, All-tail, filter_passes}
@@ -10,7 +12,7 @@ use Rattle.std.proofs.lemmas.List.Quantifiers.{all_pairs_push}
 use Rattle.std.proofs.lemmas.Slice.Eq.{bytes_eq-Decides}
 use Rattle.ipx_wire.specs.declared.address.Node.{Node}
 use Rattle.ipxnet_server.specs.declared.clients.Client.{Client}
-use Rattle.ipxnet_server.specs.declared.place.Place.{Place}
+use Rattle.std.specs.declared.net.socket_addr.SocketAddrV4.{SocketAddrV4}
 use Rattle.ipxnet_server.specs.ServerClients.{AreTwoClients, EachClientOnce, HasPlaceNode, are_one_place, client_at, client_heard, client_of_node, clients_heard, clients_left, forgotten_after, has_client_node, is_client_at, node_of_place, was_heard_within}
 use Rattle.ipxnet_server.specs.ServerInside.{AreClients}
 
@@ -45,8 +47,8 @@ once_left now most room known are = record {
   all = are.all;
 }
 
-pub same_place : (p : Place) → are_one_place p p ≡ true
-same_place p = rw ((bytes_eq-Decides p.ip p.ip).1 refl) (eq-eqb p.udp_port p.udp_port refl)
+pub same_place : (p : SocketAddrV4) → are_one_place p p ≡ true
+same_place p = rw ((bytes_eq-Decides (ipv4_octets (v4_ip p)) (ipv4_octets (v4_ip p))).1 refl) (eq-eqb (v4_port p) (v4_port p) refl)
 
 same_node : (a b : Node) → a ≡ b → bytes_eq a.0 b.0 ≡ true
 same_node a b is = (bytes_eq-Decides a.0 b.0).1 (ap (λ (n : Node). n.0) is)
@@ -61,8 +63,8 @@ absurd_below {P} {k} lt = absurd (omega (arith, lt))
 pub absurd_none : {X : Type 0} {P : Type 0} (c : X) → None ≡ Some c → P
 absurd_none c e = cc
 
-not_here : (place : Place) (k c : Client) → is_client_at place k ≡ false → is_client_at place c ≡ true → k.place ≢ c.place
-not_here place k c isnt here same = cc (ap (λ (p : Place). are_one_place p place) same)
+not_here : (place : SocketAddrV4) (k c : Client) → is_client_at place k ≡ false → is_client_at place c ≡ true → k.place ≢ c.place
+not_here place k c isnt here same = cc (ap (λ (p : SocketAddrV4). are_one_place p place) same)
 
 pub some_is : {X : Type 0} (x c : X) → Some x ≡ Some c → x ≡ c
 some_is x c e = cc
@@ -93,41 +95,41 @@ none_passes p [] none = λ k d lt. absurd_below lt
 none_passes p (x ∷ xs) none = fails_by p x xs (p x) refl (none_passes p xs) none
 
 -- clients at another address have another node
-abbrev Differs : Place → Client → Client → Type 0
+abbrev Differs : SocketAddrV4 → Client → Client → Type 0
 Differs place c k = is_client_at place k ≡ false → k.node ≢ c.node
 
-itself : (place : Place) (x c : Client) → is_client_at place x ≡ true → Differs place c x
+itself : (place : SocketAddrV4) (x c : Client) → is_client_at place x ≡ true → Differs place c x
 itself place x c here isnt same = cc
 
-others_of : (place : Place) (x c : Client) (xs : List Client) → x ≡ c → All (AreTwoClients x) xs → All (Differs place c) xs
+others_of : (place : SocketAddrV4) (x c : Client) (xs : List Client) → x ≡ c → All (AreTwoClients x) xs → All (Differs place c) xs
 others_of place x c xs is apart k d lt isnt same = (apart k d lt).nodes (ap (λ (y : Client). y.node) is ∙ sym same)
 
-one_before : (place : Place) (x c : Client) → AreTwoClients x c → Differs place c x
+one_before : (place : SocketAddrV4) (x c : Client) → AreTwoClients x c → Differs place c x
 one_before place x c two isnt same = two.nodes same
 
-differs_by : (place : Place) (x c : Client) (xs : List Client) (b : Bool) → is_client_at place x ≡ b → All (AreTwoClients x) xs
+differs_by : (place : SocketAddrV4) (x c : Client) (xs : List Client) (b : Bool) → is_client_at place x ≡ b → All (AreTwoClients x) xs
     → (find (is_client_at place) xs ≡ Some c → All (Differs place c) xs) → cond b (Some x) (find (is_client_at place) xs) ≡ Some c → All (Differs place c) (x ∷ xs)
 differs_by place x c xs true is apart rest found =
     All-cons (Differs place c) x xs (itself place x c is) (others_of place x c xs (some_is x c found) apart)
 differs_by place x c xs false is apart rest found =
     All-cons (Differs place c) x xs (one_before place x c (found_has (AreTwoClients x) (is_client_at place) xs c apart found)) (rest found)
 
-others_differ : (place : Place) (c : Client) (xs : List Client) → EachClientOnce xs → find (is_client_at place) xs ≡ Some c → All (Differs place c) xs
+others_differ : (place : SocketAddrV4) (c : Client) (xs : List Client) → EachClientOnce xs → find (is_client_at place) xs ≡ Some c → All (Differs place c) xs
 others_differ place c [] once found = cc
 others_differ place c (x ∷ xs) once found =
     differs_by place x c xs (is_client_at place x) refl (heads AreTwoClients x xs once) (others_differ place c xs (tails AreTwoClients x xs once)) found
 
 -- clients at another address are not the one that is heard
-abbrev AreOthers : Place → Client → Client → Type 0
+abbrev AreOthers : SocketAddrV4 → Client → Client → Type 0
 AreOthers place c k = is_client_at place k ≡ false → AreTwoClients k c
 
-at_another : (place : Place) (k : Client) → is_client_at place k ≡ false → k.place ≢ place
-at_another place k isnt same = cc (ap (λ (p : Place). are_one_place p place) same ∙ same_place place)
+at_another : (place : SocketAddrV4) (k : Client) → is_client_at place k ≡ false → k.place ≢ place
+at_another place k isnt same = cc (ap (λ (p : SocketAddrV4). are_one_place p place) same ∙ same_place place)
 
 of_another : (node : Node) (k : Client) → has_client_node node k ≡ false → k.node ≢ node
 of_another node k isnt same = cc (same_node k.node node same)
 
-others_by : (node : Node) (place : Place) (now : ℕ) (known : List Client) (o : Option Client) → EachClientOnce known → client_at place known ≡ o → (o ≡ None → client_of_node node known ≡ None)
+others_by : (node : Node) (place : SocketAddrV4) (now : ℕ) (known : List Client) (o : Option Client) → EachClientOnce known → client_at place known ≡ o → (o ≡ None → client_of_node node known ≡ None)
     → All (AreOthers place (client_heard node place now o)) known
 others_by node place now known None once is free k d lt isnt =
     record { places = at_another place (get_or known k d) isnt; nodes = of_another node (get_or known k d) (none_passes (has_client_node node) known (free refl) k d lt) }
@@ -137,28 +139,28 @@ others_by node place now known (Some c) once is free k d lt isnt =
       nodes = others_differ place c known once is k d lt isnt;
     }
 
-kept_others : (place : Place) (c : Client) (known : List Client) → All (AreOthers place c) known
+kept_others : (place : SocketAddrV4) (c : Client) (known : List Client) → All (AreOthers place c) known
     → (k : ℕ) (d : Client) → k < length (filter (λ x. not (is_client_at place x)) known) → AreTwoClients (get_or (filter (λ x. not (is_client_at place x)) known) k d) c
 kept_others place c known others k d lt =
     All-filter (λ x. not (is_client_at place x)) (AreOthers place c) known others k d lt
     (is_not (is_client_at place (get_or (filter (λ x. not (is_client_at place x)) known) k d)) (filter_passes (λ x. not (is_client_at place x)) known k d lt))
 
 -- each of them has the node of its address
-heard_node : (place : Place) (now : ℕ) (known : List Client) (o : Option Client) → All HasPlaceNode known → client_at place known ≡ o → HasPlaceNode (client_heard (node_of_place place) place now o)
+heard_node : (place : SocketAddrV4) (now : ℕ) (known : List Client) (o : Option Client) → All HasPlaceNode known → client_at place known ≡ o → HasPlaceNode (client_heard (node_of_place place) place now o)
 heard_node place now known None nodes is = refl
 heard_node place now known (Some c) nodes is = found_has HasPlaceNode (is_client_at place) known c nodes is
 
 pub nodes_left : (now : ℕ) (known : List Client) → All HasPlaceNode known → All HasPlaceNode (clients_left now known)
 nodes_left now known nodes = All-filter (was_heard_within forgotten_after now) HasPlaceNode known nodes
 
-pub nodes_heard : (most now : ℕ) (place : Place) (known : List Client) → All HasPlaceNode known → All HasPlaceNode (clients_heard most (node_of_place place) place now known)
+pub nodes_heard : (most now : ℕ) (place : SocketAddrV4) (known : List Client) → All HasPlaceNode known → All HasPlaceNode (clients_heard most (node_of_place place) place now known)
 nodes_heard most now place known nodes =
     let test = λ (x : Client). not (is_client_at place x) in
     let kept : List Client = filter test known in
     let n = length kept + 1 - most in
     All-push HasPlaceNode (drop n kept) (client_heard (node_of_place place) place now (client_at place known)) (All-drop HasPlaceNode n kept (All-filter test HasPlaceNode known nodes)) (heard_node place now known (client_at place known) nodes refl)
 
-pub once_heard : (most room now : ℕ) (node : Node) (place : Place) (known : List Client) → AreClients most known room
+pub once_heard : (most room now : ℕ) (node : Node) (place : SocketAddrV4) (known : List Client) → AreClients most known room
     → (client_at place known ≡ None → client_of_node node known ≡ None) → AreClients most (clients_heard most node place now known) room
 once_heard most room now node place known are free =
     let test = λ (x : Client). not (is_client_at place x) in

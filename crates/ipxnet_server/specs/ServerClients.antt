@@ -1,10 +1,12 @@
 -- The clients of an ipxnet server, and for how long they are known. A node is made as DOSBox 0.74-3 makes it;
 -- all else is defined by this project.
 use Rattle.std.specs.Prelude.{◌≡◌, ◌≢◌, ℕ, ◌+◌, ◌-◌, List, [], ◌∷◌, ◌++◌, length, drop, filter, find, count_by, AllPairs, Bool, true, not, ◌==◌, ◌&&◌, nat_le, nat_lt, Option, Some, None}
+use Rattle.std.specs.Net.Addr.{ipv4_octets}
+use Rattle.std.specs.Net.Socket.{v4_ip, v4_port}
 use Rattle.std.specs.Str.{bytes_eq}
 use Rattle.byteorder.specs.Endian.{big_bytes}
 use Rattle.ipx_wire.specs.declared.address.Node.{Node}
-use Rattle.ipxnet_server.specs.declared.place.Place.{Place}
+use Rattle.std.specs.declared.net.socket_addr.SocketAddrV4.{SocketAddrV4}
 use Rattle.ipxnet_server.specs.declared.clients.Client.{Client}
 
 -- the most clients that a server may have
@@ -26,20 +28,22 @@ abbrev pub max_recent_registrations : ℕ
 max_recent_registrations = 10
 
 -- the node of a client at an address: the IP address, and then the UDP port
-abbrev pub node_of_place : Place → Node
-node_of_place place = record { 0 = place.ip ++ big_bytes 2 place.udp_port }
+abbrev pub node_of_place : SocketAddrV4 → Node
+node_of_place place = record { 0 = ipv4_octets (v4_ip place) ++ big_bytes 2 (v4_port place) }
 
-abbrev pub are_one_place : Place → Place → Bool
-are_one_place a b = bytes_eq a.ip b.ip && (a.udp_port == b.udp_port)
+-- two addresses have the same IP address and the same UDP port
+abbrev pub are_one_place : SocketAddrV4 → SocketAddrV4 → Bool
+are_one_place a b = bytes_eq (ipv4_octets (v4_ip a)) (ipv4_octets (v4_ip b))
+    && (v4_port a == v4_port b)
 
-abbrev pub is_client_at : Place → Client → Bool
+abbrev pub is_client_at : SocketAddrV4 → Client → Bool
 is_client_at place c = are_one_place c.place place
 
 abbrev pub has_client_node : Node → Client → Bool
 has_client_node node c = bytes_eq c.node.0 node.0
 
 -- the client at an address, and the client of a node
-abbrev pub client_at : Place → List Client → Option Client
+abbrev pub client_at : SocketAddrV4 → List Client → Option Client
 client_at place known = find (is_client_at place) known
 
 abbrev pub client_of_node : Node → List Client → Option Client
@@ -82,13 +86,13 @@ abbrev pub is_server_full : ℕ → ℕ → List Client → Bool
 is_server_full most now known = nat_le most (length known) && is_first_heard now known
 
 -- the client that is heard at an address; if none is known there, it is a new one with this node
-abbrev pub client_heard : Node → Place → ℕ → Option Client → Client
+abbrev pub client_heard : Node → SocketAddrV4 → ℕ → Option Client → Client
 client_heard node place now None =
     record { node = node; place = place; since = now; heard = now }
 client_heard node place now (Some c) = record c { heard = now }
 
 -- it is then known once, as the last one, and if there are too many the first one goes
-abbrev pub clients_heard : ℕ → Node → Place → ℕ → List Client → List Client
+abbrev pub clients_heard : ℕ → Node → SocketAddrV4 → ℕ → List Client → List Client
 clients_heard most node place now known =
     drop (length (filter (λ c. not (is_client_at place c)) known) + 1 - most)
     (filter (λ c. not (is_client_at place c)) known)

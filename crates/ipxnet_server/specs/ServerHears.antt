@@ -8,7 +8,7 @@ use Rattle.ipx_wire.specs.Ipx.{IsIpx, PacketView, number, packet_of}
 use Rattle.ipx_wire.specs.declared.address.Network.{Network}
 use Rattle.ipx_wire.specs.declared.address.Node.{Node}
 use Rattle.ipx_wire.specs.declared.ipx.packet.IpxHeader.{IpxHeader}
-use Rattle.ipxnet_server.specs.declared.place.Place.{Place}
+use Rattle.std.specs.declared.net.socket_addr.SocketAddrV4.{SocketAddrV4}
 use Rattle.ipxnet_server.specs.declared.clients.Client.{Client}
 use Rattle.ipxnet_server.specs.declared.counts.ServerCounts.{ServerCounts}
 use Rattle.ipxnet_server.specs.declared.drops.ServerDrop.{ServerDrop}
@@ -30,7 +30,7 @@ pub record ServerView : Type 0 where
   pub most : ℕ
   pub clients : List Client
   pub counts : ServerCounts
-  pub routers : List Place
+  pub routers : List SocketAddrV4
   pub far : List RemoteClient
 
 -- the socket of registrations and pings, and the most bytes that a client accepts
@@ -120,17 +120,17 @@ new_client_hears port node None = Registered (registration_answer port node)
 new_client_hears port node (Some drop) = Dropped drop
 
 -- the node that a new client of a server gets
-abbrev pub node_given : ServerView → Place → Node
+abbrev pub node_given : ServerView → SocketAddrV4 → Node
 node_given l from = new_client_node l.port.own l.far from
 
 -- a registration, from an address where this client is known
-abbrev pub registration_hears : ServerView → Place → ℕ → Option Client → Disposition
+abbrev pub registration_hears : ServerView → SocketAddrV4 → ℕ → Option Client → Disposition
 registration_hears l from now None =
     new_client_hears l.port (node_given l from) (registration_drop l (node_given l from) now)
 registration_hears l from now (Some c) = Registered (registration_answer l.port c.node)
 
 -- to all nodes here
-abbrev pub all_hear : ServerPort → Place → PacketView → ℕ → Disposition
+abbrev pub all_hear : ServerPort → SocketAddrV4 → PacketView → ℕ → Disposition
 all_hear port from p size =
     if nat_lt max_client_bytes size then Dropped (TooLong size)
     else if p.header.to.socket.0 == server_socket then Pinged from (ping_answer port p.header.from.node)
@@ -157,7 +157,7 @@ hear_remote l node size =
     else ToJoined (joined_takers (remote_client_of node l.far))
 
 -- to one node here, which this client has
-abbrev pub client_hears : ServerView → Place → IpxHeader → ℕ → Option Client → Disposition
+abbrev pub client_hears : ServerView → SocketAddrV4 → IpxHeader → ℕ → Option Client → Disposition
 client_hears l from h size None = hear_remote l h.to.node size
 client_hears l from h size (Some c) =
     if are_one_place c.place from then Dropped ToItself
@@ -165,7 +165,7 @@ client_hears l from h size (Some c) =
     else ToClient c.place
 
 -- to the network of the port
-abbrev pub server_hears_here : ServerView → Place → PacketView → ℕ → Disposition
+abbrev pub server_hears_here : ServerView → SocketAddrV4 → PacketView → ℕ → Disposition
 server_hears_here l from p size =
     if is_to_all_nodes p.header then all_hear l.port from p size
     else if bytes_eq p.header.to.node.0 l.port.own.0 then core_hears l.port p
@@ -179,7 +179,7 @@ server_hears_elsewhere port p =
     else core_hears port p
 
 -- from an address where this client is known
-abbrev pub server_hears_from : ServerView → Place → PacketView → ℕ → Option Client → Disposition
+abbrev pub server_hears_from : ServerView → SocketAddrV4 → PacketView → ℕ → Option Client → Disposition
 server_hears_from l from p size None = Dropped Unregistered
 server_hears_from l from p size (Some c) =
     if not (bytes_eq p.header.from.node.0 c.node.0) then Dropped (OtherSource p.header.from.node)
@@ -200,7 +200,7 @@ abbrev pub tells_node : ServerPort → IpxHeader → Bool
 tells_node port h = is_from_server port h && bytes_eq h.to.node.0 h.from.node.0
 
 -- from a joined router to one node, which this client has
-abbrev pub one_hears_joined : ServerPort → Place → IpxHeader → ℕ → Option Client → Disposition
+abbrev pub one_hears_joined : ServerPort → SocketAddrV4 → IpxHeader → ℕ → Option Client → Disposition
 one_hears_joined port from h size None = Dropped (NoSuchNode h.to.node)
 one_hears_joined port from h size (Some c) =
     if are_one_place c.place from then Dropped ToItself
@@ -208,13 +208,13 @@ one_hears_joined port from h size (Some c) =
     else FromJoined (remote_source port h) (One c.place)
 
 -- from a joined router to all nodes
-abbrev pub all_hear_joined : ServerPort → Place → IpxHeader → ℕ → Disposition
+abbrev pub all_hear_joined : ServerPort → SocketAddrV4 → IpxHeader → ℕ → Disposition
 all_hear_joined port from h size =
     if nat_lt max_client_bytes size then Dropped (TooLong size)
     else FromJoined (remote_source port h) (Here from)
 
 -- from the address of a joined router: neither the core nor any joined router gets it
-abbrev pub joined_hears : ServerView → Place → IpxHeader → ℕ → Disposition
+abbrev pub joined_hears : ServerView → SocketAddrV4 → IpxHeader → ℕ → Disposition
 joined_hears l from h size =
     if not (is_for_server l.port h) then Dropped (ForElsewhere h.to.network)
     else if is_from_server l.port h && is_not_behind l.port l.clients h.from.node
@@ -224,7 +224,7 @@ joined_hears l from h size =
     else one_hears_joined l.port from h size (client_of_node h.to.node l.clients)
 
 -- a packet, in a datagram of `size` bytes from an address
-abbrev pub server_hears : ServerView → Place → PacketView → ℕ → ℕ → Disposition
+abbrev pub server_hears : ServerView → SocketAddrV4 → PacketView → ℕ → ℕ → Disposition
 server_hears l from p size now =
     if is_joined_place from l.routers then joined_hears l from p.header size
     else if is_registration p.header size
@@ -245,7 +245,7 @@ takers_of (ToJoined takers) = takers
 takers_of (FromJoined told takers) = takers
 takers_of (Dropped drop) = Nobody
 
-abbrev pub is_taker : Recipients → Place → Bool
+abbrev pub is_taker : Recipients → SocketAddrV4 → Bool
 is_taker Nobody place = false
 is_taker (One one) place = are_one_place one place
 is_taker (Others from) place = not (are_one_place from place)
@@ -255,7 +255,7 @@ is_taker Joined place = false
 is_taker (JoinedAt one) place = false
 
 -- the same for a joined router: it gets what a client sent to all nodes, or to a node that no client has
-abbrev pub is_joined_taker : Recipients → Place → Bool
+abbrev pub is_joined_taker : Recipients → SocketAddrV4 → Bool
 is_joined_taker Nobody place = false
 is_joined_taker (One one) place = false
 is_joined_taker (Others from) place = true
@@ -265,11 +265,11 @@ is_joined_taker Joined place = true
 is_joined_taker (JoinedAt one) place = are_one_place one place
 
 -- the takers have the client at an address: there is one, and it is among them
-abbrev pub takers_reach : ServerView → Recipients → Place → Bool
+abbrev pub takers_reach : ServerView → Recipients → SocketAddrV4 → Bool
 takers_reach l takers place = is_some (client_at place l.clients) && is_taker takers place
 
 -- the takers have the joined router at an address
-abbrev pub takers_join : ServerView → Recipients → Place → Bool
+abbrev pub takers_join : ServerView → Recipients → SocketAddrV4 → Bool
 takers_join l takers place = is_joined_place place l.routers && is_joined_taker takers place
 
 -- the core gets the bytes
@@ -370,16 +370,16 @@ abbrev pub server_dropping : ServerDrop → ServerView → ServerView
 server_dropping drop l = record l { counts = drop_counted drop l.counts }
 
 -- the client at an address was heard
-abbrev pub server_knowing : Place → ℕ → ServerView → ServerView
+abbrev pub server_knowing : SocketAddrV4 → ℕ → ServerView → ServerView
 server_knowing from now l =
     record l { clients = clients_heard l.most (node_given l from) from now l.clients }
 
 -- the joined router at an address showed where a node is, or nothing
-abbrev pub server_learned : Option Node → Place → ℕ → ServerView → ServerView
+abbrev pub server_learned : Option Node → SocketAddrV4 → ℕ → ServerView → ServerView
 server_learned None from now l = l
 server_learned (Some node) from now l = record l { far = remote_clients_heard node from now l.far }
 
-abbrev pub server_hearing : Disposition → Place → ℕ → ServerView → ServerView
+abbrev pub server_hearing : Disposition → SocketAddrV4 → ℕ → ServerView → ServerView
 server_hearing (Registered answer) from now l = server_knowing from now l
 server_hearing (Pinged giver answer) from now l = server_knowing from now l
 server_hearing (ToClient place) from now l = server_knowing from now l
@@ -396,7 +396,7 @@ server_giving (Ok takers) l = l
 server_giving (Err drop) l = server_dropping drop l
 
 -- no client is known yet
-abbrev pub joined_server : ServerPort → ℕ → List Place → ServerView
+abbrev pub joined_server : ServerPort → ℕ → List SocketAddrV4 → ServerView
 joined_server port most routers = record {
   port = port;
   most = most;

@@ -5,7 +5,7 @@ use Rattle.ipxnet_server.specs.declared.clients.Client.{Client}
 use Rattle.ipxnet_server.specs.declared.disposition.Disposition.{Disposition}
 use Rattle.ipxnet_server.specs.declared.disposition.Disposition.TheVariants.{Registered}
 use Rattle.ipxnet_server.specs.declared.peer_servers.RemoteClient.{RemoteClient}
-use Rattle.ipxnet_server.specs.declared.place.Place.{Place}
+use Rattle.std.specs.declared.net.socket_addr.SocketAddrV4.{SocketAddrV4}
 use Rattle.ipxnet_server.specs.declared.recipients.Recipients.TheVariants.{One}
 use Rattle.ipxnet_server.specs.ServerClients.{EachClientOnce, client_at, client_of_node, max_server_clients}
 use Rattle.ipxnet_server.specs.ServerHears.{IsAnswer, ServerView, answer_of, goes_to_core, is_dropped, is_joined_taker, is_of_client, is_taker, node_given, takers_of}
@@ -26,18 +26,18 @@ pub record AreClients (most : ℕ) (known : List Client) (room : ℕ) : Type 0 w
 
 -- the addresses of joined routers, and their clients
 pub record JoinedView : Type 0 where
-  pub routers : List Place
+  pub routers : List SocketAddrV4
   pub far : List RemoteClient
 
 -- what holds for these: none if no router is joined, no more than allowed, and memory for all
-pub record AreRemoteClients (routers : List Place) (far : List RemoteClient) (room : ℕ) : Type 0 where
+pub record AreRemoteClients (routers : List SocketAddrV4) (far : List RemoteClient) (room : ℕ) : Type 0 where
   pub none : routers ≡ [] → far ≡ []
   pub within : length far ≤ max_remote_clients
   pub all : room ≡ max_remote_clients
 
 -- what comes from a joined router goes to no joined router and not to the core, and is not answered
 pub record StaysAmongClients (heard : Disposition) : Type 0 where
-  pub ring : (place : Place) → is_joined_taker (takers_of heard) place ≡ false
+  pub ring : (place : SocketAddrV4) → is_joined_taker (takers_of heard) place ≡ false
   pub core : goes_to_core heard ≡ false
   pub answer : answer_of heard ≡ None
   pub client : is_of_client heard ≡ false
@@ -45,15 +45,15 @@ pub record StaysAmongClients (heard : Disposition) : Type 0 where
 -- what holds for each datagram of `size` bytes, whatever becomes of it. It is never sent back to its sender,
 -- and its answer is no longer. A node that is given is free. It goes from clients to clients, and a joined
 -- router's stays among those
-pub record IsSoundHearing (l : ServerView) (from : Place) (size : ℕ) (heard : Disposition) : Type 0 where
+pub record IsSoundHearing (l : ServerView) (from : SocketAddrV4) (size : ℕ) (heard : Disposition) : Type 0 where
   pub back : is_taker (takers_of heard) from ≡ false
   pub as_many : (header : IpxHeader) (answer : List ℕ) → heard ≡ Registered header
       → IsAnswer heard answer → length answer ≡ size
   pub no_longer : (answer : List ℕ) → IsAnswer heard answer → length answer ≤ size
   pub free : is_of_client heard ≡ true → client_at from l.clients ≡ None
       → client_of_node (node_given l from) l.clients ≡ None
-  pub sender : (place : Place) → is_of_client heard ≡ true → takers_of heard ≡ One place
+  pub sender : (place : SocketAddrV4) → is_of_client heard ≡ true → takers_of heard ≡ One place
       → is_some (client_at from l.clients) ≡ true
-  pub taker : (place : Place) → takers_of heard ≡ One place → is_some (client_at place l.clients) ≡ true
+  pub taker : (place : SocketAddrV4) → takers_of heard ≡ One place → is_some (client_at place l.clients) ≡ true
   pub joined : is_joined_place from l.routers ≡ true → StaysAmongClients heard
   pub member : is_joined_place from l.routers ≡ false → is_of_client heard ≡ not (is_dropped heard)

@@ -5,10 +5,10 @@ ghost use Rattle.std.specs.Vec.{vec_capacity, vec_len};
 ghost use Rattle.ipxnet_server.specs.ServerClients.{EachClientOnce, is_server_full, client_at, client_heard, client_of_node, clients_heard, clients_left};
 ghost use Rattle.ipxnet_server.specs.ServerClients.{has_client_node, is_client_at, is_recent_client, max_server_clients, recent_registrations};
 
-use crate::place::Place;
 use ipx_wire::Node;
 use std::alloc::{AllocError, Global};
 use std::marker::Model;
+use std::net::SocketAddrV4;
 
 /// The most clients that a server may have, as `IpxnetServer::may_have` says.
 pub const MAX_CLIENTS: usize = 150;
@@ -32,7 +32,7 @@ pub struct Client {
     /// The node that it was given.
     pub node: Node,
     /// Its address.
-    pub place: Place,
+    pub place: SocketAddrV4,
     /// When it registered first, in ms.
     pub since: u64,
     /// When it was last heard, in ms.
@@ -58,7 +58,7 @@ impl Model for Clients {
 }
 
 /// Removes the client at an address.
-fn leave_out(known: &mut Vec<Client>, place: Place)
+fn leave_out(known: &mut Vec<Client>, place: SocketAddrV4)
     ensures items { known.new.items ≡ filter (λ c. not (is_client_at place c)) known.old.items }
     ensures fewer { vec_len known.new ≤ vec_len known.old }
     ensures capacity { vec_capacity known.new ≡ vec_capacity known.old }
@@ -89,7 +89,7 @@ fn make_space(known: &mut Vec<Client>, most: usize)
 }
 
 /// The client at an address.
-fn find_place(known: &[Client], place: Place) -> Option<&Client>
+fn find_place(known: &[Client], place: SocketAddrV4) -> Option<&Client>
     ensures { option_copied result ≡ find (is_client_at place) known.now }
 {
     known.iter().find(|client| client.place == place)
@@ -139,7 +139,7 @@ impl Clients {
     }
 
     /// The client at an address.
-    pub fn at(&self, place: Place) -> Option<Client>
+    pub fn at(&self, place: SocketAddrV4) -> Option<Client>
         ensures { result ≡ client_at place self.now.known }
     {
         find_place(&self.known, place).copied()
@@ -178,7 +178,7 @@ impl Clients {
 
     /// The client that is heard at an address. If none is known there, it is a new one with this
     /// node.
-    fn heard_at(&self, node: Node, place: Place, now: u64) -> Client
+    fn heard_at(&self, node: Node, place: SocketAddrV4, now: u64) -> Client
         ensures { result ≡ client_heard node place now (client_at place self.now.known) }
     {
         match self.at(place) {
@@ -197,7 +197,7 @@ impl Clients {
 
     /// A client is heard at an address. A new one must have a node that no other client has. If
     /// there are too many, the one heard before all others is removed.
-    pub fn put(&mut self, node: Node, place: Place, now: u64)
+    pub fn put(&mut self, node: Node, place: SocketAddrV4, now: u64)
         requires { client_at place self.old.known ≡ None
             → client_of_node node self.old.known ≡ None }
         ensures { self.new ≡ record self.old {

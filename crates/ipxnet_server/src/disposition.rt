@@ -5,9 +5,9 @@ ghost use Rattle.ipx_wire.specs.Ipx.{IsIpx, packet_of};
 ghost use Rattle.ipxnet_server.specs.ServerHears.{IsAnswer, IsNotice, answer_of, goes_to_core, notice_of, takers_of};
 
 use crate::drops::ServerDrop;
-use crate::place::Place;
 use crate::recipients::Recipients;
 use ipx_wire::{IPX_HEADER_SIZE, IpxHeader, Node, Packet, encode_into};
+use std::net::SocketAddrV4;
 
 /// What becomes of a datagram.
 #[derive(Clone, Copy, Debug, PartialEq, Eq)]
@@ -16,13 +16,13 @@ pub enum Disposition {
     Registered(IpxHeader),
     /// It is a ping from a client at an address. This is the answer. It is also sent to the other
     /// clients, which answer it themselves.
-    Pinged(Place, IpxHeader),
+    Pinged(SocketAddrV4, IpxHeader),
     /// It is sent to the client at an address.
-    ToClient(Place),
+    ToClient(SocketAddrV4),
     /// It is sent to each joined router, and to each client except the sender at this address.
-    ToOthers(Place),
+    ToOthers(SocketAddrV4),
     /// The same, and the core of the port gets it too.
-    ToOthersAndCore(Place),
+    ToOthersAndCore(SocketAddrV4),
     /// Only the core of the port gets it.
     ToCore,
     /// A client sent it to a node that no client has. It is sent to these joined routers.

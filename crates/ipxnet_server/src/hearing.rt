@@ -10,13 +10,13 @@ use crate::clients::Client;
 use crate::disposition::Disposition;
 use crate::drops::ServerDrop;
 use crate::peer_servers::RemoteClient;
-use crate::place::Place;
 use crate::port::ServerPort;
 use crate::recipients::Recipients;
 use byteorder::{BigEndian, ByteOrder};
 use ipx_wire::{
     Address, IPX_HEADER_SIZE, IpxHeader, Network, Node, Packet, Socket, decode, packet_type,
 };
+use std::net::SocketAddrV4;
 
 /// The socket of registrations and pings.
 pub const SERVER_SOCKET: Socket = Socket(2);
@@ -167,7 +167,7 @@ pub fn to_core(port: ServerPort, packet: &Packet<'_>) -> Disposition
 }
 
 /// What becomes of a packet for all nodes here, in a datagram of `size` bytes.
-pub fn to_all(port: ServerPort, from: Place, packet: &Packet<'_>, size: usize) -> Disposition
+pub fn to_all(port: ServerPort, from: SocketAddrV4, packet: &Packet<'_>, size: usize) -> Disposition
     ensures { result ≡ all_hear port from (packet_view packet.now) size }
 {
     let header = packet.header;
@@ -228,7 +228,12 @@ pub fn notes_node(port: ServerPort, header: IpxHeader) -> bool
 }
 
 /// What becomes of a packet of a joined router for all nodes, in a datagram of `size` bytes.
-pub fn joined_to_all(port: ServerPort, from: Place, header: IpxHeader, size: usize) -> Disposition
+pub fn joined_to_all(
+    port: ServerPort,
+    from: SocketAddrV4,
+    header: IpxHeader,
+    size: usize,
+) -> Disposition
     ensures { result ≡ all_hear_joined port from header size }
 {
     if is_too_long(size) {
@@ -240,7 +245,7 @@ pub fn joined_to_all(port: ServerPort, from: Place, header: IpxHeader, size: usi
 /// What becomes of a packet of a joined router for one node, which this client has.
 pub fn joined_to_one(
     port: ServerPort,
-    from: Place,
+    from: SocketAddrV4,
     header: IpxHeader,
     size: usize,
     client: Option<Client>,

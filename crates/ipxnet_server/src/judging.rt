@@ -13,10 +13,10 @@ use crate::hearing::{
     answer_with_node, elsewhere, is_for_all, is_from_here, is_too_long, joined_takers_of,
     joined_to_all, joined_to_one, notes_node, registers, stays, to_all, to_core,
 };
-use crate::place::Place;
 use crate::recipients::Recipients;
 use crate::server::IpxnetServer;
 use ipx_wire::{IpxHeader, Node, Packet};
+use std::net::SocketAddrV4;
 
 impl IpxnetServer {
     /// Whether a node is the router's, the broadcast node or a client's.
@@ -41,7 +41,7 @@ impl IpxnetServer {
     }
 
     /// The node that a new client at an address gets.
-    pub(crate) fn node_for(&self, from: Place) -> Node
+    pub(crate) fn node_for(&self, from: SocketAddrV4) -> Node
         ensures node { result ≡ node_given self.now from }
         ensures alone { self.now.routers ≡ [] → result ≡ node_of_place from }
     {
@@ -65,7 +65,7 @@ impl IpxnetServer {
     }
 
     /// What becomes of a registration.
-    fn registration(&self, from: Place, now: u64, known: Option<Client>) -> Disposition
+    fn registration(&self, from: SocketAddrV4, now: u64, known: Option<Client>) -> Disposition
         ensures { result ≡ registration_hears self.now from now known }
     {
         if let Some(client) = known {
@@ -92,7 +92,7 @@ impl IpxnetServer {
     }
 
     /// What becomes of a packet for one node here.
-    fn to_node(&self, from: Place, header: IpxHeader, size: usize) -> Disposition
+    fn to_node(&self, from: SocketAddrV4, header: IpxHeader, size: usize) -> Disposition
         ensures { result ≡ client_hears self.now from header size
             (client_of_node header.to.node self.now.clients) }
     {
@@ -105,7 +105,7 @@ impl IpxnetServer {
     }
 
     /// What becomes of a packet for the network of the port.
-    fn here(&self, from: Place, packet: &Packet<'_>, size: usize) -> Disposition
+    fn here(&self, from: SocketAddrV4, packet: &Packet<'_>, size: usize) -> Disposition
         ensures { result ≡ server_hears_here self.now from (packet_view packet.now) size }
     {
         if is_for_all(packet.header) {
@@ -120,7 +120,7 @@ impl IpxnetServer {
     /// What becomes of a packet from a client's address, if a client is known there.
     fn from_client(
         &self,
-        from: Place,
+        from: SocketAddrV4,
         packet: &Packet<'_>,
         size: usize,
         known: Option<Client>,
@@ -141,7 +141,7 @@ impl IpxnetServer {
     }
 
     /// What becomes of a packet of a joined router.
-    fn from_joined(&self, from: Place, header: IpxHeader, size: usize) -> Disposition
+    fn from_joined(&self, from: SocketAddrV4, header: IpxHeader, size: usize) -> Disposition
         ensures { result ≡ joined_hears self.now from header size }
     {
         if !stays(self.port, header) {
@@ -168,7 +168,7 @@ impl IpxnetServer {
     /// What becomes of a packet.
     pub(crate) fn outcome(
         &self,
-        from: Place,
+        from: SocketAddrV4,
         packet: &Packet<'_>,
         size: usize,
         now: u64,

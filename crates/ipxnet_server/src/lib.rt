@@ -9,6 +9,7 @@
 //! to all nodes, or to a node that no client of its server has. They send it only to their clients.
 #![tactic(auto)]
 
+mod client_node;
 mod clients;
 mod counts;
 mod disposition;
@@ -16,11 +17,11 @@ mod drops;
 mod hearing;
 mod judging;
 mod peer_servers;
-mod place;
 mod port;
 mod recipients;
 mod server;
 
+pub use client_node::node_of;
 pub use clients::{
     Client, FORGOTTEN_AFTER_MS, MAX_CLIENTS, MAX_RECENT_REGISTRATIONS, REPLACED_AFTER_MS,
 };
@@ -29,7 +30,6 @@ pub use disposition::Disposition;
 pub use drops::ServerDrop;
 pub use hearing::{MAX_CLIENT_BYTES, SERVER_SOCKET};
 pub use peer_servers::{MAX_REMOTE_CLIENTS, RemoteClient};
-pub use place::Place;
 pub use port::ServerPort;
 pub use recipients::Recipients;
 pub use server::IpxnetServer;

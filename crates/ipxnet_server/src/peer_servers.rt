@@ -5,12 +5,13 @@ ghost use Rattle.std.specs.Vec.{vec_capacity, vec_len};
 ghost use Rattle.ipxnet_server.specs.ServerClients.{node_of_place};
 ghost use Rattle.ipxnet_server.specs.PeerServers.{remote_client_of, remote_clients_heard, remote_clients_left, has_remote_node, is_joined_place, made_node, max_remote_clients, new_client_node};
 
+use crate::client_node::node_of;
 use crate::clients::FORGOTTEN_AFTER_MS;
-use crate::place::Place;
 use byteorder::{BigEndian, ByteOrder};
 use ipx_wire::Node;
 use std::alloc::{AllocError, Global};
 use std::marker::Model;
+use std::net::SocketAddrV4;
 
 /// How many clients of joined routers are known at most.
 pub const MAX_REMOTE_CLIENTS: usize = 1024;
@@ -21,7 +22,7 @@ pub struct RemoteClient {
     /// Its node, as that router showed.
     pub node: Node,
     /// The router's address.
-    pub router: Place,
+    pub router: SocketAddrV4,
     /// When it was last heard, in ms.
     pub heard: u64,
 }
@@ -30,7 +31,7 @@ pub struct RemoteClient {
 /// heard.
 #[derive(Drop)]
 pub struct Joined {
-    routers: Vec<Place>,
+    routers: Vec<SocketAddrV4>,
     far: Vec<RemoteClient>,
 }
 
@@ -46,7 +47,7 @@ impl Model for Joined {
 }
 
 /// Whether one of these is at an address.
-fn is_one(routers: &[Place], place: Place) -> bool
+fn is_one(routers: &[SocketAddrV4], place: SocketAddrV4) -> bool
     ensures { result ≡ is_joined_place place routers.now }
 {
     routers.iter().any(|router| *router == place)
@@ -92,17 +93,17 @@ fn find_node(far: &[RemoteClient], node: Node) -> Option<&RemoteClient>
 
 /// A node that a router makes for a client at an address: the router's node, with the client's UDP
 /// port as its last two bytes.
-fn make_node(own: Node, place: Place) -> Node
+fn make_node(own: Node, place: SocketAddrV4) -> Node
     ensures { result ≡ made_node own place }
 {
     let mut node = own.0;
-    BigEndian::write_u16(&mut node[4..], place.udp_port);
+    BigEndian::write_u16(&mut node[4..], place.port());
     Node(node)
 }
 
 impl Joined {
     /// These routers, and none of their clients yet. This takes the memory for all of those.
-    pub fn new(alloc: Global, routers: Vec<Place>) -> Result<Joined, AllocError>
+    pub fn new(alloc: Global, routers: Vec<SocketAddrV4>) -> Result<Joined, AllocError>
         ensures { IfOk result (λ j. j ≡ record { routers = routers.items; far = [] }) }
     {
         let far = Vec::with_capacity(alloc, MAX_REMOTE_CLIENTS)?;
@@ -110,7 +111,7 @@ impl Joined {
     }
 
     /// The routers' addresses.
-    pub fn routers(&self) -> &[Place]
+    pub fn routers(&self) -> &[SocketAddrV4]
         ensures { result.now ≡ self.now.routers }
     {
         &self.routers
@@ -126,7 +127,7 @@ impl Joined {
     }
 
     /// Whether one of the routers is at an address.
-    pub fn has(&self, place: Place) -> bool
+    pub fn has(&self, place: SocketAddrV4) -> bool
         ensures { result ≡ is_joined_place place self.now.routers }
     {
         is_one(&self.routers, place)
@@ -141,11 +142,11 @@ impl Joined {
     }
 
     /// The node that a new client at an address gets from a router with this node.
-    pub fn node_for(&self, own: Node, place: Place) -> Node
+    pub fn node_for(&self, own: Node, place: SocketAddrV4) -> Node
         ensures node { result ≡ new_client_node own self.now.far place }
         ensures alone { self.now.routers ≡ [] → result ≡ node_of_place place }
     {
-        let node = place.node();
+        let node = node_of(place);
         if self.of_node(node).is_some() {
             return make_node(own, place);
         }
@@ -161,7 +162,7 @@ impl Joined {
 
     /// The client of a node is heard through the router at an address. If there are too many, the
     /// one heard before all others is removed.
-    pub fn put(&mut self, node: Node, router: Place, now: u64)
+    pub fn put(&mut self, node: Node, router: SocketAddrV4, now: u64)
         requires { is_joined_place router self.old.routers ≡ true }
         ensures { self.new ≡ record self.old {
           far = remote_clients_heard node router now self.old.far;

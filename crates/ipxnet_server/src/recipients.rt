@@ -3,7 +3,7 @@
 ghost use Rattle.std.specs.Prelude.{◌≡◌};
 ghost use Rattle.ipxnet_server.specs.ServerHears.{is_joined_taker, is_taker};
 
-use crate::place::Place;
+use std::net::SocketAddrV4;
 
 /// The clients of a server, and the routers that it is joined to, that bytes are sent to.
 #[derive(Clone, Copy, Debug, PartialEq, Eq)]
@@ -11,24 +11,24 @@ pub enum Recipients {
     /// None.
     Nobody,
     /// The client at this address.
-    One(Place),
+    One(SocketAddrV4),
     /// Each joined router, and each client except the sender at this address.
-    Others(Place),
+    Others(SocketAddrV4),
     /// Each client, and no joined router.
     All,
     /// Each client except one at this address, and no joined router. The bytes came from the joined
     /// router there.
-    Here(Place),
+    Here(SocketAddrV4),
     /// Each joined router, and no client.
     Joined,
     /// The joined router at this address.
-    JoinedAt(Place),
+    JoinedAt(SocketAddrV4),
 }
 
 impl Recipients {
     /// Whether a client at an address is one of them. Whether a client is there is not asked, but
     /// `IpxnetServer::reaches` asks it too.
-    pub fn has(self, place: Place) -> bool
+    pub fn has(self, place: SocketAddrV4) -> bool
         ensures { result ≡ is_taker self place }
     {
         match self {
@@ -43,7 +43,7 @@ impl Recipients {
 
     /// Whether a joined router at an address is one of them. Whether a router is joined there is
     /// not asked, but `IpxnetServer::joins` asks it too.
-    pub fn has_router(self, place: Place) -> bool
+    pub fn has_router(self, place: SocketAddrV4) -> bool
         ensures { result ≡ is_joined_taker self place }
     {
         match self {

@@ -6,7 +6,7 @@ ghost use Rattle.ipx_wire.specs.Ipx.{BeginsWith, PacketView, ipx_fault};
 ghost use Rattle.ipx_wire.specs.declared.ipx.packet.IpxHeader.{IpxHeader};
 ghost use Rattle.ipxnet_server.specs.declared.disposition.Disposition.TheVariants.{Dropped, FromJoined, Registered};
 ghost use Rattle.ipxnet_server.specs.declared.drops.ServerDrop.TheVariants.{Malformed};
-ghost use Rattle.ipxnet_server.specs.declared.place.Place.{Place};
+ghost use Rattle.std.specs.declared.net.socket_addr.SocketAddrV4.{SocketAddrV4};
 ghost use Rattle.ipx_wire.specs.declared.address.Node.{Node};
 ghost use Rattle.ipxnet_server.specs.declared.recipients.Recipients.{Recipients};
 ghost use Rattle.ipxnet_server.specs.declared.recipients.Recipients.TheVariants.{One};
@@ -23,12 +23,12 @@ use crate::disposition::Disposition;
 use crate::drops::ServerDrop;
 use crate::hearing::{is_for_service, is_too_long, joined_takers_of, takers_of_all};
 use crate::peer_servers::{Joined, RemoteClient};
-use crate::place::Place;
 use crate::port::ServerPort;
 use crate::recipients::Recipients;
 use ipx_wire::{Node, decode};
 use std::alloc::{AllocError, Global};
 use std::marker::Model;
+use std::net::SocketAddrV4;
 
 /// An ipxnet server: it registers clients and forwards packets between them. It may be joined to
 /// the servers of other routers.
@@ -84,7 +84,7 @@ impl IpxnetServer {
         alloc: Global,
         port: ServerPort,
         most: usize,
-        routers: Vec<Place>,
+        routers: Vec<SocketAddrV4>,
     ) -> Result<IpxnetServer, AllocError>
         requires some { 1 ≤ most }
         requires few { most ≤ max_server_clients }
@@ -128,7 +128,7 @@ impl IpxnetServer {
     }
 
     /// The addresses of the routers that the server is joined to.
-    pub fn routers(&self) -> &[Place]
+    pub fn routers(&self) -> &[SocketAddrV4]
         ensures { result.now ≡ self.now.routers }
     {
         self.joined.routers()
@@ -144,7 +144,7 @@ impl IpxnetServer {
     }
 
     /// Whether bytes with these takers are sent to the joined router at an address.
-    pub fn joins(&self, takers: Recipients, place: Place) -> bool
+    pub fn joins(&self, takers: Recipients, place: SocketAddrV4) -> bool
         ensures { result ≡ takers_join self.now takers place }
     {
         self.joined.has(place) && takers.has_router(place)
@@ -152,14 +152,14 @@ impl IpxnetServer {
 
     /// Whether bytes with these takers are sent to an address: a client is known there, and it is
     /// one of them.
-    pub fn reaches(&self, takers: Recipients, place: Place) -> bool
+    pub fn reaches(&self, takers: Recipients, place: SocketAddrV4) -> bool
         ensures { result ≡ takers_reach self.now takers place }
     {
         self.clients.at(place).is_some() && takers.has(place)
     }
 
     /// What becomes of a datagram.
-    fn judge(&self, from: Place, bytes: &[u8], now: u64) -> Disposition
+    fn judge(&self, from: SocketAddrV4, bytes: &[u8], now: u64) -> Disposition
         ensures malformed { (f : IpxFault) → ipx_fault bytes.now ≡ Some f
             → result ≡ Dropped (Malformed f) }
         ensures packet { (p : PacketView) → BeginsWith bytes.now p
@@ -173,7 +173,7 @@ impl IpxnetServer {
     }
 
     /// The client at an address was heard.
-    fn know(&mut self, from: Place, now: u64)
+    fn know(&mut self, from: SocketAddrV4, now: u64)
         requires { client_at from self.old.clients ≡ None
             → client_of_node (node_given self.old from) self.old.clients ≡ None }
         ensures { self.new ≡ server_knowing from now self.old }
@@ -183,7 +183,7 @@ impl IpxnetServer {
     }
 
     /// The joined router at an address showed where a node is, or nothing.
-    fn learn_remote(&mut self, told: Option<Node>, from: Place, now: u64)
+    fn learn_remote(&mut self, told: Option<Node>, from: SocketAddrV4, now: u64)
         requires { is_joined_place from self.old.routers ≡ true }
         ensures { self.new ≡ server_learned told from now self.old }
     {
@@ -194,7 +194,7 @@ impl IpxnetServer {
 
     /// Records what became of a datagram: its cause if it was dropped, otherwise that its sender
     /// was heard.
-    fn keep(&mut self, heard: Disposition, from: Place, now: u64)
+    fn keep(&mut self, heard: Disposition, from: SocketAddrV4, now: u64)
         requires free { is_of_client heard ≡ true → client_at from self.old.clients ≡ None
             → client_of_node (node_given self.old from) self.old.clients ≡ None }
         requires joined { (told : Option Node) (takers : Recipients) → heard ≡ FromJoined told takers
@@ -231,7 +231,7 @@ impl IpxnetServer {
     /// they arrived, to each client and joined router among the takers, and the announcement to
     /// each joined router. A dropped datagram changes only the count of its cause. Each call
     /// forgets the clients that were silent for a day.
-    pub fn hear(&mut self, from: Place, bytes: &[u8], now: u64) -> Disposition
+    pub fn hear(&mut self, from: SocketAddrV4, bytes: &[u8], now: u64) -> Disposition
         // What becomes of it, if the bytes are no packet, and if they begin with one.
         ensures malformed { (f : IpxFault) → ipx_fault bytes.now ≡ Some f
             → result ≡ Dropped (Malformed f) }
@@ -252,7 +252,7 @@ impl IpxnetServer {
             → client_at from self.new.clients ≡ Some (client_heard
             (node_given (server_aged now self.old) from) from now
             (client_at from (clients_left now self.old.clients))) }
-        ensures taker { (place : Place) → takers_of result ≡ One place
+        ensures taker { (place : SocketAddrV4) → takers_of result ≡ One place
             → is_some (client_at place self.new.clients) ≡ true }
         // The core gets nothing that comes from another network, and no response of RIP or SAP.
         ensures core { (p : PacketView) → BeginsWith bytes.now p → goes_to_core result ≡ true
@@ -260,7 +260,7 @@ impl IpxnetServer {
         // What came from a joined router is sent to no joined router and not to the core. It is not
         // answered, and makes no client.
         ensures ring { is_joined_place from self.old.routers ≡ true
-            → (place : Place) → is_joined_taker (takers_of result) place ≡ false }
+            → (place : SocketAddrV4) → is_joined_taker (takers_of result) place ≡ false }
         ensures apart { is_joined_place from self.old.routers ≡ true → goes_to_core result ≡ false }
         ensures unanswered { is_joined_place from self.old.routers ≡ true → answer_of result ≡ None }
         ensures members { is_joined_place from self.old.routers ≡ true
@@ -286,7 +286,7 @@ impl IpxnetServer {
             → result ≡ server_gives (server_aged now self.old) node false (length packet.now) }
         ensures server { self.new ≡ server_giving result (server_aged now self.old) }
         // The one client that it goes to is known.
-        ensures taker { (place : Place) → result ≡ Ok (One place)
+        ensures taker { (place : SocketAddrV4) → result ≡ Ok (One place)
             → is_some (client_at place self.new.clients) ≡ true }
     {
         self.age(now);

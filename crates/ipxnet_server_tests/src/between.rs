@@ -2,7 +2,8 @@
 
 use crate::caller::give;
 use crate::fixture::{
-    CAME, FIRST, FIRST_NODE, PORT, SECOND, SECOND_NODE, THIRD, long_packet, packet, register_all,
+    CAME, FIRST_NODE, PORT, SECOND_NODE, first_place, long_packet, packet, register_all,
+    second_place, third_place,
 };
 use ipx_wire::Node;
 use ipxnet_server::{Disposition, IpxnetServer, ServerDrop};
@@ -13,23 +14,29 @@ use std::test::Fail;
 fn to_one_player(rt: HostRuntime) -> Result<(), Fail> {
     let mut server = IpxnetServer::new(rt.alloc(), PORT, 64)?;
     register_all(&mut server);
-    assert_eq!(rt; server.hear(FIRST, &CAME, 0), Disposition::ToClient(SECOND));
+    assert_eq!(rt;
+        server.hear(first_place(), &CAME, 0),
+        Disposition::ToClient(second_place())
+    );
     let mut bytes = packet(SECOND_NODE, 0x4001, FIRST_NODE);
     bytes[4..6].copy_from_slice(&[16, 20]);
     assert_eq!(rt;
-        server.hear(FIRST, &bytes, 0),
-        Disposition::ToClient(SECOND)
+        server.hear(first_place(), &bytes, 0),
+        Disposition::ToClient(second_place())
     );
     // With bytes after it, which are sent too.
     let mut padded = [0xee; 36];
     padded[..34].copy_from_slice(&CAME);
     assert_eq!(rt;
-        server.hear(FIRST, &padded, 0),
-        Disposition::ToClient(SECOND)
+        server.hear(first_place(), &padded, 0),
+        Disposition::ToClient(second_place())
     );
     // Also to a socket of the router's services: the packet is for that player's program.
     let rip = packet(SECOND_NODE, 0x453, FIRST_NODE);
-    assert_eq!(rt; server.hear(FIRST, &rip, 0), Disposition::ToClient(SECOND));
+    assert_eq!(rt;
+        server.hear(first_place(), &rip, 0),
+        Disposition::ToClient(second_place())
+    );
     Ok(())
 }
 
@@ -46,7 +53,7 @@ fn to_all_players(rt: HostRuntime) -> Result<(), Fail> {
     ] {
         let all = packet(Node::BROADCAST, socket, FIRST_NODE);
         assert_eq!(rt;
-            give(&mut server, FIRST, &all),
+            give(&mut server, first_place(), &all),
             (false, [false, true, true], core)
         );
     }
@@ -54,8 +61,8 @@ fn to_all_players(rt: HostRuntime) -> Result<(), Fail> {
     let mut netbios = packet(Node::BROADCAST, 0x455, FIRST_NODE);
     netbios[5] = 20;
     assert_eq!(rt;
-        server.hear(FIRST, &netbios, 0),
-        Disposition::ToOthers(FIRST)
+        server.hear(first_place(), &netbios, 0),
+        Disposition::ToOthers(first_place())
     );
     Ok(())
 }
@@ -66,10 +73,13 @@ fn to_the_router(rt: HostRuntime) -> Result<(), Fail> {
     let mut server = IpxnetServer::new(rt.alloc(), PORT, 64)?;
     register_all(&mut server);
     let rip = packet(PORT.own, 0x453, FIRST_NODE);
-    assert_eq!(rt; give(&mut server, FIRST, &rip), (false, [false; 3], true));
+    assert_eq!(rt;
+        give(&mut server, first_place(), &rip),
+        (false, [false; 3], true)
+    );
     let mut named = CAME;
     named[10..16].copy_from_slice(&PORT.own.0);
-    assert_eq!(rt; server.hear(FIRST, &named, 0), Disposition::ToCore);
+    assert_eq!(rt; server.hear(first_place(), &named, 0), Disposition::ToCore);
     Ok(())
 }
 
@@ -80,21 +90,21 @@ fn sizes(rt: HostRuntime) -> Result<(), Fail> {
     register_all(&mut server);
     let all = long_packet(Node::BROADCAST, 1424);
     assert_eq!(rt;
-        server.hear(FIRST, &all[..1424], 0),
-        Disposition::ToOthers(FIRST)
+        server.hear(first_place(), &all[..1424], 0),
+        Disposition::ToOthers(first_place())
     );
     let long = Disposition::Dropped(ServerDrop::TooLong(1425));
-    assert_eq!(rt; server.hear(FIRST, &all[..1425], 0), long);
+    assert_eq!(rt; server.hear(first_place(), &all[..1425], 0), long);
     let one = long_packet(SECOND_NODE, 1424);
     assert_eq!(rt;
-        server.hear(FIRST, &one[..1424], 0),
-        Disposition::ToClient(SECOND)
+        server.hear(first_place(), &one[..1424], 0),
+        Disposition::ToClient(second_place())
     );
-    assert_eq!(rt; server.hear(FIRST, &one[..1425], 0), long);
+    assert_eq!(rt; server.hear(first_place(), &one[..1425], 0), long);
     assert_eq!(rt; server.counts().too_long, 2);
     // The core accepts more.
     let router = long_packet(PORT.own, 1500);
-    assert_eq!(rt; server.hear(FIRST, &router, 0), Disposition::ToCore);
+    assert_eq!(rt; server.hear(first_place(), &router, 0), Disposition::ToCore);
     Ok(())
 }
 
@@ -106,12 +116,15 @@ fn from_anothers_node(rt: HostRuntime) -> Result<(), Fail> {
     register_all(&mut server);
     let all = packet(Node::BROADCAST, 0x4001, SECOND_NODE);
     assert_eq!(rt;
-        server.hear(FIRST, &all, 0),
+        server.hear(first_place(), &all, 0),
         Disposition::Dropped(ServerDrop::OtherSource(SECOND_NODE))
     );
-    assert_eq!(rt; server.hear(SECOND, &all, 0), Disposition::ToOthers(SECOND));
     assert_eq!(rt;
-        server.hear(THIRD, &CAME, 0),
+        server.hear(second_place(), &all, 0),
+        Disposition::ToOthers(second_place())
+    );
+    assert_eq!(rt;
+        server.hear(third_place(), &CAME, 0),
         Disposition::Dropped(ServerDrop::OtherSource(FIRST_NODE))
     );
     assert_eq!(rt; server.counts().other_source, 2);

@@ -1,8 +1,11 @@
 //! What is dropped, its cause, and that only a count changes.
 
-use crate::fixture::{CAME, FIRST, FIRST_NODE, PORT, SECOND, packet, packet_for, register_all};
+use crate::fixture::{
+    CAME, FIRST_NODE, PORT, first_place, packet, packet_for, register_all, second_place,
+};
 use ipx_wire::{IpxFault, Network, Node};
-use ipxnet_server::{Disposition, IpxnetServer, Place, ServerCounts, ServerDrop};
+use ipxnet_server::{Disposition, IpxnetServer, ServerCounts, ServerDrop};
+use std::net::{Ipv4Addr, SocketAddrV4};
 use std::test::Fail;
 
 /// A node that no client has.
@@ -38,7 +41,10 @@ fn causes(rt: HostRuntime) -> Result<(), Fail> {
         ),
     ];
     for (bytes, drop) in rows {
-        assert_eq!(rt; server.hear(FIRST, &bytes, 500), Disposition::Dropped(drop));
+        assert_eq!(rt;
+            server.hear(first_place(), &bytes, 500),
+            Disposition::Dropped(drop)
+        );
     }
     let wanted = ServerCounts {
         no_such_node: 1,
@@ -58,18 +64,12 @@ fn causes(rt: HostRuntime) -> Result<(), Fail> {
 fn from_another_port(rt: HostRuntime) -> Result<(), Fail> {
     let mut server = IpxnetServer::new(rt.alloc(), PORT, 64)?;
     register_all(&mut server);
-    let other = Place {
-        udp_port: 48201,
-        ..FIRST
-    };
+    let other = SocketAddrV4::new(*first_place().ip(), 48201);
     assert_eq!(rt;
         server.hear(other, &CAME, 0),
         Disposition::Dropped(ServerDrop::Unregistered)
     );
-    let far = Place {
-        ip: [127, 0, 0, 2],
-        ..FIRST
-    };
+    let far = SocketAddrV4::new(Ipv4Addr::new(127, 0, 0, 2), first_place().port());
     assert_eq!(rt;
         server.hear(far, &CAME, 0),
         Disposition::Dropped(ServerDrop::Unregistered)
@@ -84,11 +84,11 @@ fn no_packets(rt: HostRuntime) -> Result<(), Fail> {
     let mut server = IpxnetServer::new(rt.alloc(), PORT, 64)?;
     register_all(&mut server);
     assert_eq!(rt;
-        server.hear(SECOND, b"abc", 0),
+        server.hear(second_place(), b"abc", 0),
         Disposition::Dropped(ServerDrop::Malformed(IpxFault::Short(3)))
     );
     assert_eq!(rt;
-        server.hear(FIRST, &CAME[..33], 0),
+        server.hear(first_place(), &CAME[..33], 0),
         Disposition::Dropped(ServerDrop::Malformed(IpxFault::Truncated(34, 33)))
     );
     assert_eq!(rt; server.counts().malformed, 2);

@@ -1,7 +1,8 @@
 //! Players, what they send, and what they expect.
 
 use ipx_wire::{Network, Node};
-use ipxnet_server::{IpxnetServer, Place, ServerPort};
+use ipxnet_server::{IpxnetServer, ServerPort};
+use std::net::{Ipv4Addr, SocketAddrV4};
 
 /// The port, whose network 0000d05b players are told.
 pub const PORT: ServerPort = ServerPort {
@@ -10,20 +11,17 @@ pub const PORT: ServerPort = ServerPort {
 };
 
 /// Three players, and the nodes that they are given.
-pub const FIRST: Place = Place {
-    ip: [127, 0, 0, 1],
-    udp_port: 48199,
-};
+pub fn first_place() -> SocketAddrV4 {
+    SocketAddrV4::new(Ipv4Addr::new(127, 0, 0, 1), 48199)
+}
 
-pub const SECOND: Place = Place {
-    ip: [127, 0, 0, 1],
-    udp_port: 48200,
-};
+pub fn second_place() -> SocketAddrV4 {
+    SocketAddrV4::new(Ipv4Addr::new(127, 0, 0, 1), 48200)
+}
 
-pub const THIRD: Place = Place {
-    ip: [10, 0, 0, 9],
-    udp_port: 213,
-};
+pub fn third_place() -> SocketAddrV4 {
+    SocketAddrV4::new(Ipv4Addr::new(10, 0, 0, 9), 213)
+}
 
 pub const FIRST_NODE: Node = Node([0x7f, 0, 0, 1, 0xbc, 0x47]);
 
@@ -72,7 +70,7 @@ pub fn long_packet(to: Node, size: u16) -> [u8; 1500] {
 
 /// The three players register.
 pub fn register_all(server: &mut IpxnetServer) {
-    server.hear(FIRST, &REGISTRATION, 0);
-    server.hear(SECOND, &REGISTRATION, 0);
-    server.hear(THIRD, &REGISTRATION, 0);
+    server.hear(first_place(), &REGISTRATION, 0);
+    server.hear(second_place(), &REGISTRATION, 0);
+    server.hear(third_place(), &REGISTRATION, 0);
 }

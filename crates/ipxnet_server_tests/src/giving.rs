@@ -2,7 +2,7 @@
 
 use crate::caller::reached;
 use crate::fixture::{
-    FIRST, FIRST_NODE, PORT, REGISTRATION, SECOND, SECOND_NODE, packet, register_all,
+    FIRST_NODE, PORT, REGISTRATION, SECOND_NODE, first_place, packet, register_all, second_place,
 };
 use ipx_wire::Node;
 use ipxnet_server::{IpxnetServer, Recipients, ServerCounts, ServerDrop};
@@ -22,13 +22,19 @@ fn packets_of_the_core(rt: HostRuntime) -> Result<(), Fail> {
         Ok(Recipients::All)
     );
     assert_eq!(rt; reached(&server, Recipients::All), [false; 3]);
-    assert_eq!(rt; reached(&server, Recipients::Others(SECOND)), [false; 3]);
-    assert_eq!(rt; reached(&server, Recipients::One(FIRST)), [false; 3]);
-    server.hear(FIRST, &REGISTRATION, 0);
+    assert_eq!(rt;
+        reached(&server, Recipients::Others(second_place())),
+        [false; 3]
+    );
+    assert_eq!(rt;
+        reached(&server, Recipients::One(first_place())),
+        [false; 3]
+    );
+    server.hear(first_place(), &REGISTRATION, 0);
     assert_eq!(rt; reached(&server, Recipients::All), [true, false, false]);
     register_all(&mut server);
     let one = server.give(SECOND_NODE, &[0; 40], 0)?;
-    assert_eq!(rt; one, Recipients::One(SECOND));
+    assert_eq!(rt; one, Recipients::One(second_place()));
     assert_eq!(rt; reached(&server, one), [false, true, false]);
     let all = server.give(Node::BROADCAST, &[0; 40], 0)?;
     assert_eq!(rt; reached(&server, all), [true; 3]);
@@ -53,8 +59,8 @@ fn what_a_router_tells(rt: HostRuntime) -> Result<(), Fail> {
         (Node::BROADCAST, 0x451, Recipients::All),
         (Node::BROADCAST, 0x455, Recipients::All),
         (Node::BROADCAST, 0x5304, Recipients::All),
-        (SECOND_NODE, 0x453, Recipients::One(SECOND)),
-        (SECOND_NODE, 0x452, Recipients::One(SECOND)),
+        (SECOND_NODE, 0x453, Recipients::One(second_place())),
+        (SECOND_NODE, 0x452, Recipients::One(second_place())),
     ];
     for (node, socket, wanted) in rows {
         for from in [0x4001_u16, 0x452, 0x453] {
@@ -80,7 +86,7 @@ fn long_packets_of_the_core(rt: HostRuntime) -> Result<(), Fail> {
     register_all(&mut server);
     assert_eq!(rt;
         server.give(FIRST_NODE, &[0; 1424], 0),
-        Ok(Recipients::One(FIRST))
+        Ok(Recipients::One(first_place()))
     );
     let long = Err(ServerDrop::TooLong(1425));
     assert_eq!(rt; server.give(FIRST_NODE, &[0; 1425], 0), long);
@@ -94,10 +100,10 @@ fn long_packets_of_the_core(rt: HostRuntime) -> Result<(), Fail> {
 #[test]
 fn to_one_who_is_forgotten(rt: HostRuntime) -> Result<(), Fail> {
     let mut server = IpxnetServer::new(rt.alloc(), PORT, 64)?;
-    server.hear(FIRST, &REGISTRATION, 5);
+    server.hear(first_place(), &REGISTRATION, 5);
     assert_eq!(rt;
         server.give(FIRST_NODE, &[0; 40], 86_400_004),
-        Ok(Recipients::One(FIRST))
+        Ok(Recipients::One(first_place()))
     );
     assert_eq!(rt;
         server.give(FIRST_NODE, &[0; 40], 86_400_005),

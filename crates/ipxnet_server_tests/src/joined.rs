@@ -2,14 +2,15 @@
 
 use crate::caller::reached;
 use crate::fixture::{
-    CAME, FIRST, FIRST_NODE, PORT, REGISTRATION, SECOND, SECOND_NODE, THIRD, THIRD_NODE,
-    long_packet, packet, packet_for, register_all,
+    CAME, FIRST_NODE, PORT, REGISTRATION, SECOND_NODE, THIRD_NODE, first_place, long_packet,
+    packet, packet_for, register_all, second_place, third_place,
 };
-use crate::sites::{NORTH, SOUTH, WEST, north, south};
+use crate::sites::{north, north_place, south, south_place, west_place};
 use ipx_wire::{Network, Node};
 use ipxnet_server::{
-    Disposition, IpxnetServer, Place, Recipients, RemoteClient, ServerCounts, ServerDrop,
+    Disposition, IpxnetServer, Recipients, RemoteClient, ServerCounts, ServerDrop,
 };
+use std::net::SocketAddrV4;
 use std::test::Fail;
 
 /// A node that no client has.
@@ -17,7 +18,10 @@ const NOBODY: Node = Node([2, 0, 0, 0, 0, 1]);
 
 /// Which of the two other sites get the bytes from the north.
 fn passed(server: &IpxnetServer, takers: Recipients) -> [bool; 2] {
-    [server.joins(takers, SOUTH), server.joins(takers, WEST)]
+    [
+        server.joins(takers, south_place()),
+        server.joins(takers, west_place()),
+    ]
 }
 
 /// To all nodes: to the others here and to each site once, and there only to the clients.
@@ -25,22 +29,22 @@ fn passed(server: &IpxnetServer, takers: Recipients) -> [bool; 2] {
 fn to_all_at_each_site(rt: HostRuntime) -> Result<(), Fail> {
     let mut here = north(rt.alloc())?;
     let mut there = south(rt.alloc())?;
-    here.hear(FIRST, &REGISTRATION, 0);
-    here.hear(SECOND, &REGISTRATION, 0);
-    there.hear(THIRD, &REGISTRATION, 0);
+    here.hear(first_place(), &REGISTRATION, 0);
+    here.hear(second_place(), &REGISTRATION, 0);
+    there.hear(third_place(), &REGISTRATION, 0);
     for socket in [0x4001, 0x452, 0x453, 2] {
         let all = packet(Node::BROADCAST, socket, FIRST_NODE);
-        let heard = here.hear(FIRST, &all, 0);
+        let heard = here.hear(first_place(), &all, 0);
         assert_eq!(rt; reached(&here, heard.takers()), [false, true, false]);
         assert_eq!(rt; passed(&here, heard.takers()), [true, true]);
-        let heard = there.hear(NORTH, &all, 0);
+        let heard = there.hear(north_place(), &all, 0);
         assert_eq!(rt;
             heard,
-            Disposition::FromJoined(Some(FIRST_NODE), Recipients::Here(NORTH))
+            Disposition::FromJoined(Some(FIRST_NODE), Recipients::Here(north_place()))
         );
         assert_eq!(rt; reached(&there, heard.takers()), [false, false, true]);
-        assert!(rt; !there.joins(heard.takers(), NORTH));
-        assert!(rt; !there.joins(heard.takers(), WEST));
+        assert!(rt; !there.joins(heard.takers(), north_place()));
+        assert!(rt; !there.joins(heard.takers(), west_place()));
         assert!(rt; !heard.is_for_core());
         assert_eq!(rt; heard.answer(), None);
     }
@@ -55,35 +59,44 @@ fn to_all_at_each_site(rt: HostRuntime) -> Result<(), Fail> {
 #[test]
 fn to_one_at_a_site(rt: HostRuntime) -> Result<(), Fail> {
     let mut here = north(rt.alloc())?;
-    here.hear(FIRST, &REGISTRATION, 0);
-    here.hear(SECOND, &REGISTRATION, 0);
-    assert_eq!(rt; here.hear(FIRST, &CAME, 0), Disposition::ToClient(SECOND));
-    assert_eq!(rt; passed(&here, Recipients::One(SECOND)), [false, false]);
+    here.hear(first_place(), &REGISTRATION, 0);
+    here.hear(second_place(), &REGISTRATION, 0);
+    assert_eq!(rt;
+        here.hear(first_place(), &CAME, 0),
+        Disposition::ToClient(second_place())
+    );
+    assert_eq!(rt;
+        passed(&here, Recipients::One(second_place())),
+        [false, false]
+    );
     let far = packet(THIRD_NODE, 0x4001, FIRST_NODE);
-    let heard = here.hear(FIRST, &far, 0);
+    let heard = here.hear(first_place(), &far, 0);
     assert_eq!(rt; heard, Disposition::ToJoined(Recipients::Joined));
     assert_eq!(rt; passed(&here, heard.takers()), [true, true]);
     assert_eq!(rt; reached(&here, heard.takers()), [false; 3]);
     let back = packet(FIRST_NODE, 0x4001, THIRD_NODE);
-    let heard = here.hear(SOUTH, &back, 7);
+    let heard = here.hear(south_place(), &back, 7);
     assert_eq!(rt;
         heard,
-        Disposition::FromJoined(Some(THIRD_NODE), Recipients::One(FIRST))
+        Disposition::FromJoined(Some(THIRD_NODE), Recipients::One(first_place()))
     );
     assert_eq!(rt; reached(&here, heard.takers()), [true, false, false]);
     assert_eq!(rt; passed(&here, heard.takers()), [false, false]);
     let known = RemoteClient {
         node: THIRD_NODE,
-        router: SOUTH,
+        router: south_place(),
         heard: 7,
     };
     assert_eq!(rt; here.remote_clients(), [known].as_slice());
-    let heard = here.hear(FIRST, &far, 0);
-    assert_eq!(rt; heard, Disposition::ToJoined(Recipients::JoinedAt(SOUTH)));
+    let heard = here.hear(first_place(), &far, 0);
+    assert_eq!(rt;
+        heard,
+        Disposition::ToJoined(Recipients::JoinedAt(south_place()))
+    );
     assert_eq!(rt; passed(&here, heard.takers()), [true, false]);
     // It is at the site that showed it last.
-    here.hear(WEST, &back, 8);
-    let heard = here.hear(FIRST, &far, 0);
+    here.hear(west_place(), &back, 8);
+    let heard = here.hear(first_place(), &far, 0);
     assert_eq!(rt; passed(&here, heard.takers()), [false, true]);
     Ok(())
 }
@@ -98,10 +111,10 @@ fn one_place_at_two_sites(rt: HostRuntime) -> Result<(), Fail> {
         0xff, 0xff, 0, 0x1e, 0, 0, 0, 0, 0xd0, 0x5b, 0x7f, 0, 0, 1, 0xbc, 0x47, 0, 2, 0, 0, 0xd0,
         0x5b, 0x7f, 0, 0, 1, 0xbc, 0x47, 0, 2,
     ];
-    let heard = here.hear(FIRST, &REGISTRATION, 0);
+    let heard = here.hear(first_place(), &REGISTRATION, 0);
     assert_eq!(rt; heard.announcement(), Some(announcement));
     assert_eq!(rt; passed(&here, heard.takers()), [false, false]);
-    let heard = there.hear(NORTH, &announcement, 0);
+    let heard = there.hear(north_place(), &announcement, 0);
     assert_eq!(rt;
         heard,
         Disposition::FromJoined(Some(FIRST_NODE), Recipients::Nobody)
@@ -112,26 +125,35 @@ fn one_place_at_two_sites(rt: HostRuntime) -> Result<(), Fail> {
         0xd0, 0x5b, 0xc6, 0x33, 0x64, 7, 8, 0x52, 0, 2,
     ];
     let made = Node([0xc6, 0x33, 0x64, 7, 0xbc, 0x47]);
-    assert_eq!(rt; there.hear(FIRST, &REGISTRATION, 5).answer(), Some(answer));
+    assert_eq!(rt;
+        there.hear(first_place(), &REGISTRATION, 5).answer(),
+        Some(answer)
+    );
     assert_eq!(rt; there.clients()[0].node, made);
     // The client keeps that node, and sends from it.
-    assert_eq!(rt; there.hear(FIRST, &REGISTRATION, 9).answer(), Some(answer));
+    assert_eq!(rt;
+        there.hear(first_place(), &REGISTRATION, 9).answer(),
+        Some(answer)
+    );
     let all = packet(Node::BROADCAST, 0x4001, made);
-    assert_eq!(rt; there.hear(FIRST, &all, 9), Disposition::ToOthers(FIRST));
+    assert_eq!(rt;
+        there.hear(first_place(), &all, 9),
+        Disposition::ToOthers(first_place())
+    );
     let other = packet(Node::BROADCAST, 0x4001, FIRST_NODE);
     assert_eq!(rt;
-        there.hear(FIRST, &other, 9),
+        there.hear(first_place(), &other, 9),
         Disposition::Dropped(ServerDrop::OtherSource(FIRST_NODE))
     );
     // Another address has its own node. A made node that is taken too is given to nobody.
-    there.hear(SECOND, &REGISTRATION, 5);
+    there.hear(second_place(), &REGISTRATION, 5);
     assert_eq!(rt; there.clients()[1].node, SECOND_NODE);
     let mut third = north(rt.alloc())?;
     let made = Node([2, 0, 0, 0, 0, 0xd5]);
-    third.hear(SOUTH, &packet(Node::BROADCAST, 2, THIRD_NODE), 0);
-    third.hear(SOUTH, &packet(Node::BROADCAST, 2, made), 0);
+    third.hear(south_place(), &packet(Node::BROADCAST, 2, THIRD_NODE), 0);
+    third.hear(south_place(), &packet(Node::BROADCAST, 2, made), 0);
     assert_eq!(rt;
-        third.hear(THIRD, &REGISTRATION, 0),
+        third.hear(third_place(), &REGISTRATION, 0),
         Disposition::Dropped(ServerDrop::NodeTaken(made))
     );
     Ok(())
@@ -142,8 +164,8 @@ fn one_place_at_two_sites(rt: HostRuntime) -> Result<(), Fail> {
 #[test]
 fn what_a_site_may_not_send(rt: HostRuntime) -> Result<(), Fail> {
     let mut here = north(rt.alloc())?;
-    here.hear(FIRST, &REGISTRATION, 0);
-    here.hear(SECOND, &REGISTRATION, 0);
+    here.hear(first_place(), &REGISTRATION, 0);
+    here.hear(second_place(), &REGISTRATION, 0);
     let rows = [
         (
             packet(Node::BROADCAST, 0x4001, FIRST_NODE),
@@ -172,10 +194,13 @@ fn what_a_site_may_not_send(rt: HostRuntime) -> Result<(), Fail> {
         ),
     ];
     for (bytes, drop) in rows {
-        assert_eq!(rt; here.hear(SOUTH, &bytes, 0), Disposition::Dropped(drop));
+        assert_eq!(rt;
+            here.hear(south_place(), &bytes, 0),
+            Disposition::Dropped(drop)
+        );
     }
     assert_eq!(rt;
-        here.hear(SOUTH, &REGISTRATION, 0),
+        here.hear(south_place(), &REGISTRATION, 0),
         Disposition::Dropped(ServerDrop::NotBehind(Node([0; 6])))
     );
     assert!(rt; here.remote_clients().is_empty());
@@ -197,13 +222,7 @@ fn who_is_no_site(rt: HostRuntime) -> Result<(), Fail> {
     let mut here = north(rt.alloc())?;
     register_all(&mut here);
     let all = packet(Node::BROADCAST, 0x4001, NOBODY);
-    for from in [
-        Place {
-            udp_port: 2131,
-            ..SOUTH
-        },
-        NORTH,
-    ] {
+    for from in [SocketAddrV4::new(*south_place().ip(), 2131), north_place()] {
         assert_eq!(rt;
             here.hear(from, &all, 0),
             Disposition::Dropped(ServerDrop::Unregistered)
@@ -212,11 +231,11 @@ fn who_is_no_site(rt: HostRuntime) -> Result<(), Fail> {
     let mut alone = IpxnetServer::new(rt.alloc(), PORT, 64)?;
     register_all(&mut alone);
     assert_eq!(rt;
-        alone.hear(SOUTH, &all, 0),
+        alone.hear(south_place(), &all, 0),
         Disposition::Dropped(ServerDrop::Unregistered)
     );
     assert!(rt; alone.routers().is_empty());
-    assert_eq!(rt; here.routers(), [SOUTH, WEST].as_slice());
+    assert_eq!(rt; here.routers(), [south_place(), west_place()].as_slice());
     Ok(())
 }
 
@@ -225,18 +244,18 @@ fn who_is_no_site(rt: HostRuntime) -> Result<(), Fail> {
 #[test]
 fn packets_of_the_core(rt: HostRuntime) -> Result<(), Fail> {
     let mut here = north(rt.alloc())?;
-    here.hear(FIRST, &REGISTRATION, 0);
+    here.hear(first_place(), &REGISTRATION, 0);
     assert_eq!(rt;
         here.give(FIRST_NODE, &[0; 40], 0),
-        Ok(Recipients::One(FIRST))
+        Ok(Recipients::One(first_place()))
     );
     let each = here.give(THIRD_NODE, &[0; 40], 0)?;
     assert_eq!(rt; each, Recipients::Joined);
     assert_eq!(rt; passed(&here, each), [true, true]);
-    here.hear(WEST, &packet(FIRST_NODE, 0x4001, THIRD_NODE), 0);
+    here.hear(west_place(), &packet(FIRST_NODE, 0x4001, THIRD_NODE), 0);
     assert_eq!(rt;
         here.give(THIRD_NODE, &[0; 40], 0),
-        Ok(Recipients::JoinedAt(WEST))
+        Ok(Recipients::JoinedAt(west_place()))
     );
     let all = here.give(Node::BROADCAST, &[0; 40], 0)?;
     assert_eq!(rt; reached(&here, all), [true, false, false]);
@@ -255,8 +274,8 @@ fn packets_of_the_core(rt: HostRuntime) -> Result<(), Fail> {
     let mut forwarded = packet(FIRST_NODE, 0x4001, FIRST_NODE);
     forwarded[18..22].copy_from_slice(&[0, 0, 0, 0x99]);
     assert_eq!(rt;
-        here.hear(SOUTH, &forwarded, 0),
-        Disposition::FromJoined(None, Recipients::One(FIRST))
+        here.hear(south_place(), &forwarded, 0),
+        Disposition::FromJoined(None, Recipients::One(first_place()))
     );
     assert_eq!(rt; here.remote_clients().len(), 1);
     Ok(())
@@ -266,23 +285,23 @@ fn packets_of_the_core(rt: HostRuntime) -> Result<(), Fail> {
 #[test]
 fn long_packets(rt: HostRuntime) -> Result<(), Fail> {
     let mut here = north(rt.alloc())?;
-    here.hear(FIRST, &REGISTRATION, 0);
+    here.hear(first_place(), &REGISTRATION, 0);
     let far = long_packet(THIRD_NODE, 1424);
     assert_eq!(rt;
-        here.hear(FIRST, &far[..1424], 0),
+        here.hear(first_place(), &far[..1424], 0),
         Disposition::ToJoined(Recipients::Joined)
     );
     let long = Disposition::Dropped(ServerDrop::TooLong(1425));
-    assert_eq!(rt; here.hear(FIRST, &far[..1425], 0), long);
+    assert_eq!(rt; here.hear(first_place(), &far[..1425], 0), long);
     let mut there = south(rt.alloc())?;
-    there.hear(THIRD, &REGISTRATION, 0);
+    there.hear(third_place(), &REGISTRATION, 0);
     let all = long_packet(Node::BROADCAST, 1424);
     assert_eq!(rt;
-        there.hear(NORTH, &all[..1424], 0),
-        Disposition::FromJoined(Some(FIRST_NODE), Recipients::Here(NORTH))
+        there.hear(north_place(), &all[..1424], 0),
+        Disposition::FromJoined(Some(FIRST_NODE), Recipients::Here(north_place()))
     );
-    assert_eq!(rt; there.hear(NORTH, &all[..1425], 0), long);
-    assert_eq!(rt; there.hear(NORTH, &far[..1425], 0), long);
+    assert_eq!(rt; there.hear(north_place(), &all[..1425], 0), long);
+    assert_eq!(rt; there.hear(north_place(), &far[..1425], 0), long);
     Ok(())
 }
 
@@ -291,15 +310,15 @@ fn long_packets(rt: HostRuntime) -> Result<(), Fail> {
 fn far_clients_that_go(rt: HostRuntime) -> Result<(), Fail> {
     let mut here = north(rt.alloc())?;
     let day = 86_400_000;
-    here.hear(SOUTH, &packet(Node::BROADCAST, 2, THIRD_NODE), 5);
-    here.hear(SOUTH, b"abc", day + 4);
+    here.hear(south_place(), &packet(Node::BROADCAST, 2, THIRD_NODE), 5);
+    here.hear(south_place(), b"abc", day + 4);
     assert_eq!(rt; here.remote_clients().len(), 1);
-    here.hear(SOUTH, b"abc", day + 5);
+    here.hear(south_place(), b"abc", day + 5);
     assert!(rt; here.remote_clients().is_empty());
     for number in 0..1025u16 {
         let mut node = NOBODY;
         node.0[4..].copy_from_slice(&number.to_be_bytes());
-        here.hear(SOUTH, &packet(Node::BROADCAST, 2, node), 0);
+        here.hear(south_place(), &packet(Node::BROADCAST, 2, node), 0);
     }
     assert_eq!(rt; here.remote_clients().len(), 1024);
     assert_eq!(rt; here.remote_clients()[0].node, NOBODY);

@@ -1,7 +1,7 @@
 //! What `ipxnet ping` sends, and who answers it.
 
 use crate::caller::give;
-use crate::fixture::{CAME, FIRST, PORT, SECOND, THIRD, register_all};
+use crate::fixture::{CAME, PORT, first_place, register_all, second_place, third_place};
 use ipxnet_server::{Disposition, IpxnetServer, ServerDrop};
 use std::test::Fail;
 
@@ -29,13 +29,13 @@ fn a_ping(rt: HostRuntime) -> Result<(), Fail> {
     let mut server = IpxnetServer::new(rt.alloc(), PORT, 64)?;
     register_all(&mut server);
     assert_eq!(rt;
-        give(&mut server, FIRST, &PING),
+        give(&mut server, first_place(), &PING),
         (true, [false, true, true], false)
     );
-    assert_eq!(rt; server.hear(FIRST, &PING, 0).answer(), Some(ANSWER));
+    assert_eq!(rt; server.hear(first_place(), &PING, 0).answer(), Some(ANSWER));
     // The others answer for themselves, only to the sender.
     assert_eq!(rt;
-        give(&mut server, SECOND, &OF_SECOND),
+        give(&mut server, second_place(), &OF_SECOND),
         (false, [true, false, false], false)
     );
     Ok(())
@@ -48,7 +48,10 @@ fn a_ping_of_another_kind(rt: HostRuntime) -> Result<(), Fail> {
     register_all(&mut server);
     let mut bytes = CAME;
     bytes[10..18].copy_from_slice(&[0xff, 0xff, 0xff, 0xff, 0xff, 0xff, 0, 2]);
-    assert_eq!(rt; server.hear(FIRST, &bytes, 0).answer(), Some(ANSWER));
+    assert_eq!(rt;
+        server.hear(first_place(), &bytes, 0).answer(),
+        Some(ANSWER)
+    );
     Ok(())
 }
 
@@ -59,15 +62,18 @@ fn pings_that_the_router_leaves(rt: HostRuntime) -> Result<(), Fail> {
     register_all(&mut server);
     let mut bytes = PING;
     bytes[10..16].copy_from_slice(&[10, 0, 0, 9, 0, 0xd5]);
-    assert_eq!(rt; server.hear(FIRST, &bytes, 0), Disposition::ToClient(THIRD));
+    assert_eq!(rt;
+        server.hear(first_place(), &bytes, 0),
+        Disposition::ToClient(third_place())
+    );
     bytes[10..16].copy_from_slice(&PORT.own.0);
-    assert_eq!(rt; server.hear(FIRST, &bytes, 0), Disposition::ToCore);
+    assert_eq!(rt; server.hear(first_place(), &bytes, 0), Disposition::ToCore);
     let mut elsewhere = PING;
     elsewhere[9] = 0x99;
-    let dropped = server.hear(FIRST, &elsewhere, 0);
+    let dropped = server.hear(first_place(), &elsewhere, 0);
     assert!(rt; matches!(dropped, Disposition::Dropped(ServerDrop::PingElsewhere(_))));
     elsewhere[10..16].copy_from_slice(&[2, 0, 0, 0, 0, 1]);
-    server.hear(FIRST, &elsewhere, 0);
+    server.hear(first_place(), &elsewhere, 0);
     assert_eq!(rt; server.counts().ping_elsewhere, 2);
     Ok(())
 }
@@ -76,8 +82,11 @@ fn pings_that_the_router_leaves(rt: HostRuntime) -> Result<(), Fail> {
 #[test]
 fn a_ping_of_an_unknown_sender(rt: HostRuntime) -> Result<(), Fail> {
     let mut server = IpxnetServer::new(rt.alloc(), PORT, 64)?;
-    server.hear(SECOND, &crate::fixture::REGISTRATION, 0);
-    assert_eq!(rt; give(&mut server, FIRST, &PING), (false, [false; 3], false));
+    server.hear(second_place(), &crate::fixture::REGISTRATION, 0);
+    assert_eq!(rt;
+        give(&mut server, first_place(), &PING),
+        (false, [false; 3], false)
+    );
     assert_eq!(rt; server.counts().unregistered, 1);
     Ok(())
 }

@@ -1,8 +1,11 @@
 //! Registrations and their answers, byte by byte.
 
-use crate::fixture::{CAME, FIRST, FIRST_NODE, PORT, REGISTRATION, SECOND, THIRD, THIRD_NODE};
+use crate::fixture::{
+    CAME, FIRST_NODE, PORT, REGISTRATION, THIRD_NODE, first_place, second_place, third_place,
+};
 use ipx_wire::{IpxFault, Node};
-use ipxnet_server::{Client, Disposition, IpxnetServer, Place, ServerDrop, ServerPort};
+use ipxnet_server::{Client, Disposition, IpxnetServer, ServerDrop, ServerPort, node_of};
+use std::net::{Ipv4Addr, SocketAddrV4};
 use std::test::Fail;
 
 /// The answer to the first player. It takes its network and node from there, and the answer comes
@@ -22,26 +25,29 @@ const THIRD_ANSWER: [u8; 30] = [
 #[test]
 fn answers(rt: HostRuntime) -> Result<(), Fail> {
     let mut server = IpxnetServer::new(rt.alloc(), PORT, 64)?;
-    assert_eq!(rt; server.hear(FIRST, &REGISTRATION, 7).answer(), Some(ANSWER));
     assert_eq!(rt;
-        server.hear(THIRD, &REGISTRATION, 8).answer(),
+        server.hear(first_place(), &REGISTRATION, 7).answer(),
+        Some(ANSWER)
+    );
+    assert_eq!(rt;
+        server.hear(third_place(), &REGISTRATION, 8).answer(),
         Some(THIRD_ANSWER)
     );
     let first = Client {
         node: FIRST_NODE,
-        place: FIRST,
+        place: first_place(),
         since: 7,
         heard: 7,
     };
     let third = Client {
         node: THIRD_NODE,
-        place: THIRD,
+        place: third_place(),
         since: 8,
         heard: 8,
     };
     assert_eq!(rt; server.clients(), [first, third].as_slice());
     assert_eq!(rt; server.port(), PORT);
-    assert_eq!(rt; FIRST.node(), FIRST_NODE);
+    assert_eq!(rt; node_of(first_place()), FIRST_NODE);
     Ok(())
 }
 
@@ -49,12 +55,15 @@ fn answers(rt: HostRuntime) -> Result<(), Fail> {
 #[test]
 fn the_same_end_again(rt: HostRuntime) -> Result<(), Fail> {
     let mut server = IpxnetServer::new(rt.alloc(), PORT, 64)?;
-    server.hear(FIRST, &REGISTRATION, 0);
-    server.hear(SECOND, &REGISTRATION, 0);
-    assert_eq!(rt; server.hear(FIRST, &REGISTRATION, 9).answer(), Some(ANSWER));
+    server.hear(first_place(), &REGISTRATION, 0);
+    server.hear(second_place(), &REGISTRATION, 0);
+    assert_eq!(rt;
+        server.hear(first_place(), &REGISTRATION, 9).answer(),
+        Some(ANSWER)
+    );
     assert_eq!(rt; server.clients().len(), 2);
     let last = server.clients()[1];
-    assert_eq!(rt; (last.place, last.since, last.heard), (FIRST, 0, 9));
+    assert_eq!(rt; (last.place, last.since, last.heard), (first_place(), 0, 9));
     Ok(())
 }
 
@@ -66,7 +75,10 @@ fn what_is_not_looked_at(rt: HostRuntime) -> Result<(), Fail> {
     bytes[4..10].copy_from_slice(&[9, 0x7f, 0x12, 0x34, 0x56, 0x78]);
     bytes[18..22].copy_from_slice(&[0, 0, 0, 0x99]);
     bytes[28..30].copy_from_slice(&[0x40, 1]);
-    assert_eq!(rt; server.hear(FIRST, &bytes, 0).answer(), Some(ANSWER));
+    assert_eq!(rt;
+        server.hear(first_place(), &bytes, 0).answer(),
+        Some(ANSWER)
+    );
     Ok(())
 }
 
@@ -74,7 +86,7 @@ fn what_is_not_looked_at(rt: HostRuntime) -> Result<(), Fail> {
 fn registers_with(server: &mut IpxnetServer, place: usize, value: u8) -> bool {
     let mut bytes = REGISTRATION;
     bytes[place] = value;
-    server.hear(FIRST, &bytes, 0) != Disposition::Dropped(ServerDrop::Unregistered)
+    server.hear(first_place(), &bytes, 0) != Disposition::Dropped(ServerDrop::Unregistered)
 }
 
 /// What is not a registration: a packet with another socket or node, or with one more byte.
@@ -87,22 +99,22 @@ fn what_is_no_registration(rt: HostRuntime) -> Result<(), Fail> {
     let mut longer = [0; 31];
     longer[..30].copy_from_slice(&REGISTRATION);
     assert_eq!(rt;
-        server.hear(FIRST, &longer, 0),
+        server.hear(first_place(), &longer, 0),
         Disposition::Dropped(ServerDrop::Unregistered)
     );
     longer[3] = 0x1f;
     assert_eq!(rt;
-        server.hear(FIRST, &longer, 0),
+        server.hear(first_place(), &longer, 0),
         Disposition::Dropped(ServerDrop::Unregistered)
     );
     let mut summed = REGISTRATION;
     summed[..2].copy_from_slice(&[0, 0]);
     assert_eq!(rt;
-        server.hear(FIRST, &summed, 0),
+        server.hear(first_place(), &summed, 0),
         Disposition::Dropped(ServerDrop::Malformed(IpxFault::Checksummed(0)))
     );
     assert_eq!(rt;
-        server.hear(FIRST, &REGISTRATION[..20], 0),
+        server.hear(first_place(), &REGISTRATION[..20], 0),
         Disposition::Dropped(ServerDrop::Malformed(IpxFault::Short(20)))
     );
     assert!(rt; server.clients().is_empty());
@@ -120,13 +132,10 @@ fn nodes_that_are_taken(rt: HostRuntime) -> Result<(), Fail> {
     };
     let mut server = IpxnetServer::new(rt.alloc(), port, 64)?;
     assert_eq!(rt;
-        server.hear(FIRST, &REGISTRATION, 0),
+        server.hear(first_place(), &REGISTRATION, 0),
         Disposition::Dropped(ServerDrop::NodeTaken(FIRST_NODE))
     );
-    let all = Place {
-        ip: [255; 4],
-        udp_port: 65535,
-    };
+    let all = SocketAddrV4::new(Ipv4Addr::BROADCAST, 65535);
     assert_eq!(rt;
         server.hear(all, &REGISTRATION, 0),
         Disposition::Dropped(ServerDrop::NodeTaken(Node::BROADCAST))
@@ -134,7 +143,7 @@ fn nodes_that_are_taken(rt: HostRuntime) -> Result<(), Fail> {
     assert!(rt; server.clients().is_empty());
     assert_eq!(rt; server.counts().node_taken, 2);
     assert_eq!(rt;
-        server.hear(FIRST, &CAME, 0),
+        server.hear(first_place(), &CAME, 0),
         Disposition::Dropped(ServerDrop::Unregistered)
     );
     Ok(())

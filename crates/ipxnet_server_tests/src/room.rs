@@ -1,20 +1,20 @@
 //! How many players there may be, and how many register in a second.
 
-use crate::fixture::{FIRST, FIRST_NODE, PORT, REGISTRATION, SECOND, THIRD, packet};
+use crate::fixture::{
+    FIRST_NODE, PORT, REGISTRATION, first_place, packet, second_place, third_place,
+};
 use ipx_wire::Node;
-use ipxnet_server::{Disposition, IpxnetServer, MAX_CLIENTS, Place, ServerDrop};
+use ipxnet_server::{Disposition, IpxnetServer, MAX_CLIENTS, ServerDrop};
+use std::net::{Ipv4Addr, SocketAddrV4};
 use std::test::Fail;
 
 /// The address with this number.
-fn place(number: u16) -> Place {
-    Place {
-        ip: [192, 0, 2, 1],
-        udp_port: number,
-    }
+fn place(number: u16) -> SocketAddrV4 {
+    SocketAddrV4::new(Ipv4Addr::new(192, 0, 2, 1), number)
 }
 
 /// Whether an address registers at a given time, and why it does not.
-fn registers(server: &mut IpxnetServer, from: Place, now: u64) -> Option<ServerDrop> {
+fn registers(server: &mut IpxnetServer, from: SocketAddrV4, now: u64) -> Option<ServerDrop> {
     match server.hear(from, &REGISTRATION, now) {
         Disposition::Dropped(drop) => Some(drop),
         _ => None,
@@ -52,24 +52,28 @@ fn ten_before_the_clock_went_back(rt: HostRuntime) -> Result<(), Fail> {
 #[test]
 fn who_makes_room(rt: HostRuntime) -> Result<(), Fail> {
     let mut server = IpxnetServer::new(rt.alloc(), PORT, 2)?;
-    assert_eq!(rt; registers(&mut server, FIRST, 0), None);
-    assert_eq!(rt; registers(&mut server, SECOND, 10), None);
+    assert_eq!(rt; registers(&mut server, first_place(), 0), None);
+    assert_eq!(rt; registers(&mut server, second_place(), 10), None);
     // The first is heard again, so that the second was silent longer.
-    server.hear(FIRST, &packet(Node::BROADCAST, 0x4001, FIRST_NODE), 20);
+    server.hear(
+        first_place(),
+        &packet(Node::BROADCAST, 0x4001, FIRST_NODE),
+        20,
+    );
     assert_eq!(rt;
-        registers(&mut server, THIRD, 3_600_009),
+        registers(&mut server, third_place(), 3_600_009),
         Some(ServerDrop::Full)
     );
     assert_eq!(rt; server.counts().full, 1);
     // A known client registers as before.
     assert_eq!(rt; server.clients().len(), 2);
-    assert_eq!(rt; registers(&mut server, THIRD, 3_600_010), None);
+    assert_eq!(rt; registers(&mut server, third_place(), 3_600_010), None);
     assert_eq!(rt; server.clients().len(), 2);
-    assert_eq!(rt; server.clients()[0].place, FIRST);
-    assert_eq!(rt; server.clients()[1].place, THIRD);
-    assert_eq!(rt; registers(&mut server, FIRST, 3_600_011), None);
+    assert_eq!(rt; server.clients()[0].place, first_place());
+    assert_eq!(rt; server.clients()[1].place, third_place());
+    assert_eq!(rt; registers(&mut server, first_place(), 3_600_011), None);
     assert_eq!(rt;
-        registers(&mut server, SECOND, 3_600_012),
+        registers(&mut server, second_place(), 3_600_012),
         Some(ServerDrop::Full)
     );
     Ok(())

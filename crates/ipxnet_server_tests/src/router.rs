@@ -1,6 +1,6 @@
 //! A server at a port of a router: to another network and back, and requests for routes.
 
-use crate::fixture::{CAME, FIRST, FIRST_NODE, PORT, packet, packet_for, register_all};
+use crate::fixture::{CAME, FIRST_NODE, PORT, first_place, packet, packet_for, register_all};
 use ipx_router::{Outcome, Port, Reason, Router};
 use ipx_wire::{Network, Node};
 use ipxnet_server::{Disposition, IpxnetServer, Recipients, ServerDrop};
@@ -46,7 +46,7 @@ fn to_another_network(rt: HostRuntime) -> Result<(), Fail> {
     let mut router = router(rt.alloc())?;
     let mut bytes = packet(FAR, 0x4001, FIRST_NODE);
     bytes[9] = 0x99;
-    assert_eq!(rt; server.hear(FIRST, &bytes, 0), Disposition::ToCore);
+    assert_eq!(rt; server.hear(first_place(), &bytes, 0), Disposition::ToCore);
     let Outcome::Forward(reply) = router.receive(rt.alloc(), 1, &bytes, 0)? else {
         return Err(Fail::from(ServerDrop::Unregistered));
     };
@@ -65,7 +65,7 @@ fn netbios_to_another_network(rt: HostRuntime) -> Result<(), Fail> {
     let mut router = router(rt.alloc())?;
     let mut bytes = packet_for(0x99, FAR, 0x455, FIRST_NODE);
     bytes[5] = 20;
-    assert_eq!(rt; server.hear(FIRST, &bytes, 0), Disposition::ToCore);
+    assert_eq!(rt; server.hear(first_place(), &bytes, 0), Disposition::ToCore);
     let outcome = router.receive(rt.alloc(), 1, &bytes, 0)?;
     assert!(rt; matches!(outcome, Outcome::Dropped(Reason::Propagated)));
     Ok(())
@@ -83,7 +83,7 @@ fn from_another_network(rt: HostRuntime) -> Result<(), Fail> {
     assert_eq!(rt; reply.port, 1);
     assert_eq!(rt;
         server.give(reply.next, &reply.bytes, 0),
-        Ok(Recipients::One(FIRST))
+        Ok(Recipients::One(first_place()))
     );
     Ok(())
 }
@@ -95,8 +95,8 @@ fn a_route_is_asked(rt: HostRuntime) -> Result<(), Fail> {
     register_all(&mut server);
     let mut router = router(rt.alloc())?;
     assert_eq!(rt;
-        server.hear(FIRST, &ASKS, 0),
-        Disposition::ToOthersAndCore(FIRST)
+        server.hear(first_place(), &ASKS, 0),
+        Disposition::ToOthersAndCore(first_place())
     );
     let Outcome::Replies(replies) = router.receive(rt.alloc(), 1, &ASKS, 0)? else {
         return Err(Fail::from(ServerDrop::Unregistered));
@@ -106,7 +106,7 @@ fn a_route_is_asked(rt: HostRuntime) -> Result<(), Fail> {
     let node = replies[0].next;
     assert_eq!(rt;
         server.give(node, &replies[0].bytes, 0),
-        Ok(Recipients::One(FIRST))
+        Ok(Recipients::One(first_place()))
     );
     Ok(())
 }

@@ -1,6 +1,6 @@
 //! For how long a silent player is known.
 
-use crate::fixture::{CAME, FIRST, FIRST_NODE, PORT, REGISTRATION, SECOND, packet};
+use crate::fixture::{CAME, FIRST_NODE, PORT, REGISTRATION, first_place, packet, second_place};
 use ipx_wire::Node;
 use ipxnet_server::{Disposition, IpxnetServer, ServerDrop};
 use std::test::Fail;
@@ -10,18 +10,18 @@ use std::test::Fail;
 #[test]
 fn after_a_day(rt: HostRuntime) -> Result<(), Fail> {
     let mut server = IpxnetServer::new(rt.alloc(), PORT, 64)?;
-    server.hear(FIRST, &REGISTRATION, 0);
+    server.hear(first_place(), &REGISTRATION, 0);
     let all = packet(Node::BROADCAST, 0x4001, FIRST_NODE);
-    server.hear(FIRST, &all, 1000);
-    server.hear(SECOND, b"abc", 86_400_999);
+    server.hear(first_place(), &all, 1000);
+    server.hear(second_place(), b"abc", 86_400_999);
     assert_eq!(rt; server.clients().len(), 1);
-    server.hear(SECOND, b"abc", 86_401_000);
+    server.hear(second_place(), b"abc", 86_401_000);
     assert!(rt; server.clients().is_empty());
     assert_eq!(rt;
-        server.hear(FIRST, &CAME, 86_401_001),
+        server.hear(first_place(), &CAME, 86_401_001),
         Disposition::Dropped(ServerDrop::Unregistered)
     );
-    server.hear(FIRST, &REGISTRATION, 86_401_002);
+    server.hear(first_place(), &REGISTRATION, 86_401_002);
     assert_eq!(rt; server.clients()[0].node, FIRST_NODE);
     assert_eq!(rt; server.clients()[0].since, 86_401_002);
     Ok(())
@@ -31,12 +31,12 @@ fn after_a_day(rt: HostRuntime) -> Result<(), Fail> {
 #[test]
 fn what_counts_as_heard(rt: HostRuntime) -> Result<(), Fail> {
     let mut server = IpxnetServer::new(rt.alloc(), PORT, 64)?;
-    server.hear(FIRST, &REGISTRATION, 1000);
-    server.hear(FIRST, &packet(FIRST_NODE, 0x4001, FIRST_NODE), 2000);
+    server.hear(first_place(), &REGISTRATION, 1000);
+    server.hear(first_place(), &packet(FIRST_NODE, 0x4001, FIRST_NODE), 2000);
     assert_eq!(rt; server.clients()[0].heard, 1000);
-    server.hear(SECOND, b"abc", 0);
+    server.hear(second_place(), b"abc", 0);
     assert_eq!(rt; server.clients().len(), 1);
-    server.hear(FIRST, &packet(PORT.own, 0x453, FIRST_NODE), 500);
+    server.hear(first_place(), &packet(PORT.own, 0x453, FIRST_NODE), 500);
     assert_eq!(rt; server.clients()[0].heard, 500);
     assert_eq!(rt; server.clients()[0].since, 1000);
     Ok(())

@@ -2,24 +2,22 @@
 
 use crate::fixture::PORT;
 use ipx_wire::Node;
-use ipxnet_server::{IpxnetServer, Place, ServerPort};
+use ipxnet_server::{IpxnetServer, ServerPort};
 use std::alloc::{AllocError, Global};
+use std::net::{Ipv4Addr, SocketAddrV4};
 
 /// The routers' addresses.
-pub const NORTH: Place = Place {
-    ip: [192, 0, 2, 10],
-    udp_port: 2130,
-};
+pub fn north_place() -> SocketAddrV4 {
+    SocketAddrV4::new(Ipv4Addr::new(192, 0, 2, 10), 2130)
+}
 
-pub const SOUTH: Place = Place {
-    ip: [198, 51, 100, 7],
-    udp_port: 2130,
-};
+pub fn south_place() -> SocketAddrV4 {
+    SocketAddrV4::new(Ipv4Addr::new(198, 51, 100, 7), 2130)
+}
 
-pub const WEST: Place = Place {
-    ip: [203, 0, 113, 5],
-    udp_port: 2131,
-};
+pub fn west_place() -> SocketAddrV4 {
+    SocketAddrV4::new(Ipv4Addr::new(203, 0, 113, 5), 2131)
+}
 
 /// The port of the south, on the network of the others.
 pub const SOUTH_PORT: ServerPort = ServerPort {
@@ -29,12 +27,12 @@ pub const SOUTH_PORT: ServerPort = ServerPort {
 
 /// The server of the north, joined to the south and the west.
 pub fn north(alloc: Global) -> Result<IpxnetServer, AllocError> {
-    let routers = Vec::from_slice(alloc, &[SOUTH, WEST])?;
+    let routers = Vec::from_slice(alloc, &[south_place(), west_place()])?;
     IpxnetServer::joined_to(alloc, PORT, 64, routers)
 }
 
 /// The server of the south, joined to the north and the west.
 pub fn south(alloc: Global) -> Result<IpxnetServer, AllocError> {
-    let routers = Vec::from_slice(alloc, &[NORTH, WEST])?;
+    let routers = Vec::from_slice(alloc, &[north_place(), west_place()])?;
     IpxnetServer::joined_to(alloc, SOUTH_PORT, 64, routers)
 }

@@ -3,7 +3,7 @@
 
 use crate::caller::give;
 use crate::fixture::{
-    FIRST, FIRST_NODE, PORT, SECOND, SECOND_NODE, packet, packet_for, register_all,
+    FIRST_NODE, PORT, SECOND_NODE, first_place, packet, packet_for, register_all, second_place,
 };
 use ipx_wire::{Network, Node};
 use ipxnet_server::{Disposition, IpxnetServer, ServerDrop};
@@ -48,13 +48,13 @@ fn responses_to_the_router(rt: HostRuntime) -> Result<(), Fail> {
             Disposition::ToCore
         };
         let bytes = told(PORT.own, socket, from, operation);
-        assert_eq!(rt; server.hear(FIRST, &bytes, 0), wanted);
+        assert_eq!(rt; server.hear(first_place(), &bytes, 0), wanted);
     }
     assert_eq!(rt; server.counts().response, 6);
     // One byte is no operation; the core decides what it is.
     let mut short = told(PORT.own, 0x453, 0x453, 2);
     short[3] = 0x1f;
-    assert_eq!(rt; server.hear(FIRST, &short, 0), Disposition::ToCore);
+    assert_eq!(rt; server.hear(first_place(), &short, 0), Disposition::ToCore);
     Ok(())
 }
 
@@ -64,19 +64,19 @@ fn responses_to_all(rt: HostRuntime) -> Result<(), Fail> {
     let mut server = IpxnetServer::new(rt.alloc(), PORT, 64)?;
     register_all(&mut server);
     assert_eq!(rt;
-        give(&mut server, FIRST, &TELLS),
+        give(&mut server, first_place(), &TELLS),
         (false, [false, true, true], false)
     );
     let mut asks = TELLS;
     asks[31] = 1;
     assert_eq!(rt;
-        give(&mut server, FIRST, &asks),
+        give(&mut server, first_place(), &asks),
         (false, [false, true, true], true)
     );
     for (operation, core) in [(1, true), (2, false), (3, true), (4, false)] {
         let bytes = told(Node::BROADCAST, 0x452, 0x452, operation);
         assert_eq!(rt;
-            give(&mut server, FIRST, &bytes),
+            give(&mut server, first_place(), &bytes),
             (false, [false, true, true], core)
         );
     }
@@ -91,17 +91,20 @@ fn responses_to_others(rt: HostRuntime) -> Result<(), Fail> {
     register_all(&mut server);
     let bytes = told(SECOND_NODE, 0x453, 0x453, 2);
     assert_eq!(rt;
-        server.hear(FIRST, &bytes, 0),
-        Disposition::ToClient(SECOND)
+        server.hear(first_place(), &bytes, 0),
+        Disposition::ToClient(second_place())
     );
     let mut elsewhere = told(Node([0, 0, 0, 0, 0, 1]), 0x453, 0x453, 2);
     elsewhere[9] = 0x99;
     assert_eq!(rt;
-        server.hear(FIRST, &elsewhere, 0),
+        server.hear(first_place(), &elsewhere, 0),
         Disposition::Dropped(ServerDrop::Response)
     );
     elsewhere[31] = 1;
-    assert_eq!(rt; server.hear(FIRST, &elsewhere, 0), Disposition::ToCore);
+    assert_eq!(rt;
+        server.hear(first_place(), &elsewhere, 0),
+        Disposition::ToCore
+    );
     Ok(())
 }
 
@@ -115,19 +118,25 @@ fn packets_of_another_network(rt: HostRuntime) -> Result<(), Fail> {
     let to_remote = packet_for(0x77, Node([0, 0, 0, 0, 0, 1]), 0x4001, FIRST_NODE);
     for bytes in [to_router, to_remote] {
         let mut forged = bytes;
-        assert_eq!(rt; server.hear(FIRST, &forged, 0), Disposition::ToCore);
+        assert_eq!(rt; server.hear(first_place(), &forged, 0), Disposition::ToCore);
         forged[20..22].copy_from_slice(&[0xd0, 0x5b]);
-        assert_eq!(rt; server.hear(FIRST, &forged, 0), Disposition::ToCore);
+        assert_eq!(rt; server.hear(first_place(), &forged, 0), Disposition::ToCore);
         forged[20..22].copy_from_slice(&[0, 0x99]);
-        assert_eq!(rt; server.hear(FIRST, &forged, 0), dropped);
+        assert_eq!(rt; server.hear(first_place(), &forged, 0), dropped);
     }
     assert_eq!(rt; server.counts().from_elsewhere, 2);
     let mut asks = TELLS;
     asks[31] = 1;
     asks[20..22].copy_from_slice(&[0, 0x99]);
-    assert_eq!(rt; server.hear(FIRST, &asks, 0), Disposition::ToOthers(FIRST));
+    assert_eq!(rt;
+        server.hear(first_place(), &asks, 0),
+        Disposition::ToOthers(first_place())
+    );
     let mut one = packet(SECOND_NODE, 0x4001, FIRST_NODE);
     one[21] = 0x99;
-    assert_eq!(rt; server.hear(FIRST, &one, 0), Disposition::ToClient(SECOND));
+    assert_eq!(rt;
+        server.hear(first_place(), &one, 0),
+        Disposition::ToClient(second_place())
+    );
     Ok(())
 }
