@@ -13,6 +13,7 @@ pub mod Stepped
 pub mod Counting
 pub mod ReadySet
 pub mod OutcomeCounters
+pub mod Traces
 pub mod RouterQueues
 pub mod RouterCore
 pub mod PriorityRouterCore

@@ -24,6 +24,7 @@ mod mapping;
 mod memory;
 mod on_peers;
 mod outcome_counters;
+mod placed_socket;
 mod priority_queue;
 mod priority_router_core;
 mod queue;
@@ -33,6 +34,7 @@ mod router_core;
 mod running;
 mod segments;
 mod sending;
+mod trace;
 mod udp;
 
 pub use by_ip::ByIp;
@@ -47,6 +49,7 @@ pub use mapping::{ip_of, node_of, node_of_ip_has_that_ip, node_with_ip_is_of_it}
 pub use memory::{MemoryDatagrams, SentDatagram};
 pub use on_peers::OnPeers;
 pub use outcome_counters::OutcomeCounters;
+pub use placed_socket::PlacedSocket;
 pub use priority_router_core::{PriorityRouterCore, forwarded_packets_leave_first};
 pub use ready_set::ReadySet;
 pub use report::{Batch, Report};
