@@ -56,4 +56,4 @@ pub use report::{Batch, Report};
 pub use router_core::RouterCore;
 pub use running::{run, run_over_ports};
 pub use segments::{PacketSent, PortDriver, PortDriverFilters};
-pub use udp::{UDP_PORT, UdpDatagrams, bind_nonblocking, socket_addr};
+pub use udp::{UDP_PORT, UdpDatagrams, socket_addr};

@@ -2,8 +2,7 @@
 
 ghost use Rattle.std.specs.Net.Udp.{udp_raw_fd};
 ghost use Rattle.std.specs.Prelude.{◌≡◌, ◌≤◌, [], IfOk, IfSome, None, Ok, OnErr, OnOk, Some, length, take};
-ghost use Rattle.std.specs.declared.net.socket_addr.SocketAddr.TheVariants.{V4};
-ghost use Rattle.ipx_carrier.specs.Traces.{one_more};
+ghost use Rattle.ipx_carrier.specs.Traces.{received_from, sent_to};
 
 use crate::trace::Trace;
 use std::io::{self, ErrorKind};
@@ -40,9 +39,7 @@ impl PlacedSocket {
 
     /// Sends a datagram. If the system refuses it or does not take all bytes, it is an error.
     pub fn send_to(&mut self, to: SocketAddrV4, bytes: &[u8]) -> io::Result<()>
-        ensures sent { OnOk result (self.new ≡ record self.old {
-          sent = one_more self.old.sent (V4 to) bytes.now;
-        }) }
+        ensures sent { OnOk result (self.new ≡ sent_to self.old to bytes.now) }
         ensures refused { OnErr result (self.new ≡ self.old) }
     {
         if self.socket.send_to(bytes, to)? != bytes.len() {
@@ -55,9 +52,8 @@ impl PlacedSocket {
     /// Receives a datagram into the room, and says its size and who sent it. What does not fit is
     /// lost. `None` means that nothing waits.
     pub fn receive(&mut self, room: &mut [u8]) -> io::Result<Option<(usize, SocketAddr)>>
-        ensures came { IfOk result (λ came. IfSome came (λ c. self.new ≡ record self.old {
-          received = one_more self.old.received c.1 (take c.0 room.new);
-        })) }
+        ensures came { IfOk result (λ came. IfSome came (λ c.
+            self.new ≡ received_from self.old c.1 (take c.0 room.new))) }
         ensures within { IfOk result (λ came. IfSome came (λ c. c.0 ≤ length room.old)) }
         ensures nothing { result ≡ Ok None → self.new ≡ self.old }
         ensures refused { OnErr result (self.new ≡ self.old) }

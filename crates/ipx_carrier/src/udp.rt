@@ -1,14 +1,14 @@
 //! Datagrams over UDP (RFC 1234, Tunneling IPX Traffic through IP Networks).
 
-ghost use Rattle.std.specs.Net.Addr.{ipv4_octets};
-ghost use Rattle.std.specs.Net.Socket.{v4_ip, v4_port};
-ghost use Rattle.std.specs.Prelude.{◌≡◌, IfOk, length};
+ghost use Rattle.ipx_carrier.specs.RunFaultNumbers.{device_failures};
+ghost use Rattle.ipx_carrier.specs.Traces.{SendsTo, v4_at};
+ghost use Rattle.std.specs.Prelude.{◌≡◌, ◌<◌, ◌+◌, ◌^◌, IfOk, OnErr, OnOk, length, map};
 
 use crate::datagrams::Datagrams;
 use crate::fault::DeviceFault;
+use crate::placed_socket::PlacedSocket;
 use std::alloc::Global;
-use std::io::{self, ErrorKind};
-use std::net::{Ipv4Addr, Net, SocketAddrV4, UdpSocket};
+use std::net::{Ipv4Addr, Net, SocketAddrV4};
 
 /// The UDP port of IPX (RFC 1234).
 pub const UDP_PORT: u16 = 213;
@@ -18,24 +18,16 @@ pub const UDP_PORT: u16 = 213;
 /// It tells only its count of failures: which datagrams arrive depends on the network.
 #[derive(Drop)]
 pub struct UdpDatagrams {
-    sockets: Vec<UdpSocket>,
+    sockets: Vec<PlacedSocket>,
     port: u16,
     failures: u64,
 }
 
 /// The socket address of an IP address and a UDP port.
 pub fn socket_addr(ip: [u8; 4], port: u16) -> SocketAddrV4
-    ensures ip { ipv4_octets (v4_ip result) ≡ ip }
-    ensures port { v4_port result ≡ port }
+    ensures { result ≡ v4_at ip port }
 {
     SocketAddrV4::new(Ipv4Addr::new(ip[0], ip[1], ip[2], ip[3]), port)
-}
-
-/// Binds a non-blocking socket at an IP address and a UDP port. The error is the system's.
-pub fn bind_nonblocking<R: Net>(rt: &R, ip: [u8; 4], port: u16) -> io::Result<UdpSocket> {
-    let socket = UdpSocket::bind(rt, socket_addr(ip, port))?;
-    socket.set_nonblocking(true)?;
-    Ok(socket)
 }
 
 impl UdpDatagrams {
@@ -48,11 +40,13 @@ impl UdpDatagrams {
         port: u16,
     ) -> Result<UdpDatagrams, DeviceFault>
         ensures ports { IfOk result (λ d. length d.sockets.items ≡ length addresses.now) }
+        ensures at { IfOk result (λ d. map (λ s. s.at) d.sockets.items
+            ≡ map (λ ip. v4_at ip port) addresses.now) }
         ensures failures { IfOk result (λ d. d.failures ≡ 0) }
     {
         let mut sockets = Vec::new(alloc);
         for ip in addresses {
-            let Ok(socket) = bind_nonblocking(rt, *ip, port) else {
+            let Ok(socket) = PlacedSocket::bind(rt, socket_addr(*ip, port)) else {
                 return Err(DeviceFault);
             };
             if sockets.push(socket).is_err() {
@@ -92,20 +86,26 @@ impl Datagrams for UdpDatagrams {
         self.failures
     }
 
-    fn send(&mut self, port: usize, to: [u8; 4], bytes: &[u8]) -> Result<(), DeviceFault> {
-        match self.sockets[port].send_to(bytes, socket_addr(to, self.port)) {
-            Ok(count) if count == bytes.len() => Ok(()),
-            _ => {
-                self.failures += 1;
-                Err(DeviceFault)
-            }
+    fn send(&mut self, port: usize, to: [u8; 4], bytes: &[u8]) -> Result<(), DeviceFault>
+        requires there { port < length self.old.sockets.items }
+        requires countable { self.old.failures + 1 < 2 ^ 64 }
+        ensures to { OnOk result (SendsTo port (v4_at to self.old.port) bytes.now
+            self.old.sockets.items self.new.sockets.items) }
+        ensures nowhere { OnErr result (self.new.sockets.items ≡ self.old.sockets.items) }
+        ensures failures { self.new.failures ≡ device_failures result self.old.failures }
+        ensures ports { length self.new.sockets.items ≡ length self.old.sockets.items }
+    {
+        let to = socket_addr(to, self.port);
+        if self.sockets[port].send_to(to, bytes).is_err() {
+            self.failures += 1;
+            return Err(DeviceFault);
         }
+        Ok(())
     }
 
     fn receive(&mut self, port: usize, room: &mut [u8]) -> Result<Option<usize>, DeviceFault> {
-        match self.sockets[port].recv_from(room) {
-            Ok((count, _)) => Ok(Some(count)),
-            Err(error) if error.kind() == ErrorKind::WouldBlock => Ok(None),
+        match self.sockets[port].receive(room) {
+            Ok(came) => Ok(came.map(|(count, _)| count)),
             Err(_) => {
                 self.failures += 1;
                 Err(DeviceFault)
