@@ -1,6 +1,6 @@
 -- What stays of ports with ipxnet servers as a server receives or sends.
 use Rattle.std.proofs.Common.{◌≡◌, ℕ, Bool, true, false, List, [], ◌∷◌, ◌++◌, Option, Some, None, Result, Ok, Err, cond, filter, length, map, ap, refl, sym, ◌∙◌, subst}
-use Rattle.std.specs.Prelude.{◌&&◌, is_some, if◌then◌else◌, nat_lt, slice_get, slice_set}
+use Rattle.std.specs.Prelude.{◌&&◌, IfOk, is_some, if◌then◌else◌, nat_lt, slice_get, slice_set}
 use Rattle.std.specs.Str.{bytes_eq}
 use Rattle.std.proofs.Math.Seq.{map-set_same}
 use Rattle.std.proofs.lemmas.List.Elements.{All-append, All-cons, All-map, All-nil, All-weaker, filter_passes}
@@ -18,7 +18,7 @@ use Rattle.ipxnet_server.specs.declared.port.ServerPort.{ServerPort}
 use Rattle.ipxnet_server.specs.declared.recipients.Recipients.{Recipients}
 use Rattle.ipxnet_server.specs.declared.recipients.Recipients.TheVariants.{Joined, Nobody}
 use Rattle.ipxnet_server.specs.ServerClients.{client_at, client_of_node}
-use Rattle.ipxnet_server.specs.ServerHears.{ServerView, all_get, answer_of, client_gets, is_dropped, is_joined_taker, is_taker, is_to_service, server_aged, server_gives, server_giving, server_hearing, server_learned, max_client_bytes, notice_of, takers_join, takers_of, takers_reach}
+use Rattle.ipxnet_server.specs.ServerHears.{ServerView, all_get, answer_of, client_gets, is_dropped, is_from_server, is_joined_taker, is_taker, is_to_service, server_aged, server_gives, server_giving, server_hearing, server_learned, max_client_bytes, notice_of, takers_join, takers_of, takers_reach}
 use Rattle.ipxnet_server.specs.PeerServers.{is_joined_place}
 use Rattle.ipx_carrier.specs.declared.segments.PacketSent.{PacketSent}
 use Rattle.ipx_carrier.specs.PortDrivers.{copies_count, count_in}
@@ -174,13 +174,26 @@ is_broadcast : (node : List ℕ) → node ≡ broadcast_node → bytes_eq node b
 is_broadcast node e = ap (λ (n : List ℕ). bytes_eq n broadcast_node) e ∙ refl
 
 pub told_to_nobody : (port : ℕ) (packet : List ℕ) (l after : ServerView) (node : Node) (p : PacketView) (given : Result Recipients ServerDrop) → is_to_service p.header ≡ true → node.0 ≡ broadcast_node
-    → given ≡ server_gives l node (is_to_service p.header) (length packet) → packet_sends port packet after (takers_given given) ≡ []
+    → given ≡ server_gives l node (Some p.header) (length packet) → packet_sends port packet after (takers_given given) ≡ []
 told_to_nobody port packet l after node p given asks all is =
     let nobody : takers_given given ≡ Nobody =
-    ap takers_given is ∙ given_to_nobody (nat_lt max_client_bytes (length packet)) (bytes_eq node.0 broadcast_node) (TooLong (length packet)) (is_to_service p.header) (client_gets l node (client_of_node node l.clients)) (is_broadcast node.0 all) asks in
+    ap takers_given is ∙ given_to_nobody (nat_lt max_client_bytes (length packet)) (bytes_eq node.0 broadcast_node) (TooLong (length packet)) (is_to_service p.header) (client_gets l node (is_from_server l.port p.header) (client_of_node node l.clients)) (is_broadcast node.0 all) asks in
     let first : relayed_to port packet (clients_reached after Nobody) ≡ [] = ap (relayed_to port packet) (none_reached after after.clients) in
     let second : relayed_on port packet (routers_reached after Nobody) ≡ [] = ap (relayed_on port packet) (none_joined after Nobody after.routers (λ place. refl)) in
     ap (packet_sends port packet after) nobody ∙ ap (λ (ds : List PlaceDatagram). ds ++ relayed_on port packet (routers_reached after Nobody)) first ∙ second
+
+-- ---- what comes from the network of the port is sent to no joined router
+
+abbrev pub StaysHere : Result Recipients ServerDrop → Type 0
+StaysHere given = IfOk given (λ takers. (place : SocketAddrV4) → is_joined_taker takers place ≡ false)
+
+none_given : (given : Result Recipients ServerDrop) → StaysHere given → (place : SocketAddrV4) → is_joined_taker (takers_given given) place ≡ false
+none_given (Ok takers) stays = stays
+none_given (Err drop) stays = λ place. refl
+
+pub kept_from_routers : (port : ℕ) (packet : List ℕ) (after : ServerView) (given : Result Recipients ServerDrop) → StaysHere given → relayed_on port packet (routers_reached after (takers_given given)) ≡ []
+kept_from_routers port packet after given stays =
+    ap (relayed_on port packet) (none_joined after (takers_given given) after.routers (none_given given stays))
 
 nothing_noticed : (port : ℕ) (l : ServerView) (announcement : Option (List ℕ)) → is_some announcement ≡ false → notice_for port l announcement ≡ []
 nothing_noticed port l None e = refl

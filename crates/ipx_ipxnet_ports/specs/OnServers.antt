@@ -15,7 +15,7 @@ use Rattle.ipxnet_server.specs.declared.port.ServerPort.{ServerPort}
 use Rattle.ipxnet_server.specs.declared.recipients.Recipients.{Recipients}
 use Rattle.ipxnet_server.specs.declared.recipients.Recipients.TheVariants.{Nobody, Joined}
 use Rattle.ipxnet_server.specs.ServerClients.{EachClientOnce, client_at}
-use Rattle.ipxnet_server.specs.ServerHears.{IsAnswer, IsNotice, ServerView, answer_of, goes_to_core, is_taker, is_to_service, server_aged, server_gives, server_giving, server_hearing, server_hears, max_client_bytes, notice_of, takers_join, takers_of, takers_reach}
+use Rattle.ipxnet_server.specs.ServerHears.{IsAnswer, IsNotice, ServerView, answer_of, goes_to_core, is_from_server, is_taker, is_to_service, server_aged, server_gives, server_giving, server_hearing, server_hears, max_client_bytes, notice_of, takers_join, takers_of, takers_reach}
 use Rattle.ipxnet_server.specs.PeerServers.{is_joined_place}
 use Rattle.ipx_carrier.specs.declared.segments.PacketSent.{PacketSent}
 use Rattle.ipx_carrier.specs.declared.segments.PacketSent.TheVariants.{Unmapped, Transmitted}
@@ -167,13 +167,14 @@ packet_sends port packet l takers = relayed_to port packet (clients_reached l ta
 -- who gets bytes of the core for a node, if they are no packet, and if they begin with one
 pub record GivesBytes (l : ServerView) (node : Node) (bytes : List ℕ) (now : ℕ) (given : Result Recipients ServerDrop) : Type 0 where
   pub malformed : (f : IpxFault) → ipx_fault bytes ≡ Some f
-      → given ≡ server_gives (server_aged now l) node false (length bytes)
+      → given ≡ server_gives (server_aged now l) node None (length bytes)
   pub packet : (p : PacketView) → BeginsWith bytes p
-      → given ≡ server_gives (server_aged now l) node (is_to_service p.header) (length bytes)
+      → given ≡ server_gives (server_aged now l) node (Some p.header) (length bytes)
 
 -- a packet of the core for a node is sent, as it is, to each of the clients that the server of its port says.
 -- Each of these has one address. It is also sent to each of the joined routers. What the server refuses is
--- counted there. A packet to all nodes at the socket of RIP or SAP is sent to nobody
+-- counted there. A packet to all nodes at the socket of RIP or SAP is sent to nobody, and one that comes from
+-- the network of the port to no joined router
 pub record SendsThroughServer (now port : ℕ) (node : Node) (packet : List ℕ) (sent : PacketSent) (old new : ServersView) : Type 0 where
   pub server : ServerView
   pub after : ServerView
@@ -185,6 +186,8 @@ pub record SendsThroughServer (now port : ℕ) (node : Node) (packet : List ℕ)
       old.traffic new.traffic old.failed new.failed
   pub quiet : (p : PacketView) → BeginsWith packet p → is_to_service p.header ≡ true
       → node.0 ≡ broadcast_node → packet_sends port packet after (takers_given given) ≡ []
+  pub own : (p : PacketView) → BeginsWith packet p → is_from_server server.port p.header ≡ true
+      → relayed_on port packet (routers_reached after (takers_given given)) ≡ []
   pub once : EachClientOnce after.clients
   pub known : AreForClients after (relayed_to port packet (clients_reached after (takers_given given)))
   pub joined : AreForRouters after (relayed_on port packet (routers_reached after (takers_given given)))

@@ -91,7 +91,7 @@ fn datagrams_of_sites(rt: HostRuntime) -> Result<(), Fail> {
 }
 
 /// Packets of the core: to a node that no client here has they are sent to the sites, to all nodes
-/// only here.
+/// only here. One that comes from this network is sent to no site.
 #[test]
 fn packets_of_the_core_by_sites(rt: HostRuntime) -> Result<(), Fail> {
     let mut sockets = MemoryPlaces::new(rt.alloc(), 1);
@@ -105,13 +105,25 @@ fn packets_of_the_core_by_sites(rt: HostRuntime) -> Result<(), Fail> {
     let mut room = [0; 1536];
     servers.receive(0, &mut room)?;
     servers.receive(0, &mut room)?;
-    let sent = servers.send(0, SECOND_NODE, &CAME);
+    let mut forwarded = CAME;
+    forwarded[18..22].copy_from_slice(&[0, 0, 0, 0x99]);
+    let sent = servers.send(0, SECOND_NODE, &forwarded);
     assert!(rt; matches!(sent, Ok(PacketSent::Transmitted(1))));
-    assert!(rt; went_after(servers.sockets(), 4, &[west_place()], &CAME));
-    servers.send(0, node_of(unknown_place()), &CAME)?;
-    assert!(rt; went_after(servers.sockets(), 5, &[south_place(), west_place()], &CAME));
+    assert!(rt; went_after(servers.sockets(), 4, &[west_place()], &forwarded));
+    servers.send(0, node_of(unknown_place()), &forwarded)?;
+    assert!(rt;
+        went_after(
+            servers.sockets(),
+            5,
+            &[south_place(), west_place()],
+            &forwarded
+        )
+    );
     servers.send(0, Node::BROADCAST, &CAME)?;
     assert!(rt; went_after(servers.sockets(), 7, &[first_place()], &CAME));
+    servers.send(0, SECOND_NODE, &CAME)?;
+    assert_eq!(rt; servers.sockets().went().len(), 8);
+    assert_eq!(rt; servers.servers()[0].counts().no_such_node, 1);
     Ok(())
 }
 

@@ -25,16 +25,16 @@ use Rattle.std.proofs.lemmas.Bool.{eqb-true}
 use Rattle.ipxnet_server.proofs.Once.{absurd_none, same_place, some_is}
 
 -- a choice of two
-either : (P : Disposition → Type 0) (b : Bool) (x y : Disposition) → P x → P y → P (if b then x else y)
+pub either : (P : Disposition → Type 0) (b : Bool) (x y : Disposition) → P x → P y → P (if b then x else y)
 either P true x y px py = px
 either P false x y px py = py
 
 -- the same, if what the test says of each is known
-either_by : (P : Disposition → Type 0) (b : Bool) (x y : Disposition) → (b ≡ true → P x) → (b ≡ false → P y) → P (if b then x else y)
+pub either_by : (P : Disposition → Type 0) (b : Bool) (x y : Disposition) → (b ≡ true → P x) → (b ≡ false → P y) → P (if b then x else y)
 either_by P true x y px py = px refl
 either_by P false x y px py = py refl
 
-left_true : (a b : Bool) → (a && b) ≡ true → a ≡ true
+pub left_true : (a b : Bool) → (a && b) ≡ true → a ≡ true
 left_true true b e = refl
 left_true false b e = cc
 

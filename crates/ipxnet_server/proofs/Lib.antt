@@ -2,3 +2,4 @@ pub mod Nodes
 pub mod Hears
 pub mod Once
 pub mod Still
+pub mod Learned

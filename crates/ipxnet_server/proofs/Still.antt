@@ -1,6 +1,6 @@
 -- Which clients are known, once one was heard.
 use Rattle.std.proofs.Common.{◌≡◌, ◌≤◌, ◌+◌, ◌-◌, ℕ, List, [], ◌∷◌, ◌++◌, Bool, true, false, Option, Some, None, length, take, drop, filter, find, not, cond, arith, refl, sym, ap, subst, ◌∙◌, take-append-drop}
-use Rattle.std.specs.Prelude.{is_some, Ok, Err, ◌==◌, ◌&&◌, nat_lt, if◌then◌else◌}
+use Rattle.std.specs.Prelude.{is_some, IfOk, Ok, Err, Result, ◌==◌, ◌&&◌, ◌||◌, nat_lt, if◌then◌else◌}
 use Rattle.std.specs.Option.{option_or}
 use Rattle.std.specs.Net.Addr.{ipv4_octets}
 use Rattle.std.specs.Net.Socket.{v4_ip, v4_port}
@@ -19,8 +19,9 @@ use Rattle.ipxnet_server.specs.declared.recipients.Recipients.{Recipients}
 use Rattle.ipxnet_server.specs.declared.recipients.Recipients.TheVariants.{One}
 use Rattle.ipx_wire.specs.Assigned.{broadcast_node}
 use Rattle.ipx_wire.specs.declared.address.Node.{Node}
+use Rattle.ipx_wire.specs.declared.ipx.packet.IpxHeader.{IpxHeader}
 use Rattle.ipxnet_server.specs.ServerClients.{are_one_place, client_at, client_heard, client_of_node, clients_heard, is_client_at}
-use Rattle.ipxnet_server.specs.ServerHears.{ServerView, all_get, client_gets, is_dropped, is_of_client, is_taker, joined_takers, server_gives, server_hearing, server_learned, max_client_bytes, node_given, takers_of}
+use Rattle.ipxnet_server.specs.ServerHears.{ServerView, all_get, client_gets, is_dropped, is_from_server, is_given_from_server, is_given_to_service, is_joined_taker, is_of_client, is_taker, is_to_service, joined_takers, server_gives, server_hearing, server_learned, max_client_bytes, node_given, takers_of}
 use Rattle.ipxnet_server.specs.PeerServers.{remote_client_of}
 use Rattle.ipxnet_server.proofs.Hears.{taker_known}
 use Rattle.ipxnet_server.proofs.Once.{fewer, found_passes, same_place}
@@ -188,13 +189,40 @@ all_not_one : (to_service : Bool) (place : SocketAddrV4) {P : Type 0} → all_ge
 all_not_one true place e = cc
 all_not_one false place e = cc
 
-gives_by : (long broad to_service : Bool) (drop : ServerDrop) (l : ServerView) (node : Node) (o : Option Client) (place : SocketAddrV4) → client_of_node node l.clients ≡ o
-    → (if long then Err drop else if broad then Ok (all_get to_service) else client_gets l node o) ≡ Ok (One place) → is_some (client_at place l.clients) ≡ true
-gives_by true broad to_service drop l node o place found e = cc
-gives_by false true to_service drop l node o place found e = all_not_one to_service place (cc e)
-gives_by false false to_service drop l node None place found e = none_gives (length l.routers == 0) node (remote_client_of node l.far) place e
-gives_by false false to_service drop l node (Some c) place found e = taker_known node place l.clients c found (cc e)
+gives_by : (long broad to_service from_here : Bool) (drop : ServerDrop) (l : ServerView) (node : Node) (o : Option Client) (place : SocketAddrV4) → client_of_node node l.clients ≡ o
+    → (if long then Err drop else if broad then Ok (all_get to_service) else client_gets l node from_here o) ≡ Ok (One place) → is_some (client_at place l.clients) ≡ true
+gives_by true broad to_service from_here drop l node o place found e = cc
+gives_by false true to_service from_here drop l node o place found e = all_not_one to_service place (cc e)
+gives_by false false to_service from_here drop l node None place found e = none_gives (length l.routers == 0 || from_here) node (remote_client_of node l.far) place e
+gives_by false false to_service from_here drop l node (Some c) place found e = taker_known node place l.clients c found (cc e)
 
-pub gives_client : (l : ServerView) (node : Node) (to_service : Bool) (size : ℕ) (place : SocketAddrV4) → server_gives l node to_service size ≡ Ok (One place) → is_some (client_at place l.clients) ≡ true
-gives_client l node to_service size place e =
-    gives_by (nat_lt max_client_bytes size) (bytes_eq node.0 broadcast_node) to_service (TooLong size) l node (client_of_node node l.clients) place refl e
+pub gives_client : (l : ServerView) (node : Node) (header : Option IpxHeader) (size : ℕ) (place : SocketAddrV4) → server_gives l node header size ≡ Ok (One place) → is_some (client_at place l.clients) ≡ true
+gives_client l node header size place e =
+    gives_by (nat_lt max_client_bytes size) (bytes_eq node.0 broadcast_node) (is_given_to_service header) (is_given_from_server l.port header) (TooLong size) l node (client_of_node node l.clients) place refl e
+
+-- what comes from the network of the port goes to no joined router
+abbrev pub StaysHere : Result Recipients ServerDrop → Type 0
+StaysHere given = IfOk given (λ takers. (place : SocketAddrV4) → is_joined_taker takers place ≡ false)
+
+all_stay : (to_service : Bool) → StaysHere (Ok (all_get to_service))
+all_stay true = λ place. refl
+all_stay false = λ place. refl
+
+none_stay : (alone : Bool) (drop : ServerDrop) (given : Result Recipients ServerDrop) → StaysHere (if alone || true then Err drop else given)
+none_stay true drop given = tt
+none_stay false drop given = tt
+
+gets_stay : (l : ServerView) (node : Node) (o : Option Client) → StaysHere (client_gets l node true o)
+gets_stay l node None = none_stay (length l.routers == 0) (NoSuchNode node) (Ok (joined_takers (remote_client_of node l.far)))
+gets_stay l node (Some c) = λ place. refl
+
+stay_by : (long broad to_service from_here : Bool) (drop : ServerDrop) (l : ServerView) (node : Node) (o : Option Client) → from_here ≡ true
+    → StaysHere (if long then Err drop else if broad then Ok (all_get to_service) else client_gets l node from_here o)
+stay_by true broad to_service from_here drop l node o here = tt
+stay_by false true to_service from_here drop l node o here = all_stay to_service
+stay_by false false to_service true drop l node o here = gets_stay l node o
+stay_by false false to_service false drop l node o here = cc
+
+pub gives_stay : (l : ServerView) (node : Node) (h : IpxHeader) (size : ℕ) → is_from_server l.port h ≡ true → StaysHere (server_gives l node (Some h) size)
+gives_stay l node h size here =
+    stay_by (nat_lt max_client_bytes size) (bytes_eq node.0 broadcast_node) (is_to_service h) (is_from_server l.port h) (TooLong size) l node (client_of_node node l.clients) here

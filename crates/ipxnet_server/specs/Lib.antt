@@ -1,5 +1,6 @@
 pub mod ServerClients
 pub mod PeerServers
 pub mod ServerHears
+pub mod JoinedLearns
 pub mod ServerCounted
 pub mod ServerInside

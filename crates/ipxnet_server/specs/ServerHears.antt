@@ -345,18 +345,30 @@ IsNotice heard bytes = (h : IpxHeader) × (notice_of heard ≡ Some h) × IsIpx 
 abbrev pub all_get : Bool → Recipients
 all_get to_service = if to_service then Nobody else All
 
--- who gets a packet of the core for one node, of `size` bytes
-abbrev pub client_gets : ServerView → Node → Option Client → Result Recipients ServerDrop
-client_gets l node None =
-    if length l.routers == 0 then Err (NoSuchNode node)
-    else Ok (joined_takers (remote_client_of node l.far))
-client_gets l node (Some c) = Ok (One c.place)
+-- a packet of the core, by its header, is for a service of a router, or comes from the network of the port.
+-- Bytes that are no packet have no header, and are neither
+abbrev pub is_given_to_service : Option IpxHeader → Bool
+is_given_to_service None = false
+is_given_to_service (Some h) = is_to_service h
 
-abbrev pub server_gives : ServerView → Node → Bool → ℕ → Result Recipients ServerDrop
-server_gives l node to_service size =
+abbrev pub is_given_from_server : ServerPort → Option IpxHeader → Bool
+is_given_from_server port None = false
+is_given_from_server port (Some h) = is_from_server port h
+
+-- who gets a packet of the core for one node. One that comes from the network of the port goes to no joined
+-- router: there it would be taken for a packet of a client here, or for what tells that one registered
+abbrev pub client_gets : ServerView → Node → Bool → Option Client → Result Recipients ServerDrop
+client_gets l node from_here None =
+    if length l.routers == 0 || from_here then Err (NoSuchNode node)
+    else Ok (joined_takers (remote_client_of node l.far))
+client_gets l node from_here (Some c) = Ok (One c.place)
+
+-- who gets a packet of the core for a node, of `size` bytes with this header
+abbrev pub server_gives : ServerView → Node → Option IpxHeader → ℕ → Result Recipients ServerDrop
+server_gives l node header size =
     if nat_lt max_client_bytes size then Err (TooLong size)
-    else if bytes_eq node.0 broadcast_node then Ok (all_get to_service)
-    else client_gets l node (client_of_node node l.clients)
+    else if bytes_eq node.0 broadcast_node then Ok (all_get (is_given_to_service header))
+    else client_gets l node (is_given_from_server l.port header) (client_of_node node l.clients)
 
 -- ---- the server after that
 

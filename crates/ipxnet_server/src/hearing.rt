@@ -1,9 +1,9 @@
 //! What becomes of a packet.
 
-ghost use Rattle.std.specs.Prelude.{◌≡◌, Some, false, nat_lt};
+ghost use Rattle.std.specs.Prelude.{◌≡◌, None, Some, nat_lt};
 ghost use Rattle.ipx_wire.specs.declared.ipx.fault.IpxFault.{IpxFault};
 ghost use Rattle.ipx_wire.specs.Ipx.{BeginsWith, PacketView, ipx_fault, packet_view};
-ghost use Rattle.ipxnet_server.specs.ServerHears.{all_get, all_hear, core_hears, has_socket, is_for_server, is_from_server, is_registration, is_to_all_nodes, is_to_service, joined_takers};
+ghost use Rattle.ipxnet_server.specs.ServerHears.{all_get, all_hear, core_hears, has_socket, is_for_server, is_from_server, is_given_from_server, is_given_to_service, is_registration, is_to_all_nodes, is_to_service, joined_takers};
 ghost use Rattle.ipxnet_server.specs.ServerHears.{all_hear_joined, remote_source, server_header, server_hears_elsewhere, may_reach_core, max_client_bytes, one_hears_joined, registration_answer, tells_node, tells_router};
 
 use crate::clients::Client;
@@ -94,15 +94,34 @@ fn asks_router(header: IpxHeader) -> bool
     header.to.socket == Socket::RIP || header.to.socket == Socket::SAP
 }
 
-/// Whether bytes begin with a packet for a service of a router.
-pub fn is_for_service(bytes: &[u8]) -> bool
-    ensures packet { (p : PacketView) → BeginsWith bytes.now p
-        → result ≡ is_to_service p.header }
-    ensures malformed { (f : IpxFault) → ipx_fault bytes.now ≡ Some f → result ≡ false }
+/// The header of the packet that bytes begin with. Bytes that are no packet have none.
+pub fn header_of(bytes: &[u8]) -> Option<IpxHeader>
+    ensures packet { (p : PacketView) → BeginsWith bytes.now p → result ≡ Some p.header }
+    ensures malformed { (f : IpxFault) → ipx_fault bytes.now ≡ Some f → result ≡ None }
 {
     match decode(bytes) {
-        Ok(packet) => asks_router(packet.header),
-        Err(_) => false,
+        Ok(packet) => Some(packet.header),
+        Err(_) => None,
+    }
+}
+
+/// Whether a packet of the core is for a service of a router.
+pub fn is_for_service(header: Option<IpxHeader>) -> bool
+    ensures { result ≡ is_given_to_service header }
+{
+    match header {
+        Some(header) => asks_router(header),
+        None => false,
+    }
+}
+
+/// Whether a packet of the core comes from the network of the port.
+pub fn comes_from_here(port: ServerPort, header: Option<IpxHeader>) -> bool
+    ensures { result ≡ is_given_from_server port header }
+{
+    match header {
+        Some(header) => is_from_here(port, header),
+        None => false,
     }
 }
 

@@ -11,7 +11,7 @@ ghost use Rattle.ipx_wire.specs.declared.address.Node.{Node};
 ghost use Rattle.ipxnet_server.specs.declared.recipients.Recipients.{Recipients};
 ghost use Rattle.ipxnet_server.specs.declared.recipients.Recipients.TheVariants.{One};
 ghost use Rattle.ipxnet_server.specs.ServerClients.{EachClientOnce, client_at, client_heard, client_of_node, clients_left, max_server_clients, node_of_place};
-ghost use Rattle.ipxnet_server.specs.ServerHears.{IsAnswer, answer_of, goes_to_core, is_dropped, is_joined_taker, is_of_client, is_taker, is_to_service};
+ghost use Rattle.ipxnet_server.specs.ServerHears.{IsAnswer, answer_of, goes_to_core, is_dropped, is_from_server, is_joined_taker, is_of_client, is_taker};
 ghost use Rattle.ipxnet_server.specs.ServerHears.{joined_server, server_aged, server_gives, server_giving, server_hearing, server_knowing, server_learned};
 ghost use Rattle.ipxnet_server.specs.ServerHears.{server_hears, may_reach_core, new_server, node_given, takers_join, takers_of, takers_reach};
 ghost use Rattle.ipxnet_server.specs.ServerInside.{IsSoundHearing};
@@ -21,11 +21,13 @@ use crate::clients::{Client, Clients, MAX_CLIENTS};
 use crate::counts::ServerCounts;
 use crate::disposition::Disposition;
 use crate::drops::ServerDrop;
-use crate::hearing::{is_for_service, is_too_long, joined_takers_of, takers_of_all};
+use crate::hearing::{
+    comes_from_here, header_of, is_for_service, is_too_long, joined_takers_of, takers_of_all,
+};
 use crate::peer_servers::{Joined, RemoteClient};
 use crate::port::ServerPort;
 use crate::recipients::Recipients;
-use ipx_wire::{Node, decode};
+use ipx_wire::{IpxHeader, Node, decode};
 use std::alloc::{AllocError, Global};
 use std::marker::Model;
 use std::net::SocketAddrV4;
@@ -277,20 +279,26 @@ impl IpxnetServer {
 
     /// Which clients and joined routers a packet of the core for a node is sent to, or why it is
     /// dropped. The time `now` is in ms. A packet for all nodes that is for the socket of RIP or
-    /// SAP is sent to nobody. It allocates no memory.
+    /// SAP is sent to nobody. One that comes from the network of the port is sent to no joined
+    /// router. It allocates no memory.
     pub fn give(&mut self, node: Node, packet: &[u8], now: u64) -> Result<Recipients, ServerDrop>
-        // A packet may be for a service of a router; bytes that are no packet are not.
+        // Who gets it, if the bytes begin with a packet, and if they are none.
         ensures packet { (p : PacketView) → BeginsWith packet.now p → result ≡ server_gives
-            (server_aged now self.old) node (is_to_service p.header) (length packet.now) }
+            (server_aged now self.old) node (Some p.header) (length packet.now) }
         ensures malformed { (f : IpxFault) → ipx_fault packet.now ≡ Some f
-            → result ≡ server_gives (server_aged now self.old) node false (length packet.now) }
+            → result ≡ server_gives (server_aged now self.old) node None (length packet.now) }
         ensures server { self.new ≡ server_giving result (server_aged now self.old) }
         // The one client that it goes to is known.
         ensures taker { (place : SocketAddrV4) → result ≡ Ok (One place)
             → is_some (client_at place self.new.clients) ≡ true }
+        // No joined router gets what comes from the network of the port: there it would be taken
+        // for a packet of a client here.
+        ensures own { (p : PacketView) → BeginsWith packet.now p
+            → is_from_server self.old.port p.header ≡ true → IfOk result (λ takers.
+            (place : SocketAddrV4) → is_joined_taker takers place ≡ false) }
     {
         self.age(now);
-        let takers = self.takers(node, is_for_service(packet), packet.len());
+        let takers = self.takers(node, header_of(packet), packet.len());
         match takers {
             Ok(_) => {}
             Err(drop) => self.counts.count(drop),
@@ -298,20 +306,27 @@ impl IpxnetServer {
         takers
     }
 
-    /// Which clients a packet of the core of `size` bytes is sent to. `to_service` says that it is
-    /// for a service of a router.
-    fn takers(&self, node: Node, to_service: bool, size: usize) -> Result<Recipients, ServerDrop>
-        ensures { result ≡ server_gives self.now node to_service size }
+    /// Which clients and joined routers a packet of the core, with this header and of `size` bytes,
+    /// is sent to.
+    fn takers(
+        &self,
+        node: Node,
+        header: Option<IpxHeader>,
+        size: usize,
+    ) -> Result<Recipients, ServerDrop>
+        ensures { result ≡ server_gives self.now node header size }
     {
         if is_too_long(size) {
             return Err(ServerDrop::TooLong(size));
         }
         if node == Node::BROADCAST {
-            return Ok(takers_of_all(to_service));
+            return Ok(takers_of_all(is_for_service(header)));
         }
         match self.clients.of_node(node) {
             Some(client) => Ok(Recipients::One(client.place)),
-            None if self.routers().is_empty() => Err(ServerDrop::NoSuchNode(node)),
+            None if self.routers().is_empty() || comes_from_here(self.port, header) => {
+                Err(ServerDrop::NoSuchNode(node))
+            }
             None => Ok(joined_takers_of(self.joined.of_node(node))),
         }
     }

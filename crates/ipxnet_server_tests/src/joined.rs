@@ -281,6 +281,41 @@ fn packets_of_the_core(rt: HostRuntime) -> Result<(), Fail> {
     Ok(())
 }
 
+/// A packet of the core that comes from this network: to a client here, and to no site. There it
+/// would show that its source node is here, and as an announcement too. From another network it is
+/// sent to a site, and shows no node there.
+#[test]
+fn packets_of_the_core_from_this_network(rt: HostRuntime) -> Result<(), Fail> {
+    let mut here = north(rt.alloc())?;
+    let mut there = south(rt.alloc())?;
+    here.hear(first_place(), &REGISTRATION, 0);
+    there.hear(third_place(), &REGISTRATION, 0);
+    let to_client = packet(THIRD_NODE, 0x4001, NOBODY);
+    let announces = packet(NOBODY, 2, NOBODY);
+    for network in [[0, 0, 0, 0], [0, 0, 0xd0, 0x5b]] {
+        for (node, packet) in [(THIRD_NODE, to_client), (NOBODY, announces)] {
+            let mut bytes = packet;
+            bytes[18..22].copy_from_slice(&network);
+            assert_eq!(rt; here.give(node, &bytes, 0), Err(ServerDrop::NoSuchNode(node)));
+            assert_eq!(rt;
+                here.give(FIRST_NODE, &bytes, 0),
+                Ok(Recipients::One(first_place()))
+            );
+        }
+    }
+    assert_eq!(rt; here.counts().no_such_node, 4);
+    let mut forwarded = to_client;
+    forwarded[18..22].copy_from_slice(&[0, 0, 0, 0x99]);
+    let takers = here.give(THIRD_NODE, &forwarded, 0)?;
+    assert_eq!(rt; passed(&here, takers), [true, true]);
+    assert_eq!(rt;
+        there.hear(north_place(), &forwarded, 0),
+        Disposition::FromJoined(None, Recipients::One(third_place()))
+    );
+    assert!(rt; there.remote_clients().is_empty());
+    Ok(())
+}
+
 /// No client accepts more than 1,424 bytes, at any site.
 #[test]
 fn long_packets(rt: HostRuntime) -> Result<(), Fail> {
