@@ -1,26 +1,29 @@
 //! UDP sockets for ipxnet servers.
 
-ghost use Rattle.std.specs.Prelude.{◌≡◌, ◌<◌, ◌≤◌, ◌↔◌, ◌++◌, ◌∷◌, [], Bool, IfOk, IfSome, IsSome, None, Ok, OnErr, OnOk, false, is_some, length, map, slice_get, slice_set, true};
+ghost use Rattle.std.specs.Prelude.{◌≡◌, ◌<◌, ◌≤◌, ◌↔◌, ◌++◌, ◌∷◌, [], Bool, IfOk, IfSome, IsSome, None, Ok, OnErr, OnOk, false, is_some, length, map, slice_get, slice_set, take, true};
 ghost use Rattle.std.specs.Net.Addr.{ipv4_octets};
 ghost use Rattle.std.specs.Net.Socket.{v4_ip};
 ghost use Rattle.ipx_carrier.specs.Counting.{raised};
 ghost use Rattle.ipx_carrier.specs.ReadySet.{AsksMarked, IsFilteredOrAnswer, is_port_marked};
-ghost use Rattle.ipx_ipxnet_ports.specs.ServerAddresses.{ips_heard, is_ip_heard, listed_ips, ipv4_place, place_heard};
+ghost use Rattle.std.specs.declared.net.socket_addr.SocketAddr.{SocketAddr};
+ghost use Rattle.std.specs.declared.net.socket_addr.SocketAddr.TheVariants.{V4};
+ghost use Rattle.ipx_carrier.specs.Traces.{received_from};
+ghost use Rattle.ipx_ipxnet_ports.specs.ServerAddresses.{IsRefusedOrNothing, IsSender, ReceivesFrom, SendsToPlace, bound_places, ips_heard, is_ip_heard, listed_ips};
 ghost use Rattle.ipx_ipxnet_ports.specs.PlaceTraffic.{failures_with};
 
 use crate::allow::Allow;
 use crate::place_sockets::{DatagramCame, PlaceSockets};
-use ipx_carrier::{DeviceFault, ReadySet, bind_nonblocking, saturating_increment};
+use ipx_carrier::{DeviceFault, PlacedSocket, ReadySet, saturating_increment};
 use std::alloc::Global;
 use std::io;
 use std::io::ErrorKind;
-use std::net::{Net, SocketAddr, SocketAddrV4, UdpSocket};
+use std::net::{Net, SocketAddr, SocketAddrV4};
 use std::os::fd::{AsRawFd, RawFd};
 
 /// The socket of a port, and the IP addresses from which it accepts datagrams.
 #[derive(Drop)]
 pub struct ServerSocket {
-    socket: UdpSocket,
+    socket: PlacedSocket,
     allow: Allow,
 }
 
@@ -47,27 +50,33 @@ pub struct ServerSockets {
 /// How often a port is asked again for a datagram if the system fails.
 const TRIES: u32 = 8;
 
-/// The source address of a datagram.
-fn place_at(from: SocketAddr) -> Option<SocketAddrV4>
-    ensures { result ≡ ipv4_place from }
-{
-    match from {
-        SocketAddr::V4(from) => Some(from),
-        SocketAddr::V6(_) => None,
-    }
-}
-
 impl ServerSocket {
     /// The source address of a datagram, if it is accepted.
-    fn place_heard(&self, from: SocketAddr) -> Option<SocketAddrV4>
-        ensures { result ≡ place_heard (ips_heard self.now) (ipv4_place from) }
+    fn sender(&self, from: SocketAddr) -> Option<SocketAddrV4>
+        ensures { IsSender self.now from result }
     {
-        let place = place_at(from)?;
-        if self.allow.allows(place.ip().octets()) {
-            Some(place)
-        } else {
-            None
+        match from {
+            SocketAddr::V4(place) if self.allow.allows(place.ip().octets()) => Some(place),
+            _ => None,
         }
+    }
+
+    /// Receives a datagram, and says its size and its source address, if that is accepted. `None`
+    /// means that nothing waits.
+    fn receive(&mut self, room: &mut [u8]) -> io::Result<Option<(usize, Option<SocketAddrV4>)>>
+        ensures came { IfOk result (λ came. IfSome came (λ c. (from : SocketAddr)
+            × (self.new ≡ record self.old {
+              socket = received_from self.old.socket from (take c.0 room.new);
+            })
+            × IsSender self.old from c.1)) }
+        ensures within { IfOk result (λ came. IfSome came (λ c. c.0 ≤ length room.old)) }
+        ensures nothing { result ≡ Ok None → self.new ≡ self.old }
+        ensures refused { OnErr result (self.new ≡ self.old) }
+    {
+        let Some((size, from)) = self.socket.receive(room)? else {
+            return Ok(None);
+        };
+        Ok(Some((size, self.sender(from))))
     }
 }
 
@@ -91,13 +100,15 @@ impl ServerSockets {
     /// Binds one more port at an address, where datagrams from these IP addresses are accepted. The
     /// error is the system's or out of memory, and the ports are then as before.
     pub fn bind<R: Net>(&mut self, rt: &R, at: SocketAddrV4, allow: Allow) -> io::Result<()>
+        ensures at { OnOk result (bound_places self.new.sockets.items
+            ≡ bound_places self.old.sockets.items ++ at ∷ []) }
         ensures bound { OnOk result (map ips_heard self.new.sockets.items
             ≡ map ips_heard self.old.sockets.items ++ listed_ips allow ∷ []) }
         ensures marks { OnOk result (self.new.marks ≡ self.old.marks ++ true ∷ []) }
         ensures refused { OnErr result ((self.new.sockets.items ≡ self.old.sockets.items)
             × (self.new.marks ≡ self.old.marks)) }
     {
-        let socket = bind_nonblocking(rt, at.ip().octets(), at.port())?;
+        let socket = PlacedSocket::bind(rt, at)?;
         let socket = ServerSocket { socket, allow };
         let count = self.sockets.len();
         if self.sockets.push(socket).is_err() {
@@ -174,23 +185,23 @@ impl PlaceSockets for ServerSockets {
 
     fn send(&mut self, port: usize, place: SocketAddrV4, bytes: &[u8]) -> Result<(), DeviceFault>
         requires { port < length self.old.sockets.items }
+        // The socket of the port sent the bytes to the address, or nothing.
+        ensures to { OnOk result (SendsToPlace port place bytes.now self.old.sockets.items
+            self.new.sockets.items) }
+        ensures nowhere { OnErr result (self.new.sockets.items ≡ self.old.sockets.items) }
         // The system took it or refused it, and that is counted.
         ensures sent { OnOk result (self.new.sent ≡ raised self.old.sent) }
         ensures refused { OnErr result (self.new.sent ≡ self.old.sent) }
         ensures failures { self.new.failures ≡ failures_with result self.old.failures }
-        ensures rest { (self.new.sockets ≡ self.old.sockets) × (self.new.faults ≡ self.old.faults)
-            × (self.new.nowhere ≡ self.old.nowhere) × (self.new.marks ≡ self.old.marks) }
+        ensures rest { (self.new.faults ≡ self.old.faults) × (self.new.nowhere ≡ self.old.nowhere)
+            × (self.new.marks ≡ self.old.marks) }
     {
-        match self.sockets[port].socket.send_to(bytes, place) {
-            Ok(count) if count == bytes.len() => {
-                saturating_increment(&mut self.sent);
-                Ok(())
-            }
-            _ => {
-                saturating_increment(&mut self.failures);
-                Err(DeviceFault)
-            }
+        if self.sockets[port].socket.send_to(place, bytes).is_err() {
+            saturating_increment(&mut self.failures);
+            return Err(DeviceFault);
         }
+        saturating_increment(&mut self.sent);
+        Ok(())
     }
 
     fn receive(&mut self, port: usize, room: &mut [u8]) -> Result<Option<DatagramCame>, DeviceFault>
@@ -203,8 +214,13 @@ impl PlaceSockets for ServerSockets {
         ensures marked { is_port_marked self.old.marks port ≡ true → IfOk result (λ answer.
             (came : Bool) × AsksMarked port came self.old.marks self.new.marks
             self.old.faults self.new.faults
-            × IsFilteredOrAnswer came (is_some answer) self.old.nowhere self.new.nowhere) }
-        // What came from an accepted address is returned, and anything else is counted.
+            × IsFilteredOrAnswer came (is_some answer) self.old.nowhere self.new.nowhere
+            × IsRefusedOrNothing came port room.new answer self.old.sockets.items
+            self.new.sockets.items) }
+        // What is returned is the datagram that came last, and the address that sent it. That is
+        // accepted; what came from any other is counted.
+        ensures from { IfOk result (λ came. IfSome came (λ c. ReceivesFrom port (V4 c.from)
+            (take c.size room.new) true self.old.sockets.items self.new.sockets.items)) }
         ensures within { IfOk result (λ came. IfSome came (λ c. c.size ≤ length room.old)) }
         ensures answered { IfOk result (λ came. IsSome came
             → self.new.nowhere ≡ self.old.nowhere) }
@@ -215,22 +231,19 @@ impl PlaceSockets for ServerSockets {
         ensures filtered { self.old.nowhere ≤ self.new.nowhere }
         ensures goes_on { OnErr result ⊥ }
         ensures faults { self.old.faults ≤ self.new.faults }
-        ensures rest { (self.new.sockets ≡ self.old.sockets) × (self.new.sent ≡ self.old.sent)
-            × (self.new.failures ≡ self.old.failures) }
+        ensures rest { (self.new.sent ≡ self.old.sent) × (self.new.failures ≡ self.old.failures) }
     {
         if !self.marks.is_marked(port) {
             return Ok(None);
         }
         for _try in 0..TRIES {
-            match self.sockets[port].socket.recv_from(room) {
-                Ok((size, from)) => {
-                    let Some(from) = self.sockets[port].place_heard(from) else {
-                        saturating_increment(&mut self.nowhere);
-                        return Ok(None);
-                    };
-                    return Ok(Some(DatagramCame { from, size }));
+            match self.sockets[port].receive(room) {
+                Ok(Some((size, Some(from)))) => return Ok(Some(DatagramCame { from, size })),
+                Ok(Some((_, None))) => {
+                    saturating_increment(&mut self.nowhere);
+                    return Ok(None);
                 }
-                Err(error) if error.kind() == ErrorKind::WouldBlock => {
+                Ok(None) => {
                     self.marks.clear_ready(port);
                     return Ok(None);
                 }

@@ -4,7 +4,7 @@ use Rattle.ipx_ipxnet_ports.proofs.sockets.ServerSocketsPlaceSockets.receive.Giv
 
 -- tries that brought nothing change only the count of faults
 abbrev pub invariant-loop-try : goal.invariant-loop-try
-invariant-loop-try l = (l.self.sockets ≡ l.fn.self.sockets) × (l.self.failures ≡ l.fn.self.failures)
+invariant-loop-try l = (l.self.sockets.items ≡ l.fn.self.sockets.items) × (l.self.failures ≡ l.fn.self.failures)
     × (l.self.nowhere ≡ l.fn.self.nowhere) × (l.self.sent ≡ l.fn.self.sent)
     × (l.self.marks ≡ l.fn.self.marks) × (l.self.faults ≡ counted (l.fn.self.faults + l._try))
     × (l.fn.self.faults ≤ l.self.faults) × (length l.room ≡ length l.fn.room)
