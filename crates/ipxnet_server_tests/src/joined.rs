@@ -296,7 +296,10 @@ fn packets_of_the_core_from_this_network(rt: HostRuntime) -> Result<(), Fail> {
         for (node, packet) in [(THIRD_NODE, to_client), (NOBODY, announces)] {
             let mut bytes = packet;
             bytes[18..22].copy_from_slice(&network);
-            assert_eq!(rt; here.give(node, &bytes, 0), Err(ServerDrop::NoSuchNode(node)));
+            assert_eq!(rt;
+                here.give(node, &bytes, 0),
+                Err(ServerDrop::NoSuchNode(node))
+            );
             assert_eq!(rt;
                 here.give(FIRST_NODE, &bytes, 0),
                 Ok(Recipients::One(first_place()))
