@@ -55,6 +55,8 @@ IsRefusedOrNothing true port room None old new =
 IsRefusedOrNothing true port room (Some c) old new = ⊤
 IsRefusedOrNothing false port room answer old new = new ≡ old
 
+-- ---- definitions for the private functions
+
 -- the sender of a datagram is this address, if it is accepted
 abbrev pub IsSender : ServerSocket → SocketAddr → Option SocketAddrV4 → Type 0
 IsSender s from (Some place) = (from ≡ V4 place) × (is_place_heard s from ≡ true)
