@@ -14,7 +14,7 @@ use Rattle.ipx_site.specs.RouterRounds.{IsRound, SleepsAfter}
 use Rattle.ipx_site.specs.RoutingRuns.{Rounds, RoutesWell, RunsTo, StartsBy, StartsByFile, TakesRound}
 use Rattle.ipx_site.specs.Site.{IsSiteText}
 use Rattle.ipx_site.specs.SiteMarks.{marks_in, numbers_come}
-use Rattle.ipx_site.specs.SitePorts.{access_by, router_ports}
+use Rattle.ipx_site.specs.SitePorts.{access_by, checked_ports, router_ports}
 use Rattle.ipx_site.specs.StaticNeighbours.{IsToHear}
 use Rattle.ipx_site.specs.Steady.{NeverGoesBack, StopsThere}
 use Rattle.ipx_site.specs.declared.clock.SteadyClock.{SteadyClock}
@@ -57,7 +57,7 @@ rounds_more n first before last run one well =
 -- all that holds of a start, in one record
 pub started_by : {R E : Type 0} (site : RouterConfig) (started : Result (RunningRouter R) E)
     → IfOk started (λ s. s.core.core.core.core.router.ports ≡ router_ports site.ports.items) → IfOk started (λ s. IsToHear site.statics.items s.core.core.core)
-    → IfOk started (λ s. (s.core.ports ≡ router_ports site.ports.items) × (s.core.drops ≡ nothing_dropped_yet))
+    → IfOk started (λ s. (s.core.ports ≡ checked_ports site.ports.items) × (s.core.drops ≡ nothing_dropped_yet))
     → IfOk started (λ s. (s.core.core.ports ≡ router_ports site.ports.items) × (s.core.core.buckets.queriers ≡ []) × (s.core.core.buckets.ports ≡ limits_of site.ports.items))
     → IfOk started (λ s. ArePortsBound site.ports.items s.ports) → IfOk started (λ s. s.clock.last ≡ 0) → IfOk started (λ s. s.asked ≡ 0)
     → IfOk started (λ s. StartsBy site s)

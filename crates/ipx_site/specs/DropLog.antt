@@ -9,7 +9,7 @@ use Rattle.ipx_carrier.specs.declared.outcome_counters.OutcomeCounters.{OutcomeC
 use Rattle.ipx_source_checks.specs.declared.drops.SourceDrops.{SourceDrops}
 use Rattle.ipx_site.specs.declared.drop_log.DropLog.{DropLog}
 use Rattle.ipx_site.specs.declared.drop_log.DropReason.{DropReason}
-use Rattle.ipx_site.specs.declared.drop_log.DropReason.TheVariants.{Bad, NotOurs, NoRoute, HopLimit, BadControl, ForwardedControl, LoopedSource}
+use Rattle.ipx_site.specs.declared.drop_log.DropReason.TheVariants.{Bad, NotOurs, NoRoute, HopLimit, BadControl, ForwardedControl, GroupSource, LoopedSource}
 use Rattle.ipx_site.specs.Moments.{IsLoggedIfDue, untold}
 
 -- nothing has been logged
@@ -21,10 +21,11 @@ no_drops_logged = record {
   hop_limit = untold;
   bad_control = untold;
   forwarded_control = untold;
+  group_source = untold;
   looped_source = untold;
 }
 
--- the drops of each of seven reasons are logged exactly if they are due
+-- the drops of each of eight reasons are logged exactly if they are due
 pub record AreDropsLogged (outcomes : OutcomeCounters) (source : SourceDrops) (now : ℕ) (old new : DropLog) : Type 0 where
   pub bad : IsLoggedIfDue outcomes.bad now old.bad new.bad
   pub not_ours : IsLoggedIfDue outcomes.not_ours now old.not_ours new.not_ours
@@ -33,6 +34,7 @@ pub record AreDropsLogged (outcomes : OutcomeCounters) (source : SourceDrops) (n
   pub bad_control : IsLoggedIfDue outcomes.bad_control now old.bad_control new.bad_control
   pub forwarded_control :
       IsLoggedIfDue source.forwarded_control.count now old.forwarded_control new.forwarded_control
+  pub group_source : IsLoggedIfDue source.group_source.count now old.group_source new.group_source
   pub looped_source : IsLoggedIfDue source.looped_source.count now old.looped_source new.looped_source
 
 -- the last datagram of a reason was for all nodes of a network, to a socket other than those of RIP and SAP,
@@ -55,6 +57,7 @@ warns_of NoRoute last = true
 warns_of HopLimit last = true
 warns_of BadControl last = true
 warns_of ForwardedControl last = true
+warns_of GroupSource last = true
 warns_of LoopedSource last = true
 
 -- ---- relations for private functions
@@ -63,8 +66,10 @@ warns_of LoopedSource last = true
 pub record AreSourceDropsLogged (source : SourceDrops) (now : ℕ) (old new : DropLog) : Type 0 where
   pub forwarded_control :
       IsLoggedIfDue source.forwarded_control.count now old.forwarded_control new.forwarded_control
+  pub group_source : IsLoggedIfDue source.group_source.count now old.group_source new.group_source
   pub looped_source : IsLoggedIfDue source.looped_source.count now old.looped_source new.looped_source
   pub rest : new ≡ record old {
     forwarded_control = new.forwarded_control;
+    group_source = new.group_source;
     looped_source = new.looped_source;
   }

@@ -1,6 +1,6 @@
 -- The token buckets of a router's ports: for the general queries that come by a port, and for the directed
 -- broadcasts that leave by it. Defined by this project.
-use Rattle.std.specs.Prelude.{ℕ, List, Bool, true, Option, Some, None, slice_index_or, slice_set}
+use Rattle.std.specs.Prelude.{ℕ, List, Bool, true, false, Option, Some, None, slice_index_or, slice_set}
 use Rattle.std.specs.Option.{option_map}
 use Rattle.ipx_site.specs.declared.port_buckets.PortBuckets.{PortBuckets}
 use Rattle.ipx_site.specs.declared.token_bucket.RateLimit.{RateLimit}
@@ -13,7 +13,8 @@ never = record { burst = 0; per_second = 0 }
 
 -- the buckets of a port; without any token if there is no such port
 abbrev pub no_tokens : PortBuckets
-no_tokens = record { queries = full_bucket never; directed = Some (full_bucket never) }
+no_tokens =
+    record { queries = full_bucket never; directed = Some (full_bucket never); groups = false }
 
 abbrev pub at_port : List PortBuckets → ℕ → PortBuckets
 at_port ports port = slice_index_or ports port no_tokens
@@ -35,6 +36,10 @@ directed_has p now = is_free p.directed now
 
 abbrev pub directed_taken : ℕ → PortBuckets → PortBuckets
 directed_taken now p = record p { directed = option_map (λ b. bucket_taken b now) p.directed }
+
+-- what is for a group of nodes of a port's network is a directed broadcast too
+abbrev pub has_groups : List PortBuckets → ℕ → Bool
+has_groups ports port = (at_port ports port).groups
 
 -- a token was taken at this port, and at no other
 abbrev pub with_query_taken : List PortBuckets → ℕ → ℕ → List PortBuckets

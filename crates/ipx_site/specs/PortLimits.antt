@@ -1,5 +1,5 @@
 -- The limits at the ports of a router, as its file sets them. Defined by this project.
-use Rattle.std.specs.Prelude.{List, Option, Some, None, map}
+use Rattle.std.specs.Prelude.{List, Bool, true, false, Option, Some, None, map}
 use Rattle.ipx_site.specs.declared.port_buckets.PortBuckets.{PortBuckets}
 use Rattle.ipx_site.specs.declared.site.Directed.{Directed}
 use Rattle.ipx_site.specs.declared.site.Directed.TheVariants.{Never, Few, Always}
@@ -28,11 +28,18 @@ directed_bucket Never = Some (full_bucket never)
 directed_bucket Few = Some (full_bucket usual)
 directed_bucket Always = None
 
+-- a node of the port's network can be a group of stations: only on an Ethernet
+abbrev pub has_group_nodes : Kind → Bool
+has_group_nodes Of.Rfc1234 = false
+has_group_nodes Of.Frames = true
+has_group_nodes Of.Ipxnet = false
+
 -- a port begins with full buckets
 abbrev pub buckets_of_port : PortConfig → PortBuckets
 buckets_of_port p = record {
   queries = full_bucket (query_limit (kind_of_port p));
   directed = directed_bucket (directed_of_kind p);
+  groups = has_group_nodes (kind_of_port p);
 }
 
 abbrev pub limits_of : List PortConfig → List PortBuckets

@@ -77,7 +77,7 @@ module _ {C : Type 0} (hears : C → ℕ → List ℕ → ℕ → C → Type 0) 
 
   -- the core below hears a directed broadcast, and the port by which it leaves then has one token less
   abbrev pub HearsDirected : RateLimiterView C → ℕ → List ℕ → ℕ → RateLimiterView C → DirectedBroadcast → Type 0
-  HearsDirected old port bytes now new it = IsDirectedBroadcast old.ports port bytes it
+  HearsDirected old port bytes now new it = IsDirectedBroadcast old.ports old.buckets.ports port bytes it
       × (directed_has (at_port old.buckets.ports it.leaves_by) now ≡ true)
       × hears old.core port bytes now new.core
       × (new ≡ record old {
@@ -87,7 +87,8 @@ module _ {C : Type 0} (hears : C → ℕ → List ℕ → ℕ → C → Type 0) 
 
   -- if that port has no token, the broadcast is dropped and counted, and the core below is unchanged
   abbrev pub DropsDirected : RateLimiterView C → ℕ → List ℕ → ℕ → RateLimiterView C → Type 0
-  DropsDirected old port bytes now new = (it : DirectedBroadcast) × IsDirectedBroadcast old.ports port bytes it
+  DropsDirected old port bytes now new = (it : DirectedBroadcast)
+      × IsDirectedBroadcast old.ports old.buckets.ports port bytes it
       × (directed_has (at_port old.buckets.ports it.leaves_by) now ≡ false)
       × (new ≡ record old { directed = one_more_directed old.directed it.from })
 
@@ -95,7 +96,7 @@ module _ {C : Type 0} (hears : C → ℕ → List ℕ → ℕ → C → Type 0) 
   abbrev pub HearsBelow : RateLimiterView C → ℕ → List ℕ → ℕ → RateLimiterView C → Type 0
   HearsBelow old port bytes now new =
       ((who : Querier) → IsGeneralQuery old.ports port bytes who → ⊥)
-      × ((it : DirectedBroadcast) → IsDirectedBroadcast old.ports port bytes it → ⊥)
+      × ((it : DirectedBroadcast) → IsDirectedBroadcast old.ports old.buckets.ports port bytes it → ⊥)
       × hears old.core port bytes now new.core × (new ≡ record old { core = new.core })
 
   -- a general query is heard or dropped, and so is a directed broadcast

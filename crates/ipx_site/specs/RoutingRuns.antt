@@ -13,7 +13,7 @@ use Rattle.ipx_site.specs.PortsView.{filtered_in_ports, ways_in}
 use Rattle.ipx_site.specs.RouterRounds.{IsRound, SleepsAfter}
 use Rattle.ipx_site.specs.Site.{IsSiteText}
 use Rattle.ipx_site.specs.SiteMarks.{marks_in, numbers_come}
-use Rattle.ipx_site.specs.SitePorts.{access_by, router_ports}
+use Rattle.ipx_site.specs.SitePorts.{access_by, checked_ports, router_ports}
 use Rattle.ipx_site.specs.StaticNeighbours.{IsToHear}
 use Rattle.ipx_site.specs.Steady.{NeverGoesBack, StopsThere}
 use Rattle.ipx_site.specs.declared.clock.SteadyClock.{SteadyClock}
@@ -27,7 +27,7 @@ use Rattle.ipx_site.specs.declared.site.RouterConfig.{RouterConfig}
 pub record StartsBy {R : Type 0} (site : RouterConfig) (first : RunningRouter R) : Type 0 where
   pub ports : first.core.core.core.core.router.ports ≡ router_ports site.ports.items
   pub statics : IsToHear site.statics.items first.core.core.core
-  pub checks : (first.core.ports ≡ router_ports site.ports.items) × (first.core.drops ≡ nothing_dropped_yet)
+  pub checks : (first.core.ports ≡ checked_ports site.ports.items) × (first.core.drops ≡ nothing_dropped_yet)
   pub queriers : (first.core.core.ports ≡ router_ports site.ports.items)
       × (first.core.core.buckets.queriers ≡ []) × (first.core.core.buckets.ports ≡ limits_of site.ports.items)
   pub bound : ArePortsBound site.ports.items first.ports

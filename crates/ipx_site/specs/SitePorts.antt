@@ -1,11 +1,12 @@
 -- The ports of the router that a file describes, and which senders are accepted there. Defined by this
 -- project.
-use Rattle.std.specs.Prelude.{Vec, ◌≡◌, ℕ, List, Option, Some, None, map}
+use Rattle.std.specs.Prelude.{Vec, ◌≡◌, ℕ, List, Bool, true, false, Option, Some, None, map}
 use Rattle.std.specs.Global.{Global}
 use Rattle.std.specs.Option.{option_map}
 use Rattle.ipx_router.specs.declared.port.Port.{Port}
 use Rattle.ipx_carrier.specs.Device.{Access}
 use Rattle.ipx_carrier.specs.Mapping.{node_at}
+use Rattle.ipx_source_checks.specs.declared.failed_check.CheckedPort.{CheckedPort}
 use Rattle.ipx_site.specs.declared.source_filter.AccessList.{AccessList}
 use Rattle.ipx_site.specs.declared.site.Accept.{Accept}
 use Rattle.ipx_site.specs.declared.site.Accept.TheVariants.{Any, Peers}
@@ -25,6 +26,18 @@ router_port_of_kind (Ipxnet p) = record { network = p.network; node = p.node; co
 
 abbrev pub router_ports : List PortConfig → List Port
 router_ports ports = map router_port_of_kind ports
+
+-- the ports for source checks: which of them are Ethernet ports
+abbrev pub is_ethernet : PortConfig → Bool
+is_ethernet (Rfc1234 p) = false
+is_ethernet (Frames p) = true
+is_ethernet (Ipxnet p) = false
+
+abbrev pub checked_port_of_kind : PortConfig → CheckedPort
+checked_port_of_kind p = record { port = router_port_of_kind p; ethernet = is_ethernet p }
+
+abbrev pub checked_ports : List PortConfig → List CheckedPort
+checked_ports ports = map checked_port_of_kind ports
 
 -- the UDP port of each port, which its peers use too
 abbrev pub udp_ports : List Rfc1234PortConfig → List ℕ

@@ -22,6 +22,7 @@ pub enum DropReason {
     HopLimit,
     BadControl,
     ForwardedControl,
+    GroupSource,
     LoopedSource,
 }
 
@@ -33,7 +34,7 @@ pub struct DropSummary {
     pub last: Option<LastDrop>,
 }
 
-/// When a router last logged its drops, for each of seven reasons.
+/// When a router last logged its drops, for each of eight reasons.
 #[derive(Clone, Copy)]
 pub struct DropLog {
     bad: ThrottledLog,
@@ -42,6 +43,7 @@ pub struct DropLog {
     hop_limit: ThrottledLog,
     bad_control: ThrottledLog,
     forwarded_control: ThrottledLog,
+    group_source: ThrottledLog,
     looped_source: ThrottledLog,
 }
 
@@ -56,6 +58,7 @@ fn write_reason<W: fmt::Write>(
         DropReason::HopLimit => f.write_str("hop limit"),
         DropReason::BadControl => f.write_str("bad control"),
         DropReason::ForwardedControl => f.write_str("forwarded control"),
+        DropReason::GroupSource => f.write_str("RIP or SAP with a group or zero source node"),
         DropReason::LoopedSource => f.write_str("looped source"),
         DropReason::NoRoute => match last.and_then(|last| last.to) {
             Some(to) => write!(f, "no route {}", to.network),
@@ -112,6 +115,7 @@ impl DropSummary {
             | DropReason::HopLimit
             | DropReason::BadControl
             | DropReason::ForwardedControl
+            | DropReason::GroupSource
             | DropReason::LoopedSource => true,
         }
     }
@@ -156,6 +160,7 @@ impl DropLog {
             hop_limit: ThrottledLog::new(),
             bad_control: ThrottledLog::new(),
             forwarded_control: ThrottledLog::new(),
+            group_source: ThrottledLog::new(),
             looped_source: ThrottledLog::new(),
         }
     }
@@ -195,8 +200,10 @@ impl DropLog {
         ensures { AreSourceDropsLogged source now self.old self.new }
     {
         let forwarded = source.forwarded_control;
+        let grouped = source.group_source;
         let looped = source.looped_source;
         let control = words(DropReason::ForwardedControl, forwarded.last);
+        let groups = words(DropReason::GroupSource, grouped.last);
         let loops = words(DropReason::LoopedSource, looped.last);
         tell(
             rt,
@@ -205,6 +212,7 @@ impl DropLog {
             control,
             now,
         );
+        tell(rt, &mut self.group_source, grouped.count, groups, now);
         tell(rt, &mut self.looped_source, looped.count, loops, now);
     }
 }

@@ -153,6 +153,7 @@ fn put_filtered(text: &mut String, metrics: &Metrics) -> Result<(), AllocError> 
         ("rate_limited", metrics.rate_limited.count),
         ("directed_broadcast", metrics.directed.count),
         ("forwarded_control", drops.forwarded_control.count),
+        ("group_source", drops.group_source.count),
         ("looped_source", drops.looped_source.count),
     ];
     put_each(text, &FILTERED, "reason", &metrics)

@@ -1,7 +1,7 @@
 //! The token buckets of a port.
 
 ghost use Rattle.std.specs.Prelude.{◌≡◌, true};
-ghost use Rattle.ipx_site.specs.PortBuckets.{at_port, directed_has, directed_taken, query_has, query_taken, with_directed_taken, with_query_taken};
+ghost use Rattle.ipx_site.specs.PortBuckets.{at_port, directed_has, directed_taken, has_groups, query_has, query_taken, with_directed_taken, with_query_taken};
 
 use crate::token_bucket::TokenBucket;
 
@@ -12,6 +12,8 @@ pub struct PortBuckets {
     pub queries: TokenBucket,
     /// The directed broadcasts that leave by it. None means that they are not limited.
     pub directed: Option<TokenBucket>,
+    /// Whether what is for a group of nodes is one too: a switch floods it.
+    pub groups: bool,
 }
 
 impl PortBuckets {
@@ -47,6 +49,16 @@ pub fn has_query(ports: &[PortBuckets], port: usize, now: u64) -> bool
 {
     match ports.get(port) {
         Some(buckets) => buckets.queries.has_token(now),
+        None => false,
+    }
+}
+
+/// Whether what leaves by a port for a group of nodes is a directed broadcast.
+pub fn has_groups(ports: &[PortBuckets], port: usize) -> bool
+    ensures { result ≡ has_groups ports.now port }
+{
+    match ports.get(port) {
+        Some(buckets) => buckets.groups,
         None => false,
     }
 }

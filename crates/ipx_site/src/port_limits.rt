@@ -1,7 +1,7 @@
 //! The limits at the ports of a router, as its file sets them.
 
 ghost use Rattle.std.specs.Prelude.{◌≡◌, IfOk};
-ghost use Rattle.ipx_site.specs.PortLimits.{buckets_of_port, directed_bucket, limits_of, query_limit};
+ghost use Rattle.ipx_site.specs.PortLimits.{buckets_of_port, directed_bucket, has_group_nodes, limits_of, query_limit};
 
 use crate::port_buckets::PortBuckets;
 use crate::site::{Directed, Kind, PortConfig};
@@ -47,12 +47,24 @@ fn directed_bucket(directed: Directed) -> Option<TokenBucket>
     }
 }
 
+/// Whether a node at a port of this kind can be a group of stations. A client of an ipxnet port can
+/// have the address of a group, but is one node.
+fn has_group_nodes(kind: Kind) -> bool
+    ensures { result ≡ has_group_nodes kind }
+{
+    match kind {
+        Kind::Frames => true,
+        Kind::Rfc1234 | Kind::Ipxnet => false,
+    }
+}
+
 fn buckets_of_port(port: &PortConfig) -> PortBuckets
     ensures { result ≡ buckets_of_port port.now }
 {
     PortBuckets {
         queries: TokenBucket::full(query_limit(port.kind())),
         directed: directed_bucket(port.directed()),
+        groups: has_group_nodes(port.kind()),
     }
 }
 

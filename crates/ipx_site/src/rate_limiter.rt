@@ -140,7 +140,8 @@ impl<C: Core + Drop> RateLimiter<C> {
         now: u64,
     ) -> Result<(), OutOfMemory>
         requires there { port < C.port_count self.old.core }
-        requires directed { IsDirectedBroadcast self.old.ports port bytes.now broadcast }
+        requires directed { IsDirectedBroadcast self.old.ports self.old.buckets.ports port bytes.now
+            broadcast }
         ensures heard { OnOk result (HearsBroadcast C.hears self.old port bytes.now now self.new) }
         ensures refused { OnErr result
             (HearOutOfMemoryBelow C.hear_out_of_memory self.old port bytes.now now self.new) }
@@ -193,7 +194,12 @@ impl<C: Core + Drop> Core for RateLimiter<C> {
         if let Some(querier) = general_query_from(&self.ports, port, bytes) {
             return self.hear_query(alloc, port, querier, bytes, now);
         }
-        if let Some(broadcast) = directed_broadcast_in(&self.ports, port, bytes) {
+        if let Some(broadcast) = directed_broadcast_in(
+            &self.ports,
+            self.buckets.ports(),
+            port,
+            bytes,
+        ) {
             return self.hear_directed(alloc, port, broadcast, bytes, now);
         }
         self.core.hear(alloc, port, bytes, now)

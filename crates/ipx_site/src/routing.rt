@@ -12,7 +12,7 @@ ghost use Rattle.ipx_site.specs.PortLimits.{limits_of};
 ghost use Rattle.ipx_site.specs.StaticLists.{HearsAtPorts};
 ghost use Rattle.ipx_site.specs.StaticNeighbours.{IsToHear};
 ghost use Rattle.ipx_site.specs.RoutingRuns.{RoutesWell};
-ghost use Rattle.ipx_site.specs.SitePorts.{AccessListPorts, access_by, access_of, heard_at_port, named, router_ports, site_peers, udp_ports};
+ghost use Rattle.ipx_site.specs.SitePorts.{AccessListPorts, access_by, access_of, checked_ports, heard_at_port, named, router_ports, site_peers, udp_ports};
 
 use crate::bind_fault::BindFault;
 use crate::clock::{ClockFault, SteadyClock};
@@ -34,7 +34,7 @@ use crate::static_neighbours::silent_of;
 use ipx_carrier::OnPeers;
 use ipx_metrics::MeteredRouter;
 use ipx_router::{NewFault, Port, Router};
-use ipx_source_checks::SourceChecked;
+use ipx_source_checks::{CheckedPort, SourceChecked};
 use ipx_static::{StaticNeighbour, WithStatics};
 use log::{Log, info, warn};
 use std::alloc::{AllocError, Global};
@@ -62,6 +62,13 @@ fn own_ports(alloc: Global, ports: &[PortConfig]) -> Result<Vec<Port>, AllocErro
     ensures { IfOk result (λ v. v.items ≡ router_ports ports.now) }
 {
     ports.iter().map(PortConfig::router_port).collect(alloc)
+}
+
+/// The same ports, for source checks.
+fn checked_ports(alloc: Global, ports: &[PortConfig]) -> Result<Vec<CheckedPort>, AllocError>
+    ensures { IfOk result (λ v. v.items ≡ checked_ports ports.now) }
+{
+    ports.iter().map(PortConfig::checked_port).collect(alloc)
 }
 
 fn router_of(alloc: Global, ports: &[PortConfig]) -> Result<Router, RouteFault>
@@ -124,16 +131,16 @@ fn core_of_file(
     ensures router { IfOk result (λ c.
         c.core.core.core.router.ports ≡ router_ports site.now.ports.items) }
     ensures statics { IfOk result (λ c. IsToHear site.now.statics.items c.core.core) }
-    ensures checks { IfOk result (λ c. (c.ports ≡ router_ports site.now.ports.items)
+    ensures checks { IfOk result (λ c. (c.ports ≡ checked_ports site.now.ports.items)
         × (c.drops ≡ nothing_dropped_yet)) }
     ensures ports { IfOk result (λ c. c.core.ports ≡ router_ports site.now.ports.items) }
     ensures fresh { IfOk result (λ c. (c.core.buckets.queriers ≡ [])
         × (c.core.buckets.ports ≡ limits_of site.now.ports.items)) }
 {
     let silent = silent_of(alloc, &site.statics)?;
-    let own = own_ports(alloc, &site.ports)?;
+    let checked = checked_ports(alloc, &site.ports)?;
     let core = core_of(alloc, &site.ports, &silent)?;
-    Ok(SourceChecked::new(core, own))
+    Ok(SourceChecked::new(core, checked))
 }
 
 /// The peers of a port.
@@ -331,7 +338,7 @@ pub(crate) fn start<'a, R: Net + Log + SystemClock>(
     // It is to hear the static entries of the file, and has not heard them yet.
     ensures statics { IfOk result (λ s. IsToHear site.statics.items s.core.core.core) }
     // It checks sources at these ports, and has dropped nothing yet.
-    ensures checks { IfOk result (λ s. (s.core.ports ≡ router_ports site.ports.items)
+    ensures checks { IfOk result (λ s. (s.core.ports ≡ checked_ports site.ports.items)
         × (s.core.drops ≡ nothing_dropped_yet)) }
     // The limits of general queries and directed broadcasts at each port follow from its kind and
     // its table. No query has come yet.

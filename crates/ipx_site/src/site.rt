@@ -2,7 +2,7 @@
 
 ghost use Rattle.std.specs.Prelude.{◌≡◌};
 ghost use Rattle.ipx_site.specs.PortKinds.{directed_of_kind, kind_of_port, network_of_kind, place_of_kind};
-ghost use Rattle.ipx_site.specs.SitePorts.{router_port_of, router_port_of_kind};
+ghost use Rattle.ipx_site.specs.SitePorts.{checked_port_of_kind, is_ethernet, router_port_of, router_port_of_kind};
 
 use crate::ipxnet_port::IpxnetPortConfig;
 use crate::statics::StaticEntry;
@@ -10,6 +10,7 @@ use ipx_carrier::node_of;
 use ipx_ethernet::Encapsulation;
 use ipx_ethernet_ports::Place;
 use ipx_router::Port;
+use ipx_source_checks::CheckedPort;
 use ipx_wire::{Network, Node};
 
 /// The kind of a router's port.
@@ -113,6 +114,16 @@ fn port_at(network: Network, node: Node, cost: u16) -> Port
     }
 }
 
+/// Whether it is an Ethernet port.
+fn is_ethernet(port: &PortConfig) -> bool
+    ensures { result ≡ is_ethernet port.now }
+{
+    match port {
+        PortConfig::Frames(_) => true,
+        PortConfig::Rfc1234(_) | PortConfig::Ipxnet(_) => false,
+    }
+}
+
 impl PortConfig {
     /// The network that it is on.
     pub fn network(&self) -> Network
@@ -145,6 +156,16 @@ impl PortConfig {
             PortConfig::Rfc1234(port) => router_port(port),
             PortConfig::Frames(port) => port_at(port.network, port.node, port.cost),
             PortConfig::Ipxnet(port) => port_at(port.network, port.node, port.cost),
+        }
+    }
+
+    /// That port, for source checks.
+    pub fn checked_port(&self) -> CheckedPort
+        ensures { result ≡ checked_port_of_kind self.now }
+    {
+        CheckedPort {
+            port: self.router_port(),
+            ethernet: is_ethernet(self),
         }
     }
 

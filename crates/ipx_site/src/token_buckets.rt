@@ -60,6 +60,13 @@ impl TokenBuckets {
         })
     }
 
+    /// The buckets of the ports.
+    pub fn ports(&self) -> &[PortBuckets]
+        ensures { result.now ≡ self.now.ports }
+    {
+        &self.ports
+    }
+
     /// The time at which all tokens of a querier are back.
     fn back_of(&self, querier: Querier) -> u128
         ensures { result ≡ back_at self.now.queriers querier }

@@ -30,6 +30,7 @@ fn limits(alloc: Global) -> Result<Vec<PortBuckets>, AllocError> {
     let limits = PortBuckets {
         queries: bucket,
         directed: Some(bucket),
+        groups: false,
     };
     Ok(vec![in alloc; limits, limits]?)
 }

@@ -50,6 +50,10 @@ pub const METRICS: Metrics = Metrics {
             count: 33,
             last: None,
         },
+        group_source: SourceDropCount {
+            count: 35,
+            last: None,
+        },
         looped_source: SourceDropCount {
             count: 34,
             last: None,
@@ -69,7 +73,7 @@ pub const METRICS: Metrics = Metrics {
 };
 
 /// Lines of the text.
-const LINES: [&str; 29] = [
+const LINES: [&str; 30] = [
     "ipx_receive_packets_total 1\n",
     "ipx_transmit_packets_total 2\n",
     "ipx_outcomes_total{outcome=\"forwarded\"} 3\n",
@@ -90,6 +94,7 @@ const LINES: [&str; 29] = [
     "ipx_filtered_total{reason=\"rate_limited\"} 25\n",
     "ipx_filtered_total{reason=\"directed_broadcast\"} 32\n",
     "ipx_filtered_total{reason=\"forwarded_control\"} 33\n",
+    "ipx_filtered_total{reason=\"group_source\"} 35\n",
     "ipx_filtered_total{reason=\"looped_source\"} 34\n",
     "ipx_egress_filtered_total 16\n",
     "ipx_errors_total{kind=\"device\"} 17\n",

@@ -188,6 +188,7 @@ ipx_filtered_total{reason=\"not_a_router\"} 24
 ipx_filtered_total{reason=\"rate_limited\"} 25
 ipx_filtered_total{reason=\"directed_broadcast\"} 32
 ipx_filtered_total{reason=\"forwarded_control\"} 33
+ipx_filtered_total{reason=\"group_source\"} 35
 ipx_filtered_total{reason=\"looped_source\"} 34
 # HELP ipx_egress_filtered_total Datagrams not sent because the destination is not a peer.
 # TYPE ipx_egress_filtered_total counter

@@ -150,6 +150,11 @@ fn lines_of_what_was_dropped(rt: HostRuntime) -> Result<(), Fail> {
         forwarded.as_str(),
         "forwarded control, the last from 00000011 00000a010014 4003 on port 1"
     );
+    let grouped = said(alloc, DropReason::GroupSource, last.not_ours)?;
+    assert_eq!(rt;
+        grouped.as_str(),
+        "RIP or SAP with a group or zero source node, the last from 00000011 00000a010014 4003 on port 1"
+    );
     let looped = said(alloc, DropReason::LoopedSource, last.no_route)?;
     assert_eq!(rt;
         looped.as_str(),
@@ -176,6 +181,7 @@ fn warns_of_faults(rt: HostRuntime) -> Result<(), Fail> {
     assert!(rt; warns(DropReason::HopLimit, last.hop_limit));
     assert!(rt; warns(DropReason::BadControl, last.bad_control));
     assert!(rt; warns(DropReason::ForwardedControl, last.not_ours));
+    assert!(rt; warns(DropReason::GroupSource, last.not_ours));
     assert!(rt; warns(DropReason::LoopedSource, last.not_ours));
     for socket in [0x0453, 0x0452] {
         core.hear(alloc, 0, &datagram(0, 4, 0x11, 0x4002, 0x11), 0)?;

@@ -113,11 +113,12 @@ fn limits(queries: RateLimit, directed: Option<RateLimit>) -> PortBuckets {
             Some(limit) => Some(TokenBucket::full(limit)),
             None => None,
         },
+        groups: false,
     }
 }
 
-/// A rate limiter over such a core, for a router with ports on networks 11, 22 and 33, the last for
-/// ipxnet clients. It first runs out of memory `refused` times. The third port's limit lets no
+/// A rate limiter over such a core, for a router with ports on networks 11, 22 and 33, the second an
+/// Ethernet port, and the last for ipxnet clients. It first runs out of memory `refused` times. The third port's limit lets no
 /// directed broadcast leave.
 fn ears_by(
     alloc: Global,
@@ -128,7 +129,7 @@ fn ears_by(
     let ports = vec![in alloc; port(1, HERE), port(2, AWAY), port(3, PLAYERS)]?;
     let limits = vec![in alloc;
         limits(USUAL, Some(USUAL)),
-        limits(USUAL, Some(USUAL)),
+        PortBuckets { groups: true, ..limits(USUAL, Some(USUAL)) },
         limits(CLIENTS, directed),
     ]?;
     RateLimiter::new(alloc, ears, ports, limits)
@@ -294,16 +295,26 @@ fn few_directed_broadcasts_leave_by_a_port(rt: HostRuntime) -> Result<(), AllocE
     Ok(())
 }
 
+/// The socket 4002 of a node.
+fn game_of(network: Network, node: [u8; 6]) -> Address {
+    Address {
+        network,
+        node: Node(node),
+        socket: Socket(0x4002),
+    }
+}
+
 #[test]
 fn what_is_no_directed_broadcast(rt: HostRuntime) -> Result<(), AllocError> {
     let game = Socket(0x4002);
-    let one_node = Address {
-        network: AWAY,
-        node: Node([0, 0, 10, 0, 0, 7]),
-        socket: game,
-    };
     let rows = [
-        (one_node, false),
+        (game_of(AWAY, [0, 0, 10, 0, 0, 7]), false),
+        (game_of(AWAY, [2, 0, 0, 0, 0, 1]), false),
+        (game_of(AWAY, [1, 0, 0, 0, 0, 1]), true),
+        (game_of(AWAY, [0xff, 0xff, 0xff, 0xff, 0xff, 0xfe]), true),
+        (game_of(FAR, [1, 0, 0, 0, 0, 1]), false),
+        // A player's node is its IP address and its UDP port.
+        (game_of(PLAYERS, [127, 0, 0, 1, 0xbc, 0x47]), false),
         (every_node(FAR, game), false),
         (every_node(HERE, game), false),
         (every_node(Network::LOCAL, game), false),

@@ -6,6 +6,7 @@ use Rattle.ipx_wire.specs.declared.ipx.packet.IpxHeader.{IpxHeader}
 use Rattle.ipx_router.specs.declared.port.Port.{Port}
 use Rattle.ipx_router.specs.Classify.{concern_of}
 use Rattle.ipx_router.specs.RouterView.{RouterView}
+use Rattle.ipx_source_checks.specs.declared.failed_check.CheckedPort.{CheckedPort}
 use Rattle.ipx_source_checks.specs.declared.failed_check.FailedCheck.{FailedCheck}
 use Rattle.ipx_source_checks.specs.declared.failed_check.SourceFault.TheVariants.{ForwardedControl}
 use Rattle.ipx_source_checks.specs.ForwardedIsNoControl.{IsControlAt, IsForwardedBy}
@@ -31,8 +32,8 @@ hops_of one r sent by p tail is =
     let same = one p _ sent tail [] is sends.1.packet in
     (came.0.header.hops, ap (λ (q : PacketView). q.header.hops) same.0)
 
-fails : OnePacket → (r : RouterView) (sent : List ℕ) → IsForwardedBy r sent → (ports : List Port) (port : ℕ) (at : Port) → slice_get ports port ≡ Some at
-    → IsControlAt at sent → (f : FailedCheck) × FailsAt ports port sent f
+fails : OnePacket → (r : RouterView) (sent : List ℕ) → IsForwardedBy r sent → (ports : List CheckedPort) (port : ℕ) (at : CheckedPort) → slice_get ports port ≡ Some at
+    → IsControlAt at.port sent → (f : FailedCheck) × FailsAt ports port sent f
 fails one r sent by ports port at there control =
     let (p, begins, is) = control in
     let (n, hops) = hops_of one r sent by p begins.0 begins.1 in
@@ -40,11 +41,11 @@ fails one r sent by ports port at there control =
       fault = ForwardedControl;
       packet = record { port = port; to = Some p.header.to; from = Some p.header.from };
     } in
-    (f, (at, there, (p, begins, forwarded at p.header n hops is, refl)))
+    (f, (at, there, (p, begins, forwarded at.port p.header n hops is, refl)))
 
 pub not_heard : OnePacket → {C : Type 0} (hears : C → ℕ → List ℕ → ℕ → C → Type 0) (r : RouterView) (sent : List ℕ) → IsForwardedBy r sent
-    → (old new : SourceCheckedView C) (port now : ℕ) (at : Port) → slice_get old.ports port ≡ Some at
-    → IsControlAt at sent → HearsChecked hears old port sent now new → new.core ≡ old.core
+    → (old new : SourceCheckedView C) (port now : ℕ) (at : CheckedPort) → slice_get old.ports port ≡ Some at
+    → IsControlAt at.port sent → HearsChecked hears old port sent now new → new.core ≡ old.core
 not_heard one {C} hears r sent by old new port now at there control h = elim h [
   | inl dropped ↦ ap (λ (v : SourceCheckedView C). v.core) dropped.2
   | inr heard ↦

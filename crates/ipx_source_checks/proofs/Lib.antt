@@ -1,1 +1,2 @@
 pub mod ForwardedPackets
+pub mod GroupSources

@@ -7,6 +7,7 @@ use Rattle.ipx_router.specs.Classify.{concern_of}
 use Rattle.ipx_router.specs.Forwarded.{ForwardsOneHopOn}
 use Rattle.ipx_router.specs.OutcomeView.{Forward}
 use Rattle.ipx_router.specs.RouterView.{RouterView}
+use Rattle.ipx_source_checks.specs.declared.failed_check.CheckedPort.{CheckedPort}
 use Rattle.ipx_source_checks.specs.SourceChecks.{is_control}
 use Rattle.ipx_source_checks.specs.SourceChecked.{SourceCheckedView, HearsChecked}
 
@@ -24,5 +25,5 @@ module _ {C : Type 0} (hears : C → ℕ → List ℕ → ℕ → C → Type 0) 
   abbrev pub NoForwardedPacketIsHeardAsControl : Type 0
   NoForwardedPacketIsHeardAsControl =
       (r : RouterView) (sent : List ℕ) → IsForwardedBy r sent
-      → (old new : SourceCheckedView C) (port now : ℕ) (at : Port) → slice_get old.ports port ≡ Some at
-      → IsControlAt at sent → HearsChecked hears old port sent now new → new.core ≡ old.core
+      → (old new : SourceCheckedView C) (port now : ℕ) (at : CheckedPort) → slice_get old.ports port ≡ Some at
+      → IsControlAt at.port sent → HearsChecked hears old port sent now new → new.core ≡ old.core

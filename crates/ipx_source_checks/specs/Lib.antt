@@ -1,3 +1,4 @@
 pub mod SourceChecks
 pub mod SourceChecked
 pub mod ForwardedIsNoControl
+pub mod GroupIsNoControl

@@ -1,15 +1,15 @@
 -- A core over a core that drops packets which fail a source check. Defined by this project.
 use Rattle.std.specs.Prelude.{◌≡◌, ◌⊎◌, ℕ, List, Option}
-use Rattle.ipx_router.specs.declared.port.Port.{Port}
 use Rattle.ipx_carrier.specs.Turns.{Given}
 use Rattle.ipx_source_checks.specs.declared.drops.SourceDrops.{SourceDrops}
+use Rattle.ipx_source_checks.specs.declared.failed_check.CheckedPort.{CheckedPort}
 use Rattle.ipx_source_checks.specs.declared.failed_check.FailedCheck.{FailedCheck}
 use Rattle.ipx_source_checks.specs.SourceChecks.{FailsAt, one_more_failed}
 
 -- the core below, the ports of its router, and the packets that were dropped
 pub record SourceCheckedView (C : Type 0) : Type 0 where
   pub core : C
-  pub ports : List Port
+  pub ports : List CheckedPort
   pub drops : SourceDrops
 
 -- the core below repeats its requests to its neighbours

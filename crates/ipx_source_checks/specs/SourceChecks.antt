@@ -1,19 +1,21 @@
 -- Which packets fail a source check of a router, and how they are counted. Defined by this project.
-use Rattle.std.specs.Prelude.{◌≡◌, ◌==◌, ◌&&◌, ℕ, Bool, true, false, not, List, Option, Some, None, slice_get}
+use Rattle.std.specs.Prelude.{◌≡◌, ◌==◌, ◌&&◌, ◌||◌, ◌%◌, ℕ, Bool, true, false, not, List, Some, None, replicate, slice_get, slice_index}
 use Rattle.ipx_wire.specs.Assigned.{local_network}
 use Rattle.ipx_wire.specs.Ipx.{BeginsWith, PacketView}
+use Rattle.ipx_wire.specs.declared.address.Node.{Node}
 use Rattle.ipx_wire.specs.declared.ipx.packet.IpxHeader.{IpxHeader}
 use Rattle.ipx_router.specs.declared.classify.Concern.{Concern}
 use Rattle.ipx_router.specs.declared.classify.Concern.TheVariants as concerns
 use Rattle.ipx_router.specs.declared.port.Port.{Port}
-use Rattle.ipx_router.specs.Classify.{concern_of}
+use Rattle.ipx_router.specs.Classify.{concern_of, is_node}
 use Rattle.ipx_carrier.specs.Counting.{raised}
 use Rattle.ipx_metrics.specs.declared.last_drops.LastDrop.{LastDrop}
 use Rattle.ipx_source_checks.specs.declared.drops.SourceDropCount.{SourceDropCount}
 use Rattle.ipx_source_checks.specs.declared.drops.SourceDrops.{SourceDrops}
+use Rattle.ipx_source_checks.specs.declared.failed_check.CheckedPort.{CheckedPort}
 use Rattle.ipx_source_checks.specs.declared.failed_check.FailedCheck.{FailedCheck}
 use Rattle.ipx_source_checks.specs.declared.failed_check.SourceFault.{SourceFault}
-use Rattle.ipx_source_checks.specs.declared.failed_check.SourceFault.TheVariants.{ForwardedControl, LoopedSource}
+use Rattle.ipx_source_checks.specs.declared.failed_check.SourceFault.TheVariants.{ForwardedControl, GroupSource, LoopedSource}
 
 -- a packet is RIP or SAP for the router itself
 abbrev pub is_control : Concern → Bool
@@ -27,6 +29,16 @@ is_control (concerns.Dropped reason) = false
 abbrev pub is_forwarded_control : Port → IpxHeader → Bool
 is_forwarded_control at h = not (h.hops == 0) && is_control (concern_of at h)
 
+-- a node is a group of stations, whose address has the bit that is sent first, or zero: no station has either
+abbrev pub is_group_or_zero : Node → Bool
+is_group_or_zero node =
+    (slice_index node.0 0 % 2 == 1) || is_node node (record { 0 = replicate 6 0 })
+
+-- RIP or SAP for the router, which was not forwarded and came to an Ethernet port from such a node
+abbrev pub is_group_source : CheckedPort → IpxHeader → Bool
+is_group_source at h =
+    at.ethernet && (h.hops == 0) && is_group_or_zero h.from.node && is_control (concern_of at.port h)
+
 -- a packet for a network other than the port's, which claims to come from that same network: a node of it
 -- needs no router to send there
 abbrev pub is_looped_source : Port → IpxHeader → Bool
@@ -34,25 +46,27 @@ is_looped_source at h = not (h.to.network.0 == local_network) && not (h.to.netwo
     && (h.from.network.0 == h.to.network.0)
 
 -- a packet that came to a port fails a check
-abbrev pub FailsCheck : Port → IpxHeader → SourceFault → Type 0
-FailsCheck at h ForwardedControl = is_forwarded_control at h ≡ true
-FailsCheck at h LoopedSource = is_looped_source at h ≡ true
+abbrev pub FailsCheck : CheckedPort → IpxHeader → SourceFault → Type 0
+FailsCheck at h ForwardedControl = is_forwarded_control at.port h ≡ true
+FailsCheck at h GroupSource = is_group_source at h ≡ true
+FailsCheck at h LoopedSource = is_looped_source at.port h ≡ true
 
 -- bytes that came to this port, which has this number, are a packet that fails a check
-abbrev pub FailsCheckAt : Port → ℕ → List ℕ → FailedCheck → Type 0
+abbrev pub FailsCheckAt : CheckedPort → ℕ → List ℕ → FailedCheck → Type 0
 FailsCheckAt at port bytes f = (p : PacketView) × BeginsWith bytes p × FailsCheck at p.header f.fault
     × (f.packet ≡ record { port = port; to = Some p.header.to; from = Some p.header.from })
 
 -- the same for bytes that came to the port with this number, which exists
-abbrev pub FailsAt : List Port → ℕ → List ℕ → FailedCheck → Type 0
-FailsAt ports port bytes f = (at : Port) × (slice_get ports port ≡ Some at) × FailsCheckAt at port bytes f
+abbrev pub FailsAt : List CheckedPort → ℕ → List ℕ → FailedCheck → Type 0
+FailsAt ports port bytes f = (at : CheckedPort) × (slice_get ports port ≡ Some at) × FailsCheckAt at port bytes f
 
 -- nothing was dropped, by one check and by all
 abbrev pub no_drops : SourceDropCount
 no_drops = record { count = 0; last = None }
 
 abbrev pub nothing_dropped_yet : SourceDrops
-nothing_dropped_yet = record { forwarded_control = no_drops; looped_source = no_drops }
+nothing_dropped_yet =
+    record { forwarded_control = no_drops; group_source = no_drops; looped_source = no_drops }
 
 -- one more was dropped, and it is the last
 abbrev pub with_one_more_drop : LastDrop → SourceDropCount → SourceDropCount
@@ -62,6 +76,8 @@ with_one_more_drop packet d = record { count = raised d.count; last = Some packe
 abbrev pub with_drop_by : SourceFault → LastDrop → SourceDrops → SourceDrops
 with_drop_by ForwardedControl packet d =
     record d { forwarded_control = with_one_more_drop packet d.forwarded_control }
+with_drop_by GroupSource packet d =
+    record d { group_source = with_one_more_drop packet d.group_source }
 with_drop_by LoopedSource packet d =
     record d { looped_source = with_one_more_drop packet d.looped_source }
 

@@ -20,6 +20,8 @@ pub struct SourceDropCount {
 pub struct SourceDrops {
     /// RIP and SAP for the router that another router forwarded.
     pub forwarded_control: SourceDropCount,
+    /// RIP and SAP for the router at an Ethernet port, from a group or from zero.
+    pub group_source: SourceDropCount,
     /// Packets for another network that claimed to come from that same network.
     pub looped_source: SourceDropCount,
 }
@@ -48,6 +50,7 @@ impl SourceDrops {
     {
         SourceDrops {
             forwarded_control: SourceDropCount::none(),
+            group_source: SourceDropCount::none(),
             looped_source: SourceDropCount::none(),
         }
     }
@@ -57,6 +60,7 @@ impl SourceDrops {
     {
         match failed.fault {
             SourceFault::ForwardedControl => self.forwarded_control.add(failed.packet),
+            SourceFault::GroupSource => self.group_source.add(failed.packet),
             SourceFault::LoopedSource => self.looped_source.add(failed.packet),
         }
     }

@@ -2,17 +2,28 @@
 
 ghost use Rattle.std.specs.Prelude.{◌≡◌, IfNone, IfSome};
 ghost use Rattle.ipx_router.specs.Classify.{concern_of, concern_on_network, is_from_neighbour};
-ghost use Rattle.ipx_source_checks.specs.SourceChecks.{FailsAt, FailsCheck, FailsCheckAt, is_control, is_forwarded_control, is_looped_source};
+ghost use Rattle.ipx_source_checks.specs.SourceChecks.{FailsAt, FailsCheck, FailsCheckAt, is_control, is_forwarded_control, is_group_or_zero, is_group_source, is_looped_source};
 
 use ipx_metrics::LastDrop;
 use ipx_router::Port;
 use ipx_wire::{IpxHeader, Network, Node, Socket, decode, packet_type};
 
-/// Which of the two checks a packet fails.
+/// A port of a router, and whether it is an Ethernet port. A station there has the address of one
+/// station. A player of an ipxnet port may have that of a group, since its node is an IP address
+/// and a UDP port.
+#[derive(Clone, Copy, PartialEq, Eq)]
+pub struct CheckedPort {
+    pub port: Port,
+    pub ethernet: bool,
+}
+
+/// Which of the three checks a packet fails.
 #[derive(Clone, Copy)]
 pub enum SourceFault {
     /// It is RIP or SAP for the router, and another router forwarded it.
     ForwardedControl,
+    /// It is RIP or SAP for the router, and came to an Ethernet port from a group or from zero.
+    GroupSource,
     /// It is for another network, and claims to come from that same network.
     LoopedSource,
 }
@@ -61,6 +72,24 @@ fn is_forwarded_control(at: Port, header: &IpxHeader) -> bool
     header.hops > 0 && is_control(at, header)
 }
 
+/// Whether a node is a group of stations, or zero. No station has such an address.
+fn is_group_or_zero(node: Node) -> bool
+    ensures { result ≡ is_group_or_zero node }
+{
+    node.0[0] % 2 == 1 || node.0 == [0; 6]
+}
+
+/// Whether a packet that came to an Ethernet port is RIP or SAP for the router, and claims to come
+/// from a group or from zero.
+fn is_group_source(at: CheckedPort, header: &IpxHeader) -> bool
+    ensures { result ≡ is_group_source at header.now }
+{
+    at.ethernet
+        && header.hops == 0
+        && is_group_or_zero(header.from.node)
+        && is_control(at.port, header)
+}
+
 /// Whether a packet that came to a port is for another network, and claims to come from it.
 fn is_looped_source(at: Port, header: &IpxHeader) -> bool
     ensures { result ≡ is_looped_source at header.now }
@@ -70,21 +99,24 @@ fn is_looped_source(at: Port, header: &IpxHeader) -> bool
 }
 
 /// The check that a packet which came to this port fails, if any.
-fn source_fault(at: Port, header: &IpxHeader) -> Option<SourceFault>
+fn source_fault(at: CheckedPort, header: &IpxHeader) -> Option<SourceFault>
     ensures fault { IfSome result (FailsCheck at header.now) }
     ensures none { IfNone result ((fault : SourceFault) → FailsCheck at header.now fault → ⊥) }
 {
-    if is_forwarded_control(at, header) {
+    if is_forwarded_control(at.port, header) {
         return Some(SourceFault::ForwardedControl);
     }
-    if is_looped_source(at, header) {
+    if is_group_source(at, header) {
+        return Some(SourceFault::GroupSource);
+    }
+    if is_looped_source(at.port, header) {
         return Some(SourceFault::LoopedSource);
     }
     None
 }
 
 /// The check that bytes fail, if any. They came to this port, which has this number.
-fn failed_check_at(at: Port, port: usize, bytes: &[u8]) -> Option<FailedCheck>
+fn failed_check_at(at: CheckedPort, port: usize, bytes: &[u8]) -> Option<FailedCheck>
     ensures failed { IfSome result (FailsCheckAt at port bytes.now) }
     ensures none { IfNone result ((f : FailedCheck) → FailsCheckAt at port bytes.now f → ⊥) }
 {
@@ -103,7 +135,7 @@ fn failed_check_at(at: Port, port: usize, bytes: &[u8]) -> Option<FailedCheck>
 
 /// The check that bytes fail, if any. They came to the port with this number of a router with these
 /// ports.
-pub fn failed_check(ports: &[Port], port: usize, bytes: &[u8]) -> Option<FailedCheck>
+pub fn failed_check(ports: &[CheckedPort], port: usize, bytes: &[u8]) -> Option<FailedCheck>
     ensures failed { IfSome result (FailsAt ports.now port bytes.now) }
     ensures none { IfNone result ((f : FailedCheck) → FailsAt ports.now port bytes.now f → ⊥) }
 {

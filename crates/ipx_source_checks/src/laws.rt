@@ -1,6 +1,7 @@
-//! A law on what the source checks of routers prevent. It does nothing.
+//! Laws on what the source checks of routers prevent. They do nothing.
 
 ghost use Rattle.ipx_source_checks.specs.ForwardedIsNoControl.{NoForwardedPacketIsHeardAsControl};
+ghost use Rattle.ipx_source_checks.specs.GroupIsNoControl.{NoGroupIsHeardAsControl};
 
 use ipx_carrier::Core;
 use ipx_wire::bytes_are_one_packet;
@@ -12,3 +13,9 @@ pub fn no_forwarded_packet_is_heard_as_control<C: Core>()
 {
     bytes_are_one_packet();
 }
+
+/// No packet from a group or from zero reaches the core below a `SourceChecked` as RIP or SAP by an
+/// Ethernet port.
+pub fn no_group_is_heard_as_control<C: Core>()
+    ensures { NoGroupIsHeardAsControl C.hears }
+{}

@@ -4,20 +4,19 @@ ghost use Rattle.std.specs.Prelude.{◌≡◌};
 ghost use Rattle.ipx_source_checks.specs.SourceChecks.{nothing_dropped_yet};
 
 use crate::drops::SourceDrops;
-use crate::failed_check::failed_check;
+use crate::failed_check::{CheckedPort, failed_check};
 use ipx_carrier::Core;
-use ipx_router::Port;
 use ipx_static::RestartDiscovery;
 use ipx_wire::{Node, OutOfMemory};
 use std::alloc::Global;
 use std::marker::Model;
 
 /// A core over another one. It drops and counts packets that fail a source check: RIP and SAP for
-/// the router that another router forwarded, and packets for another network that claim to come
-/// from that same network. The core below hears everything else, as it comes.
+/// the router that another router forwarded, RIP and SAP from a group or from zero at an Ethernet
+/// port, and packets for another network that claim to come from that same network. The core below hears everything else, as it comes.
 pub struct SourceChecked<C: Core + Drop> {
     core: C,
-    ports: Vec<Port>,
+    ports: Vec<CheckedPort>,
     drops: SourceDrops,
 }
 
@@ -45,7 +44,7 @@ impl<C: Core + Drop> Model for SourceChecked<C> {
 
 impl<C: Core + Drop> SourceChecked<C> {
     /// A core over that of a router with these ports, in their order. Nothing has been dropped yet.
-    pub fn new(core: C, ports: Vec<Port>) -> SourceChecked<C>
+    pub fn new(core: C, ports: Vec<CheckedPort>) -> SourceChecked<C>
         ensures core { result.core ≡ core }
         ensures ports { result.ports ≡ ports.items }
         ensures fresh { result.drops ≡ nothing_dropped_yet }

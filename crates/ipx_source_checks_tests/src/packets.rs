@@ -1,10 +1,11 @@
-//! Packets that come to the port of network 22, as node 00007f000003, and the outcome of each.
+//! Packets that come to the port of network 22, as node 00007f000003, and the outcome of each. It is
+//! an Ethernet port, unless a test says otherwise.
 
 use crate::ears::Ears;
 use ipx_carrier::Core;
 use ipx_metrics::LastDrop;
 use ipx_router::Port;
-use ipx_source_checks::SourceChecked;
+use ipx_source_checks::{CheckedPort, SourceChecked};
 use ipx_wire::{Address, Network, Node, OutOfMemory, Socket};
 use std::alloc::Global;
 use std::test::Fail;
@@ -13,13 +14,14 @@ use std::test::Fail;
 enum Fate {
     Heard,
     ForwardedControl,
+    GroupSource,
     LoopedSource,
 }
 
 /// The description of a packet, its bytes, and its outcome.
 type Row = (&'static str, &'static str, Fate);
 
-const ROWS: [Row; 17] = [
+const ROWS: [Row; 25] = [
     (
         "a route that the router 00007f000002 advertises",
         "ffff00280001 00000022ffffffffffff0453 0000002200007f0000020453 0002000000440001 0002",
@@ -101,6 +103,46 @@ const ROWS: [Row; 17] = [
         Fate::Heard,
     ),
     (
+        "a route that node ffffffffffff advertises",
+        "ffff00280001 00000022ffffffffffff0453 00000022ffffffffffff0453 0002000000440001 0002",
+        Fate::GroupSource,
+    ),
+    (
+        "a route that a group advertises to the router",
+        "ffff00280001 0000002200007f0000030453 000000220100000000010453 0002000000440001 0002",
+        Fate::GroupSource,
+    ),
+    (
+        "a route that node 0 advertises, with networks left out",
+        "ffff00280001 00000000ffffffffffff0453 000000000000000000000453 0002000000440001 0002",
+        Fate::GroupSource,
+    ),
+    (
+        "a query of node ffffffffffff for all services",
+        "ffff00220004 00000022ffffffffffff0452 00000022ffffffffffff4003 0001ffff",
+        Fate::GroupSource,
+    ),
+    (
+        "a route that a group advertises, forwarded",
+        "ffff00280101 00000022ffffffffffff0453 000000220100000000010453 0002000000440010 0010",
+        Fate::ForwardedControl,
+    ),
+    (
+        "a route that node 020000000001 advertises, which is no group",
+        "ffff00280001 00000022ffffffffffff0453 000000220200000000010453 0002000000440001 0002",
+        Fate::Heard,
+    ),
+    (
+        "no control, of a group",
+        "ffff00200004 0000002200007f0000034002 000000220100000000014003 0102",
+        Fate::Heard,
+    ),
+    (
+        "of a group, for network 33",
+        "ffff00200004 0000003300007f0000080453 000000220100000000010453 0102",
+        Fate::Heard,
+    ),
+    (
         "no packet",
         "ffff00280101 00000022ffffffffffff0453",
         Fate::Heard,
@@ -109,14 +151,26 @@ const ROWS: [Row; 17] = [
 
 /// Such a core under a router with one port, on network 22, which first runs out of memory
 /// `refused` times.
-pub fn ears(alloc: Global, refused: u32) -> Result<SourceChecked<Ears>, OutOfMemory> {
+fn ears_at(
+    alloc: Global,
+    refused: u32,
+    ethernet: bool,
+) -> Result<SourceChecked<Ears>, OutOfMemory> {
     let port = Port {
         network: Network(0x22),
         node: Node([0, 0, 0x7f, 0, 0, 3]),
         cost: 1,
     };
     let ears = Ears { heard: 0, refused };
-    Ok(SourceChecked::new(ears, vec![in alloc; port]?))
+    Ok(SourceChecked::new(
+        ears,
+        vec![in alloc; CheckedPort { port, ethernet }]?,
+    ))
+}
+
+/// The same at an Ethernet port.
+pub fn ears(alloc: Global, refused: u32) -> Result<SourceChecked<Ears>, OutOfMemory> {
+    ears_at(alloc, refused, true)
 }
 
 /// The bytes of a row.
@@ -144,11 +198,13 @@ fn fate(checked: &SourceChecked<Ears>) -> Option<Fate> {
     match (
         checked.core().heard,
         drops.forwarded_control.count,
+        drops.group_source.count,
         drops.looped_source.count,
     ) {
-        (1, 0, 0) => Some(Fate::Heard),
-        (0, 1, 0) => Some(Fate::ForwardedControl),
-        (0, 0, 1) => Some(Fate::LoopedSource),
+        (1, 0, 0, 0) => Some(Fate::Heard),
+        (0, 1, 0, 0) => Some(Fate::ForwardedControl),
+        (0, 0, 1, 0) => Some(Fate::GroupSource),
+        (0, 0, 0, 1) => Some(Fate::LoopedSource),
         _ => None,
     }
 }
@@ -165,6 +221,18 @@ fn what_becomes_of_each(rt: HostRuntime) -> Result<(), Fail> {
     Ok(())
 }
 
+/// The node of a player of an ipxnet port is its IP address and its UDP port, as 127.0.0.1, port
+/// 48199. It may look like a group, and its queries are heard.
+#[test]
+fn players_are_heard(rt: HostRuntime) -> Result<(), Fail> {
+    let alloc = rt.alloc();
+    let mut checked = ears_at(alloc, 0, false)?;
+    let query = "ffff00220004 00000022ffffffffffff0452 000000227f000001bc474003 0001ffff";
+    checked.hear(alloc, 0, &bytes_of(alloc, query)?, 0)?;
+    assert!(rt; fate(&checked) == Some(Fate::Heard));
+    Ok(())
+}
+
 #[test]
 fn the_last_sender_is_kept(rt: HostRuntime) -> Result<(), Fail> {
     let alloc = rt.alloc();
@@ -178,10 +246,14 @@ fn the_last_sender_is_kept(rt: HostRuntime) -> Result<(), Fail> {
     assert_eq!(rt; last.and_then(|last| last.from), Some(sender(&bytes)));
     assert_eq!(rt; last.map(|last| last.port), Some(0));
     let last = checked.drops().forwarded_control.last;
-    let bytes = bytes_of(alloc, ROWS[5].1)?;
+    let bytes = bytes_of(alloc, ROWS[20].1)?;
     assert_eq!(rt; last.and_then(|last| last.from), Some(sender(&bytes)));
-    assert_eq!(rt; checked.drops().forwarded_control.count, 5);
+    let last = checked.drops().group_source.last;
+    let bytes = bytes_of(alloc, ROWS[19].1)?;
+    assert_eq!(rt; last.and_then(|last| last.from), Some(sender(&bytes)));
+    assert_eq!(rt; checked.drops().forwarded_control.count, 6);
+    assert_eq!(rt; checked.drops().group_source.count, 4);
     assert_eq!(rt; checked.drops().looped_source.count, 2);
-    assert_eq!(rt; checked.core().heard, 10);
+    assert_eq!(rt; checked.core().heard, 13);
     Ok(())
 }

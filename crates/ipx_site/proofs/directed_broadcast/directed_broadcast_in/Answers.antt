@@ -18,7 +18,7 @@ returns-in-Some-clause-none c =
     (λ none who q.
     let same : Some q.0 ≡ Some here = sym q.1 ∙ there in
     let one : q.0 ≡ here = cc in
-    none who (subst (λ (at : Port). IsDirectedAt ports at c.args.bytes.now who) one q.2))
+    none who (subst (λ (at : Port). IsDirectedAt ports c.args.limits.now at c.args.bytes.now who) one q.2))
     c.directed_at.ensures.none
 
 pub returns-in-None-clause-none : goal.returns-in-None-clause-none

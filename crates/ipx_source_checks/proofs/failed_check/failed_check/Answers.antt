@@ -1,7 +1,7 @@
 use Rattle.std.proofs.Common.{◌≡◌, ◌∙◌, Option, Some, None, length, refl, slice_get, subst, sym}
 use Rattle.std.specs.Prelude.{IfNone}
 use Rattle.std.proofs.lemmas.Option.{slice_get_past, slice_get_read}
-use Rattle.ipx_router.specs.declared.port.Port.{Port}
+use Rattle.ipx_source_checks.specs.declared.failed_check.CheckedPort.{CheckedPort}
 use Rattle.ipx_source_checks.specs.SourceChecks.{FailsCheckAt}
 use Rattle.ipx_source_checks.proofs.failed_check.failed_check.Goals as goal
 
@@ -18,7 +18,7 @@ returns-in-Some-clause-none c =
     (λ none f q.
     let same : Some q.0 ≡ Some here = sym q.1 ∙ there in
     let one : q.0 ≡ here = cc in
-    none f (subst (λ (at : Port). FailsCheckAt at c.args.port c.args.bytes.now f) one q.2))
+    none f (subst (λ (at : CheckedPort). FailsCheckAt at c.args.port c.args.bytes.now f) one q.2))
     c.failed_check_at.ensures.none
 
 pub returns-in-None-clause-none : goal.returns-in-None-clause-none

@@ -1,6 +1,6 @@
 use Rattle.std.proofs.Common.{List, Result, Ok, Err, inr, refl, subst}
 use Rattle.std.specs.Result.{OnErr, OnOk}
-use Rattle.ipx_router.specs.declared.port.Port.{Port}
+use Rattle.ipx_source_checks.specs.declared.failed_check.CheckedPort.{CheckedPort}
 use Rattle.ipx_source_checks.specs.declared.failed_check.FailedCheck.{FailedCheck}
 use Rattle.ipx_source_checks.specs.SourceChecks.{FailsAt}
 use Rattle.ipx_source_checks.specs.SourceChecked.{HearsChecked, HearOutOfMemoryChecked, SourceCheckedView}
@@ -18,7 +18,7 @@ pub returns-in-None-clause-heard : goal.returns-in-None-clause-heard
 returns-in-None-clause-heard g c =
     let inside = c.self.inside in
     let new : SourceCheckedView g.row.C.Denot = record { core = c.hear.new.self; ports = inside.ports.items; drops = inside.drops } in
-    let none = subst (λ (ports : List Port). (f : FailedCheck) → FailsAt ports c.args.port c.args.bytes.now f → ⊥) c.deref.ensures.value c.in-None.ensures.none in
+    let none = subst (λ (ports : List CheckedPort). (f : FailedCheck) → FailsAt ports c.args.port c.args.bytes.now f → ⊥) c.deref.ensures.value c.in-None.ensures.none in
     along c.hear.result
     (λ heard. subst (λ (v : SourceCheckedView g.row.C.Denot). HearsChecked g.C.Core.hears v c.args.port c.args.bytes.now c.args.now new) c.self.view_is
     (inr (none, heard, refl)))
@@ -28,7 +28,7 @@ pub returns-in-None-clause-refused : goal.returns-in-None-clause-refused
 returns-in-None-clause-refused g c =
     let inside = c.self.inside in
     let new : SourceCheckedView g.row.C.Denot = record { core = c.hear.new.self; ports = inside.ports.items; drops = inside.drops } in
-    let none = subst (λ (ports : List Port). (f : FailedCheck) → FailsAt ports c.args.port c.args.bytes.now f → ⊥) c.deref.ensures.value c.in-None.ensures.none in
+    let none = subst (λ (ports : List CheckedPort). (f : FailedCheck) → FailsAt ports c.args.port c.args.bytes.now f → ⊥) c.deref.ensures.value c.in-None.ensures.none in
     along_err c.hear.result
     (λ refused. subst (λ (v : SourceCheckedView g.row.C.Denot). HearOutOfMemoryChecked g.C.Core.hear_out_of_memory v c.args.port c.args.bytes.now c.args.now new) c.self.view_is
     (none, refused, refl))
