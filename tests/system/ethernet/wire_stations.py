@@ -3,6 +3,7 @@ what it keeps back and counts, and what goes on from one end of a wire to others
 import random
 import signal
 import struct
+import time
 
 from site_packets import ipx
 from site_world import free_port, node, until
@@ -16,6 +17,9 @@ NETWORKS, COUNTS = dict(zip(KINDS, ["00000021", "00000022", "00000023", "0000002
 OUTER = "00000011"
 BODIES = [0, 1, 2, 15, 16, 17, 18, 29, 30, 31, 533, 534, 1461, 1462]
 UNKNOWN = "02000000ffff"
+# A group of stations, a network of which only forged packets tell, and how many packets go to the group: a port lets 16 pass at
+# once and 8 more each second.
+GROUP, FORGED, TO_GROUP, AT_ONCE, PER_SECOND = "010000000001", "00000077", 100, 16, 8
 OTHER_TYPES = [0x0800, 0x0806, 0x86dd, 0x8138, 0x0600, 0x05dd, 0x05ff]
 OTHER_LINKS = ["424203", "f0f003", "e00403", "e0e0af", "aaaa030000f88137", "aaaa030000000800"]
 
@@ -43,7 +47,7 @@ class Stations:
         self.stranger = End(UdpPort(OUTER, ROUTER, udp_port, []), (STRANGER, udp_port), node(STRANGER))
         self.router = Router(wires, "stations", ports)
         self.all = [end for ends in self.ends.values() for end in ends] + [self.host]
-        self.fences = 0
+        self.fences = self.forged = self.limited = 0
 
     def packet(self, end, to, body, kind=0, source_network=None, socket="4002"):
         """A packet of a station; `to` is a network and a node."""
@@ -235,15 +239,45 @@ def check_hub(it, kind, joined):
     it.settle(f"a station is where it was heard last, {kind}")
 
 
+def check_groups(it):
+    """Routes and requests in the name of all stations, of a group and of zero; and packets for a group."""
+    end, giver = it.ends["802.3"][0], it.ends["802.2"][0]
+    port = end.port
+    for source in (EVERYBODY, GROUP, "0" * 12):
+        for body in (routes([(FORGED, 1, 1)]), ALL_ROUTES):
+            packet = ipx(1, (port.network, port.node, RIP), (port.network, source, RIP), body)
+            end.send(frame(port.kind, port.node, end.station, packet), "handed_on")
+            it.forged += 1
+    it.fence(end)
+    giver.packet(it.packet(giver, (FORGED, UNKNOWN), b"by no route"))
+    it.settle("a route told as all stations, a group or zero is not learned, and a request is not answered")
+    began, packet = time.monotonic(), it.packet(giver, (port.network, GROUP), b"to a group")
+    for _ in range(TO_GROUP):
+        giver.packet(packet)
+    it.fence(giver)
+    most = AT_ONCE + int((time.monotonic() - began) * PER_SECOND) + 1
+    sent = port.sends(GROUP, passed_on(packet, giver.port.network))
+    passed = end.take().count(sent)
+    it.limited = TO_GROUP - passed
+    it.wires.check("packets for a group are limited as those for all", 0 < passed <= most, f"{passed} of {TO_GROUP}, at most {most}")
+    for one in port.ends:
+        one.wanted += [sent] * passed
+    it.settle("those that pass go to each end of the wire")
+
+
 def check_told(it, strangers):
     """What the router counts, and says."""
-    wanted = {"ipx_frames_unknown_senders_total": strangers}
+    wanted = {"ipx_frames_unknown_senders_total": strangers, 'ipx_filtered_total{reason="group_source"}': it.forged,
+              'ipx_filtered_total{reason="directed_broadcast"}': it.limited}
     for number, port in enumerate(it.wires_of, 1):
         wanted.update(port.figures(number))
     found = it.router.figures(lambda found: all(found.get(name) == value for name, value in wanted.items()))
     wrong = {name: (found.get(name), value) for name, value in wanted.items() if found.get(name) != value}
     it.wires.check("all that came is counted, each by what became of it", not wrong,
                    f"(found, wanted): {wrong}" if wrong else f"{len(wanted)} figures")
+    words = "RIP or SAP with a group or zero source node, the last from "
+    told = until(lambda: any(words in line for line in it.router.process.said()), 15)
+    it.wires.check("the router tells who has a group for its source", told, "" if told else str(it.router.process.said()[-3:]))
     ends = [end for ends in it.ends.values() for end in ends]
 
     def taken():
@@ -272,6 +306,7 @@ def check_stations(wires):
     strangers = check_strangers(it)
     check_hub(it, "802.3", True)
     check_hub(it, "802.2", False)
+    check_groups(it)
     check_told(it, strangers)
     wires.check("the router goes on", not it.router.process.is_over())
     it.router.process.end()
