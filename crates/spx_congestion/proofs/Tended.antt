@@ -17,6 +17,9 @@ kept f p now timed again =
     same_if f (is_over (waits_till p) now) x (if is_over (missing_at p) now then y else p) (f p) timed
     (same_if f (is_over (missing_at p) now) y p (f p) again refl)
 
+pub tended_wait : (p : PacerView) (now : ℕ) → (tended p now).trip.wait ≡ p.trip.wait
+tended_wait p now = kept (λ q. q.trip.wait) p now refl refl
+
 pub tended_credit : (p : PacerView) (now : ℕ) → (tended p now).credit ≡ p.credit
 tended_credit p now = kept (λ q. q.credit) p now refl refl
 

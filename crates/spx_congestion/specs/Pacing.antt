@@ -6,7 +6,7 @@ use Rattle.spx_link.specs.declared.numbers.Numbers.{Numbers}
 use Rattle.spx_congestion.specs.declared.plan.Plan.{Plan}
 use Rattle.spx_congestion.specs.declared.sent_kind.SentKind.{SentKind}
 use Rattle.spx_congestion.specs.declared.sent_kind.SentKind.TheVariants as Gaves
-use Rattle.spx_congestion.specs.Measured.{TripView, doubled_wait, end_wait, slack}
+use Rattle.spx_congestion.specs.Measured.{IsBounded, TripView, doubled_wait, end_wait, slack}
 
 -- positions count units from 0. `out` units from `base` on are outstanding. `left` of them were received or
 -- are given up, and `in_flight` were sent again. Those from `from` up to `to` are to be sent again. The
@@ -125,11 +125,14 @@ holds_back p = is_some (place_again p) || (nat_lt p.credit 256 && nat_lt 0 (spar
 abbrev pub asks_often : PacerView → Bool
 asks_often p = p.ended && ((p.out == 1) || nat_lt 0 p.trip.doubled)
 
--- until when the pacer waits for an acknowledgement. If the peer is asked often, no shorter than until the
--- first outstanding unit is sent again for that reason
+-- how long the pacer waits for an acknowledgement. If the peer is asked often, no shorter than until the first
+-- outstanding unit is sent again for that reason
+abbrev pub wait_of : PacerView → ℕ
+wait_of p = if asks_often p then max (doubled_wait p.trip) (end_wait p.trip) else doubled_wait p.trip
+
+-- until when it waits for one
 abbrev pub waits_till : PacerView → Option ℕ
-waits_till p =
-    option_map (λ since. behind since (if asks_often p then max (doubled_wait p.trip) (end_wait p.trip) else doubled_wait p.trip)) p.timer
+waits_till p = option_map (λ since. behind since (wait_of p)) p.timer
 
 -- when the first outstanding unit, which was sent again, counts as missing again: after a round trip and its
 -- tolerance, which doubles each time, up to 64 times. None if nothing is repaired, or others are to be sent
@@ -193,9 +196,19 @@ abbrev pub is_double : Numbers → Numbers → Bool
 is_double before after =
     nat_le before.out after.out && nat_lt 0 after.out && nat_le after.room before.room && (before.expected == after.expected)
 
--- if units are outstanding, the pacer waits for an acknowledgement: since before, or from now on
-abbrev pub WaitsOn : Option ℕ → ℕ → ℕ → Option ℕ → Type 0
-WaitsOn timer out now timer' = (timer' ≡ waited_since timer out now) ⊎ ((0 < out) × (timer' ≡ Some now))
+-- a packet took a unit out of flight while missing ones are repaired, and no timeout came since anything new
+-- was acknowledged
+pub record TakesOut (old : PacerView) (out now : ℕ) (new : PacerView) : Type 0 where
+  pub some : 0 < out
+  pub mends : IsTrue old.mends
+  pub first : old.trip.doubled ≡ 0
+  pub fewer : flight new < flight (with_outstanding old out now)
+
+-- if units are outstanding, the pacer waits for an acknowledgement: since before, or since a packet now that
+-- took a unit out of flight
+abbrev pub WaitsOn : PacerView → ℕ → ℕ → PacerView → Type 0
+WaitsOn old out now new = (new.timer ≡ waited_since old.timer out now)
+    ⊎ ((new.timer ≡ Some now) × TakesOut old out now new)
 
 -- while it repairs, the first outstanding unit was sent again now, or when it was before. It was not missing
 -- more often since
@@ -227,7 +240,7 @@ given_by p Gaves.Again now =
 given_by p Gaves.Other now = p
 
 -- a pacer that plans for a link with so many units outstanding has done what was due, and its credit grew.
--- Its window is 4 to 8,192 units
+-- Its window is 4 to 8,192 units, and its timeout has its bounds
 pub record Tends (old : PacerView) (out now : ℕ) (new : PacerView) : Type 0 where
   pub due : new ≡ record (tended (with_outstanding old out now) now) {
     window = new.window;
@@ -236,3 +249,4 @@ pub record Tends (old : PacerView) (out now : ℕ) (new : PacerView) : Type 0 wh
   }
   pub grows : GrowsCredit old now new
   pub wide : (1024 ≤ new.window) × (new.window ≤ 2097152)
+  pub timed : IsBounded new.trip

@@ -1,7 +1,10 @@
 //! What the pacer learns from a packet that the link read.
 
-ghost use Rattle.std.specs.Prelude.{◌≡◌, ◌+◌, ◌-◌, ◌<◌, ◌≤◌, ◌⊎◌, None, Some, false, true};
-ghost use Rattle.spx_congestion.specs.Pacing.{MendsOn, WaitsOn, behind, is_double, waited_since};
+ghost use Rattle.std.specs.Prelude.{◌≡◌, ◌+◌, ◌-◌, ◌<◌, ◌≤◌, ◌⊎◌, ◌&&◌, ◌==◌, IsTrue, None, Some};
+ghost use Rattle.std.specs.Prelude.{false, true};
+ghost use Rattle.spx_congestion.specs.Measured.{IsBounded};
+ghost use Rattle.spx_congestion.specs.Pacing.{MendsOn, WaitsOn, behind, flight, is_double};
+ghost use Rattle.spx_congestion.specs.Pacing.{waited_since};
 ghost use Rattle.spx_congestion.specs.Pacing.{with_outstanding};
 
 use crate::loss_recovery::LossRecovery;
@@ -23,8 +26,13 @@ impl Pacer {
         ensures counts { self.new.out ≡ after.out }
         ensures acknowledged { after.out < before.out
             → (self.new.timer ≡ waited_since None after.out now) × (self.new.trip.doubled ≡ 0) }
-        ensures waits { before.out ≤ after.out → WaitsOn self.old.timer after.out now self.new.timer
+        ensures waits { before.out ≤ after.out → WaitsOn self.old after.out now self.new
             × (self.new.trip.doubled ≡ self.old.trip.doubled) }
+        // If nothing is acknowledged and nothing taken out of flight, the wait is as it was.
+        ensures still { before.out ≤ after.out
+            → flight (with_outstanding self.old after.out now) ≤ flight self.new
+            → self.new.timer ≡ waited_since self.old.timer after.out now }
+        ensures timed { IsBounded self.new.trip }
         ensures counted { before.out ≤ after.out → is_double before after ≡ false
             → self.new ≡ record (with_outstanding self.old after.out now) { trip = self.new.trip } }
         ensures mends { MendsOn self.old now self.new }
@@ -70,6 +78,7 @@ impl Pacer {
         ensures credit { (self.new.credit ≡ self.old.credit) × (self.new.tick ≡ self.old.tick) }
         ensures mends { MendsOn self.old now self.new }
         ensures ended { self.new.ended ≡ self.old.ended }
+        ensures timed { IsBounded self.new.trip }
     {
         if self.dup_acks == 0 && !self.repair.is_on() {
             self.measure(units, now);
@@ -139,29 +148,43 @@ impl Pacer {
     /// A duplicate was received.
     fn doubled(&mut self, now: u64)
         ensures counts { self.new.out ≡ self.old.out }
-        ensures timer { (self.new.timer ≡ self.old.timer) ⊎ (self.new.timer ≡ Some now) }
+        ensures timer { (self.new.timer ≡ self.old.timer) ⊎ ((self.new.timer ≡ Some now)
+            × IsTrue self.old.mends × (self.old.trip.doubled ≡ 0)
+            × (flight self.new < flight self.old)) }
         ensures base { self.new.base ≡ self.old.base }
         ensures credit { (self.new.credit ≡ self.old.credit) × (self.new.tick ≡ self.old.tick) }
         ensures trip { self.new.trip ≡ self.old.trip }
         ensures ended { self.new.ended ≡ self.old.ended }
         ensures mends { MendsOn self.old now self.new }
+        ensures timed { IsBounded self.new.trip }
     {
         if self.ignore > 0 {
             self.ignore -= 1;
             return;
         }
         self.dup_acks = self.dup_acks.saturating_add(1);
+        let flight = self.flight();
         if self.repair.counts_repairs() && self.in_flight > 0 {
             self.in_flight -= 1;
         } else if self.left < self.out {
             self.left += 1;
         }
         if self.repair.is_on() {
-            self.timer = Some(now);
+            if self.flight() < flight && self.waits_anew() {
+                self.timer = Some(now);
+            }
             self.widen();
         } else if self.first_is_missing() {
             self.enter(now);
         }
+    }
+
+    /// Whether a duplicate begins the wait anew. After a timeout it does not, since the first
+    /// outstanding unit is sent again only at the next one.
+    fn waits_anew(&self) -> bool
+        ensures { result ≡ (self.now.mends && (self.now.trip.doubled == 0)) }
+    {
+        self.repair.is_on() && !self.repair.timed && self.trip.is_first_wait()
     }
 
     /// Whether the duplicates mean that the first outstanding unit is missing, and not that a

@@ -3,6 +3,8 @@
 ghost use Rattle.std.specs.Prelude.{ℕ, ◌≡◌, ◌+◌, ◌<◌, ◌≤◌};
 ghost use Rattle.spx_congestion.specs.Pacing.{PacerView, Tends, plan_of};
 ghost use Rattle.spx_congestion.specs.Timeouts.{GivesUpAfterTen};
+ghost use Rattle.spx_congestion.specs.Waiting.{NothingElsePostpones, TimeoutsLast};
+ghost use Rattle.spx_congestion.specs.Waiting.{WaitsAreBounded};
 
 /// A unit that is held back only for lack of credit is sent a quarter of a second later. From any
 /// pacer, of two plans 256 ms apart with nothing outstanding, the second lets a unit go. What the
@@ -17,4 +19,22 @@ pub fn plans_go_on()
 /// acknowledged or the pacer was made. It may plan, hear and give anything else between.
 pub fn ten_timeouts_give_up()
     ensures { GivesUpAfterTen }
+{}
+
+/// A packet that acknowledges nothing new and takes no unit out of flight postpones no timeout, nor
+/// does any packet without a new acknowledgement after a timeout. So a peer that only asks whether
+/// the sender is there does not keep it waiting. When the wait since the last news is over, a plan
+/// counts a timeout, and the first outstanding unit is to be sent again.
+pub fn nothing_else_postpones()
+    ensures { NothingElsePostpones }
+{}
+
+/// Each wait for an acknowledgement lasts 200 ms to 60 s.
+pub fn waits_are_bounded()
+    ensures { WaitsAreBounded }
+{}
+
+/// So ten timeouts in a row last two seconds at least.
+pub fn timeouts_last()
+    ensures { TimeoutsLast }
 {}

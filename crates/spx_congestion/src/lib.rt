@@ -21,6 +21,7 @@ mod round_trip;
 mod send_budget;
 mod send_times;
 mod sent_kind;
+mod timeout;
 mod window;
 
 pub use pacer::Pacer;

@@ -1,7 +1,7 @@
 //! The state of a pacer.
 
 ghost use Rattle.std.specs.Prelude.{◌≡◌, ◌&&◌, IfOk, is_some, not};
-ghost use Rattle.spx_congestion.specs.Measured.{trip_of};
+ghost use Rattle.spx_congestion.specs.Measured.{IsBounded, trip_of};
 ghost use Rattle.spx_congestion.specs.Pacing.{PacerView, flight, made_pacer, place_again};
 ghost use Rattle.spx_congestion.specs.Pacing.{with_outstanding};
 
@@ -145,7 +145,8 @@ impl Pacer {
 
     /// So many units are outstanding now, as the link says.
     pub(crate) fn count(&mut self, out: u16, now: u64)
-        ensures { self.new ≡ with_outstanding self.old out now }
+        ensures value { self.new ≡ with_outstanding self.old out now }
+        ensures timed { IsBounded self.new.trip }
     {
         self.out = out;
         self.left = self.left.min(out);

@@ -1,6 +1,7 @@
 //! What the link may do at its next poll.
 
 ghost use Rattle.std.specs.Prelude.{◌≡◌, ◌+◌, ◌<◌, ◌≤◌, IfSome, IsTrue};
+ghost use Rattle.spx_congestion.specs.Measured.{IsBounded};
 ghost use Rattle.spx_congestion.specs.Pacing.{Tends, holds_back, is_over, plan_of, spare, tended};
 ghost use Rattle.spx_congestion.specs.Pacing.{waits_till};
 
@@ -75,6 +76,7 @@ impl Pacer {
         ensures held { result.window ≤ self.now.out → 0 < spare self.now → self.now.out < 8192
             → IsTrue (holds_back self.now) }
         ensures wide { (1024 ≤ self.now.window) × (self.now.window ≤ 2097152) }
+        ensures timed { IsBounded self.now.trip }
     {
         if !self.credit.is_enough() {
             return Plan {

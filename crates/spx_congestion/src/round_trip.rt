@@ -1,17 +1,10 @@
 //! The measured round trip, and the timeout of an acknowledgement (RFC 6298).
 
-ghost use Rattle.std.specs.Prelude.{◌≡◌, ◌+◌, ◌-◌, ◌^◌, min};
+ghost use Rattle.std.specs.Prelude.{◌≡◌, ◌==◌, ◌+◌, ◌-◌, ◌^◌, min};
 ghost use Rattle.spx_congestion.specs.Measured.{doubled_wait, slack, trip_of};
 
 use crate::least_trip::LeastTrip;
-
-/// The timeout before anything is measured, in milliseconds.
-const FIRST_WAIT: u64 = 500;
-
-/// The least and the greatest timeout, without doubling.
-const LEAST_WAIT: u64 = 200;
-
-const MAX_WAIT: u64 = 60_000;
+use crate::timeout::Timeout;
 
 /// The greatest timeout that doubling gives.
 const MAX_DOUBLED: u64 = 4000;
@@ -35,7 +28,8 @@ pub struct RoundTrip {
     variation: u64,
     /// The round trip of the request, which is no sample.
     first: Option<u64>,
-    wait: u64,
+    /// The timeout without doubling.
+    wait: Timeout,
     /// How often in a row the timeout passed.
     doubled: u32,
     least: LeastTrip,
@@ -53,7 +47,7 @@ impl RoundTrip {
             smooth: None,
             variation: 0,
             first: None,
-            wait: FIRST_WAIT,
+            wait: Timeout::new(),
             doubled: 0,
             least: LeastTrip::new(),
             recent: [0; RECENT],
@@ -66,7 +60,7 @@ impl RoundTrip {
         ensures { self.new.doubled ≡ self.old.doubled }
     {
         self.first = Some(trip);
-        self.wait = trip.saturating_mul(3).max(LEAST_WAIT);
+        self.wait = Timeout::of(trip.saturating_mul(3));
     }
 
     /// A unit that was sent only once was acknowledged now.
@@ -85,10 +79,7 @@ impl RoundTrip {
             }
         };
         self.smooth = Some(smooth);
-        self.wait = (smooth / 8)
-            .saturating_add(self.variation.max(1))
-            .max(LEAST_WAIT)
-            .min(MAX_WAIT);
+        self.wait = Timeout::of((smooth / 8).saturating_add(self.variation.max(1)));
         self.least.note(trip, now);
         self.note(trip);
     }
@@ -123,7 +114,7 @@ impl RoundTrip {
         match (self.smooth, self.first) {
             (Some(smooth), _) => (smooth / 8).max(1),
             (None, Some(first)) => first.max(1),
-            (None, None) => self.wait.max(1),
+            (None, None) => self.wait.millis().max(1),
         }
     }
 
@@ -161,29 +152,29 @@ impl RoundTrip {
 
     /// The timeout without doubling.
     pub fn plain_wait(&self) -> u64 {
-        self.wait
+        self.wait.millis()
     }
 
     /// The timeout of an acknowledgement.
     pub fn wait(&self) -> u64
         ensures { result ≡ doubled_wait (trip_of self.now) }
     {
+        let wait = self.wait.millis();
         let times = 2_u64.saturating_pow(self.doubled);
-        self.wait
-            .saturating_mul(times)
-            .min(MAX_DOUBLED)
-            .max(self.wait)
+        wait.saturating_mul(times).min(MAX_DOUBLED).max(wait)
     }
 
     /// If only the end of a connection is outstanding, how long to wait before it is sent again.
     pub fn end_wait(&self) -> u64
         ensures { result ≡ Rattle.spx_congestion.specs.Measured.end_wait (trip_of self.now) }
     {
-        self.wait.max(LEAST_END_WAIT).min(MAX_END_WAIT)
+        self.wait.millis().max(LEAST_END_WAIT).min(MAX_END_WAIT)
     }
 
     /// Whether no timeout passed since the last acknowledgement.
-    pub fn is_first_wait(&self) -> bool {
+    pub fn is_first_wait(&self) -> bool
+        ensures { result ≡ (self.now.doubled == 0) }
+    {
         self.doubled == 0
     }
 

@@ -17,12 +17,12 @@ returns-clause-tends c =
     (let seen = ap (λ (p : PacerView). p.tick) c.self.view_is in
     let due = ap (λ (p : PacerView). p.tick) c.tend.ensures.value in
     let kept = tended_tick counted now in
-    let same = ap (λ (p : PacerView). p.tick) c.count.ensures in cc) in
+    let same = ap (λ (p : PacerView). p.tick) c.count.ensures.value in cc) in
     let credit : held.amount ≡ old.credit =
     (let seen = ap (λ (p : PacerView). p.credit) c.self.view_is in
     let due = ap (λ (p : PacerView). p.credit) c.tend.ensures.value in
     let kept = tended_credit counted now in
-    let same = ap (λ (p : PacerView). p.credit) c.count.ensures in cc) in
+    let same = ap (λ (p : PacerView). p.credit) c.count.ensures.value in cc) in
     let grown : ℕ → ℕ → ℕ = λ t n. if nat_lt t now then min (n + rate * (now - t)) (max (rate * 4) 2560) else n in
     record {
       due = first_of (search rules, grind (arith, common_steps));
@@ -33,6 +33,7 @@ returns-clause-tends c =
         tick = c.grow.ensures.tick ∙ ap (λ t. max t now) tick;
       };
       wide = first_of (search rules, grind (arith, common_steps));
+      timed = first_of (search rules, grind (arith, common_steps));
     }
 
 pub returns-clause-moves : goal.returns-clause-moves
