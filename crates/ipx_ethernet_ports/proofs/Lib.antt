@@ -1,2 +1,3 @@
 pub mod Ends
 pub mod Hubs
+pub mod Staying

@@ -15,4 +15,4 @@ mod taking;
 pub use end_sockets::{EndSockets, FrameCame};
 pub use ethernet_ports::EthernetPorts;
 pub use memory::{MemoryEnds, MemoryFrame};
-pub use sockets::{EthernetSockets, Place};
+pub use sockets::EthernetSockets;

@@ -1,31 +1,26 @@
 //! UDP sockets for Ethernet ports: each datagram is one Ethernet frame.
 
-ghost use Rattle.std.specs.Prelude.{◌≡◌, ◌<◌, ◌≤◌, ◌↔◌, ◌++◌, ◌∷◌, [], Bool, IfOk, IfSome, IsSome, None, Ok, OnErr, OnOk, false, is_some, length, slice_index, slice_set, true};
+ghost use Rattle.std.specs.Prelude.{◌≡◌, ◌<◌, ◌≤◌, ◌↔◌, ◌++◌, ◌∷◌, [], Bool, IfOk, IfSome, IsSome, None, Ok, OnErr, OnOk, Some, false, is_some, length, slice_get, slice_index, slice_set, take, true};
 ghost use Rattle.ipx_carrier.specs.Counting.{raised};
+ghost use Rattle.ipx_carrier.specs.Traces.{received_from, sent_to};
 ghost use Rattle.ipx_carrier.specs.ReadySet.{AsksMarked, IsFilteredOrAnswer, is_port_marked};
 ghost use Rattle.ipx_ethernet_ports.specs.EndTraffic.{failures_counted};
-ghost use Rattle.ipx_ethernet_ports.specs.EthernetAddresses.{end_at_place, remote_counts, is_place, remote_places};
+ghost use Rattle.ipx_ethernet_ports.specs.EthernetAddresses.{IsUnknownOrNothing, ReceivesFrame, SendsFrame, bound_places, end_at_place, is_place, remote_counts, remote_places};
+ghost use Rattle.std.specs.declared.net.socket_addr.SocketAddr.{SocketAddr};
 
 use crate::end_sockets::{EndSockets, FrameCame};
-use ipx_carrier::{DeviceFault, ReadySet, bind_nonblocking, saturating_increment, socket_addr};
+use ipx_carrier::{DeviceFault, PlacedSocket, ReadySet, saturating_increment};
 use std::alloc::Global;
 use std::io;
 use std::io::ErrorKind;
-use std::net::{Net, SocketAddr, UdpSocket};
+use std::net::{Net, SocketAddr, SocketAddrV4};
 use std::os::fd::{AsRawFd, RawFd};
-
-/// An address of a port or a remote: an IP address, and a UDP port there.
-#[derive(Clone, Copy, PartialEq, Eq)]
-pub struct Place {
-    pub ip: [u8; 4],
-    pub udp_port: u16,
-}
 
 /// The socket of a port, and the addresses of its remotes.
 #[derive(Drop)]
 pub struct EthernetSocket {
-    socket: UdpSocket,
-    ends: Vec<Place>,
+    socket: PlacedSocket,
+    ends: Vec<SocketAddrV4>,
 }
 
 /// Sockets that have a UDP socket for each port. Frames are sent to the addresses of its remotes,
@@ -51,21 +46,57 @@ pub struct EthernetSockets {
 const TRIES: u32 = 8;
 
 /// Whether a datagram came from this address.
-fn is_at(place: &Place, from: SocketAddr) -> bool
+fn is_at(place: &SocketAddrV4, from: SocketAddr) -> bool
     ensures { result ≡ is_place from place.now }
 {
     match from {
-        SocketAddr::V4(from) => place.ip == from.ip().octets() && place.udp_port == from.port(),
+        SocketAddr::V4(from) => *place == from,
         SocketAddr::V6(_) => false,
     }
 }
 
 /// The remote from which a datagram came.
-fn end_at(ends: &[Place], from: SocketAddr) -> Option<usize>
+fn end_at(ends: &[SocketAddrV4], from: SocketAddr) -> Option<usize>
     ensures first { result ≡ end_at_place from ends.now }
     ensures there { IfSome result (λ end. end < length ends.now) }
 {
     ends.iter().position(|place| is_at(place, from))
+}
+
+impl EthernetSocket {
+    /// Sends a frame to a remote. The error is the system's, and nothing is then sent.
+    ///
+    /// The remote must exist.
+    fn send(&mut self, end: usize, bytes: &[u8]) -> io::Result<()>
+        requires { end < length self.old.ends.items }
+        ensures sent { OnOk result (IfSome (slice_get self.old.ends.items end) (λ to.
+            self.new ≡ record self.old { socket = sent_to self.old.socket to bytes.now })) }
+        ensures refused { OnErr result (self.new ≡ self.old) }
+        ensures ends { self.new.ends ≡ self.old.ends }
+    {
+        self.socket.send_to(self.ends[end], bytes)
+    }
+
+    /// Receives a frame, and says its size and which remote sent it, if one did. `None` means that
+    /// nothing waits.
+    fn receive(&mut self, room: &mut [u8]) -> io::Result<Option<(usize, Option<usize>)>>
+        ensures came { IfOk result (λ came. IfSome came (λ c. (from : SocketAddr)
+            × (self.new ≡ record self.old {
+              socket = received_from self.old.socket from (take c.0 room.new);
+            })
+            × (end_at_place from self.old.ends.items ≡ c.1))) }
+        ensures there { IfOk result (λ came. IfSome came (λ c. IfSome c.1 (λ end.
+            end < length self.old.ends.items))) }
+        ensures within { IfOk result (λ came. IfSome came (λ c. c.0 ≤ length room.old)) }
+        ensures nothing { result ≡ Ok None → self.new ≡ self.old }
+        ensures refused { OnErr result (self.new ≡ self.old) }
+        ensures ends { self.new.ends ≡ self.old.ends }
+    {
+        let Some((size, from)) = self.socket.receive(room)? else {
+            return Ok(None);
+        };
+        Ok(Some((size, end_at(&self.ends, from))))
+    }
 }
 
 impl EthernetSockets {
@@ -87,7 +118,14 @@ impl EthernetSockets {
 
     /// Binds one more port at an address, with these remotes. The error is the system's or out of
     /// memory, and the ports are then as before.
-    pub fn bind<R: Net>(&mut self, rt: &R, at: Place, ends: Vec<Place>) -> io::Result<()>
+    pub fn bind<R: Net>(
+        &mut self,
+        rt: &R,
+        at: SocketAddrV4,
+        ends: Vec<SocketAddrV4>,
+    ) -> io::Result<()>
+        ensures at { OnOk result (bound_places self.new.ethernet.items
+            ≡ bound_places self.old.ethernet.items ++ at ∷ []) }
         ensures bound { OnOk result (remote_counts self.new.ethernet.items
             ≡ remote_counts self.old.ethernet.items ++ length ends.items ∷ []) }
         ensures places { OnOk result (remote_places self.new.ethernet.items
@@ -96,7 +134,7 @@ impl EthernetSockets {
         ensures refused { OnErr result ((self.new.ethernet.items ≡ self.old.ethernet.items)
             × (self.new.marks ≡ self.old.marks)) }
     {
-        let socket = bind_nonblocking(rt, at.ip, at.udp_port)?;
+        let socket = PlacedSocket::bind(rt, at)?;
         let wire = EthernetSocket { socket, ends };
         let count = self.ethernet.len();
         if self.ethernet.push(wire).is_err() {
@@ -178,25 +216,24 @@ impl EndSockets for EthernetSockets {
     fn send(&mut self, port: usize, end: usize, bytes: &[u8]) -> Result<(), DeviceFault>
         requires there { port < length (remote_counts self.old.ethernet.items) }
         requires end { end < slice_index (remote_counts self.old.ethernet.items) port }
+        // The port's socket sent the bytes to the address of the remote, or nothing.
+        ensures to { OnOk result (SendsFrame port end bytes.now self.old.ethernet.items
+            self.new.ethernet.items) }
+        ensures nowhere { OnErr result (self.new.ethernet.items ≡ self.old.ethernet.items) }
+        ensures ends { remote_counts self.new.ethernet.items ≡ remote_counts self.old.ethernet.items }
         // The system took it or refused it, and that is counted.
         ensures sent { OnOk result (self.new.sent ≡ raised self.old.sent) }
         ensures refused { OnErr result (self.new.sent ≡ self.old.sent) }
         ensures failures { self.new.failures ≡ failures_counted result self.old.failures }
-        ensures rest { (self.new.ethernet ≡ self.old.ethernet) × (self.new.faults ≡ self.old.faults)
+        ensures rest { (self.new.faults ≡ self.old.faults)
             × (self.new.unknown_senders ≡ self.old.unknown_senders) × (self.new.marks ≡ self.old.marks) }
     {
-        let wire = &self.ethernet[port];
-        let to = wire.ends[end];
-        match wire.socket.send_to(bytes, socket_addr(to.ip, to.udp_port)) {
-            Ok(count) if count == bytes.len() => {
-                saturating_increment(&mut self.sent);
-                Ok(())
-            }
-            _ => {
-                saturating_increment(&mut self.failures);
-                Err(DeviceFault)
-            }
+        if self.ethernet[port].send(end, bytes).is_err() {
+            saturating_increment(&mut self.failures);
+            return Err(DeviceFault);
         }
+        saturating_increment(&mut self.sent);
+        Ok(())
     }
 
     fn receive(&mut self, port: usize, room: &mut [u8]) -> Result<Option<FrameCame>, DeviceFault>
@@ -209,8 +246,12 @@ impl EndSockets for EthernetSockets {
         ensures marked { is_port_marked self.old.marks port ≡ true → IfOk result (λ answer.
             (came : Bool) × AsksMarked port came self.old.marks self.new.marks
             self.old.faults self.new.faults
-            × IsFilteredOrAnswer came (is_some answer) self.old.unknown_senders self.new.unknown_senders) }
+            × IsFilteredOrAnswer came (is_some answer) self.old.unknown_senders self.new.unknown_senders
+            × IsUnknownOrNothing came port room.new answer self.old.ethernet.items
+            self.new.ethernet.items) }
         // What came from a remote is returned, and what came from an unknown sender is counted.
+        ensures from { IfOk result (λ came. IfSome came (λ c. ReceivesFrame port
+            (take c.size room.new) (Some c.end) self.old.ethernet.items self.new.ethernet.items)) }
         ensures end { IfOk result (λ came. IfSome came (λ c.
             c.end < slice_index (remote_counts self.old.ethernet.items) port)) }
         ensures within { IfOk result (λ came. IfSome came (λ c. c.size ≤ length room.old)) }
@@ -218,24 +259,21 @@ impl EndSockets for EthernetSockets {
             → self.new.unknown_senders ≡ self.old.unknown_senders) }
         ensures filtered { self.old.unknown_senders ≤ self.new.unknown_senders }
         ensures goes_on { OnErr result ⊥ }
+        ensures ends { remote_counts self.new.ethernet.items ≡ remote_counts self.old.ethernet.items }
         ensures faults { self.old.faults ≤ self.new.faults }
-        ensures rest { (self.new.ethernet ≡ self.old.ethernet) × (self.new.sent ≡ self.old.sent)
-            × (self.new.failures ≡ self.old.failures) }
+        ensures rest { (self.new.sent ≡ self.old.sent) × (self.new.failures ≡ self.old.failures) }
     {
         if !self.marks.is_marked(port) {
             return Ok(None);
         }
         for _try in 0..TRIES {
-            let wire = &self.ethernet[port];
-            match wire.socket.recv_from(room) {
-                Ok((size, from)) => {
-                    let Some(end) = end_at(&wire.ends, from) else {
-                        saturating_increment(&mut self.unknown_senders);
-                        return Ok(None);
-                    };
-                    return Ok(Some(FrameCame { end, size }));
+            match self.ethernet[port].receive(room) {
+                Ok(Some((size, Some(end)))) => return Ok(Some(FrameCame { end, size })),
+                Ok(Some((_, None))) => {
+                    saturating_increment(&mut self.unknown_senders);
+                    return Ok(None);
                 }
-                Err(error) if error.kind() == ErrorKind::WouldBlock => {
+                Ok(None) => {
                     self.marks.clear_ready(port);
                     return Ok(None);
                 }

@@ -2,24 +2,26 @@
 
 use crate::fixture::{FIRST, PACKET, PORT, SECOND, ethernet, frame};
 use ipx_carrier::{DeviceFault, PacketSent, PortDriver, PortDriverFilters};
-use ipx_ethernet_ports::{EndSockets, EthernetPorts, EthernetSockets, FrameCame, Place};
+use ipx_ethernet_ports::{EndSockets, EthernetPorts, EthernetSockets, FrameCame};
 use ipx_wire::Node;
 use std::alloc::Global;
 use std::io;
-use std::net::Net;
+use std::net::{Ipv4Addr, Net, SocketAddrV4};
 use std::process::Abort;
 use std::test::Fail;
 
 /// An address that nothing else uses.
-const fn place(udp_port: u16) -> Place {
-    Place {
-        ip: [127, 0, 0, 43],
-        udp_port,
-    }
+fn place(udp_port: u16) -> SocketAddrV4 {
+    SocketAddrV4::new(Ipv4Addr::new(127, 0, 0, 43), udp_port)
 }
 
 /// Sockets of one port.
-fn bound<R: Net>(rt: &R, alloc: Global, at: Place, ends: &[Place]) -> io::Result<EthernetSockets> {
+fn bound<R: Net>(
+    rt: &R,
+    alloc: Global,
+    at: SocketAddrV4,
+    ends: &[SocketAddrV4],
+) -> io::Result<EthernetSockets> {
     let mut sockets = EthernetSockets::new(alloc);
     let ends = ends.to_vec(alloc)?;
     sockets.bind(rt, at, ends)?;
