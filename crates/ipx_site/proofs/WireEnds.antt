@@ -9,15 +9,14 @@ use Rattle.std.specs.declared.net.socket_addr.SocketAddrV4.{SocketAddrV4}
 use Rattle.toml.specs.Data.{Data, Items, as_array}
 use Rattle.toml.specs.View.{items_view}
 use Rattle.toml.specs.declared.value.Value.{Value}
-use Rattle.ipx_ethernet_ports.specs.declared.sockets.Place.{Place}
 use Rattle.ipx_site.specs.Fields.{Reads}
 use Rattle.ipx_site.specs.Values.{AreEach}
-use Rattle.ipx_site.specs.EthernetValues.{AreEthernetEnds, IsEthernetEnd, ReadsEthernetEnds, WritesPlace, is_somewhere, socket_at}
+use Rattle.ipx_site.specs.EthernetValues.{AreEthernetEnds, IsEthernetEnd, ReadsEthernetEnds, WritesPlace, is_somewhere}
 use Rattle.ipx_site.proofs.Each.{as_many}
 
 -- an array of none, or of more than 256, lists no ends
 pub not_so_many : (d : Data) (values : List Value) → as_array d ≡ Some (items_view values) → (1 ≤ length values → length values ≤ 256 → ⊥)
-    → (ends : Vec Place Global) → AreEthernetEnds d ends → ⊥
+    → (ends : Vec SocketAddrV4 Global) → AreEthernetEnds d ends → ⊥
 not_so_many d values is none ends are =
     let same : are.0 ≡ items_view values = same_Some are.0 (items_view values) (sym are.1 ∙ is) in
     let all = as_many IsEthernetEnd values ends.items (subst (λ (ds : Items). AreEach IsEthernetEnd ds ends.items) same are.2) in
@@ -25,7 +24,7 @@ not_so_many d values is none ends are =
 
 -- any other lists what each of its values means
 pub listed_ends : {E : Type 0} (d : Data) (values : List Value) → as_array d ≡ Some (items_view values) → 1 ≤ length values
-    → length values ≤ 256 → (r : Result (Option (Vec Place Global)) E) → IfOk r (ReadsEthernetEnds (items_view values))
+    → length values ≤ 256 → (r : Result (Option (Vec SocketAddrV4 Global)) E) → IfOk r (ReadsEthernetEnds (items_view values))
     → IfOk r (Reads AreEthernetEnds d)
 listed_ends d values is some few (Err e) reads = tt
 listed_ends d values is some few (Ok None) reads = λ ends are.
@@ -36,11 +35,9 @@ listed_ends d values is some few (Ok (Some v)) reads =
     (items_view values, is, reads, omega (arith, all, some), omega (arith, all, few))
 
 -- a text gives one place: if no remote can be there, it gives no remote
-pub nowhere : (text : List ℕ) (a : SocketAddrV4) (place : Place) → IsSocketV4Text text a → socket_at place ≡ a
-    → is_somewhere place ≡ false → (p : Place) → WritesPlace text p → ⊥
-nowhere text a place is at none p (writes, some) =
-    let one : socket_at place ≡ socket_at p = at ∙ IsSocketV4Text_unique text a (socket_at p) is writes in
-    let back : SocketAddrV4 → Place = λ s. record { ip = s.ip.octets; udp_port = s.port } in
-    let same : place ≡ p = ap back one in
-    let no : is_somewhere p ≡ false = subst (λ (it : Place). is_somewhere it ≡ false) same none in
+pub nowhere : (text : List ℕ) (place : SocketAddrV4) → IsSocketV4Text text place → is_somewhere place ≡ false
+    → (p : SocketAddrV4) → WritesPlace text p → ⊥
+nowhere text place is none p (writes, some) =
+    let same : place ≡ p = IsSocketV4Text_unique text place p is writes in
+    let no : is_somewhere p ≡ false = subst (λ (it : SocketAddrV4). is_somewhere it ≡ false) same none in
     absurd (cc)

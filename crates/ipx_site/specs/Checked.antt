@@ -5,6 +5,9 @@ use Rattle.std.specs.Global.{Global}
 use Rattle.std.specs.Cmp.Lexicographic.{pointwise}
 use Rattle.std.specs.Fmt.{decimal}
 use Rattle.std.specs.Int.{w32, to_be_bytes}
+use Rattle.std.specs.Net.Addr.{ipv4_octets}
+use Rattle.std.specs.Net.Socket.{v4_ip, v4_port}
+use Rattle.std.specs.declared.net.socket_addr.SocketAddrV4.{SocketAddrV4}
 use Rattle.std.specs.List.{before_first, flat_map, list_any}
 use Rattle.hex.specs.Hex.{encode_lower}
 use Rattle.ipx_carrier.specs.Mapping.{node_at}
@@ -31,7 +34,6 @@ use Rattle.ipx_site.specs.SourceFilter.{is_peer}
 use Rattle.ipx_site.specs.EthernetValues.{frame_word, is_same_place}
 use Rattle.ipx_wire.specs.declared.address.Network.{Network}
 use Rattle.ipx_wire.specs.declared.address.Node.{Node}
-use Rattle.ipx_ethernet_ports.specs.declared.sockets.Place.{Place}
 
 -- a byte of text from a file or neighbour: itself if it is printable ASCII, otherwise a dot
 abbrev pub shown_byte : ℕ → List ℕ
@@ -87,8 +89,8 @@ rfc1234_text number p =
     ++ (codes " udp " ++ (reached_text p.address p.udp_port ++ (codes " " ++ dealings_text p))))))
 
 -- the place of a remote, after a space
-abbrev pub ethernet_end_text : Place → List ℕ
-ethernet_end_text end = codes " " ++ reached_text end.ip end.udp_port
+abbrev pub ethernet_end_text : SocketAddrV4 → List ℕ
+ethernet_end_text end = codes " " ++ reached_text (ipv4_octets (v4_ip end)) (v4_port end)
 
 -- the word for a port that does not switch frames between its remotes
 abbrev pub joined_text : Bool → List ℕ
@@ -109,7 +111,7 @@ frames_text number p =
     ++ (reached_text p.address p.udp_port ++ (codes " " ++ ethernet_text p))))))))
 
 -- the places of the routers that a port is joined to, if any
-abbrev pub join_text : List Place → List ℕ
+abbrev pub join_text : List SocketAddrV4 → List ℕ
 join_text routers =
     if length routers == 0 then [] else codes " joined" ++ flat_map ethernet_end_text routers
 
@@ -167,7 +169,7 @@ peer_remark whose address earlier peer =
     else []))
 
 -- the remark about a remote that is the port's own place or repeats an earlier remote; empty for any other
-abbrev pub ethernet_end_remark : List ℕ → Place → List Place → Place → List ℕ
+abbrev pub ethernet_end_remark : List ℕ → SocketAddrV4 → List SocketAddrV4 → SocketAddrV4 → List ℕ
 ethernet_end_remark whose own earlier end =
     if is_same_place own end
     then whose ++ (ethernet_end_text end ++ codes " is the port's own address\n")
@@ -176,7 +178,7 @@ ethernet_end_remark whose own earlier end =
     else [])
 
 -- the remark about a joined router at the port's own place; empty for any other
-abbrev pub joined_remark : List ℕ → Place → Place → List ℕ
+abbrev pub joined_remark : List ℕ → SocketAddrV4 → SocketAddrV4 → List ℕ
 joined_remark whose own router =
     if is_same_place own router
     then whose ++ (codes "joined" ++ (ethernet_end_text router ++ codes " is the port's own address\n"))

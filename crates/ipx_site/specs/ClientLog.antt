@@ -3,6 +3,8 @@
 use Rattle.std.specs.Prelude.{ℕ, ◌+◌, ◌-◌, List, [], ◌∷◌, ◌++◌, Bool, not, ◌==◌, ◌&&◌, filter, length, map, slice_get, take, Option, Some, None}
 use Rattle.std.specs.HashSet.{HashSet, contains_by}
 use Rattle.std.specs.List.{list_any}
+use Rattle.std.specs.Net.Addr.{ipv4_octets}
+use Rattle.std.specs.Net.Socket.{v4_ip, v4_port}
 use Rattle.std.specs.Str.{bytes_eq}
 use Rattle.ipxnet_server.specs.declared.clients.Client.{Client}
 use Rattle.ipxnet_server.specs.ServerClients.{are_one_place}
@@ -69,8 +71,8 @@ all_clients port (s ∷ port_indices) servers =
 abbrev pub client_key : PortClient → ClientKey
 client_key c = record {
   port = c.port;
-  ip = c.place.ip;
-  udp_port = c.place.udp_port;
+  ip = ipv4_octets (v4_ip c.place);
+  udp_port = v4_port c.place;
   node = c.node.0;
 }
 

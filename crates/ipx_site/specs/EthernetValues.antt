@@ -4,7 +4,9 @@ use Rattle.std.specs.Cmp.Lexicographic.{pointwise}
 use Rattle.std.specs.Global.{Global}
 use Rattle.std.specs.Int.{w16, to_be_bytes}
 use Rattle.std.specs.List.{list_any}
+use Rattle.std.specs.Net.Addr.{ipv4_octets}
 use Rattle.std.specs.Net.Grammar.{IsSocketV4Text}
+use Rattle.std.specs.Net.Socket.{v4_ip, v4_port}
 use Rattle.std.specs.Str.{bytes_eq}
 use Rattle.std.specs.declared.net.socket_addr.SocketAddrV4.{SocketAddrV4}
 use Rattle.toml.specs.Data.{Data, Items, as_array, as_bool, as_str}
@@ -13,7 +15,6 @@ use Rattle.ipx_ethernet.specs.declared.encapsulation.Encapsulation.{Encapsulatio
 use Rattle.ipx_ethernet.specs.declared.encapsulation.Encapsulation.TheVariants.{Raw, Llc, Snap, EthernetII}
 use Rattle.ipx_wire.specs.AddressText.{spelled_node}
 use Rattle.ipx_wire.specs.declared.address.Node.{Node}
-use Rattle.ipx_ethernet_ports.specs.declared.sockets.Place.{Place}
 use Rattle.ipx_site.specs.Values.{AreEach}
 
 abbrev pub frame_word : Encapsulation → List ℕ
@@ -30,33 +31,30 @@ IsEncapsulation d e = as_str d ≡ Some (frame_word e)
 abbrev pub IsFlag : Data → Bool → Type 0
 IsFlag d b = as_bool d ≡ Some b
 
--- a place as a socket address
-abbrev pub socket_at : Place → SocketAddrV4
-socket_at p = record { ip = record { octets = p.ip }; port = p.udp_port }
-
 -- a remote can be at a place: neither the IP address nor the UDP port is 0
-abbrev pub is_somewhere : Place → Bool
-is_somewhere p = not (bytes_eq p.ip (0 ∷ 0 ∷ 0 ∷ 0 ∷ [])) && not (p.udp_port == 0)
+abbrev pub is_somewhere : SocketAddrV4 → Bool
+is_somewhere p = not (bytes_eq (ipv4_octets (v4_ip p)) (0 ∷ 0 ∷ 0 ∷ 0 ∷ [])) && not (v4_port p == 0)
 
 -- two places are the same
-abbrev pub is_same_place : Place → Place → Bool
-is_same_place a b = pointwise nat_eq b.ip a.ip && (b.udp_port == a.udp_port)
+abbrev pub is_same_place : SocketAddrV4 → SocketAddrV4 → Bool
+is_same_place a b =
+    pointwise nat_eq (ipv4_octets (v4_ip b)) (ipv4_octets (v4_ip a)) && (v4_port b == v4_port a)
 
 -- no place is listed twice
-abbrev pub are_places_distinct : List Place → Bool
+abbrev pub are_places_distinct : List SocketAddrV4 → Bool
 are_places_distinct [] = true
 are_places_distinct (p ∷ ps) = not (list_any (is_same_place p) ps) && are_places_distinct ps
 
 -- an IP address, a colon and a UDP port, where a remote can be
-abbrev pub WritesPlace : List ℕ → Place → Type 0
-WritesPlace text p = IsSocketV4Text text (socket_at p) × (is_somewhere p ≡ true)
+abbrev pub WritesPlace : List ℕ → SocketAddrV4 → Type 0
+WritesPlace text p = IsSocketV4Text text p × (is_somewhere p ≡ true)
 
 -- a string that is such a text
-abbrev pub IsEthernetEnd : Data → Place → Type 0
+abbrev pub IsEthernetEnd : Data → SocketAddrV4 → Type 0
 IsEthernetEnd d p = (text : List ℕ) × (as_str d ≡ Some text) × WritesPlace text p
 
 -- an array of them, 1 to 256
-abbrev pub AreEthernetEnds : Data → Vec Place Global → Type 0
+abbrev pub AreEthernetEnds : Data → Vec SocketAddrV4 Global → Type 0
 AreEthernetEnds d ends = (ds : Items) × (as_array d ≡ Some ds) × AreEach IsEthernetEnd ds ends.items
     × (1 ≤ length ends.items) × (length ends.items ≤ 256)
 
@@ -89,11 +87,11 @@ made_station ip udp_port = record {
 -- ---- relations for private functions
 
 -- the place that a text gives, or that it gives none
-abbrev pub ReadsPlace : List ℕ → Option Place → Type 0
-ReadsPlace text found = MatchOption found ((p : Place) → WritesPlace text p → ⊥) (WritesPlace text)
+abbrev pub ReadsPlace : List ℕ → Option SocketAddrV4 → Type 0
+ReadsPlace text found = MatchOption found ((p : SocketAddrV4) → WritesPlace text p → ⊥) (WritesPlace text)
 
-abbrev pub ReadsEthernetEnds : Items → Option (Vec Place Global) → Type 0
-ReadsEthernetEnds ds found = MatchOption found ((ends : List Place) → AreEach IsEthernetEnd ds ends → ⊥)
+abbrev pub ReadsEthernetEnds : Items → Option (Vec SocketAddrV4 Global) → Type 0
+ReadsEthernetEnds ds found = MatchOption found ((ends : List SocketAddrV4) → AreEach IsEthernetEnd ds ends → ⊥)
     (λ v. AreEach IsEthernetEnd ds v.items)
 
 -- the twelve digits of a text, or that it has none

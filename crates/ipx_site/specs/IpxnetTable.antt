@@ -1,9 +1,9 @@
 -- An ipxnet port in the file of a router: a table `[[port]]`. Defined by this project.
 use Rattle.std.specs.Prelude.{Vec, ◌≡◌, ◌⊎◌, ℕ, List, [], None, true, false}
 use Rattle.std.specs.Global.{Global}
+use Rattle.std.specs.declared.net.socket_addr.SocketAddrV4.{SocketAddrV4}
 use Rattle.toml.specs.Data.{Members, get_member}
 use Rattle.ipxnet_server.specs.ServerClients.{max_server_clients}
-use Rattle.ipx_ethernet_ports.specs.declared.sockets.Place.{Place}
 use Rattle.ipx_site.specs.declared.fault.ConfigError.{ConfigError}
 use Rattle.ipx_site.specs.declared.fault.ConfigError.TheVariants.{Wrong}
 use Rattle.ipx_site.specs.declared.key.Key.TheVariants as Key
@@ -27,14 +27,14 @@ IsPeersFault accept ms table f = ((accept ≡ Who.Peers) × IsMissing Key.Peers 
     ⊎ IsWrong AreAddressesOf Key.Peers ms table f
 
 -- the routers whose ipxnet servers are joined with this one: the places in the file, each once, or none
-abbrev pub AreJoinedRouters : Members → Vec Place Global → Type 0
+abbrev pub AreJoinedRouters : Members → Vec SocketAddrV4 Global → Type 0
 AreJoinedRouters ms join = ((get_member (key_text Key.Join) ms ≡ None) × (join.items ≡ []))
     ⊎ (Holds AreEthernetEnds Key.Join ms join × (are_places_distinct join.items ≡ true))
 
 -- the key for them gives no places, or one of them twice
 abbrev pub IsJoinFault : Members → ℕ → ConfigError → Type 0
 IsJoinFault ms table f = IsWrong AreEthernetEnds Key.Join ms table f
-    ⊎ ((f ≡ Wrong table Key.Join) × ((join : Vec Place Global) × Holds AreEthernetEnds Key.Join ms join
+    ⊎ ((f ≡ Wrong table Key.Join) × ((join : Vec SocketAddrV4 Global) × Holds AreEthernetEnds Key.Join ms join
     × (are_places_distinct join.items ≡ false)))
 
 -- a table describes an ipxnet port, if its kind is that
@@ -55,7 +55,7 @@ pub record IsIpxnetTable (ms : Members) (p : IpxnetPortConfig) : Type 0 where
 -- by it
 abbrev pub IsLastFault : Members → ℕ → ConfigError → Type 0
 IsLastFault ms table f = IsJoinFault ms table f
-    ⊎ ((join : Vec Place Global) × AreJoinedRouters ms join × IsWrong IsDirected Key.Directed ms table f)
+    ⊎ ((join : Vec SocketAddrV4 Global) × AreJoinedRouters ms join × IsWrong IsDirected Key.Directed ms table f)
 
 -- the first fault of the keys for its clients, which follow its node
 abbrev pub IsClientsFault : Members → ℕ → ConfigError → Type 0

@@ -2,15 +2,17 @@
 -- Defined by this project.
 use Rattle.std.specs.Prelude.{◌≡◌, ℕ, List, [], ◌∷◌, ◌++◌, Option, length, map}
 use Rattle.std.specs.List.{flat_map}
+use Rattle.std.specs.Net.Addr.{ipv4_octets}
+use Rattle.std.specs.Net.Socket.{v4_ip}
+use Rattle.std.specs.declared.net.socket_addr.SocketAddrV4.{SocketAddrV4}
 use Rattle.ipx_ethernet.specs.declared.ethernet_port.EthernetPort.{EthernetPort}
 use Rattle.ipx_ethernet.specs.Heard.{SwitchView, new_switch}
+use Rattle.ipx_carrier.specs.Traces.{v4_at}
 use Rattle.ipx_carrier.specs.Turns.{peers_of}
 use Rattle.ipxnet_server.specs.ServerHears.{ServerView, joined_server}
-use Rattle.ipxnet_server.specs.declared.place.Place.{Place as ClientPlace}
 use Rattle.ipxnet_server.specs.declared.port.ServerPort.{ServerPort}
-use Rattle.ipx_ipxnet_ports.specs.ServerAddresses.{ips_heard}
-use Rattle.ipx_ethernet_ports.specs.EthernetAddresses.{remote_places}
-use Rattle.ipx_ethernet_ports.specs.declared.sockets.Place.{Place}
+use Rattle.ipx_ipxnet_ports.specs.ServerAddresses.{bound_places as bound_servers, ips_heard}
+use Rattle.ipx_ethernet_ports.specs.EthernetAddresses.{bound_places, remote_places}
 use Rattle.ipx_carrier.specs.declared.datagrams.Datagrams as OfDevice
 use Rattle.ipx_ipxnet_ports.specs.declared.place_sockets.PlaceSockets as OfPlaces
 use Rattle.ipx_ipxnet_ports.specs.declared.sockets.ServerSockets.{ServerSockets}
@@ -75,35 +77,45 @@ ethernet_port_of p = record { own = p.node; network = p.network; encapsulation =
 abbrev pub switch_of : EthernetPortConfig → SwitchView
 switch_of p = new_switch (ethernet_port_of p) p.joined
 
+-- where the ports of each kind are bound
+abbrev pub datagram_places : List Rfc1234PortConfig → List SocketAddrV4
+datagram_places ports = map (λ p. v4_at p.address p.udp_port) ports
+
+abbrev pub ethernet_places : List EthernetPortConfig → List SocketAddrV4
+ethernet_places ports = map (λ p. v4_at p.address p.udp_port) ports
+
+abbrev pub ipxnet_places : List IpxnetPortConfig → List SocketAddrV4
+ipxnet_places ports = map (λ p. v4_at p.address p.udp_port) ports
+
 -- the places of the remotes of each
-abbrev pub end_places : List EthernetPortConfig → List (List Place)
+abbrev pub end_places : List EthernetPortConfig → List (List SocketAddrV4)
 end_places ports = map (λ p. p.ends.items) ports
 
 -- the server port of a file's ipxnet port, and its server before any client registered
 abbrev pub client_port_of : IpxnetPortConfig → ServerPort
 client_port_of p = record { network = p.network; own = p.node }
 
--- a place of a file as a place of an ipxnet server
-abbrev pub server_place : Place → ClientPlace
-server_place p = record { ip = p.ip; udp_port = p.udp_port }
-
 -- it is joined to the servers of the routers that the file names
 abbrev pub server_of_port : IpxnetPortConfig → ServerView
-server_of_port p = joined_server (client_port_of p) p.clients (map server_place p.join.items)
+server_of_port p = joined_server (client_port_of p) p.clients p.join.items
 
 -- the IP addresses from which clients may register: the named ones and those of joined routers, or all
 abbrev pub registering_at : IpxnetPortConfig → Option (List (List ℕ))
-registering_at p = heard_at_port p.accept (p.peers.items ++ map (λ r. r.ip) p.join.items)
+registering_at p = heard_at_port p.accept (p.peers.items ++ map (λ r. ipv4_octets (v4_ip r)) p.join.items)
 
 -- the ports of a file as those of a router. An RFC 1234 port has its peers, its access list, and a socket
 -- with the UDP port of its peers. An Ethernet port has its switch, and a socket with the places of its
--- remotes. An ipxnet port has its server, and a socket that accepts those that may register
+-- remotes. An ipxnet port has its server, and a socket that accepts those that may register. Each socket is
+-- bound where the file says
 pub record ArePortsBound {gd : OfDevice.Ghosts (SourceFilter UdpSockets)} {ge : OfSockets.Ghosts EthernetSockets} {gl : OfPlaces.Ghosts ServerSockets} (ports : List PortConfig) (r : SitePortsRun gd ge gl) : Type 0 where
   pub port_indices : r.port_indices.items ≡ port_indices_of ports
   pub peers : peers_of r.datagrams.peers.items ≡ site_peers (datagram_ports ports)
   pub access_lists : AccessListPorts (datagram_ports ports) r.datagrams.device.access_lists.items
   pub sockets : map (λ s. s.udp_port) r.datagrams.device.device.sockets.items ≡ udp_ports (datagram_ports ports)
+  pub bound : map (λ s. s.socket.at) r.datagrams.device.device.sockets.items ≡ datagram_places (datagram_ports ports)
   pub switches : r.ethernet.switches.items ≡ map switch_of (ethernet_ports ports)
   pub ends : remote_places r.ethernet.sockets.ethernet.items ≡ end_places (ethernet_ports ports)
+  pub ethernet_bound : bound_places r.ethernet.sockets.ethernet.items ≡ ethernet_places (ethernet_ports ports)
   pub servers : r.servers.servers.items ≡ map server_of_port (ipxnet_ports ports)
+  pub ipxnet_bound : bound_servers r.servers.sockets.sockets.items ≡ ipxnet_places (ipxnet_ports ports)
   pub registering : map ips_heard r.servers.sockets.sockets.items ≡ map registering_at (ipxnet_ports ports)

@@ -1,6 +1,7 @@
 -- What the file gives for a port of any kind. Defined by this project.
+use Rattle.std.specs.declared.net.socket_addr.SocketAddrV4.{SocketAddrV4}
 use Rattle.ipx_wire.specs.declared.address.Network.{Network}
-use Rattle.ipx_ethernet_ports.specs.declared.sockets.Place.{Place}
+use Rattle.ipx_carrier.specs.Traces.{v4_at}
 use Rattle.ipx_site.specs.declared.site.Directed.{Directed}
 use Rattle.ipx_site.specs.declared.site.Kind.{Kind}
 use Rattle.ipx_site.specs.declared.site.Kind.TheVariants as Of
@@ -14,10 +15,10 @@ network_of_kind (Frames p) = p.network
 network_of_kind (Ipxnet p) = p.network
 
 -- where it is bound
-abbrev pub place_of_kind : PortConfig → Place
-place_of_kind (Rfc1234 p) = record { ip = p.address; udp_port = p.udp_port }
-place_of_kind (Frames p) = record { ip = p.address; udp_port = p.udp_port }
-place_of_kind (Ipxnet p) = record { ip = p.address; udp_port = p.udp_port }
+abbrev pub place_of_kind : PortConfig → SocketAddrV4
+place_of_kind (Rfc1234 p) = v4_at p.address p.udp_port
+place_of_kind (Frames p) = v4_at p.address p.udp_port
+place_of_kind (Ipxnet p) = v4_at p.address p.udp_port
 
 abbrev pub kind_of_port : PortConfig → Kind
 kind_of_port (Rfc1234 p) = Of.Rfc1234

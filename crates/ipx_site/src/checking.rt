@@ -13,9 +13,9 @@ use crate::files::load_site;
 use crate::site::{PortConfig, RouterConfig};
 use crate::start_lines::{dotted, end_to_text, port_to_text};
 use crate::static_lines::entries_to_lines;
-use ipx_ethernet_ports::Place;
 use std::alloc::{AllocError, Global};
 use std::io::Write;
+use std::net::SocketAddrV4;
 use std::rt::Files;
 
 /// A remark about the port with this number.
@@ -79,9 +79,9 @@ pub fn peers_to_remarks(
 fn end_to_remark(
     alloc: Global,
     whose: &str,
-    own: Place,
-    earlier: &[Place],
-    end: Place,
+    own: SocketAddrV4,
+    earlier: &[SocketAddrV4],
+    end: SocketAddrV4,
 ) -> Result<String, AllocError>
     ensures { IfOk result (λ t. string_bytes t ≡ ethernet_end_remark whose.now own earlier.now end) }
 {
@@ -100,8 +100,8 @@ fn end_to_remark(
 fn ends_to_remarks(
     alloc: Global,
     whose: &str,
-    own: Place,
-    ends: &[Place],
+    own: SocketAddrV4,
+    ends: &[SocketAddrV4],
 ) -> Result<String, AllocError>
     ensures { IfOk result (λ t. string_bytes t
         ≡ each_after (ethernet_end_remark whose.now own) [] ends.now) }
@@ -118,8 +118,8 @@ fn ends_to_remarks(
 fn joined_to_remark(
     alloc: Global,
     whose: &str,
-    own: Place,
-    router: Place,
+    own: SocketAddrV4,
+    router: SocketAddrV4,
 ) -> Result<String, AllocError>
     ensures { IfOk result (λ t. string_bytes t ≡ joined_remark whose.now own router) }
 {
@@ -134,8 +134,8 @@ fn joined_to_remark(
 fn join_to_remarks(
     alloc: Global,
     whose: &str,
-    own: Place,
-    routers: &[Place],
+    own: SocketAddrV4,
+    routers: &[SocketAddrV4],
 ) -> Result<String, AllocError>
     ensures { IfOk result (λ t. string_bytes t
         ≡ flat_map (joined_remark whose.now own) routers.now) }

@@ -8,10 +8,11 @@ ghost use Rattle.ipx_site.specs.Moments.{HasPassed};
 use crate::moments::is_over;
 use crate::router_ports::{PortIndex, UdpRouterPorts};
 use ipx_wire::Node;
-use ipxnet_server::{Client, IpxnetServer, Place};
+use ipxnet_server::{Client, IpxnetServer};
 use log::{Log, info};
 use std::alloc::{AllocError, Global};
 use std::collections::HashSet;
+use std::net::SocketAddrV4;
 
 /// The most lines logged at once, and the time between two looks, in milliseconds.
 const MAX_LINES: usize = 10;
@@ -24,7 +25,7 @@ pub struct PortClient {
     /// The number of the port, starting at 1.
     pub port: usize,
     /// The IP address and UDP port of the client.
-    pub place: Place,
+    pub place: SocketAddrV4,
     /// The node of the client.
     pub node: Node,
 }
@@ -57,8 +58,8 @@ fn key_of(client: &PortClient) -> ClientKey
 {
     ClientKey {
         port: client.port,
-        ip: client.place.ip,
-        udp_port: client.place.udp_port,
+        ip: client.place.ip().octets(),
+        udp_port: client.place.port(),
         node: client.node.0,
     }
 }
@@ -192,8 +193,8 @@ fn clients_in(alloc: Global, ports: &UdpRouterPorts) -> Result<Vec<PortClient>, 
 fn tell_gone<R: Log>(rt: &R, gone: &[PortClient]) {
     for client in gone {
         let port = client.port;
-        let [a, b, c, d] = client.place.ip;
-        let udp_port = client.place.udp_port;
+        let [a, b, c, d] = client.place.ip().octets();
+        let udp_port = client.place.port();
         info!(rt; target: "ipx", "port {port}: client {a}.{b}.{c}.{d}:{udp_port} timed out");
     }
 }
@@ -202,8 +203,8 @@ fn tell_gone<R: Log>(rt: &R, gone: &[PortClient]) {
 fn tell_come<R: Log>(rt: &R, came: &[PortClient]) {
     for client in came {
         let port = client.port;
-        let [a, b, c, d] = client.place.ip;
-        let udp_port = client.place.udp_port;
+        let [a, b, c, d] = client.place.ip().octets();
+        let udp_port = client.place.port();
         let node = client.node;
         info!(rt; target: "ipx", "port {port}: client {a}.{b}.{c}.{d}:{udp_port} connected as {node}");
     }

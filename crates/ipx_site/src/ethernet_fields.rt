@@ -12,9 +12,9 @@ use crate::fields::{held, required};
 use crate::key::Key;
 use crate::values::count_of;
 use ipx_ethernet::Encapsulation;
-use ipx_ethernet_ports::Place;
 use ipx_wire::Node;
 use std::alloc::Global;
+use std::net::SocketAddrV4;
 use toml::Table;
 
 /// The encapsulation of an Ethernet port.
@@ -43,7 +43,11 @@ pub fn required_count_in(
 }
 
 /// The remotes of an Ethernet port.
-pub fn ends_in(alloc: Global, table: &Table, number: usize) -> Result<Vec<Place>, ConfigError>
+pub fn ends_in(
+    alloc: Global,
+    table: &Table,
+    number: usize,
+) -> Result<Vec<SocketAddrV4>, ConfigError>
     ensures { Gives AreEthernetEnds Key.Ends (table_view table.now) number result }
 {
     match ends_of(alloc, required(table, number, Key::Ends)?)? {

@@ -1,13 +1,15 @@
 //! The Ethernet ports of a router: their sockets and their switches.
 
 ghost use Rattle.std.specs.Prelude.{◌≡◌, ◌++◌, ◌∷◌, [], IfOk, OnOk, map};
-ghost use Rattle.ipx_site.specs.KindPorts.{end_places, switch_of, ethernet_port_of, ethernet_ports};
-ghost use Rattle.ipx_ethernet_ports.specs.EthernetAddresses.{remote_places};
+ghost use Rattle.ipx_site.specs.KindPorts.{end_places, ethernet_places, switch_of, ethernet_port_of, ethernet_ports};
+ghost use Rattle.ipx_carrier.specs.Traces.{v4_at};
+ghost use Rattle.ipx_ethernet_ports.specs.EthernetAddresses.{bound_places, remote_places};
 
 use crate::bind_fault::{BindFault, bind_error};
 use crate::site::{EthernetPortConfig, PortConfig};
+use ipx_carrier::socket_addr;
 use ipx_ethernet::{EthernetPort, Switch};
-use ipx_ethernet_ports::{EthernetPorts, EthernetSockets, Place};
+use ipx_ethernet_ports::{EthernetPorts, EthernetSockets};
 use std::alloc::{AllocError, Global};
 use std::io::ErrorKind;
 use std::net::Net;
@@ -45,20 +47,22 @@ fn bind_ethernet_port<R: Net>(
     number: usize,
     port: &EthernetPortConfig,
 ) -> Result<(), BindFault>
-    ensures { OnOk result (remote_places sockets.new.ethernet.items
+    ensures at { OnOk result (bound_places sockets.new.ethernet.items
+        ≡ bound_places sockets.old.ethernet.items ++ v4_at port.now.address port.now.udp_port ∷ []) }
+    ensures ends { OnOk result (remote_places sockets.new.ethernet.items
         ≡ remote_places sockets.old.ethernet.items ++ port.now.ends.items ∷ []) }
 {
     let Ok(ends) = Vec::from_slice(alloc, &port.ends) else {
         return Err(BindFault::OutOfMemory);
     };
-    let at = Place {
-        ip: port.address,
-        udp_port: port.udp_port,
-    };
+    let at = socket_addr(port.address, port.udp_port);
     match sockets.bind(rt, at, ends) {
         Ok(()) => Ok(()),
         Err(error) if error.kind() == ErrorKind::OutOfMemory => Err(BindFault::OutOfMemory),
-        Err(error) => Err(BindFault::Port(number, bind_error(at.ip, at.udp_port, &error))),
+        Err(error) => {
+            let error = bind_error(port.address, port.udp_port, &error);
+            Err(BindFault::Port(number, error))
+        }
     }
 }
 
@@ -69,7 +73,9 @@ fn bind_ethernet_ports<R: Net>(
     alloc: Global,
     ports: &[PortConfig],
 ) -> Result<EthernetSockets, BindFault>
-    ensures { IfOk result (λ s.
+    ensures at { IfOk result (λ s.
+        bound_places s.ethernet.items ≡ ethernet_places (ethernet_ports ports.now)) }
+    ensures ends { IfOk result (λ s.
         remote_places s.ethernet.items ≡ end_places (ethernet_ports ports.now)) }
 {
     let mut sockets = EthernetSockets::new(alloc);
@@ -88,6 +94,8 @@ pub fn ethernet_ports_of<R: Net>(
     ports: &[PortConfig],
 ) -> Result<EthernetPorts<EthernetSockets>, BindFault>
     ensures switches { IfOk result (λ w. w.switches.items ≡ map switch_of (ethernet_ports ports.now)) }
+    ensures at { IfOk result (λ w.
+        bound_places w.sockets.ethernet.items ≡ ethernet_places (ethernet_ports ports.now)) }
     ensures ends { IfOk result (λ w.
         remote_places w.sockets.ethernet.items ≡ end_places (ethernet_ports ports.now)) }
 {

@@ -3,11 +3,10 @@
 ghost use Rattle.std.specs.Prelude.{◌≡◌, IfOk};
 ghost use Rattle.toml.specs.View.{items_view, view};
 ghost use Rattle.ipx_site.specs.Fields.{Reads};
-ghost use Rattle.ipx_site.specs.EthernetValues.{AreEthernetEnds, IsEncapsulation, IsFlag, IsStation, IsEthernetEnd, ReadsDigits, ReadsPlace, ReadsStation, ReadsEthernetEnds, frame_word, is_somewhere, is_station, made_station, socket_at};
+ghost use Rattle.ipx_site.specs.EthernetValues.{AreEthernetEnds, IsEncapsulation, IsFlag, IsStation, IsEthernetEnd, ReadsDigits, ReadsPlace, ReadsStation, ReadsEthernetEnds, frame_word, is_somewhere, is_station, made_station};
 
 use crate::allowed_peer::MAX_ENTRIES;
 use ipx_ethernet::Encapsulation;
-use ipx_ethernet_ports::Place;
 use ipx_wire::{Node, OutOfMemory};
 use std::alloc::Global;
 use std::net::SocketAddrV4;
@@ -46,29 +45,18 @@ pub fn flag_of(value: &Value) -> Option<bool>
 }
 
 /// Whether a remote can be at this place: neither its IP address nor its UDP port is 0.
-fn is_somewhere(place: Place) -> bool
+fn is_somewhere(place: SocketAddrV4) -> bool
     ensures { result ≡ is_somewhere place }
 {
-    place.ip != [0; 4] && place.udp_port != 0
-}
-
-/// The place that a socket address gives.
-fn place_at(socket: SocketAddrV4) -> Place
-    ensures { socket_at result ≡ socket }
-{
-    Place {
-        ip: socket.ip().octets(),
-        udp_port: socket.port(),
-    }
+    place.ip().octets() != [0; 4] && place.port() != 0
 }
 
 /// Parses the place of a remote: an IP address and a UDP port.
-fn place_written(text: &str) -> Option<Place>
+fn place_written(text: &str) -> Option<SocketAddrV4>
     ensures { ReadsPlace text.now result }
 {
     match text.parse::<SocketAddrV4>() {
-        Ok(socket) => {
-            let place = place_at(socket);
+        Ok(place) => {
             if is_somewhere(place) {
                 Some(place)
             } else {
@@ -80,14 +68,14 @@ fn place_written(text: &str) -> Option<Place>
 }
 
 /// The place of a remote that a value gives.
-fn end_of(value: &Value) -> Option<Place>
+fn end_of(value: &Value) -> Option<SocketAddrV4>
     ensures { Reads IsEthernetEnd (view value.now) result }
 {
     place_written(value.as_str()?)
 }
 
 /// The places that values give, or None if one of them gives no place.
-fn places_of(alloc: Global, values: &[Value]) -> Result<Option<Vec<Place>>, OutOfMemory>
+fn places_of(alloc: Global, values: &[Value]) -> Result<Option<Vec<SocketAddrV4>>, OutOfMemory>
     ensures { IfOk result (ReadsEthernetEnds (items_view values.now)) }
 {
     let mut ends = Vec::new(alloc);
@@ -101,7 +89,7 @@ fn places_of(alloc: Global, values: &[Value]) -> Result<Option<Vec<Place>>, OutO
 }
 
 /// The remotes that a value lists, 1 to 256.
-pub fn ends_of(alloc: Global, value: &Value) -> Result<Option<Vec<Place>>, OutOfMemory>
+pub fn ends_of(alloc: Global, value: &Value) -> Result<Option<Vec<SocketAddrV4>>, OutOfMemory>
     ensures { IfOk result (Reads AreEthernetEnds (view value.now)) }
 {
     let Some(values) = value.as_array() else {
@@ -166,10 +154,10 @@ pub fn station_of(value: &Value) -> Option<Node>
 }
 
 /// The node of a port whose file gives none, derived from the place where the port is bound.
-pub fn station_at(place: Place) -> Node
-    ensures { result ≡ made_station place.ip place.udp_port }
+pub fn station_at(ip: [u8; 4], udp_port: u16) -> Node
+    ensures { result ≡ made_station ip udp_port }
 {
-    let [first, second, third, last] = place.ip;
-    let [high, low] = place.udp_port.to_be_bytes();
+    let [first, second, third, last] = ip;
+    let [high, low] = udp_port.to_be_bytes();
     Node([first / 4 * 4 + 2, second, third, last, high, low])
 }

@@ -13,8 +13,8 @@ use crate::ipxnet_port::IpxnetPortConfig;
 use crate::key::Key;
 use crate::site::{Accept, Kind};
 use crate::values::parse_peers;
-use ipx_ethernet_ports::Place;
 use std::alloc::Global;
+use std::net::SocketAddrV4;
 use toml::Table;
 
 /// The most clients that a file may allow at an ipxnet port, and the default.
@@ -46,7 +46,7 @@ fn registering_in(
 }
 
 /// Whether no place is listed twice.
-fn are_distinct(places: &[Place]) -> bool
+fn are_distinct(places: &[SocketAddrV4]) -> bool
     ensures { result ≡ are_places_distinct places.now }
 {
     for (index, place) in places.iter().enumerate() {
@@ -59,7 +59,11 @@ fn are_distinct(places: &[Place]) -> bool
 
 /// The routers whose ipxnet servers are joined with that of a port, each listed once. There are
 /// none if the key is absent.
-fn joined_routers_in(alloc: Global, table: &Table, number: usize) -> Result<Vec<Place>, ConfigError>
+fn joined_routers_in(
+    alloc: Global,
+    table: &Table,
+    number: usize,
+) -> Result<Vec<SocketAddrV4>, ConfigError>
     ensures join { IfOk result (AreJoinedRouters (table_view table.now)) }
     ensures fault { IfErr result (λ f.
         (f ≡ ConfigError.OutOfMemory) ⊎ IsJoinFault (table_view table.now) number f) }
@@ -92,10 +96,7 @@ pub fn ipxnet_port_in(
     let address = address_in(table, number, Key::Address)?;
     let udp_port = required_count_in(table, number, Key::UdpPort, 65535)?;
     let cost = count_in(table, number, Key::Cost, 65535, 1)?;
-    let made = station_at(Place {
-        ip: address,
-        udp_port,
-    });
+    let made = station_at(address, udp_port);
     let node = station_in(table, number, made)?;
     let clients = count_in(table, number, Key::Clients, MAX_CLIENTS, USUAL_CLIENTS)?;
     let accept = accept_in(table, number)?;

@@ -4,8 +4,8 @@ ghost use Rattle.std.specs.Prelude.{◌≤◌};
 ghost use Rattle.ipxnet_server.specs.ServerClients.{max_server_clients};
 
 use crate::site::{Accept, Directed};
-use ipx_ethernet_ports::Place;
 use ipx_wire::{Network, Node};
+use std::net::SocketAddrV4;
 
 /// The configuration of an ipxnet port of a router.
 #[derive(Drop)]
@@ -27,7 +27,7 @@ pub struct IpxnetPortConfig {
     /// The IP addresses that may register, if not everybody may.
     pub peers: Vec<[u8; 4]>,
     /// The routers whose ipxnet servers form one network with this one.
-    pub join: Vec<Place>,
+    pub join: Vec<SocketAddrV4>,
     pub directed: Directed,
     // An ipxnet server may allow that many clients.
     ghost few: { (1 ≤ clients) × (clients ≤ max_server_clients) },

@@ -1,15 +1,18 @@
 //! The ipxnet ports of a router: their sockets and their servers.
 
 ghost use Rattle.std.specs.Prelude.{◌≡◌, ◌++◌, ◌∷◌, [], IfOk, OnOk, map};
-ghost use Rattle.ipx_ipxnet_ports.specs.ServerAddresses.{ips_heard, listed_ips};
-ghost use Rattle.ipx_site.specs.KindPorts.{client_port_of, ipxnet_ports, server_of_port, server_place, registering_at};
+ghost use Rattle.ipx_ipxnet_ports.specs.ServerAddresses.{bound_places, ips_heard, listed_ips};
+ghost use Rattle.ipx_site.specs.KindPorts.{client_port_of, ipxnet_places, ipxnet_ports, server_of_port, registering_at};
+ghost use Rattle.ipx_carrier.specs.Traces.{v4_at};
+ghost use Rattle.std.specs.Net.Addr.{ipv4_octets};
+ghost use Rattle.std.specs.Net.Socket.{v4_ip};
 
 use crate::bind_fault::{BindFault, bind_error};
 use crate::ipxnet_port::IpxnetPortConfig;
 use crate::site::{Accept, PortConfig};
-use ipx_ethernet_ports::Place as EndPlace;
-use ipx_ipxnet_ports::{ServerSockets, Servers};
-use ipxnet_server::{IpxnetServer, Place, ServerPort};
+use ipx_carrier::socket_addr;
+use ipx_ipxnet_ports::{Allow, ServerSockets, Servers};
+use ipxnet_server::{IpxnetServer, ServerPort};
 use std::alloc::{AllocError, Global};
 use std::io::ErrorKind;
 use std::net::Net;
@@ -24,25 +27,11 @@ fn client_port(port: &IpxnetPortConfig) -> ServerPort
     }
 }
 
-/// The places of a port's joined routers.
-fn routers_of(alloc: Global, join: &[EndPlace]) -> Result<Vec<Place>, AllocError>
-    ensures { IfOk result (λ v. v.items ≡ map server_place join.now) }
-{
-    let mut routers = Vec::new(alloc);
-    for router in join {
-        routers.push(Place {
-            ip: router.ip,
-            udp_port: router.udp_port,
-        })?;
-    }
-    Ok(routers)
-}
-
 /// The server of a port, before any client has registered.
 fn server_of(alloc: Global, port: &IpxnetPortConfig) -> Result<IpxnetServer, AllocError>
     ensures { IfOk result (λ l. l ≡ server_of_port port.now) }
 {
-    let routers = routers_of(alloc, &port.join)?;
+    let routers = Vec::from_slice(alloc, &port.join)?;
     IpxnetServer::joined_to(alloc, client_port(port), usize::from(port.clients), routers)
 }
 
@@ -62,22 +51,22 @@ fn servers_of_ports(alloc: Global, ports: &[PortConfig]) -> Result<Vec<IpxnetSer
 
 /// The IP addresses named at a port: those that may register, and those of joined routers.
 fn named_ips(alloc: Global, port: &IpxnetPortConfig) -> Result<Vec<[u8; 4]>, AllocError>
-    ensures { IfOk result (λ v. v.items ≡ port.now.peers.items ++ map (λ r. r.ip) port.now.join.items) }
+    ensures { IfOk result (λ v. v.items ≡ port.now.peers.items ++ map (λ r. ipv4_octets (v4_ip r)) port.now.join.items) }
 {
     let mut ips = Vec::from_slice(alloc, &port.peers)?;
     for router in &port.join {
-        ips.push(router.ip)?;
+        ips.push(router.ip().octets())?;
     }
     Ok(ips)
 }
 
-/// The IP addresses from which clients may register at a port. None means all.
-fn registering(alloc: Global, port: &IpxnetPortConfig) -> Result<Option<Vec<[u8; 4]>>, AllocError>
-    ensures { IfOk result (λ ips. listed_ips ips ≡ registering_at port.now) }
+/// The IP addresses from which clients may register at a port.
+fn registering(alloc: Global, port: &IpxnetPortConfig) -> Result<Allow, AllocError>
+    ensures { IfOk result (λ allow. listed_ips allow ≡ registering_at port.now) }
 {
     match port.accept {
-        Accept::Any => Ok(None),
-        Accept::Peers => Ok(Some(named_ips(alloc, port)?)),
+        Accept::Any => Ok(Allow::Any),
+        Accept::Peers => Ok(Allow::List(named_ips(alloc, port)?)),
     }
 }
 
@@ -89,20 +78,22 @@ fn bind_server<R: Net>(
     number: usize,
     port: &IpxnetPortConfig,
 ) -> Result<(), BindFault>
-    ensures { OnOk result (map ips_heard sockets.new.sockets.items
+    ensures at { OnOk result (bound_places sockets.new.sockets.items
+        ≡ bound_places sockets.old.sockets.items ++ v4_at port.now.address port.now.udp_port ∷ []) }
+    ensures registering { OnOk result (map ips_heard sockets.new.sockets.items
         ≡ map ips_heard sockets.old.sockets.items ++ registering_at port.now ∷ []) }
 {
-    let Ok(hears) = registering(alloc, port) else {
+    let Ok(allow) = registering(alloc, port) else {
         return Err(BindFault::OutOfMemory);
     };
-    let at = Place {
-        ip: port.address,
-        udp_port: port.udp_port,
-    };
-    match sockets.bind(rt, at, hears) {
+    let at = socket_addr(port.address, port.udp_port);
+    match sockets.bind(rt, at, allow) {
         Ok(()) => Ok(()),
         Err(error) if error.kind() == ErrorKind::OutOfMemory => Err(BindFault::OutOfMemory),
-        Err(error) => Err(BindFault::Port(number, bind_error(at.ip, at.udp_port, &error))),
+        Err(error) => {
+            let error = bind_error(port.address, port.udp_port, &error);
+            Err(BindFault::Port(number, error))
+        }
     }
 }
 
@@ -113,7 +104,9 @@ fn bind_servers<R: Net>(
     alloc: Global,
     ports: &[PortConfig],
 ) -> Result<ServerSockets, BindFault>
-    ensures { IfOk result (λ s. map ips_heard s.sockets.items
+    ensures at { IfOk result (λ s.
+        bound_places s.sockets.items ≡ ipxnet_places (ipxnet_ports ports.now)) }
+    ensures registering { IfOk result (λ s. map ips_heard s.sockets.items
         ≡ map registering_at (ipxnet_ports ports.now)) }
 {
     let mut sockets = ServerSockets::new(alloc);
@@ -133,6 +126,8 @@ pub fn servers_of<R: Net>(
 ) -> Result<Servers<ServerSockets>, BindFault>
     ensures servers { IfOk result (λ l. l.servers.items
         ≡ map server_of_port (ipxnet_ports ports.now)) }
+    ensures at { IfOk result (λ l.
+        bound_places l.sockets.sockets.items ≡ ipxnet_places (ipxnet_ports ports.now)) }
     ensures registering { IfOk result (λ l. map ips_heard l.sockets.sockets.items
         ≡ map registering_at (ipxnet_ports ports.now)) }
 {

@@ -16,7 +16,6 @@ use crate::ipxnet_fields::ipxnet_port_in;
 use crate::key::Key;
 use crate::site::{EthernetPortConfig, Kind, PortConfig, Rfc1234PortConfig};
 use ipx_carrier::UDP_PORT;
-use ipx_ethernet_ports::Place;
 use std::alloc::Global;
 use toml::Table;
 
@@ -68,10 +67,7 @@ fn frames_port(
     let udp_port = required_count_in(table, number, Key::UdpPort, 65535)?;
     let cost = count_in(table, number, Key::Cost, 65535, 1)?;
     let ends = ends_in(alloc, table, number)?;
-    let made = station_at(Place {
-        ip: address,
-        udp_port,
-    });
+    let made = station_at(address, udp_port);
     let node = station_in(table, number, made)?;
     let joined = joined_in(table, number)?;
     let directed = directed_in(table, number)?;

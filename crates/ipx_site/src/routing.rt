@@ -7,7 +7,7 @@ ghost use Rattle.ipx_static.specs.StaticAdvertisements.{AreWordsOf};
 ghost use Rattle.ipx_carrier.specs.Turns.{peers_of};
 ghost use Rattle.ipx_carrier.specs.Counting.{counted};
 ghost use Rattle.ipx_source_checks.specs.SourceChecks.{nothing_dropped_yet};
-ghost use Rattle.ipx_site.specs.KindPorts.{ArePortsBound, datagram_ports, port_indices_of};
+ghost use Rattle.ipx_site.specs.KindPorts.{ArePortsBound, datagram_places, datagram_ports, port_indices_of};
 ghost use Rattle.ipx_site.specs.PortLimits.{limits_of};
 ghost use Rattle.ipx_site.specs.StaticLists.{HearsAtPorts};
 ghost use Rattle.ipx_site.specs.StaticNeighbours.{IsToHear};
@@ -289,6 +289,8 @@ fn datagrams_of<R: Net>(
     // Each has a socket, with the UDP port of its peers.
     ensures sockets { IfOk result (λ d. map (λ p. p.udp_port) d.device.device.sockets.items
         ≡ udp_ports (datagram_ports ports.now)) }
+    ensures at { IfOk result (λ d. map (λ p. p.socket.at) d.device.device.sockets.items
+        ≡ datagram_places (datagram_ports ports.now)) }
 {
     let access_lists = access_lists_of(alloc, ports)?;
     let peers = peers_by_port(alloc, ports)?;

@@ -6,12 +6,12 @@ ghost use Rattle.ipx_site.specs.SitePorts.{checked_port_of_kind, is_ethernet, ro
 
 use crate::ipxnet_port::IpxnetPortConfig;
 use crate::statics::StaticEntry;
-use ipx_carrier::node_of;
+use ipx_carrier::{node_of, socket_addr};
 use ipx_ethernet::Encapsulation;
-use ipx_ethernet_ports::Place;
 use ipx_router::Port;
 use ipx_source_checks::CheckedPort;
 use ipx_wire::{Network, Node};
+use std::net::SocketAddrV4;
 
 /// The kind of a router's port.
 #[derive(Clone, Copy, PartialEq, Eq)]
@@ -76,7 +76,7 @@ pub struct EthernetPortConfig {
     /// The cost of sending there, in ticks.
     pub cost: u16,
     /// The places of its remotes, 1 to 256.
-    pub ends: Vec<Place>,
+    pub ends: Vec<SocketAddrV4>,
     /// Its own node.
     pub node: Node,
     /// Whether it switches frames between its remotes.
@@ -137,7 +137,7 @@ impl PortConfig {
     }
 
     /// Where it is bound.
-    pub fn place(&self) -> Place
+    pub fn place(&self) -> SocketAddrV4
         ensures { result ≡ place_of_kind self.now }
     {
         let (ip, udp_port) = match self {
@@ -145,7 +145,7 @@ impl PortConfig {
             PortConfig::Frames(port) => (port.address, port.udp_port),
             PortConfig::Ipxnet(port) => (port.address, port.udp_port),
         };
-        Place { ip, udp_port }
+        socket_addr(ip, udp_port)
     }
 
     /// The router's port for it.

@@ -1,10 +1,11 @@
 //! UDP sockets, one for each RFC 1234 port of a site.
 
-ghost use Rattle.std.specs.Prelude.{◌≡◌, ◌⊎◌, ◌<◌, ◌≤◌, ◌↔◌, ◌∷◌, [], IfOk, IfSome, IsSome, None, Ok, OnErr, Some, false, is_some, length, map, replicate, slice_get, slice_set, true};
+ghost use Rattle.std.specs.Prelude.{◌≡◌, ◌⊎◌, ◌<◌, ◌≤◌, ◌↔◌, ◌∷◌, [], IfOk, IfSome, IsSome, None, Ok, OnErr, Some, false, is_some, length, map, replicate, slice_get, slice_set, take, true};
 ghost use Rattle.ipx_carrier.specs.Counting.{raised};
 ghost use Rattle.ipx_carrier.specs.ReadySet.{AsksMarked, is_port_marked};
-ghost use Rattle.ipx_site.specs.Senders.{ipv4_of_place};
-ghost use Rattle.ipx_site.specs.KindPorts.{datagram_ports};
+ghost use Rattle.ipx_carrier.specs.Traces.{v4_at};
+ghost use Rattle.ipx_site.specs.Senders.{ReceivesPacket, SendsPacket, ipv4_of_place};
+ghost use Rattle.ipx_site.specs.KindPorts.{datagram_places, datagram_ports};
 ghost use Rattle.ipx_site.specs.SitePorts.{udp_ports};
 
 use crate::bind_fault::{BindFault, bind_error};
@@ -12,18 +13,18 @@ use crate::last_sender::Senders;
 use crate::rcvbuf::set_rcvbuf;
 use crate::site::PortConfig;
 use ipx_carrier::{
-    Datagrams, DeviceFault, ReadySet, bind_nonblocking, saturating_increment, socket_addr,
+    Datagrams, DeviceFault, PlacedSocket, ReadySet, saturating_increment, socket_addr,
 };
 use std::alloc::{AllocError, Global};
 use std::io;
 use std::io::ErrorKind;
-use std::net::{Net, SocketAddr, UdpSocket};
+use std::net::{Net, SocketAddr};
 use std::os::fd::{AsRawFd, RawFd};
 
 /// The socket of a port, the UDP port of its peers, and the size of its receive buffer in bytes.
 #[derive(Drop)]
 struct PortSocket {
-    socket: UdpSocket,
+    socket: PlacedSocket,
     udp_port: u16,
     room: u32,
 }
@@ -62,12 +63,13 @@ fn ip_of(place: SocketAddr) -> Option<[u8; 4]>
 /// The socket of a port. 0.0.0.0 stands for every address of a machine, so peers could not name it,
 /// and it is refused.
 fn port_socket<R: Net>(rt: &R, ip: [u8; 4], udp_port: u16) -> io::Result<PortSocket>
-    ensures { IfOk result (λ s. s.udp_port ≡ udp_port) }
+    ensures udp_port { IfOk result (λ s. s.udp_port ≡ udp_port) }
+    ensures at { IfOk result (λ s. s.socket.at ≡ v4_at ip udp_port) }
 {
     if ip == [0; 4] {
         return Err(io::Error::from(ErrorKind::AddrNotAvailable));
     }
-    let socket = bind_nonblocking(rt, ip, udp_port)?;
+    let socket = PlacedSocket::bind(rt, socket_addr(ip, udp_port))?;
     let room = set_rcvbuf(socket.as_raw_fd());
     Ok(PortSocket {
         socket,
@@ -83,7 +85,8 @@ fn bound_port<R: Net>(
     ip: [u8; 4],
     udp_port: u16,
 ) -> Result<PortSocket, BindFault>
-    ensures { IfOk result (λ s. s.udp_port ≡ udp_port) }
+    ensures udp_port { IfOk result (λ s. s.udp_port ≡ udp_port) }
+    ensures at { IfOk result (λ s. s.socket.at ≡ v4_at ip udp_port) }
 {
     match port_socket(rt, ip, udp_port) {
         Ok(socket) => Ok(socket),
@@ -128,6 +131,8 @@ impl UdpSockets {
     ) -> Result<UdpSockets, BindFault>
         ensures ports { IfOk result (λ d. map (λ s. s.udp_port) d.sockets.items
             ≡ udp_ports (datagram_ports ports.now)) }
+        ensures at { IfOk result (λ d. map (λ s. s.socket.at) d.sockets.items
+            ≡ datagram_places (datagram_ports ports.now)) }
         ensures marks { IfOk result (λ d. d.marks ≡ replicate (length d.sockets.items) true) }
     {
         let mut sockets = Vec::new(alloc);
@@ -150,6 +155,8 @@ impl UdpSockets {
         udp_port: u16,
     ) -> Result<UdpSockets, BindFault>
         ensures ports { IfOk result (λ d. map (λ s. s.udp_port) d.sockets.items ≡ udp_port ∷ []) }
+        ensures at { IfOk result (λ d.
+            map (λ s. s.socket.at) d.sockets.items ≡ v4_at address udp_port ∷ []) }
         ensures marks { IfOk result (λ d. d.marks ≡ true ∷ []) }
     {
         let socket = bound_port(rt, 1, address, udp_port)?;
@@ -253,18 +260,21 @@ impl Datagrams for UdpSockets {
 
     fn send(&mut self, port: usize, to: [u8; 4], bytes: &[u8]) -> Result<(), DeviceFault>
         requires there { port < length self.old.sockets.items }
-        // The system took it or refused it, and that is counted.
+        // The system took it or refused it, and that is counted. What it took went from the port's
+        // socket to that IP address, at the UDP port of the port's peers.
         ensures counted { ((self.new.sent ≡ raised self.old.sent)
-            × (self.new.faults ≡ self.old.faults)) ⊎ ((self.new.sent ≡ self.old.sent)
-            × (self.new.faults ≡ raised self.old.faults)) }
-        ensures sockets { self.new.sockets ≡ self.old.sockets }
+            × (self.new.faults ≡ self.old.faults)
+            × SendsPacket port to bytes.now self.old.sockets.items self.new.sockets.items)
+            ⊎ ((self.new.sent ≡ self.old.sent) × (self.new.faults ≡ raised self.old.faults)
+            × (self.new.sockets.items ≡ self.old.sockets.items)) }
+        ensures ports { length self.new.sockets.items ≡ length self.old.sockets.items }
         ensures marks { self.new.marks ≡ self.old.marks }
         ensures goes_on { OnErr result ⊥ }
     {
         let place = socket_addr(to, self.sockets[port].udp_port);
-        match self.sockets[port].socket.send_to(bytes, place) {
-            Ok(count) if count == bytes.len() => saturating_increment(&mut self.sent),
-            _ => self.count_fault(),
+        match self.sockets[port].socket.send_to(place, bytes) {
+            Ok(()) => saturating_increment(&mut self.sent),
+            Err(_) => self.count_fault(),
         }
         Ok(())
     }
@@ -279,10 +289,13 @@ impl Datagrams for UdpSockets {
         ensures marked { is_port_marked self.old.marks port ≡ true → IfOk result (λ count.
             AsksMarked port (is_some count) self.old.marks self.new.marks
             self.old.faults self.new.faults) }
-        // Only the marks, the last sender and the count of refusals change.
-        ensures sockets { self.new.sockets ≡ self.old.sockets }
+        // The last sender is that of the datagram that the port's socket received.
+        ensures sender { IfOk result (λ count. IfSome count (λ n. ReceivesPacket port
+            (take n room.new) self.new.sender self.old.sockets.items self.new.sockets.items)) }
+        ensures nothing { result ≡ Ok None → (self.new.sender ≡ self.old.sender)
+            × (self.new.sockets.items ≡ self.old.sockets.items) }
+        ensures ports { length self.new.sockets.items ≡ length self.old.sockets.items }
         ensures sent { self.new.sent ≡ self.old.sent }
-        ensures sender { result ≡ Ok None → self.new.sender ≡ self.old.sender }
         ensures faults { self.old.faults ≤ self.new.faults }
         ensures within { IfOk result (λ count. IfSome count (λ n. n ≤ length room.old)) }
         ensures goes_on { OnErr result ⊥ }
@@ -291,12 +304,12 @@ impl Datagrams for UdpSockets {
             return Ok(None);
         }
         for _try in 0..TRIES {
-            match self.sockets[port].socket.recv_from(room) {
-                Ok((count, from)) => {
+            match self.sockets[port].socket.receive(room) {
+                Ok(Some((count, from))) => {
                     self.sender = ip_of(from);
                     return Ok(Some(count));
                 }
-                Err(error) if error.kind() == ErrorKind::WouldBlock => {
+                Ok(None) => {
                     self.marks.clear_ready(port);
                     return Ok(None);
                 }

@@ -8,9 +8,9 @@ use crate::ethernet_values::word_of;
 use crate::ipxnet_port::IpxnetPortConfig;
 use crate::site::{Accept, Directed, EthernetPortConfig, PortConfig, Rfc1234PortConfig};
 use ipx_carrier::node_of;
-use ipx_ethernet_ports::Place;
 use ipx_wire::{Network, Node};
 use std::alloc::{AllocError, Global};
+use std::net::SocketAddrV4;
 
 /// An IP address in dotted-decimal form.
 pub fn dotted(alloc: Global, ip: [u8; 4]) -> Result<String, AllocError>
@@ -96,15 +96,15 @@ fn rfc1234_to_text(
 }
 
 /// The place of a remote, after a space.
-pub fn end_to_text(alloc: Global, end: Place) -> Result<String, AllocError>
+pub fn end_to_text(alloc: Global, end: SocketAddrV4) -> Result<String, AllocError>
     ensures { IfOk result (λ t. string_bytes t ≡ ethernet_end_text end) }
 {
-    let reached = reached_to_text(alloc, end.ip, end.udp_port)?;
+    let reached = reached_to_text(alloc, end.ip().octets(), end.port())?;
     format!(in alloc; " {reached}")
 }
 
 /// The places of the remotes of an Ethernet port.
-fn ends_to_text(alloc: Global, ends: &[Place]) -> Result<String, AllocError>
+fn ends_to_text(alloc: Global, ends: &[SocketAddrV4]) -> Result<String, AllocError>
     ensures { IfOk result (λ t. string_bytes t ≡ flat_map ethernet_end_text ends.now) }
 {
     let mut text = String::new(alloc);
@@ -148,7 +148,7 @@ fn frames_to_text(
 }
 
 /// The places of joined routers, if there are any.
-fn join_to_text(alloc: Global, routers: &[Place]) -> Result<String, AllocError>
+fn join_to_text(alloc: Global, routers: &[SocketAddrV4]) -> Result<String, AllocError>
     ensures { IfOk result (λ t. string_bytes t ≡ join_text routers.now) }
 {
     if routers.is_empty() {

@@ -3,20 +3,18 @@
 
 use ipx_site::{ClientLog, PortClient};
 use ipx_wire::Node;
-use ipxnet_server::Place;
+use ipxnet_server::node_of;
 use std::alloc::{AllocError, Global};
+use std::net::{Ipv4Addr, SocketAddrV4};
 use std::test::Fail;
 
 /// The client at this UDP port of 198.51.100.7.
 fn client(port: usize, udp_port: u16) -> PortClient {
-    let place = Place {
-        ip: [198, 51, 100, 7],
-        udp_port,
-    };
+    let place = SocketAddrV4::new(Ipv4Addr::new(198, 51, 100, 7), udp_port);
     PortClient {
         port,
         place,
-        node: place.node(),
+        node: node_of(place),
     }
 }
 

@@ -6,8 +6,9 @@ use ipx_ipxnet_ports::{MemoryPlaces, Servers};
 use ipx_router::{Port, Router};
 use ipx_site::put_drops;
 use ipx_wire::{Network, Node};
-use ipxnet_server::{IpxnetServer, Place, ServerCounts, ServerPort};
+use ipxnet_server::{IpxnetServer, ServerCounts, ServerPort};
 use std::alloc::Global;
+use std::net::{Ipv4Addr, SocketAddrV4};
 use std::test::Fail;
 
 const PORT: ServerPort = ServerPort {
@@ -22,31 +23,26 @@ const REGISTRATION: [u8; 30] = [
 ];
 
 /// The places of the two players that registered, of one that did not, and of a joined router.
-const FIRST: Place = Place {
-    ip: [198, 51, 100, 7],
-    udp_port: 48199,
-};
+fn first_place() -> SocketAddrV4 {
+    SocketAddrV4::new(Ipv4Addr::new(198, 51, 100, 7), 48199)
+}
 
-const SECOND: Place = Place {
-    ip: [198, 51, 100, 7],
-    udp_port: 48200,
-};
+fn second_place() -> SocketAddrV4 {
+    SocketAddrV4::new(Ipv4Addr::new(198, 51, 100, 7), 48200)
+}
 
-const UNKNOWN_SENDER: Place = Place {
-    ip: [203, 0, 113, 9],
-    udp_port: 48199,
-};
+fn unknown_place() -> SocketAddrV4 {
+    SocketAddrV4::new(Ipv4Addr::new(203, 0, 113, 9), 48199)
+}
 
-const SOUTH: Place = Place {
-    ip: [192, 0, 2, 20],
-    udp_port: 2130,
-};
+fn south_place() -> SocketAddrV4 {
+    SocketAddrV4::new(Ipv4Addr::new(192, 0, 2, 20), 2130)
+}
 
 /// The place whose node is the router's.
-const OWN: Place = Place {
-    ip: [2, 0, 0, 0],
-    udp_port: 0xd05b,
-};
+fn own_place() -> SocketAddrV4 {
+    SocketAddrV4::new(Ipv4Addr::new(2, 0, 0, 0), 0xd05b)
+}
 
 const FIRST_NODE: Node = Node([198, 51, 100, 7, 0xbc, 0x47]);
 
@@ -98,7 +94,7 @@ struct Row {
     reason: &'static str,
     most: usize,
     joined: bool,
-    from: Place,
+    from: SocketAddrV4,
     sent: Sent,
 }
 
@@ -108,13 +104,13 @@ fn of_first(reason: &'static str, to: (u32, Node, u16), from: (u32, Node)) -> Ro
         reason,
         most: 64,
         joined: false,
-        from: FIRST,
+        from: first_place(),
         sent: Sent::Packet(to, from),
     }
 }
 
 /// A row with something else, at a server with room for clients.
-fn of_place(reason: &'static str, joined: bool, from: Place, sent: Sent) -> Row {
+fn of_place(reason: &'static str, joined: bool, from: SocketAddrV4, sent: Sent) -> Row {
     Row {
         reason,
         most: 64,
@@ -126,24 +122,24 @@ fn of_place(reason: &'static str, joined: bool, from: Place, sent: Sent) -> Row 
 
 fn rows() -> [Row; 15] {
     [
-        of_place("malformed", false, FIRST, Sent::Three),
-        of_place("node_taken", false, OWN, Sent::Registration),
-        of_place("too_many_new", false, UNKNOWN_SENDER, Sent::AfterTen),
+        of_place("malformed", false, first_place(), Sent::Three),
+        of_place("node_taken", false, own_place(), Sent::Registration),
+        of_place("too_many_new", false, unknown_place(), Sent::AfterTen),
         Row {
             reason: "full",
             most: 2,
             joined: false,
-            from: UNKNOWN_SENDER,
+            from: unknown_place(),
             sent: Sent::Registration,
         },
         of_place(
             "unregistered",
             false,
-            UNKNOWN_SENDER,
+            unknown_place(),
             Sent::Packet((0, SECOND_NODE, 0x4001), (0, UNKNOWN_SENDER_NODE)),
         ),
         of_first("other_source", (0, SECOND_NODE, 0x4001), (0, SECOND_NODE)),
-        of_place("too_long", false, FIRST, Sent::Long(FIRST_NODE)),
+        of_place("too_long", false, first_place(), Sent::Long(FIRST_NODE)),
         of_first("no_such_node", (0, NOBODY, 0x4001), (0, FIRST_NODE)),
         of_first("to_itself", (0, FIRST_NODE, 0x4001), (0, FIRST_NODE)),
         of_first("ping_elsewhere", (0x99, NOBODY, 2), (0, FIRST_NODE)),
@@ -157,13 +153,13 @@ fn rows() -> [Row; 15] {
         of_place(
             "not_behind",
             true,
-            SOUTH,
+            south_place(),
             Sent::Packet((0, SECOND_NODE, 0x4001), (0, FIRST_NODE)),
         ),
         of_place(
             "for_elsewhere",
             true,
-            SOUTH,
+            south_place(),
             Sent::Packet((0x99, SECOND_NODE, 0x4001), (0, NOBODY)),
         ),
     ]
@@ -185,13 +181,13 @@ fn packet(size: u16, to: (u32, Node, u16), from: (u32, Node)) -> [u8; 1425] {
 }
 
 /// Puts what is sent.
-fn put(sockets: &mut MemoryPlaces, from: Place, sent: Sent) -> Result<(), Fail> {
+fn put(sockets: &mut MemoryPlaces, from: SocketAddrV4, sent: Sent) -> Result<(), Fail> {
     match sent {
         Sent::Three => sockets.put(0, from, b"abc")?,
         Sent::Registration => sockets.put(0, from, &REGISTRATION)?,
         Sent::AfterTen => {
             for udp_port in 1..9_u16 {
-                let place = Place { udp_port, ..SECOND };
+                let place = SocketAddrV4::new(*second_place().ip(), udp_port);
                 sockets.put(0, place, &REGISTRATION)?;
             }
             sockets.put(0, from, &REGISTRATION)?;
@@ -220,7 +216,7 @@ fn core(alloc: Global) -> Result<PriorityRouterCore, Fail> {
 fn server(alloc: Global, most: usize, joined: bool) -> Result<IpxnetServer, Fail> {
     let mut routers = Vec::new(alloc);
     if joined {
-        routers.push(SOUTH)?;
+        routers.push(south_place())?;
     }
     Ok(IpxnetServer::joined_to(alloc, PORT, most, routers)?)
 }
@@ -228,7 +224,7 @@ fn server(alloc: Global, most: usize, joined: bool) -> Result<IpxnetServer, Fail
 /// The metrics of a port with number 2 after a row.
 fn metrics(alloc: Global, row: Row) -> Result<String, Fail> {
     let mut sockets = MemoryPlaces::new(alloc, 1);
-    for place in [FIRST, SECOND] {
+    for place in [first_place(), second_place()] {
         sockets.put(0, place, &REGISTRATION)?;
     }
     put(&mut sockets, row.from, row.sent)?;

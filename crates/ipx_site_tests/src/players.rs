@@ -4,6 +4,7 @@ use crate::fixture::{site, site_line};
 use ipx_site::{Accept, Directed, IpxnetPortConfig, Kind, PortConfig, RouterConfig};
 use ipx_wire::{Network, Node};
 use std::alloc::AllocError;
+use std::net::{Ipv4Addr, SocketAddrV4};
 
 /// A router with an RFC 1234 port and two ipxnet ports.
 const SITE: &str = "\
@@ -71,7 +72,7 @@ fn reads_ports_for_clients(rt: HostRuntime) {
     assert!(rt; players(&site, 1).is_some_and(|port| is_first(port)));
     assert!(rt; players(&site, 2).is_some_and(|port| is_second(port)));
     let place = site.ports[1].place();
-    assert!(rt; place.ip == [192, 0, 2, 10] && place.udp_port == 2130);
+    assert!(rt; place == SocketAddrV4::new(Ipv4Addr::new(192, 0, 2, 10), 2130));
 }
 
 /// 192 is 1100_0000, whose two low bits become 10; 2130 is 0x0852.

@@ -2,10 +2,10 @@
 
 use crate::fixture::{site, site_line};
 use ipx_ethernet::Encapsulation;
-use ipx_ethernet_ports::Place;
 use ipx_site::{EthernetPortConfig, Kind, PortConfig, RouterConfig};
 use ipx_wire::{Network, Node};
 use std::alloc::AllocError;
+use std::net::{Ipv4Addr, SocketAddrV4};
 
 /// A router with an RFC 1234 port and two Ethernet ports.
 const SITE: &str = "\
@@ -44,14 +44,8 @@ fn wire(site: &RouterConfig, index: usize) -> Option<&EthernetPortConfig> {
 
 fn is_first(port: &EthernetPortConfig) -> bool {
     let near = [
-        Place {
-            ip: [127, 0, 0, 1],
-            udp_port: 24001,
-        },
-        Place {
-            ip: [127, 0, 0, 1],
-            udp_port: 24003,
-        },
+        SocketAddrV4::new(Ipv4Addr::LOCALHOST, 24001),
+        SocketAddrV4::new(Ipv4Addr::LOCALHOST, 24003),
     ];
     port.network == Network(0x22)
         && port.encapsulation == Encapsulation::Llc
@@ -63,10 +57,7 @@ fn is_first(port: &EthernetPortConfig) -> bool {
 }
 
 fn is_second(port: &EthernetPortConfig) -> bool {
-    let far = [Place {
-        ip: [198, 51, 100, 7],
-        udp_port: 65535,
-    }];
+    let far = [SocketAddrV4::new(Ipv4Addr::new(198, 51, 100, 7), 65535)];
     port.network == Network(0x33)
         && port.encapsulation == Encapsulation::EthernetII
         && port.address == [192, 0, 2, 10]
@@ -104,7 +95,7 @@ fn reads_addresses_on_ethernet(rt: HostRuntime) {
         assert!(rt; port.router_port().network == port.network());
     }
     let place = site.ports[2].place();
-    assert!(rt; place.ip == [192, 0, 2, 10] && place.udp_port == 258);
+    assert!(rt; place == SocketAddrV4::new(Ipv4Addr::new(192, 0, 2, 10), 258));
 }
 
 /// An Ethernet port up to its remotes, and what follows, with what is printed of it.

@@ -1,7 +1,9 @@
 use Rattle.std.proofs.Common.{◌≡◌, take}
-use Rattle.ipx_ethernet_ports.specs.EthernetAddresses.{remote_places}
-use Rattle.ipx_site.specs.KindPorts.{end_places, ethernet_ports}
+use Rattle.ipx_ethernet_ports.specs.EthernetAddresses.{bound_places, remote_places}
+use Rattle.ipx_site.specs.KindPorts.{end_places, ethernet_places, ethernet_ports}
 use Rattle.ipx_site.proofs.ethernet_ports.bind_ethernet_ports.Given as goal
 
 abbrev pub invariant-loop-place : goal.invariant-loop-place
-invariant-loop-place g l = remote_places l.sockets.ethernet.items ≡ end_places (ethernet_ports (take l.place l.ports))
+invariant-loop-place g l =
+    (bound_places l.sockets.ethernet.items ≡ ethernet_places (ethernet_ports (take l.place l.ports)))
+    × (remote_places l.sockets.ethernet.items ≡ end_places (ethernet_ports (take l.place l.ports)))
