@@ -2,6 +2,7 @@
 
 ghost use Rattle.std.specs.Prelude.{◌≡◌, ◌<◌, ◌↔◌, ◌∷◌, [], ℕ, false, true, IfOk, IsTrue, None, OnErr, Some, length, map, replicate};
 ghost use Rattle.ipx_carrier.specs.Mapping.{node_at};
+ghost use Rattle.ipx_carrier.specs.Traces.{v4_at};
 ghost use Rattle.ipx_carrier.specs.Turns.{peers_of};
 ghost use Rattle.ipx_site.specs.Moments.{AreLoggedIfDue};
 ghost use Rattle.ipx_site.specs.AllowedPeers.{named_in};
@@ -122,6 +123,8 @@ impl HostSocket {
         ensures peers { IfOk result (λ r. peers_of r.0.peers.items ≡ (file.now.router ∷ []) ∷ []) }
         ensures udp_port { IfOk result (λ r.
             map (λ s. s.udp_port) r.0.device.device.sockets.items ≡ file.now.udp_port ∷ []) }
+        ensures at { IfOk result (λ r. map (λ s. s.socket.at) r.0.device.device.sockets.items
+            ≡ v4_at file.now.address file.now.udp_port ∷ []) }
         ensures access_list { IfOk result (λ r.
             map access_by r.0.device.access_lists.items ≡ guarded_host file.now dials ∷ []) }
     {
@@ -202,9 +205,11 @@ impl<'a, R: Net + Log + Clock> RunningHost<'a, R> {
         // A broadcast goes only to its router.
         ensures peers { IfOk result (λ s.
             peers_of s.host_socket.peers.items ≡ (file.now.router ∷ []) ∷ []) }
-        // Its one socket has the UDP port of the file.
+        // Its one socket has the UDP port of the file, and is bound at its address.
         ensures udp_port { IfOk result (λ s.
             map (λ s. s.udp_port) s.host_socket.device.device.sockets.items ≡ file.now.udp_port ∷ []) }
+        ensures at { IfOk result (λ s. map (λ s. s.socket.at) s.host_socket.device.device.sockets.items
+            ≡ v4_at file.now.address file.now.udp_port ∷ []) }
         // Its access list is that of the file and the dialed node.
         ensures access_list { IfOk result (λ s.
             map access_by s.host_socket.device.access_lists.items ≡ guarded_host file.now dials ∷ []) }

@@ -2,6 +2,7 @@
 
 ghost use Rattle.std.specs.Prelude.{◌≡◌, ◌∷◌, ◌++◌, [], ℕ, IfOk, IfSome, List, OnOk, map, true};
 ghost use Rattle.std.specs.Io.KnownBytes.{Appends};
+ghost use Rattle.ipx_carrier.specs.Traces.{v4_at};
 ghost use Rattle.ipx_carrier.specs.Mapping.{node_at};
 ghost use Rattle.ipx_site.specs.SitePorts.{access_by};
 ghost use Rattle.ipx_query.specs.PingEnds.{is_ping_over, new_ping};
@@ -94,6 +95,8 @@ impl<'a, R: Net + Clock> PingingHost<'a, R> {
         ensures times { IfOk result (λ h. h.times.items ≡ []) }
         ensures udp_port { IfOk result (λ h.
             map (λ s. s.udp_port) h.own_socket.device.device.sockets.items ≡ file.now.udp_port ∷ []) }
+        ensures at { IfOk result (λ h. map (λ s. s.socket.at) h.own_socket.device.device.sockets.items
+            ≡ v4_at file.now.address file.now.udp_port ∷ []) }
         ensures clock { IfOk result (λ h. h.clock.last ≡ 0) }
         // It sends only to the first node on the way, and accepts only those that may bring an
         // answer.

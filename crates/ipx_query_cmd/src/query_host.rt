@@ -1,6 +1,7 @@
 //! The host of a file that asks its routers over its socket.
 
 ghost use Rattle.std.specs.Prelude.{◌≡◌, ◌∷◌, [], IfOk, IfSome, List, OnOk, map, true};
+ghost use Rattle.ipx_carrier.specs.Traces.{v4_at};
 ghost use Rattle.ipx_carrier.specs.Turns.{Turn};
 ghost use Rattle.ipx_site.specs.SitePorts.{access_by};
 ghost use Rattle.ipx_query.specs.QueryEnds.{is_ask_over};
@@ -70,6 +71,8 @@ impl<'a, R: Net + Clock> QueryHost<'a, R> {
             IsNewAsk (querier_address file.now) question (asked_nodes file.now) h.core) }
         ensures udp_port { IfOk result (λ h.
             map (λ s. s.udp_port) h.own_socket.device.device.sockets.items ≡ file.now.udp_port ∷ []) }
+        ensures at { IfOk result (λ h. map (λ s. s.socket.at) h.own_socket.device.device.sockets.items
+            ≡ v4_at file.now.address file.now.udp_port ∷ []) }
         ensures clock { IfOk result (λ h. h.clock.last ≡ 0) }
         // It sends only to those that it asks, and accepts only those.
         ensures access_list { IfOk result (λ h.

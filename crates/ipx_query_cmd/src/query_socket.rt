@@ -1,6 +1,7 @@
 //! The socket of a host that asks, with its access list.
 
 ghost use Rattle.std.specs.Prelude.{◌≡◌, ◌∷◌, [], IfOk, OnOk, length, map};
+ghost use Rattle.ipx_carrier.specs.Traces.{v4_at};
 ghost use Rattle.ipx_carrier.specs.Turns.{IsTurn, Turn, peers_of};
 ghost use Rattle.ipx_site.specs.SitePorts.{access_by};
 
@@ -62,6 +63,8 @@ impl QuerySocket {
         ensures peers { IfOk result (λ r. peers_of r.0.peers.items ≡ [] ∷ []) }
         ensures udp_port { IfOk result (λ r.
             map (λ s. s.udp_port) r.0.device.device.sockets.items ≡ file.now.udp_port ∷ []) }
+        ensures at { IfOk result (λ r. map (λ s. s.socket.at) r.0.device.device.sockets.items
+            ≡ v4_at file.now.address file.now.udp_port ∷ []) }
         ensures access_list { IfOk result (λ r.
             map access_by r.0.device.access_lists.items ≡ access_by access_list ∷ []) }
     {
