@@ -20,7 +20,7 @@ hears_more hears now port (r ∷ rs) a b c bytes last h e k =
 pub asked_none : {C A : Type 0} (hears : Hears C) (now : ℕ) (t : Option (TrafficOf A)) (c : C) → AsksPorts hears now 0 t t c c 0
 asked_none hears now t c = ([], refl, passes_nothing t t refl, refl, refl)
 
-heard_more : (rs : List Reception) (port : ℕ) (bytes : Option (List ℕ)) → heard_in (rs ++ record { port = port; bytes = bytes } ∷ []) ≡ heard_in rs + cond (is_some bytes) 1 0
+pub heard_more : (rs : List Reception) (port : ℕ) (bytes : Option (List ℕ)) → heard_in (rs ++ record { port = port; bytes = bytes } ∷ []) ≡ heard_in rs + cond (is_some bytes) 1 0
 heard_more rs port bytes =
     let r : List Reception = record { port = port; bytes = bytes } ∷ [] in
     omega (arith, count-append (λ (x : Reception). is_some x.bytes) rs r)

@@ -28,7 +28,7 @@ counted turns transmissions rs ps = record {
 more_sent : {A : Type 0} (transmissions : Ways A) (ps qs : List Given) → sent_of transmissions (ps ++ qs) ≡ sent_of transmissions ps ++ sent_of transmissions qs
 more_sent transmissions ps qs = flat_map-append (copies_of transmissions) ps qs
 
-more_received : (ts us : List Turn) → received_of (ts ++ us) ≡ received_of ts ++ received_of us
+pub more_received : (ts us : List Turn) → received_of (ts ++ us) ≡ received_of ts ++ received_of us
 more_received ts us = flat_map-append (λ (t : Turn). t.answers) ts us
 
 more_packets : (ts us : List Turn) → packets_of (ts ++ us) ≡ packets_of ts ++ packets_of us
@@ -56,11 +56,13 @@ more_reported transmissions ts us =
     ∙ counted_parts transmissions (length ts) (length us) (received_of ts) (received_of us) (packets_of ts) (packets_of us)
 
 module _ {C : Type 0} (hears : C → ℕ → List ℕ → ℕ → C → Type 0)
-    (gives : C → ℕ → Option Given → C → Type 0) {K : Type 0} (tells : K → ℕ → K → Type 0) (ports : ℕ) {A : Type 0} (transmissions : Ways A) where
-  turns_on : (ts us : List Turn) (a b c : C) → Turns hears gives ports ts a b → Turns hears gives ports us b c → Turns hears gives ports (ts ++ us) a c
+    (gives : C → ℕ → Option Given → C → Type 0) (ports : ℕ) where
+  pub turns_on : (ts us : List Turn) (a b c : C) → Turns hears gives ports ts a b → Turns hears gives ports us b c → Turns hears gives ports (ts ++ us) a c
   turns_on [] us a b c h k = subst (λ a. Turns hears gives ports us a c) h k
   turns_on (t ∷ ts) us a b c h k = (h.0, h.1, turns_on ts us h.0 b c h.2 k)
 
+module _ {C : Type 0} (hears : C → ℕ → List ℕ → ℕ → C → Type 0)
+    (gives : C → ℕ → Option Given → C → Type 0) {K : Type 0} (tells : K → ℕ → K → Type 0) (ports : ℕ) {A : Type 0} (transmissions : Ways A) where
   pub ran_none : (s : Option (TrafficOf A)) (r : K) (a : C) (report : Report) → report ≡ counted 0 transmissions [] [] → RunsBy hears gives tells ports transmissions 0 s s r r a a report
   ran_none s r a report e = ([], refl, refl, passes_nothing s s refl, refl, e)
 
@@ -85,7 +87,7 @@ module _ {C : Type 0} (hears : C → ℕ → List ℕ → ℕ → C → Type 0)
       let passed = passes_on s t u (received_of ts) (received_of us) (sent_of transmissions (packets_of ts)) (sent_of transmissions (packets_of us)) h.3 k.3 in (
         ts ++ us,
         length-append ts us ∙ ap (λ i. i + length us) h.1 ∙ ap (λ i. m + i) k.1,
-        turns_on ts us a b c h.2 k.2,
+        turns_on hears gives ports ts us a b c h.2 k.2,
         subst (λ (rs : List Reception). Passes s u rs (sent_of transmissions (packets_of (ts ++ us)))) (sym (more_received ts us))
             (subst (λ (ds : List A). Passes s u (received_of ts ++ received_of us) ds) (sym (all_sent transmissions ts us)) passed),
         subst (λ (ms : List ℕ). TellsMoments tells r r'' ms) (sym (more_moments ts us)) (tells_on tells r r' r'' (moments_of ts) (moments_of us) h.4 k.4),
@@ -149,7 +151,7 @@ module _ {C : Type 0} (hears hear_out_of_memory : C → ℕ → List ℕ → ℕ
         k.2,
         k.3,
         omega (arith, length-append ts us),
-        turns_on hears gives tells ports transmissions ts us a b k.3 h.2 k.5,
+        turns_on hears gives ports ts us a b k.3 h.2 k.5,
         k.6,
         subst (λ (rs : List Reception). Passes s u rs (sent_of transmissions (packets_of (ts ++ us)) ++ k.2)) (sym received)
             (subst (λ (ds : List A). Passes s u (received_of ts ++ rs) ds) (sym sent) passed),

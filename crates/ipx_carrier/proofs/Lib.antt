@@ -9,5 +9,6 @@ pub mod PriorityPutting
 pub mod Waiting
 pub mod Draining
 pub mod Bursting
+pub mod Marking
 pub mod PriorityStaying
 pub mod PriorityLeaving

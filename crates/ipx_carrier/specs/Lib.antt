@@ -2,6 +2,7 @@ pub mod Mapping
 pub mod RunFaultNumbers
 pub mod Device
 pub mod Waits
+pub mod PortMarks
 pub mod Turns
 pub mod GivenPackets
 pub mod PortDrivers
@@ -23,3 +24,4 @@ pub mod Queued
 pub mod PriorityQueued
 pub mod Memory
 pub mod Driving
+pub mod MarkedTurns

@@ -2,6 +2,7 @@
 
 ghost use Rattle.std.specs.Prelude.{◌≡◌, ◌⊎◌, ◌≤◌, ◌↔◌, ◌+◌, ◌<◌, ◌^◌, IfOk, IfErr, IsTrue, OnOk, Err, length};
 ghost use Rattle.ipx_carrier.specs.Driving.{Bursts, BurstsBy, CanBegin, CanBeginBy, TakesTurn, TakesTurnBy, failed_after, refused};
+ghost use Rattle.ipx_carrier.specs.MarkedTurns.{MarksFollowBatch, MarksFollowFault, MarksFollowTurn};
 ghost use Rattle.ipx_carrier.specs.RunFaultNumbers.{failures_after};
 ghost use Rattle.ipx_carrier.specs.Runs.{EndsEarly, EndsEarlyBy, Runs, RunsBy};
 ghost use Rattle.ipx_carrier.specs.Turns.{peers_of};
@@ -80,6 +81,13 @@ fn run_once_lent<C: Core, S: PortDriver, K: Clock>(
     ensures transmissions { S.transmissions segments.new ≡ S.transmissions segments.old }
     ensures access { S.access segments.new ≡ S.access segments.old }
     ensures filtered { S.filtered segments.old ≤ S.filtered segments.new }
+    ensures marks { IfOk result (λ report. MarksFollowTurn C.hears C.gives (C.port_count core.old)
+        (S.marked segments.old) (S.marked segments.new) core.old core.new report.heard) }
+    ensures marks_fault { CanBeginBy (C.port_count core.old) (S.port_count segments.old)
+        (S.failed segments.old) → IfErr result (λ f.
+        MarksFollowFault C.hears C.hear_out_of_memory C.gives C.next_out_of_memory
+        (C.port_count core.old) (S.transmissions segments.old)
+        (S.marked segments.old) (S.marked segments.new) f core.old core.new) }
     ensures kept { S.kept segments.new ≡ S.kept segments.old }
 {
     if !can_begin_over(core, segments) {
@@ -128,6 +136,14 @@ pub fn run_once_over_ports<C: Core, S: PortDriver, K: Clock>(
     ensures transmissions { S.transmissions segments.new ≡ S.transmissions segments.old }
     ensures access { S.access segments.new ≡ S.access segments.old }
     ensures filtered { S.filtered segments.old ≤ S.filtered segments.new }
+    // What the ports answered, which the core heard, explains their marks.
+    ensures marks { IfOk result (λ report. MarksFollowTurn C.hears C.gives (C.port_count core.old)
+        (S.marked segments.old) (S.marked segments.new) core.old core.new report.heard) }
+    ensures marks_fault { CanBeginBy (C.port_count core.old) (S.port_count segments.old)
+        (S.failed segments.old) → IfErr result (λ f.
+        MarksFollowFault C.hears C.hear_out_of_memory C.gives C.next_out_of_memory
+        (C.port_count core.old) (S.transmissions segments.old)
+        (S.marked segments.old) (S.marked segments.new) f core.old core.new) }
     ensures kept { S.kept segments.new ≡ S.kept segments.old }
 {
     let mut room = [0; MAX_DATAGRAM];
@@ -168,6 +184,13 @@ pub fn run_batch<C: Core, S: PortDriverFilters, K: Clock>(
     // How packets are sent, who may send, and what no call changes all stay.
     ensures transmissions { S.transmissions segments.new ≡ S.transmissions segments.old }
     ensures access { S.access segments.new ≡ S.access segments.old }
+    // No port is marked that was not. A port lost its mark only if it answered None when it was last
+    // asked. The answers are those that the core heard.
+    ensures marks { CanBeginBy (C.port_count core.old) (S.port_count segments.old)
+        (S.failed segments.old)
+        → MarksFollowBatch C.hears C.hear_out_of_memory C.gives C.next_out_of_memory
+        (C.port_count core.old) (S.transmissions segments.old)
+        (S.marked segments.old) (S.marked segments.new) core.old core.new result }
     ensures kept { S.kept segments.new ≡ S.kept segments.old }
 {
     let mut room = [0; MAX_DATAGRAM];

@@ -2,6 +2,8 @@
 
 ghost use Rattle.std.specs.Prelude.{◌≡◌, ◌<◌, ◌≤◌, ◌+◌, ◌^◌, IfOk, IfErr, length};
 ghost use Rattle.ipx_carrier.specs.RunFaultNumbers.{failures_after};
+ghost use Rattle.ipx_carrier.specs.MarkedTurns.{AsksMarkedPorts, AsksSomeMarkedPorts};
+ghost use Rattle.ipx_carrier.specs.PortMarks.{AsksPortWithMark, FailsWithMark};
 ghost use Rattle.ipx_carrier.specs.Parts.{PollFails, AsksPort, AsksPorts, AsksSomePorts, TakesFromDevice};
 
 use crate::cores::Core;
@@ -34,6 +36,10 @@ fn hear_port<C: Core, S: PortDriver>(
     ensures transmissions { S.transmissions segments.new ≡ S.transmissions segments.old }
     ensures access { S.access segments.new ≡ S.access segments.old }
     ensures filtered { S.filtered segments.old ≤ S.filtered segments.new }
+    ensures marks { IfOk result (λ heard.
+        AsksPortWithMark port heard (S.marked segments.old) (S.marked segments.new)) }
+    ensures marks_stay { IfErr result (λ f.
+        FailsWithMark port f (S.marked segments.old) (S.marked segments.new)) }
     ensures kept { S.kept segments.new ≡ S.kept segments.old }
 {
     let Some(count) = segments.receive(port, room)? else {
@@ -68,6 +74,12 @@ pub fn hear_ports<C: Core, S: PortDriver>(
     ensures transmissions { S.transmissions segments.new ≡ S.transmissions segments.old }
     ensures access { S.access segments.new ≡ S.access segments.old }
     ensures filtered { S.filtered segments.old ≤ S.filtered segments.new }
+    // What the core heard explains the marks of the ports.
+    ensures marks { IfOk result (λ count. AsksMarkedPorts C.hears now (C.port_count core.old)
+        (S.marked segments.old) (S.marked segments.new) core.old core.new count) }
+    ensures marks_fault { IfErr result (λ f.
+        AsksSomeMarkedPorts C.hears C.hear_out_of_memory now (C.port_count core.old)
+        (S.marked segments.old) (S.marked segments.new) f core.old core.new) }
     ensures kept { S.kept segments.new ≡ S.kept segments.old }
 {
     let mut heard = 0;

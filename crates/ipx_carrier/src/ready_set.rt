@@ -1,6 +1,7 @@
 //! Marks of the ports that may have something to read.
 
 ghost use Rattle.std.specs.Prelude.{◌≡◌, ◌++◌, ◌∷◌, [], IfOk, OnErr, OnOk, false, length, replicate, slice_set, true};
+ghost use Rattle.ipx_carrier.specs.PortMarks.{AsksPortWithMark};
 ghost use Rattle.ipx_carrier.specs.ReadySet.{is_any_marked, is_port_marked};
 
 use std::alloc::{AllocError, Global};
@@ -83,8 +84,11 @@ impl ReadySet {
     }
 
     /// Clears a port's mark: the system said that nothing waits there.
+    #[tactic(auto, using(crate::proofs::Marking::cleared_asks))]
     pub fn clear_ready(&mut self, port: usize)
-        ensures { self.new ≡ slice_set self.old port false }
+        ensures cleared { self.new ≡ slice_set self.old port false }
+        ensures asked { AsksPortWithMark port false
+            (is_port_marked self.old) (is_port_marked self.new) }
     {
         if let Some(mark) = self.marks.get_mut(port) {
             *mark = false;

@@ -4,6 +4,7 @@ ghost use Rattle.std.specs.Prelude.{◌≡◌, ◌<◌, ◌≤◌, ◌+◌, ◌*
 ghost use Rattle.ipx_carrier.specs.RunFaultNumbers.{failures_after};
 ghost use Rattle.ipx_carrier.specs.Turns.{peers_of};
 ghost use Rattle.ipx_carrier.specs.Counts.{plus};
+ghost use Rattle.ipx_carrier.specs.MarkedTurns.{MarksFollowFault, MarksFollowTurn};
 ghost use Rattle.ipx_carrier.specs.Parts.{TakesFromDevice};
 ghost use Rattle.ipx_carrier.specs.Runs.{EndsEarly, EndsEarlyBy, Runs, RunsBy};
 ghost use Rattle.ipx_carrier.specs.Waits.{DrainsDevice};
@@ -70,6 +71,12 @@ pub fn run_once_in<C: Core, S: PortDriver, K: Clock>(
     ensures transmissions { S.transmissions segments.new ≡ S.transmissions segments.old }
     ensures access { S.access segments.new ≡ S.access segments.old }
     ensures filtered { S.filtered segments.old ≤ S.filtered segments.new }
+    ensures marks { IfOk result (λ report. MarksFollowTurn C.hears C.gives (C.port_count core.old)
+        (S.marked segments.old) (S.marked segments.new) core.old core.new report.heard) }
+    ensures marks_fault { IfErr result (λ f.
+        MarksFollowFault C.hears C.hear_out_of_memory C.gives C.next_out_of_memory
+        (C.port_count core.old) (S.transmissions segments.old)
+        (S.marked segments.old) (S.marked segments.new) f core.old core.new) }
     ensures kept { S.kept segments.new ≡ S.kept segments.old }
 {
     let now = clock.now();

@@ -1,9 +1,10 @@
 //! How a core's packets leave its ports, and how packets come in.
 
-ghost use Rattle.std.specs.Prelude.{◌≡◌, ◌<◌, ◌≤◌, ◌+◌, ◌^◌, ℕ, List, [], ◌∷◌, Option, IfOk, OnOk, OnErr, IfSome, length};
+ghost use Rattle.std.specs.Prelude.{◌≡◌, ◌<◌, ◌≤◌, ◌+◌, ◌^◌, ℕ, Bool, true, List, [], ◌∷◌, Option, IfOk, OnOk, OnErr, IfSome, is_some, length};
 ghost use Rattle.ipx_carrier.specs.Device.{Access, Passes, TrafficOf, received_in};
 ghost use Rattle.ipx_carrier.specs.RunFaultNumbers.{device_failures};
 ghost use Rattle.ipx_carrier.specs.PortDrivers.{SendsFrontOf, copies_count, count_in};
+ghost use Rattle.ipx_carrier.specs.PortMarks.{AsksPortWithMark, MarksStay};
 ghost use Rattle.ipx_carrier.specs.Turns.{Given, copies_of};
 ghost use Rattle.ipx_carrier.specs.Waits.{LeavesPort, WaitingDatagrams};
 
@@ -57,6 +58,9 @@ pub trait PortDriver {
     /// How much of what arrived was filtered. That never falls.
     ghost filtered: { Self → ℕ };
 
+    /// Whether something may wait at each port. A driver that keeps no marks says so of each.
+    ghost marked: { Self → ℕ → Bool } = { λ s port. true };
+
     /// How many ports there are.
     fn ports(&self) -> usize
         ensures { result ≡ port_count self.now };
@@ -86,6 +90,7 @@ pub trait PortDriver {
         ensures transmissions { transmissions self.new ≡ transmissions self.old }
         ensures access { access self.new ≡ access self.old }
         ensures filtered { filtered self.old ≤ filtered self.new }
+        ensures marks { MarksStay (marked self.old) (marked self.new) }
         ensures kept { Self.kept self.new ≡ Self.kept self.old };
 
     /// Takes what comes first for the core at a port, if there is something. Its bytes go to the
@@ -107,6 +112,9 @@ pub trait PortDriver {
         ensures transmissions { transmissions self.new ≡ transmissions self.old }
         ensures access { access self.new ≡ access self.old }
         ensures filtered { filtered self.old ≤ filtered self.new }
+        ensures marks { IfOk result (λ count. AsksPortWithMark port (is_some count)
+            (marked self.old) (marked self.new)) }
+        ensures marks_stay { OnErr result (MarksStay (marked self.old) (marked self.new)) }
         ensures kept { Self.kept self.new ≡ Self.kept self.old };
 }
 

@@ -3,6 +3,7 @@
 ghost use Rattle.std.specs.Prelude.{◌≡◌, ◌<◌, ◌≤◌, ◌+◌, ◌*◌, ◌^◌, IfOk, IfErr, length};
 ghost use Rattle.ipx_carrier.specs.RunFaultNumbers.{failures_after};
 ghost use Rattle.ipx_carrier.specs.PortDrivers.{count_in};
+ghost use Rattle.ipx_carrier.specs.PortMarks.{MarksStay};
 ghost use Rattle.ipx_carrier.specs.SendingView.{with_one_packet, copies_view};
 ghost use Rattle.ipx_carrier.specs.Parts.{SendsAll, SendsNext, SendsSome};
 
@@ -34,6 +35,7 @@ fn send_next<C: Core, S: PortDriver>(
     ensures transmissions { S.transmissions segments.new ≡ S.transmissions segments.old }
     ensures access { S.access segments.new ≡ S.access segments.old }
     ensures filtered { S.filtered segments.old ≤ S.filtered segments.new }
+    ensures marks { MarksStay (S.marked segments.old) (S.marked segments.new) }
     ensures kept { S.kept segments.new ≡ S.kept segments.old }
 {
     let Some((port, node, count)) = core.next(alloc, now, room)? else {
@@ -87,6 +89,7 @@ pub fn send_all<C: Core, S: PortDriver>(
     ensures transmissions { S.transmissions segments.new ≡ S.transmissions segments.old }
     ensures access { S.access segments.new ≡ S.access segments.old }
     ensures filtered { S.filtered segments.old ≤ S.filtered segments.new }
+    ensures marks { MarksStay (S.marked segments.old) (S.marked segments.new) }
     ensures kept { S.kept segments.new ≡ S.kept segments.old }
 {
     let mut totals = SendCounts {

@@ -1,6 +1,7 @@
 use Rattle.std.proofs.Common.{◌∙◌, arith, ap, sym}
 use Rattle.ipx_carrier.specs.declared.fault.RunFault.TheVariants.{Device}
 use Rattle.ipx_carrier.proofs.Bursting.{begins_again, ended_untold, ends_badly, ends_quietly, goes_on, is_busy_so, no_fault, ran_untold, refused_first, refused_none, same_fault}
+use Rattle.ipx_carrier.proofs.Marking.{batch_ended, batch_follows, so_far_more}
 use Rattle.ipx_carrier.proofs.driving.run_batch.Goals.{else-is_idle-via-then-is_idle+else-filtered-kept, else-is_idle-via-else-is_idle}
 use Rattle.ipx_carrier.proofs.driving.run_batch.Goals as goal
 
@@ -35,6 +36,30 @@ returns-then-filtered-kept-clause-turns g c =
     let counted = c.with-batch.ensures in
     ends_quietly g.C.Core.hears g.C.Core.hear_out_of_memory g.C.Core.gives g.C.Core.next_out_of_memory g.K.Clock.tells (g.C.Core.port_count c.args.core.now) (g.S.PortDriver.transmissions c.args.segments.now) (g.C.Core.port_count l.core) l._turn c.args.most (g.S.PortDriver.transmissions l.segments) (g.S.PortDriver.filtered c.args.segments.now) (g.S.PortDriver.filtered l.segments) (g.S.PortDriver.filtered c.run_once_lent.new.segments) c.args.clock.now l.clock c.run_once_lent.new.clock c.args.core.now l.core c.run_once_lent.new.core l.batch c.with-batch.result c.quieted.result report i.ports i.transmissions (omega (arith, c.loop-turn-test.true)) (i.goes can) (sym c.filtered.ensures ∙ c.if-filtered-kept.true ∙ c.filtered-kept.ensures) (ran_untold g.C.Core.hears g.C.Core.hear_out_of_memory g.C.Core.gives g.C.Core.next_out_of_memory g.K.Clock.tells (g.C.Core.port_count l.core) (g.S.PortDriver.transmissions l.segments) (g.S.PortDriver.traffic l.segments) (g.S.PortDriver.traffic c.run_once_lent.new.segments) l.clock c.run_once_lent.new.clock l.core c.run_once_lent.new.core report c.in-Ok.ensures.turn) (c.is_idle.ensures.0 c.if-is_idle.true) (counted.heard, counted.sent, counted.unmapped) (counted.rest.0 ∙ i.whole) c.quieted.ensures
 
+pub returns-in-Err-clause-marks : goal.returns-in-Err-clause-marks
+returns-in-Err-clause-marks g c =
+    λ can.
+    let l = c.loop-turn in
+    let i = l.invariant in
+    let again = begins_again i.ports i.segment_ports (i.failures can) can in
+    batch_ended g.C.Core.hears g.C.Core.hear_out_of_memory g.C.Core.gives g.C.Core.next_out_of_memory (g.C.Core.port_count c.args.core.now) (g.S.PortDriver.transmissions c.args.segments.now) (g.C.Core.port_count l.core) (g.S.PortDriver.transmissions l.segments) (g.S.PortDriver.marked c.args.segments.now) (g.S.PortDriver.marked l.segments) (g.S.PortDriver.marked c.run_once_lent.new.segments) c.args.core.now l.core c.run_once_lent.new.core c.ended_by.result l.batch.heard c.in-Err.fault i.ports i.transmissions (ap (λ b. b.fault) c.ended_by.ensures) (ap (λ b. b.heard) c.ended_by.ensures) i.marks (c.in-Err.ensures.marks_fault again)
+
+pub returns-then-filtered-kept-clause-marks : goal.returns-then-filtered-kept-clause-marks
+returns-then-filtered-kept-clause-marks g c =
+    λ can.
+    let l = c.loop-turn in
+    let i = l.invariant in
+    let report = c.in-Ok.report in
+    let counted = c.with-batch.ensures in
+    batch_follows g.C.Core.hears g.C.Core.hear_out_of_memory g.C.Core.gives g.C.Core.next_out_of_memory (g.C.Core.port_count c.args.core.now) (g.S.PortDriver.transmissions c.args.segments.now) (g.S.PortDriver.marked c.args.segments.now) (g.S.PortDriver.marked c.run_once_lent.new.segments) c.args.core.now c.run_once_lent.new.core c.quieted.result (ap (λ b. b.fault) c.quieted.ensures ∙ counted.rest.0 ∙ i.whole)
+    (so_far_more g.C.Core.hears g.C.Core.gives (g.C.Core.port_count c.args.core.now) (g.C.Core.port_count l.core) (g.S.PortDriver.marked c.args.segments.now) (g.S.PortDriver.marked l.segments) (g.S.PortDriver.marked c.run_once_lent.new.segments) c.args.core.now l.core c.run_once_lent.new.core l.batch.heard report.heard c.quieted.result.heard i.ports i.marks c.in-Ok.ensures.marks (ap (λ b. b.heard) c.quieted.ensures ∙ counted.heard))
+
+pub returns-clause-marks : goal.returns-clause-marks
+returns-clause-marks g c =
+    λ can.
+    let l = c.loop-turn in
+    batch_follows g.C.Core.hears g.C.Core.hear_out_of_memory g.C.Core.gives g.C.Core.next_out_of_memory (g.C.Core.port_count c.args.core.now) (g.S.PortDriver.transmissions c.args.segments.now) (g.S.PortDriver.marked c.args.segments.now) (g.S.PortDriver.marked l.segments) c.args.core.now l.core l.batch l.invariant.whole l.invariant.marks
+
 pub loop-turn-preserved : goal.loop-turn-preserved
 loop-turn-preserved g c =
     let l = c.loop-turn in
@@ -55,6 +80,7 @@ loop-turn-preserved g c =
       segment_ports = c.in-Ok.ensures.segment_ports ∙ i.segment_ports;
       transmissions = c.in-Ok.ensures.transmissions ∙ i.transmissions;
       access = c.in-Ok.ensures.access ∙ i.access;
+      marks = so_far_more g.C.Core.hears g.C.Core.gives (g.C.Core.port_count c.args.core.now) (g.C.Core.port_count l.core) (g.S.PortDriver.marked c.args.segments.now) (g.S.PortDriver.marked l.segments) (g.S.PortDriver.marked c.run_once_lent.new.segments) c.args.core.now l.core c.run_once_lent.new.core l.batch.heard report.heard c.with-batch.result.heard i.ports i.marks c.in-Ok.ensures.marks counted.heard;
       kept = c.in-Ok.ensures.kept ∙ i.kept;
     }
 

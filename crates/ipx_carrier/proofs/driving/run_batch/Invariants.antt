@@ -1,6 +1,7 @@
 use Rattle.std.proofs.Common.{◌≡◌, None, false}
 use Rattle.ipx_carrier.specs.Driving.{CanBeginBy, no_turns}
 use Rattle.ipx_carrier.proofs.Bursting.{Goes}
+use Rattle.ipx_carrier.proofs.Marking.{FollowSoFar}
 use Rattle.ipx_carrier.proofs.driving.run_batch.Given as goal
 
 abbrev pub invariant-loop-turn : goal.invariant-loop-turn
@@ -16,5 +17,6 @@ invariant-loop-turn g l =
       segment_ports : g.S.PortDriver.port_count l.segments ≡ g.S.PortDriver.port_count l.fn.segments;
       transmissions : g.S.PortDriver.transmissions l.segments ≡ g.S.PortDriver.transmissions l.fn.segments;
       access : g.S.PortDriver.access l.segments ≡ g.S.PortDriver.access l.fn.segments;
+      marks : FollowSoFar g.C.Core.hears g.C.Core.gives (g.C.Core.port_count l.fn.core) (g.S.PortDriver.marked l.fn.segments) (g.S.PortDriver.marked l.segments) l.fn.core l.core l.batch.heard;
       kept : g.S.PortDriver.kept l.segments ≡ g.S.PortDriver.kept l.fn.segments;
     }

@@ -1,4 +1,5 @@
 use Rattle.std.proofs.Common.{◌≡◌, ◌≤◌, length}
+use Rattle.ipx_carrier.specs.MarkedTurns.{AsksMarkedPorts}
 use Rattle.ipx_carrier.specs.Parts.{AsksPorts, TakesFromDevice}
 use Rattle.ipx_carrier.proofs.hearing.hear_ports.Given as goal
 
@@ -14,5 +15,6 @@ invariant-loop-port g l = record {
   transmissions : g.S.PortDriver.transmissions l.segments ≡ g.S.PortDriver.transmissions l.fn.segments;
   access : g.S.PortDriver.access l.segments ≡ g.S.PortDriver.access l.fn.segments;
   filtered : g.S.PortDriver.filtered l.fn.segments ≤ g.S.PortDriver.filtered l.segments;
+  marks : AsksMarkedPorts g.C.Core.hears l.now l.port (g.S.PortDriver.marked l.fn.segments) (g.S.PortDriver.marked l.segments) l.fn.core l.core l.heard;
   kept : g.S.PortDriver.kept l.segments ≡ g.S.PortDriver.kept l.fn.segments;
 }

@@ -1,4 +1,4 @@
-use Rattle.std.proofs.Common.{rules, arith, Option, Some, subst}
+use Rattle.std.proofs.Common.{◌∙◌, rules, arith, Option, Some, subst}
 use Rattle.std.proofs.lemmas.Result.{err_from_is_err_and}
 use Rattle.ipx_carrier.specs.declared.segments.PacketSent.{PacketSent}
 use Rattle.ipx_carrier.specs.Parts.{SendsNext}
@@ -32,5 +32,6 @@ loop-asked-preserved g c =
       transmissions = search rules;
       access = search rules;
       filtered = omega arith;
+      marks = λ port. c.send_next.ensures.marks port ∙ c.loop-asked.invariant.marks port;
       kept = search rules;
     }

@@ -1,4 +1,5 @@
 use Rattle.std.proofs.Common.{◌≡◌, ◌≤◌, ◌*◌, ◌^◌}
+use Rattle.ipx_carrier.specs.PortMarks.{MarksStay}
 use Rattle.ipx_carrier.specs.Parts.{SendsEach}
 use Rattle.ipx_carrier.proofs.sending.send_all.Given as goal
 
@@ -14,5 +15,6 @@ invariant-loop-asked g l = record {
   transmissions : g.S.PortDriver.transmissions l.segments ≡ g.S.PortDriver.transmissions l.fn.segments;
   access : g.S.PortDriver.access l.segments ≡ g.S.PortDriver.access l.fn.segments;
   filtered : g.S.PortDriver.filtered l.fn.segments ≤ g.S.PortDriver.filtered l.segments;
+  marks : MarksStay (g.S.PortDriver.marked l.fn.segments) (g.S.PortDriver.marked l.segments);
   kept : g.S.PortDriver.kept l.segments ≡ g.S.PortDriver.kept l.fn.segments;
 }
