@@ -1,6 +1,7 @@
 //! The sockets of Ethernet ports.
 
-ghost use Rattle.std.specs.Prelude.{◌≡◌, ◌<◌, ◌≤◌, ℕ, List, [], ◌∷◌, Option, IfOk, IfSome, OnErr, OnOk, length, slice_index};
+ghost use Rattle.std.specs.Prelude.{◌≡◌, ◌<◌, ◌≤◌, ℕ, Bool, List, [], ◌∷◌, Option, IfOk, IfSome, OnErr, OnOk, is_some, length, slice_index, true};
+ghost use Rattle.ipx_carrier.specs.PortMarks.{AsksPortWithMark, MarksStay};
 ghost use Rattle.ipx_ethernet_ports.specs.EndTraffic.{EndTraffic, EndsPass, came_in, failures_counted, frame_at, frames_in};
 
 use ipx_carrier::DeviceFault;
@@ -31,6 +32,9 @@ pub trait EndSockets {
     /// How many frames came from unknown senders. That never falls.
     ghost filtered: { Self → ℕ };
 
+    /// Whether something may wait at each port. Sockets that keep no marks say so of each.
+    ghost marked: { Self → ℕ → Bool } = { λ s port. true };
+
     /// How many ports there are.
     fn ports(&self) -> usize
         ensures { result ≡ length (ends_of self.now) };
@@ -59,6 +63,7 @@ pub trait EndSockets {
         ensures refused { OnErr result (traffic self.new ≡ traffic self.old) }
         ensures failures { failed self.new ≡ failures_counted result (failed self.old) }
         ensures ends { ends_of self.new ≡ ends_of self.old }
+        ensures marks { MarksStay (marked self.old) (marked self.new) }
         ensures filtered { filtered self.new ≡ filtered self.old };
 
     /// Takes the first frame that waits at a port, if there is one. Its bytes go to the front of
@@ -75,5 +80,8 @@ pub trait EndSockets {
         ensures refused { OnErr result (traffic self.new ≡ traffic self.old) }
         ensures failures { failed self.new ≡ failures_counted result (failed self.old) }
         ensures ends { ends_of self.new ≡ ends_of self.old }
+        ensures marks { IfOk result (λ came. AsksPortWithMark port (is_some came)
+            (marked self.old) (marked self.new)) }
+        ensures marks_stay { OnErr result (MarksStay (marked self.old) (marked self.new)) }
         ensures filtered { filtered self.old ≤ filtered self.new };
 }

@@ -1,7 +1,8 @@
 //! Ethernet ports.
 
-ghost use Rattle.std.specs.Prelude.{◌≡◌, ◌<◌, ◌≤◌, ◌+◌, ◌^◌, [], Option, None, IfOk, IfSome, OnErr, length, map, min, slice_index, slice_set, true};
+ghost use Rattle.std.specs.Prelude.{◌≡◌, ◌<◌, ◌≤◌, ◌+◌, ◌^◌, [], Option, None, IfOk, IfSome, OnErr, is_some, length, map, min, slice_index, slice_set, true};
 ghost use Rattle.ipx_carrier.specs.PortDrivers.{copies_count, count_in};
+ghost use Rattle.ipx_carrier.specs.PortMarks.{AsksPortWithMark, MarksStay};
 ghost use Rattle.ipx_ethernet_ports.specs.EndTraffic.{EndFrame, frame_at};
 ghost use Rattle.ipx_ethernet_ports.specs.OnEthernet.{HearsAnswerOf, HearsAtEthernet, SendsPacket, by_frames, ethernet_ports_view};
 
@@ -80,6 +81,7 @@ impl<D: EndSockets + Drop> EthernetPorts<D> {
         ensures rest { self.new.moment ≡ self.old.moment }
         ensures ends { D.ends_of self.new.sockets ≡ D.ends_of self.old.sockets }
         ensures filtered { D.filtered self.new.sockets ≡ D.filtered self.old.sockets }
+        ensures marks { MarksStay (D.marked self.old.sockets) (D.marked self.new.sockets) }
     {
         let mut frame = [0; FRAME_MAX_SIZE];
         let switch = &mut self.switches[port];
@@ -115,6 +117,7 @@ impl<D: EndSockets + Drop> EthernetPorts<D> {
         ensures grows { self.old.kept ≤ self.new.kept }
         ensures ends { D.ends_of self.new.sockets ≡ D.ends_of self.old.sockets }
         ensures filtered { D.filtered self.new.sockets ≡ D.filtered self.old.sockets }
+        ensures marks { MarksStay (D.marked self.old.sockets) (D.marked self.new.sockets) }
     {
         let switch = &mut self.switches[port];
         let (way, count) = take_packet(switch, end, bytes, self.moment, room);
@@ -169,6 +172,8 @@ impl<D: EndSockets + Drop> PortDriver for EthernetPorts<D> {
 
     ghost filtered = { λ w. w.kept + D.filtered w.sockets };
 
+    ghost marked = { λ w. D.marked w.sockets };
+
     fn ports(&self) -> usize {
         self.switches.len().min(self.sockets.ports())
     }
@@ -198,6 +203,7 @@ impl<D: EndSockets + Drop> PortDriver for EthernetPorts<D> {
             ≡ map (λ h. h.port) self.old.switches.items }
         ensures kept { self.new.kept ≡ self.old.kept }
         ensures filtered { D.filtered self.new.sockets ≡ D.filtered self.old.sockets }
+        ensures marks { MarksStay (D.marked self.old.sockets) (D.marked self.new.sockets) }
         ensures ends { D.ends_of self.new.sockets ≡ D.ends_of self.old.sockets }
     {
         Ok(self.send_frame(port, node, packet))
@@ -225,6 +231,9 @@ impl<D: EndSockets + Drop> PortDriver for EthernetPorts<D> {
             ≡ map (λ h. h.port) self.old.switches.items }
         ensures kept { self.old.kept ≤ self.new.kept }
         ensures filtered { D.filtered self.old.sockets ≤ D.filtered self.new.sockets }
+        // If the sockets fail or nothing is for the core, the port may lose its mark only as they say.
+        ensures marks { IfOk result (λ up. AsksPortWithMark port (is_some up)
+            (D.marked self.old.sockets) (D.marked self.new.sockets)) }
         ensures ends { D.ends_of self.new.sockets ≡ D.ends_of self.old.sockets }
     {
         let mut frame = [0; FRAME_BUFFER];

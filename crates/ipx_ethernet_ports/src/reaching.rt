@@ -1,6 +1,7 @@
 //! A frame that is sent to several remotes of a port.
 
 ghost use Rattle.std.specs.Prelude.{◌≡◌, ◌<◌, [], length, slice_index};
+ghost use Rattle.ipx_carrier.specs.PortMarks.{MarksStay};
 ghost use Rattle.ipx_ethernet_ports.specs.OnEthernet.{ReachesEnds};
 
 use crate::end_sockets::EndSockets;
@@ -15,6 +16,7 @@ pub fn send_to_ends<D: EndSockets>(sockets: &mut D, port: usize, way: Egress, by
         (D.failed sockets.old) (D.failed sockets.new) }
     ensures ends { D.ends_of sockets.new ≡ D.ends_of sockets.old }
     ensures filtered { D.filtered sockets.new ≡ D.filtered sockets.old }
+    ensures marks { MarksStay (D.marked sockets.old) (D.marked sockets.new) }
 {
     let ends = sockets.ends(port);
     for end in 0..ends {

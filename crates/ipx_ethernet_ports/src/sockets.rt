@@ -2,8 +2,9 @@
 
 ghost use Rattle.std.specs.Prelude.{◌≡◌, ◌<◌, ◌≤◌, ◌↔◌, ◌++◌, ◌∷◌, [], Bool, IfOk, IfSome, IsSome, None, Ok, OnErr, OnOk, Some, false, is_some, length, slice_get, slice_index, slice_set, take, true};
 ghost use Rattle.ipx_carrier.specs.Counting.{raised};
-ghost use Rattle.ipx_carrier.specs.Traces.{received_from, sent_to};
+ghost use Rattle.ipx_carrier.specs.PortMarks.{AsksPortWithMark};
 ghost use Rattle.ipx_carrier.specs.ReadySet.{AsksMarked, IsFilteredOrAnswer, is_port_marked};
+ghost use Rattle.ipx_carrier.specs.Traces.{received_from, sent_to};
 ghost use Rattle.ipx_ethernet_ports.specs.EndTraffic.{failures_counted};
 ghost use Rattle.ipx_ethernet_ports.specs.EthernetAddresses.{IsUnknownOrNothing, ReceivesFrame, SendsFrame, bound_places, end_at_place, is_place, remote_counts, remote_places};
 ghost use Rattle.std.specs.declared.net.socket_addr.SocketAddr.{SocketAddr};
@@ -197,6 +198,8 @@ impl EndSockets for EthernetSockets {
 
     ghost filtered = { λ s. s.unknown_senders };
 
+    ghost marked = { λ s. is_port_marked s.marks };
+
     fn ports(&self) -> usize {
         self.ethernet.len()
     }
@@ -249,6 +252,8 @@ impl EndSockets for EthernetSockets {
             × IsFilteredOrAnswer came (is_some answer) self.old.unknown_senders self.new.unknown_senders
             × IsUnknownOrNothing came port room.new answer self.old.ethernet.items
             self.new.ethernet.items) }
+        ensures marks { IfOk result (λ answer. AsksPortWithMark port (is_some answer)
+            (is_port_marked self.old.marks) (is_port_marked self.new.marks)) }
         // What came from a remote is returned, and what came from an unknown sender is counted.
         ensures from { IfOk result (λ came. IfSome came (λ c. ReceivesFrame port
             (take c.size room.new) (Some c.end) self.old.ethernet.items self.new.ethernet.items)) }

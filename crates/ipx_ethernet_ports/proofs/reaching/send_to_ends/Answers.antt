@@ -8,6 +8,7 @@ loop-end-init g c = record {
   reached = reaches_none c.args.way c.args.port c.args.bytes.now _ _ _ _ refl refl;
   ends = refl;
   filtered = refl;
+  marks = λ port. refl;
 }
 
 pub loop-end-preserved : goal.loop-end-preserved
@@ -17,10 +18,12 @@ loop-end-preserved g c =
         reached = reaches_sent w.send.result c.args.way c.loop-end.end c.args.port c.args.bytes.now _ _ _ _ _ _ (sym c.is_to.ensures ∙ w.if-is_to.true) c.loop-end.invariant.reached w.send.ensures.sent w.send.ensures.refused w.send.ensures.failures;
         ends = w.send.ensures.ends ∙ c.loop-end.invariant.ends;
         filtered = w.send.ensures.filtered ∙ c.loop-end.invariant.filtered;
+        marks = λ port. w.send.ensures.marks port ∙ c.loop-end.invariant.marks port;
       })
       | else-is_to w ↦ rw w.sockets-is (record {
         reached = reaches_past c.args.way c.loop-end.end c.args.port c.args.bytes.now _ _ _ _ (sym c.is_to.ensures ∙ w.if-is_to.false) c.loop-end.invariant.reached;
         ends = c.loop-end.invariant.ends;
         filtered = c.loop-end.invariant.filtered;
+        marks = c.loop-end.invariant.marks;
       })
     ]
