@@ -1,6 +1,7 @@
 //! What an ipxnet server sends to addresses.
 
 ghost use Rattle.std.specs.Prelude.{◌≡◌, ◌<◌, [], false};
+ghost use Rattle.ipx_carrier.specs.PortMarks.{MarksStay};
 ghost use Rattle.ipxnet_server.specs.ServerClients.{EachClientOnce};
 ghost use Rattle.ipxnet_server.specs.ServerHears.{is_taker, takers_of};
 ghost use Rattle.ipx_ipxnet_ports.specs.OnServers.{GivesOn, answer_for, clients_reached, notice_for, relayed_on, relayed_to, routers_reached};
@@ -27,6 +28,7 @@ pub fn send_to_clients<D: PlaceSockets>(
     ensures once { EachClientOnce server.now.clients }
     ensures ports { D.port_count sockets.new ≡ D.port_count sockets.old }
     ensures filtered { D.filtered sockets.new ≡ D.filtered sockets.old }
+    ensures marks { MarksStay (D.marked sockets.old) (D.marked sockets.new) }
 {
     let clients = server.clients();
     for client in clients {
@@ -51,6 +53,7 @@ pub fn send_to_routers<D: PlaceSockets>(
         (D.failed sockets.old) (D.failed sockets.new) }
     ensures ports { D.port_count sockets.new ≡ D.port_count sockets.old }
     ensures filtered { D.filtered sockets.new ≡ D.filtered sockets.old }
+    ensures marks { MarksStay (D.marked sockets.old) (D.marked sockets.new) }
 {
     let routers = server.routers();
     for router in routers {
@@ -73,6 +76,7 @@ fn send_notice<D: PlaceSockets>(
         (D.failed sockets.old) (D.failed sockets.new) }
     ensures ports { D.port_count sockets.new ≡ D.port_count sockets.old }
     ensures filtered { D.filtered sockets.new ≡ D.filtered sockets.old }
+    ensures marks { MarksStay (D.marked sockets.old) (D.marked sockets.new) }
 {
     if let Some(announcement) = announcement {
         send_to_routers(sockets, port, server, Recipients::Joined, &announcement);
@@ -92,6 +96,7 @@ fn send_answer<D: PlaceSockets>(
         (D.failed sockets.old) (D.failed sockets.new) }
     ensures ports { D.port_count sockets.new ≡ D.port_count sockets.old }
     ensures filtered { D.filtered sockets.new ≡ D.filtered sockets.old }
+    ensures marks { MarksStay (D.marked sockets.old) (D.marked sockets.new) }
 {
     if let Some(answer) = answer {
         let _ = sockets.send(port, place, &answer);
@@ -118,6 +123,7 @@ pub fn give_on<D: PlaceSockets>(
         (D.failed sockets.old) (D.failed sockets.new) }
     ensures ports { D.port_count sockets.new ≡ D.port_count sockets.old }
     ensures filtered { D.filtered sockets.new ≡ D.filtered sockets.old }
+    ensures marks { MarksStay (D.marked sockets.old) (D.marked sockets.new) }
 {
     send_answer(sockets, port, from, heard.answer());
     let takers = heard.takers();

@@ -1,6 +1,7 @@
 //! The sockets of ipxnet servers.
 
-ghost use Rattle.std.specs.Prelude.{◌≡◌, ◌<◌, ◌≤◌, ℕ, [], ◌∷◌, Option, IfOk, IfSome, OnErr, OnOk, length};
+ghost use Rattle.std.specs.Prelude.{◌≡◌, ◌<◌, ◌≤◌, ℕ, Bool, [], ◌∷◌, Option, IfOk, IfSome, OnErr, OnOk, is_some, length, true};
+ghost use Rattle.ipx_carrier.specs.PortMarks.{AsksPortWithMark, MarksStay};
 ghost use Rattle.ipx_ipxnet_ports.specs.PlaceTraffic.{PlaceTraffic, PlacesPass, came_from_place, failures_with, place_datagram, place_datagrams};
 
 use ipx_carrier::DeviceFault;
@@ -33,6 +34,9 @@ pub trait PlaceSockets {
     /// falls.
     ghost filtered: { Self → ℕ };
 
+    /// Whether something may wait at each port. Sockets that keep no marks say so of each.
+    ghost marked: { Self → ℕ → Bool } = { λ s port. true };
+
     /// How many ports there are.
     fn ports(&self) -> usize
         ensures { result ≡ port_count self.now };
@@ -55,6 +59,7 @@ pub trait PlaceSockets {
         ensures refused { OnErr result (traffic self.new ≡ traffic self.old) }
         ensures failures { failed self.new ≡ failures_with result (failed self.old) }
         ensures ports { port_count self.new ≡ port_count self.old }
+        ensures marks { MarksStay (marked self.old) (marked self.new) }
         ensures filtered { filtered self.new ≡ filtered self.old };
 
     /// Takes the first datagram that waits at a port, if there is one. Its bytes go to the front of
@@ -69,5 +74,8 @@ pub trait PlaceSockets {
         ensures refused { OnErr result (traffic self.new ≡ traffic self.old) }
         ensures failures { failed self.new ≡ failures_with result (failed self.old) }
         ensures ports { port_count self.new ≡ port_count self.old }
+        ensures marks { IfOk result (λ came. AsksPortWithMark port (is_some came)
+            (marked self.old) (marked self.new)) }
+        ensures marks_stay { OnErr result (MarksStay (marked self.old) (marked self.new)) }
         ensures filtered { filtered self.old ≤ filtered self.new };
 }

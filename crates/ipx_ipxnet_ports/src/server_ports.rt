@@ -1,7 +1,8 @@
 //! Ports with ipxnet servers.
 
-ghost use Rattle.std.specs.Prelude.{◌≡◌, ◌<◌, ◌≤◌, ◌+◌, ◌^◌, [], Option, None, IfOk, IfSome, OnErr, length, min, slice_set, true};
+ghost use Rattle.std.specs.Prelude.{◌≡◌, ◌<◌, ◌≤◌, ◌+◌, ◌^◌, [], Option, None, IfOk, IfSome, OnErr, is_some, length, min, slice_set, true};
 ghost use Rattle.ipx_carrier.specs.PortDrivers.{copies_count, count_in};
+ghost use Rattle.ipx_carrier.specs.PortMarks.{AsksPortWithMark, MarksStay};
 ghost use Rattle.ipx_ipxnet_ports.specs.OnServers.{HearsAtServer, ReceivesAtServer, SendsThroughServer, by_servers, servers_view, server_ports, packet_said};
 ghost use Rattle.ipx_ipxnet_ports.specs.PlaceTraffic.{PlaceDatagram, place_datagram};
 
@@ -94,6 +95,7 @@ impl<D: PlaceSockets + Drop> Servers<D> {
         ensures rest { self.new.moment ≡ self.old.moment }
         ensures ports { D.port_count self.new.sockets ≡ D.port_count self.old.sockets }
         ensures filtered { D.filtered self.new.sockets ≡ D.filtered self.old.sockets }
+        ensures marks { MarksStay (D.marked self.old.sockets) (D.marked self.new.sockets) }
     {
         let server = &mut self.servers[port];
         let takers = match server.give(node, packet, self.moment) {
@@ -128,6 +130,7 @@ impl<D: PlaceSockets + Drop> Servers<D> {
         ensures grows { self.old.kept ≤ self.new.kept }
         ensures ports { D.port_count self.new.sockets ≡ D.port_count self.old.sockets }
         ensures filtered { D.filtered self.new.sockets ≡ D.filtered self.old.sockets }
+        ensures marks { MarksStay (D.marked self.old.sockets) (D.marked self.new.sockets) }
     {
         let server = &mut self.servers[port];
         let heard = server.hear(from, bytes, self.moment);
@@ -186,6 +189,8 @@ impl<D: PlaceSockets + Drop> PortDriver for Servers<D> {
 
     ghost filtered = { λ l. l.kept + D.filtered l.sockets };
 
+    ghost marked = { λ l. D.marked l.sockets };
+
     fn ports(&self) -> usize {
         self.servers.len().min(self.sockets.ports())
     }
@@ -212,6 +217,7 @@ impl<D: PlaceSockets + Drop> PortDriver for Servers<D> {
         ensures stays { server_ports self.new.servers.items ≡ server_ports self.old.servers.items }
         ensures kept { self.new.kept ≡ self.old.kept }
         ensures filtered { D.filtered self.new.sockets ≡ D.filtered self.old.sockets }
+        ensures marks { MarksStay (D.marked self.old.sockets) (D.marked self.new.sockets) }
         ensures ports { D.port_count self.new.sockets ≡ D.port_count self.old.sockets }
     {
         Ok(self.send_packet(port, node, packet))
@@ -238,6 +244,9 @@ impl<D: PlaceSockets + Drop> PortDriver for Servers<D> {
         ensures stays { server_ports self.new.servers.items ≡ server_ports self.old.servers.items }
         ensures kept { self.old.kept ≤ self.new.kept }
         ensures filtered { D.filtered self.old.sockets ≤ D.filtered self.new.sockets }
+        // If the sockets fail or nothing is for the core, the port may lose its mark only as they say.
+        ensures marks { IfOk result (λ up. AsksPortWithMark port (is_some up)
+            (D.marked self.old.sockets) (D.marked self.new.sockets)) }
         ensures ports { D.port_count self.new.sockets ≡ D.port_count self.old.sockets }
     {
         let mut datagram = [0; DATAGRAM_BUFFER];

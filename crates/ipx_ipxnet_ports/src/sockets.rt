@@ -4,6 +4,7 @@ ghost use Rattle.std.specs.Prelude.{◌≡◌, ◌<◌, ◌≤◌, ◌↔◌, �
 ghost use Rattle.std.specs.Net.Addr.{ipv4_octets};
 ghost use Rattle.std.specs.Net.Socket.{v4_ip};
 ghost use Rattle.ipx_carrier.specs.Counting.{raised};
+ghost use Rattle.ipx_carrier.specs.PortMarks.{AsksPortWithMark};
 ghost use Rattle.ipx_carrier.specs.ReadySet.{AsksMarked, IsFilteredOrAnswer, is_port_marked};
 ghost use Rattle.std.specs.declared.net.socket_addr.SocketAddr.{SocketAddr};
 ghost use Rattle.std.specs.declared.net.socket_addr.SocketAddr.TheVariants.{V4};
@@ -171,6 +172,8 @@ impl PlaceSockets for ServerSockets {
 
     ghost filtered = { λ s. s.nowhere };
 
+    ghost marked = { λ s. is_port_marked s.marks };
+
     fn ports(&self) -> usize {
         self.sockets.len()
     }
@@ -217,6 +220,8 @@ impl PlaceSockets for ServerSockets {
             × IsFilteredOrAnswer came (is_some answer) self.old.nowhere self.new.nowhere
             × IsRefusedOrNothing came port room.new answer self.old.sockets.items
             self.new.sockets.items) }
+        ensures marks { IfOk result (λ answer. AsksPortWithMark port (is_some answer)
+            (is_port_marked self.old.marks) (is_port_marked self.new.marks)) }
         // What is returned is the datagram that came last, and the address that sent it. That is
         // accepted; what came from any other is counted.
         ensures from { IfOk result (λ came. IfSome came (λ c. ReceivesFrom port (V4 c.from)

@@ -8,6 +8,7 @@ loop-client-init g c = record {
   gone = hands_none _ _ _ _ refl refl;
   ports = refl;
   filtered = refl;
+  marks = λ port. refl;
 }
 
 pub loop-client-preserved : goal.loop-client-preserved
@@ -17,10 +18,12 @@ loop-client-preserved g c =
         gone = reaches_one w.send.result c.args.server.now c.args.takers c.clients-clients.result.now c.loop-client.client-index _ c.args.port c.args.bytes.now _ _ _ _ _ _ (omega arith) (sym c.reaches.ensures ∙ w.if-reaches.true) c.loop-client.invariant.gone w.send.ensures.sent w.send.ensures.refused w.send.ensures.failures;
         ports = w.send.ensures.ports ∙ c.loop-client.invariant.ports;
         filtered = w.send.ensures.filtered ∙ c.loop-client.invariant.filtered;
+        marks = λ port. w.send.ensures.marks port ∙ c.loop-client.invariant.marks port;
       })
       | else-reaches w ↦ rw w.sockets-is (record {
         gone = reaches_past c.args.server.now c.args.takers c.clients-clients.result.now c.loop-client.client-index _ c.args.port c.args.bytes.now _ _ _ _ (omega arith) (sym c.reaches.ensures ∙ w.if-reaches.false) c.loop-client.invariant.gone;
         ports = c.loop-client.invariant.ports;
         filtered = c.loop-client.invariant.filtered;
+        marks = c.loop-client.invariant.marks;
       })
     ]

@@ -8,6 +8,7 @@ loop-router-init g c = record {
   gone = hands_none _ _ _ _ refl refl;
   ports = refl;
   filtered = refl;
+  marks = λ port. refl;
 }
 
 pub loop-router-preserved : goal.loop-router-preserved
@@ -17,10 +18,12 @@ loop-router-preserved g c =
         gone = joins_one w.send.result c.args.server.now c.args.takers c.routers-routers.result.now c.loop-router.router-index _ c.args.port c.args.bytes.now _ _ _ _ _ _ (omega arith) (sym c.joins.ensures ∙ w.if-joins.true) c.loop-router.invariant.gone w.send.ensures.sent w.send.ensures.refused w.send.ensures.failures;
         ports = w.send.ensures.ports ∙ c.loop-router.invariant.ports;
         filtered = w.send.ensures.filtered ∙ c.loop-router.invariant.filtered;
+        marks = λ port. w.send.ensures.marks port ∙ c.loop-router.invariant.marks port;
       })
       | else-joins w ↦ rw w.sockets-is (record {
         gone = joins_past c.args.server.now c.args.takers c.routers-routers.result.now c.loop-router.router-index _ c.args.port c.args.bytes.now _ _ _ _ (omega arith) (sym c.joins.ensures ∙ w.if-joins.false) c.loop-router.invariant.gone;
         ports = c.loop-router.invariant.ports;
         filtered = c.loop-router.invariant.filtered;
+        marks = c.loop-router.invariant.marks;
       })
     ]
