@@ -123,21 +123,81 @@ fn the_end_alone(rt: HostRuntime) -> Result<(), Fail> {
     Ok(())
 }
 
-/// It is sent again each half second, but only these waits are timeouts: 0.5, 0.6, 1.2 and 2.4
-/// seconds, and six times 4. Then it is given up.
-#[test]
-fn the_end_is_given_up(rt: HostRuntime) -> Result<(), Fail> {
-    let mut paced = Paced::joined(rt.alloc(), 100)?;
-    paced.plan(5000);
-    paced.send_end(5000);
-    let mut now = 5000;
-    while !paced.pacer.has_given_up() {
+/// Plans each millisecond until the connection is given up, sends what the plans allow, and returns
+/// when that was and how often the first unit was sent again. If the peer asks, a packet that
+/// acknowledges nothing new comes each three seconds.
+fn until_given_up(paced: &mut Paced, start: u64, asks: bool) -> (u64, u32) {
+    let (mut now, mut again) = (start, 0);
+    while !paced.pacer.has_given_up() && now < start + 100_000 {
         now += 1;
-        if paced.plan(now).again.is_some() {
+        if asks && now % 3000 == 0 {
+            paced.double(1, now);
+        }
+        let plan = paced.plan(now);
+        if plan.again == Some(0) {
             paced.send_again(now);
+            again += 1;
+        }
+        paced.send(plan.window.saturating_sub(paced.out()), now);
+    }
+    (now, again)
+}
+
+/// A peer that acknowledges nothing, and asks each three seconds whether the sender is there. The
+/// first unit is sent again at each timeout, and after ten the connection is given up: after 0.3,
+/// 0.6, 1.2 and 2.4 seconds, and six times 4; or after ten times 6.
+#[test]
+fn packets_without_news(rt: HostRuntime) -> Result<(), Fail> {
+    for (trip, end) in [(100, 28_600), (2000, 62_000)] {
+        for asks in [false, true] {
+            let mut paced = Paced::joined(rt.alloc(), trip)?;
+            paced.plan(trip);
+            paced.send(10, trip);
+            assert_eq!(rt;
+                until_given_up(&mut paced, trip, asks),
+                (end, 10),
+                "after {trip}, {asks}"
+            );
         }
     }
-    assert_eq!(rt; now, 33_700);
+    Ok(())
+}
+
+/// All ten units count as received or given up, but the first is missing. Further duplicates take
+/// nothing out of flight, so the timeouts come as if there were none: 28.5 seconds from 200 on.
+#[test]
+fn duplicates_of_nothing_in_flight(rt: HostRuntime) -> Result<(), Fail> {
+    for more in [0, 1, 5] {
+        let mut paced = Paced::joined(rt.alloc(), 100)?;
+        paced.plan(100);
+        paced.send(10, 100);
+        paced.double(10, 200);
+        assert_eq!(rt; paced.plan(200), again(0));
+        paced.send_again(200);
+        paced.double(more, 290);
+        let mut now = 290;
+        while !paced.pacer.has_given_up() {
+            now += 1;
+            if paced.plan(now).again.is_some() {
+                paced.send_again(now);
+            }
+        }
+        assert_eq!(rt; now, 28_700, "{more} more");
+    }
+    Ok(())
+}
+
+/// The end is sent again each half second, but only these waits are timeouts: 0.5, 0.6, 1.2 and 2.4
+/// seconds, and six times 4. Then it is given up, also if the peer asks meanwhile.
+#[test]
+fn the_end_is_given_up(rt: HostRuntime) -> Result<(), Fail> {
+    for asks in [false, true] {
+        let mut paced = Paced::joined(rt.alloc(), 100)?;
+        paced.plan(5000);
+        paced.send_end(5000);
+        let (now, _) = until_given_up(&mut paced, 5000, asks);
+        assert_eq!(rt; now, 33_700, "{asks}");
+    }
     Ok(())
 }
 
