@@ -24,6 +24,7 @@ pub struct Paced {
     pub pacer: Pacer,
     base: u16,
     out: u16,
+    ended: bool,
 }
 
 impl Paced {
@@ -37,6 +38,7 @@ impl Paced {
             pacer,
             base: 0,
             out: 0,
+            ended: false,
         })
     }
 
@@ -44,9 +46,10 @@ impl Paced {
         self.pacer.plan(numbers(self.base, self.out), now)
     }
 
-    /// The link gives so many units.
+    /// The link gives so many units, or none after the end.
     pub fn send(&mut self, count: u16, now: u64) {
-        for _ in 0..count {
+        let given = if self.ended { 0 } else { count };
+        for _ in 0..given {
             self.out += 1;
             self.pacer
                 .gave(SentKind::Unit, numbers(self.base, self.out), now);
@@ -66,6 +69,7 @@ impl Paced {
 
     /// The link gives the end.
     pub fn send_end(&mut self, now: u64) {
+        self.ended = true;
         self.out += 1;
         self.pacer
             .gave(SentKind::End, numbers(self.base, self.out), now);
