@@ -118,8 +118,8 @@ fn limits(queries: RateLimit, directed: Option<RateLimit>) -> PortBuckets {
 }
 
 /// A rate limiter over such a core, for a router with ports on networks 11, 22 and 33, the second an
-/// Ethernet port, and the last for ipxnet clients. It first runs out of memory `refused` times. The third port's limit lets no
-/// directed broadcast leave.
+/// Ethernet port, and the last for ipxnet clients. It first runs out of memory `refused` times. The
+/// third port's limit lets no directed broadcast leave.
 fn ears_by(
     alloc: Global,
     refused: u32,
@@ -129,7 +129,10 @@ fn ears_by(
     let ports = vec![in alloc; port(1, HERE), port(2, AWAY), port(3, PLAYERS)]?;
     let limits = vec![in alloc;
         limits(USUAL, Some(USUAL)),
-        PortBuckets { groups: true, ..limits(USUAL, Some(USUAL)) },
+        PortBuckets {
+            groups: true,
+            ..limits(USUAL, Some(USUAL))
+        },
         limits(CLIENTS, directed),
     ]?;
     RateLimiter::new(alloc, ears, ports, limits)

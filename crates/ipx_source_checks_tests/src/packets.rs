@@ -162,10 +162,7 @@ fn ears_at(
         cost: 1,
     };
     let ears = Ears { heard: 0, refused };
-    Ok(SourceChecked::new(
-        ears,
-        vec![in alloc; CheckedPort { port, ethernet }]?,
-    ))
+    Ok(SourceChecked::new(ears, vec![in alloc; CheckedPort { port, ethernet }]?))
 }
 
 /// The same at an Ethernet port.
