@@ -13,7 +13,8 @@ use std::marker::Model;
 
 /// A core over another one. It drops and counts packets that fail a source check: RIP and SAP for
 /// the router that another router forwarded, RIP and SAP from a group or from zero at an Ethernet
-/// port, and packets for another network that claim to come from that same network. The core below hears everything else, as it comes.
+/// port, and packets for another network that claim to come from that same network. The core below
+/// hears everything else, as it comes.
 pub struct SourceChecked<C: Core + Drop> {
     core: C,
     ports: Vec<CheckedPort>,
