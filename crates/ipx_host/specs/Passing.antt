@@ -69,15 +69,15 @@ phase_after zero h phase = phase
 phase_after (suc n) h phase =
     phase_with (take_end (held_after n h)).0 (phase_after n h phase)
 
--- this many takes, each of which gave something. None comes after the take of the end of the peer
+-- this many takes, none of which gave nothing. None comes after the peer's end was taken, before them or by one
+-- of them
 abbrev pub TakesWhileOpen : ℕ → Held → Phase → Type 0
 TakesWhileOpen zero h phase = Unit {0}
 TakesWhileOpen (suc n) h phase = TakesWhileOpen n h phase
     × (phase_after n h phase ≢ Standings.Ended) × ((take_end (held_after n h)).0 ≢ Ok Nothing)
 
 -- what passes from a connection whose id holds this, if anything. Its takes pass to the outlet and the
--- writer, and determine its phase. The end of its peer is the last take. Nothing is taken from a connection
--- whose link is gone
+-- writer, and determine its phase. Nothing is taken after the end of its peer, or if its link is gone
 abbrev pub PassesFrom : Option Held → Option Held → List ℕ → List ℕ → Option (List ℕ) → Option (List ℕ) → Session → Session → Type 0
 PassesFrom None after waiting left written writes session session' =
     (after ≡ None) × Writes waiting left written writes × (session' ≡ session)
@@ -118,7 +118,7 @@ pub record SameOthers (old new : EndpointView) (id : ℕ) : Type 0 where
   pub self : SameSelf old new
   pub heard : new.heard ≡ old.heard
 
--- what passes from one connection of a host. Nothing passes if it was not heard from. If its end was taken in
+-- what passes from one connection of a host. Nothing is taken if it was not heard from. If its end is taken in
 -- this pass, nothing is left to write. The same holds if its end was taken before and nothing was left then
 pub record PassesOne (old new : EndpointView) (waiting left : List ℕ)
     (written writes : Option (List ℕ)) (session session' : Session) : Type 0 where

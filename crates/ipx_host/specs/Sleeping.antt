@@ -17,10 +17,10 @@ IsDueFrom links moment = (id : ℕ) × (l : LinkView) × (link_at links id ≡ S
     × ((t : ℕ) → moment ≤ t → IsQuiet l t → ⊥)
 
 -- a time that a host may wait, at most the time that was asked for. Until then no poll of any link, as it is
--- now, sends anything or gives the link up, at any time that the clock can show. Nor does the plan for the
--- paced connection, if there is one, change. If the wait is shorter, the polls of some link do so from then
--- on, or the plan may change then. The wait is at most a millisecond if the pacer holds something back, and
--- at most a minute if units are outstanding
+-- now, sends anything or gives the link up, at any time that the clock can show. The wait ends no later than
+-- the plan for the paced connection, if there is one, may change. If it is less than was asked for, the polls
+-- of some link do so from then on, or the plan may change then. The wait is at most a millisecond if the pacer
+-- holds something back, and at most a minute if units are outstanding
 pub record IsSleep (core : PacedHostCore) (most time : ℕ) : Type 0 where
   pub few : time ≤ most
   pub quiet : (id t : ℕ) (l : LinkView) → link_at core.endpoint.links id ≡ Some l

@@ -64,8 +64,8 @@ pub fn verdict_of(
 }
 
 /// Returns this outcome, or `GivenUp` instead of `Done` if the end is not queued. A link is whole
-/// only if its end was queued, so this never changes an outcome. But only this check shows that a
-/// done transfer has read all of its input.
+/// only if its end was queued, so this never changes an outcome. But nothing else proves that a
+/// done transfer has read all of its input: only after that is the end queued.
 pub fn ended_by(verdict: SendOutcome, closed: bool) -> SendOutcome
     ensures { result ≡ ended_at closed verdict }
 {
