@@ -95,13 +95,13 @@ not_overdue : (u v : Bool) → not u ≡ true → (u && v) ≡ true → ⊥
 not_overdue true v e o = absurd (cc)
 not_overdue false v e o = absurd (cc)
 
-no_room_by : (now id : ℕ) (from : Address) (c : Session) (e e' : EndpointView) (ts : List Session) (found : Option ℕ) → Is id from c → place_to_free true e.network e now (c ∷ []) ≡ found
+no_room_by : (now id : ℕ) (from asker : Address) (c : Session) (e e' : EndpointView) (ts : List Session) (found : Option ℕ) → Is id from c → place_to_free true e.network e now asker (c ∷ []) ≡ found
     → MatchOption found ((ts ≡ c ∷ []) × (e' ≡ e)) (λ place. (ts ≡ remove (c ∷ []) place) × IfSome (slice_get (c ∷ []) place) (λ k. LetsLinkGo e e' k.id))
     → ts ≡ c ∷ []
-no_room_by now id from c e e' ts None one is d = d.0
-no_room_by now id from c e e' ts (Some zero) one is d =
+no_room_by now id from asker c e e' ts None one is d = d.0
+no_room_by now id from asker c e e' ts (Some zero) one is d =
     absurd (not_overdue (is_unheard c.phase) (nat_le 1000 (now - c.heard)) one.2 (position-Some (is_overdue now) (c ∷ []) 0 c is).1)
-no_room_by now id from c e e' ts (Some (suc n)) one is d = absurd (omega (arith, (position-Some (is_overdue now) (c ∷ []) (suc n) c is).0))
+no_room_by now id from asker c e e' ts (Some (suc n)) one is d = absurd (omega (arith, (position-Some (is_overdue now) (c ∷ []) (suc n) c is).0))
 
 noted_alone : (came : Option Arrival) (now id : ℕ) (from : Address) (e e' : EndpointView) (c : Session) (ts : List Session) → Is id from c
     → DoesNoted true came now e e' (c ∷ []) ts → Goes id from (is_ended c) ts
@@ -110,8 +110,8 @@ noted_alone (Some (Cames.Heard i)) now id from e e' c ts is d =
     let so = once_or_not (c.id == i) now id from c is in
     (heard_by i now c, kept_alone (heard_by i now c) ts e e' (position has_spoken (heard_by i now c ∷ [])) refl d, so.0, so.1)
 noted_alone (Some (Cames.Accepted a)) now id from e e' c ts is d = (c, admits_none id from c (session_of a now) e e' ts is d, is, refl)
-noted_alone (Some Cames.NoRoom) now id from e e' c ts is d =
-    (c, no_room_by now id from c e e' ts (place_to_free true e.network e now (c ∷ [])) is refl d, is, refl)
+noted_alone (Some (Cames.NoRoom asker)) now id from e e' c ts is d =
+    (c, no_room_by now id from asker c e e' ts (place_to_free true e.network e now asker (c ∷ [])) is refl d, is, refl)
 
 heard_alone : (b : Bool) (id : ℕ) (from : Address) (old new : PacedHostCore) (c : Session) (ts : List Session) → Is id from c → NotesIf b true old new (c ∷ []) ts → Goes id from (is_ended c) ts
 heard_alone true id from old new c ts is n = noted_alone old.came old.moment id from old.endpoint new.endpoint c ts is n.1
@@ -160,7 +160,7 @@ noted_none (Some (Cames.Heard i)) now e e' cs ts none d =
     let unended = none_by (list_any is_ended there) (list_any is_ended cs) (any_heard_by i now cs) (none_ended cs none) in
     found_none there ts e e' (position has_spoken there) refl unended d
 noted_none (Some (Cames.Accepted a)) now e e' cs ts none d = inl (admits_unheard (session_of a now) e e' cs ts refl none d)
-noted_none (Some Cames.NoRoom) now e e' cs ts none d = inl (room_unheard now e e' cs ts (place_to_free true e.network e now cs) none d)
+noted_none (Some (Cames.NoRoom asker)) now e e' cs ts none d = inl (room_unheard now e e' cs ts (place_to_free true e.network e now asker cs) none d)
 
 heard_none : (b : Bool) (old new : PacedHostCore) (cs ts : List Session) → list_any has_spoken cs ≡ false → NotesIf b true old new cs ts → NoneOrOne ts
 heard_none true old new cs ts none n = noted_none old.came old.moment old.endpoint new.endpoint cs ts none n.1

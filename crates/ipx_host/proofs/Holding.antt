@@ -13,6 +13,7 @@ use Rattle.spx_link.specs.declared.state.State.{State}
 use Rattle.spx_messages.specs.EndpointView.{EndpointView, Held, held_at}
 use Rattle.spx_messages.specs.Taking.{TakenView, Nothing, Part, PeerEnd, Whole, take_end}
 use Rattle.spx_messages.specs.declared.fault.EndFault.{EndFault}
+use Rattle.ipx_wire.specs.declared.address.Address.{Address}
 use Rattle.ipx_wire.specs.declared.address.Network.{Network}
 use Rattle.ipx_host.specs.Sessions.{Admits, Asks as IsAsked, OnlyEnded, KeepsHeard, KeepsOne, LetsLinkGo, LetsLinksGo, MakesSpace, heard_by, is_ended, has_spoken, is_overdue, is_to_go, once_heard, place_to_free}
 use Rattle.ipx_host.specs.HostOutput.{Writes}
@@ -511,22 +512,22 @@ keeps_admitted once cs cs' left c old new called (inl p) keeps =
 keeps_admitted once cs cs' left c old new called (inr p) keeps = subst (λ (l : List Session). KeepsOne once l left) (sym p.1) keeps
 
 -- the place of a connection that is evicted is one of the list
-freed_by : (of : Bool) (e : EndpointView) (now : ℕ) (own : Network) (cs : List Session) (place : ℕ) (d : Session)
-    → (if of then position (is_overdue now) cs else position (is_to_go own e now cs) cs) ≡ Some place → place < length cs
-freed_by true e now own cs place d is = (position-Some (is_overdue now) cs place d is).0
-freed_by false e now own cs place d is = (position-Some (is_to_go own e now cs) cs place d is).0
+freed_by : (of : Bool) (e : EndpointView) (now : ℕ) (asker : Address) (own : Network) (cs : List Session) (place : ℕ) (d : Session)
+    → (if of then position (is_overdue now) cs else position (is_to_go own e now asker cs) cs) ≡ Some place → place < length cs
+freed_by true e now asker own cs place d is = (position-Some (is_overdue now) cs place d is).0
+freed_by false e now asker own cs place d is = (position-Some (is_to_go own e now asker cs) cs place d is).0
 
-room_kept : (once : Bool) (now : ℕ) (cs cs' : List Session) (left : List ℕ) (old new : EndpointView) (found : Option ℕ) → place_to_free once old.network old now cs ≡ found → KeepsOne once cs left
-    → MatchOption found ((cs' ≡ cs) × (new ≡ old)) (λ place. (cs' ≡ remove cs place) × IfSome (slice_get cs place) (λ c. LetsLinkGo old new c.id)) → KeepsOne once cs' left
-room_kept once now cs cs' left old new None is keeps k = subst (λ (l : List Session). KeepsOne once l left) (sym k.0) keeps
-room_kept true now [] cs' left old new (Some place) is keeps k = absurd (cc)
-room_kept false now [] cs' left old new (Some place) is keeps k = absurd (cc)
-room_kept once now (d ∷ ds) cs' left old new (Some place) is keeps k =
+room_kept : (once : Bool) (now : ℕ) (asker : Address) (cs cs' : List Session) (left : List ℕ) (old new : EndpointView) (found : Option ℕ) → place_to_free once old.network old now asker cs ≡ found
+    → KeepsOne once cs left → MatchOption found ((cs' ≡ cs) × (new ≡ old)) (λ place. (cs' ≡ remove cs place) × IfSome (slice_get cs place) (λ c. LetsLinkGo old new c.id)) → KeepsOne once cs' left
+room_kept once now asker cs cs' left old new None is keeps k = subst (λ (l : List Session). KeepsOne once l left) (sym k.0) keeps
+room_kept true now asker [] cs' left old new (Some place) is keeps k = absurd (cc)
+room_kept false now asker [] cs' left old new (Some place) is keeps k = absurd (cc)
+room_kept once now asker (d ∷ ds) cs' left old new (Some place) is keeps k =
     subst (λ (l : List Session). KeepsOne once l left) (sym k.0)
-    (keeps_removed once (d ∷ ds) left place (freed_by (once || list_any (λ (c : Session). is_unheard c.phase) (d ∷ ds)) old now old.network (d ∷ ds) place d is) keeps)
+    (keeps_removed once (d ∷ ds) left place (freed_by (once || list_any (λ (c : Session). is_unheard c.phase) (d ∷ ds)) old now asker old.network (d ∷ ds) place d is) keeps)
 
-pub keeps_room : (once : Bool) (now : ℕ) (cs cs' : List Session) (left : List ℕ) (old new : EndpointView) → MakesSpace once now old new cs cs' → KeepsOne once cs left → KeepsOne once cs' left
-keeps_room once now cs cs' left old new k keeps = room_kept once now cs cs' left old new (place_to_free once old.network old now cs) refl keeps k
+pub keeps_room : (once : Bool) (now : ℕ) (asker : Address) (cs cs' : List Session) (left : List ℕ) (old new : EndpointView) → MakesSpace once now asker old new cs cs' → KeepsOne once cs left → KeepsOne once cs' left
+keeps_room once now asker cs cs' left old new k keeps = room_kept once now asker cs cs' left old new (place_to_free once old.network old now asker cs) refl keeps k
 
 pub keeps_asks : (once : Bool) (cs : List Session) (left : List ℕ) (place : ℕ) (c' d : Session) (now : ℕ) (old new : EndpointView) → place < length cs → IsAsked now old new (get_or cs place d) c'
     → KeepsOne once cs left → KeepsOne once (set cs place c') left

@@ -19,7 +19,7 @@ abbrev pub is_untold : Option Arrival → Bool
 is_untold None = false
 is_untold (Some (Cames.Heard id)) = false
 is_untold (Some (Cames.Accepted a)) = true
-is_untold (Some Cames.NoRoom) = false
+is_untold (Some (Cames.NoRoom asker)) = false
 
 -- what is noted of a datagram for which the endpoint returned this result. `heard` is the link that read it,
 -- if one did
@@ -28,7 +28,8 @@ Notes (Arriveds.Bad f) heard bytes came = came ≡ None
 Notes Arriveds.NotOurs heard bytes came = came ≡ None
 Notes (Arriveds.BadSpx f) heard bytes came = came ≡ None
 Notes Arriveds.NoListener heard bytes came = came ≡ None
-Notes Arriveds.NoRoom heard bytes came = came ≡ Some Cames.NoRoom
+Notes Arriveds.NoRoom heard bytes came =
+    (from : Address) × IsPacketFrom bytes from × (came ≡ Some (Cames.NoRoom from))
 Notes Arriveds.Stranger heard bytes came = came ≡ None
 Notes (Arriveds.Accepted id) heard bytes came =
     (from : Address) × IsPacketFrom bytes from × (came ≡ Some (Cames.Accepted (record { id = id; from = from })))

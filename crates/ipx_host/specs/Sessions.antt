@@ -114,29 +114,34 @@ is_live (Some States.Lost) = false
 abbrev pub may_go : EndpointView → ℕ → Session → Bool
 may_go e now c = is_silent now c && is_live (state_at e c.id)
 
--- a connection goes before another if its node has more connections, or as many, and it may be evicted and
+-- the node of one address has more connections than the node of another
+abbrev pub has_more : Network → List Session → Address → Address → Bool
+has_more own sessions a b =
+    nat_lt (count_by (is_of_node own b) sessions) (count_by (is_of_node own a) sessions)
+
+-- a connection goes before another if it may be evicted, and its node has more connections, or as many and it
 -- was silent for longer
 abbrev pub goes_before : Network → EndpointView → ℕ → List Session → Session → Session → Bool
-goes_before own e now sessions d c =
-    let of_d = count_by (is_of_node own d.from) sessions in
-    let of_c = count_by (is_of_node own c.from) sessions in
-    nat_lt of_c of_d || (of_d == of_c && may_go e now d && nat_lt d.heard c.heard)
+goes_before own e now sessions d c = may_go e now d && (has_more own sessions d.from c.from
+    || (not (has_more own sessions c.from d.from) && nat_lt d.heard c.heard))
 
--- a connection may be evicted, and no other goes before it: no node has more connections than its node
-abbrev pub is_to_go : Network → EndpointView → ℕ → List Session → Session → Bool
-is_to_go own e now sessions c =
-    may_go e now c && not (list_any (λ d. goes_before own e now sessions d c) sessions)
+-- a connection may be evicted for a request from an address: its node has more connections than the node of
+-- that address, and no other connection goes before it
+abbrev pub is_to_go : Network → EndpointView → ℕ → Address → List Session → Session → Bool
+is_to_go own e now asker sessions c = may_go e now c && has_more own sessions c.from asker
+    && not (list_any (λ d. goes_before own e now sessions d c) sessions)
 
--- the connection that is evicted for a new request: the first overdue one, or if each was heard from, and
--- without `once`, a silent one of a node with the most connections
-abbrev pub place_to_free : Bool → Network → EndpointView → ℕ → List Session → Option ℕ
-place_to_free once own e now sessions =
+-- the connection that is evicted for a request from an address: the first overdue one, or if each was heard
+-- from, and without `once`, a silent one of a node that has more connections than the node that asks
+abbrev pub place_to_free : Bool → Network → EndpointView → ℕ → Address → List Session → Option ℕ
+place_to_free once own e now asker sessions =
     if once || list_any (λ c. is_unheard c.phase) sessions then position (is_overdue now) sessions
-    else position (is_to_go own e now sessions) sessions
+    else position (is_to_go own e now asker sessions) sessions
 
--- there was no link for a new request: a connection is evicted and its link released, if there is one to evict
-abbrev pub MakesSpace : Bool → ℕ → EndpointView → EndpointView → List Session → List Session → Type 0
-MakesSpace once now old new sessions sessions' = MatchOption (place_to_free once old.network old now sessions)
+-- there was no link for a request: a connection is evicted and its link released, if there is one to evict
+abbrev pub MakesSpace : Bool → ℕ → Address → EndpointView → EndpointView → List Session → List Session → Type 0
+MakesSpace once now asker old new sessions sessions' =
+    MatchOption (place_to_free once old.network old now asker sessions)
     ((sessions' ≡ sessions) × (new ≡ old))
     (λ place. (sessions' ≡ remove sessions place)
     × IfSome (slice_get sessions place) (λ c. LetsLinkGo old new c.id))
@@ -146,8 +151,8 @@ abbrev pub raised_if : Bool → ℕ → ℕ
 raised_if more n = if more then raised n else n
 
 -- a connection that was heard from is evicted
-abbrev pub is_silent_evicted : Bool → Network → EndpointView → ℕ → List Session → Bool
-is_silent_evicted once own e now sessions = is_some (place_to_free once own e now sessions)
+abbrev pub is_silent_evicted : Bool → Network → EndpointView → ℕ → Address → List Session → Bool
+is_silent_evicted once own e now asker sessions = is_some (place_to_free once own e now asker sessions)
     && not (is_some (position (is_overdue now) sessions))
 
 -- a request is counted exactly if there is no slot for its connection
@@ -162,7 +167,24 @@ DoesNoted once (Some (Cames.Heard id)) now old new sessions sessions' =
     KeepsHeard once old new (map (heard_by id now) sessions) sessions'
 DoesNoted once (Some (Cames.Accepted a)) now old new sessions sessions' =
     Admits once (session_of a now) old new sessions sessions'
-DoesNoted once (Some Cames.NoRoom) now old new sessions sessions' = MakesSpace once now old new sessions sessions'
+DoesNoted once (Some (Cames.NoRoom asker)) now old new sessions sessions' =
+    MakesSpace once now asker old new sessions sessions'
+
+-- requests that get no slot are counted: one whose connection is not held, and one that found no link
+abbrev pub CountsRequest : Bool → Network → Option Arrival → List Session → ℕ → ℕ → Type 0
+CountsRequest once own None sessions count count' = count' ≡ count
+CountsRequest once own (Some (Cames.Heard id)) sessions count count' = count' ≡ count
+CountsRequest once own (Some (Cames.Accepted a)) sessions count count' =
+    CountsTurnedAway once own a.from sessions count count'
+CountsRequest once own (Some (Cames.NoRoom asker)) sessions count count' = count' ≡ raised count
+
+-- a connection that was heard from is evicted for what the core noted: a request that found no link
+abbrev pub is_evicted_for : Bool → Option Arrival → Network → EndpointView → ℕ → List Session → Bool
+is_evicted_for once None own e now sessions = false
+is_evicted_for once (Some (Cames.Heard id)) own e now sessions = false
+is_evicted_for once (Some (Cames.Accepted a)) own e now sessions = false
+is_evicted_for once (Some (Cames.NoRoom asker)) own e now sessions =
+    is_silent_evicted once own e now asker sessions
 
 -- the same for what the core noted last, which is handled once
 abbrev pub NotesHeard : Bool → PacedHostCore → PacedHostCore → List Session → List Session → Type 0

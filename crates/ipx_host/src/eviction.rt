@@ -1,10 +1,10 @@
 //! Who gets a slot among the connections of a host that listens, and which connection is evicted for a
 //! new request.
 
-ghost use Rattle.std.specs.Prelude.{◌≡◌, ◌↔◌, ◌<◌, ◌≤◌, true, count_by, is_some, length, map, position, vec_capacity, IfSome, IsTrue};
+ghost use Rattle.std.specs.Prelude.{◌≡◌, ◌↔◌, ◌<◌, ◌≤◌, true, count_by, is_some, length, map, position, slice_get, vec_capacity, IfSome, IsTrue};
 ghost use Rattle.std.specs.List.{list_any};
 ghost use Rattle.ipx_host.specs.SessionActions.{is_unheard};
-ghost use Rattle.ipx_host.specs.Sessions.{Admits, Asks, IsAskedUnless, HasNoPlaceFor, IsOutOfMemory, KeepsHeard, LetsLinkGo, LetsLinksGo, MakesSpace, goes_before, heard_by, has_spoken, is_of_node, is_overdue, is_to_go, is_unheard_of, may_go, place_to_free, raised_if};
+ghost use Rattle.ipx_host.specs.Sessions.{Admits, Asks, IsAskedUnless, HasNoPlaceFor, IsOutOfMemory, KeepsHeard, LetsLinkGo, LetsLinksGo, MakesSpace, goes_before, has_more, heard_by, has_spoken, is_of_node, is_overdue, is_to_go, is_unheard_of, may_go, place_to_free, raised_if};
 
 use crate::sessions::{Session, hear_one};
 use ipx_wire::{Address, Network};
@@ -139,8 +139,15 @@ fn may_go(endpoint: &Endpoint, session: &Session, moment: u64) -> bool
     session.is_silent(moment) && endpoint.state(session.id) == Ok(State::Live)
 }
 
-/// Whether a connection goes before another: its node has more connections, or as many, and it may
-/// be evicted and was silent for longer.
+/// Whether the node of an address has more connections than the node of another.
+fn has_more(sessions: &[Session], own: Network, from: &Address, other: &Address) -> bool
+    ensures { result ≡ has_more own sessions.now from.now other.now }
+{
+    count_of_node(sessions, own, from) > count_of_node(sessions, own, other)
+}
+
+/// Whether a connection goes before another: it may be evicted, and its node has more connections, or
+/// as many and it was silent for longer.
 fn goes_before(
     own: Network,
     endpoint: &Endpoint,
@@ -152,10 +159,10 @@ fn goes_before(
     ensures { result
         ≡ goes_before own endpoint.now moment sessions.now session.now other.now }
 {
-    let count = count_of_node(sessions, own, &session.from);
-    let others = count_of_node(sessions, own, &other.from);
-    let may_go = may_go(endpoint, session, moment);
-    count > others || (count == others && may_go && session.heard < other.heard)
+    may_go(endpoint, session, moment)
+        && (has_more(sessions, own, &session.from, &other.from)
+            || (!has_more(sessions, own, &other.from, &session.from)
+                && session.heard < other.heard))
 }
 
 /// Whether another connection goes before this one.
@@ -172,59 +179,72 @@ fn goes_any_before(
     sessions.iter().any(|other| goes_before(own, endpoint, sessions, moment, other, session))
 }
 
-/// Whether a connection may be evicted, and no other goes before it.
+/// Whether a connection may be evicted for a request from an address: its node has more connections
+/// than the node of that address, and no other connection goes before it.
 fn is_to_go(
     own: Network,
     endpoint: &Endpoint,
     sessions: &[Session],
     moment: u64,
+    asker: &Address,
     session: &Session,
 ) -> bool
-    ensures { result ≡ is_to_go own endpoint.now moment sessions.now session.now }
+    ensures { result ≡ is_to_go own endpoint.now moment asker.now sessions.now session.now }
 {
-    may_go(endpoint, session, moment) && !goes_any_before(own, endpoint, sessions, moment, session)
+    may_go(endpoint, session, moment)
+        && has_more(sessions, own, &session.from, asker)
+        && !goes_any_before(own, endpoint, sessions, moment, session)
 }
 
-/// The place of the silent connection that is evicted, if there is one.
+/// The place of the silent connection that is evicted for a request, if there is one.
 fn place_of_silent(
     own: Network,
     endpoint: &Endpoint,
     sessions: &[Session],
     moment: u64,
+    asker: &Address,
 ) -> Option<usize>
     ensures place { result
-        ≡ position (is_to_go own endpoint.now moment sessions.now) sessions.now }
+        ≡ position (is_to_go own endpoint.now moment asker.now sessions.now) sessions.now }
     ensures there { IfSome result (λ place. place < length sessions.now) }
 {
-    sessions.iter().position(|session| is_to_go(own, endpoint, sessions, moment, session))
+    sessions.iter().position(|session| is_to_go(own, endpoint, sessions, moment, asker, session))
 }
 
-/// The place of the connection that is evicted for a new request: the first overdue one, or if each
-/// was heard from, and without `once`, a silent one of a node with the most connections.
+/// The place of the connection that is evicted for a request: the first overdue one, or if each was
+/// heard from, and without `once`, a silent one of a node that has more connections than the node
+/// that asks.
 fn place_to_evict(
     once: bool,
     own: Network,
     endpoint: &Endpoint,
     sessions: &[Session],
     moment: u64,
+    asker: &Address,
 ) -> Option<usize>
-    ensures place { result ≡ place_to_free once own endpoint.now moment sessions.now }
+    ensures place { result ≡ place_to_free once own endpoint.now moment asker.now sessions.now }
     ensures there { IfSome result (λ place. place < length sessions.now) }
 {
     if once || is_any_unheard(sessions) {
         place_of_overdue(sessions, moment)
     } else {
-        place_of_silent(own, endpoint, sessions, moment)
+        place_of_silent(own, endpoint, sessions, moment, asker)
     }
 }
 
 /// The same for the network of the endpoint.
-fn place_in(once: bool, endpoint: &Endpoint, sessions: &[Session], moment: u64) -> Option<usize>
+fn place_in(
+    once: bool,
+    endpoint: &Endpoint,
+    sessions: &[Session],
+    moment: u64,
+    asker: &Address,
+) -> Option<usize>
     ensures place { result
-        ≡ place_to_free once endpoint.now.network endpoint.now moment sessions.now }
+        ≡ place_to_free once endpoint.now.network endpoint.now moment asker.now sessions.now }
     ensures there { IfSome result (λ place. place < length sessions.now) }
 {
-    place_to_evict(once, endpoint.network(), endpoint, sessions, moment)
+    place_to_evict(once, endpoint.network(), endpoint, sessions, moment, asker)
 }
 
 /// Keeps the first connection that was heard alone, where one was: the others go, and their links.
@@ -261,22 +281,26 @@ pub fn hear_session(
     }
 }
 
-/// Evicts a connection for a new request, and releases its link. Returns the connection, if there was
-/// one to evict.
+/// Evicts a connection for a request from an address, and releases its link. Returns the connection,
+/// if there was one to evict.
 pub fn make_space(
     once: bool,
     endpoint: &mut Endpoint,
     sessions: &mut Vec<Session>,
     moment: u64,
+    asker: &Address,
 ) -> Option<Session>
     requires { 16 ≤ vec_capacity sessions.old }
-    ensures makes { MakesSpace once moment endpoint.old endpoint.new
+    ensures makes { MakesSpace once moment asker.now endpoint.old endpoint.new
         sessions.old.items sessions.new.items }
-    ensures one { is_some result ≡ is_some
-        (place_to_free once endpoint.old.network endpoint.old moment sessions.old.items) }
+    ensures one { is_some result ≡ is_some (place_to_free once
+        endpoint.old.network endpoint.old moment asker.now sessions.old.items) }
+    ensures gone { IfSome (place_to_free once
+        endpoint.old.network endpoint.old moment asker.now sessions.old.items)
+        (λ place. result ≡ slice_get sessions.old.items place) }
     ensures room { 16 ≤ vec_capacity sessions.new }
 {
-    let place = place_in(once, endpoint, sessions, moment)?;
+    let place = place_in(once, endpoint, sessions, moment, asker)?;
     let session = sessions.remove(place);
     let_link_go(endpoint, session.id);
     Some(session)

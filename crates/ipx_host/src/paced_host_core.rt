@@ -35,8 +35,8 @@ pub enum Arrival {
     Heard(u16),
     /// It made a connection.
     Accepted(Accepted),
-    /// It requested one, and no link was free.
-    NoRoom,
+    /// It requested one from this address, and no link was free.
+    NoRoom(Address),
 }
 
 /// A host with one port, like `HostCore` of the carrier, with a list of who may request a
@@ -115,6 +115,17 @@ fn accepted_by(id: u16, bytes: &[u8]) -> Option<Arrival>
 {
     let from = sender_of(bytes)?;
     Some(Arrival::Accepted(Accepted { id, from }))
+}
+
+/// Returns the request that found no free link.
+fn unlinked_by(bytes: &[u8]) -> Option<Arrival>
+    // The endpoint returned this result for the datagram.
+    ensures { (old new : EndpointView) (now : ℕ)
+        → Arrives old bytes.now now Arriveds.NoRoom new
+        → Notes Arriveds.NoRoom new.heard bytes.now result }
+{
+    let from = sender_of(bytes)?;
+    Some(Arrival::NoRoom(from))
 }
 
 impl PacedHostCore {
@@ -235,7 +246,7 @@ impl PacedHostCore {
     {
         match arrived {
             Arrived::Accepted(id) => accepted_by(id, bytes),
-            Arrived::NoRoom => Some(Arrival::NoRoom),
+            Arrived::NoRoom => unlinked_by(bytes),
             Arrived::Link(_, _) => self.endpoint.heard().map(Arrival::Heard),
             _ => None,
         }

@@ -4,7 +4,7 @@ ghost use Rattle.std.specs.Prelude.{◌≡◌, ◌<◌, ◌≤◌, [], ℕ, List
 ghost use Rattle.ipx_carrier.specs.Counting.{raised};
 ghost use Rattle.ipx_site.specs.Moments.{IsLoggedIfDue};
 ghost use Rattle.spx_messages.specs.EndpointView.{held_at};
-ghost use Rattle.ipx_host.specs.Sessions.{Admits, Asks, AsksOrCounts, CountsTurnedAway, OnlyEnded, KeepsHeard, KeepsOne, LetsLinkGo, MakesSpace, NotesHeard, session_of, heard_by, is_overdue, is_silent_evicted, keeps_one_prop, raised_if};
+ghost use Rattle.ipx_host.specs.Sessions.{Admits, Asks, AsksOrCounts, CountsRequest, CountsTurnedAway, OnlyEnded, KeepsHeard, KeepsOne, LetsLinkGo, MakesSpace, NotesHeard, session_of, heard_by, is_evicted_for, is_overdue, is_silent_evicted, keeps_one_prop, raised_if};
 ghost use Rattle.ipx_host.specs.SessionActions.{is_unheard};
 ghost use Rattle.ipx_host.specs.Hosting.{MovesSome, MovesUntilFull};
 ghost use Rattle.ipx_host.specs.ListenOutcomes.{parted, stop_in};
@@ -28,6 +28,7 @@ use crate::running_host::RunningHost;
 use crate::sessions::{Phase, Session, SessionAction};
 use crate::taking::take_each;
 use ipx_site::ThrottledLog;
+use ipx_wire::Address;
 use log::{Log, warn};
 use spx_messages::Endpoint;
 use std::alloc::{AllocError, Global};
@@ -131,6 +132,8 @@ impl Sessions {
             self.old.held.items self.new.held.items) }
         ensures still { result ≡ Ok false
             → (id : ℕ) → held_at endpoint.new id ≡ held_at endpoint.old id }
+        ensures evicted { self.new.evicted ≡ self.old.evicted }
+        ensures turned_away { self.new.turned_away ≡ self.old.turned_away }
         ensures once { self.new.once ≡ self.old.once }
     {
         take_each(alloc, endpoint, &mut self.output, &mut self.held, writer)
@@ -153,6 +156,8 @@ impl Sessions {
             self.old.held.items self.new.held.items
             (left_of self.old.output) (left_of self.new.output)
             (W.contents writer.old) (W.contents writer.new) takes) }
+        ensures evicted { self.new.evicted ≡ self.old.evicted }
+        ensures turned_away { self.new.turned_away ≡ self.old.turned_away }
         ensures once { self.new.once ≡ self.old.once }
     {
         let wrote = self.output.write(writer)?;
@@ -168,6 +173,7 @@ impl Sessions {
         // It is counted exactly if there is no slot for it.
         ensures counts { CountsTurnedAway self.old.once endpoint.old.network accepted.from
             self.old.held.items self.old.turned_away self.new.turned_away }
+        ensures evicted { self.new.evicted ≡ self.old.evicted }
         ensures output { self.new.output ≡ self.old.output }
         ensures once { self.new.once ≡ self.old.once }
     {
@@ -185,28 +191,31 @@ impl Sessions {
     fn hear_session(&mut self, endpoint: &mut Endpoint, id: u16, moment: u64)
         ensures heard { KeepsHeard self.old.once endpoint.old endpoint.new
             (map (heard_by id moment) self.old.held.items) self.new.held.items }
+        ensures evicted { self.new.evicted ≡ self.old.evicted }
+        ensures turned_away { self.new.turned_away ≡ self.old.turned_away }
         ensures output { self.new.output ≡ self.old.output }
         ensures once { self.new.once ≡ self.old.once }
     {
         hear_session(self.once, endpoint, &mut self.held, id, moment);
     }
 
-    /// Evicts a connection, if there is one to evict, since there was no link for a new request. That
-    /// request is turned away.
-    fn make_space<R: Log>(&mut self, rt: &R, endpoint: &mut Endpoint, moment: u64)
-        ensures room { MakesSpace self.old.once moment endpoint.old endpoint.new
+    /// Evicts a connection, if there is one to evict, since there was no link for a request from an
+    /// address. That request is turned away.
+    fn make_space<R: Log>(&mut self, rt: &R, endpoint: &mut Endpoint, moment: u64, asker: &Address)
+        ensures room { MakesSpace self.old.once moment asker.now endpoint.old endpoint.new
             self.old.held.items self.new.held.items }
         ensures counts { self.new.never_heard
             ≡ raised_if (is_some (position (is_overdue moment) self.old.held.items))
             self.old.never_heard }
         ensures evicted { self.new.evicted ≡ raised_if (is_silent_evicted self.old.once
-            endpoint.old.network endpoint.old moment self.old.held.items) self.old.evicted }
+            endpoint.old.network endpoint.old moment asker.now self.old.held.items)
+            self.old.evicted }
         ensures turned_away { self.new.turned_away ≡ raised self.old.turned_away }
         ensures output { self.new.output ≡ self.old.output }
         ensures once { self.new.once ≡ self.old.once }
     {
         let is_overdue = place_of_overdue(&self.held, moment).is_some();
-        let evicted = make_space(self.once, endpoint, &mut self.held, moment);
+        let evicted = make_space(self.once, endpoint, &mut self.held, moment, asker);
         self.never_heard = count_if(is_overdue, self.never_heard);
         self.evicted = count_if(evicted.is_some() && !is_overdue, self.evicted);
         if let Some(session) = evicted {
@@ -219,6 +228,11 @@ impl Sessions {
     pub fn note<R: Log>(&mut self, rt: &R, core: &mut PacedHostCore)
         ensures notes { NotesHeard self.old.once core.old core.new
             self.old.held.items self.new.held.items }
+        ensures evicted { self.new.evicted ≡ raised_if (is_evicted_for self.old.once core.old.came
+            core.old.endpoint.network core.old.endpoint core.old.moment self.old.held.items)
+            self.old.evicted }
+        ensures turned_away { CountsRequest self.old.once core.old.endpoint.network core.old.came
+            self.old.held.items self.old.turned_away self.new.turned_away }
         ensures output { self.new.output ≡ self.old.output }
         ensures once { self.new.once ≡ self.old.once }
     {
@@ -226,7 +240,9 @@ impl Sessions {
         match core.take_came() {
             Some(Arrival::Heard(id)) => self.hear_session(&mut core.endpoint, id, moment),
             Some(Arrival::Accepted(accepted)) => self.admit(&mut core.endpoint, accepted, moment),
-            Some(Arrival::NoRoom) => self.make_space(rt, &mut core.endpoint, moment),
+            Some(Arrival::NoRoom(asker)) => {
+                self.make_space(rt, &mut core.endpoint, moment, &asker);
+            }
             None => {}
         }
     }
@@ -252,6 +268,8 @@ impl Sessions {
         ensures clock { station.new.clock ≡ station.old.clock }
         ensures host_socket { station.new.host_socket ≡ station.old.host_socket }
         ensures poller { station.new.poller ≡ station.old.poller }
+        ensures evicted { self.new.evicted ≡ self.old.evicted }
+        ensures turned_away { self.new.turned_away ≡ self.old.turned_away }
         ensures output { self.new.output ≡ self.old.output }
         ensures once { self.new.once ≡ self.old.once }
     {
@@ -310,6 +328,9 @@ impl Sessions {
             self.old.of_evicted self.new.of_evicted }
         ensures turned_away { IsLoggedIfDue self.old.turned_away moment
             self.old.of_turned_away self.new.of_turned_away }
+        ensures counts { (self.new.never_heard ≡ self.old.never_heard)
+            × (self.new.evicted ≡ self.old.evicted)
+            × (self.new.turned_away ≡ self.old.turned_away) }
         ensures held { self.new.held ≡ self.old.held }
         ensures output { self.new.output ≡ self.old.output }
         ensures once { self.new.once ≡ self.old.once }
@@ -354,6 +375,8 @@ impl Sessions {
             stop_in result ≡ parted self.old.once fate c.phase) }
         ensures counts { IfSome (slice_get self.old.held.items place) (λ c.
             self.new.never_heard ≡ raised_if (is_unheard c.phase) self.old.never_heard) }
+        ensures evicted { self.new.evicted ≡ self.old.evicted }
+        ensures turned_away { self.new.turned_away ≡ self.old.turned_away }
         ensures only { OnErr result (IsTrue self.old.once) }
         // With `once` the only connection that was heard goes, and what was taken of it is written.
         ensures written { result ≡ Err Stops.Ended → left_of self.new.output ≡ [] }
@@ -393,6 +416,8 @@ impl Sessions {
         ensures clock { station.new.clock ≡ station.old.clock }
         ensures host_socket { station.new.host_socket ≡ station.old.host_socket }
         ensures poller { station.new.poller ≡ station.old.poller }
+        ensures evicted { self.new.evicted ≡ self.old.evicted }
+        ensures turned_away { self.new.turned_away ≡ self.old.turned_away }
         ensures output { self.new.output ≡ self.old.output }
         ensures once { self.new.once ≡ self.old.once }
     {
@@ -424,6 +449,8 @@ impl Sessions {
         ensures clock { station.new.clock ≡ station.old.clock }
         ensures host_socket { station.new.host_socket ≡ station.old.host_socket }
         ensures poller { station.new.poller ≡ station.old.poller }
+        ensures evicted { self.new.evicted ≡ self.old.evicted }
+        ensures turned_away { self.new.turned_away ≡ self.old.turned_away }
         ensures output { self.new.output ≡ self.old.output }
         ensures once { self.new.once ≡ self.old.once }
     {

@@ -4,8 +4,8 @@ use Rattle.ipx_host.specs.Sessions.{OnlyEnded}
 use Rattle.ipx_host.specs.Tending.{TendsOn}
 use Rattle.ipx_host.proofs.serving.Sessions.reap.Given as goal
 
--- so many were tended; what is left to write, and what a core notes, is as it was; with `once` the only
--- connection is ended just where it was
+-- so many were tended; what is left to write, what a core notes, and how many were evicted or turned away is
+-- as it was; with `once` the only connection is ended just where it was
 abbrev pub invariant-loop-tended : goal.invariant-loop-tended
 invariant-loop-tended g l = record {
   tends : TendsOn l._tended l.fn.self.once l.fn.station.core l.station.core l.fn.self.held.items l.self.held.items;
@@ -13,6 +13,8 @@ invariant-loop-tended g l = record {
   clock : l.station.clock ≡ l.fn.station.clock;
   host_socket : l.station.host_socket ≡ l.fn.station.host_socket;
   poller : l.station.poller ≡ l.fn.station.poller;
+  evicted : l.self.evicted ≡ l.fn.self.evicted;
+  turned_away : l.self.turned_away ≡ l.fn.self.turned_away;
   output : l.self.output ≡ l.fn.self.output;
   before : IsTrue l.self.once → OnlyEnded l.self.held.items → OnlyEnded l.fn.self.held.items;
   once : l.self.once ≡ l.fn.self.once;
