@@ -1,5 +1,6 @@
-"""Who gets a slot of a listener with --once, who gets one where other nodes hold all that they may, what comes of those that
-ended before their bytes were written, and the share of each sender if the output is read slowly, for `sites`."""
+"""Who gets a slot of a listener with --once, and how long it stays, who gets one where other nodes hold all that they may, what
+comes of those that ended before their bytes were written, and the share of each sender if the output is read slowly, for
+`sites`."""
 import collections
 import os
 import re
@@ -21,18 +22,27 @@ SLOW, BOTH = "127.0.1.35", ("127.0.1.36", "127.0.1.37")
 HELD = {"one": ("127.0.1.43", "127.0.1.44", ["127.0.1.45"]),
         "silent": ("127.0.1.46", "127.0.1.47", ["127.0.1.48", "127.0.1.49"]),
         "busy": ("127.0.1.73", "127.0.1.74", ["127.0.1.75", "127.0.1.76"]),
+        "uneven": ("127.0.1.25", "127.0.1.26", ["127.0.1.27", "127.0.1.28", "127.0.1.29"]),
         "ended": ("127.0.1.176", "127.0.1.177", ["127.0.1.178", "127.0.1.179"])}
 HELD_ADDRESSES = [address for listener, sender, nodes in HELD.values() for address in (listener, sender, *nodes)]
-PLACES = [ONCE, FIRST, SECOND, SLOW, *BOTH, *HELD_ADDRESSES]
+# A listener with --once, and a node that repeats the end of its connection.
+STAYING, REPEATING = "127.0.1.33", "127.0.1.34"
+PLACES = [ONCE, FIRST, SECOND, SLOW, *BOTH, *HELD_ADDRESSES, STAYING, REPEATING]
 # A sender that gets no answer ends within this number of seconds, and one that is to get through where nodes hold connections
 # within that.
 ENDS, THROUGH = 6, 15
 # The most connections of a listener, and of one node there; for how many seconds one is silent that may be evicted where all
 # are taken, and a little more.
 MOST, OF_A_NODE, SILENCE = 16, 8, 10.1
+# For how many seconds after that a node asks for one more connection, and gets none.
+ASKING = 1.6
+# How many connections each of three nodes asks for, and how many it gets. The third one is silent.
+UNEVEN, GOT = (6, 6, 5), [5, 6, 5]
 # The units of each connection that ends before its bytes are written, the bytes of each unit, and the buffers of the listener.
 UNITS, UNIT, BUFFERS = 56, 534, 64
 END, CONFIRMATION = 0xfe, 0xff
+# How often an end is repeated, and each how many seconds; and after how many seconds of silence the listener ends.
+TIMES, PAUSE, STAYS = 4, 2, (2.5, 4)
 # How many bytes of the slow output are read each second, for how many seconds, and the least share of each sender.
 RATE, SECONDS, SHARE = 1_000_000, 6, 1 / 3
 AWAY = r"\[WARN  ipx\] \d+ requests were turned away: no free slot \((\d+) since the start\)"
@@ -188,9 +198,10 @@ def start_later(sites, name, go, data):
 
 
 class Held:
-    """A listener of which nodes hold connections, and a sender of another node. So many of the nodes, `speaking`, speak again
-    each `every` seconds. The sender starts after `after` seconds, and all goes on for `every` seconds at least. In the end each
-    node speaks on each connection, which shows which of them are still held."""
+    """A listener of which nodes hold connections, as many as `wanted` says of each, and a sender of another node. So many of the
+    nodes, `speaking`, speak again each `every` seconds. The sender starts after `after` seconds, and all goes on for `every`
+    seconds at least. In the end each node speaks on each connection, which shows which of them are still held. The last node
+    asks first; the others ask on for what they did not get, until the sender starts if that is later."""
 
     def __init__(self, sites, name, wanted, speaking, every, after):
         address, sender, nodes = HELD[name]
@@ -203,17 +214,21 @@ class Held:
         self.go, self.ending = threading.Event(), None
         self.sender = start_later(sites, name, self.go, self.data)
         until(self.listener.said, 5)
-        self.holders = [Holder(sites, ip, address, wanted) for ip in nodes]
+        self.holders = [Holder(sites, ip, address, number) for ip, number in zip(nodes, wanted)]
         # The connections that were accepted of each node as the sender starts, and on which all is acknowledged at last.
         self.accepted = self.heard = None
+        # The lines that tell of evicted connections as the sender starts.
+        self.evicted = []
         self.thread = threading.Thread(target=self.run, daemon=True)
         self.thread.start()
 
     def ask(self):
-        """Asks for what was not accepted, and answers whether all is."""
-        for holder in self.holders:
+        """Each node asks for what was not accepted, once the nodes after it have all. Returns whether all have all."""
+        for holder in reversed(self.holders):
             holder.ask()
-        return all(len(holder.accepted) == len(holder.numbers) for holder in self.holders)
+            if len(holder.accepted) < len(holder.numbers):
+                return False
+        return True
 
     def run(self):
         until(self.ask, 1)
@@ -221,7 +236,7 @@ class Held:
         while not self.ending or self.ending.thread.is_alive() or time.monotonic() < start + self.every:
             time.sleep(0.02)
             now = time.monotonic()
-            if now >= asked + 0.5:
+            if now >= asked + 0.5 and not (self.after and self.ending):
                 asked = now
                 self.ask()
             if now >= spoke + self.every:
@@ -230,6 +245,7 @@ class Held:
                     holder.speak()
             if now >= start + self.after and not self.ending:
                 self.accepted = [len(holder.accepted) for holder in self.holders]
+                self.evicted = [line for line in self.listener.said() if "evicted" in line]
                 self.ending = Ending(self.sender)
                 self.go.set()
         for holder in self.holders:
@@ -266,7 +282,7 @@ class Ender(Holder):
         return bytes([self.before + number]) * UNIT
 
     def end(self, number):
-        """Sends the rest on a connection, and its end, and again what is not acknowledged. It answers whether all was
+        """Sends the rest on a connection, and its end, and again what is not acknowledged. Returns whether all was
         acknowledged and the end confirmed, as a sender with status 0 has it."""
         for _ in range(5):
             self.sent[number] = min(self.acknowledged[number], UNITS)
@@ -307,7 +323,7 @@ class Ended:
         self.thread.start()
 
     def ask(self):
-        """Asks for what was not accepted, and answers whether all is."""
+        """Asks for what was not accepted, and returns whether all is."""
         for holder in self.holders:
             holder.ask()
         return all(len(holder.accepted) == OF_A_NODE for holder in self.holders)
@@ -339,15 +355,68 @@ class Ended:
         os.close(self.pipe)
 
 
+class Repeated:
+    """A listener with --once, and a node that repeats its end, as a sender does that gets no confirmation."""
+
+    def __init__(self, sites):
+        sites.host("staying-listener", NETWORK, STAYING, "127.0.1.89", "4002", listed("peers", [REPEATING]))
+        self.listener = sites.start_listener("--once", name="staying-listener")
+        until(self.listener.said, 5)
+        self.holder = Holder(sites, REPEATING, STAYING, 1)
+        # How often the end was confirmed, and how long the listener stayed after the last one.
+        self.confirmed, self.ending = 0, None
+        self.thread = threading.Thread(target=self.run, daemon=True)
+        self.thread.start()
+
+    def is_heard(self):
+        self.holder.ask()
+        return self.holder.heard() == [1]
+
+    def end(self):
+        """Sends the end, and returns whether it is confirmed."""
+        self.holder.sent[1] = 1
+        self.holder.confirmed.clear()
+        self.holder.send(1, END)
+        return until(lambda: self.holder.is_heard(1) and self.holder.confirmed, 1)
+
+    def run(self):
+        if not until(self.is_heard, 5):
+            return
+        for _ in range(TIMES):
+            time.sleep(PAUSE)
+            self.confirmed += self.end()
+        self.ending = Ending(self.listener)
+
+    def check(self, sites):
+        """It confirmed each end, and ended soon after the last one."""
+        self.thread.join(30)
+        seconds = 99
+        if self.ending:
+            self.ending.thread.join(10)
+            seconds = self.ending.seconds or 99
+        sites.check(f"a listener with --once confirms an end that is repeated for {TIMES * PAUSE} seconds, each time",
+                    self.confirmed == TIMES, f"{self.confirmed} of {TIMES} times")
+        status = self.listener.status(0)
+        sites.check("and ends three seconds after the last one with status 0", status == 0 and self.listener.out == b"."
+                    and STAYS[0] < seconds < STAYS[1], f"{status}, after {seconds:.2f} s, {bytes(self.listener.out)}")
+        self.holder.socket.close()
+        self.listener.end()
+
+
 def start_held(sites):
-    """A node that asks for all connections; two that hold all, of which one is silent then; two that go on to speak; and two
-    that end all before their bytes are written."""
-    return {"one": Held(sites, "one", MOST, 1, 5, 0), "silent": Held(sites, "silent", OF_A_NODE, 1, 3, SILENCE),
-            "busy": Held(sites, "busy", OF_A_NODE, 2, 3, SILENCE), "ended": Ended(sites)}
+    """A node that asks for all connections; two that hold all, of which one is silent then, and the other one asks for one more;
+    two that go on to speak; three that hold all, of which the one with the fewest is silent, and the other one with so few asks
+    for one more; and two that end all before their bytes are written. And a node that repeats its end."""
+    return {"one": Held(sites, "one", [MOST], 1, 5, 0),
+            "silent": Held(sites, "silent", [OF_A_NODE + 1, OF_A_NODE], 1, 3, SILENCE + ASKING),
+            "busy": Held(sites, "busy", [OF_A_NODE] * 2, 2, 3, SILENCE),
+            "uneven": Held(sites, "uneven", UNEVEN, 2, 3, SILENCE + ASKING), "ended": Ended(sites),
+            "repeated": Repeated(sites)}
 
 
 def check_held(sites, held):
     """Who gets a slot there, and who keeps one."""
+    held.pop("repeated").check(sites)
     one = held["one"]
     check_through(sites, "a sender to a listener of which another node asks for all connections gets through", one)
     sites.check(f"of {MOST} connections that one node asks for it gets {OF_A_NODE}",
@@ -359,6 +428,9 @@ def check_held(sites, held):
                 silent.accepted == [OF_A_NODE] * 2 and silent.heard == [OF_A_NODE, OF_A_NODE - 1],
                 f"{silent.accepted} accepted, {silent.heard} acknowledged")
     check_line(sites, "and is counted", silent, EVICTED)
+    sites.check(f"and none before for the other node, which asks for one more than {OF_A_NODE}", not silent.evicted,
+                str(silent.evicted))
+    check_uneven(sites, held["uneven"])
     busy = held["busy"]
     status, took, said, _ = busy.ended()
     line = f"no answer from {NETWORK} {node(HELD['busy'][0])} 4002"
@@ -370,6 +442,17 @@ def check_held(sites, held):
     check_ended(sites, held["ended"])
     for it in held.values():
         it.end()
+
+
+def check_uneven(sites, it):
+    """Nobody is evicted for a node that holds as many, and a node that speaks does not protect one that holds less."""
+    held = ", ".join(str(number) for number in GOT)
+    sites.check(f"of three nodes that hold {held}, the first asks for one more, and evicts none of the third, which is silent",
+                it.accepted == GOT and not it.evicted, f"{it.accepted} accepted, {it.evicted}")
+    check_through(sites, "a sender of a fourth node gets through there", it)
+    sites.check("for which one of the third node is evicted, though the second, which speaks, has more",
+                it.heard == [*GOT[:2], GOT[2] - 1], f"{it.heard} acknowledged")
+    check_line(sites, "and is counted, too", it, EVICTED)
 
 
 def check_ended(sites, it):
