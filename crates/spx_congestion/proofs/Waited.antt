@@ -1,10 +1,9 @@
 -- When a pacer counts a timeout.
 use Rattle.std.proofs.Common.{◌≡◌, ◌+◌, ◌-◌, ◌*◌, ◌^◌, ◌∙◌, ◌≤◌, ◌<◌, ◌⊎◌, ℕ, Bool, true, false, Option, None, Some, ap, arith, max, min, refl, sym, subst, ⊎_elim}
 use Rattle.std.proofs.lemmas.Bool.{leb-true, le-leb, lt-ltb}
-use Rattle.std.specs.Prelude.{◌&&◌, if◌then◌else◌, nat_lt, nat_le, option_map, unwrap_or}
-use Rattle.spx_congestion.specs.Measured.{least_wait, most_wait}
+use Rattle.std.specs.Prelude.{◌&&◌, if◌then◌else◌, nat_lt, option_map, unwrap_or}
 use Rattle.spx_congestion.specs.Pacing.{PacerView, TakesOut, Tends, WaitsOn, asks_often, behind, flight, given_by, is_over, missing_at, place_again, tended, wait_of, waited_since, waits_till, with_outstanding}
-use Rattle.spx_congestion.specs.Waiting.{BringsNoNews, HasNoNews, HasWaited, NothingElsePostpones, TimeoutsLast, TimesOut, WaitsAreBounded, WaitsYet, begins, plans, hears, gives, begins_to, times_out, tends, reads, sends}
+use Rattle.spx_congestion.specs.Waiting.{HasNoNews, HasWaited, NothingElsePostpones, TimeoutsLast, TimesOut, WaitsAreBounded, begins, plans, hears, gives, begins_to, times_out, tends, reads, sends}
 use Rattle.spx_congestion.specs.declared.sent_kind.SentKind.{SentKind}
 use Rattle.spx_congestion.specs.declared.sent_kind.SentKind.TheVariants as Gaves
 use Rattle.spx_congestion.proofs.Tended.{tended_wait}
