@@ -119,20 +119,26 @@ abbrev pub has_more : Network → List Session → Address → Address → Bool
 has_more own sessions a b =
     nat_lt (count_by (is_of_node own b) sessions) (count_by (is_of_node own a) sessions)
 
--- a connection goes before another if it may be evicted, and its node has more connections, or as many and it
--- was silent for longer
-abbrev pub goes_before : Network → EndpointView → ℕ → List Session → Session → Session → Bool
-goes_before own e now sessions d c = may_go e now d && (has_more own sessions d.from c.from
+-- it may be evicted for a request from an address: it is of the node of that address, or its node has more
+-- connections than that node
+abbrev pub may_go_for : Network → EndpointView → ℕ → Address → List Session → Session → Bool
+may_go_for own e now asker sessions c =
+    may_go e now c && (is_of_node own asker c || has_more own sessions c.from asker)
+
+-- a connection goes before another if it may be evicted for that request, and its node has more connections,
+-- or as many and it was silent for longer
+abbrev pub goes_before : Network → EndpointView → ℕ → Address → List Session → Session → Session → Bool
+goes_before own e now asker sessions d c = may_go_for own e now asker sessions d
+    && (has_more own sessions d.from c.from
     || (not (has_more own sessions c.from d.from) && nat_lt d.heard c.heard))
 
--- a connection may be evicted for a request from an address: its node has more connections than the node of
--- that address, and no other connection goes before it
+-- the connection that is evicted for a request from an address: it may be, and no other goes before it
 abbrev pub is_to_go : Network → EndpointView → ℕ → Address → List Session → Session → Bool
-is_to_go own e now asker sessions c = may_go e now c && has_more own sessions c.from asker
-    && not (list_any (λ d. goes_before own e now sessions d c) sessions)
+is_to_go own e now asker sessions c = may_go_for own e now asker sessions c
+    && not (list_any (λ d. goes_before own e now asker sessions d c) sessions)
 
 -- the connection that is evicted for a request from an address: the first overdue one, or if each was heard
--- from, and without `once`, a silent one of a node that has more connections than the node that asks
+-- from, and without `once`, a silent one of the node that asks or of a node that has more connections
 abbrev pub place_to_free : Bool → Network → EndpointView → ℕ → Address → List Session → Option ℕ
 place_to_free once own e now asker sessions =
     if once || list_any (λ c. is_unheard c.phase) sessions then position (is_overdue now) sessions

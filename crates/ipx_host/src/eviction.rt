@@ -146,20 +146,37 @@ fn has_more(sessions: &[Session], own: Network, from: &Address, other: &Address)
     count_of_node(sessions, own, from) > count_of_node(sessions, own, other)
 }
 
-/// Whether a connection goes before another: it may be evicted, and its node has more connections, or
-/// as many and it was silent for longer.
+/// Whether a connection may be evicted for a request from an address: it is of the node of that
+/// address, or its node has more connections than that node.
+fn may_go_for(
+    own: Network,
+    endpoint: &Endpoint,
+    sessions: &[Session],
+    moment: u64,
+    asker: &Address,
+    session: &Session,
+) -> bool
+    ensures { result ≡ may_go_for own endpoint.now moment asker.now sessions.now session.now }
+{
+    may_go(endpoint, session, moment)
+        && (session.is_of_node(own, asker) || has_more(sessions, own, &session.from, asker))
+}
+
+/// Whether a connection goes before another: it may be evicted for the request, and its node has
+/// more connections, or as many and it was silent for longer.
 fn goes_before(
     own: Network,
     endpoint: &Endpoint,
     sessions: &[Session],
     moment: u64,
+    asker: &Address,
     session: &Session,
     other: &Session,
 ) -> bool
     ensures { result
-        ≡ goes_before own endpoint.now moment sessions.now session.now other.now }
+        ≡ goes_before own endpoint.now moment asker.now sessions.now session.now other.now }
 {
-    may_go(endpoint, session, moment)
+    may_go_for(own, endpoint, sessions, moment, asker, session)
         && (has_more(sessions, own, &session.from, &other.from)
             || (!has_more(sessions, own, &other.from, &session.from)
                 && session.heard < other.heard))
@@ -171,16 +188,17 @@ fn goes_any_before(
     endpoint: &Endpoint,
     sessions: &[Session],
     moment: u64,
+    asker: &Address,
     session: &Session,
 ) -> bool
     ensures { result ≡ list_any
-        (λ d. goes_before own endpoint.now moment sessions.now d session.now) sessions.now }
+        (λ d. goes_before own endpoint.now moment asker.now sessions.now d session.now) sessions.now }
 {
-    sessions.iter().any(|other| goes_before(own, endpoint, sessions, moment, other, session))
+    sessions.iter().any(|other| goes_before(own, endpoint, sessions, moment, asker, other, session))
 }
 
-/// Whether a connection may be evicted for a request from an address: its node has more connections
-/// than the node of that address, and no other connection goes before it.
+/// Whether a connection is evicted for a request from an address: it may be, and no other goes
+/// before it.
 fn is_to_go(
     own: Network,
     endpoint: &Endpoint,
@@ -191,9 +209,8 @@ fn is_to_go(
 ) -> bool
     ensures { result ≡ is_to_go own endpoint.now moment asker.now sessions.now session.now }
 {
-    may_go(endpoint, session, moment)
-        && has_more(sessions, own, &session.from, asker)
-        && !goes_any_before(own, endpoint, sessions, moment, session)
+    may_go_for(own, endpoint, sessions, moment, asker, session)
+        && !goes_any_before(own, endpoint, sessions, moment, asker, session)
 }
 
 /// The place of the silent connection that is evicted for a request, if there is one.
@@ -212,8 +229,8 @@ fn place_of_silent(
 }
 
 /// The place of the connection that is evicted for a request: the first overdue one, or if each was
-/// heard from, and without `once`, a silent one of a node that has more connections than the node
-/// that asks.
+/// heard from, and without `once`, a silent one of the node that asks or of a node that has more
+/// connections.
 fn place_to_evict(
     once: bool,
     own: Network,

@@ -23,6 +23,7 @@ HELD = {"one": ("127.0.1.43", "127.0.1.44", ["127.0.1.45"]),
         "silent": ("127.0.1.46", "127.0.1.47", ["127.0.1.48", "127.0.1.49"]),
         "busy": ("127.0.1.73", "127.0.1.74", ["127.0.1.75", "127.0.1.76"]),
         "uneven": ("127.0.1.25", "127.0.1.26", ["127.0.1.27", "127.0.1.28", "127.0.1.29"]),
+        "own": ("127.0.1.38", "127.0.1.39", ["127.0.1.77", "127.0.1.78"]),
         "ended": ("127.0.1.176", "127.0.1.177", ["127.0.1.178", "127.0.1.179"])}
 HELD_ADDRESSES = [address for listener, sender, nodes in HELD.values() for address in (listener, sender, *nodes)]
 # A listener with --once, and a node that repeats the end of its connection.
@@ -406,11 +407,13 @@ class Repeated:
 def start_held(sites):
     """A node that asks for all connections; two that hold all, of which one is silent then, and the other one asks for one more;
     two that go on to speak; three that hold all, of which the one with the fewest is silent, and the other one with so few asks
-    for one more; and two that end all before their bytes are written. And a node that repeats its end."""
+    for one more; two that hold all and are silent, of which one asks for one more; and two that end all before their bytes are
+    written. And a node that repeats its end."""
     return {"one": Held(sites, "one", [MOST], 1, 5, 0),
             "silent": Held(sites, "silent", [OF_A_NODE + 1, OF_A_NODE], 1, 3, SILENCE + ASKING),
             "busy": Held(sites, "busy", [OF_A_NODE] * 2, 2, 3, SILENCE),
-            "uneven": Held(sites, "uneven", UNEVEN, 2, 3, SILENCE + ASKING), "ended": Ended(sites),
+            "uneven": Held(sites, "uneven", UNEVEN, 2, 3, SILENCE + ASKING),
+            "own": Held(sites, "own", [OF_A_NODE + 1, OF_A_NODE], 0, 3, SILENCE + ASKING), "ended": Ended(sites),
             "repeated": Repeated(sites)}
 
 
@@ -431,6 +434,7 @@ def check_held(sites, held):
     sites.check(f"and none before for the other node, which asks for one more than {OF_A_NODE}", not silent.evicted,
                 str(silent.evicted))
     check_uneven(sites, held["uneven"])
+    check_own(sites, held["own"])
     busy = held["busy"]
     status, took, said, _ = busy.ended()
     line = f"no answer from {NETWORK} {node(HELD['busy'][0])} 4002"
@@ -453,6 +457,15 @@ def check_uneven(sites, it):
     sites.check("for which one of the third node is evicted, though the second, which speaks, has more",
                 it.heard == [*GOT[:2], GOT[2] - 1], f"{it.heard} acknowledged")
     check_line(sites, "and is counted, too", it, EVICTED)
+
+
+def check_own(sites, it):
+    """A node replaces a silent connection of its own where nobody holds more, and takes none of the other node."""
+    sites.check(f"a node with {OF_A_NODE} silent connections gets one more, once they are silent for 10 s, if all are taken",
+                it.accepted == [OF_A_NODE + 1, OF_A_NODE] and len(it.evicted) == 1, f"{it.accepted} accepted, {it.evicted}")
+    check_through(sites, "a sender of a third node gets through there", it)
+    sites.check("and the node that asked lost one of its own, the other node one for that sender",
+                it.heard == [OF_A_NODE, OF_A_NODE - 1], f"{it.heard} acknowledged")
 
 
 def check_ended(sites, it):
