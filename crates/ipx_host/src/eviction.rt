@@ -4,7 +4,7 @@
 ghost use Rattle.std.specs.Prelude.{◌≡◌, ◌↔◌, ◌<◌, ◌≤◌, true, count_by, is_some, length, map, position, slice_get, vec_capacity, IfSome, IsTrue};
 ghost use Rattle.std.specs.List.{list_any};
 ghost use Rattle.ipx_host.specs.SessionActions.{is_unheard};
-ghost use Rattle.ipx_host.specs.Sessions.{Admits, Asks, IsAskedUnless, HasNoPlaceFor, IsOutOfMemory, KeepsHeard, LetsLinkGo, LetsLinksGo, MakesSpace, goes_before, has_more, heard_by, has_spoken, is_of_node, is_overdue, is_to_go, is_unheard_of, may_go, place_to_free, raised_if};
+ghost use Rattle.ipx_host.specs.Sessions.{Admits, Asks, IsAskedUnless, HasNoPlaceFor, IsOutOfMemory, KeepsHeard, LetsLinkGo, LetsLinksGo, MakesSpace, goes_before, has_more, heard_by, has_spoken, is_of_node, is_overdue, is_to_go, is_unheard_of, may_go, may_go_for, place_to_free, raised_if};
 
 use crate::sessions::{Session, hear_one};
 use ipx_wire::{Address, Network};

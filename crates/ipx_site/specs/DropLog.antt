@@ -62,6 +62,21 @@ warns_of LoopedSource last = true
 
 -- ---- relations for private functions
 
+-- what the router dropped is logged if it is due, and no other reason
+pub record AreRouterDropsLogged (outcomes : OutcomeCounters) (now : ℕ) (old new : DropLog) : Type 0 where
+  pub bad : IsLoggedIfDue outcomes.bad now old.bad new.bad
+  pub not_ours : IsLoggedIfDue outcomes.not_ours now old.not_ours new.not_ours
+  pub no_route : IsLoggedIfDue outcomes.no_route now old.no_route new.no_route
+  pub hop_limit : IsLoggedIfDue outcomes.hop_limit now old.hop_limit new.hop_limit
+  pub bad_control : IsLoggedIfDue outcomes.bad_control now old.bad_control new.bad_control
+  pub rest : new ≡ record old {
+    bad = new.bad;
+    not_ours = new.not_ours;
+    no_route = new.no_route;
+    hop_limit = new.hop_limit;
+    bad_control = new.bad_control;
+  }
+
 -- what failed a source check is logged if it is due, and no other reason
 pub record AreSourceDropsLogged (source : SourceDrops) (now : ℕ) (old new : DropLog) : Type 0 where
   pub forwarded_control :

@@ -1,7 +1,7 @@
 //! Log lines for dropped datagrams: one a minute for each reason, with the last datagram.
 
 ghost use Rattle.std.specs.Prelude.{◌≡◌};
-ghost use Rattle.ipx_site.specs.DropLog.{AreDropsLogged, AreSourceDropsLogged, is_for_all_nodes, is_of_all_nodes, no_drops_logged, warns_of};
+ghost use Rattle.ipx_site.specs.DropLog.{AreDropsLogged, AreRouterDropsLogged, AreSourceDropsLogged, is_for_all_nodes, is_of_all_nodes, no_drops_logged, warns_of};
 ghost use Rattle.ipx_site.specs.Moments.{IsLoggedIfDue};
 
 use crate::sameness::is_same_node;
@@ -177,6 +177,19 @@ impl DropLog {
     )
         ensures { AreDropsLogged outcomes.now source now self.old self.new }
     {
+        self.tell_router_drops(rt, outcomes, last, now);
+        self.tell_source_drops(rt, source, now);
+    }
+
+    fn tell_router_drops<R: Log>(
+        &mut self,
+        rt: &R,
+        outcomes: &OutcomeCounters,
+        last: LastDrops,
+        now: u64,
+    )
+        ensures { AreRouterDropsLogged outcomes.now now self.old self.new }
+    {
         let bad = words(DropReason::Bad, last.bad);
         let not_ours = words(DropReason::NotOurs, last.not_ours);
         let no_route = words(DropReason::NoRoute, last.no_route);
@@ -193,7 +206,6 @@ impl DropLog {
             bad_control,
             now,
         );
-        self.tell_source_drops(rt, source, now);
     }
 
     fn tell_source_drops<R: Log>(&mut self, rt: &R, source: SourceDrops, now: u64)
