@@ -37,6 +37,8 @@ ENDS, THROUGH = 6, 15
 MOST, OF_A_NODE, SILENCE = 16, 8, 10.1
 # For how many seconds after that a node asks for one more connection, and gets none.
 ASKING = 1.6
+# For how many seconds more it asks where it may replace one of its own, so that a busy machine has time for that.
+REPLACING = 3
 # How many connections each of three nodes asks for, and how many it gets. The third one is silent.
 UNEVEN, GOT = (6, 6, 5), [5, 6, 5]
 # The units of each connection that ends before its bytes are written, the bytes of each unit, and the buffers of the listener.
@@ -413,7 +415,8 @@ def start_held(sites):
             "silent": Held(sites, "silent", [OF_A_NODE + 1, OF_A_NODE], 1, 3, SILENCE + ASKING),
             "busy": Held(sites, "busy", [OF_A_NODE] * 2, 2, 3, SILENCE),
             "uneven": Held(sites, "uneven", UNEVEN, 2, 3, SILENCE + ASKING),
-            "own": Held(sites, "own", [OF_A_NODE + 1, OF_A_NODE], 0, 3, SILENCE + ASKING), "ended": Ended(sites),
+            "own": Held(sites, "own", [OF_A_NODE + 1, OF_A_NODE], 0, 3, SILENCE + ASKING + REPLACING),
+            "ended": Ended(sites),
             "repeated": Repeated(sites)}
 
 
