@@ -1,4 +1,4 @@
-"""What a router's file says by hand, and what comes of it two routers away, for `sites`."""
+"""Static routes and services of a router's file, and what routers two hops away learn of them, for `sites`."""
 import re
 import time
 
