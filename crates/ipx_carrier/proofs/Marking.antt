@@ -13,7 +13,7 @@ use Rattle.ipx_carrier.specs.Counts.{heard_in}
 use Rattle.ipx_carrier.specs.Device.{Reception, TrafficOf}
 use Rattle.ipx_carrier.specs.MarkedTurns.{AnswersAtEnd, AsksMarkedPorts, AsksSomeMarkedPorts, MarksFollowBatch, MarksFollowFault, MarksFollowTurn}
 use Rattle.ipx_carrier.specs.Parts.{AsksPort, PollFails, SendsAll, SendsSome}
-use Rattle.ipx_carrier.specs.PortMarks.{AsksPortWithMark, EndsInNone, FailsWithMark, MarksFollow, MarksStay, PortMarks}
+use Rattle.ipx_carrier.specs.Readiness.{AsksPortWithMark, EndsInNone, FailsWithMark, MarksFollow, MarksStay, Readiness}
 use Rattle.ipx_carrier.specs.ReadySet.{is_port_marked}
 use Rattle.ipx_carrier.specs.Turns.{FailsAtPort, Given, Turn, Turns, Ways, received_of}
 use Rattle.ipx_carrier.specs.Waits.{answers_of_port}
@@ -43,7 +43,7 @@ one_answer : (port asked : ℕ) (bytes : Option (List ℕ)) (b : Bool) → (aske
 one_answer port asked bytes b e =
     ap (λ b. map (λ (r : Reception). r.bytes) (cond b (record { port = asked; bytes = bytes } ∷ []) [])) e ∙ bytes_of asked bytes b
 
-pub follow_nothing : (a b : PortMarks) → MarksStay a b → MarksFollow [] a b
+pub follow_nothing : (a b : Readiness) → MarksStay a b → MarksFollow [] a b
 follow_nothing a b stay = λ port. (λ e. sym (stay port) ∙ e, λ e. inr (refl, sym (stay port) ∙ e))
 
 -- more answers
@@ -55,7 +55,7 @@ then_unmarked port rs ss was none (inl w) =
 then_unmarked port rs ss was none (inr w) =
     inr (answers-append port rs ss ∙ ap (λ xs. answers_of_port port rs ++ xs) none ∙ append-nil (answers_of_port port rs) ∙ w.0, w.1)
 
-unmarked_on : (port : ℕ) (rs ss : List Reception) (a b : PortMarks) → MarksFollow rs a b
+unmarked_on : (port : ℕ) (rs ss : List Reception) (a b : Readiness) → MarksFollow rs a b
     → EndsInNone (answers_of_port port ss) ⊎ ((answers_of_port port ss ≡ []) × (b port ≡ false))
     → EndsInNone (answers_of_port port (rs ++ ss)) ⊎ ((answers_of_port port (rs ++ ss) ≡ []) × (a port ≡ false))
 unmarked_on port rs ss a b h (inl w) =
@@ -65,10 +65,10 @@ unmarked_on port rs ss a b h (inl w) =
     )
 unmarked_on port rs ss a b h (inr w) = then_unmarked port rs ss (a port ≡ false) w.0 ((h port).1 w.1)
 
-pub follow_on : (rs ss : List Reception) (a b c : PortMarks) → MarksFollow rs a b → MarksFollow ss b c → MarksFollow (rs ++ ss) a c
+pub follow_on : (rs ss : List Reception) (a b c : Readiness) → MarksFollow rs a b → MarksFollow ss b c → MarksFollow (rs ++ ss) a c
 follow_on rs ss a b c h k = λ port. (λ e. (h port).0 ((k port).0 e), λ e. unmarked_on port rs ss a b h ((k port).1 e))
 
-pub follow_stays : (rs : List Reception) (a b c : PortMarks) → MarksFollow rs a b → MarksStay b c → MarksFollow rs a c
+pub follow_stays : (rs : List Reception) (a b c : Readiness) → MarksFollow rs a b → MarksStay b c → MarksFollow rs a c
 follow_stays rs a b c h stay = λ port. (λ e. (h port).0 (sym (stay port) ∙ e), λ e. (h port).1 (sym (stay port) ∙ e))
 
 -- one answer
@@ -76,7 +76,7 @@ none_came : (bytes : Option (List ℕ)) (marked : Bool) → (is_some bytes ≡ t
 none_came None marked came e = ([], refl)
 none_came (Some x) marked came e = not_both marked (came refl) e
 
-one_at : (port asked : ℕ) (bytes : Option (List ℕ)) (a b : PortMarks) → AsksPortWithMark asked (is_some bytes) a b
+one_at : (port asked : ℕ) (bytes : Option (List ℕ)) (a b : Readiness) → AsksPortWithMark asked (is_some bytes) a b
     → (same : Bool) → (asked == port) ≡ same → (b port ≡ true → a port ≡ true)
     × (b port ≡ false → EndsInNone (answers_of_port port (record { port = asked; bytes = bytes } ∷ []))
     ⊎ ((answers_of_port port (record { port = asked; bytes = bytes } ∷ []) ≡ []) × (a port ≡ false)))
@@ -92,19 +92,19 @@ one_at port asked bytes a b h false e =
     let same : b port ≡ a port = h.0 port (λ k. eqb-false asked port e (sym k)) in
     (λ k. sym same ∙ k, λ k. inr (one_answer port asked bytes false e, sym same ∙ k))
 
-pub follow_one : (asked : ℕ) (bytes : Option (List ℕ)) (a b : PortMarks) → AsksPortWithMark asked (is_some bytes) a b
+pub follow_one : (asked : ℕ) (bytes : Option (List ℕ)) (a b : Readiness) → AsksPortWithMark asked (is_some bytes) a b
     → MarksFollow (record { port = asked; bytes = bytes } ∷ []) a b
 follow_one asked bytes a b h = λ port. one_at port asked bytes a b h (asked == port) refl
 
 -- marks that stay, at a port that gave something
-pub stay_marked : (asked : ℕ) (a b : PortMarks) → MarksStay a b → a asked ≡ true → AsksPortWithMark asked true a b
+pub stay_marked : (asked : ℕ) (a b : Readiness) → MarksStay a b → a asked ≡ true → AsksPortWithMark asked true a b
 stay_marked asked a b stay e = (λ port far. stay port, λ k. e, λ k. stay asked ∙ e)
 
 module _ {C : Type 0} (hears : C → ℕ → List ℕ → ℕ → C → Type 0) where
-  pub asks_none : (now : ℕ) (m : PortMarks) (c : C) → AsksMarkedPorts hears now 0 m m c c 0
+  pub asks_none : (now : ℕ) (m : Readiness) (c : C) → AsksMarkedPorts hears now 0 m m c c 0
   asks_none now m c = ([], refl, refl, refl, follow_nothing m m (λ port. refl))
 
-  pub asks_more : {A : Type 0} (now port : ℕ) (t u : Option (TrafficOf A)) (l m n : PortMarks) (a b c : C) (count more : ℕ) (heard : Bool)
+  pub asks_more : {A : Type 0} (now port : ℕ) (t u : Option (TrafficOf A)) (l m n : Readiness) (a b c : C) (count more : ℕ) (heard : Bool)
       → AsksMarkedPorts hears now port l m a b count → AsksPort hears now port t u b c heard → AsksPortWithMark port heard m n
       → more ≡ count + cond heard 1 0 → AsksMarkedPorts hears now (port + 1) l n a c more
   asks_more now port t u l m n a b c count more heard h k w e =
@@ -121,13 +121,13 @@ module _ {C : Type 0} (hears : C → ℕ → List ℕ → ℕ → C → Type 0) 
       )
 
 module _ {C : Type 0} (hears hear_out_of_memory : C → ℕ → List ℕ → ℕ → C → Type 0) where
-  follow_fault : (now port : ℕ) (last : List Reception) (f : RunFault) (m n : PortMarks) (b c : C)
+  follow_fault : (now port : ℕ) (last : List Reception) (f : RunFault) (m n : Readiness) (b c : C)
       → FailsAtPort hear_out_of_memory now port last f b c → FailsWithMark port f m n → MarksFollow last m n
   follow_fault now port last Device m n b c k w = subst (λ (rs : List Reception). MarksFollow rs m n) (sym k.0) (follow_nothing m n w.0)
   follow_fault now port last OutOfMemory m n b c k w =
       subst (λ (rs : List Reception). MarksFollow rs m n) (sym k.1) (follow_one port (Some k.0) m n (stay_marked port m n w.0 (w.1 refl)))
 
-  pub asks_some : {A : Type 0} (now port ports : ℕ) (t u : Option (TrafficOf A)) (l m n : PortMarks) (a b c : C) (count : ℕ) (f : RunFault)
+  pub asks_some : {A : Type 0} (now port ports : ℕ) (t u : Option (TrafficOf A)) (l m n : Readiness) (a b c : C) (count : ℕ) (f : RunFault)
       → AsksMarkedPorts hears now port l m a b count → PollFails hears hear_out_of_memory now port t u f b c → FailsWithMark port f m n
       → port < ports → AsksSomeMarkedPorts hears hear_out_of_memory now ports l n f a c
   asks_some now port ports t u l m n a b c count f h k w e =
@@ -143,7 +143,7 @@ module _ {C : Type 0} (hears hear_out_of_memory : C → ℕ → List ℕ → ℕ
 
 module _ {C : Type 0} (hears : C → ℕ → List ℕ → ℕ → C → Type 0)
     (gives : C → ℕ → Option Given → C → Type 0) (ports : ℕ) where
-  pub turn_follows : {A : Type 0} (now : ℕ) (there : Ways A) (t u : Option (TrafficOf A)) (l m n : PortMarks) (a b c : C) (heard : ℕ) (totals : SendCounts)
+  pub turn_follows : {A : Type 0} (now : ℕ) (there : Ways A) (t u : Option (TrafficOf A)) (l m n : Readiness) (a b c : C) (heard : ℕ) (totals : SendCounts)
       → AsksMarkedPorts hears now ports l m a b heard → SendsAll gives now there t u b c totals → MarksStay m n
       → MarksFollowTurn hears gives ports l n a c heard
   turn_follows now there t u l m n a b c heard totals h k stay =
@@ -151,11 +151,11 @@ module _ {C : Type 0} (hears : C → ℕ → List ℕ → ℕ → C → Type 0)
       (turn, (h.1, b, h.2, k.1), h.3, follow_stays h.0 l m n h.4 stay)
 
   -- the turns so far, which are whole
-  abbrev pub FollowSoFar : PortMarks → PortMarks → C → C → ℕ → Type 0
+  abbrev pub FollowSoFar : Readiness → Readiness → C → C → ℕ → Type 0
   FollowSoFar l m a b heard = (turns : List Turn) × Turns hears gives ports turns a b
       × (heard ≡ counted (heard_in (received_of turns))) × MarksFollow (received_of turns) l m
 
-  pub so_far_more : (here : ℕ) (l m n : PortMarks) (a b c : C) (heard one more : ℕ) → here ≡ ports → FollowSoFar l m a b heard
+  pub so_far_more : (here : ℕ) (l m n : Readiness) (a b c : C) (heard one more : ℕ) → here ≡ ports → FollowSoFar l m a b heard
       → MarksFollowTurn hears gives here m n b c one → more ≡ counted (heard + one) → FollowSoFar l n a c more
   so_far_more here l m n a b c heard one more e h k' is =
       let k = subst (λ p. MarksFollowTurn hears gives p m n b c one) e k' in
@@ -176,13 +176,13 @@ module _ {C : Type 0} (hears : C → ℕ → List ℕ → ℕ → C → Type 0)
 module _ {C : Type 0} (hears hear_out_of_memory : C → ℕ → List ℕ → ℕ → C → Type 0)
     (gives : C → ℕ → Option Given → C → Type 0) (next_out_of_memory : C → ℕ → C → Type 0)
     (ports : ℕ) {A : Type 0} (transmissions : Ways A) where
-  pub fault_hearing : (now : ℕ) (f : RunFault) (l m : PortMarks) (a b : C) → AsksSomeMarkedPorts hears hear_out_of_memory now ports l m f a b
+  pub fault_hearing : (now : ℕ) (f : RunFault) (l m : Readiness) (a b : C) → AsksSomeMarkedPorts hears hear_out_of_memory now ports l m f a b
       → MarksFollowFault hears hear_out_of_memory gives next_out_of_memory ports transmissions l m f a b
   fault_hearing now f l m a b h =
       let turn : Turn = record { moment = now; answers = h.0 ++ h.1; packets = [] } in
       (turn, [], inl (h.0, h.1, h.2, refl, h.3, h.4, h.5, refl, refl), h.6)
 
-  pub fault_sending : (now : ℕ) (there : Ways A) (t u : Option (TrafficOf A)) (l m n : PortMarks) (f : RunFault) (a b c : C) (heard : ℕ)
+  pub fault_sending : (now : ℕ) (there : Ways A) (t u : Option (TrafficOf A)) (l m n : Readiness) (f : RunFault) (a b c : C) (heard : ℕ)
       → there ≡ transmissions → AsksMarkedPorts hears now ports l m a b heard → SendsSome gives next_out_of_memory 64 now there t u f b c
       → MarksStay m n → MarksFollowFault hears hear_out_of_memory gives next_out_of_memory ports transmissions l n f a c
   fault_sending now there t u l m n f a b c heard is h k' stay =
@@ -191,7 +191,7 @@ module _ {C : Type 0} (hears hear_out_of_memory : C → ℕ → List ℕ → ℕ
       (turn, k.1, inr (h.1, b, h.2, k.2), follow_stays h.0 l m n h.4 stay)
 
   -- all turns were whole
-  pub batch_follows : (l m : PortMarks) (a b : C) (x : Batch) → x.fault ≡ None → FollowSoFar hears gives ports l m a b x.heard
+  pub batch_follows : (l m : Readiness) (a b : C) (x : Batch) → x.fault ≡ None → FollowSoFar hears gives ports l m a b x.heard
       → MarksFollowBatch hears hear_out_of_memory gives next_out_of_memory ports transmissions l m a b x
   batch_follows l m a b x e h = (
     h.0,
@@ -204,7 +204,7 @@ module _ {C : Type 0} (hears hear_out_of_memory : C → ℕ → List ℕ → ℕ
   )
 
   -- a fault ended the last one
-  pub batch_ended : (here : ℕ) (there : Ways A) (l m n : PortMarks) (a b c : C) (x : Batch) (heard : ℕ) (f : RunFault) → here ≡ ports → there ≡ transmissions
+  pub batch_ended : (here : ℕ) (there : Ways A) (l m n : Readiness) (a b c : C) (x : Batch) (heard : ℕ) (f : RunFault) → here ≡ ports → there ≡ transmissions
       → x.fault ≡ Some f → x.heard ≡ heard → FollowSoFar hears gives ports l m a b heard
       → MarksFollowFault hears hear_out_of_memory gives next_out_of_memory here there m n f b c
       → MarksFollowBatch hears hear_out_of_memory gives next_out_of_memory ports transmissions l n a c x

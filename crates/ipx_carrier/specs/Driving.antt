@@ -13,7 +13,7 @@ use Rattle.ipx_carrier.specs.Runs.{EndsEarlyBy, RunsBy}
 
 -- a turn can begin over a port driver: it has as many ports as the core, and can count one more failure
 abbrev pub CanBeginBy : ℕ → ℕ → ℕ → Type 0
-CanBeginBy ports segment_ports failed = (segment_ports ≡ ports) × (failed + 1 < 2 ^ 64)
+CanBeginBy ports driver_ports failed = (driver_ports ≡ ports) × (failed + 1 < 2 ^ 64)
 
 -- a turn can begin: the device and the lists of peers are for as many ports as the core has, and the device
 -- can count one more failure

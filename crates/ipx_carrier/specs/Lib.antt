@@ -2,7 +2,7 @@ pub mod Mapping
 pub mod RunFaultNumbers
 pub mod Device
 pub mod Waits
-pub mod PortMarks
+pub mod Readiness
 pub mod Turns
 pub mod GivenPackets
 pub mod PortDrivers

@@ -1,7 +1,7 @@
 -- What became of a packet that a port driver was given, by the copies that are sent for it.
 use Rattle.std.specs.Prelude.{ℕ, List, [], length, Option, Some, None, option_map}
-use Rattle.ipx_carrier.specs.declared.segments.PacketSent.{PacketSent}
-use Rattle.ipx_carrier.specs.declared.segments.PacketSent.TheVariants.{Unmapped, Transmitted}
+use Rattle.ipx_carrier.specs.declared.port_driver.PacketSent.{PacketSent}
+use Rattle.ipx_carrier.specs.declared.port_driver.PacketSent.TheVariants.{Unmapped, Transmitted}
 use Rattle.ipx_carrier.specs.Device.{Passes, TrafficOf}
 use Rattle.ipx_carrier.specs.Turns.{Given, IsFrontOf, Ways}
 

@@ -1,7 +1,7 @@
 -- Definitions for private functions: what became of a packet that a core gave.
 use Rattle.std.specs.Prelude.{ℕ, ◌+◌, Option, Some, None}
 use Rattle.ipx_carrier.specs.declared.report.SendCounts.{SendCounts}
-use Rattle.ipx_carrier.specs.declared.segments.PacketSent.{PacketSent}
+use Rattle.ipx_carrier.specs.declared.port_driver.PacketSent.{PacketSent}
 use Rattle.ipx_carrier.specs.PortDrivers.{count_in}
 
 -- how many copies of it were sent, if there was a packet

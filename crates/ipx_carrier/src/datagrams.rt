@@ -1,7 +1,8 @@
 //! A device that sends and receives datagrams.
 
-ghost use Rattle.std.specs.Prelude.{◌≡◌, ◌<◌, ◌≤◌, ◌+◌, ◌^◌, ℕ, Bool, List, [], ◌∷◌, Option, IfOk, OnOk, OnErr, IfSome, is_err, length};
+ghost use Rattle.std.specs.Prelude.{◌≡◌, ◌<◌, ◌≤◌, ◌+◌, ◌^◌, ℕ, Bool, true, List, [], ◌∷◌, Option, IfOk, OnOk, OnErr, IfSome, is_err, is_some, length};
 ghost use Rattle.ipx_carrier.specs.Device.{Access, Passes, Traffic, received_in};
+ghost use Rattle.ipx_carrier.specs.Readiness.{AsksPortWithMark, MarksStay};
 ghost use Rattle.ipx_carrier.specs.RunFaultNumbers.{device_failures};
 ghost use Rattle.ipx_carrier.specs.Waits.{LeavesPort, WaitingDatagrams};
 
@@ -38,6 +39,9 @@ pub trait Datagrams {
     /// How many datagrams it filtered. That never falls.
     ghost filtered: { Self → ℕ };
 
+    /// Whether something may wait at each port. A device that keeps no marks says so of each.
+    ghost marked: { Self → ℕ → Bool } = { λ s port. true };
+
     /// How many ports it has.
     fn ports(&self) -> usize
         ensures { result ≡ port_count self.now };
@@ -60,7 +64,8 @@ pub trait Datagrams {
         ensures failures { failed self.new ≡ device_failures result (failed self.old) }
         ensures ports { port_count self.new ≡ port_count self.old }
         ensures access { access self.new ≡ access self.old }
-        ensures filtered { filtered self.old ≤ filtered self.new };
+        ensures filtered { filtered self.old ≤ filtered self.new }
+        ensures marks { MarksStay (marked self.old) (marked self.new) };
 
     /// Takes the first datagram that waits at a port, if there is one. Its bytes go to the front of
     /// `room`, and the number of them is returned. What doesn't fit of a longer datagram is lost.
@@ -80,7 +85,10 @@ pub trait Datagrams {
         ensures failures { failed self.new ≡ device_failures result (failed self.old) }
         ensures ports { port_count self.new ≡ port_count self.old }
         ensures access { access self.new ≡ access self.old }
-        ensures filtered { filtered self.old ≤ filtered self.new };
+        ensures filtered { filtered self.old ≤ filtered self.new }
+        ensures marks { IfOk result (λ count. AsksPortWithMark port (is_some count)
+            (marked self.old) (marked self.new)) }
+        ensures marks_stay { OnErr result (MarksStay (marked self.old) (marked self.new)) };
 }
 
 /// A device that tells how many datagrams it filtered.

@@ -7,14 +7,14 @@ ghost use Rattle.ipx_carrier.specs.RunFaultNumbers.{failures_after};
 ghost use Rattle.ipx_carrier.specs.Runs.{EndsEarly, EndsEarlyBy, Runs, RunsBy};
 ghost use Rattle.ipx_carrier.specs.Turns.{peers_of};
 
-use crate::by_ip::ByIp;
 use crate::clock::Clock;
 use crate::cores::Core;
 use crate::datagrams::{CountsFiltered, Datagrams};
 use crate::fault::RunFault;
+use crate::port_driver::{PortDriver, PortDriverFilters};
 use crate::report::{Batch, Report};
+use crate::rfc1234_ports::Rfc1234Ports;
 use crate::running::{MAX_DATAGRAM, run, run_once_in};
-use crate::segments::{PortDriver, PortDriverFilters};
 use std::alloc::Global;
 
 /// Whether a turn with this report received and sent nothing.
@@ -34,66 +34,66 @@ fn can_begin<C: Core, D: Datagrams>(core: &C, device: &D, peers: &[Vec<[u8; 4]>]
 }
 
 /// Whether a turn can begin over this port driver.
-fn can_begin_over<C: Core, S: PortDriver>(core: &C, segments: &S) -> bool
-    ensures { IsTrue result ↔ CanBeginBy (C.port_count core.now) (S.port_count segments.now)
-        (S.failed segments.now) }
+fn can_begin_over<C: Core, S: PortDriver>(core: &C, driver: &S) -> bool
+    ensures { IsTrue result ↔ CanBeginBy (C.port_count core.now) (S.port_count driver.now)
+        (S.failed driver.now) }
 {
-    segments.ports() == core.ports() && segments.failures() < u64::MAX
+    driver.ports() == core.ports() && driver.failures() < u64::MAX
 }
 
 /// Takes one turn with borrowed buffers, as `run_once_over_ports` does.
 fn run_once_lent<C: Core, S: PortDriver, K: Clock>(
     alloc: Global,
     core: &mut C,
-    segments: &mut S,
+    driver: &mut S,
     clock: &mut K,
     room: &mut [u8],
 ) -> Result<Report, RunFault>
     requires room { 1536 ≤ length room.old }
     ensures turn { IfOk result (λ report.
-        RunsBy C.hears C.gives K.tells (C.port_count core.old) (S.transmissions segments.old) 1
-        (S.traffic segments.old) (S.traffic segments.new) clock.old clock.new
+        RunsBy C.hears C.gives K.tells (C.port_count core.old) (S.transmissions driver.old) 1
+        (S.traffic driver.old) (S.traffic driver.new) clock.old clock.new
         core.old core.new report) }
     ensures fault { IfErr result (λ f.
-        ((core.new ≡ core.old) × ((f ≡ RunFault.Device) × ((segments.new ≡ segments.old)
-        × (CanBeginBy (C.port_count core.old) (S.port_count segments.old) (S.failed segments.old)
+        ((core.new ≡ core.old) × ((f ≡ RunFault.Device) × ((driver.new ≡ driver.old)
+        × (CanBeginBy (C.port_count core.old) (S.port_count driver.old) (S.failed driver.old)
         → ⊥)) × (clock.new ≡ clock.old)))
         ⊎ EndsEarlyBy C.hears C.hear_out_of_memory C.gives C.next_out_of_memory K.tells
-        (C.port_count core.old) (S.transmissions segments.old) 1
-        (S.traffic segments.old) (S.traffic segments.new) clock.old clock.new
+        (C.port_count core.old) (S.transmissions driver.old) 1
+        (S.traffic driver.old) (S.traffic driver.new) clock.old clock.new
         f core.old core.new) }
     // If a turn can begin, one is taken; otherwise nothing happens.
-    ensures begins { CanBeginBy (C.port_count core.old) (S.port_count segments.old)
-        (S.failed segments.old) → TakesTurnBy C.hears C.hear_out_of_memory C.gives C.next_out_of_memory K.tells
-        (C.port_count core.old) (S.transmissions segments.old)
-        (S.traffic segments.old) (S.traffic segments.new) clock.old clock.new
+    ensures begins { CanBeginBy (C.port_count core.old) (S.port_count driver.old)
+        (S.failed driver.old) → TakesTurnBy C.hears C.hear_out_of_memory C.gives C.next_out_of_memory K.tells
+        (C.port_count core.old) (S.transmissions driver.old)
+        (S.traffic driver.old) (S.traffic driver.new) clock.old clock.new
         core.old core.new result }
-    ensures refused { (CanBeginBy (C.port_count core.old) (S.port_count segments.old)
-        (S.failed segments.old) → ⊥) → (result ≡ Err RunFault.Device)
-        × (core.new ≡ core.old) × (segments.new ≡ segments.old) × (clock.new ≡ clock.old) }
-    ensures begun { OnOk result (CanBeginBy (C.port_count core.old) (S.port_count segments.old)
-        (S.failed segments.old)) }
-    ensures failures { CanBeginBy (C.port_count core.old) (S.port_count segments.old)
-        (S.failed segments.old)
-        → S.failed segments.new ≡ failures_after result (S.failed segments.old) }
+    ensures refused { (CanBeginBy (C.port_count core.old) (S.port_count driver.old)
+        (S.failed driver.old) → ⊥) → (result ≡ Err RunFault.Device)
+        × (core.new ≡ core.old) × (driver.new ≡ driver.old) × (clock.new ≡ clock.old) }
+    ensures begun { OnOk result (CanBeginBy (C.port_count core.old) (S.port_count driver.old)
+        (S.failed driver.old)) }
+    ensures failures { CanBeginBy (C.port_count core.old) (S.port_count driver.old)
+        (S.failed driver.old)
+        → S.failed driver.new ≡ failures_after result (S.failed driver.old) }
     ensures ports { C.port_count core.new ≡ C.port_count core.old }
-    ensures segment_ports { S.port_count segments.new ≡ S.port_count segments.old }
-    ensures transmissions { S.transmissions segments.new ≡ S.transmissions segments.old }
-    ensures access { S.access segments.new ≡ S.access segments.old }
-    ensures filtered { S.filtered segments.old ≤ S.filtered segments.new }
+    ensures driver_ports { S.port_count driver.new ≡ S.port_count driver.old }
+    ensures transmissions { S.transmissions driver.new ≡ S.transmissions driver.old }
+    ensures access { S.access driver.new ≡ S.access driver.old }
+    ensures filtered { S.filtered driver.old ≤ S.filtered driver.new }
     ensures marks { IfOk result (λ report. MarksFollowTurn C.hears C.gives (C.port_count core.old)
-        (S.marked segments.old) (S.marked segments.new) core.old core.new report.heard) }
-    ensures marks_fault { CanBeginBy (C.port_count core.old) (S.port_count segments.old)
-        (S.failed segments.old) → IfErr result (λ f.
+        (S.marked driver.old) (S.marked driver.new) core.old core.new report.heard) }
+    ensures marks_fault { CanBeginBy (C.port_count core.old) (S.port_count driver.old)
+        (S.failed driver.old) → IfErr result (λ f.
         MarksFollowFault C.hears C.hear_out_of_memory C.gives C.next_out_of_memory
-        (C.port_count core.old) (S.transmissions segments.old)
-        (S.marked segments.old) (S.marked segments.new) f core.old core.new) }
-    ensures kept { S.kept segments.new ≡ S.kept segments.old }
+        (C.port_count core.old) (S.transmissions driver.old)
+        (S.marked driver.old) (S.marked driver.new) f core.old core.new) }
+    ensures kept { S.kept driver.new ≡ S.kept driver.old }
 {
-    if !can_begin_over(core, segments) {
+    if !can_begin_over(core, driver) {
         return Err(RunFault::Device);
     }
-    run_once_in(alloc, core, segments, clock, room)
+    run_once_in(alloc, core, driver, clock, room)
 }
 
 /// Takes one turn, as `run_over_ports` does. The error is `Device`, and nothing happens, if the
@@ -102,52 +102,52 @@ fn run_once_lent<C: Core, S: PortDriver, K: Clock>(
 pub fn run_once_over_ports<C: Core, S: PortDriver, K: Clock>(
     alloc: Global,
     core: &mut C,
-    segments: &mut S,
+    driver: &mut S,
     clock: &mut K,
 ) -> Result<Report, RunFault>
     ensures turn { IfOk result (λ report.
-        RunsBy C.hears C.gives K.tells (C.port_count core.old) (S.transmissions segments.old) 1
-        (S.traffic segments.old) (S.traffic segments.new) clock.old clock.new
+        RunsBy C.hears C.gives K.tells (C.port_count core.old) (S.transmissions driver.old) 1
+        (S.traffic driver.old) (S.traffic driver.new) clock.old clock.new
         core.old core.new report) }
     ensures fault { IfErr result (λ f.
-        ((core.new ≡ core.old) × ((f ≡ RunFault.Device) × ((segments.new ≡ segments.old)
-        × (CanBeginBy (C.port_count core.old) (S.port_count segments.old) (S.failed segments.old)
+        ((core.new ≡ core.old) × ((f ≡ RunFault.Device) × ((driver.new ≡ driver.old)
+        × (CanBeginBy (C.port_count core.old) (S.port_count driver.old) (S.failed driver.old)
         → ⊥)) × (clock.new ≡ clock.old)))
         ⊎ EndsEarlyBy C.hears C.hear_out_of_memory C.gives C.next_out_of_memory K.tells
-        (C.port_count core.old) (S.transmissions segments.old) 1
-        (S.traffic segments.old) (S.traffic segments.new) clock.old clock.new
+        (C.port_count core.old) (S.transmissions driver.old) 1
+        (S.traffic driver.old) (S.traffic driver.new) clock.old clock.new
         f core.old core.new) }
     // If a turn can begin, one is taken; otherwise nothing happens.
-    ensures begins { CanBeginBy (C.port_count core.old) (S.port_count segments.old)
-        (S.failed segments.old) → TakesTurnBy C.hears C.hear_out_of_memory C.gives C.next_out_of_memory K.tells
-        (C.port_count core.old) (S.transmissions segments.old)
-        (S.traffic segments.old) (S.traffic segments.new) clock.old clock.new
+    ensures begins { CanBeginBy (C.port_count core.old) (S.port_count driver.old)
+        (S.failed driver.old) → TakesTurnBy C.hears C.hear_out_of_memory C.gives C.next_out_of_memory K.tells
+        (C.port_count core.old) (S.transmissions driver.old)
+        (S.traffic driver.old) (S.traffic driver.new) clock.old clock.new
         core.old core.new result }
-    ensures refused { (CanBeginBy (C.port_count core.old) (S.port_count segments.old)
-        (S.failed segments.old) → ⊥) → (result ≡ Err RunFault.Device)
-        × (core.new ≡ core.old) × (segments.new ≡ segments.old) × (clock.new ≡ clock.old) }
-    ensures begun { OnOk result (CanBeginBy (C.port_count core.old) (S.port_count segments.old)
-        (S.failed segments.old)) }
-    ensures failures { CanBeginBy (C.port_count core.old) (S.port_count segments.old)
-        (S.failed segments.old)
-        → S.failed segments.new ≡ failures_after result (S.failed segments.old) }
+    ensures refused { (CanBeginBy (C.port_count core.old) (S.port_count driver.old)
+        (S.failed driver.old) → ⊥) → (result ≡ Err RunFault.Device)
+        × (core.new ≡ core.old) × (driver.new ≡ driver.old) × (clock.new ≡ clock.old) }
+    ensures begun { OnOk result (CanBeginBy (C.port_count core.old) (S.port_count driver.old)
+        (S.failed driver.old)) }
+    ensures failures { CanBeginBy (C.port_count core.old) (S.port_count driver.old)
+        (S.failed driver.old)
+        → S.failed driver.new ≡ failures_after result (S.failed driver.old) }
     ensures ports { C.port_count core.new ≡ C.port_count core.old }
-    ensures segment_ports { S.port_count segments.new ≡ S.port_count segments.old }
-    ensures transmissions { S.transmissions segments.new ≡ S.transmissions segments.old }
-    ensures access { S.access segments.new ≡ S.access segments.old }
-    ensures filtered { S.filtered segments.old ≤ S.filtered segments.new }
+    ensures driver_ports { S.port_count driver.new ≡ S.port_count driver.old }
+    ensures transmissions { S.transmissions driver.new ≡ S.transmissions driver.old }
+    ensures access { S.access driver.new ≡ S.access driver.old }
+    ensures filtered { S.filtered driver.old ≤ S.filtered driver.new }
     // What the ports answered, which the core heard, explains their marks.
     ensures marks { IfOk result (λ report. MarksFollowTurn C.hears C.gives (C.port_count core.old)
-        (S.marked segments.old) (S.marked segments.new) core.old core.new report.heard) }
-    ensures marks_fault { CanBeginBy (C.port_count core.old) (S.port_count segments.old)
-        (S.failed segments.old) → IfErr result (λ f.
+        (S.marked driver.old) (S.marked driver.new) core.old core.new report.heard) }
+    ensures marks_fault { CanBeginBy (C.port_count core.old) (S.port_count driver.old)
+        (S.failed driver.old) → IfErr result (λ f.
         MarksFollowFault C.hears C.hear_out_of_memory C.gives C.next_out_of_memory
-        (C.port_count core.old) (S.transmissions segments.old)
-        (S.marked segments.old) (S.marked segments.new) f core.old core.new) }
-    ensures kept { S.kept segments.new ≡ S.kept segments.old }
+        (C.port_count core.old) (S.transmissions driver.old)
+        (S.marked driver.old) (S.marked driver.new) f core.old core.new) }
+    ensures kept { S.kept driver.new ≡ S.kept driver.old }
 {
     let mut room = [0; MAX_DATAGRAM];
-    run_once_lent(alloc, core, segments, clock, &mut room)
+    run_once_lent(alloc, core, driver, clock, &mut room)
 }
 
 /// Takes turns until one is idle, a fault ends one, or `most` turns were taken. An idle turn
@@ -160,49 +160,49 @@ pub fn run_once_over_ports<C: Core, S: PortDriver, K: Clock>(
 pub fn run_batch<C: Core, S: PortDriverFilters, K: Clock>(
     alloc: Global,
     core: &mut C,
-    segments: &mut S,
+    driver: &mut S,
     clock: &mut K,
     most: u32,
 ) -> Batch
     // If turns can begin, the core and the clock after come of whole turns, each as
     // `run_over_ports` takes it, which are counted. If a fault ended a turn, that part of a turn
     // follows them.
-    ensures turns { CanBeginBy (C.port_count core.old) (S.port_count segments.old)
-        (S.failed segments.old)
+    ensures turns { CanBeginBy (C.port_count core.old) (S.port_count driver.old)
+        (S.failed driver.old)
         → BurstsBy C.hears C.hear_out_of_memory C.gives C.next_out_of_memory K.tells (C.port_count core.old)
-        (S.transmissions segments.old) most result (S.filtered segments.old) (S.filtered segments.new)
+        (S.transmissions driver.old) most result (S.filtered driver.old) (S.filtered driver.new)
         clock.old clock.new core.old core.new }
     // If none can begin, nothing happens.
-    ensures refused { (CanBeginBy (C.port_count core.old) (S.port_count segments.old)
-        (S.failed segments.old) → ⊥) → (result ≡ refused most)
-        × (core.new ≡ core.old) × (segments.new ≡ segments.old) × (clock.new ≡ clock.old) }
-    ensures failures { CanBeginBy (C.port_count core.old) (S.port_count segments.old)
-        (S.failed segments.old)
-        → S.failed segments.new ≡ failed_after result.fault (S.failed segments.old) }
+    ensures refused { (CanBeginBy (C.port_count core.old) (S.port_count driver.old)
+        (S.failed driver.old) → ⊥) → (result ≡ refused most)
+        × (core.new ≡ core.old) × (driver.new ≡ driver.old) × (clock.new ≡ clock.old) }
+    ensures failures { CanBeginBy (C.port_count core.old) (S.port_count driver.old)
+        (S.failed driver.old)
+        → S.failed driver.new ≡ failed_after result.fault (S.failed driver.old) }
     ensures ports { C.port_count core.new ≡ C.port_count core.old }
-    ensures segment_ports { S.port_count segments.new ≡ S.port_count segments.old }
+    ensures driver_ports { S.port_count driver.new ≡ S.port_count driver.old }
     // How packets are sent, who may send, and what no call changes all stay.
-    ensures transmissions { S.transmissions segments.new ≡ S.transmissions segments.old }
-    ensures access { S.access segments.new ≡ S.access segments.old }
+    ensures transmissions { S.transmissions driver.new ≡ S.transmissions driver.old }
+    ensures access { S.access driver.new ≡ S.access driver.old }
     // No port is marked that was not. A port lost its mark only if it answered None when it was last
     // asked. The answers are those that the core heard.
-    ensures marks { CanBeginBy (C.port_count core.old) (S.port_count segments.old)
-        (S.failed segments.old)
+    ensures marks { CanBeginBy (C.port_count core.old) (S.port_count driver.old)
+        (S.failed driver.old)
         → MarksFollowBatch C.hears C.hear_out_of_memory C.gives C.next_out_of_memory
-        (C.port_count core.old) (S.transmissions segments.old)
-        (S.marked segments.old) (S.marked segments.new) core.old core.new result }
-    ensures kept { S.kept segments.new ≡ S.kept segments.old }
+        (C.port_count core.old) (S.transmissions driver.old)
+        (S.marked driver.old) (S.marked driver.new) core.old core.new result }
+    ensures kept { S.kept driver.new ≡ S.kept driver.old }
 {
     let mut room = [0; MAX_DATAGRAM];
     let mut batch = Batch::none();
     for _turn in 0..most {
-        let kept = segments.filtered();
-        let report = match run_once_lent(alloc, core, segments, clock, &mut room) {
+        let kept = driver.filtered();
+        let report = match run_once_lent(alloc, core, driver, clock, &mut room) {
             Ok(report) => report,
             Err(fault) => return batch.ended_by(fault),
         };
         batch = batch.with(report);
-        if is_idle(report) && segments.filtered() == kept {
+        if is_idle(report) && driver.filtered() == kept {
             return batch.quieted();
         }
     }
@@ -293,9 +293,9 @@ pub fn batch<C: Core, D: CountsFiltered, K: Clock>(
     if peers.len() != core.ports() {
         return Batch::refused(most);
     }
-    let mut segments = ByIp {
+    let mut driver = Rfc1234Ports {
         datagrams: device,
         peers,
     };
-    run_batch(alloc, core, &mut segments, clock, most)
+    run_batch(alloc, core, &mut driver, clock, most)
 }

@@ -3,46 +3,46 @@
 ghost use Rattle.std.specs.Prelude.{◌≡◌, ◌<◌, ◌≤◌, ◌+◌, ◌^◌, IfOk, IfErr, length};
 ghost use Rattle.ipx_carrier.specs.RunFaultNumbers.{failures_after};
 ghost use Rattle.ipx_carrier.specs.MarkedTurns.{AsksMarkedPorts, AsksSomeMarkedPorts};
-ghost use Rattle.ipx_carrier.specs.PortMarks.{AsksPortWithMark, FailsWithMark};
+ghost use Rattle.ipx_carrier.specs.Readiness.{AsksPortWithMark, FailsWithMark};
 ghost use Rattle.ipx_carrier.specs.Parts.{PollFails, AsksPort, AsksPorts, AsksSomePorts, TakesFromDevice};
 
 use crate::cores::Core;
 use crate::fault::RunFault;
-use crate::segments::PortDriver;
+use crate::port_driver::PortDriver;
 use std::alloc::Global;
 
 /// Asks a port for a datagram, and passes it to the core. Returns whether there was one.
 fn hear_port<C: Core, S: PortDriver>(
     alloc: Global,
     core: &mut C,
-    segments: &mut S,
+    driver: &mut S,
     port: usize,
     now: u64,
     room: &mut [u8],
 ) -> Result<bool, RunFault>
     requires core { port < C.port_count core.old }
-    requires there { port < S.port_count segments.old }
-    requires countable { S.failed segments.old + 1 < 2 ^ 64 }
+    requires there { port < S.port_count driver.old }
+    requires countable { S.failed driver.old + 1 < 2 ^ 64 }
     ensures heard { IfOk result (λ heard. AsksPort C.hears now port
-        (S.traffic segments.old) (S.traffic segments.new) core.old core.new heard) }
+        (S.traffic driver.old) (S.traffic driver.new) core.old core.new heard) }
     ensures fault { IfErr result (λ f. PollFails C.hears C.hear_out_of_memory now port
-        (S.traffic segments.old) (S.traffic segments.new) f core.old core.new) }
+        (S.traffic driver.old) (S.traffic driver.new) f core.old core.new) }
     ensures waiting { TakesFromDevice (length room.old)
-        (S.traffic segments.old) (S.traffic segments.new)
-        (S.waiting segments.old) (S.waiting segments.new) }
-    ensures failures { S.failed segments.new ≡ failures_after result (S.failed segments.old) }
+        (S.traffic driver.old) (S.traffic driver.new)
+        (S.waiting driver.old) (S.waiting driver.new) }
+    ensures failures { S.failed driver.new ≡ failures_after result (S.failed driver.old) }
     ensures core_ports { C.port_count core.new ≡ C.port_count core.old }
-    ensures segment_ports { S.port_count segments.new ≡ S.port_count segments.old }
-    ensures transmissions { S.transmissions segments.new ≡ S.transmissions segments.old }
-    ensures access { S.access segments.new ≡ S.access segments.old }
-    ensures filtered { S.filtered segments.old ≤ S.filtered segments.new }
+    ensures driver_ports { S.port_count driver.new ≡ S.port_count driver.old }
+    ensures transmissions { S.transmissions driver.new ≡ S.transmissions driver.old }
+    ensures access { S.access driver.new ≡ S.access driver.old }
+    ensures filtered { S.filtered driver.old ≤ S.filtered driver.new }
     ensures marks { IfOk result (λ heard.
-        AsksPortWithMark port heard (S.marked segments.old) (S.marked segments.new)) }
+        AsksPortWithMark port heard (S.marked driver.old) (S.marked driver.new)) }
     ensures marks_stay { IfErr result (λ f.
-        FailsWithMark port f (S.marked segments.old) (S.marked segments.new)) }
-    ensures kept { S.kept segments.new ≡ S.kept segments.old }
+        FailsWithMark port f (S.marked driver.old) (S.marked driver.new)) }
+    ensures kept { S.kept driver.new ≡ S.kept driver.old }
 {
-    let Some(count) = segments.receive(port, room)? else {
+    let Some(count) = driver.receive(port, room)? else {
         return Ok(false);
     };
     core.hear(alloc, port, &room[..count], now)?;
@@ -54,37 +54,37 @@ fn hear_port<C: Core, S: PortDriver>(
 pub fn hear_ports<C: Core, S: PortDriver>(
     alloc: Global,
     core: &mut C,
-    segments: &mut S,
+    driver: &mut S,
     now: u64,
     room: &mut [u8],
 ) -> Result<u128, RunFault>
-    requires ports { S.port_count segments.old ≡ C.port_count core.old }
-    requires countable { S.failed segments.old + 1 < 2 ^ 64 }
+    requires ports { S.port_count driver.old ≡ C.port_count core.old }
+    requires countable { S.failed driver.old + 1 < 2 ^ 64 }
     ensures heard { IfOk result (λ count. AsksPorts C.hears now (C.port_count core.old)
-        (S.traffic segments.old) (S.traffic segments.new) core.old core.new count) }
+        (S.traffic driver.old) (S.traffic driver.new) core.old core.new count) }
     ensures fault { IfErr result (λ f. AsksSomePorts C.hears C.hear_out_of_memory now (C.port_count core.old)
-        (S.traffic segments.old) (S.traffic segments.new) f core.old core.new) }
+        (S.traffic driver.old) (S.traffic driver.new) f core.old core.new) }
     ensures waiting { TakesFromDevice (length room.old)
-        (S.traffic segments.old) (S.traffic segments.new)
-        (S.waiting segments.old) (S.waiting segments.new) }
-    ensures failures { S.failed segments.new ≡ failures_after result (S.failed segments.old) }
+        (S.traffic driver.old) (S.traffic driver.new)
+        (S.waiting driver.old) (S.waiting driver.new) }
+    ensures failures { S.failed driver.new ≡ failures_after result (S.failed driver.old) }
     ensures few { IfOk result (λ count. count < 2 ^ 64) }
     ensures core_ports { C.port_count core.new ≡ C.port_count core.old }
-    ensures segment_ports { S.port_count segments.new ≡ S.port_count segments.old }
-    ensures transmissions { S.transmissions segments.new ≡ S.transmissions segments.old }
-    ensures access { S.access segments.new ≡ S.access segments.old }
-    ensures filtered { S.filtered segments.old ≤ S.filtered segments.new }
+    ensures driver_ports { S.port_count driver.new ≡ S.port_count driver.old }
+    ensures transmissions { S.transmissions driver.new ≡ S.transmissions driver.old }
+    ensures access { S.access driver.new ≡ S.access driver.old }
+    ensures filtered { S.filtered driver.old ≤ S.filtered driver.new }
     // What the core heard explains the marks of the ports.
     ensures marks { IfOk result (λ count. AsksMarkedPorts C.hears now (C.port_count core.old)
-        (S.marked segments.old) (S.marked segments.new) core.old core.new count) }
+        (S.marked driver.old) (S.marked driver.new) core.old core.new count) }
     ensures marks_fault { IfErr result (λ f.
         AsksSomeMarkedPorts C.hears C.hear_out_of_memory now (C.port_count core.old)
-        (S.marked segments.old) (S.marked segments.new) f core.old core.new) }
-    ensures kept { S.kept segments.new ≡ S.kept segments.old }
+        (S.marked driver.old) (S.marked driver.new) f core.old core.new) }
+    ensures kept { S.kept driver.new ≡ S.kept driver.old }
 {
     let mut heard = 0;
     for port in 0..core.ports() {
-        if hear_port(alloc, core, segments, port, now, room)? {
+        if hear_port(alloc, core, driver, port, now, room)? {
             heard += 1;
         }
     }

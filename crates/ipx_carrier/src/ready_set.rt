@@ -1,7 +1,7 @@
 //! Marks of the ports that may have something to read.
 
 ghost use Rattle.std.specs.Prelude.{◌≡◌, ◌++◌, ◌∷◌, [], IfOk, OnErr, OnOk, false, length, replicate, slice_set, true};
-ghost use Rattle.ipx_carrier.specs.PortMarks.{AsksPortWithMark};
+ghost use Rattle.ipx_carrier.specs.Readiness.{AsksPortWithMark};
 ghost use Rattle.ipx_carrier.specs.ReadySet.{is_any_marked, is_port_marked};
 
 use std::alloc::{AllocError, Global};
@@ -75,7 +75,7 @@ impl ReadySet {
 
     /// Marks a port: something may wait there from now on. Nothing happens if the port does not
     /// exist.
-    pub fn mark(&mut self, port: usize)
+    pub fn set_ready(&mut self, port: usize)
         ensures { self.new ≡ slice_set self.old port true }
     {
         if let Some(mark) = self.marks.get_mut(port) {

@@ -9,14 +9,14 @@ ghost use Rattle.ipx_carrier.specs.Parts.{TakesFromDevice};
 ghost use Rattle.ipx_carrier.specs.Runs.{EndsEarly, EndsEarlyBy, Runs, RunsBy};
 ghost use Rattle.ipx_carrier.specs.Waits.{DrainsDevice};
 
-use crate::by_ip::ByIp;
 use crate::clock::Clock;
 use crate::cores::Core;
 use crate::datagrams::Datagrams;
 use crate::fault::RunFault;
 use crate::hearing::hear_ports;
+use crate::port_driver::PortDriver;
 use crate::report::Report;
-use crate::segments::PortDriver;
+use crate::rfc1234_ports::Rfc1234Ports;
 use crate::sending::send_all;
 use std::alloc::Global;
 
@@ -43,45 +43,45 @@ fn add(a: Report, b: Report) -> Report
 pub fn run_once_in<C: Core, S: PortDriver, K: Clock>(
     alloc: Global,
     core: &mut C,
-    segments: &mut S,
+    driver: &mut S,
     clock: &mut K,
     room: &mut [u8],
 ) -> Result<Report, RunFault>
-    requires ports { S.port_count segments.old ≡ C.port_count core.old }
-    requires countable { S.failed segments.old + 1 < 2 ^ 64 }
+    requires ports { S.port_count driver.old ≡ C.port_count core.old }
+    requires countable { S.failed driver.old + 1 < 2 ^ 64 }
     requires room { 1536 ≤ length room.old }
     ensures turn { IfOk result (λ report.
-        RunsBy C.hears C.gives K.tells (C.port_count core.old) (S.transmissions segments.old) 1
-        (S.traffic segments.old) (S.traffic segments.new) clock.old clock.new
+        RunsBy C.hears C.gives K.tells (C.port_count core.old) (S.transmissions driver.old) 1
+        (S.traffic driver.old) (S.traffic driver.new) clock.old clock.new
         core.old core.new report) }
     ensures one { IfOk result (λ report. report.turns ≡ 1) }
     ensures heard { IfOk result (λ report. report.heard < 2 ^ 64) }
     ensures sent { IfOk result (λ report. report.sent ≤ 64 * 2 ^ 64) }
     ensures unmapped { IfOk result (λ report. report.unmapped ≤ 64) }
     ensures fault { IfErr result (λ f. EndsEarlyBy C.hears C.hear_out_of_memory C.gives C.next_out_of_memory K.tells
-        (C.port_count core.old) (S.transmissions segments.old) 1
-        (S.traffic segments.old) (S.traffic segments.new) clock.old clock.new
+        (C.port_count core.old) (S.transmissions driver.old) 1
+        (S.traffic driver.old) (S.traffic driver.new) clock.old clock.new
         f core.old core.new) }
     ensures waiting { TakesFromDevice (length room.old)
-        (S.traffic segments.old) (S.traffic segments.new)
-        (S.waiting segments.old) (S.waiting segments.new) }
-    ensures failures { S.failed segments.new ≡ failures_after result (S.failed segments.old) }
+        (S.traffic driver.old) (S.traffic driver.new)
+        (S.waiting driver.old) (S.waiting driver.new) }
+    ensures failures { S.failed driver.new ≡ failures_after result (S.failed driver.old) }
     ensures core_ports { C.port_count core.new ≡ C.port_count core.old }
-    ensures segment_ports { S.port_count segments.new ≡ S.port_count segments.old }
-    ensures transmissions { S.transmissions segments.new ≡ S.transmissions segments.old }
-    ensures access { S.access segments.new ≡ S.access segments.old }
-    ensures filtered { S.filtered segments.old ≤ S.filtered segments.new }
+    ensures driver_ports { S.port_count driver.new ≡ S.port_count driver.old }
+    ensures transmissions { S.transmissions driver.new ≡ S.transmissions driver.old }
+    ensures access { S.access driver.new ≡ S.access driver.old }
+    ensures filtered { S.filtered driver.old ≤ S.filtered driver.new }
     ensures marks { IfOk result (λ report. MarksFollowTurn C.hears C.gives (C.port_count core.old)
-        (S.marked segments.old) (S.marked segments.new) core.old core.new report.heard) }
+        (S.marked driver.old) (S.marked driver.new) core.old core.new report.heard) }
     ensures marks_fault { IfErr result (λ f.
         MarksFollowFault C.hears C.hear_out_of_memory C.gives C.next_out_of_memory
-        (C.port_count core.old) (S.transmissions segments.old)
-        (S.marked segments.old) (S.marked segments.new) f core.old core.new) }
-    ensures kept { S.kept segments.new ≡ S.kept segments.old }
+        (C.port_count core.old) (S.transmissions driver.old)
+        (S.marked driver.old) (S.marked driver.new) f core.old core.new) }
+    ensures kept { S.kept driver.new ≡ S.kept driver.old }
 {
     let now = clock.now();
-    let heard = hear_ports(alloc, core, segments, now, room)?;
-    let totals = send_all(alloc, core, segments, now, room)?;
+    let heard = hear_ports(alloc, core, driver, now, room)?;
+    let totals = send_all(alloc, core, driver, now, room)?;
     Ok(Report {
         turns: 1,
         heard,
@@ -103,36 +103,36 @@ pub fn run_once_in<C: Core, S: PortDriver, K: Clock>(
 pub fn run_over_ports<C: Core, S: PortDriver, K: Clock>(
     alloc: Global,
     core: &mut C,
-    segments: &mut S,
+    driver: &mut S,
     clock: &mut K,
     turns: u64,
 ) -> Result<Report, RunFault>
     requires turns { turns ≤ 1000000 }
-    requires ports { S.port_count segments.old ≡ C.port_count core.old }
-    requires countable { S.failed segments.old + 1 < 2 ^ 64 }
+    requires ports { S.port_count driver.old ≡ C.port_count core.old }
+    requires countable { S.failed driver.old + 1 < 2 ^ 64 }
     // What was received and sent, the times and the core after are those of this many turns.
     ensures turns { IfOk result (λ report.
-        RunsBy C.hears C.gives K.tells (C.port_count core.old) (S.transmissions segments.old) turns
-        (S.traffic segments.old) (S.traffic segments.new) clock.old clock.new
+        RunsBy C.hears C.gives K.tells (C.port_count core.old) (S.transmissions driver.old) turns
+        (S.traffic driver.old) (S.traffic driver.new) clock.old clock.new
         core.old core.new report) }
     // At a fault they are those of fewer turns, and of a part of the next one that the fault ends.
     ensures fault { IfErr result (λ f. EndsEarlyBy C.hears C.hear_out_of_memory C.gives C.next_out_of_memory K.tells
-        (C.port_count core.old) (S.transmissions segments.old) turns
-        (S.traffic segments.old) (S.traffic segments.new) clock.old clock.new
+        (C.port_count core.old) (S.transmissions driver.old) turns
+        (S.traffic driver.old) (S.traffic driver.new) clock.old clock.new
         f core.old core.new) }
     // Each port gave the first datagrams that waited there, each cut to 1,536 bytes, and the others
     // still wait. This holds at a fault too.
-    ensures waiting { DrainsDevice 1536 (S.traffic segments.old) (S.traffic segments.new)
-        (S.waiting segments.old) (S.waiting segments.new) }
+    ensures waiting { DrainsDevice 1536 (S.traffic driver.old) (S.traffic driver.new)
+        (S.waiting driver.old) (S.waiting driver.new) }
     // The fault is `Device` exactly if the port driver failed.
-    ensures failures { S.failed segments.new ≡ failures_after result (S.failed segments.old) }
+    ensures failures { S.failed driver.new ≡ failures_after result (S.failed driver.old) }
     ensures core_ports { C.port_count core.new ≡ C.port_count core.old }
-    ensures segment_ports { S.port_count segments.new ≡ S.port_count segments.old }
+    ensures driver_ports { S.port_count driver.new ≡ S.port_count driver.old }
     // How packets are sent and who may send stay, and the count of what is filtered continues.
-    ensures transmissions { S.transmissions segments.new ≡ S.transmissions segments.old }
-    ensures access { S.access segments.new ≡ S.access segments.old }
-    ensures filtered { S.filtered segments.old ≤ S.filtered segments.new }
-    ensures kept { S.kept segments.new ≡ S.kept segments.old }
+    ensures transmissions { S.transmissions driver.new ≡ S.transmissions driver.old }
+    ensures access { S.access driver.new ≡ S.access driver.old }
+    ensures filtered { S.filtered driver.old ≤ S.filtered driver.new }
+    ensures kept { S.kept driver.new ≡ S.kept driver.old }
 {
     let mut room = [0; MAX_DATAGRAM];
     let mut report = Report {
@@ -142,7 +142,7 @@ pub fn run_over_ports<C: Core, S: PortDriver, K: Clock>(
         unmapped: 0,
     };
     for _turn in 0..turns {
-        let turn = run_once_in(alloc, core, segments, clock, &mut room)?;
+        let turn = run_once_in(alloc, core, driver, clock, &mut room)?;
         report = add(report, turn);
     }
     Ok(report)
@@ -193,6 +193,6 @@ pub fn run<C: Core, D: Datagrams, K: Clock>(
     ensures access { D.access datagrams.new ≡ D.access datagrams.old }
     ensures filtered { D.filtered datagrams.old ≤ D.filtered datagrams.new }
 {
-    let mut segments = ByIp { datagrams, peers };
-    run_over_ports(alloc, core, &mut segments, clock, turns)
+    let mut driver = Rfc1234Ports { datagrams, peers };
+    run_over_ports(alloc, core, &mut driver, clock, turns)
 }

@@ -3,45 +3,45 @@
 ghost use Rattle.std.specs.Prelude.{◌≡◌, ◌<◌, ◌≤◌, ◌+◌, ◌*◌, ◌^◌, IfOk, IfErr, length};
 ghost use Rattle.ipx_carrier.specs.RunFaultNumbers.{failures_after};
 ghost use Rattle.ipx_carrier.specs.PortDrivers.{count_in};
-ghost use Rattle.ipx_carrier.specs.PortMarks.{MarksStay};
+ghost use Rattle.ipx_carrier.specs.Readiness.{MarksStay};
 ghost use Rattle.ipx_carrier.specs.SendingView.{with_one_packet, copies_view};
 ghost use Rattle.ipx_carrier.specs.Parts.{SendsAll, SendsNext, SendsSome};
 
 use crate::cores::Core;
 use crate::fault::RunFault;
+use crate::port_driver::{PacketSent, PortDriver};
 use crate::report::SendCounts;
-use crate::segments::{PacketSent, PortDriver};
 use std::alloc::Global;
 
 /// Asks a core for a packet, and sends it if there is one.
 fn send_next<C: Core, S: PortDriver>(
     alloc: Global,
     core: &mut C,
-    segments: &mut S,
+    driver: &mut S,
     now: u64,
     room: &mut [u8],
 ) -> Result<Option<PacketSent>, RunFault>
-    requires ports { S.port_count segments.old ≡ C.port_count core.old }
-    requires countable { S.failed segments.old + 1 < 2 ^ 64 }
+    requires ports { S.port_count driver.old ≡ C.port_count core.old }
+    requires countable { S.failed driver.old + 1 < 2 ^ 64 }
     requires room { 1536 ≤ length room.old }
-    ensures sent { IfOk result (λ sent. SendsNext C.gives now (S.transmissions segments.old)
-        (S.traffic segments.old) (S.traffic segments.new) core.old core.new (copies_view sent)) }
-    ensures fault { IfErr result (λ f. SendsSome C.gives C.next_out_of_memory 1 now (S.transmissions segments.old)
-        (S.traffic segments.old) (S.traffic segments.new) f core.old core.new) }
-    ensures waiting { S.waiting segments.new ≡ S.waiting segments.old }
-    ensures failures { S.failed segments.new ≡ failures_after result (S.failed segments.old) }
+    ensures sent { IfOk result (λ sent. SendsNext C.gives now (S.transmissions driver.old)
+        (S.traffic driver.old) (S.traffic driver.new) core.old core.new (copies_view sent)) }
+    ensures fault { IfErr result (λ f. SendsSome C.gives C.next_out_of_memory 1 now (S.transmissions driver.old)
+        (S.traffic driver.old) (S.traffic driver.new) f core.old core.new) }
+    ensures waiting { S.waiting driver.new ≡ S.waiting driver.old }
+    ensures failures { S.failed driver.new ≡ failures_after result (S.failed driver.old) }
     ensures core_ports { C.port_count core.new ≡ C.port_count core.old }
-    ensures segment_ports { S.port_count segments.new ≡ S.port_count segments.old }
-    ensures transmissions { S.transmissions segments.new ≡ S.transmissions segments.old }
-    ensures access { S.access segments.new ≡ S.access segments.old }
-    ensures filtered { S.filtered segments.old ≤ S.filtered segments.new }
-    ensures marks { MarksStay (S.marked segments.old) (S.marked segments.new) }
-    ensures kept { S.kept segments.new ≡ S.kept segments.old }
+    ensures driver_ports { S.port_count driver.new ≡ S.port_count driver.old }
+    ensures transmissions { S.transmissions driver.new ≡ S.transmissions driver.old }
+    ensures access { S.access driver.new ≡ S.access driver.old }
+    ensures filtered { S.filtered driver.old ≤ S.filtered driver.new }
+    ensures marks { MarksStay (S.marked driver.old) (S.marked driver.new) }
+    ensures kept { S.kept driver.new ≡ S.kept driver.old }
 {
     let Some((port, node, count)) = core.next(alloc, now, room)? else {
         return Ok(None);
     };
-    let sent = segments.send(port, node, &room[..count])?;
+    let sent = driver.send(port, node, &room[..count])?;
     Ok(Some(sent))
 }
 
@@ -69,35 +69,35 @@ fn with_packet(totals: SendCounts, sent: PacketSent) -> SendCounts
 pub fn send_all<C: Core, S: PortDriver>(
     alloc: Global,
     core: &mut C,
-    segments: &mut S,
+    driver: &mut S,
     now: u64,
     room: &mut [u8],
 ) -> Result<SendCounts, RunFault>
-    requires ports { S.port_count segments.old ≡ C.port_count core.old }
-    requires countable { S.failed segments.old + 1 < 2 ^ 64 }
+    requires ports { S.port_count driver.old ≡ C.port_count core.old }
+    requires countable { S.failed driver.old + 1 < 2 ^ 64 }
     requires room { 1536 ≤ length room.old }
-    ensures sent { IfOk result (λ totals. SendsAll C.gives now (S.transmissions segments.old)
-        (S.traffic segments.old) (S.traffic segments.new) core.old core.new totals) }
+    ensures sent { IfOk result (λ totals. SendsAll C.gives now (S.transmissions driver.old)
+        (S.traffic driver.old) (S.traffic driver.new) core.old core.new totals) }
     ensures few { IfOk result (λ totals. totals.sent ≤ 64 * 2 ^ 64) }
     ensures few_unmapped { IfOk result (λ totals. totals.unmapped ≤ 64) }
-    ensures fault { IfErr result (λ f. SendsSome C.gives C.next_out_of_memory 64 now (S.transmissions segments.old)
-        (S.traffic segments.old) (S.traffic segments.new) f core.old core.new) }
-    ensures waiting { S.waiting segments.new ≡ S.waiting segments.old }
-    ensures failures { S.failed segments.new ≡ failures_after result (S.failed segments.old) }
+    ensures fault { IfErr result (λ f. SendsSome C.gives C.next_out_of_memory 64 now (S.transmissions driver.old)
+        (S.traffic driver.old) (S.traffic driver.new) f core.old core.new) }
+    ensures waiting { S.waiting driver.new ≡ S.waiting driver.old }
+    ensures failures { S.failed driver.new ≡ failures_after result (S.failed driver.old) }
     ensures core_ports { C.port_count core.new ≡ C.port_count core.old }
-    ensures segment_ports { S.port_count segments.new ≡ S.port_count segments.old }
-    ensures transmissions { S.transmissions segments.new ≡ S.transmissions segments.old }
-    ensures access { S.access segments.new ≡ S.access segments.old }
-    ensures filtered { S.filtered segments.old ≤ S.filtered segments.new }
-    ensures marks { MarksStay (S.marked segments.old) (S.marked segments.new) }
-    ensures kept { S.kept segments.new ≡ S.kept segments.old }
+    ensures driver_ports { S.port_count driver.new ≡ S.port_count driver.old }
+    ensures transmissions { S.transmissions driver.new ≡ S.transmissions driver.old }
+    ensures access { S.access driver.new ≡ S.access driver.old }
+    ensures filtered { S.filtered driver.old ≤ S.filtered driver.new }
+    ensures marks { MarksStay (S.marked driver.old) (S.marked driver.new) }
+    ensures kept { S.kept driver.new ≡ S.kept driver.old }
 {
     let mut totals = SendCounts {
         sent: 0,
         unmapped: 0,
     };
     for _asked in 0..64_u32 {
-        let Some(sent) = send_next(alloc, core, segments, now, room)? else {
+        let Some(sent) = send_next(alloc, core, driver, now, room)? else {
             return Ok(totals);
         };
         totals = with_packet(totals, sent);

@@ -3,7 +3,7 @@
 use crate::fixture::{text_of, two_ports};
 use crate::refused::core_at_last;
 use ipx_carrier::{
-    Batch, Datagrams, MemoryDatagrams, OnPeers, PortDriver, PortDriverFilters, RunFault,
+    Batch, Datagrams, MemoryDatagrams, OwnedRfc1234Ports, PortDriver, PortDriverFilters, RunFault,
     SteppedClock, run_batch, run_once_over_ports,
 };
 use ipx_wire::OutOfMemory;
@@ -14,11 +14,11 @@ use std::test::Fail;
 const ONWARD: &[u8] = b"ffff001e00000000002200007f00000540000000001100007f0000034001";
 
 /// A port driver of this many ports, of which the first two have a peer each.
-fn segments(alloc: Global, ports: usize) -> Result<OnPeers<MemoryDatagrams>, OutOfMemory> {
+fn driver(alloc: Global, ports: usize) -> Result<OwnedRfc1234Ports<MemoryDatagrams>, OutOfMemory> {
     let nine = vec![in alloc; [127, 0, 0, 9]]?;
     let eight = vec![in alloc; [127, 0, 0, 8]]?;
     let device = MemoryDatagrams::new(alloc, ports)?;
-    Ok(OnPeers::new(device, vec![in alloc; nine, eight]?))
+    Ok(OwnedRfc1234Ports::new(device, vec![in alloc; nine, eight]?))
 }
 
 /// What arrives at one port is forwarded by the other. The packets of the router's start go to the
@@ -26,11 +26,11 @@ fn segments(alloc: Global, ports: usize) -> Result<OnPeers<MemoryDatagrams>, Out
 #[test]
 fn a_batch_over_segments(rt: HostRuntime) -> Result<(), Fail> {
     let alloc = rt.alloc();
-    let mut segments = segments(alloc, 2)?;
-    segments.device.put(alloc, 0, &hex::decode(alloc, ONWARD)?)?;
+    let mut driver = driver(alloc, 2)?;
+    driver.device.put(alloc, 0, &hex::decode(alloc, ONWARD)?)?;
     let mut core = two_ports(alloc)?;
     let mut clock = SteppedClock::new(0, 10);
-    let batch = run_batch(alloc, &mut core, &mut segments, &mut clock, 8);
+    let batch = run_batch(alloc, &mut core, &mut driver, &mut clock, 8);
     assert!(rt;
         batch
             == Batch {
@@ -41,7 +41,7 @@ fn a_batch_over_segments(rt: HostRuntime) -> Result<(), Fail> {
                 quiet: true,
             }
     );
-    let sent = segments.device.sent();
+    let sent = driver.device.sent();
     assert_eq!(rt;
         text_of(alloc, &sent[0])?.as_str(),
         "1 5 ffff001e01000000002200007f00000540000000001100007f0000034001"
@@ -50,7 +50,7 @@ fn a_batch_over_segments(rt: HostRuntime) -> Result<(), Fail> {
         text_of(alloc, &sent[1])?.as_str(),
         "0 9 ffff0028000100000011ffffffffffff04530000001100007f00000104530001ffffffffffffffff"
     );
-    assert_eq!(rt; segments.filtered(), 0);
+    assert_eq!(rt; driver.filtered(), 0);
     Ok(())
 }
 
@@ -61,13 +61,13 @@ fn bursts_that_fail(rt: HostRuntime) -> Result<(), Fail> {
     let alloc = rt.alloc();
     let mut core = two_ports(alloc)?;
     let mut clock = SteppedClock::new(0, 10);
-    let mut three = segments(alloc, 3)?;
+    let mut three = driver(alloc, 3)?;
     let refused = run_batch(alloc, &mut core, &mut three, &mut clock, 8);
     assert!(rt; refused.fault == Some(RunFault::Device));
     assert_eq!(rt; three.failures(), 0);
     let none = run_batch(alloc, &mut core, &mut three, &mut clock, 0);
     assert!(rt; none.fault.is_none());
-    let mut two = segments(alloc, 2)?;
+    let mut two = driver(alloc, 2)?;
     two.device.fail_at(1);
     let failed = run_once_over_ports(alloc, &mut core, &mut two, &mut clock);
     assert!(rt; failed == Err(RunFault::Device));
@@ -83,9 +83,9 @@ fn bursts_that_fail(rt: HostRuntime) -> Result<(), Fail> {
 fn refused_turns_over_segments(rt: HostRuntime) -> Result<(), Fail> {
     let alloc = rt.alloc();
     let mut core = core_at_last(alloc)?;
-    let mut two = match segments(alloc, 2) {
+    let mut two = match driver(alloc, 2) {
         Ok(two) => two,
-        Err(_) => segments(alloc, 2)?,
+        Err(_) => driver(alloc, 2)?,
     };
     let mut clock = SteppedClock::new(0, 10);
     let first = run_once_over_ports(alloc, &mut core, &mut two, &mut clock);

@@ -25,7 +25,7 @@ mod refused_calls;
 #[cfg(test)]
 mod refused_turns;
 #[cfg(test)]
-mod segments;
+mod port_driver;
 #[cfg(test)]
 mod turns;
 #[cfg(test)]

@@ -15,8 +15,8 @@ fn marks_of_three_ports(rt: HostRuntime) -> Result<(), Fail> {
     assert!(rt; marks.is_any_marked() && !marks.is_marked(3));
     marks.clear_ready(1);
     assert!(rt; !marks.is_any_marked());
-    marks.mark(2);
-    marks.mark(3);
+    marks.set_ready(2);
+    marks.set_ready(3);
     assert!(rt; !marks.is_marked(0) && !marks.is_marked(1) && marks.is_marked(2));
     marks.mark_all();
     assert!(rt; marks.is_marked(0) && marks.is_marked(1) && !marks.is_marked(3));

@@ -7,8 +7,8 @@ use Rattle.ipx_wire.specs.declared.address.Node.{Node}
 use Rattle.ipx_ethernet.specs.declared.ethernet_port.EthernetPort.{EthernetPort}
 use Rattle.ipx_ethernet.specs.declared.egress.Egress.{Egress}
 use Rattle.ipx_ethernet.specs.Heard.{SwitchView, way_after}
-use Rattle.ipx_carrier.specs.declared.segments.PacketSent.{PacketSent}
-use Rattle.ipx_carrier.specs.declared.segments.PacketSent.TheVariants.{Unmapped, Transmitted}
+use Rattle.ipx_carrier.specs.declared.port_driver.PacketSent.{PacketSent}
+use Rattle.ipx_carrier.specs.declared.port_driver.PacketSent.TheVariants.{Unmapped, Transmitted}
 use Rattle.ipx_ethernet_ports.specs.EndTraffic.{EndFrame, EndTraffic, EndsPass}
 use Rattle.ipx_ethernet_ports.specs.OnEthernet.{HearsAtEthernet, ReachesEnds, SendsOnEthernet, SendsPacket, TakesPacket, EthernetPortsView, ethernet_ports_view}
 use Rattle.ipx_ethernet_ports.proofs.Ends.{reaches_after}

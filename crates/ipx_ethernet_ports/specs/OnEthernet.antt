@@ -12,8 +12,8 @@ use Rattle.ipx_ethernet.specs.PortFrames.{IsForCore, KeepsFrame}
 use Rattle.ipx_ethernet.specs.declared.egress.Egress.{Egress}
 use Rattle.ipx_ethernet.specs.Heard.{SwitchView, switch_handing, switch_keeping, switch_passing, switch_refusing, way_after, way_of_own}
 use Rattle.ipx_ethernet.specs.SwitchEnds.{is_way_to}
-use Rattle.ipx_carrier.specs.declared.segments.PacketSent.{PacketSent}
-use Rattle.ipx_carrier.specs.declared.segments.PacketSent.TheVariants.{Unmapped, Transmitted}
+use Rattle.ipx_carrier.specs.declared.port_driver.PacketSent.{PacketSent}
+use Rattle.ipx_carrier.specs.declared.port_driver.PacketSent.TheVariants.{Unmapped, Transmitted}
 use Rattle.ipx_carrier.specs.Counting.{raised}
 use Rattle.ipx_carrier.specs.Turns.{Given, Ways}
 use Rattle.ipx_ethernet_ports.specs.EndTraffic.{EndFrame, EndTraffic, EndsPass, frame_at, raised_times}

@@ -1,7 +1,7 @@
 //! The sockets of Ethernet ports.
 
 ghost use Rattle.std.specs.Prelude.{◌≡◌, ◌<◌, ◌≤◌, ℕ, Bool, List, [], ◌∷◌, Option, IfOk, IfSome, OnErr, OnOk, is_some, length, slice_index, true};
-ghost use Rattle.ipx_carrier.specs.PortMarks.{AsksPortWithMark, MarksStay};
+ghost use Rattle.ipx_carrier.specs.Readiness.{AsksPortWithMark, MarksStay};
 ghost use Rattle.ipx_ethernet_ports.specs.EndTraffic.{EndTraffic, EndsPass, came_in, failures_counted, frame_at, frames_in};
 
 use ipx_carrier::DeviceFault;

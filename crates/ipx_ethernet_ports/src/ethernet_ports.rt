@@ -2,7 +2,7 @@
 
 ghost use Rattle.std.specs.Prelude.{◌≡◌, ◌<◌, ◌≤◌, ◌+◌, ◌^◌, [], Option, None, IfOk, IfSome, OnErr, is_some, length, map, min, slice_index, slice_set, true};
 ghost use Rattle.ipx_carrier.specs.PortDrivers.{copies_count, count_in};
-ghost use Rattle.ipx_carrier.specs.PortMarks.{AsksPortWithMark, MarksStay};
+ghost use Rattle.ipx_carrier.specs.Readiness.{AsksPortWithMark, MarksStay};
 ghost use Rattle.ipx_ethernet_ports.specs.EndTraffic.{EndFrame, frame_at};
 ghost use Rattle.ipx_ethernet_ports.specs.OnEthernet.{HearsAnswerOf, HearsAtEthernet, SendsPacket, by_frames, ethernet_ports_view};
 
@@ -131,14 +131,14 @@ impl<D: EndSockets + Drop> EthernetPorts<D> {
 
 impl EthernetPorts<EthernetSockets> {
     /// Marks a port: something came to its socket, as for `EthernetSockets::mark`.
-    pub fn mark(&mut self, port: usize)
+    pub fn set_ready(&mut self, port: usize)
         ensures { self.new ≡ record self.old {
           sockets = record self.old.sockets {
             marks = slice_set self.old.sockets.marks port true;
           };
         } }
     {
-        self.sockets.mark(port);
+        self.sockets.set_ready(port);
     }
 }
 

@@ -1,7 +1,7 @@
 //! A frame that is sent to several remotes of a port.
 
 ghost use Rattle.std.specs.Prelude.{◌≡◌, ◌<◌, [], length, slice_index};
-ghost use Rattle.ipx_carrier.specs.PortMarks.{MarksStay};
+ghost use Rattle.ipx_carrier.specs.Readiness.{MarksStay};
 ghost use Rattle.ipx_ethernet_ports.specs.OnEthernet.{ReachesEnds};
 
 use crate::end_sockets::EndSockets;

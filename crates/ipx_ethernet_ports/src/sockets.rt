@@ -2,7 +2,7 @@
 
 ghost use Rattle.std.specs.Prelude.{◌≡◌, ◌<◌, ◌≤◌, ◌↔◌, ◌++◌, ◌∷◌, [], Bool, IfOk, IfSome, IsSome, None, Ok, OnErr, OnOk, Some, false, is_some, length, slice_get, slice_index, slice_set, take, true};
 ghost use Rattle.ipx_carrier.specs.Counting.{raised};
-ghost use Rattle.ipx_carrier.specs.PortMarks.{AsksPortWithMark};
+ghost use Rattle.ipx_carrier.specs.Readiness.{AsksPortWithMark};
 ghost use Rattle.ipx_carrier.specs.ReadySet.{AsksMarked, IsFilteredOrAnswer, is_port_marked};
 ghost use Rattle.ipx_carrier.specs.Traces.{received_from, sent_to};
 ghost use Rattle.ipx_ethernet_ports.specs.EndTraffic.{failures_counted};
@@ -179,10 +179,10 @@ impl EthernetSockets {
 
     /// Marks a port: something came, as the system said, and is to be received. Nothing happens if
     /// the port does not exist.
-    pub fn mark(&mut self, port: usize)
+    pub fn set_ready(&mut self, port: usize)
         ensures { self.new ≡ record self.old { marks = slice_set self.old.marks port true } }
     {
-        self.marks.mark(port);
+        self.marks.set_ready(port);
     }
 }
 

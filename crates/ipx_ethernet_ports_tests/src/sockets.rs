@@ -34,7 +34,7 @@ fn next_frame(
     room: &mut [u8],
 ) -> Result<Option<FrameCame>, DeviceFault> {
     for _ in 0..100_000_u32 {
-        sockets.mark(0);
+        sockets.set_ready(0);
         let came = sockets.receive(0, room)?;
         if came.is_some() {
             return Ok(came);
@@ -50,7 +50,7 @@ fn next_packet(
 ) -> Result<Option<usize>, DeviceFault> {
     let filtered = ethernet.filtered();
     for _ in 0..100_000_u32 {
-        ethernet.mark(0);
+        ethernet.set_ready(0);
         let came = ethernet.receive(0, room)?;
         if came.is_some() || ethernet.filtered() != filtered {
             return Ok(came);

@@ -165,7 +165,7 @@ impl PacedHostCore {
 
     /// Returns how long no link has anything to send and no pacer has anything to plan, in
     /// milliseconds. It is at most `most`.
-    pub fn sleep(&self, most: u64) -> u64
+    pub fn time_until_due(&self, most: u64) -> u64
         ensures { IsSleep self.now most result }
     {
         let links = till(self.moment, self.endpoint.next_due(), most);

@@ -313,7 +313,7 @@ impl<'a, R: Net + Log + Clock> RunningHost<'a, R> {
         ensures sleeps { (time : ℕ) × IsSleep self.old.core most time
             × (self.new.poller.asked ≡ Some time) }
     {
-        let time = self.core.sleep(most);
+        let time = self.core.time_until_due(most);
         self.poller.wait(time)?;
         Ok(())
     }

@@ -20,7 +20,7 @@ use Rattle.ipxnet_server.specs.declared.recipients.Recipients.TheVariants.{Joine
 use Rattle.ipxnet_server.specs.ServerClients.{client_at, client_of_node}
 use Rattle.ipxnet_server.specs.ServerHears.{ServerView, all_get, answer_of, client_gets, is_dropped, is_from_server, is_joined_taker, is_taker, is_to_service, server_aged, server_gives, server_giving, server_hearing, server_learned, max_client_bytes, notice_of, takers_join, takers_of, takers_reach}
 use Rattle.ipxnet_server.specs.PeerServers.{is_joined_place}
-use Rattle.ipx_carrier.specs.declared.segments.PacketSent.{PacketSent}
+use Rattle.ipx_carrier.specs.declared.port_driver.PacketSent.{PacketSent}
 use Rattle.ipx_carrier.specs.PortDrivers.{copies_count, count_in}
 use Rattle.ipx_carrier.specs.Turns.{Given}
 use Rattle.ipx_ipxnet_ports.specs.OnServers.{AreForClients, AreForRouters, HearsAtServer, ServersView, SendsThroughServer, answer_for, by_servers, clients_reached, joined_sends, servers_view, server_ports, server_sends, notice_for, packet_said, packet_sends, relayed_on, relayed_to, routers_reached, takers_given}

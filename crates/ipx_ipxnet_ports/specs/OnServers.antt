@@ -17,8 +17,8 @@ use Rattle.ipxnet_server.specs.declared.recipients.Recipients.TheVariants.{Nobod
 use Rattle.ipxnet_server.specs.ServerClients.{EachClientOnce, client_at}
 use Rattle.ipxnet_server.specs.ServerHears.{IsAnswer, IsNotice, ServerView, answer_of, goes_to_core, is_from_server, is_taker, is_to_service, server_aged, server_gives, server_giving, server_hearing, server_hears, max_client_bytes, notice_of, takers_join, takers_of, takers_reach}
 use Rattle.ipxnet_server.specs.PeerServers.{is_joined_place}
-use Rattle.ipx_carrier.specs.declared.segments.PacketSent.{PacketSent}
-use Rattle.ipx_carrier.specs.declared.segments.PacketSent.TheVariants.{Unmapped, Transmitted}
+use Rattle.ipx_carrier.specs.declared.port_driver.PacketSent.{PacketSent}
+use Rattle.ipx_carrier.specs.declared.port_driver.PacketSent.TheVariants.{Unmapped, Transmitted}
 use Rattle.ipx_carrier.specs.Counting.{raised}
 use Rattle.ipx_carrier.specs.Turns.{Given, Ways}
 use Rattle.ipx_ipxnet_ports.specs.PlaceTraffic.{HandsOver, PlaceDatagram, PlaceTraffic, PlacesPass, place_datagram}

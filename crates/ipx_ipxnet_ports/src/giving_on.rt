@@ -1,7 +1,7 @@
 //! What an ipxnet server sends to addresses.
 
 ghost use Rattle.std.specs.Prelude.{◌≡◌, ◌<◌, [], false};
-ghost use Rattle.ipx_carrier.specs.PortMarks.{MarksStay};
+ghost use Rattle.ipx_carrier.specs.Readiness.{MarksStay};
 ghost use Rattle.ipxnet_server.specs.ServerClients.{EachClientOnce};
 ghost use Rattle.ipxnet_server.specs.ServerHears.{is_taker, takers_of};
 ghost use Rattle.ipx_ipxnet_ports.specs.OnServers.{GivesOn, answer_for, clients_reached, notice_for, relayed_on, relayed_to, routers_reached};

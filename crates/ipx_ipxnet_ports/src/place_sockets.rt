@@ -1,7 +1,7 @@
 //! The sockets of ipxnet servers.
 
 ghost use Rattle.std.specs.Prelude.{◌≡◌, ◌<◌, ◌≤◌, ℕ, Bool, [], ◌∷◌, Option, IfOk, IfSome, OnErr, OnOk, is_some, length, true};
-ghost use Rattle.ipx_carrier.specs.PortMarks.{AsksPortWithMark, MarksStay};
+ghost use Rattle.ipx_carrier.specs.Readiness.{AsksPortWithMark, MarksStay};
 ghost use Rattle.ipx_ipxnet_ports.specs.PlaceTraffic.{PlaceTraffic, PlacesPass, came_from_place, failures_with, place_datagram, place_datagrams};
 
 use ipx_carrier::DeviceFault;

@@ -2,7 +2,7 @@
 
 ghost use Rattle.std.specs.Prelude.{◌≡◌, ◌<◌, ◌≤◌, ◌+◌, ◌^◌, [], Option, None, IfOk, IfSome, OnErr, is_some, length, min, slice_set, true};
 ghost use Rattle.ipx_carrier.specs.PortDrivers.{copies_count, count_in};
-ghost use Rattle.ipx_carrier.specs.PortMarks.{AsksPortWithMark, MarksStay};
+ghost use Rattle.ipx_carrier.specs.Readiness.{AsksPortWithMark, MarksStay};
 ghost use Rattle.ipx_ipxnet_ports.specs.OnServers.{HearsAtServer, ReceivesAtServer, SendsThroughServer, by_servers, servers_view, server_ports, packet_said};
 ghost use Rattle.ipx_ipxnet_ports.specs.PlaceTraffic.{PlaceDatagram, place_datagram};
 
@@ -145,14 +145,14 @@ impl<D: PlaceSockets + Drop> Servers<D> {
 
 impl Servers<ServerSockets> {
     /// Marks a port: something came to its socket, as for `ServerSockets::mark`.
-    pub fn mark(&mut self, port: usize)
+    pub fn set_ready(&mut self, port: usize)
         ensures { self.new ≡ record self.old {
           sockets = record self.old.sockets {
             marks = slice_set self.old.sockets.marks port true;
           };
         } }
     {
-        self.sockets.mark(port);
+        self.sockets.set_ready(port);
     }
 }
 

@@ -66,7 +66,7 @@ fn next_by(
     room: &mut [u8],
 ) -> Result<Option<DatagramCame>, DeviceFault> {
     for _ in 0..100_000_u32 {
-        sockets.mark(port);
+        sockets.set_ready(port);
         let came = sockets.receive(port, room)?;
         if came.is_some() {
             return Ok(came);
@@ -87,7 +87,7 @@ fn next_packet(
 ) -> Result<Option<usize>, DeviceFault> {
     let filtered = servers.filtered();
     for _ in 0..100_000_u32 {
-        servers.mark(0);
+        servers.set_ready(0);
         let came = servers.receive(0, room)?;
         if came.is_some() || servers.filtered() != filtered {
             return Ok(came);
@@ -221,7 +221,7 @@ fn who_is_not_named_is_not_heard(rt: HostRuntime) -> Result<(), Fail> {
     assert!(rt; sender.send(0, place(20_946), &REGISTRATION).is_ok());
     assert!(rt; sender.send(0, place(20_947), &REGISTRATION).is_ok());
     for _ in 0..100_000_u32 {
-        sockets.mark(0);
+        sockets.set_ready(0);
         assert!(rt; sockets.receive(0, &mut room)? == None);
         if sockets.from_nowhere() > 0 {
             break;
@@ -230,7 +230,7 @@ fn who_is_not_named_is_not_heard(rt: HostRuntime) -> Result<(), Fail> {
     assert_eq!(rt; sockets.from_nowhere(), 1);
     let mut came = None;
     for _ in 0..100_000_u32 {
-        sockets.mark(1);
+        sockets.set_ready(1);
         came = sockets.receive(1, &mut room)?;
         if came.is_some() {
             break;

@@ -4,7 +4,7 @@ use Rattle.ipx_carrier.specs.Counting.{counted}
 use Rattle.ipx_carrier.specs.Turns.{peers_of}
 use Rattle.ipx_carrier.specs.declared.datagrams.Datagrams as OfDevice
 use Rattle.ipx_ipxnet_ports.specs.declared.place_sockets.PlaceSockets as OfPlaces
-use Rattle.ipx_carrier.specs.declared.on_peers.OnPeers.{OnPeers}
+use Rattle.ipx_carrier.specs.declared.owned_rfc1234_ports.OwnedRfc1234Ports.{OwnedRfc1234Ports}
 use Rattle.ipx_ethernet_ports.specs.declared.ethernet_ports.EthernetPorts.{EthernetPorts}
 use Rattle.ipx_ipxnet_ports.specs.declared.server_ports.Servers.{Servers}
 use Rattle.ipx_ipxnet_ports.specs.declared.sockets.ServerSockets.{ServerSockets}
@@ -49,7 +49,7 @@ module _ {gd : OfDevice.Ghosts (SourceFilter UdpSockets)} {ge : OfSockets.Ghosts
 module _ {gd : OfDevice.Ghosts (SourceFilter UdpSockets)} {ge : OfSockets.Ghosts EthernetSockets} {gl : OfPlaces.Ghosts ServerSockets} (r s t : SitePortsRun gd ge gl) where
   pub marks_on : DifferInMarks r s → DifferInMarks s t → DifferInMarks r t
   marks_on m n = record {
-    datagrams = n.datagrams ∙ ap {A = OnPeers (SourceFilter UdpSockets)} (λ d. record d { device = record d.device { device = record d.device.device { marks = t.datagrams.device.device.marks } } }) m.datagrams;
+    datagrams = n.datagrams ∙ ap {A = OwnedRfc1234Ports (SourceFilter UdpSockets)} (λ d. record d { device = record d.device { device = record d.device.device { marks = t.datagrams.device.device.marks } } }) m.datagrams;
     ethernet = n.ethernet ∙ ap {A = EthernetPorts EthernetSockets} (λ w. record w { sockets = record w.sockets { marks = t.ethernet.sockets.marks } }) m.ethernet;
     servers = n.servers ∙ ap {A = Servers ServerSockets} (λ l. record l { sockets = record l.sockets { marks = t.servers.sockets.marks } }) m.servers;
     port_indices = n.port_indices ∙ m.port_indices;

@@ -3,7 +3,7 @@ use Rattle.std.proofs.Common.{◌≡◌, ◌∙◌, ◌<◌, ℕ, List, [], ◌�
 use Rattle.std.specs.Prelude.{IfOk, OnErr, option_map, slice_get, unwrap_or}
 use Rattle.std.proofs.lemmas.List.{length-map, map-append}
 use Rattle.std.proofs.lemmas.Option.{slice_get_read}
-use Rattle.ipx_carrier.specs.declared.segments.PacketSent.{PacketSent}
+use Rattle.ipx_carrier.specs.declared.port_driver.PacketSent.{PacketSent}
 use Rattle.ipx_carrier.specs.PortDrivers.{SendsFrontOf, copies_count, count_in}
 use Rattle.ipx_carrier.specs.Device.{Traffic}
 use Rattle.ipx_carrier.specs.Turns.{Given, IsFrontOf, Peers, by_ip, copies_of}

@@ -21,19 +21,19 @@ use Rattle.ipx_site.specs.EthernetValues.{AreEthernetEnds, IsEncapsulation, IsFl
 pub record IsFramesTable (ms : Members) (p : EthernetPortConfig) : Type 0 where
   pub known : first_unknown frames_keys ms ≡ None
   pub network : Holds IsNetwork Key.Network ms p.network
-  pub encapsulation : Holds IsEncapsulation Key.Frame ms p.encapsulation
+  pub encapsulation : Holds IsEncapsulation Key.Encapsulation ms p.encapsulation
   pub address : Holds IsIpAddress Key.Address ms p.address
   pub udp_port : Holds (IsCount 65535) Key.UdpPort ms p.udp_port
   pub cost : HoldsOr (IsCount 65535) Key.Cost ms 1 p.cost
-  pub ends : Holds AreEthernetEnds Key.Ends ms p.ends
+  pub ends : Holds AreEthernetEnds Key.Remotes ms p.ends
   pub node : HoldsOr IsStation Key.Node ms (made_station p.address p.udp_port) p.node
   pub joined : HoldsOr IsFlag Key.Switch ms true p.joined
   pub directed : HoldsOr IsDirected Key.Directed ms Directed.Few p.directed
 
 -- the first fault of the keys for the remotes, and of the keys after them
 abbrev pub IsEthernetFault : Members → ℕ → ConfigError → Type 0
-IsEthernetFault ms table f = IsFault AreEthernetEnds Key.Ends ms table f
-    ⊎ (IsRight AreEthernetEnds Key.Ends ms × (IsWrong IsStation Key.Node ms table f
+IsEthernetFault ms table f = IsFault AreEthernetEnds Key.Remotes ms table f
+    ⊎ (IsRight AreEthernetEnds Key.Remotes ms × (IsWrong IsStation Key.Node ms table f
     ⊎ (IsRightOr IsStation Key.Node ms × (IsWrong IsFlag Key.Switch ms table f
     ⊎ (IsRightOr IsFlag Key.Switch ms × IsWrong IsDirected Key.Directed ms table f)))))
 
@@ -42,8 +42,8 @@ abbrev pub IsFramesFault : ℕ → Members → ConfigError → Type 0
 IsFramesFault table ms f =
     IsStray Of.Frames ms table f
     ⊎ ((first_unknown frames_keys ms ≡ None) × (IsFault IsNetwork Key.Network ms table f
-    ⊎ (IsRight IsNetwork Key.Network ms × (IsFault IsEncapsulation Key.Frame ms table f
-    ⊎ (IsRight IsEncapsulation Key.Frame ms × (IsFault IsIpAddress Key.Address ms table f
+    ⊎ (IsRight IsNetwork Key.Network ms × (IsFault IsEncapsulation Key.Encapsulation ms table f
+    ⊎ (IsRight IsEncapsulation Key.Encapsulation ms × (IsFault IsIpAddress Key.Address ms table f
     ⊎ (IsRight IsIpAddress Key.Address ms × (IsFault (IsCount 65535) Key.UdpPort ms table f
     ⊎ (IsRight (IsCount 65535) Key.UdpPort ms × (IsWrong (IsCount 65535) Key.Cost ms table f
     ⊎ (IsRightOr (IsCount 65535) Key.Cost ms × IsEthernetFault ms table f)))))))))))

@@ -24,7 +24,7 @@ pub record IsHost (ms : Members) (h : HostConfig) : Type 0 where
   pub buffers : HoldsOr (IsCount 8192) Key.Buffers ms 1024 h.buffers
   pub peers : HoldsOr AreNeighbours Key.Peers ms [] h.peers.items
   pub routers : HoldsOr (AreAmong h.peers.items) Key.Routers ms [] h.routers.items
-  pub from : HoldsIf AreOrigins Key.From ms h.from
+  pub from : HoldsIf AreOrigins Key.Allow ms h.from
   pub accept : HoldsOr IsAccept Key.Accept ms Accept.Peers h.accept
 
 -- the first fault of the keys for accepted senders and allowed peers, in order
@@ -32,8 +32,8 @@ abbrev pub IsCircleFault : Members → ConfigError → Type 0
 IsCircleFault ms f = IsWrong AreNeighbours Key.Peers ms 0 f
     ⊎ ((peers : List (List ℕ)) × HoldsOr AreNeighbours Key.Peers ms [] peers
     × (IsWrong (AreAmong peers) Key.Routers ms 0 f
-    ⊎ (IsRightOr (AreAmong peers) Key.Routers ms × (IsWrong AreOrigins Key.From ms 0 f
-    ⊎ (IsRightOr AreOrigins Key.From ms × IsWrong IsAccept Key.Accept ms 0 f)))))
+    ⊎ (IsRightOr (AreAmong peers) Key.Routers ms × (IsWrong AreOrigins Key.Allow ms 0 f
+    ⊎ (IsRightOr AreOrigins Key.Allow ms × IsWrong IsAccept Key.Accept ms 0 f)))))
 
 -- its first fault: a name that is no key, followed by the keys in order
 abbrev pub IsHostFault : Members → ConfigError → Type 0

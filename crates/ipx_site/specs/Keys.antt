@@ -4,14 +4,14 @@ use Rattle.std.specs.List.{list_any}
 use Rattle.std.specs.Cmp.Lexicographic.{pointwise}
 use Rattle.toml.specs.Data.{Members, no_members, member}
 use Rattle.ipx_site.specs.declared.key.Key.{Key}
-use Rattle.ipx_site.specs.declared.key.Key.TheVariants.{Status, Tables, Port, Network, Address, UdpPort, Cost, Peers, Routers, Accept, Router, Socket, Buffers, From, Kind, Frame, Ends, Node, Switch, Clients, Join, Directed, Route, Service, Next, Hops, Ticks, ServiceType, Name, At}
+use Rattle.ipx_site.specs.declared.key.Key.TheVariants.{MetricsFile, TablesFile, Port, Network, Address, UdpPort, Cost, Peers, Routers, Accept, Router, Socket, Buffers, Allow, Kind, Encapsulation, Remotes, Node, Switch, Clients, Join, Directed, Route, Service, NextHop, Hops, Ticks, ServiceType, Name, IpxAddress}
 use Rattle.ipx_site.specs.declared.site.Kind.{Kind as PortKind}
 use Rattle.ipx_site.specs.declared.site.Kind.TheVariants as Of
 
 -- how a key is written
 abbrev pub key_text : Key → List ℕ
-key_text Status = codes "metrics_file"
-key_text Tables = codes "tables_file"
+key_text MetricsFile = codes "metrics_file"
+key_text TablesFile = codes "tables_file"
 key_text Port = codes "port"
 key_text Network = codes "network"
 key_text Address = codes "address"
@@ -23,10 +23,10 @@ key_text Accept = codes "accept"
 key_text Router = codes "router"
 key_text Socket = codes "socket"
 key_text Buffers = codes "buffers"
-key_text From = codes "allow"
+key_text Allow = codes "allow"
 key_text Kind = codes "kind"
-key_text Frame = codes "encapsulation"
-key_text Ends = codes "remotes"
+key_text Encapsulation = codes "encapsulation"
+key_text Remotes = codes "remotes"
 key_text Node = codes "node"
 key_text Switch = codes "switch"
 key_text Clients = codes "clients"
@@ -34,12 +34,12 @@ key_text Join = codes "join"
 key_text Directed = codes "directed"
 key_text Route = codes "route"
 key_text Service = codes "service"
-key_text Next = codes "next_hop"
+key_text NextHop = codes "next_hop"
 key_text Hops = codes "hops"
 key_text Ticks = codes "ticks"
 key_text ServiceType = codes "type"
 key_text Name = codes "name"
-key_text At = codes "ipx_address"
+key_text IpxAddress = codes "ipx_address"
 
 -- a text is this key, as it is written
 abbrev pub is_text_of : List ℕ → Key → Bool
@@ -61,7 +61,7 @@ port_keys = Kind ∷ Network ∷ Address ∷ UdpPort ∷ Cost ∷ Peers ∷ Rout
 
 abbrev pub frames_keys : List Key
 frames_keys =
-    Kind ∷ Network ∷ Frame ∷ Address ∷ UdpPort ∷ Cost ∷ Ends ∷ Node ∷ Switch ∷ Directed ∷ []
+    Kind ∷ Network ∷ Encapsulation ∷ Address ∷ UdpPort ∷ Cost ∷ Remotes ∷ Node ∷ Switch ∷ Directed ∷ []
 
 abbrev pub ipxnet_keys : List Key
 ipxnet_keys =
@@ -74,20 +74,20 @@ keys_of_kind Of.Frames = frames_keys
 keys_of_kind Of.Ipxnet = ipxnet_keys
 
 abbrev pub keys_of_other_kinds : PortKind → List Key
-keys_of_other_kinds Of.Rfc1234 = Frame ∷ Ends ∷ Node ∷ Switch ∷ Clients ∷ Join ∷ []
+keys_of_other_kinds Of.Rfc1234 = Encapsulation ∷ Remotes ∷ Node ∷ Switch ∷ Clients ∷ Join ∷ []
 keys_of_other_kinds Of.Frames = Peers ∷ Routers ∷ Accept ∷ Clients ∷ Join ∷ []
-keys_of_other_kinds Of.Ipxnet = Routers ∷ Frame ∷ Ends ∷ Switch ∷ []
+keys_of_other_kinds Of.Ipxnet = Routers ∷ Encapsulation ∷ Remotes ∷ Switch ∷ []
 
 abbrev pub site_keys : List Key
-site_keys = Status ∷ Tables ∷ Port ∷ Route ∷ Service ∷ []
+site_keys = MetricsFile ∷ TablesFile ∷ Port ∷ Route ∷ Service ∷ []
 
 -- the keys of a static route and of a static service
 abbrev pub route_keys : List Key
-route_keys = Port ∷ Next ∷ Network ∷ Hops ∷ Ticks ∷ []
+route_keys = Port ∷ NextHop ∷ Network ∷ Hops ∷ Ticks ∷ []
 
 abbrev pub service_keys : List Key
-service_keys = Port ∷ Next ∷ ServiceType ∷ Name ∷ At ∷ Hops ∷ []
+service_keys = Port ∷ NextHop ∷ ServiceType ∷ Name ∷ IpxAddress ∷ Hops ∷ []
 
 abbrev pub host_keys : List Key
 host_keys =
-    Network ∷ Address ∷ Router ∷ UdpPort ∷ Socket ∷ Buffers ∷ Peers ∷ Routers ∷ From ∷ Accept ∷ []
+    Network ∷ Address ∷ Router ∷ UdpPort ∷ Socket ∷ Buffers ∷ Peers ∷ Routers ∷ Allow ∷ Accept ∷ []

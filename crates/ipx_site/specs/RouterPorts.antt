@@ -3,7 +3,7 @@
 use Rattle.std.specs.Prelude.{◌≡◌, ◌<◌, ℕ, List, [], ◌∷◌, Option, Some, None, Result, IfSome, MatchResult, option_map, map, slice_get, slice_index}
 use Rattle.ipx_wire.specs.declared.address.Node.{Node}
 use Rattle.ipx_carrier.specs.declared.fault.DeviceFault.{DeviceFault}
-use Rattle.ipx_carrier.specs.declared.segments.PacketSent.{PacketSent}
+use Rattle.ipx_carrier.specs.declared.port_driver.PacketSent.{PacketSent}
 use Rattle.ipx_carrier.specs.Device.{Datagram, Passes, Traffic, received_in}
 use Rattle.ipx_carrier.specs.PortDrivers.{SendsFrontOf}
 use Rattle.ipx_carrier.specs.Turns.{Given, Peers, Ways, by_ip, copies_of}

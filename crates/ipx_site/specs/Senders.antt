@@ -1,4 +1,4 @@
--- To whom a UDP datagram goes, and its sender. Defined by this project: a sender over IPv6 has no node.
+-- The receiver of a UDP datagram, and its sender. Defined by this project: a sender over IPv6 has no node.
 use Rattle.std.specs.Prelude.{◌≡◌, ℕ, List, Option, Some, None, IfSome, slice_get, slice_set}
 use Rattle.std.specs.Net.Addr.{ipv4_octets}
 use Rattle.std.specs.Net.Socket.{v4_ip}

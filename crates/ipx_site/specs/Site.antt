@@ -56,8 +56,8 @@ IsFirstFault earlier table (item d ds) f = IsPortItemFault table d f
 -- a table describes a router
 pub record IsSite (ms : Members) (s : RouterConfig) : Type 0 where
   pub known : first_unknown site_keys ms ≡ None
-  pub status : HoldsIf IsFileName Key.Status ms s.status
-  pub tables : HoldsIf (IsOtherFileName s.status) Key.Tables ms s.tables
+  pub status : HoldsIf IsFileName Key.MetricsFile ms s.status
+  pub tables : HoldsIf (IsOtherFileName s.status) Key.TablesFile ms s.tables
   pub ports : (ds : Items) × Holds IsPortList Key.Port ms ds × ArePorts [] ds s.ports.items
   pub statics : AreStatics s.ports.items ms s.statics.items
 
@@ -66,10 +66,10 @@ pub record IsSite (ms : Members) (s : RouterConfig) : Type 0 where
 abbrev pub IsSiteFault : Members → ConfigError → Type 0
 IsSiteFault ms f =
     IsUnknown site_keys ms 0 f
-    ⊎ ((first_unknown site_keys ms ≡ None) × (IsWrong IsFileName Key.Status ms 0 f
-    ⊎ ((status : Option (String Global)) × HoldsIf IsFileName Key.Status ms status
-    × (IsWrong (IsOtherFileName status) Key.Tables ms 0 f
-    ⊎ (IsRightOr (IsOtherFileName status) Key.Tables ms × (IsFault IsPortList Key.Port ms 0 f
+    ⊎ ((first_unknown site_keys ms ≡ None) × (IsWrong IsFileName Key.MetricsFile ms 0 f
+    ⊎ ((status : Option (String Global)) × HoldsIf IsFileName Key.MetricsFile ms status
+    × (IsWrong (IsOtherFileName status) Key.TablesFile ms 0 f
+    ⊎ (IsRightOr (IsOtherFileName status) Key.TablesFile ms × (IsFault IsPortList Key.Port ms 0 f
     ⊎ ((ds : Items) × Holds IsPortList Key.Port ms ds × (IsFirstFault [] 1 ds f
     ⊎ ((ps : List PortConfig) × ArePorts [] ds ps × IsStaticFault ps ms f)))))))))
 

@@ -35,23 +35,23 @@ numbered_port ports (suc place) = slice_get ports place
 
 -- a peer, by its IP address
 abbrev pub IsPeerNode : List (List ℕ) → Members → Node → Type 0
-IsPeerNode peers ms node = (ip : List ℕ) × Holds IsIpAddress Key.Next ms ip
+IsPeerNode peers ms node = (ip : List ℕ) × Holds IsIpAddress Key.NextHop ms ip
     × (is_peer peers ip ≡ true) × (node ≡ node_at ip)
 
 abbrev pub IsPeerNodeFault : List (List ℕ) → Members → ℕ → ConfigError → Type 0
-IsPeerNodeFault peers ms table f = IsFault IsIpAddress Key.Next ms table f
-    ⊎ ((f ≡ Wrong table Key.Next) × ((ip : List ℕ) × Holds IsIpAddress Key.Next ms ip
+IsPeerNodeFault peers ms table f = IsFault IsIpAddress Key.NextHop ms table f
+    ⊎ ((f ≡ Wrong table Key.NextHop) × ((ip : List ℕ) × Holds IsIpAddress Key.NextHop ms ip
     × (is_peer peers ip ≡ false)))
 
 -- at an RFC 1234 port a peer, at an Ethernet port a station; at an ipxnet port there is none
 abbrev pub IsNamedNode : PortConfig → Members → Node → Type 0
 IsNamedNode (Rfc1234 p) ms node = IsPeerNode p.peers.items ms node
-IsNamedNode (Frames p) ms node = Holds IsStation Key.Next ms node
+IsNamedNode (Frames p) ms node = Holds IsStation Key.NextHop ms node
 IsNamedNode (Ipxnet p) ms node = ⊥
 
 abbrev pub IsNamedNodeFault : PortConfig → Members → ℕ → ConfigError → Type 0
 IsNamedNodeFault (Rfc1234 p) ms table f = IsPeerNodeFault p.peers.items ms table f
-IsNamedNodeFault (Frames p) ms table f = IsFault IsStation Key.Next ms table f
+IsNamedNodeFault (Frames p) ms table f = IsFault IsStation Key.NextHop ms table f
 IsNamedNodeFault (Ipxnet p) ms table f = f ≡ Wrong table Key.Port
 
 -- a node is the port's own
@@ -64,7 +64,7 @@ IsNextNode p ms node = IsNamedNode p ms node × (is_own_node p node ≡ false)
 
 abbrev pub IsNextNodeFault : PortConfig → Members → ℕ → ConfigError → Type 0
 IsNextNodeFault p ms table f = IsNamedNodeFault p ms table f
-    ⊎ ((f ≡ Wrong table Key.Next) × ((node : Node) × IsNamedNode p ms node
+    ⊎ ((f ≡ Wrong table Key.NextHop) × ((node : Node) × IsNamedNode p ms node
     × (is_own_node p node ≡ true)))
 
 -- the port is one of the file, the node is on its network, and this is the cost of sending there
@@ -158,9 +158,9 @@ is_place_of_service a =
     && (not (a.network.0 == all_networks) && (is_station a.node && not (a.socket.0 == 0)))
 
 abbrev pub IsServicePlace : Members → Address → Type 0
-IsServicePlace ms a = Holds IsWrittenPlace Key.At ms a × (is_place_of_service a ≡ true)
+IsServicePlace ms a = Holds IsWrittenPlace Key.IpxAddress ms a × (is_place_of_service a ≡ true)
 
 abbrev pub IsServicePlaceFault : Members → ℕ → ConfigError → Type 0
-IsServicePlaceFault ms table f = IsFault IsWrittenPlace Key.At ms table f
-    ⊎ ((f ≡ Wrong table Key.At) × ((a : Address) × Holds IsWrittenPlace Key.At ms a
+IsServicePlaceFault ms table f = IsFault IsWrittenPlace Key.IpxAddress ms table f
+    ⊎ ((f ≡ Wrong table Key.IpxAddress) × ((a : Address) × Holds IsWrittenPlace Key.IpxAddress ms a
     × (is_place_of_service a ≡ false)))

@@ -19,11 +19,11 @@ use toml::Table;
 
 /// The encapsulation of an Ethernet port.
 pub fn encapsulation_in(table: &Table, number: usize) -> Result<Encapsulation, ConfigError>
-    ensures { Gives IsEncapsulation Key.Frame (table_view table.now) number result }
+    ensures { Gives IsEncapsulation Key.Encapsulation (table_view table.now) number result }
 {
-    match encapsulation_of(required(table, number, Key::Frame)?) {
+    match encapsulation_of(required(table, number, Key::Encapsulation)?) {
         Some(encapsulation) => Ok(encapsulation),
-        None => Err(ConfigError::Wrong(number, Key::Frame)),
+        None => Err(ConfigError::Wrong(number, Key::Encapsulation)),
     }
 }
 
@@ -43,16 +43,16 @@ pub fn required_count_in(
 }
 
 /// The remotes of an Ethernet port.
-pub fn ends_in(
+pub fn remotes_in(
     alloc: Global,
     table: &Table,
     number: usize,
 ) -> Result<Vec<SocketAddrV4>, ConfigError>
-    ensures { Gives AreEthernetEnds Key.Ends (table_view table.now) number result }
+    ensures { Gives AreEthernetEnds Key.Remotes (table_view table.now) number result }
 {
-    match ends_of(alloc, required(table, number, Key::Ends)?)? {
+    match ends_of(alloc, required(table, number, Key::Remotes)?)? {
         Some(ends) => Ok(ends),
-        None => Err(ConfigError::Wrong(number, Key::Ends)),
+        None => Err(ConfigError::Wrong(number, Key::Remotes)),
     }
 }
 
@@ -70,7 +70,7 @@ pub fn station_in(table: &Table, number: usize, made: Node) -> Result<Node, Conf
 }
 
 /// Whether the port switches frames between its remotes. The default is true.
-pub fn joined_in(table: &Table, number: usize) -> Result<bool, ConfigError>
+pub fn switch_in(table: &Table, number: usize) -> Result<bool, ConfigError>
     ensures { GivesOr IsFlag Key.Switch (table_view table.now) number true result }
 {
     let Some(value) = held(table, Key::Switch) else {

@@ -16,7 +16,7 @@ use crate::key::{Key, is_key, key_in, keys_of_kind, keys_of_other_kinds};
 use crate::neighbours::{among, neighbours_of};
 use crate::site::{Accept, Directed, Kind};
 use crate::values::{
-    accept_of, are_distinct, count_of, directed_of, file_name_of, kind_of, parse_address,
+    accept_of, are_distinct, count_of, directed_of, file_name_of, kind_of, parse_ip_address,
     parse_network, parse_peers, parse_socket, routers_of,
 };
 use ipx_wire::{Network, OutOfMemory, Socket};
@@ -121,7 +121,7 @@ pub fn network_in(table: &Table, number: usize) -> Result<Network, ConfigError>
 pub fn address_in(table: &Table, number: usize, key: Key) -> Result<[u8; 4], ConfigError>
     ensures { Gives IsIpAddress key (table_view table.now) number result }
 {
-    match parse_address(required(table, number, key)?) {
+    match parse_ip_address(required(table, number, key)?) {
         Some(ip) => Ok(ip),
         None => Err(ConfigError::Wrong(number, key)),
     }

@@ -66,7 +66,7 @@ const KEYS: [Key; 10] = [
     Key::Buffers,
     Key::Peers,
     Key::Routers,
-    Key::From,
+    Key::Allow,
     Key::Accept,
 ];
 
@@ -75,7 +75,7 @@ fn circle_of(alloc: Global, table: &Table) -> Result<Circle, ConfigError>
         HoldsOr AreNeighbours Key.Peers (table_view table.now) [] c.peers.items) }
     ensures routers { IfOk result (λ c.
         HoldsOr (AreAmong c.peers.items) Key.Routers (table_view table.now) [] c.routers.items) }
-    ensures from { IfOk result (λ c. HoldsIf AreOrigins Key.From (table_view table.now) c.from) }
+    ensures from { IfOk result (λ c. HoldsIf AreOrigins Key.Allow (table_view table.now) c.from) }
     ensures accept { IfOk result (λ c.
         HoldsOr IsAccept Key.Accept (table_view table.now) Accept.Peers c.accept) }
     ensures fault { IfErr result (λ f.
@@ -83,7 +83,7 @@ fn circle_of(alloc: Global, table: &Table) -> Result<Circle, ConfigError>
 {
     let peers = neighbours_in(alloc, table, 0)?;
     let routers = routers_in(alloc, table, 0, &peers)?;
-    let from = origins_in(alloc, table, 0, Key::From)?;
+    let from = origins_in(alloc, table, 0, Key::Allow)?;
     let accept = accept_in(table, 0)?;
     Ok(Circle {
         peers,

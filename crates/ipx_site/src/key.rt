@@ -8,8 +8,8 @@ use crate::site::Kind;
 /// A key of the file of a router or a host.
 #[derive(Clone, Copy)]
 pub enum Key {
-    Status,
-    Tables,
+    MetricsFile,
+    TablesFile,
     Port,
     Network,
     Address,
@@ -21,10 +21,10 @@ pub enum Key {
     Router,
     Socket,
     Buffers,
-    From,
+    Allow,
     Kind,
-    Frame,
-    Ends,
+    Encapsulation,
+    Remotes,
     Node,
     Switch,
     Clients,
@@ -32,12 +32,12 @@ pub enum Key {
     Directed,
     Route,
     Service,
-    Next,
+    NextHop,
     Hops,
     Ticks,
     ServiceType,
     Name,
-    At,
+    IpxAddress,
 }
 
 impl Key {
@@ -46,8 +46,8 @@ impl Key {
         ensures { result.now ≡ key_text self.now }
     {
         match self {
-            Key::Status => "metrics_file",
-            Key::Tables => "tables_file",
+            Key::MetricsFile => "metrics_file",
+            Key::TablesFile => "tables_file",
             Key::Port => "port",
             Key::Network => "network",
             Key::Address => "address",
@@ -59,10 +59,10 @@ impl Key {
             Key::Router => "router",
             Key::Socket => "socket",
             Key::Buffers => "buffers",
-            Key::From => "allow",
+            Key::Allow => "allow",
             Key::Kind => "kind",
-            Key::Frame => "encapsulation",
-            Key::Ends => "remotes",
+            Key::Encapsulation => "encapsulation",
+            Key::Remotes => "remotes",
             Key::Node => "node",
             Key::Switch => "switch",
             Key::Clients => "clients",
@@ -70,20 +70,20 @@ impl Key {
             Key::Directed => "directed",
             Key::Route => "route",
             Key::Service => "service",
-            Key::Next => "next_hop",
+            Key::NextHop => "next_hop",
             Key::Hops => "hops",
             Key::Ticks => "ticks",
             Key::ServiceType => "type",
             Key::Name => "name",
-            Key::At => "ipx_address",
+            Key::IpxAddress => "ipx_address",
         }
     }
 
     /// A description of its valid values, with an example, for the line of a fault.
     pub(crate) fn right(&self) -> &'static str {
         match self {
-            Key::Status => "a file name, such as \"/run/ipx/hq/hq.prom\"",
-            Key::Tables => {
+            Key::MetricsFile => "a file name, such as \"/run/ipx/hq/hq.prom\"",
+            Key::TablesFile => {
                 "a file name, different from metrics_file with or without .new, such as \
                  \"/run/ipx/hq/hq.tables\""
             }
@@ -98,13 +98,13 @@ impl Key {
             Key::Router => "the IP address of a router, such as \"10.1.0.1\"",
             Key::Socket => "four hex digits, not all 0, such as \"4002\"",
             Key::Buffers => "a number from 1 to 8192, such as 64",
-            Key::From => {
+            Key::Allow => {
                 "a list of at most 256 networks, each with or without a node after it, such as \
                  [\"00000022 00000a02001e\", \"00000033\"]"
             }
             Key::Kind => "\"rfc1234\", \"ethernet\" or \"ipxnet\"",
-            Key::Frame => "\"802.3\", \"802.2\", \"snap\" or \"ethernet-ii\"",
-            Key::Ends => "a list of 1 to 256 address:port, such as [\"127.0.0.1:24001\"]",
+            Key::Encapsulation => "\"802.3\", \"802.2\", \"snap\" or \"ethernet-ii\"",
+            Key::Remotes => "a list of 1 to 256 address:port, such as [\"127.0.0.1:24001\"]",
             Key::Node => "the MAC address of one station, such as \"02:00:00:00:00:22\"",
             Key::Switch => "true or false",
             Key::Clients => "a number from 1 to 150, such as 64",
@@ -113,7 +113,7 @@ impl Key {
             Key::Directed => "\"none\", \"few\" or \"all\"",
             Key::Route => "at most 256 tables [[route]]",
             Key::Service => "at most 256 tables [[service]]",
-            Key::Next => {
+            Key::NextHop => {
                 "another node of the port's network: one of its peers, such as \
                  \"198.51.100.7\", or on an Ethernet port a MAC address, such as \"02:00:00:00:00:33\""
             }
@@ -121,7 +121,8 @@ impl Key {
             Key::Ticks => "a number of ticks from 1 to 65535, such as 6",
             Key::ServiceType => "four hex digits, neither all 0 nor all f, such as \"0640\"",
             Key::Name => "1 to 47 printable ASCII characters without spaces, such as \"BACKUP\"",
-            Key::At => "a network, a node and a socket, such as \"00000011 00000a010014 4002\"",
+            Key::IpxAddress =>
+                "a network, a node and a socket, such as \"00000011 00000a010014 4002\"",
         }
     }
 }
@@ -150,11 +151,11 @@ const PORT_KEYS: [Key; 9] = [
 const FRAMES_KEYS: [Key; 10] = [
     Key::Kind,
     Key::Network,
-    Key::Frame,
+    Key::Encapsulation,
     Key::Address,
     Key::UdpPort,
     Key::Cost,
-    Key::Ends,
+    Key::Remotes,
     Key::Node,
     Key::Switch,
     Key::Directed,
@@ -178,8 +179,8 @@ const IPXNET_KEYS: [Key; 11] = [
 /// The keys of other kinds of ports that an RFC 1234 port does not have. The lists for Ethernet and
 /// ipxnet ports follow.
 const NOT_RFC1234_KEYS: [Key; 6] = [
-    Key::Frame,
-    Key::Ends,
+    Key::Encapsulation,
+    Key::Remotes,
     Key::Node,
     Key::Switch,
     Key::Clients,
@@ -194,7 +195,7 @@ const NOT_FRAMES_KEYS: [Key; 5] = [
     Key::Join,
 ];
 
-const NOT_IPXNET_KEYS: [Key; 4] = [Key::Routers, Key::Frame, Key::Ends, Key::Switch];
+const NOT_IPXNET_KEYS: [Key; 4] = [Key::Routers, Key::Encapsulation, Key::Remotes, Key::Switch];
 
 /// The keys of a port of this kind.
 pub fn keys_of_kind(kind: Kind) -> &'static [Key]

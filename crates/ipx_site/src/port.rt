@@ -5,7 +5,9 @@ ghost use Rattle.toml.specs.View.{table_view};
 ghost use Rattle.ipx_site.specs.EthernetTable.{IsFramesFault, IsFramesTable, IsKindFault, IsPortOfKind};
 ghost use Rattle.ipx_site.specs.Port.{IsPortTable, IsPortFault};
 
-use crate::ethernet_fields::{encapsulation_in, ends_in, joined_in, required_count_in, station_in};
+use crate::ethernet_fields::{
+    encapsulation_in, remotes_in, required_count_in, station_in, switch_in,
+};
 use crate::ethernet_values::station_at;
 use crate::fault::ConfigError;
 use crate::fields::{
@@ -66,10 +68,10 @@ fn frames_port(
     let address = address_in(table, number, Key::Address)?;
     let udp_port = required_count_in(table, number, Key::UdpPort, 65535)?;
     let cost = count_in(table, number, Key::Cost, 65535, 1)?;
-    let ends = ends_in(alloc, table, number)?;
+    let ends = remotes_in(alloc, table, number)?;
     let made = station_at(address, udp_port);
     let node = station_in(table, number, made)?;
-    let joined = joined_in(table, number)?;
+    let joined = switch_in(table, number)?;
     let directed = directed_in(table, number)?;
     Ok(EthernetPortConfig {
         network,

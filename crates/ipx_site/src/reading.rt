@@ -21,8 +21,8 @@ use toml::{Table, Value};
 
 /// The keys of the file, in the order in which their faults are reported.
 const KEYS: [Key; 5] = [
-    Key::Status,
-    Key::Tables,
+    Key::MetricsFile,
+    Key::TablesFile,
     Key::Port,
     Key::Route,
     Key::Service,
@@ -115,8 +115,8 @@ fn site_of(alloc: Global, table: &Table) -> Result<RouterConfig, ConfigError>
         (f ≡ ConfigError.OutOfMemory) ⊎ IsSiteFault (table_view table.now) f) }
 {
     refuse_unknown(alloc, table, 0, &KEYS)?;
-    let status = file_name_in(alloc, table, Key::Status)?;
-    let tables = other_file_name_in(alloc, table, Key::Tables, &status)?;
+    let status = file_name_in(alloc, table, Key::MetricsFile)?;
+    let tables = other_file_name_in(alloc, table, Key::TablesFile, &status)?;
     let values = port_values(table)?;
     let ports = ports_of(alloc, values)?;
     let statics = statics_in(alloc, table, &ports)?;

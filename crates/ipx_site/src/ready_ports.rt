@@ -29,8 +29,8 @@ fn mark_port(ports: &mut UdpRouterPorts, number: usize)
     };
     let ethernet = ports.ethernet.sockets().marks().ports();
     match behind.checked_sub(ethernet) {
-        Some(last) => ports.servers.mark(last),
-        None => ports.ethernet.mark(behind),
+        Some(last) => ports.servers.set_ready(last),
+        None => ports.ethernet.set_ready(behind),
     }
 }
 

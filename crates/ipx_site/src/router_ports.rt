@@ -11,7 +11,8 @@ ghost use Rattle.ipx_site.specs.RouterPorts.{ReceivesByKind, SendsByKind, by_kin
 use crate::sockets::UdpSockets;
 use crate::source_filter::SourceFilter;
 use ipx_carrier::{
-    CountsFiltered, Datagrams, DeviceFault, OnPeers, PacketSent, PortDriver, PortDriverFilters,
+    CountsFiltered, Datagrams, DeviceFault, OwnedRfc1234Ports, PacketSent, PortDriver,
+    PortDriverFilters,
 };
 use ipx_ethernet_ports::{EndSockets, EthernetPorts, EthernetSockets};
 use ipx_ipxnet_ports::{PlaceSockets, ServerSockets, Servers};
@@ -31,7 +32,7 @@ pub enum PortIndex {
 /// The ports of a router. Those of RFC 1234 work over a device, Ethernet and ipxnet ports over
 /// their sockets. It knows which of them each port of the router is.
 pub struct RouterPorts<D: Datagrams + Drop, E: EndSockets + Drop, L: PlaceSockets + Drop> {
-    pub(crate) datagrams: OnPeers<D>,
+    pub(crate) datagrams: OwnedRfc1234Ports<D>,
     pub(crate) ethernet: EthernetPorts<E>,
     pub(crate) servers: Servers<L>,
     port_indices: Vec<PortIndex>,
@@ -59,7 +60,7 @@ pub type UdpRouterPorts = RouterPorts<SourceFilter<UdpSockets>, EthernetSockets,
 impl<D: Datagrams + Drop, E: EndSockets + Drop, L: PlaceSockets + Drop> RouterPorts<D, E, L> {
     /// The ports of a router, in the order of the port indices. Each index must be valid.
     pub fn new(
-        datagrams: OnPeers<D>,
+        datagrams: OwnedRfc1234Ports<D>,
         ethernet: EthernetPorts<E>,
         servers: Servers<L>,
         port_indices: Vec<PortIndex>,

@@ -31,7 +31,7 @@ use crate::source_filter::{AccessList, SourceFilter};
 use crate::start_lines::ports_to_texts;
 use crate::starting::start_router;
 use crate::static_neighbours::silent_of;
-use ipx_carrier::OnPeers;
+use ipx_carrier::OwnedRfc1234Ports;
 use ipx_metrics::MeteredRouter;
 use ipx_router::{NewFault, Port, Router};
 use ipx_source_checks::{CheckedPort, SourceChecked};
@@ -282,7 +282,7 @@ fn datagrams_of<R: Net>(
     rt: &R,
     alloc: Global,
     ports: &[PortConfig],
-) -> Result<OnPeers<SourceFilter<UdpSockets>>, RouteFault>
+) -> Result<OwnedRfc1234Ports<SourceFilter<UdpSockets>>, RouteFault>
     ensures access_lists { IfOk result (λ d. AccessListPorts (datagram_ports ports.now) d.device.access_lists.items) }
     ensures peers { IfOk result (λ d.
         peers_of d.peers.items ≡ site_peers (datagram_ports ports.now)) }
@@ -295,7 +295,7 @@ fn datagrams_of<R: Net>(
     let access_lists = access_lists_of(alloc, ports)?;
     let peers = peers_by_port(alloc, ports)?;
     let sockets = UdpSockets::bind(rt, alloc, ports)?;
-    Ok(OnPeers::new(SourceFilter::new(sockets, access_lists), peers))
+    Ok(OwnedRfc1234Ports::new(SourceFilter::new(sockets, access_lists), peers))
 }
 
 /// The ports of a file, with their sockets bound.

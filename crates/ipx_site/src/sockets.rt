@@ -2,6 +2,7 @@
 
 ghost use Rattle.std.specs.Prelude.{◌≡◌, ◌⊎◌, ◌<◌, ◌≤◌, ◌↔◌, ◌∷◌, [], IfOk, IfSome, IsSome, None, Ok, OnErr, Some, false, is_some, length, map, replicate, slice_get, slice_set, take, true};
 ghost use Rattle.ipx_carrier.specs.Counting.{raised};
+ghost use Rattle.ipx_carrier.specs.Readiness.{AsksPortWithMark};
 ghost use Rattle.ipx_carrier.specs.ReadySet.{AsksMarked, is_port_marked};
 ghost use Rattle.ipx_carrier.specs.Traces.{v4_at};
 ghost use Rattle.ipx_site.specs.Senders.{ReceivesPacket, SendsPacket, ipv4_of_place};
@@ -207,10 +208,10 @@ impl UdpSockets {
 
     /// Marks a port where something came, so that what waits there is received. If there is no such
     /// port, nothing happens.
-    pub fn mark(&mut self, port: usize)
+    pub fn set_ready(&mut self, port: usize)
         ensures { self.new ≡ record self.old { marks = slice_set self.old.marks port true } }
     {
-        self.marks.mark(port);
+        self.marks.set_ready(port);
     }
 
     /// Marks all ports: something may have come to any of them.
@@ -249,6 +250,8 @@ impl Datagrams for UdpSockets {
     ghost access = { λ d. [] };
 
     ghost filtered = { λ d. 0 };
+
+    ghost marked = { λ d. is_port_marked d.marks };
 
     fn ports(&self) -> usize {
         self.sockets.len()
@@ -289,6 +292,8 @@ impl Datagrams for UdpSockets {
         ensures marked { is_port_marked self.old.marks port ≡ true → IfOk result (λ count.
             AsksMarked port (is_some count) self.old.marks self.new.marks
             self.old.faults self.new.faults) }
+        ensures marks { IfOk result (λ count. AsksPortWithMark port (is_some count)
+            (is_port_marked self.old.marks) (is_port_marked self.new.marks)) }
         // The last sender is that of the datagram that the port's socket received.
         ensures sender { IfOk result (λ count. IfSome count (λ n. ReceivesPacket port
             (take n room.new) self.new.sender self.old.sockets.items self.new.sockets.items)) }

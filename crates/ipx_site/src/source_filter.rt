@@ -275,6 +275,8 @@ impl<D: Senders + Drop> Datagrams for SourceFilter<D> {
 
     ghost filtered = { λ p. drops_in p.kept };
 
+    ghost marked = { λ p. D.marked p.device };
+
     fn ports(&self) -> usize {
         self.device.ports()
     }

@@ -57,20 +57,20 @@ fn peer_node_in(table: &Table, number: usize, peers: &[[u8; 4]]) -> Result<Node,
     ensures fault { IfErr result (λ f. (f ≡ ConfigError.OutOfMemory)
         ⊎ IsPeerNodeFault peers.now (table_view table.now) number f) }
 {
-    let ip = address_in(table, number, Key::Next)?;
+    let ip = address_in(table, number, Key::NextHop)?;
     if !peers.contains(&ip) {
-        return Err(ConfigError::Wrong(number, Key::Next));
+        return Err(ConfigError::Wrong(number, Key::NextHop));
     }
     Ok(node_of(ip))
 }
 
 /// The node of a station.
 fn station_node_in(table: &Table, number: usize) -> Result<Node, ConfigError>
-    ensures { Gives IsStation Key.Next (table_view table.now) number result }
+    ensures { Gives IsStation Key.NextHop (table_view table.now) number result }
 {
-    match station_of(required(table, number, Key::Next)?) {
+    match station_of(required(table, number, Key::NextHop)?) {
         Some(node) => Ok(node),
-        None => Err(ConfigError::Wrong(number, Key::Next)),
+        None => Err(ConfigError::Wrong(number, Key::NextHop)),
     }
 }
 
@@ -102,7 +102,7 @@ fn next_node_in(table: &Table, number: usize, port: &PortConfig) -> Result<Node,
 {
     let node = named_node_in(table, number, port)?;
     if is_own_node(port, node) {
-        return Err(ConfigError::Wrong(number, Key::Next));
+        return Err(ConfigError::Wrong(number, Key::NextHop));
     }
     Ok(node)
 }
@@ -187,11 +187,11 @@ pub fn service_name_in(table: &Table, number: usize) -> Result<[u8; 48], ConfigE
 
 /// The address that `ipx_address` gives.
 fn written_place_in(alloc: Global, table: &Table, number: usize) -> Result<Address, ConfigError>
-    ensures { Gives IsWrittenPlace Key.At (table_view table.now) number result }
+    ensures { Gives IsWrittenPlace Key.IpxAddress (table_view table.now) number result }
 {
-    match written_place(alloc, required(table, number, Key::At)?)? {
+    match written_place(alloc, required(table, number, Key::IpxAddress)?)? {
         Some(at) => Ok(at),
-        None => Err(ConfigError::Wrong(number, Key::At)),
+        None => Err(ConfigError::Wrong(number, Key::IpxAddress)),
     }
 }
 
@@ -203,7 +203,7 @@ pub fn service_place_in(alloc: Global, table: &Table, number: usize) -> Result<A
 {
     let at = written_place_in(alloc, table, number)?;
     if !is_place_of_service(at) {
-        return Err(ConfigError::Wrong(number, Key::At));
+        return Err(ConfigError::Wrong(number, Key::IpxAddress));
     }
     Ok(at)
 }

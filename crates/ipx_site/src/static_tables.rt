@@ -17,15 +17,15 @@ use std::alloc::Global;
 use toml::Table;
 
 /// The keys of a route, in the order in which their faults are reported.
-const ROUTE_KEYS: [Key; 5] = [Key::Port, Key::Next, Key::Network, Key::Hops, Key::Ticks];
+const ROUTE_KEYS: [Key; 5] = [Key::Port, Key::NextHop, Key::Network, Key::Hops, Key::Ticks];
 
 /// The keys of a service, in the order in which their faults are reported.
 const SERVICE_KEYS: [Key; 6] = [
     Key::Port,
-    Key::Next,
+    Key::NextHop,
     Key::ServiceType,
     Key::Name,
-    Key::At,
+    Key::IpxAddress,
     Key::Hops,
 ];
 

@@ -54,14 +54,14 @@ fn keys_of_port(kind: Kind) -> &'static str {
 /// The current key for a name that an earlier version used.
 fn new_name(name: &str) -> Option<Key> {
     match name {
-        "status" => Some(Key::Status),
-        "tables" => Some(Key::Tables),
-        "from" => Some(Key::From),
-        "frame" => Some(Key::Frame),
-        "ends" => Some(Key::Ends),
+        "status" => Some(Key::MetricsFile),
+        "tables" => Some(Key::TablesFile),
+        "from" => Some(Key::Allow),
+        "frame" => Some(Key::Encapsulation),
+        "ends" => Some(Key::Remotes),
         "hub" => Some(Key::Switch),
-        "next" => Some(Key::Next),
-        "at" => Some(Key::At),
+        "next" => Some(Key::NextHop),
+        "at" => Some(Key::IpxAddress),
         _ => None,
     }
 }

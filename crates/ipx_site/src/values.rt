@@ -33,7 +33,7 @@ pub fn parse_network(value: &Value) -> Option<Network>
 }
 
 /// The IP address that a value gives. 0.0.0.0 is none.
-pub fn parse_address(value: &Value) -> Option<[u8; 4]>
+pub fn parse_ip_address(value: &Value) -> Option<[u8; 4]>
     ensures { Reads IsIpAddress (view value.now) result }
 {
     let text = value.as_str()?;
@@ -143,7 +143,7 @@ pub fn addresses_of(alloc: Global, values: &[Value]) -> Result<Option<Vec<[u8; 4
 {
     let mut ips = Vec::new(alloc);
     for value in values {
-        let Some(ip) = parse_address(value) else {
+        let Some(ip) = parse_ip_address(value) else {
             return Ok(None);
         };
         ips.push(ip)?;

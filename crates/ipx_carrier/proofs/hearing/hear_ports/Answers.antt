@@ -24,17 +24,17 @@ returns-in_err-hear_port-clause-waiting g c =
 
 pub loop-port-init : goal.loop-port-init
 loop-port-init g c = record {
-  asked = asked_none g.C.Core.hears c.args.now (g.S.PortDriver.traffic c.args.segments.now) c.args.core.now;
+  asked = asked_none g.C.Core.hears c.args.now (g.S.PortDriver.traffic c.args.driver.now) c.args.core.now;
   few = lit≤ tt;
   room = refl;
   waiting = takes_nothing _ _ _ _ _ refl refl;
   failures = refl;
   core_ports = refl;
-  segment_ports = refl;
+  driver_ports = refl;
   transmissions = refl;
   access = refl;
   filtered = omega arith;
-  marks = asks_none g.C.Core.hears c.args.now (g.S.PortDriver.marked c.args.segments.now) c.args.core.now;
+  marks = asks_none g.C.Core.hears c.args.now (g.S.PortDriver.marked c.args.driver.now) c.args.core.now;
   kept = refl;
 }
 
@@ -51,7 +51,7 @@ loop-port-preserved g c =
       waiting = takes_more _ _ _ _ _ _ _ _ c.loop-port.invariant.room c.loop-port.invariant.waiting c.in_ok-hear_port.ensures.waiting;
       failures = search rules;
       core_ports = search rules;
-      segment_ports = search rules;
+      driver_ports = search rules;
       transmissions = search rules;
       access = search rules;
       filtered = omega arith;

@@ -1,6 +1,6 @@
 use Rattle.std.proofs.Common.{◌∙◌, rules, arith, Option, Some, subst}
 use Rattle.std.proofs.lemmas.Result.{err_from_is_err_and}
-use Rattle.ipx_carrier.specs.declared.segments.PacketSent.{PacketSent}
+use Rattle.ipx_carrier.specs.declared.port_driver.PacketSent.{PacketSent}
 use Rattle.ipx_carrier.specs.Parts.{SendsNext}
 use Rattle.ipx_carrier.specs.SendingView.{copies_view}
 use Rattle.ipx_carrier.specs.PortDrivers.{count_in}
@@ -11,14 +11,14 @@ pub returns-in_err-sent-clause-fault : goal.returns-in_err-sent-clause-fault
 returns-in_err-sent-clause-fault g c =
     let p = err_from_is_err_and c.from_residual.result c.from_residual.ensures.1 in
     rw (p.1, p.2)
-    (sends_in_part_there g.C.Core.gives g.C.Core.next_out_of_memory c.loop-asked._asked 64 c.args.now (g.S.PortDriver.transmissions c.args.segments.now) (g.S.PortDriver.transmissions c.loop-asked.segments) _ _ _ _ _ _ c.loop-asked.totals _ c.loop-asked.invariant.transmissions c.loop-asked.invariant.sent (omega arith) c.in_err-sent.ensures.fault)
+    (sends_in_part_there g.C.Core.gives g.C.Core.next_out_of_memory c.loop-asked._asked 64 c.args.now (g.S.PortDriver.transmissions c.args.driver.now) (g.S.PortDriver.transmissions c.loop-asked.driver) _ _ _ _ _ _ c.loop-asked.totals _ c.loop-asked.invariant.transmissions c.loop-asked.invariant.sent (omega arith) c.in_err-sent.ensures.fault)
 
 pub loop-asked-preserved : goal.loop-asked-preserved
 loop-asked-preserved g c =
-    let transmissions = g.S.PortDriver.transmissions c.args.segments.now in
-    let there = g.S.PortDriver.transmissions c.loop-asked.segments in
-    let t = g.S.PortDriver.traffic c.loop-asked.segments in
-    let u = g.S.PortDriver.traffic c.send_next.new.segments in
+    let transmissions = g.S.PortDriver.transmissions c.args.driver.now in
+    let there = g.S.PortDriver.transmissions c.loop-asked.driver in
+    let t = g.S.PortDriver.traffic c.loop-asked.driver in
+    let u = g.S.PortDriver.traffic c.send_next.new.driver in
     let next : SendsNext g.C.Core.gives c.args.now there t u c.loop-asked.core c.send_next.new.core (Some (count_in c.in-Some.sent)) =
     subst (λ (o : Option PacketSent). SendsNext g.C.Core.gives c.args.now there t u c.loop-asked.core c.send_next.new.core (copies_view o)) c.in-Some.is c.in_ok-sent.ensures.sent in
     record {
@@ -28,7 +28,7 @@ loop-asked-preserved g c =
       waiting = search rules;
       failures = search rules;
       core_ports = search rules;
-      segment_ports = search rules;
+      driver_ports = search rules;
       transmissions = search rules;
       access = search rules;
       filtered = omega arith;

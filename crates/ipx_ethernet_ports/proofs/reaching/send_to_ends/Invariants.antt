@@ -1,5 +1,5 @@
 use Rattle.std.proofs.Common.{◌≡◌, []}
-use Rattle.ipx_carrier.specs.PortMarks.{MarksStay}
+use Rattle.ipx_carrier.specs.Readiness.{MarksStay}
 use Rattle.ipx_ethernet_ports.specs.OnEthernet.{ReachesEnds}
 use Rattle.ipx_ethernet_ports.proofs.reaching.send_to_ends.Given as goal
 

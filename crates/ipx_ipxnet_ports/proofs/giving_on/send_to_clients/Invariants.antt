@@ -1,5 +1,5 @@
 use Rattle.std.proofs.Common.{◌≡◌, [], take}
-use Rattle.ipx_carrier.specs.PortMarks.{MarksStay}
+use Rattle.ipx_carrier.specs.Readiness.{MarksStay}
 use Rattle.ipx_ipxnet_ports.specs.OnServers.{relayed_to}
 use Rattle.ipx_ipxnet_ports.specs.PlaceTraffic.{HandsOver}
 use Rattle.ipx_ipxnet_ports.proofs.Handing.{reached_among}

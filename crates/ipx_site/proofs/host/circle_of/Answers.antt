@@ -28,5 +28,5 @@ returns-in_err-accept-clause-fault c =
     let p = err_from_is_err_and c.from_residual-in_err-accept.result c.from_residual-in_err-accept.ensures.1 in
     let named = subst (λ (l : List (List ℕ)). HoldsOr AreNeighbours Key.Peers (table_view c.args.table.now) [] l) (sym c.deref.ensures.value) c.in_ok-peers.ensures in
     rw (p.1, p.2)
-    (or_memory _ (λ fault. inr (c.deref.result.now, named, inr (right_or (AreAmong c.deref.result.now) Key.Routers (table_view c.args.table.now) [] c.in_ok-routers.routers.items c.in_ok-routers.ensures, inr (right_if AreOrigins Key.From (table_view c.args.table.now) c.in_ok-from.from c.in_ok-from.ensures, fault))))
+    (or_memory _ (λ fault. inr (c.deref.result.now, named, inr (right_or (AreAmong c.deref.result.now) Key.Routers (table_view c.args.table.now) [] c.in_ok-routers.routers.items c.in_ok-routers.ensures, inr (right_if AreOrigins Key.Allow (table_view c.args.table.now) c.in_ok-from.from c.in_ok-from.ensures, fault))))
     c.in_err-accept.ensures)

@@ -26,7 +26,7 @@ returns-in_err-values-clause-fault c =
       inr (
         c.in_ok-status.status,
         c.in_ok-status.ensures,
-        inr (right_if (IsOtherFileName c.in_ok-status.status) Key.Tables ms c.in_ok-tables.tables c.in_ok-tables.ensures, inl c.in_err-values.ensures),
+        inr (right_if (IsOtherFileName c.in_ok-status.status) Key.TablesFile ms c.in_ok-tables.tables c.in_ok-tables.ensures, inl c.in_err-values.ensures),
       ),
     )))
 
@@ -40,7 +40,7 @@ returns-in_err-ports-clause-fault c =
       inr (
         c.in_ok-status.status,
         c.in_ok-status.ensures,
-        inr (right_if (IsOtherFileName c.in_ok-status.status) Key.Tables ms c.in_ok-tables.tables c.in_ok-tables.ensures, inr (items_view c.in_ok-values.values.now, c.in_ok-values.ensures, inl fault)),
+        inr (right_if (IsOtherFileName c.in_ok-status.status) Key.TablesFile ms c.in_ok-tables.tables c.in_ok-tables.ensures, inr (items_view c.in_ok-values.values.now, c.in_ok-values.ensures, inl fault)),
       ),
     ))
     c.in_err-ports.ensures.fault)
@@ -60,7 +60,7 @@ returns-in_err-statics-clause-fault c =
       inr (
         c.in_ok-status.status,
         c.in_ok-status.ensures,
-        inr (right_if (IsOtherFileName c.in_ok-status.status) Key.Tables ms c.in_ok-tables.tables c.in_ok-tables.ensures, inr (items_view c.in_ok-values.values.now, c.in_ok-values.ensures, inr (c.deref.result.now, ports, fault))),
+        inr (right_if (IsOtherFileName c.in_ok-status.status) Key.TablesFile ms c.in_ok-tables.tables c.in_ok-tables.ensures, inr (items_view c.in_ok-values.values.now, c.in_ok-values.ensures, inr (c.deref.result.now, ports, fault))),
       ),
     ))
     c.in_err-statics.ensures.fault)

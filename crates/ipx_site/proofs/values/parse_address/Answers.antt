@@ -1,7 +1,7 @@
 -- what reads as an address has a text that the parser takes
 use Rattle.std.proofs.Common.{◌≡◌, sym, ◌∙◌}
 use Rattle.std.proofs.lemmas.Option.{same_Some}
-use Rattle.ipx_site.proofs.values.parse_address.Goals as goal
+use Rattle.ipx_site.proofs.values.parse_ip_address.Goals as goal
 
 pub returns-in-Err : goal.returns-in-Err
 returns-in-Err c a (text, is_text, dotted, set) =

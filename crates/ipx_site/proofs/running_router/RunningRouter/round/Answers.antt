@@ -11,8 +11,8 @@ returns-clause-core g c =
     let told = c.set_time.new.self in
     let later = c.set_time.ensures in
     is_round StopsThere _ c.args.self.now.clock c.stop-now.new.self kept.clock c.run_batch-batch.new.clock (ways_in c.args.self.now.ports) (ways_in told)
-    (filtered_in_ports c.args.self.now.ports) (filtered_in_ports told) (filtered_in_ports c.run_batch-batch.new.segments)
-    c.stop-now.result c.run_batch-batch.new.segments.ethernet.moment c.args.self.now.asked kept.asked c.args.self.now.core kept.core c.run_batch-batch.new.core c.run_batch-batch.result
+    (filtered_in_ports c.args.self.now.ports) (filtered_in_ports told) (filtered_in_ports c.run_batch-batch.new.driver)
+    c.stop-now.result c.run_batch-batch.new.driver.ethernet.moment c.args.self.now.asked kept.asked c.args.self.now.core kept.core c.run_batch-batch.new.core c.run_batch-batch.result
     c.stop-now.ensures c.keep.ensures.clock (ap (λ k. k.2) c.run_batch-batch.ensures.kept ∙ ap (λ w. w.moment) later.ethernet) c.keep.ensures.core (ways_stay kept.ports told c.stop-now.result later.datagrams later.ethernet later.servers later.port_indices ∙ ap ways_in c.keep.ensures.ports)
     (kept_stays kept.ports told c.stop-now.result later.datagrams later.ethernet later.servers ∙ ap filtered_in_ports c.keep.ensures.ports)
     (c.run_batch-batch.ensures.turns (ap (λ s. length s.items) later.port_indices ∙ kept.port_indices, omega arith))

@@ -2,7 +2,7 @@ use Rattle.std.proofs.Common.{List, ℕ, arith}
 use Rattle.std.proofs.lemmas.Result.{err_from_is_err_and}
 use Rattle.ipx_carrier.specs.Device.{Datagram}
 use Rattle.ipx_carrier.proofs.Sends.{first_sent}
-use Rattle.ipx_carrier.proofs.by_ip.send_to_each.Goals as goal
+use Rattle.ipx_carrier.proofs.rfc1234_ports.send_to_each.Goals as goal
 
 pub returns-in_err-send-clause-fault : goal.returns-in_err-send-clause-fault
 returns-in_err-send-clause-fault g c =

@@ -2,32 +2,32 @@
 
 ghost use Rattle.std.specs.Prelude.{◌≡◌};
 
-use crate::by_ip::ByIp;
 use crate::datagrams::{CountsFiltered, Datagrams};
 use crate::fault::DeviceFault;
-use crate::segments::{PacketSent, PortDriver, PortDriverFilters};
+use crate::port_driver::{PacketSent, PortDriver, PortDriverFilters};
+use crate::rfc1234_ports::Rfc1234Ports;
 use ipx_wire::Node;
 
-/// The same port driver as [`ByIp`], which owns its device and peers.
+/// The same port driver as [`Rfc1234Ports`], which owns its device and peers.
 #[derive(Drop)]
-pub struct OnPeers<D: Datagrams + Drop> {
+pub struct OwnedRfc1234Ports<D: Datagrams + Drop> {
     /// The device.
     pub device: D,
     /// The IP addresses of the other nodes, for each port. A port without a list has none.
     pub peers: Vec<Vec<[u8; 4]>>,
 }
 
-impl<D: Datagrams + Drop> OnPeers<D> {
+impl<D: Datagrams + Drop> OwnedRfc1234Ports<D> {
     /// A port driver of a device, with the peers of its ports.
-    pub fn new(device: D, peers: Vec<Vec<[u8; 4]>>) -> OnPeers<D>
+    pub fn new(device: D, peers: Vec<Vec<[u8; 4]>>) -> OwnedRfc1234Ports<D>
         ensures device { result.device ≡ device }
         ensures peers { result.peers ≡ peers }
     {
-        OnPeers { device, peers }
+        OwnedRfc1234Ports { device, peers }
     }
 }
 
-impl<D: Datagrams + Drop> PortDriver for OnPeers<D> {
+impl<D: Datagrams + Drop> PortDriver for OwnedRfc1234Ports<D> {
     ghost use Rattle.std.specs.Prelude.{List};
     ghost use Rattle.ipx_carrier.specs.Device.{Access, Datagram};
     ghost use Rattle.ipx_carrier.specs.Turns.{Peers, by_ip, peers_of};
@@ -53,6 +53,8 @@ impl<D: Datagrams + Drop> PortDriver for OnPeers<D> {
 
     ghost filtered = { λ s. D.filtered s.device };
 
+    ghost marked = { λ s. D.marked s.device };
+
     fn ports(&self) -> usize {
         self.device.ports()
     }
@@ -62,11 +64,11 @@ impl<D: Datagrams + Drop> PortDriver for OnPeers<D> {
     }
 
     fn send(&mut self, port: usize, node: Node, packet: &[u8]) -> Result<PacketSent, DeviceFault> {
-        let mut segments = ByIp {
+        let mut driver = Rfc1234Ports {
             datagrams: &mut self.device,
             peers: &self.peers,
         };
-        segments.send(port, node, packet)
+        driver.send(port, node, packet)
     }
 
     fn receive(&mut self, port: usize, room: &mut [u8]) -> Result<Option<usize>, DeviceFault> {
@@ -74,7 +76,7 @@ impl<D: Datagrams + Drop> PortDriver for OnPeers<D> {
     }
 }
 
-impl<D: CountsFiltered + Drop> PortDriverFilters for OnPeers<D> {
+impl<D: CountsFiltered + Drop> PortDriverFilters for OwnedRfc1234Ports<D> {
     fn filtered(&self) -> u128 {
         self.device.filtered()
     }

@@ -3,6 +3,7 @@
 
 ghost use Rattle.std.specs.Prelude.{◌≡◌, ◌<◌, ◌≤◌, ◌+◌, ◌^◌, [], OnErr, OnOk, map, slice_get, unwrap_or};
 ghost use Rattle.ipx_carrier.specs.Device.{Passes};
+ghost use Rattle.ipx_carrier.specs.Readiness.{MarksStay};
 ghost use Rattle.ipx_carrier.specs.RunFaultNumbers.{device_failures};
 ghost use Rattle.ipx_carrier.specs.PortDrivers.{SendsFrontOf};
 ghost use Rattle.ipx_carrier.specs.Turns.{by_ip, peers_of};
@@ -10,14 +11,14 @@ ghost use Rattle.ipx_carrier.specs.Turns.{by_ip, peers_of};
 use crate::datagrams::{CountsFiltered, Datagrams};
 use crate::fault::DeviceFault;
 use crate::mapping::ip_of;
-use crate::segments::{PacketSent, PortDriver, PortDriverFilters};
+use crate::port_driver::{PacketSent, PortDriver, PortDriverFilters};
 use ipx_wire::Node;
 
 /// A port driver over a device of datagrams. It sends a broadcast to each peer of its port, in
 /// order, and another packet to the IP address of its node. A packet is not sent if its node has no
 /// IP address. Received datagrams go to the core unchanged.
 #[derive(Drop)]
-pub struct ByIp<'a, D> {
+pub struct Rfc1234Ports<'a, D> {
     /// The device.
     pub datagrams: &'a mut D,
     /// The IP addresses of the other nodes, for each port. A port without a list has none.
@@ -43,6 +44,7 @@ fn send_to_each<D: Datagrams>(
     ensures ports { D.port_count datagrams.new ≡ D.port_count datagrams.old }
     ensures access { D.access datagrams.new ≡ D.access datagrams.old }
     ensures filtered { D.filtered datagrams.old ≤ D.filtered datagrams.new }
+    ensures marks { MarksStay (D.marked datagrams.old) (D.marked datagrams.new) }
 {
     for to in peers {
         datagrams.send(port, *to, bytes)?;
@@ -60,7 +62,7 @@ fn peers_at(peers: &[Vec<[u8; 4]>], port: usize) -> &[[u8; 4]]
     }
 }
 
-impl<'a, D: Datagrams> PortDriver for ByIp<'a, D> {
+impl<'a, D: Datagrams> PortDriver for Rfc1234Ports<'a, D> {
     ghost use Rattle.ipx_carrier.specs.Device.{Datagram};
     ghost use Rattle.std.specs.Borrow.{GName};
 
@@ -84,6 +86,8 @@ impl<'a, D: Datagrams> PortDriver for ByIp<'a, D> {
     ghost access = { λ s. D.access s.datagrams.now };
 
     ghost filtered = { λ s. D.filtered s.datagrams.now };
+
+    ghost marked = { λ s. D.marked s.datagrams.now };
 
     fn ports(&self) -> usize {
         self.datagrams.ports()
@@ -111,7 +115,7 @@ impl<'a, D: Datagrams> PortDriver for ByIp<'a, D> {
     }
 }
 
-impl<'a, D: CountsFiltered> PortDriverFilters for ByIp<'a, D> {
+impl<'a, D: CountsFiltered> PortDriverFilters for Rfc1234Ports<'a, D> {
     fn filtered(&self) -> u128 {
         self.datagrams.filtered()
     }

@@ -1,7 +1,7 @@
 use Rattle.std.proofs.Common.{◌∙◌, sym}
 use Rattle.ipx_carrier.specs.Turns.{peers_of}
 use Rattle.ipx_carrier.proofs.Sends.{one_unsent}
-use Rattle.ipx_carrier.proofs.by_ip.ByIpPortDriver.send.Goals as goal
+use Rattle.ipx_carrier.proofs.rfc1234_ports.Rfc1234PortsPortDriver.send.Goals as goal
 
 pub returns-in_err-send-clause-refused : goal.returns-in_err-send-clause-refused
 returns-in_err-send-clause-refused g c =

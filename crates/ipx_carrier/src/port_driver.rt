@@ -4,7 +4,7 @@ ghost use Rattle.std.specs.Prelude.{◌≡◌, ◌<◌, ◌≤◌, ◌+◌, ◌^
 ghost use Rattle.ipx_carrier.specs.Device.{Access, Passes, TrafficOf, received_in};
 ghost use Rattle.ipx_carrier.specs.RunFaultNumbers.{device_failures};
 ghost use Rattle.ipx_carrier.specs.PortDrivers.{SendsFrontOf, copies_count, count_in};
-ghost use Rattle.ipx_carrier.specs.PortMarks.{AsksPortWithMark, MarksStay};
+ghost use Rattle.ipx_carrier.specs.Readiness.{AsksPortWithMark, MarksStay};
 ghost use Rattle.ipx_carrier.specs.Turns.{Given, copies_of};
 ghost use Rattle.ipx_carrier.specs.Waits.{LeavesPort, WaitingDatagrams};
 

@@ -1,6 +1,7 @@
 use Rattle.std.proofs.Common.{◌≡◌, ◌≤◌, [], List, ℕ, map, take}
 use Rattle.ipx_carrier.specs.Device.{Datagram, Passes}
-use Rattle.ipx_carrier.proofs.by_ip.send_to_each.Given as goal
+use Rattle.ipx_carrier.specs.Readiness.{MarksStay}
+use Rattle.ipx_carrier.proofs.rfc1234_ports.send_to_each.Given as goal
 
 abbrev pub invariant-loop-to : goal.invariant-loop-to
 invariant-loop-to g l =
@@ -12,4 +13,5 @@ invariant-loop-to g l =
       ports : g.D.Datagrams.port_count l.datagrams ≡ g.D.Datagrams.port_count l.fn.datagrams;
       access : g.D.Datagrams.access l.datagrams ≡ g.D.Datagrams.access l.fn.datagrams;
       filtered : g.D.Datagrams.filtered l.fn.datagrams ≤ g.D.Datagrams.filtered l.datagrams;
+      marks : MarksStay (g.D.Datagrams.marked l.fn.datagrams) (g.D.Datagrams.marked l.datagrams);
     }

@@ -3,7 +3,7 @@
 use crate::fixture::{one_peer_each, text_of, two_ports};
 use crate::turns::are_first;
 use ipx_carrier::{
-    ByIp, Datagrams, DeviceFault, MemoryDatagrams, PacketSent, PortDriver, SteppedClock,
+    Rfc1234Ports, Datagrams, DeviceFault, MemoryDatagrams, PacketSent, PortDriver, SteppedClock,
     run_over_ports,
 };
 use ipx_wire::Node;
@@ -21,14 +21,14 @@ fn a_packet_goes_by_its_node(rt: HostRuntime) -> Result<(), Fail> {
     let alloc = rt.alloc();
     let mut datagrams = MemoryDatagrams::new(alloc, 2)?;
     let peers = three_peers(alloc)?;
-    let mut segments = ByIp {
+    let mut driver = Rfc1234Ports {
         datagrams: &mut datagrams,
         peers: &peers,
     };
-    let to_all = segments.send(0, Node::BROADCAST, &[0xab]);
-    let to_one = segments.send(1, Node([0, 0, 127, 0, 0, 5]), &[1, 2]);
-    let to_none = segments.send(0, Node([2, 0, 127, 0, 0, 5]), &[3]);
-    let to_no_list = segments.send(1, Node::BROADCAST, &[4]);
+    let to_all = driver.send(0, Node::BROADCAST, &[0xab]);
+    let to_one = driver.send(1, Node([0, 0, 127, 0, 0, 5]), &[1, 2]);
+    let to_none = driver.send(0, Node([2, 0, 127, 0, 0, 5]), &[3]);
+    let to_no_list = driver.send(1, Node::BROADCAST, &[4]);
     assert!(rt; matches!(to_all, Ok(PacketSent::Transmitted(3))));
     assert!(rt; matches!(to_one, Ok(PacketSent::Transmitted(1))));
     assert!(rt; matches!(to_none, Ok(PacketSent::Unmapped)));
@@ -47,13 +47,13 @@ fn a_broadcast_stops_where_the_device_fails(rt: HostRuntime) -> Result<(), Fail>
     let mut datagrams = MemoryDatagrams::new(alloc, 2)?;
     datagrams.fail_at(3);
     let peers = three_peers(alloc)?;
-    let mut segments = ByIp {
+    let mut driver = Rfc1234Ports {
         datagrams: &mut datagrams,
         peers: &peers,
     };
-    let answer = segments.send(0, Node::BROADCAST, &[0xab]);
+    let answer = driver.send(0, Node::BROADCAST, &[0xab]);
     assert!(rt; matches!(answer, Err(DeviceFault)));
-    assert_eq!(rt; segments.failures(), 1);
+    assert_eq!(rt; driver.failures(), 1);
     assert_eq!(rt; datagrams.sent().len(), 2);
     Ok(())
 }
@@ -64,12 +64,12 @@ fn a_run_over_segments_sends_what_a_run_sends(rt: HostRuntime) -> Result<(), Fai
     let mut core = two_ports(alloc)?;
     let mut datagrams = MemoryDatagrams::new(alloc, 2)?;
     let peers = one_peer_each(alloc)?;
-    let mut segments = ByIp {
+    let mut driver = Rfc1234Ports {
         datagrams: &mut datagrams,
         peers: &peers,
     };
     let mut clock = SteppedClock::new(0, 10);
-    let report = run_over_ports(alloc, &mut core, &mut segments, &mut clock, 1)?;
+    let report = run_over_ports(alloc, &mut core, &mut driver, &mut clock, 1)?;
     assert_eq!(rt; report.sent, 6);
     assert_eq!(rt; datagrams.received(), 2);
     assert_eq!(rt; datagrams.sent().len(), 6);
