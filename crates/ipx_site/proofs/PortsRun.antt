@@ -11,6 +11,7 @@ use Rattle.ipx_site.specs.declared.source_filter.SourceFilter.{SourceFilter}
 use Rattle.ipx_site.specs.declared.sockets.UdpSockets.{UdpSockets}
 use Rattle.ipx_site.specs.PortsView.{SitePortsRun, filtered_in_ports, ways_in}
 use Rattle.ipx_site.specs.RouterPorts.{by_kind}
+use Rattle.ipx_site.specs.SiteMarks.{kind_marks, port_marks}
 use Rattle.ipx_site.specs.SourceFilter.{drops_in}
 
 module _ {gd : OfDevice.Ghosts (SourceFilter UdpSockets)} {ge : OfSockets.Ghosts EthernetSockets} {gl : OfPlaces.Ghosts ServerSockets} (r s : SitePortsRun gd ge gl) (moment : ℕ) (same : s.datagrams ≡ r.datagrams) (later : s.ethernet ≡ record r.ethernet { moment = moment })
@@ -20,6 +21,13 @@ module _ {gd : OfDevice.Ghosts (SourceFilter UdpSockets)} {ge : OfSockets.Ghosts
       ap (λ d. by_kind (peers_of d.peers.items) (map (λ h. h.port) s.ethernet.switches.items) s.port_indices.items) same
       ∙ ap (λ w. by_kind (peers_of r.datagrams.peers.items) (map (λ h. h.port) w.switches.items) s.port_indices.items) later
       ∙ ap (λ p. by_kind (peers_of r.datagrams.peers.items) (map (λ h. h.port) r.ethernet.switches.items) p.items) there
+
+  pub marks_stay : s.port_indices ≡ r.port_indices → port_marks s.port_indices.items (kind_marks s) ≡ port_marks r.port_indices.items (kind_marks r)
+  marks_stay there =
+      ap (λ d. port_marks s.port_indices.items (record { datagrams = d.device.device.marks; ethernet = s.ethernet.sockets.marks; servers = s.servers.sockets.marks })) same
+      ∙ ap (λ w. port_marks s.port_indices.items (record { datagrams = r.datagrams.device.device.marks; ethernet = w.sockets.marks; servers = s.servers.sockets.marks })) later
+      ∙ ap (λ l. port_marks s.port_indices.items (record { datagrams = r.datagrams.device.device.marks; ethernet = r.ethernet.sockets.marks; servers = l.sockets.marks })) too
+      ∙ ap (λ p. port_marks p.items (kind_marks r)) there
 
   pub kept_stays : filtered_in_ports s ≡ filtered_in_ports r
   kept_stays =

@@ -13,13 +13,16 @@ use Rattle.ipx_site.specs.PortsView.{filtered_in_ports, ways_in}
 use Rattle.ipx_site.specs.RouterRounds.{IsRound, SleepsAfter}
 use Rattle.ipx_site.specs.RoutingRuns.{Rounds, RoutesWell, RunsTo, StartsBy, StartsByFile, TakesRound}
 use Rattle.ipx_site.specs.Site.{IsSiteText}
-use Rattle.ipx_site.specs.SiteMarks.{marks_in, numbers_come}
+use Rattle.ipx_site.specs.RouterMarks.{AreIndicesDistinct}
+use Rattle.ipx_site.specs.SiteMarks.{KindMarks, all_marks, kind_marks, marks_in, numbers_come, port_marks}
 use Rattle.ipx_site.specs.SitePorts.{access_by, checked_ports, router_ports}
 use Rattle.ipx_site.specs.StaticNeighbours.{IsToHear}
 use Rattle.ipx_site.specs.Steady.{NeverGoesBack, StopsThere}
 use Rattle.ipx_site.specs.declared.clock.SteadyClock.{SteadyClock}
 use Rattle.ipx_site.specs.declared.running_router.RunningRouter.{RunningRouter}
 use Rattle.ipx_site.specs.declared.site.RouterConfig.{RouterConfig}
+use Rattle.ipx_site.specs.declared.router_ports.PortIndex.{PortIndex}
+use Rattle.ipx_site.proofs.IndexMarks.{distinct}
 
 -- what holds after a wait that did not fail
 when_well : {T E : Type 0} (r : Result T E) (failed : Bool) (P : Type 0) → is_err r ≡ failed → OnOk r P → failed ≡ false → P
@@ -27,10 +30,10 @@ when_well (Ok t) failed P same p well = p
 when_well (Err e) failed P same p well = absurd (let no : true ≡ false = same ∙ well in cc)
 
 pub took_round : {R T E : Type 0} (old new : RunningRouter R) (r : Result T E)
-    → (between : SteadyClock R) × (batch : Batch) × (marks : List Bool)
-    × IsRound old.clock between StopsThere NeverGoesBack (ways_in old.ports) (filtered_in_ports old.ports) (filtered_in_ports new.ports) old.asked new.asked old.core new.core new.ports.ethernet.moment batch
-    × SleepsAfter (IsDue (deadlines new.asked new.looked new.responses new.written new.core new.warnings (happened new.totals new.core new.ports))) (is_any_marked marks) between new.clock StopsThere new.ready.asked batch.fault batch.quiet
-    × OnOk r (AreMarked (numbers_come new.ready) marks (marks_in new.ports))
+    → (between : SteadyClock R) × (batch : Batch) × (marks : KindMarks)
+    × IsRound old.clock between StopsThere NeverGoesBack (ways_in old.ports) (filtered_in_ports old.ports) (filtered_in_ports new.ports) (port_marks old.ports.port_indices.items (kind_marks old.ports)) (port_marks old.ports.port_indices.items marks) old.asked new.asked old.core new.core new.ports.ethernet.moment batch
+    × SleepsAfter (IsDue (deadlines new.asked new.looked new.responses new.written new.core new.warnings (happened new.totals new.core new.ports))) (is_any_marked (all_marks marks)) between new.clock StopsThere new.ready.asked batch.fault batch.quiet
+    × OnOk r (AreMarked (numbers_come new.ready) (all_marks marks) (marks_in new.ports))
     → is_err r ≡ new.ready.failed → new.ports.servers.moment ≡ new.ports.ethernet.moment → ways_in new.ports ≡ ways_in old.ports
     → peers_of new.ports.datagrams.peers.items ≡ peers_of old.ports.datagrams.peers.items → new.ports.port_indices.items ≡ old.ports.port_indices.items
     → map access_by new.ports.datagrams.device.access_lists.items ≡ map access_by old.ports.datagrams.device.access_lists.items → TakesRound old new
@@ -40,7 +43,7 @@ took_round old new r core failed moments transmissions peers port_indices access
   marks = core.2;
   round = core.3;
   sleeps = core.4;
-  marked = when_well r new.ready.failed (AreMarked (numbers_come new.ready) core.2 (marks_in new.ports)) failed core.5;
+  marked = when_well r new.ready.failed (AreMarked (numbers_come new.ready) (all_marks core.2) (marks_in new.ports)) failed core.5;
   moments = moments;
   transmissions = transmissions;
   peers = peers;
@@ -62,7 +65,7 @@ pub started_by : {R E : Type 0} (site : RouterConfig) (started : Result (Running
     → IfOk started (λ s. ArePortsBound site.ports.items s.ports) → IfOk started (λ s. s.clock.last ≡ 0) → IfOk started (λ s. s.asked ≡ 0)
     → IfOk started (λ s. StartsBy site s)
 started_by site (Ok s) ports statics checks queriers bound clock asked =
-    record { ports = ports; statics = statics; checks = checks; queriers = queriers; bound = bound; clock = clock; asked = asked }
+    record { ports = ports; statics = statics; checks = checks; queriers = queriers; bound = bound; indices = subst (λ (it : List PortIndex). AreIndicesDistinct it) (sym bound.port_indices) (distinct site.ports.items); clock = clock; asked = asked }
 started_by site (Err e) ports statics checks queriers bound clock asked = tt
 
 -- a router that started as its file says started as some file says

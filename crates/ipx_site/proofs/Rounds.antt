@@ -4,6 +4,8 @@ use Rattle.ipx_carrier.specs.declared.fault.RunFault.{RunFault}
 use Rattle.ipx_carrier.specs.Turns.{Ways}
 use Rattle.ipx_carrier.specs.declared.report.Batch.{Batch}
 use Rattle.ipx_carrier.specs.Driving.{BurstsBy}
+use Rattle.ipx_carrier.specs.MarkedTurns.{MarksFollowBatch}
+use Rattle.ipx_carrier.specs.Readiness.{Readiness}
 use Rattle.ipx_site.specs.IdleTime.{Deadlines, EventCounts, IsTimeUntilDue, IsDue, deadlines}
 use Rattle.ipx_site.specs.declared.warnings.Warnings.{Warnings}
 use Rattle.ipx_site.specs.SiteCore.{SiteCore, SiteGives, SiteHears, SiteHearOutOfMemory, SiteNextOutOfMemory}
@@ -16,16 +18,22 @@ same_ports now times times_after old mid (inl h) = ap (λ (v : SiteCore). length
 same_ports now times times_after old mid (inr h) = ap (λ (v : SiteCore). length v.core.core.core.router.ports) h.2
 
 pub is_round : {K A : Type 0} (stops tells : K → ℕ → K → Type 0) (clock told tick clock_after : K) (transmissions here : Ways A)
-    (i j n : ℕ) (now moment times times_after : ℕ) (old mid new : SiteCore) (b : Batch) → stops clock now told → tick ≡ told → moment ≡ now
+    (i j n : ℕ) (marked there marked_after : Readiness) (now moment times times_after : ℕ) (old mid new : SiteCore) (b : Batch) → stops clock now told → tick ≡ told → moment ≡ now
     → AsksAgain now times times_after old mid → here ≡ transmissions → j ≡ i
     → BurstsBy SiteHears SiteHearOutOfMemory SiteGives SiteNextOutOfMemory tells (length mid.core.core.core.router.ports) here 32 b j n tick clock_after mid new
-    → IsRound clock clock_after stops tells transmissions i n times times_after old new moment b
-is_round {A = A} stops tells clock told tick clock_after transmissions here i j n now moment times times_after old mid new b h e m asks f g bursts =
+    → there ≡ marked
+    → MarksFollowBatch SiteHears SiteHearOutOfMemory SiteGives SiteNextOutOfMemory (length mid.core.core.core.router.ports) here there marked_after mid new b
+    → IsRound clock clock_after stops tells transmissions i n marked marked_after times times_after old new moment b
+is_round {A = A} stops tells clock told tick clock_after transmissions here i j n marked there marked_after now moment times times_after old mid new b h e m asks f g bursts l marks =
     let at = subst (λ ports. BurstsBy SiteHears SiteHearOutOfMemory SiteGives SiteNextOutOfMemory tells ports here 32 b j n tick clock_after mid new)
     (same_ports now times times_after old mid asks) bursts in
     let by = subst (λ (it : Ways A). BurstsBy SiteHears SiteHearOutOfMemory SiteGives SiteNextOutOfMemory tells (length old.core.core.core.router.ports) it 32 b j n tick clock_after mid new) f at in
     let kept = subst (λ it. BurstsBy SiteHears SiteHearOutOfMemory SiteGives SiteNextOutOfMemory tells (length old.core.core.core.router.ports) transmissions 32 b it n tick clock_after mid new) g by in
-    (now, tick, mid, subst (λ it. stops clock now it) (sym e) h, m, asks, kept)
+    let follow = subst (λ ports. MarksFollowBatch SiteHears SiteHearOutOfMemory SiteGives SiteNextOutOfMemory ports here there marked_after mid new b)
+    (same_ports now times times_after old mid asks) marks in
+    let ways = subst (λ (it : Ways A). MarksFollowBatch SiteHears SiteHearOutOfMemory SiteGives SiteNextOutOfMemory (length old.core.core.core.router.ports) it there marked_after mid new b) f follow in
+    let from = subst (λ (it : Readiness). MarksFollowBatch SiteHears SiteHearOutOfMemory SiteGives SiteNextOutOfMemory (length old.core.core.core.router.ports) transmissions it marked_after mid new b) l ways in
+    (now, tick, mid, subst (λ it. stops clock now it) (sym e) h, m, asks, kept, from)
 
 -- how long a router waits, by how its batch ended
 pub rests : {K : Type 0} (todo : ℕ → Type 0) (marked : Bool) (clock clock' : K) (stops : K → ℕ → K → Type 0) (asked : Option ℕ)
@@ -49,14 +57,14 @@ goes_on todo marked clock clock' stops asked None true e q at same = absurd (cc)
 goes_on todo marked clock clock' stops asked None false e q at same = (at, same)
 
 -- what holds of a round and the wait after it does not depend on what stays the same after them
-pub round_then : {K A : Type 0} (stops tells : K → ℕ → K → Type 0) (clock clock' : K) (transmissions : Ways A) (kept kept' kept'' asked asked' asked'' : ℕ)
+pub round_then : {K A : Type 0} (stops tells : K → ℕ → K → Type 0) (clock clock' : K) (transmissions : Ways A) (kept kept' kept'' : ℕ) (marked marked' : Readiness) (asked asked' asked'' : ℕ)
     (old new new' : SiteCore) (moment moment' : ℕ) (b : Batch) → kept'' ≡ kept' → asked'' ≡ asked' → new' ≡ new → moment' ≡ moment
-    → IsRound clock clock' stops tells transmissions kept kept' asked asked' old new moment b → IsRound clock clock' stops tells transmissions kept kept'' asked asked'' old new' moment' b
-round_then stops tells clock clock' transmissions kept kept' kept'' asked asked' asked'' old new new' moment moment' b e f g h round =
-    let one = subst (λ it. IsRound clock clock' stops tells transmissions kept it asked asked' old new moment b) (sym e) round in
-    let two = subst (λ it. IsRound clock clock' stops tells transmissions kept kept'' asked it old new moment b) (sym f) one in
-    let three = subst (λ it. IsRound clock clock' stops tells transmissions kept kept'' asked asked'' old it moment b) (sym g) two in
-    subst (λ it. IsRound clock clock' stops tells transmissions kept kept'' asked asked'' old new' it b) (sym h) three
+    → IsRound clock clock' stops tells transmissions kept kept' marked marked' asked asked' old new moment b → IsRound clock clock' stops tells transmissions kept kept'' marked marked' asked asked'' old new' moment' b
+round_then stops tells clock clock' transmissions kept kept' kept'' marked marked' asked asked' asked'' old new new' moment moment' b e f g h round =
+    let one = subst (λ it. IsRound clock clock' stops tells transmissions kept it marked marked' asked asked' old new moment b) (sym e) round in
+    let two = subst (λ it. IsRound clock clock' stops tells transmissions kept kept'' marked marked' asked it old new moment b) (sym f) one in
+    let three = subst (λ it. IsRound clock clock' stops tells transmissions kept kept'' marked marked' asked asked'' old it moment b) (sym g) two in
+    subst (λ it. IsRound clock clock' stops tells transmissions kept kept'' marked marked' asked asked'' old new' it b) (sym h) three
 
 pub sleeps_then : {K : Type 0} (a b : Deadlines) (marked : Bool) (clock clock' : K) (stops : K → ℕ → K → Type 0) (asked asked' : Option ℕ)
     (fault : Option RunFault) (quiet : Bool) → b ≡ a → asked' ≡ asked → SleepsAfter (IsDue a) marked clock clock' stops asked fault quiet

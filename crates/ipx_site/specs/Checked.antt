@@ -205,13 +205,19 @@ each_after printed earlier [] = []
 each_after printed earlier (x ∷ xs) =
     printed earlier x ++ each_after printed (earlier ++ x ∷ []) xs
 
--- the remarks about the addresses that a port sends to, each after the words that say which port it is. There
--- are none about clients that may register
+-- the remark about an ipxnet port that lists peers and accepts any: its list is ignored; empty for any other
+abbrev pub ignored_remark : List ℕ → Accept → ℕ → List ℕ
+ignored_remark whose Peers count = []
+ignored_remark whose Any count =
+    if count == 0 then [] else whose ++ codes "peers is ignored, since accept is \"any\"\n"
+
+-- the remarks about the addresses that a port sends to, each after the words that say which port it is
 abbrev pub reached_remarks : List ℕ → PortConfig → List ℕ
 reached_remarks whose (Rfc1234 p) = each_after (peer_remark whose p.address) [] p.peers.items
 reached_remarks whose (Frames p) =
     each_after (ethernet_end_remark (whose ++ codes "remote") (place_of_kind (Frames p))) [] p.ends.items
-reached_remarks whose (Ipxnet p) = flat_map (joined_remark whose (place_of_kind (Ipxnet p))) p.join.items
+reached_remarks whose (Ipxnet p) = ignored_remark whose p.accept (length p.peers.items)
+    ++ flat_map (joined_remark whose (place_of_kind (Ipxnet p))) p.join.items
 
 -- the line of a port that follows earlier ones, and the remarks about it
 abbrev pub port_lines : List PortConfig → PortConfig → List ℕ

@@ -12,7 +12,8 @@ use Rattle.ipx_site.specs.PortLimits.{limits_of}
 use Rattle.ipx_site.specs.PortsView.{filtered_in_ports, ways_in}
 use Rattle.ipx_site.specs.RouterRounds.{IsRound, SleepsAfter}
 use Rattle.ipx_site.specs.Site.{IsSiteText}
-use Rattle.ipx_site.specs.SiteMarks.{marks_in, numbers_come}
+use Rattle.ipx_site.specs.RouterMarks.{AreIndicesDistinct}
+use Rattle.ipx_site.specs.SiteMarks.{KindMarks, all_marks, kind_marks, marks_in, numbers_come, port_marks}
 use Rattle.ipx_site.specs.SitePorts.{access_by, checked_ports, router_ports}
 use Rattle.ipx_site.specs.StaticNeighbours.{IsToHear}
 use Rattle.ipx_site.specs.Steady.{NeverGoesBack, StopsThere}
@@ -20,8 +21,8 @@ use Rattle.ipx_site.specs.declared.clock.SteadyClock.{SteadyClock}
 use Rattle.ipx_site.specs.declared.running_router.RunningRouter.{RunningRouter}
 use Rattle.ipx_site.specs.declared.site.RouterConfig.{RouterConfig}
 
--- a router has started as its file says. It has the ports of the file, each with its socket, and is to hear
--- its static entries. It checks sources at its ports, and has dropped nothing. The limits at its ports are
+-- a router has started as its file says. It has the ports of the file, each with its socket and an index of
+-- its own, and is to hear its static entries. It checks sources at its ports, and has dropped nothing. The limits at its ports are
 -- those of their kinds and of the file, and no general query has come. Its clock begins at 0, and it has not
 -- repeated its requests
 pub record StartsBy {R : Type 0} (site : RouterConfig) (first : RunningRouter R) : Type 0 where
@@ -31,6 +32,7 @@ pub record StartsBy {R : Type 0} (site : RouterConfig) (first : RunningRouter R)
   pub queriers : (first.core.core.ports ≡ router_ports site.ports.items)
       × (first.core.core.buckets.queriers ≡ []) × (first.core.core.buckets.ports ≡ limits_of site.ports.items)
   pub bound : ArePortsBound site.ports.items first.ports
+  pub indices : AreIndicesDistinct first.ports.port_indices.items
   pub clock : first.clock.last ≡ 0
   pub asked : first.asked ≡ 0
 
@@ -40,15 +42,17 @@ pub record StartsBy {R : Type 0} (site : RouterConfig) (first : RunningRouter R)
 pub record TakesRound {R : Type 0} (old new : RunningRouter R) : Type 0 where
   pub between : SteadyClock R
   pub batch : Batch
-  pub marks : List Bool
+  pub marks : KindMarks
   pub round : IsRound old.clock between StopsThere NeverGoesBack (ways_in old.ports)
-      (filtered_in_ports old.ports) (filtered_in_ports new.ports) old.asked new.asked old.core new.core
+      (filtered_in_ports old.ports) (filtered_in_ports new.ports)
+      (port_marks old.ports.port_indices.items (kind_marks old.ports))
+      (port_marks old.ports.port_indices.items marks) old.asked new.asked old.core new.core
       new.ports.ethernet.moment batch
   pub sleeps : SleepsAfter (IsDue (deadlines new.asked new.looked new.responses new.written new.core
-      new.warnings (happened new.totals new.core new.ports))) (is_any_marked marks)
+      new.warnings (happened new.totals new.core new.ports))) (is_any_marked (all_marks marks))
       between new.clock StopsThere new.ready.asked batch.fault batch.quiet
   pub marked : new.ready.failed ≡ false
-      → AreMarked (numbers_come new.ready) marks (marks_in new.ports)
+      → AreMarked (numbers_come new.ready) (all_marks marks) (marks_in new.ports)
   pub moments : new.ports.servers.moment ≡ new.ports.ethernet.moment
   pub transmissions : ways_in new.ports ≡ ways_in old.ports
   pub peers : peers_of new.ports.datagrams.peers.items ≡ peers_of old.ports.datagrams.peers.items

@@ -1,16 +1,17 @@
 //! Checks a router's file without opening a socket: `ipx route --check`.
 
-ghost use Rattle.std.specs.Prelude.{◌≡◌, ◌<◌, ◌≤◌, ℕ, List, [], IfOk, IfSome, IsOkAnd, length, position, string_bytes};
+ghost use Rattle.std.specs.Prelude.{◌≡◌, ◌<◌, ◌≤◌, ◌++◌, ℕ, List, [], IfOk, IfSome, IsOkAnd, length, position, string_bytes};
 ghost use Rattle.std.specs.Io.KnownBytes.{Appends};
 ghost use Rattle.std.specs.List.{flat_map};
-ghost use Rattle.ipx_site.specs.Checked.{count_text, each_after, file_line, is_of_no_machine, is_one_place, joined_remark, peer_remark, place_remark, port_lines, reached_remarks, remark, site_lines, status_text, tables_place_text, ethernet_end_remark};
+ghost use Rattle.ipx_site.specs.Checked.{count_text, each_after, file_line, ignored_remark, is_of_no_machine, is_one_place, joined_remark, peer_remark, place_remark, port_lines, reached_remarks, remark, site_lines, status_text, tables_place_text, ethernet_end_remark};
 ghost use Rattle.ipx_site.specs.Loading.{IsFileText};
 ghost use Rattle.ipx_site.specs.Site.{IsSiteText};
 ghost use Rattle.ipx_site.specs.declared.site.RouterConfig.{RouterConfig as ASiteFile};
 
 use crate::escaped::Escaped;
 use crate::files::load_site;
-use crate::site::{PortConfig, RouterConfig};
+use crate::ipxnet_port::IpxnetPortConfig;
+use crate::site::{Accept, PortConfig, RouterConfig};
 use crate::start_lines::{dotted, end_to_text, port_to_text};
 use crate::static_lines::entries_to_lines;
 use std::alloc::{AllocError, Global};
@@ -130,6 +131,37 @@ fn joined_to_remark(
     Ok(String::new(alloc))
 }
 
+/// The remark about an ipxnet port that lists peers and accepts any client; empty for any other.
+fn ignored_to_remark(
+    alloc: Global,
+    whose: &str,
+    port: &IpxnetPortConfig,
+) -> Result<String, AllocError>
+    ensures { IfOk result (λ t. string_bytes t
+        ≡ ignored_remark whose.now port.now.accept (length port.now.peers.items)) }
+{
+    if port.accept == Accept::Any && port.peers.len() != 0 {
+        return format!(in alloc; "{whose}peers is ignored, since accept is \"any\"\n");
+    }
+    Ok(String::new(alloc))
+}
+
+/// The remarks about an ipxnet port: about its list of peers, and about the routers it is joined to.
+fn ipxnet_to_remarks(
+    alloc: Global,
+    whose: &str,
+    own: SocketAddrV4,
+    port: &IpxnetPortConfig,
+) -> Result<String, AllocError>
+    ensures { IfOk result (λ t. string_bytes t
+        ≡ ignored_remark whose.now port.now.accept (length port.now.peers.items)
+        ++ flat_map (joined_remark whose.now own) port.now.join.items) }
+{
+    let ignored = ignored_to_remark(alloc, whose, port)?;
+    let joined = join_to_remarks(alloc, whose, own, &port.join)?;
+    format!(in alloc; "{ignored}{joined}")
+}
+
 /// The remarks about joined routers: one line for each that is the port's own place.
 fn join_to_remarks(
     alloc: Global,
@@ -159,7 +191,7 @@ fn reached_to_remarks(alloc: Global, whose: &str, port: &PortConfig) -> Result<S
             let end = format!(in alloc; "{whose}remote")?;
             ends_to_remarks(alloc, &end, own, &port.ends)
         }
-        PortConfig::Ipxnet(port) => join_to_remarks(alloc, whose, own, &port.join),
+        PortConfig::Ipxnet(port) => ipxnet_to_remarks(alloc, whose, own, port),
     }
 }
 

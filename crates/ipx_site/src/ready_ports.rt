@@ -24,7 +24,7 @@ fn mark_port(ports: &mut UdpRouterPorts, number: usize)
 {
     let datagrams = ports.datagrams.device.device.marks().ports();
     let Some(behind) = number.checked_sub(datagrams) else {
-        ports.datagrams.device.device.mark(number);
+        ports.datagrams.device.device.set_ready(number);
         return;
     };
     let ethernet = ports.ethernet.sockets().marks().ports();

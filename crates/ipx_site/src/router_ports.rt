@@ -6,6 +6,7 @@ ghost use Rattle.ipx_carrier.specs.PortDrivers.{SendsFrontOf, copies_count, coun
 ghost use Rattle.ipx_carrier.specs.Turns.{copies_of, peers_of};
 ghost use Rattle.ipx_ipxnet_ports.specs.OnServers.{servers_view, server_ports};
 ghost use Rattle.ipx_ethernet_ports.specs.OnEthernet.{ethernet_ports_view};
+ghost use Rattle.ipx_site.specs.RouterMarks.{marked_by_kind};
 ghost use Rattle.ipx_site.specs.RouterPorts.{ReceivesByKind, SendsByKind, by_kind, fits};
 
 use crate::sockets::UdpSockets;
@@ -161,6 +162,10 @@ impl<D: Datagrams + Drop, E: EndSockets + Drop, L: PlaceSockets + Drop> PortDriv
     ghost filtered = { λ r. D.filtered r.datagrams.device
         + (r.ethernet.kept + E.filtered r.ethernet.sockets)
         + (r.servers.kept + L.filtered r.servers.sockets) };
+
+    // As the ports of its kind say.
+    ghost marked = { λ r. marked_by_kind (D.marked r.datagrams.device)
+        (E.marked r.ethernet.sockets) (L.marked r.servers.sockets) r.port_indices.items };
 
     fn ports(&self) -> usize {
         self.port_indices.len()

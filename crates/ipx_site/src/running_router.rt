@@ -10,7 +10,7 @@ ghost use Rattle.ipx_site.specs.KnownFile.{TellsKnown};
 ghost use Rattle.ipx_site.specs.SitePorts.{access_by};
 ghost use Rattle.ipx_site.specs.PortsView.{filtered_in_ports, ways_in};
 ghost use Rattle.ipx_site.specs.RouterRounds.{AsksAgain, IsRound, SleepsAfter};
-ghost use Rattle.ipx_site.specs.SiteMarks.{marks_in, numbers_come};
+ghost use Rattle.ipx_site.specs.SiteMarks.{KindMarks, all_marks, kind_marks, marks_in, numbers_come, port_marks};
 ghost use Rattle.ipx_site.specs.Steady.{NeverGoesBack, StopsThere};
 
 use crate::client_log::ClientLog;
@@ -337,6 +337,8 @@ impl<'a, R: SystemClock> RunningRouter<'a, R> {
         ensures core { IsRound self.old.clock self.new.clock
             StopsThere NeverGoesBack (ways_in self.old.ports)
             (filtered_in_ports self.old.ports) (filtered_in_ports self.new.ports)
+            (port_marks self.old.ports.port_indices.items (kind_marks self.old.ports))
+            (port_marks self.old.ports.port_indices.items (kind_marks self.new.ports))
             self.old.asked self.new.asked self.old.core self.new.core
             self.new.ports.ethernet.moment result }
         ensures ready { self.new.ready ≡ self.old.ready }
@@ -402,18 +404,21 @@ impl<'a, R: SystemClock> RunningRouter<'a, R> {
     pub(crate) fn step<S: Log + Files>(&mut self, rt: &S, alloc: Global) -> Result<(), WaitFault>
         // A round, which stops the clock before its turns, followed by a wait as long as there is
         // nothing to do. Then the ports are marked at which something came.
-        ensures core { (between : SteadyClock R) × (batch : Batch) × (marks : List Bool)
+        ensures core { (between : SteadyClock R) × (batch : Batch) × (marks : KindMarks)
             × IsRound self.old.clock between StopsThere NeverGoesBack (ways_in self.old.ports)
             (filtered_in_ports self.old.ports) (filtered_in_ports self.new.ports)
+            (port_marks self.old.ports.port_indices.items (kind_marks self.old.ports))
+            (port_marks self.old.ports.port_indices.items marks)
             self.old.asked self.new.asked self.old.core self.new.core
             self.new.ports.ethernet.moment batch
             × SleepsAfter (IsDue (deadlines self.new.asked self.new.looked self.new.responses
             self.new.written self.new.core self.new.warnings
             (happened self.new.totals self.new.core self.new.ports)))
-            (is_any_marked marks)
+            (is_any_marked (all_marks marks))
             between self.new.clock StopsThere
             self.new.ready.asked batch.fault batch.quiet
-            × OnOk result (AreMarked (numbers_come self.new.ready) marks (marks_in self.new.ports)) }
+            × OnOk result (AreMarked (numbers_come self.new.ready) (all_marks marks)
+            (marks_in self.new.ports)) }
         // It fails exactly if the wait did.
         ensures fault { is_err result ≡ self.new.ready.failed }
         ensures moments { self.new.ports.servers.moment ≡ self.new.ports.ethernet.moment }

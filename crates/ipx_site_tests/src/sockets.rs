@@ -109,7 +109,7 @@ fn a_port_without_a_mark_is_not_asked(rt: HostRuntime) -> Result<(), Fail> {
     assert!(rt; !there.marks().is_any_marked());
     send(&mut here, [127, 0, 91, 5], b"abc")?;
     assert!(rt; receive(&mut there, &mut room)? == None);
-    there.mark(1);
+    there.set_ready(1);
     assert!(rt; receive(&mut there, &mut room)? == None);
     assert!(rt; wait_for(&mut there, &mut room)? == Some(3));
     assert!(rt; there.marks().is_marked(0));

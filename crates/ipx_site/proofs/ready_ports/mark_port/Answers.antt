@@ -10,25 +10,25 @@ invariant_of-ports-in-None c =
     record {
       fit = subst (λ w. All (fits (length p.datagrams.device.device.sockets.items)
           (min (length w.switches.items) (length (remote_counts w.sockets.ethernet.items)))
-          (min (length p.servers.servers.items) (length p.servers.sockets.sockets.items))) p.port_indices.items) (sym c.mark-in-None.ensures) p.fit;
+          (min (length p.servers.servers.items) (length p.servers.sockets.sockets.items))) p.port_indices.items) (sym c.set_ready-in-None.ensures) p.fit;
     }
 
 pub returns-in_default-clause-marks : goal.returns-in_default-clause-marks
 returns-in_default-clause-marks c =
     let p = c.args.ports.now in
-    ap (λ d. d.marks ++ (p.ethernet.sockets.marks ++ p.servers.sockets.marks)) c.mark.ensures
+    ap (λ d. d.marks ++ (p.ethernet.sockets.marks ++ p.servers.sockets.marks)) c.set_ready.ensures
     ∙ set_first p.datagrams.device.device.marks p.ethernet.sockets.marks p.servers.sockets.marks c.args.number true (grind arith)
 
 pub returns-in-Some-checked_sub-clause-marks : goal.returns-in-Some-checked_sub-clause-marks
 returns-in-Some-checked_sub-clause-marks c =
     let p = c.args.ports.now in
-    ap (λ d. p.datagrams.device.device.marks ++ (p.ethernet.sockets.marks ++ d.sockets.marks)) c.mark-in-Some-checked_sub.ensures
+    ap (λ d. p.datagrams.device.device.marks ++ (p.ethernet.sockets.marks ++ d.sockets.marks)) c.set_ready-in-Some-checked_sub.ensures
     ∙ set_third p.datagrams.device.device.marks p.ethernet.sockets.marks p.servers.sockets.marks c.args.number c.in-Some.behind c.in-Some-checked_sub.last true
     (grind arith) (grind arith) (grind arith) (grind arith)
 
 pub returns-in-None-clause-marks : goal.returns-in-None-clause-marks
 returns-in-None-clause-marks c =
     let p = c.args.ports.now in
-    ap (λ d. p.datagrams.device.device.marks ++ (d.sockets.marks ++ p.servers.sockets.marks)) c.mark-in-None.ensures
+    ap (λ d. p.datagrams.device.device.marks ++ (d.sockets.marks ++ p.servers.sockets.marks)) c.set_ready-in-None.ensures
     ∙ set_second p.datagrams.device.device.marks p.ethernet.sockets.marks p.servers.sockets.marks c.args.number c.in-Some.behind true
     (grind arith) (grind arith) (grind arith)

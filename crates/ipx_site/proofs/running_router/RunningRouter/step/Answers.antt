@@ -2,8 +2,8 @@ use Rattle.std.proofs.Common.{◌∙◌, Some, ap, rules, subst, sym}
 use Rattle.ipx_carrier.specs.ReadySet.{is_any_marked}
 use Rattle.ipx_site.specs.IdleTime.{IsDue, deadlines, happened}
 use Rattle.ipx_site.specs.PortsView.{filtered_in_ports, ways_in}
-use Rattle.ipx_site.specs.RouterRounds.{SleepsAfter}
-use Rattle.ipx_site.specs.SiteMarks.{marks_in}
+use Rattle.ipx_site.specs.RouterRounds.{IsRound, SleepsAfter}
+use Rattle.ipx_site.specs.SiteMarks.{kind_marks, marks_in, port_marks}
 use Rattle.ipx_site.specs.Steady.{NeverGoesBack, StopsThere}
 use Rattle.ipx_site.proofs.MarksSeparate.{happened_separate, kept_separate}
 use Rattle.ipx_site.proofs.Rounds.{round_then, same_deadlines, sleeps_then}
@@ -21,8 +21,8 @@ returns-in_err-wait-clause-core g c =
     (ap (λ it. happened it t.core t.ports) e.totals ∙ ap (λ it. happened s.totals it t.ports) e.core ∙ ap (λ it. happened s.totals s.core it) e.ports) in (
       s.clock,
       b,
-      marks_in s.ports,
-      round_then StopsThere NeverGoesBack old.clock s.clock (ways_in old.ports) (filtered_in_ports old.ports) (filtered_in_ports s.ports) (filtered_in_ports t.ports) old.asked s.asked t.asked
+      kind_marks s.ports,
+      round_then StopsThere NeverGoesBack old.clock s.clock (ways_in old.ports) (filtered_in_ports old.ports) (filtered_in_ports s.ports) (filtered_in_ports t.ports) (port_marks old.ports.port_indices.items (kind_marks old.ports)) (port_marks old.ports.port_indices.items (kind_marks s.ports)) old.asked s.asked t.asked
           old.core s.core t.core s.ports.ethernet.moment t.ports.ethernet.moment b (ap filtered_in_ports e.ports) e.asked e.core (ap (λ it. it.ethernet.moment) e.ports) c.round-batch.ensures.core,
       sleeps_then (deadlines s.asked s.looked s.responses s.written s.core s.warnings (happened s.totals s.core s.ports))
           (deadlines t.asked t.looked t.responses t.written t.core t.warnings (happened t.totals t.core t.ports)) (is_any_marked (marks_in s.ports)) s.clock t.clock StopsThere
@@ -45,10 +45,11 @@ returns-clause-core g c =
     (happened s.totals s.core s.ports) (happened t.totals t.core ports) e.asked e.looked.0 e.looked.1 e.looked.2 e.core e.warnings count in (
       s.clock,
       b,
-      marks_in t.ports,
-      round_then StopsThere NeverGoesBack old.clock s.clock (ways_in old.ports) (filtered_in_ports old.ports) (filtered_in_ports s.ports) (filtered_in_ports ports) old.asked s.asked t.asked
+      kind_marks t.ports,
+      subst (λ it. IsRound old.clock s.clock StopsThere NeverGoesBack (ways_in old.ports) (filtered_in_ports old.ports) (filtered_in_ports ports) (port_marks old.ports.port_indices.items (kind_marks old.ports)) (port_marks old.ports.port_indices.items (kind_marks it)) old.asked t.asked old.core t.core ports.ethernet.moment b) (sym e.ports)
+          (round_then StopsThere NeverGoesBack old.clock s.clock (ways_in old.ports) (filtered_in_ports old.ports) (filtered_in_ports s.ports) (filtered_in_ports ports) (port_marks old.ports.port_indices.items (kind_marks old.ports)) (port_marks old.ports.port_indices.items (kind_marks s.ports)) old.asked s.asked t.asked
           old.core s.core t.core s.ports.ethernet.moment ports.ethernet.moment b (kept_separate t.ports ports m ∙ ap filtered_in_ports e.ports) e.asked e.core
-          (ap (λ it. it.moment) m.ethernet ∙ ap (λ it. it.ethernet.moment) e.ports) c.round-batch.ensures.core,
+          (ap (λ it. it.moment) m.ethernet ∙ ap (λ it. it.ethernet.moment) e.ports) c.round-batch.ensures.core),
       subst (λ it. SleepsAfter (IsDue (deadlines t.asked t.looked t.responses t.written t.core t.warnings (happened t.totals t.core ports)))
           (is_any_marked (marks_in it)) s.clock t.clock StopsThere c.wait.new.self.asked b.fault b.quiet) (sym e.ports)
           (sleeps_then (deadlines s.asked s.looked s.responses s.written s.core s.warnings (happened s.totals s.core s.ports))
