@@ -109,7 +109,8 @@ noted_alone None now id from e e' c ts is d = (c, d.0, is, refl)
 noted_alone (Some (Cames.Heard i)) now id from e e' c ts is d =
     let so = once_or_not (c.id == i) now id from c is in
     (heard_by i now c, kept_alone (heard_by i now c) ts e e' (position has_spoken (heard_by i now c ∷ [])) refl d, so.0, so.1)
-noted_alone (Some (Cames.Accepted a)) now id from e e' c ts is d = (c, admits_none id from c (session_of a now) e e' ts is d, is, refl)
+noted_alone (Some (Cames.Accepted a)) now id from e e' c ts is (mid, between, evicts, admits) =
+    (c, admits_none id from c (session_of a now) mid e' ts is (subst (λ (l : List Session). Admits true (session_of a now) mid e' l ts) evicts.0 admits), is, refl)
 noted_alone (Some (Cames.NoRoom asker)) now id from e e' c ts is d =
     (c, no_room_by now id from asker c e e' ts (place_to_free true e.network e now asker (c ∷ [])) is refl d, is, refl)
 
@@ -159,7 +160,8 @@ noted_none (Some (Cames.Heard i)) now e e' cs ts none d =
     let there = map (heard_by i now) cs in
     let unended = none_by (list_any is_ended there) (list_any is_ended cs) (any_heard_by i now cs) (none_ended cs none) in
     found_none there ts e e' (position has_spoken there) refl unended d
-noted_none (Some (Cames.Accepted a)) now e e' cs ts none d = inl (admits_unheard (session_of a now) e e' cs ts refl none d)
+noted_none (Some (Cames.Accepted a)) now e e' cs ts none (mid, between, evicts, admits) =
+    inl (admits_unheard (session_of a now) mid e' cs ts refl none (subst (λ (l : List Session). Admits true (session_of a now) mid e' l ts) evicts.0 admits))
 noted_none (Some (Cames.NoRoom asker)) now e e' cs ts none d = inl (room_unheard now e e' cs ts (place_to_free true e.network e now asker cs) none d)
 
 heard_none : (b : Bool) (old new : PacedHostCore) (cs ts : List Session) → list_any has_spoken cs ≡ false → NotesIf b true old new cs ts → NoneOrOne ts

@@ -15,7 +15,7 @@ use Rattle.spx_messages.specs.Taking.{TakenView, Nothing, Part, PeerEnd, Whole, 
 use Rattle.spx_messages.specs.declared.fault.EndFault.{EndFault}
 use Rattle.ipx_wire.specs.declared.address.Address.{Address}
 use Rattle.ipx_wire.specs.declared.address.Network.{Network}
-use Rattle.ipx_host.specs.Sessions.{Admits, Asks as IsAsked, OnlyEnded, KeepsHeard, KeepsOne, LetsLinkGo, LetsLinksGo, MakesSpace, heard_by, is_ended, has_spoken, is_overdue, is_to_go, once_heard, place_to_free}
+use Rattle.ipx_host.specs.Sessions.{Admits, Asks as IsAsked, Evicts, KeepsHeard, KeepsOne, LetsLinkGo, LetsLinksGo, MakesSpace, OnlyEnded, has_spoken, heard_by, is_ended, is_overdue, is_to_go, once_heard, place_of_own, place_to_free, without}
 use Rattle.ipx_host.specs.HostOutput.{Writes}
 use Rattle.ipx_host.specs.Tending.{DoesAction, IsActionFor, JustStays, Tends}
 use Rattle.ipx_host.specs.declared.paced_host_core.PacedHostCore.{PacedHostCore}
@@ -511,6 +511,17 @@ keeps_admitted once cs cs' left c old new called (inl p) keeps =
     (keeps_push once cs left c (λ is. elim (either (list_any has_spoken cs)) [ inl some ↦ absurd (p.0 (inl (is, some))) | inr none ↦ none ]) called keeps)
 keeps_admitted once cs cs' left c old new called (inr p) keeps = subst (λ (l : List Session). KeepsOne once l left) (sym p.1) keeps
 
+-- one that is evicted of its own node goes only without `once`
+pub keeps_own : (once : Bool) (now : ℕ) (from : Address) (cs cs' : List Session) (left : List ℕ) (old new : EndpointView)
+    → Evicts (place_of_own once old.network old now from cs) old new cs cs' → KeepsOne once cs left → KeepsOne once cs' left
+keeps_own false now from cs cs' left old new evicts keeps = keeps
+keeps_own true now from cs cs' left old new evicts keeps = subst (λ (l : List Session). KeepsOne true l left) (sym evicts.0) keeps
+
+-- and the rest is there without it
+pub are_without : (found : Option ℕ) (old new : EndpointView) (cs cs' : List Session) → Evicts found old new cs cs' → cs' ≡ without found cs
+are_without None old new cs cs' evicts = evicts.0
+are_without (Some place) old new cs cs' evicts = evicts.0
+
 -- the place of a connection that is evicted is one of the list
 freed_by : (of : Bool) (e : EndpointView) (now : ℕ) (asker : Address) (own : Network) (cs : List Session) (place : ℕ) (d : Session)
     → (if of then position (is_overdue now) cs else position (is_to_go own e now asker cs) cs) ≡ Some place → place < length cs
@@ -524,7 +535,7 @@ room_kept true now asker [] cs' left old new (Some place) is keeps k = absurd (c
 room_kept false now asker [] cs' left old new (Some place) is keeps k = absurd (cc)
 room_kept once now asker (d ∷ ds) cs' left old new (Some place) is keeps k =
     subst (λ (l : List Session). KeepsOne once l left) (sym k.0)
-    (keeps_removed once (d ∷ ds) left place (freed_by (once || list_any (λ (c : Session). is_unheard c.phase) (d ∷ ds)) old now asker old.network (d ∷ ds) place d is) keeps)
+    (keeps_removed once (d ∷ ds) left place (freed_by (once || is_some (position (is_overdue now) (d ∷ ds))) old now asker old.network (d ∷ ds) place d is) keeps)
 
 pub keeps_room : (once : Bool) (now : ℕ) (asker : Address) (cs cs' : List Session) (left : List ℕ) (old new : EndpointView) → MakesSpace once now asker old new cs cs' → KeepsOne once cs left → KeepsOne once cs' left
 keeps_room once now asker cs cs' left old new k keeps = room_kept once now asker cs cs' left old new (place_to_free once old.network old now asker cs) refl keeps k

@@ -119,11 +119,18 @@ abbrev pub has_more : Network → List Session → Address → Address → Bool
 has_more own sessions a b =
     nat_lt (count_by (is_of_node own b) sessions) (count_by (is_of_node own a) sessions)
 
+-- a connection that was not heard from yet keeps another from being evicted for a request, if it is of the
+-- node that asks, or of another node than that connection
+abbrev pub protects : Network → Address → Session → Session → Bool
+protects own asker c d =
+    is_unheard d.phase && (is_of_node own asker d || not (is_of_node own c.from d))
+
 -- it may be evicted for a request from an address: it is of the node of that address, or its node has more
--- connections than that node
+-- connections than that node, and no connection that was not heard from yet protects it
 abbrev pub may_go_for : Network → EndpointView → ℕ → Address → List Session → Session → Bool
 may_go_for own e now asker sessions c =
     may_go e now c && (is_of_node own asker c || has_more own sessions c.from asker)
+    && not (list_any (protects own asker c) sessions)
 
 -- a connection goes before another if it may be evicted for that request, and its node has more connections,
 -- or as many and it was silent for longer
@@ -137,20 +144,52 @@ abbrev pub is_to_go : Network → EndpointView → ℕ → Address → List Sess
 is_to_go own e now asker sessions c = may_go_for own e now asker sessions c
     && not (list_any (λ d. goes_before own e now asker sessions d c) sessions)
 
--- the connection that is evicted for a request from an address: the first overdue one, or if each was heard
--- from, and without `once`, a silent one of the node that asks or of a node that has more connections
+-- the connection that is evicted for a request from an address: the first overdue one, or if there is none,
+-- and without `once`, a silent one of the node that asks or of a node that has more connections
 abbrev pub place_to_free : Bool → Network → EndpointView → ℕ → Address → List Session → Option ℕ
 place_to_free once own e now asker sessions =
-    if once || list_any (λ c. is_unheard c.phase) sessions then position (is_overdue now) sessions
+    let overdue = position (is_overdue now) sessions in
+    if once || is_some overdue then overdue
     else position (is_to_go own e now asker sessions) sessions
 
--- there was no link for a request: a connection is evicted and its link released, if there is one to evict
-abbrev pub MakesSpace : Bool → ℕ → Address → EndpointView → EndpointView → List Session → List Session → Type 0
-MakesSpace once now asker old new sessions sessions' =
-    MatchOption (place_to_free once old.network old now asker sessions)
-    ((sessions' ≡ sessions) × (new ≡ old))
+-- a connection of the node of an address may be evicted, and of those none was silent for longer
+abbrev pub is_own_silent : Network → EndpointView → ℕ → Address → Session → Bool
+is_own_silent own e now from c = may_go e now c && is_of_node own from c
+
+abbrev pub is_first_own : Network → EndpointView → ℕ → Address → List Session → Session → Bool
+is_first_own own e now from sessions c = is_own_silent own e now from c
+    && not (list_any (λ d. is_own_silent own e now from d && nat_lt d.heard c.heard) sessions)
+
+-- the connection that is evicted for another one of its own node: without `once`, if the node has 8, and each
+-- was heard from
+abbrev pub place_of_own : Bool → Network → EndpointView → ℕ → Address → List Session → Option ℕ
+place_of_own once own e now from sessions =
+    if once || nat_lt (count_by (is_of_node own from) sessions) 8
+    || list_any (is_unheard_of own from) sessions then None
+    else position (is_first_own own e now from sessions) sessions
+
+-- the connection at a place is evicted and its link released, if there is such a place
+abbrev pub Evicts : Option ℕ → EndpointView → EndpointView → List Session → List Session → Type 0
+Evicts found old new sessions sessions' = MatchOption found ((sessions' ≡ sessions) × (new ≡ old))
     (λ place. (sessions' ≡ remove sessions place)
     × IfSome (slice_get sessions place) (λ c. LetsLinkGo old new c.id))
+
+-- there was no link for a request: a connection is evicted, if there is one to evict
+abbrev pub MakesSpace : Bool → ℕ → Address → EndpointView → EndpointView → List Session → List Session → Type 0
+MakesSpace once now asker old new sessions sessions' =
+    Evicts (place_to_free once old.network old now asker sessions) old new sessions sessions'
+
+-- the sessions without the one at a place, if there is such a place
+abbrev pub without : Option ℕ → List Session → List Session
+without None sessions = sessions
+without (Some place) sessions = remove sessions place
+
+-- a connection was accepted at this time: if its node has too many, a silent one of these is evicted. Then it
+-- is added if there is a slot
+abbrev pub AdmitsRequest : Bool → ℕ → Accepted → EndpointView → EndpointView → List Session → List Session → Type 0
+AdmitsRequest once now a old new sessions sessions' = (mid : EndpointView) × (between : List Session)
+    × Evicts (place_of_own once old.network old now a.from sessions) old mid sessions between
+    × Admits once (session_of a now) mid new between sessions'
 
 -- a count, raised by one if this holds
 abbrev pub raised_if : Bool → ℕ → ℕ
@@ -172,23 +211,25 @@ DoesNoted once None now old new sessions sessions' = (sessions' ≡ sessions) ×
 DoesNoted once (Some (Cames.Heard id)) now old new sessions sessions' =
     KeepsHeard once old new (map (heard_by id now) sessions) sessions'
 DoesNoted once (Some (Cames.Accepted a)) now old new sessions sessions' =
-    Admits once (session_of a now) old new sessions sessions'
+    AdmitsRequest once now a old new sessions sessions'
 DoesNoted once (Some (Cames.NoRoom asker)) now old new sessions sessions' =
     MakesSpace once now asker old new sessions sessions'
 
 -- requests that get no slot are counted: one whose connection is not held, and one that found no link
-abbrev pub CountsRequest : Bool → Network → Option Arrival → List Session → ℕ → ℕ → Type 0
-CountsRequest once own None sessions count count' = count' ≡ count
-CountsRequest once own (Some (Cames.Heard id)) sessions count count' = count' ≡ count
-CountsRequest once own (Some (Cames.Accepted a)) sessions count count' =
-    CountsTurnedAway once own a.from sessions count count'
-CountsRequest once own (Some (Cames.NoRoom asker)) sessions count count' = count' ≡ raised count
+abbrev pub CountsRequest : Bool → Option Arrival → Network → EndpointView → ℕ → List Session → ℕ → ℕ → Type 0
+CountsRequest once None own e now sessions count count' = count' ≡ count
+CountsRequest once (Some (Cames.Heard id)) own e now sessions count count' = count' ≡ count
+CountsRequest once (Some (Cames.Accepted a)) own e now sessions count count' = CountsTurnedAway once own
+    a.from (without (place_of_own once own e now a.from sessions) sessions) count count'
+CountsRequest once (Some (Cames.NoRoom asker)) own e now sessions count count' = count' ≡ raised count
 
--- a connection that was heard from is evicted for what the core noted: a request that found no link
+-- a connection that was heard from is evicted for what the core noted: a request of a node that has too many,
+-- or one that found no link
 abbrev pub is_evicted_for : Bool → Option Arrival → Network → EndpointView → ℕ → List Session → Bool
 is_evicted_for once None own e now sessions = false
 is_evicted_for once (Some (Cames.Heard id)) own e now sessions = false
-is_evicted_for once (Some (Cames.Accepted a)) own e now sessions = false
+is_evicted_for once (Some (Cames.Accepted a)) own e now sessions =
+    is_some (place_of_own once own e now a.from sessions)
 is_evicted_for once (Some (Cames.NoRoom asker)) own e now sessions =
     is_silent_evicted once own e now asker sessions
 

@@ -1,10 +1,9 @@
 //! Who gets a slot among the connections of a host that listens, and which connection is evicted for a
 //! new request.
 
-ghost use Rattle.std.specs.Prelude.{◌≡◌, ◌↔◌, ◌<◌, ◌≤◌, true, count_by, is_some, length, map, position, slice_get, vec_capacity, IfSome, IsTrue};
+ghost use Rattle.std.specs.Prelude.{◌≡◌, ◌↔◌, ◌<◌, ◌≤◌, ◌&&◌, true, count_by, is_some, length, map, nat_lt, position, slice_get, vec_capacity, IfSome, IsTrue};
 ghost use Rattle.std.specs.List.{list_any};
-ghost use Rattle.ipx_host.specs.SessionActions.{is_unheard};
-ghost use Rattle.ipx_host.specs.Sessions.{Admits, Asks, IsAskedUnless, HasNoPlaceFor, IsOutOfMemory, KeepsHeard, LetsLinkGo, LetsLinksGo, MakesSpace, goes_before, has_more, heard_by, has_spoken, is_of_node, is_overdue, is_to_go, is_unheard_of, may_go, may_go_for, place_to_free, raised_if};
+ghost use Rattle.ipx_host.specs.Sessions.{Admits, Asks, Evicts, IsAskedUnless, HasNoPlaceFor, IsOutOfMemory, KeepsHeard, LetsLinkGo, LetsLinksGo, MakesSpace, goes_before, has_more, heard_by, has_spoken, is_first_own, is_of_node, is_overdue, is_own_silent, is_to_go, is_unheard_of, may_go, may_go_for, place_of_own, place_to_free, protects, raised_if};
 
 use crate::sessions::{Session, hear_one};
 use ipx_wire::{Address, Network};
@@ -124,11 +123,13 @@ pub fn place_of_overdue(sessions: &[Session], moment: u64) -> Option<usize>
         .position(|session| session.is_overdue(moment))
 }
 
-/// Whether a connection was not heard from.
-fn is_any_unheard(sessions: &[Session]) -> bool
-    ensures { result ≡ list_any (λ c. is_unheard c.phase) sessions.now }
+/// Whether a connection of the node of an address was not heard from.
+fn is_any_unheard_of(sessions: &[Session], own: Network, from: &Address) -> bool
+    ensures { result ≡ list_any (is_unheard_of own from.now) sessions.now }
 {
-    sessions.iter().any(|session| session.phase.is_unheard())
+    sessions
+        .iter()
+        .any(|session| session.is_unheard_of(own, from))
 }
 
 /// Whether a connection may be evicted: it is silent, and its peer has not ended. What a peer sent
@@ -146,8 +147,27 @@ fn has_more(sessions: &[Session], own: Network, from: &Address, other: &Address)
     count_of_node(sessions, own, from) > count_of_node(sessions, own, other)
 }
 
+/// Whether a connection keeps another from being evicted for a request from an address. It was not
+/// heard from yet, and is of the node that asks or of another node than that connection. So a flood
+/// of requests evicts one connection each second, and protects none of the node that sends it.
+fn protects(own: Network, asker: &Address, session: &Session, other: &Session) -> bool
+    ensures { result ≡ protects own asker.now session.now other.now }
+{
+    other.phase.is_unheard()
+        && (other.is_of_node(own, asker) || !other.is_of_node(own, &session.from))
+}
+
+/// Whether any connection does so.
+fn is_protected(own: Network, sessions: &[Session], asker: &Address, session: &Session) -> bool
+    ensures { result ≡ list_any (protects own asker.now session.now) sessions.now }
+{
+    sessions
+        .iter()
+        .any(|other| protects(own, asker, session, other))
+}
+
 /// Whether a connection may be evicted for a request from an address: it is of the node of that
-/// address, or its node has more connections than that node.
+/// address, or its node has more connections than that node, and it is not protected.
 fn may_go_for(
     own: Network,
     endpoint: &Endpoint,
@@ -160,6 +180,7 @@ fn may_go_for(
 {
     may_go(endpoint, session, moment)
         && (session.is_of_node(own, asker) || has_more(sessions, own, &session.from, asker))
+        && !is_protected(own, sessions, asker, session)
 }
 
 /// Whether a connection goes before another: it may be evicted for the request, and its node has
@@ -228,8 +249,8 @@ fn place_of_silent(
     sessions.iter().position(|session| is_to_go(own, endpoint, sessions, moment, asker, session))
 }
 
-/// The place of the connection that is evicted for a request: the first overdue one, or if each was
-/// heard from, and without `once`, a silent one of the node that asks or of a node that has more
+/// The place of the connection that is evicted for a request: the first overdue one, or if there is
+/// none, and without `once`, a silent one of the node that asks or of a node that has more
 /// connections.
 fn place_to_evict(
     once: bool,
@@ -242,8 +263,9 @@ fn place_to_evict(
     ensures place { result ≡ place_to_free once own endpoint.now moment asker.now sessions.now }
     ensures there { IfSome result (λ place. place < length sessions.now) }
 {
-    if once || is_any_unheard(sessions) {
-        place_of_overdue(sessions, moment)
+    let overdue = place_of_overdue(sessions, moment);
+    if once || overdue.is_some() {
+        overdue
     } else {
         place_of_silent(own, endpoint, sessions, moment, asker)
     }
@@ -262,6 +284,109 @@ fn place_in(
     ensures there { IfSome result (λ place. place < length sessions.now) }
 {
     place_to_evict(once, endpoint.network(), endpoint, sessions, moment, asker)
+}
+
+/// Whether a connection of the node of an address may be evicted.
+fn is_own_silent(
+    own: Network,
+    endpoint: &Endpoint,
+    moment: u64,
+    from: &Address,
+    session: &Session,
+) -> bool
+    ensures { result ≡ is_own_silent own endpoint.now moment from.now session.now }
+{
+    may_go(endpoint, session, moment) && session.is_of_node(own, from)
+}
+
+/// Whether another of them was silent for longer.
+fn is_any_own_before(
+    own: Network,
+    endpoint: &Endpoint,
+    sessions: &[Session],
+    moment: u64,
+    from: &Address,
+    session: &Session,
+) -> bool
+    ensures { result ≡ list_any (λ d. is_own_silent own endpoint.now moment from.now d
+        && nat_lt d.heard session.now.heard) sessions.now }
+{
+    sessions.iter().any(|other| {
+        is_own_silent(own, endpoint, moment, from, other) && other.heard < session.heard
+    })
+}
+
+/// Whether a connection is evicted for another one of its node: it may be, and none of them was
+/// silent for longer.
+fn is_first_own(
+    own: Network,
+    endpoint: &Endpoint,
+    sessions: &[Session],
+    moment: u64,
+    from: &Address,
+    session: &Session,
+) -> bool
+    ensures { result ≡ is_first_own own endpoint.now moment from.now sessions.now session.now }
+{
+    is_own_silent(own, endpoint, moment, from, session)
+        && !is_any_own_before(own, endpoint, sessions, moment, from, session)
+}
+
+/// The place of the connection that is evicted for another one of its own node: without `once`, if
+/// the node has 8, and each of these was heard from.
+fn place_of_own(
+    once: bool,
+    own: Network,
+    endpoint: &Endpoint,
+    sessions: &[Session],
+    moment: u64,
+    from: &Address,
+) -> Option<usize>
+    ensures place { result ≡ place_of_own once own endpoint.now moment from.now sessions.now }
+    ensures there { IfSome result (λ place. place < length sessions.now) }
+{
+    if once
+        || count_of_node(sessions, own, from) < MAX_OF_NODE
+        || is_any_unheard_of(sessions, own, from)
+    {
+        return None;
+    }
+    sessions.iter().position(|session| is_first_own(own, endpoint, sessions, moment, from, session))
+}
+
+/// The same for the network of the endpoint.
+fn place_of_own_in(
+    once: bool,
+    endpoint: &Endpoint,
+    sessions: &[Session],
+    moment: u64,
+    from: &Address,
+) -> Option<usize>
+    ensures place { result
+        ≡ place_of_own once endpoint.now.network endpoint.now moment from.now sessions.now }
+    ensures there { IfSome result (λ place. place < length sessions.now) }
+{
+    place_of_own(once, endpoint.network(), endpoint, sessions, moment, from)
+}
+
+/// Evicts the connection at a place, and releases its link. Returns the connection, if there is such
+/// a place.
+fn evict_at(
+    endpoint: &mut Endpoint,
+    sessions: &mut Vec<Session>,
+    place: Option<usize>,
+) -> Option<Session>
+    requires room { 16 ≤ vec_capacity sessions.old }
+    requires there { IfSome place (λ place. place < length sessions.old.items) }
+    ensures evicts { Evicts place endpoint.old endpoint.new sessions.old.items sessions.new.items }
+    ensures one { is_some result ≡ is_some place }
+    ensures gone { IfSome place (λ place. result ≡ slice_get sessions.old.items place) }
+    ensures network { endpoint.new.network ≡ endpoint.old.network }
+    ensures room { 16 ≤ vec_capacity sessions.new }
+{
+    let session = sessions.remove(place?);
+    let_link_go(endpoint, session.id);
+    Some(session)
 }
 
 /// Keeps the first connection that was heard alone, where one was: the others go, and their links.
@@ -317,10 +442,31 @@ pub fn make_space(
         (λ place. result ≡ slice_get sessions.old.items place) }
     ensures room { 16 ≤ vec_capacity sessions.new }
 {
-    let place = place_in(once, endpoint, sessions, moment, asker)?;
-    let session = sessions.remove(place);
-    let_link_go(endpoint, session.id);
-    Some(session)
+    let place = place_in(once, endpoint, sessions, moment, asker);
+    evict_at(endpoint, sessions, place)
+}
+
+/// Evicts a silent connection of the node of an address, if the node has 8 and asks for one more.
+/// Returns the connection, if there was one to evict.
+pub fn make_space_of_own(
+    once: bool,
+    endpoint: &mut Endpoint,
+    sessions: &mut Vec<Session>,
+    moment: u64,
+    from: &Address,
+) -> Option<Session>
+    requires { 16 ≤ vec_capacity sessions.old }
+    ensures evicts { Evicts (place_of_own once endpoint.old.network endpoint.old moment from.now
+        sessions.old.items) endpoint.old endpoint.new sessions.old.items sessions.new.items }
+    ensures one { is_some result ≡ is_some (place_of_own once endpoint.old.network endpoint.old
+        moment from.now sessions.old.items) }
+    ensures gone { IfSome (place_of_own once endpoint.old.network endpoint.old moment from.now
+        sessions.old.items) (λ place. result ≡ slice_get sessions.old.items place) }
+    ensures network { endpoint.new.network ≡ endpoint.old.network }
+    ensures room { 16 ≤ vec_capacity sessions.new }
+{
+    let place = place_of_own_in(once, endpoint, sessions, moment, from);
+    evict_at(endpoint, sessions, place)
 }
 
 /// A count, one higher where so it is.

@@ -4,7 +4,7 @@ ghost use Rattle.std.specs.Prelude.{◌≡◌, ◌<◌, ◌≤◌, [], ℕ, List
 ghost use Rattle.ipx_carrier.specs.Counting.{raised};
 ghost use Rattle.ipx_site.specs.Moments.{IsLoggedIfDue};
 ghost use Rattle.spx_messages.specs.EndpointView.{held_at};
-ghost use Rattle.ipx_host.specs.Sessions.{Admits, Asks, AsksOrCounts, CountsRequest, CountsTurnedAway, OnlyEnded, KeepsHeard, KeepsOne, LetsLinkGo, MakesSpace, NotesHeard, session_of, heard_by, is_evicted_for, is_overdue, is_silent_evicted, keeps_one_prop, raised_if};
+ghost use Rattle.ipx_host.specs.Sessions.{AdmitsRequest, Asks, AsksOrCounts, CountsRequest, CountsTurnedAway, OnlyEnded, KeepsHeard, KeepsOne, LetsLinkGo, MakesSpace, NotesHeard, session_of, heard_by, is_evicted_for, is_overdue, is_silent_evicted, keeps_one_prop, place_of_own, raised_if, without};
 ghost use Rattle.ipx_host.specs.SessionActions.{is_unheard};
 ghost use Rattle.ipx_host.specs.Hosting.{MovesSome, MovesUntilFull};
 ghost use Rattle.ipx_host.specs.ListenOutcomes.{parted, stop_in};
@@ -17,7 +17,8 @@ ghost use Rattle.ipx_host.specs.declared.sessions.Phase.TheVariants as Standings
 ghost use Rattle.ipx_host.specs.declared.listening.ListenOutcome.TheVariants as Stops;
 
 use crate::eviction::{
-    MAX_SESSIONS, ask, count_if, hear_session, hold, let_link_go, make_space, place_of_overdue,
+    MAX_SESSIONS, ask, count_if, hear_session, hold, let_link_go, make_space, make_space_of_own,
+    place_of_overdue,
 };
 use crate::idle::{action_in, first_to_tend};
 use crate::listening::ListenOutcome;
@@ -166,20 +167,29 @@ impl Sessions {
     }
 
     /// Holds a connection that was accepted at a moment if there is a free slot. Otherwise it is turned
-    /// away before it is answered.
-    fn admit(&mut self, endpoint: &mut Endpoint, accepted: Accepted, moment: u64)
-        ensures admits { Admits self.old.once (session_of accepted moment)
+    /// away before it is answered. If its node holds too many, a silent one of these is evicted first.
+    fn admit<R: Log>(&mut self, rt: &R, endpoint: &mut Endpoint, accepted: Accepted, moment: u64)
+        ensures admits { AdmitsRequest self.old.once moment accepted
             endpoint.old endpoint.new self.old.held.items self.new.held.items }
         // It is counted exactly if there is no slot for it.
         ensures counts { CountsTurnedAway self.old.once endpoint.old.network accepted.from
-            self.old.held.items self.old.turned_away self.new.turned_away }
-        ensures evicted { self.new.evicted ≡ self.old.evicted }
+            (without (place_of_own self.old.once endpoint.old.network endpoint.old moment accepted.from
+            self.old.held.items) self.old.held.items) self.old.turned_away self.new.turned_away }
+        ensures evicted { self.new.evicted ≡ raised_if (is_some (place_of_own self.old.once
+            endpoint.old.network endpoint.old moment accepted.from self.old.held.items))
+            self.old.evicted }
         ensures output { self.new.output ≡ self.old.output }
         ensures once { self.new.once ≡ self.old.once }
     {
+        let from = accepted.from;
+        let evicted = make_space_of_own(self.once, endpoint, &mut self.held, moment, &from);
+        self.evicted = count_if(evicted.is_some(), self.evicted);
+        if let Some(session) = evicted {
+            tell_parted(rt, &session, SessionAction::GivenUp);
+        }
         let session = Session {
             id: accepted.id,
-            from: accepted.from,
+            from,
             heard: moment,
             phase: Phase::New,
         };
@@ -231,15 +241,18 @@ impl Sessions {
         ensures evicted { self.new.evicted ≡ raised_if (is_evicted_for self.old.once core.old.came
             core.old.endpoint.network core.old.endpoint core.old.moment self.old.held.items)
             self.old.evicted }
-        ensures turned_away { CountsRequest self.old.once core.old.endpoint.network core.old.came
-            self.old.held.items self.old.turned_away self.new.turned_away }
+        ensures turned_away { CountsRequest self.old.once core.old.came core.old.endpoint.network
+            core.old.endpoint core.old.moment self.old.held.items
+            self.old.turned_away self.new.turned_away }
         ensures output { self.new.output ≡ self.old.output }
         ensures once { self.new.once ≡ self.old.once }
     {
         let moment = core.moment();
         match core.take_came() {
             Some(Arrival::Heard(id)) => self.hear_session(&mut core.endpoint, id, moment),
-            Some(Arrival::Accepted(accepted)) => self.admit(&mut core.endpoint, accepted, moment),
+            Some(Arrival::Accepted(accepted)) => {
+                self.admit(rt, &mut core.endpoint, accepted, moment);
+            }
             Some(Arrival::NoRoom(asker)) => {
                 self.make_space(rt, &mut core.endpoint, moment, &asker);
             }

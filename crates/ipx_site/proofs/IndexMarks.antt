@@ -1,8 +1,9 @@
 -- Asking a port at its index asks the port, and the ports of a file have distinct indices.
-use Rattle.std.proofs.Common.{◌≡◌, ◌∙◌, ◌+◌, ◌<◌, ◌≤◌, ◌==◌, ℕ, zero, suc, Bool, true, false, cond, List, [], ◌∷◌, ◌++◌, Option, Some, None, absurd, unwrap_or, is_some, ap, arith, eq-eqb, eqb-true, ne_eqb, tt, length, length-append, refl, slice_get, subst, sym, true≢false}
+use Rattle.std.proofs.Common.{get_or, Result, Ok, Err, ◌≡◌, ◌∙◌, ◌+◌, ◌<◌, ◌≤◌, ◌==◌, ℕ, zero, suc, Bool, true, false, cond, List, [], ◌∷◌, ◌++◌, Option, Some, None, unwrap_or, is_some, ap, arith, eq-eqb, eqb-true, ne_eqb, length, length-append, refl, slice_get, subst, sym, true≢false}
 use Rattle.std.proofs.lemmas.List.Sums.{sum_by-cons}
+use Rattle.std.proofs.lemmas.Option.{slice_get_read}
 use Rattle.std.proofs.lemmas.List.Concat.{flat_map-append}
-use Rattle.std.specs.Prelude.{⊥, IfSome, count_by}
+use Rattle.std.specs.Prelude.{IfOk, IfSome, MatchResult, OnErr, count_by}
 use Rattle.ipx_carrier.specs.Readiness.{AsksPortWithMark, MarksStay, Readiness}
 use Rattle.ipx_site.specs.declared.router_ports.PortIndex.{PortIndex}
 use Rattle.ipx_site.specs.declared.router_ports.PortIndex.TheVariants.{Datagrams, Ethernet, IpxnetServer}
@@ -19,32 +20,32 @@ same_self (IpxnetServer k) = eq-eqb k k refl
 
 module _ (f : PortIndex → Bool) where
   one_more : (x : PortIndex) (xs : List PortIndex) → f x ≡ true → count_by f (x ∷ xs) ≡ 1 + count_by f xs
-  one_more x xs yes = sum_by-cons (λ y. cond (f y) 1 0) x xs ∙ ap (λ b. cond b 1 0 + count_by f xs) yes
+  one_more x xs is = sum_by-cons (λ y. cond (f y) 1 0) x xs ∙ ap (λ b. cond b 1 0 + count_by f xs) is
 
   no_more : (x : PortIndex) (xs : List PortIndex) → f x ≡ false → count_by f (x ∷ xs) ≡ count_by f xs
-  no_more x xs no = sum_by-cons (λ y. cond (f y) 1 0) x xs ∙ ap (λ b. cond b 1 0 + count_by f xs) no
+  no_more x xs isnt = let none = ap (λ b. cond {A = ℕ} b 1 0) isnt in omega (arith, none, sum_by-cons (λ y. cond (f y) 1 0) x xs)
 
   no_fewer : (x : PortIndex) (xs : List PortIndex) → count_by f xs ≤ count_by f (x ∷ xs)
   no_fewer x xs = omega (arith, sum_by-cons (λ y. cond (f y) 1 0) x xs)
 
   found_one : (xs : List PortIndex) (q : ℕ) (j : PortIndex) → slice_get xs q ≡ Some j → f j ≡ true → 1 ≤ count_by f xs
-  found_one [] q j at yes = absurd (true≢false (ap is_some (sym at)))
-  found_one (x ∷ xs) zero j at yes = let e : x ≡ j = ap (λ (o : Option PortIndex). unwrap_or o x) at in omega (arith, one_more x xs (ap f e ∙ yes))
-  found_one (x ∷ xs) (suc q) j at yes = let before = found_one xs q j at yes in let more = no_fewer x xs in omega (arith, before, more)
+  found_one [] q j at is = absurd (true≢false (ap is_some (sym at)))
+  found_one (x ∷ xs) zero j at is = let e : x ≡ j = ap (λ (o : Option PortIndex). unwrap_or o x) at in omega (arith, one_more x xs (ap f e ∙ is))
+  found_one (x ∷ xs) (suc q) j at is = let before = found_one xs q j at is in let more = no_fewer x xs in omega (arith, before, more)
 
   -- two ports with such an index
   found_two : (xs : List PortIndex) (p q : ℕ) (i j : PortIndex) → slice_get xs p ≡ Some i → slice_get xs q ≡ Some j → f i ≡ true → f j ≡ true
       → (q ≡ p → ⊥) → 2 ≤ count_by f xs
-  found_two [] p q i j at there yes too other = absurd (true≢false (ap is_some (sym at)))
-  found_two (x ∷ xs) zero zero i j at there yes too other = absurd (other refl)
-  found_two (x ∷ xs) zero (suc q) i j at there yes too other =
+  found_two [] p q i j at there is too other = absurd (true≢false (ap is_some (sym at)))
+  found_two (x ∷ xs) zero zero i j at there is too other = absurd (other refl)
+  found_two (x ∷ xs) zero (suc q) i j at there is too other =
       let e : x ≡ i = ap (λ (o : Option PortIndex). unwrap_or o x) at in
-      let rest = found_one xs q j there too in omega (arith, rest, one_more x xs (ap f e ∙ yes))
-  found_two (x ∷ xs) (suc p) zero i j at there yes too other =
+      let rest = found_one xs q j there too in omega (arith, rest, one_more x xs (ap f e ∙ is))
+  found_two (x ∷ xs) (suc p) zero i j at there is too other =
       let e : x ≡ j = ap (λ (o : Option PortIndex). unwrap_or o x) there in
-      let rest = found_one xs p i at yes in omega (arith, rest, one_more x xs (ap f e ∙ too))
-  found_two (x ∷ xs) (suc p) (suc q) i j at there yes too other =
-      let rest = found_two xs p q i j at there yes too (λ e. other (ap suc e)) in let more = no_fewer x xs in omega (arith, rest, more)
+      let rest = found_one xs p i at is in omega (arith, rest, one_more x xs (ap f e ∙ too))
+  found_two (x ∷ xs) (suc p) (suc q) i j at there is too other =
+      let rest = found_two xs p q i j at there is too (λ e. other (ap suc e)) in let more = no_fewer x xs in omega (arith, rest, more)
 
 -- by whether a port alone has its index
 same_either : (b x y : Bool) → (b ≡ true → x ≡ y) → cond b x true ≡ cond b y true
@@ -63,15 +64,15 @@ module _ (m n : PortIndex → Bool) (xs : List PortIndex) (p : ℕ) (i : PortInd
     (frame : (j : PortIndex) → (j ≡ i → ⊥) → n j ≡ m j) (asked : n i ≡ true → m i ≡ true) (kept : came ≡ true → n i ≡ true) where
   other_port : (q : ℕ) → (q ≡ p → ⊥) → (o : Option PortIndex) → slice_get xs q ≡ o → mark_at_index n xs o ≡ mark_at_index m xs o
   other_port q other None there = refl
-  other_port q other (Some j) there = same_either (count_by (is_same_index j) xs == 1) (n j) (m j) (λ yes. frame j (λ same.
+  other_port q other (Some j) there = same_either (count_by (is_same_index j) xs == 1) (n j) (m j) (λ is. frame j (λ same.
       let two = found_two (is_same_index j) xs p q i j at there (subst (λ k. is_same_index j k ≡ true) same (same_self j)) (same_self j) other in
-      let one = eqb-true (count_by (is_same_index j) xs) 1 yes in omega (arith, two, one)))
+      let one = eqb-true (count_by (is_same_index j) xs) 1 is in omega (arith, two, one)))
 
   pub asks_index : AsksPortWithMark p came (λ q. mark_at_index m xs (slice_get xs q)) (λ q. mark_at_index n xs (slice_get xs q))
   asks_index = (
     (λ q other. other_port q other (slice_get xs q) refl),
     (λ h. subst (λ o. mark_at_index m xs o ≡ true) (sym at) (true_either (count_by (is_same_index i) xs == 1) (n i) (m i) asked (subst (λ o. mark_at_index n xs o ≡ true) at h))),
-    λ yes. subst (λ o. mark_at_index n xs o ≡ true) (sym at) (is_either (count_by (is_same_index i) xs == 1) (n i) (kept yes)),
+    λ is. subst (λ o. mark_at_index n xs o ≡ true) (sym at) (is_either (count_by (is_same_index i) xs == 1) (n i) (kept is)),
   )
 
 module _ (d w l e : Readiness) (k : ℕ) where
@@ -99,6 +100,30 @@ module _ (d w l e : Readiness) (k : ℕ) where
     pub asks_servers : slice_get xs p ≡ Some (IpxnetServer k) → AsksPortWithMark k came l e
         → AsksPortWithMark p came (marked_by_kind d w l xs) (marked_by_kind d w e xs)
     asks_servers at asks = asks_index (mark_of_kind d w l) (mark_of_kind d w e) xs p (IpxnetServer k) came at (frame_servers asks.0) asks.1 asks.2
+
+-- what is there at a port
+pub index_there : (xs : List PortIndex) (p : ℕ) (i j : PortIndex) → p < length xs → i ≡ get_or xs p i → i ≡ j → slice_get xs p ≡ Some j
+index_there xs p i j there is same = slice_get_read xs (length xs) p i refl there is ∙ ap Some same
+
+pub if_ok_only : {T E : Type 0} (P : T → Type 0) (r : Result T E) → IfOk r P → OnErr r ⊥ → MatchResult r P (λ _. ⊥)
+if_ok_only P (Ok t) h isnt = h
+if_ok_only P (Err e) h isnt = absurd isnt
+
+module _ {E : Type 0} (d w l e : Readiness) (k : ℕ) (xs : List PortIndex) (p : ℕ) where
+  pub hears_datagrams : (r : Result (Option ℕ) E) → slice_get xs p ≡ Some (Datagrams k) → IfOk r (λ c. AsksPortWithMark k (is_some c) d e)
+      → IfOk r (λ c. AsksPortWithMark p (is_some c) (marked_by_kind d w l xs) (marked_by_kind e w l xs))
+  hears_datagrams (Ok c) at h = asks_datagrams d w l e k xs p (is_some c) at h
+  hears_datagrams (Err x) at h = tt
+
+  pub hears_ethernet : (r : Result (Option ℕ) E) → slice_get xs p ≡ Some (Ethernet k) → IfOk r (λ c. AsksPortWithMark k (is_some c) w e)
+      → IfOk r (λ c. AsksPortWithMark p (is_some c) (marked_by_kind d w l xs) (marked_by_kind d e l xs))
+  hears_ethernet (Ok c) at h = asks_ethernet d w l e k xs p (is_some c) at h
+  hears_ethernet (Err x) at h = tt
+
+  pub hears_servers : (r : Result (Option ℕ) E) → slice_get xs p ≡ Some (IpxnetServer k) → IfOk r (λ c. AsksPortWithMark k (is_some c) l e)
+      → IfOk r (λ c. AsksPortWithMark p (is_some c) (marked_by_kind d w l xs) (marked_by_kind d w e xs))
+  hears_servers (Ok c) at h = asks_servers d w l e k xs p (is_some c) at h
+  hears_servers (Err x) at h = tt
 
 -- if the marks of each kind stay, those of the ports do
 module _ (d w l d' w' l' : Readiness) (xs : List PortIndex) (ds : MarksStay d d') (ws : MarksStay w w') (ls : MarksStay l l') where
@@ -159,10 +184,10 @@ not_below earlier (x ∷ ports) (suc n) i at =
 
 -- an index that is another's is that
 same_is : (i j : PortIndex) → is_same_index i j ≡ true → i ≡ j
-same_is (Datagrams k) (Datagrams n) yes = ap Datagrams (eqb-true k n yes)
-same_is (Ethernet k) (Ethernet n) yes = ap Ethernet (eqb-true k n yes)
-same_is (IpxnetServer k) (IpxnetServer n) yes = ap IpxnetServer (eqb-true k n yes)
-same_is i j yes = absurd (true≢false (sym yes))
+same_is (Datagrams k) (Datagrams n) is = ap Datagrams (eqb-true k n is)
+same_is (Ethernet k) (Ethernet n) is = ap Ethernet (eqb-true k n is)
+same_is (IpxnetServer k) (IpxnetServer n) is = ap IpxnetServer (eqb-true k n is)
+same_is i j is = absurd (true≢false (sym is))
 
 is_another : (earlier : List PortConfig) (x : PortConfig) (i : PortIndex) (b : Bool) → is_same_index i (port_index_after earlier x) ≡ b
     → counted_for (earlier ++ x ∷ []) i ≤ port_index_place i → b ≡ false
@@ -170,7 +195,7 @@ is_another earlier x i false e above = refl
 is_another earlier x i true e above =
     let below = own_counted earlier x in
     let there = subst (λ (j : PortIndex). counted_for (earlier ++ x ∷ []) j ≤ port_index_place j) (same_is i (port_index_after earlier x) e) above in
-    omega (arith, below, there)
+    absurd (omega (arith, below, there))
 
 found_alone : (earlier ports : List PortConfig) (n : ℕ) (i : PortIndex) → slice_get (port_indices_after earlier ports) n ≡ Some i → count_by (is_same_index i) (port_indices_after earlier ports) ≡ 1
 found_alone earlier [] n i at = absurd (true≢false (ap is_some (sym at)))

@@ -36,3 +36,4 @@ pub mod StationFaults
 pub mod ListedClients
 pub mod RanRounds
 pub mod TemporaryNames
+pub mod IndexMarks

@@ -46,3 +46,4 @@ pub mod ClientLog
 pub mod KnownFile
 pub mod ConfigFile
 pub mod RoutingRuns
+pub mod RouterMarks

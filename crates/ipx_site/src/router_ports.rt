@@ -1,6 +1,7 @@
 //! The ports of a running router, of all kinds.
 
-ghost use Rattle.std.specs.Prelude.{◌≡◌, ◌<◌, ◌≤◌, ◌+◌, ◌^◌, All, IfErr, IfOk, IfSome, None, OnErr, length, map, min, slice_get};
+ghost use Rattle.std.specs.Prelude.{◌≡◌, ◌<◌, ◌≤◌, ◌+◌, ◌^◌, All, IfErr, IfOk, IfSome, None, OnErr, is_some, length, map, min, slice_get};
+ghost use Rattle.ipx_carrier.specs.Readiness.{AsksPortWithMark, MarksStay};
 ghost use Rattle.ipx_carrier.specs.RunFaultNumbers.{device_failures};
 ghost use Rattle.ipx_carrier.specs.PortDrivers.{SendsFrontOf, copies_count, count_in};
 ghost use Rattle.ipx_carrier.specs.Turns.{copies_of, peers_of};
@@ -219,6 +220,11 @@ impl<D: Datagrams + Drop, E: EndSockets + Drop, L: PlaceSockets + Drop> PortDriv
             ≤ D.filtered self.new.datagrams.device
             + (self.new.ethernet.kept + E.filtered self.new.ethernet.sockets)
             + (self.new.servers.kept + L.filtered self.new.servers.sockets) }
+        ensures marks { MarksStay (marked_by_kind (D.marked self.old.datagrams.device)
+            (E.marked self.old.ethernet.sockets) (L.marked self.old.servers.sockets)
+            self.old.port_indices.items) (marked_by_kind (D.marked self.new.datagrams.device)
+            (E.marked self.new.ethernet.sockets) (L.marked self.new.servers.sockets)
+            self.new.port_indices.items) }
     {
         match self.port_indices[port] {
             PortIndex::Datagrams(place) => self.datagrams.send(place, node, packet),
@@ -264,6 +270,17 @@ impl<D: Datagrams + Drop, E: EndSockets + Drop, L: PlaceSockets + Drop> PortDriv
             ≤ D.filtered self.new.datagrams.device
             + (self.new.ethernet.kept + E.filtered self.new.ethernet.sockets)
             + (self.new.servers.kept + L.filtered self.new.servers.sockets) }
+        ensures marks { IfOk result (λ count. AsksPortWithMark port (is_some count)
+            (marked_by_kind (D.marked self.old.datagrams.device)
+            (E.marked self.old.ethernet.sockets) (L.marked self.old.servers.sockets)
+            self.old.port_indices.items) (marked_by_kind (D.marked self.new.datagrams.device)
+            (E.marked self.new.ethernet.sockets) (L.marked self.new.servers.sockets)
+            self.new.port_indices.items)) }
+        ensures marks_stay { OnErr result (MarksStay (marked_by_kind (D.marked self.old.datagrams.device)
+            (E.marked self.old.ethernet.sockets) (L.marked self.old.servers.sockets)
+            self.old.port_indices.items) (marked_by_kind (D.marked self.new.datagrams.device)
+            (E.marked self.new.ethernet.sockets) (L.marked self.new.servers.sockets)
+            self.new.port_indices.items)) }
     {
         match self.port_indices[port] {
             PortIndex::Datagrams(place) => self.datagrams.receive(place, room),

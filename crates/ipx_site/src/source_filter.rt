@@ -1,9 +1,10 @@
 //! A device that receives from its peers only, and sends to them only.
 
-ghost use Rattle.std.specs.Prelude.{◌≡◌, ◌<◌, ◌≤◌, ◌+◌, ◌^◌, [], ◌∷◌, ℕ, true, false, Ok, Option, Some, OnErr, OnOk, IfOk, IfSome, is_err, length, map, replicate, slice_get, if◌then◌else◌};
+ghost use Rattle.std.specs.Prelude.{◌≡◌, ◌<◌, ◌≤◌, ◌+◌, ◌^◌, [], ◌∷◌, ℕ, true, false, Ok, Option, Some, OnErr, OnOk, IfOk, IfSome, is_err, is_some, length, map, replicate, slice_get, if◌then◌else◌};
 ghost use Rattle.ipx_wire.specs.Ipx.{packet_view};
 ghost use Rattle.ipx_carrier.specs.Device.{Passes, received_in};
 ghost use Rattle.ipx_carrier.specs.Counting.{raised};
+ghost use Rattle.ipx_carrier.specs.Readiness.{AsksPortWithMark, MarksStay};
 ghost use Rattle.ipx_carrier.specs.RunFaultNumbers.{device_failures};
 ghost use Rattle.ipx_carrier.specs.Waits.{LeavesPort};
 ghost use Rattle.ipx_site.specs.PortFilterDrops.{CountsUnknownSenderAt, drops_changed_at, nothing_at_port, one_refused};
@@ -311,6 +312,7 @@ impl<D: Senders + Drop> Datagrams for SourceFilter<D> {
         ensures failures { D.failed self.new.device
             ≡ device_failures result (D.failed self.old.device) }
         ensures ports { D.port_count self.new.device ≡ D.port_count self.old.device }
+        ensures marks { MarksStay (D.marked self.old.device) (D.marked self.new.device) }
     {
         if !self.may_go(port, to) {
             saturating_increment(&mut self.refused);
@@ -346,6 +348,10 @@ impl<D: Senders + Drop> Datagrams for SourceFilter<D> {
         ensures failures { D.failed self.new.device
             ≡ device_failures result (D.failed self.old.device) }
         ensures ports { D.port_count self.new.device ≡ D.port_count self.old.device }
+        ensures marks { IfOk result (λ up. AsksPortWithMark port (is_some up)
+            (D.marked self.old.device) (D.marked self.new.device)) }
+        ensures marks_stay { OnErr result
+            (MarksStay (D.marked self.old.device) (D.marked self.new.device)) }
     {
         let Some(count) = self.device.receive(port, room)? else {
             return Ok(None);

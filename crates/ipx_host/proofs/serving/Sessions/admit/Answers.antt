@@ -1,6 +1,7 @@
 use Rattle.std.proofs.Common.{refl}
 use Rattle.ipx_host.specs.HostOutput.{left_of}
-use Rattle.ipx_host.proofs.Holding.{keeps_admitted}
+use Rattle.ipx_host.proofs.Holding.{are_without, keeps_admitted, keeps_own}
+use Rattle.ipx_host.specs.Sessions.{HasNoPlaceFor, place_of_own}
 use Rattle.ipx_host.proofs.serving.Sessions.admit.Goals as goal
 
 pub invariant_of-self : goal.invariant_of-self

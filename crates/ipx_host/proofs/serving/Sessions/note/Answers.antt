@@ -1,5 +1,5 @@
 use Rattle.std.proofs.Common.{◌∙◌, Some, ap, refl}
-use Rattle.ipx_host.proofs.Coming.{counted_accepted, noted_accepted}
+use Rattle.ipx_host.proofs.Coming.{counted_accepted, evicted_accepted, noted_accepted}
 use Rattle.ipx_host.proofs.serving.Sessions.note.Goals as goal
 
 pub returns-in-Some-Accepted-clause-notes : goal.returns-in-Some-Accepted-clause-notes
@@ -13,5 +13,11 @@ returns-in-Some-Accepted-clause-notes g c =
 pub returns-in-Some-Accepted-clause-turned_away : goal.returns-in-Some-Accepted-clause-turned_away
 returns-in-Some-Accepted-clause-turned_away g c =
     let old = c.args.self.now in
-    counted_accepted old.once c.in-Some-Accepted.accepted c.take_came.result c.args.core.now c.take_came.new.self old.held.items old.turned_away c.admit.new.self.turned_away
-    c.take_came.ensures.told (c.in-Some-Accepted.is ∙ ap Some c.in-Some-Accepted.field-0-is) c.take_came.ensures.once c.admit.ensures.counts
+    counted_accepted old.once c.in-Some-Accepted.accepted c.take_came.result c.moment-moment.result c.args.core.now c.take_came.new.self old.held.items old.turned_away c.admit.new.self.turned_away
+    c.take_came.ensures.told (c.in-Some-Accepted.is ∙ ap Some c.in-Some-Accepted.field-0-is) c.moment-moment.ensures c.take_came.ensures.once c.admit.ensures.counts
+
+pub returns-in-Some-Accepted-clause-evicted : goal.returns-in-Some-Accepted-clause-evicted
+returns-in-Some-Accepted-clause-evicted g c =
+    let old = c.args.self.now in
+    evicted_accepted old.once c.in-Some-Accepted.accepted c.take_came.result c.moment-moment.result c.args.core.now c.take_came.new.self old.held.items old.evicted c.admit.new.self.evicted
+    c.take_came.ensures.told (c.in-Some-Accepted.is ∙ ap Some c.in-Some-Accepted.field-0-is) c.moment-moment.ensures c.take_came.ensures.once c.admit.ensures.evicted
