@@ -20,12 +20,12 @@ returns-in-Ethernet-clause-received g c =
     let new = c.receive-in-Ethernet.new.self in
     let there = index_there self.port_indices.items c.args.port c.index.result.now (Ethernet c.in-Ethernet.place) c.requires.there c.index.ensures c.in-Ethernet.is in
     subst (λ (o : Option PortIndex). ReceivesByKind o (length c.args.room.now) c.receive-in-Ethernet.new.room c.receive-in-Ethernet.result
-        (g.E.EndSockets.ends_of self.ethernet.sockets) self.ethernet.moment self.servers.moment
-        (g.D.Datagrams.traffic self.datagrams.device) (g.D.Datagrams.traffic self.datagrams.device)
-        (ethernet_ports_view self.ethernet.switches.items self.ethernet.kept (g.E.EndSockets.traffic self.ethernet.sockets) (g.E.EndSockets.failed self.ethernet.sockets))
-        (ethernet_ports_view new.switches.items new.kept (g.E.EndSockets.traffic new.sockets) (g.E.EndSockets.failed new.sockets))
-        (servers_view self.servers.servers.items self.servers.kept (g.L.PlaceSockets.traffic self.servers.sockets) (g.L.PlaceSockets.failed self.servers.sockets))
-        (servers_view self.servers.servers.items self.servers.kept (g.L.PlaceSockets.traffic self.servers.sockets) (g.L.PlaceSockets.failed self.servers.sockets)))
+    (g.E.EndSockets.ends_of self.ethernet.sockets) self.ethernet.moment self.servers.moment
+    (g.D.Datagrams.traffic self.datagrams.device) (g.D.Datagrams.traffic self.datagrams.device)
+    (ethernet_ports_view self.ethernet.switches.items self.ethernet.kept (g.E.EndSockets.traffic self.ethernet.sockets) (g.E.EndSockets.failed self.ethernet.sockets))
+    (ethernet_ports_view new.switches.items new.kept (g.E.EndSockets.traffic new.sockets) (g.E.EndSockets.failed new.sockets))
+    (servers_view self.servers.servers.items self.servers.kept (g.L.PlaceSockets.traffic self.servers.sockets) (g.L.PlaceSockets.failed self.servers.sockets))
+    (servers_view self.servers.servers.items self.servers.kept (g.L.PlaceSockets.traffic self.servers.sockets) (g.L.PlaceSockets.failed self.servers.sockets)))
     (sym there) (if_ok_only _ c.receive-in-Ethernet.result c.receive-in-Ethernet.ensures.received c.receive-in-Ethernet.ensures.goes_on, refl, refl)
 
 pub returns-in-Ethernet-clause-marks : goal.returns-in-Ethernet-clause-marks
@@ -41,12 +41,12 @@ returns-in-IpxnetServer-clause-received g c =
     let new = c.receive-in-IpxnetServer.new.self in
     let there = index_there self.port_indices.items c.args.port c.index.result.now (IpxnetServer c.in-IpxnetServer.place) c.requires.there c.index.ensures c.in-IpxnetServer.is in
     subst (λ (o : Option PortIndex). ReceivesByKind o (length c.args.room.now) c.receive-in-IpxnetServer.new.room c.receive-in-IpxnetServer.result
-        (g.E.EndSockets.ends_of self.ethernet.sockets) self.ethernet.moment self.servers.moment
-        (g.D.Datagrams.traffic self.datagrams.device) (g.D.Datagrams.traffic self.datagrams.device)
-        (ethernet_ports_view self.ethernet.switches.items self.ethernet.kept (g.E.EndSockets.traffic self.ethernet.sockets) (g.E.EndSockets.failed self.ethernet.sockets))
-        (ethernet_ports_view self.ethernet.switches.items self.ethernet.kept (g.E.EndSockets.traffic self.ethernet.sockets) (g.E.EndSockets.failed self.ethernet.sockets))
-        (servers_view self.servers.servers.items self.servers.kept (g.L.PlaceSockets.traffic self.servers.sockets) (g.L.PlaceSockets.failed self.servers.sockets))
-        (servers_view new.servers.items new.kept (g.L.PlaceSockets.traffic new.sockets) (g.L.PlaceSockets.failed new.sockets)))
+    (g.E.EndSockets.ends_of self.ethernet.sockets) self.ethernet.moment self.servers.moment
+    (g.D.Datagrams.traffic self.datagrams.device) (g.D.Datagrams.traffic self.datagrams.device)
+    (ethernet_ports_view self.ethernet.switches.items self.ethernet.kept (g.E.EndSockets.traffic self.ethernet.sockets) (g.E.EndSockets.failed self.ethernet.sockets))
+    (ethernet_ports_view self.ethernet.switches.items self.ethernet.kept (g.E.EndSockets.traffic self.ethernet.sockets) (g.E.EndSockets.failed self.ethernet.sockets))
+    (servers_view self.servers.servers.items self.servers.kept (g.L.PlaceSockets.traffic self.servers.sockets) (g.L.PlaceSockets.failed self.servers.sockets))
+    (servers_view new.servers.items new.kept (g.L.PlaceSockets.traffic new.sockets) (g.L.PlaceSockets.failed new.sockets)))
     (sym there) (if_ok_only _ c.receive-in-IpxnetServer.result c.receive-in-IpxnetServer.ensures.received c.receive-in-IpxnetServer.ensures.goes_on, refl, refl)
 
 pub returns-in-IpxnetServer-clause-marks : goal.returns-in-IpxnetServer-clause-marks
