@@ -15,7 +15,7 @@ use Rattle.spx_messages.specs.declared.fault.EndFault.{EndFault}
 use Rattle.ipx_host.specs.Hosting.{HearsOneOut, Host, IsOneIfHeard, MovesSome, NotesIf, Serves, StepView, Steps, StepsWithoutStop, WritesAndPasses, end_of, takes_of}
 use Rattle.ipx_host.specs.Passing.{PassesEach, PassesFrom, Take, TakesWhileOpen, held_after, phase_after, phase_with, takes_after, takes_each, takes_from}
 use Rattle.ipx_host.specs.SessionActions.{ends, is_unheard, phase_heard}
-use Rattle.ipx_host.specs.Sessions.{Admits, Asks as IsAsked, DoesNoted, LetsLinkGo, LetsLinksGo, has_spoken, heard_by, is_ended, is_overdue, place_to_free, once_heard, session_of}
+use Rattle.ipx_host.specs.Sessions.{Admits, Asks as IsAsked, DoesNoted, Evicts, has_spoken, heard_by, is_at_limit, is_ended, is_of_node, is_overdue, LetsLinkGo, LetsLinksGo, once_heard, place_of_own, place_to_free, session_of}
 use Rattle.ipx_host.specs.Tending.{DoesAction, TendsFirst, TendsOn}
 use Rattle.ipx_host.specs.declared.listening.ListenOutcome.{ListenOutcome}
 use Rattle.ipx_host.specs.declared.listening.ListenOutcome.TheVariants as Stops
@@ -91,6 +91,10 @@ admits_none : (id : ℕ) (from : Address) (c k : Session) (e e' : EndpointView) 
 admits_none id from c k e e' ts is (inl p) = absurd (p.0 (inl (refl, or_left (has_spoken c) (list_any has_spoken []) is.2)))
 admits_none id from c k e e' ts is (inr p) = p.1
 
+both_left : (a b : Bool) → (a && b) ≡ true → a ≡ true
+both_left true b h = refl
+both_left false b h = h
+
 not_overdue : (u v : Bool) → not u ≡ true → (u && v) ≡ true → ⊥
 not_overdue true v e o = absurd (cc)
 not_overdue false v e o = absurd (cc)
@@ -103,6 +107,24 @@ no_room_by now id from asker c e e' ts (Some zero) one is d =
     absurd (not_overdue (is_unheard c.phase) (nat_le 1000 (now - c.heard)) one.2 (position-Some (is_overdue now) (c ∷ []) 0 c is).1)
 no_room_by now id from asker c e e' ts (Some (suc n)) one is d = absurd (omega (arith, (position-Some (is_overdue now) (c ∷ []) (suc n) c is).0))
 
+own_at : (now : ℕ) (asker : Address) (c : Session) (e : EndpointView) (k id : ℕ) (from : Address) → Is id from c → k < 1
+    → (is_overdue now (get_or (c ∷ []) k c) && is_of_node e.network asker (get_or (c ∷ []) k c)) ≡ true → ⊥
+own_at now asker c e zero id from one within is =
+    not_overdue (is_unheard c.phase) (nat_le 1000 (now - c.heard)) one.2 (both_left (is_overdue now c) (is_of_node e.network asker c) is)
+own_at now asker c e (suc k) id from one within is = omega (arith, within)
+
+only_if : (b : Bool) (o : Option ℕ) (k : ℕ) → (if not b then None else o) ≡ Some k → o ≡ Some k
+only_if true o k h = h
+only_if false o k h = absurd (cc)
+
+own_by : (now id : ℕ) (from asker : Address) (c : Session) (e mid : EndpointView) (ts : List Session) (found : Option ℕ) → Is id from c → place_of_own true e.network e now asker (c ∷ []) ≡ found
+    → Evicts found e mid (c ∷ []) ts → ts ≡ c ∷ []
+own_by now id from asker c e mid ts None one is d = d.0
+own_by now id from asker c e mid ts (Some k) one is d =
+    let own : Session → Bool = λ k. is_overdue now k && is_of_node e.network asker k in
+    let at = position-Some own (c ∷ []) k c (only_if (is_at_limit e.network asker (c ∷ [])) (position own (c ∷ [])) k is) in
+    absurd (own_at now asker c e k id from one at.0 at.1)
+
 noted_alone : (came : Option Arrival) (now id : ℕ) (from : Address) (e e' : EndpointView) (c : Session) (ts : List Session) → Is id from c
     → DoesNoted true came now e e' (c ∷ []) ts → Goes id from (is_ended c) ts
 noted_alone None now id from e e' c ts is d = (c, d.0, is, refl)
@@ -110,7 +132,8 @@ noted_alone (Some (Cames.Heard i)) now id from e e' c ts is d =
     let so = once_or_not (c.id == i) now id from c is in
     (heard_by i now c, kept_alone (heard_by i now c) ts e e' (position has_spoken (heard_by i now c ∷ [])) refl d, so.0, so.1)
 noted_alone (Some (Cames.Accepted a)) now id from e e' c ts is (mid, between, evicts, admits) =
-    (c, admits_none id from c (session_of a now) mid e' ts is (subst (λ (l : List Session). Admits true (session_of a now) mid e' l ts) evicts.0 admits), is, refl)
+    let same = own_by now id from a.from c e mid between (place_of_own true e.network e now a.from (c ∷ [])) is refl evicts in
+    (c, admits_none id from c (session_of a now) mid e' ts is (subst (λ (l : List Session). Admits true (session_of a now) mid e' l ts) same admits), is, refl)
 noted_alone (Some (Cames.NoRoom asker)) now id from e e' c ts is d =
     (c, no_room_by now id from asker c e e' ts (place_to_free true e.network e now asker (c ∷ [])) is refl d, is, refl)
 
@@ -161,7 +184,7 @@ noted_none (Some (Cames.Heard i)) now e e' cs ts none d =
     let unended = none_by (list_any is_ended there) (list_any is_ended cs) (any_heard_by i now cs) (none_ended cs none) in
     found_none there ts e e' (position has_spoken there) refl unended d
 noted_none (Some (Cames.Accepted a)) now e e' cs ts none (mid, between, evicts, admits) =
-    inl (admits_unheard (session_of a now) mid e' cs ts refl none (subst (λ (l : List Session). Admits true (session_of a now) mid e' l ts) evicts.0 admits))
+    inl (admits_unheard (session_of a now) mid e' between ts refl (room_unheard now e mid cs between (place_of_own true e.network e now a.from cs) none evicts) admits)
 noted_none (Some (Cames.NoRoom asker)) now e e' cs ts none d = inl (room_unheard now e e' cs ts (place_to_free true e.network e now asker cs) none d)
 
 heard_none : (b : Bool) (old new : PacedHostCore) (cs ts : List Session) → list_any has_spoken cs ≡ false → NotesIf b true old new cs ts → NoneOrOne ts

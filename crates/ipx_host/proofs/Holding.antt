@@ -15,7 +15,7 @@ use Rattle.spx_messages.specs.Taking.{TakenView, Nothing, Part, PeerEnd, Whole, 
 use Rattle.spx_messages.specs.declared.fault.EndFault.{EndFault}
 use Rattle.ipx_wire.specs.declared.address.Address.{Address}
 use Rattle.ipx_wire.specs.declared.address.Network.{Network}
-use Rattle.ipx_host.specs.Sessions.{Admits, Asks as IsAsked, Evicts, KeepsHeard, KeepsOne, LetsLinkGo, LetsLinksGo, MakesSpace, OnlyEnded, has_spoken, heard_by, is_ended, is_overdue, is_to_go, once_heard, place_of_own, place_to_free, without}
+use Rattle.ipx_host.specs.Sessions.{Admits, Asks as IsAsked, Evicts, has_spoken, heard_by, is_at_limit, is_ended, is_of_node, is_overdue, is_to_go, KeepsHeard, KeepsOne, LetsLinkGo, LetsLinksGo, MakesSpace, once_heard, OnlyEnded, place_of_own, place_of_own_overdue, place_to_free, without}
 use Rattle.ipx_host.specs.HostOutput.{Writes}
 use Rattle.ipx_host.specs.Tending.{DoesAction, IsActionFor, JustStays, Tends}
 use Rattle.ipx_host.specs.declared.paced_host_core.PacedHostCore.{PacedHostCore}
@@ -511,11 +511,25 @@ keeps_admitted once cs cs' left c old new called (inl p) keeps =
     (keeps_push once cs left c (λ is. elim (either (list_any has_spoken cs)) [ inl some ↦ absurd (p.0 (inl (is, some))) | inr none ↦ none ]) called keeps)
 keeps_admitted once cs cs' left c old new called (inr p) keeps = subst (λ (l : List Session). KeepsOne once l left) (sym p.1) keeps
 
--- one that is evicted of its own node goes only without `once`
+-- of its own node an overdue one is evicted
+own_within : (b : Bool) (now : ℕ) (own : Network) (from : Address) (cs : List Session) (place : ℕ) (d : Session)
+    → (if not b then None else place_of_own_overdue own now from cs) ≡ Some place → place < length cs
+own_within true now own from cs place d is = (position-Some (λ (c : Session). is_overdue now c && is_of_node own from c) cs place d is).0
+own_within false now own from cs place d is = absurd (cc)
+
+own_kept : (now : ℕ) (from : Address) (cs cs' : List Session) (left : List ℕ) (old new : EndpointView) (found : Option ℕ) → place_of_own true old.network old now from cs ≡ found
+    → Evicts found old new cs cs' → KeepsOne true cs left → KeepsOne true cs' left
+own_kept now from cs cs' left old new None is evicts keeps = subst (λ (l : List Session). KeepsOne true l left) (sym evicts.0) keeps
+own_kept now from [] cs' left old new (Some place) is evicts keeps =
+    absurd (omega (arith, own_within (is_at_limit old.network from []) now old.network from [] place (record { id = 0; from = from; heard = 0; phase = Standings.New }) is))
+own_kept now from (d ∷ ds) cs' left old new (Some place) is evicts keeps =
+    subst (λ (l : List Session). KeepsOne true l left) (sym evicts.0)
+    (keeps_removed true (d ∷ ds) left place (own_within (is_at_limit old.network from (d ∷ ds)) now old.network from (d ∷ ds) place d is) keeps)
+
 pub keeps_own : (once : Bool) (now : ℕ) (from : Address) (cs cs' : List Session) (left : List ℕ) (old new : EndpointView)
     → Evicts (place_of_own once old.network old now from cs) old new cs cs' → KeepsOne once cs left → KeepsOne once cs' left
 keeps_own false now from cs cs' left old new evicts keeps = keeps
-keeps_own true now from cs cs' left old new evicts keeps = subst (λ (l : List Session). KeepsOne true l left) (sym evicts.0) keeps
+keeps_own true now from cs cs' left old new evicts keeps = own_kept now from cs cs' left old new (place_of_own true old.network old now from cs) refl evicts keeps
 
 -- and the rest is there without it
 pub are_without : (found : Option ℕ) (old new : EndpointView) (cs cs' : List Session) → Evicts found old new cs cs' → cs' ≡ without found cs

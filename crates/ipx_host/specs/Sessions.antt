@@ -160,13 +160,25 @@ abbrev pub is_first_own : Network → EndpointView → ℕ → Address → List 
 is_first_own own e now from sessions c = is_own_silent own e now from c
     && not (list_any (λ d. is_own_silent own e now from d && nat_lt d.heard c.heard) sessions)
 
--- the connection that is evicted for another one of its own node: without `once`, if the node has 8, and each
--- was heard from
+-- the node of an address has 8 connections, or 4 that were not heard from
+abbrev pub is_at_limit : Network → Address → List Session → Bool
+is_at_limit own from sessions = nat_le 8 (count_by (is_of_node own from) sessions)
+    || nat_le 4 (count_by (is_unheard_of own from) sessions)
+
+-- the first overdue connection of that node
+abbrev pub place_of_own_overdue : Network → ℕ → Address → List Session → Option ℕ
+place_of_own_overdue own now from sessions =
+    position (λ c. is_overdue now c && is_of_node own from c) sessions
+
+-- the connection that is evicted for another one of its own node, if the node has as many as it may have: the
+-- first overdue one, or if each was heard from, and without `once`, a silent one
 abbrev pub place_of_own : Bool → Network → EndpointView → ℕ → Address → List Session → Option ℕ
 place_of_own once own e now from sessions =
-    if once || nat_lt (count_by (is_of_node own from) sessions) 8
-    || list_any (is_unheard_of own from) sessions then None
-    else position (is_first_own own e now from sessions) sessions
+    let overdue = place_of_own_overdue own now from sessions in
+    if not (is_at_limit own from sessions) then None
+    else (if once || is_some overdue then overdue
+    else (if list_any (is_unheard_of own from) sessions then None
+    else position (is_first_own own e now from sessions) sessions))
 
 -- the connection at a place is evicted and its link released, if there is such a place
 abbrev pub Evicts : Option ℕ → EndpointView → EndpointView → List Session → List Session → Type 0
@@ -200,6 +212,11 @@ abbrev pub is_silent_evicted : Bool → Network → EndpointView → ℕ → Add
 is_silent_evicted once own e now asker sessions = is_some (place_to_free once own e now asker sessions)
     && not (is_some (position (is_overdue now) sessions))
 
+-- the same for one of its own node
+abbrev pub is_own_evicted : Bool → Network → EndpointView → ℕ → Address → List Session → Bool
+is_own_evicted once own e now from sessions = is_some (place_of_own once own e now from sessions)
+    && not (is_some (place_of_own_overdue own now from sessions))
+
 -- a request is counted exactly if there is no slot for its connection
 abbrev pub CountsTurnedAway : Bool → Network → Address → List Session → ℕ → ℕ → Type 0
 CountsTurnedAway once own from sessions count count' = (is : Bool)
@@ -229,7 +246,7 @@ abbrev pub is_evicted_for : Bool → Option Arrival → Network → EndpointView
 is_evicted_for once None own e now sessions = false
 is_evicted_for once (Some (Cames.Heard id)) own e now sessions = false
 is_evicted_for once (Some (Cames.Accepted a)) own e now sessions =
-    is_some (place_of_own once own e now a.from sessions)
+    is_own_evicted once own e now a.from sessions
 is_evicted_for once (Some (Cames.NoRoom asker)) own e now sessions =
     is_silent_evicted once own e now asker sessions
 

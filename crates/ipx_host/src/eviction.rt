@@ -3,7 +3,7 @@
 
 ghost use Rattle.std.specs.Prelude.{◌≡◌, ◌↔◌, ◌<◌, ◌≤◌, ◌&&◌, true, count_by, is_some, length, map, nat_lt, position, slice_get, vec_capacity, IfSome, IsTrue};
 ghost use Rattle.std.specs.List.{list_any};
-ghost use Rattle.ipx_host.specs.Sessions.{Admits, Asks, Evicts, IsAskedUnless, HasNoPlaceFor, IsOutOfMemory, KeepsHeard, LetsLinkGo, LetsLinksGo, MakesSpace, goes_before, has_more, heard_by, has_spoken, is_first_own, is_of_node, is_overdue, is_own_silent, is_to_go, is_unheard_of, may_go, may_go_for, place_of_own, place_to_free, protects, raised_if};
+ghost use Rattle.ipx_host.specs.Sessions.{Admits, Asks, Evicts, IsAskedUnless, HasNoPlaceFor, IsOutOfMemory, KeepsHeard, LetsLinkGo, LetsLinksGo, MakesSpace, goes_before, has_more, heard_by, has_spoken, is_at_limit, is_first_own, is_of_node, is_overdue, is_own_silent, is_to_go, is_unheard_of, may_go, may_go_for, place_of_own, place_of_own_overdue, place_to_free, protects, raised_if};
 
 use crate::sessions::{Session, hear_one};
 use ipx_wire::{Address, Network};
@@ -332,8 +332,42 @@ fn is_first_own(
         && !is_any_own_before(own, endpoint, sessions, moment, from, session)
 }
 
-/// The place of the connection that is evicted for another one of its own node: without `once`, if
-/// the node has 8, and each of these was heard from.
+/// Whether the node of an address has 8 connections, or 4 that were not heard from.
+fn is_at_limit(sessions: &[Session], own: Network, from: &Address) -> bool
+    ensures { result ≡ is_at_limit own from.now sessions.now }
+{
+    count_of_node(sessions, own, from) >= MAX_OF_NODE
+        || count_unheard_of(sessions, own, from) >= MAX_UNHEARD
+}
+
+/// The place of the first overdue connection of the node of an address, for a host of a network.
+fn place_of_own_overdue_on(
+    own: Network,
+    sessions: &[Session],
+    moment: u64,
+    from: &Address,
+) -> Option<usize>
+    ensures place { result ≡ place_of_own_overdue own moment from.now sessions.now }
+    ensures there { IfSome result (λ place. place < length sessions.now) }
+{
+    sessions.iter().position(|session| session.is_overdue(moment) && session.is_of_node(own, from))
+}
+
+/// The same for the host of an endpoint.
+pub fn place_of_own_overdue(
+    endpoint: &Endpoint,
+    sessions: &[Session],
+    moment: u64,
+    from: &Address,
+) -> Option<usize>
+    ensures { result ≡ place_of_own_overdue endpoint.now.network moment from.now sessions.now }
+{
+    place_of_own_overdue_on(endpoint.network(), sessions, moment, from)
+}
+
+/// The place of the connection that is evicted for another one of its own node, if the node has as
+/// many as it may have: the first overdue one, or if each was heard from, and without `once`, a
+/// silent one.
 fn place_of_own(
     once: bool,
     own: Network,
@@ -345,10 +379,14 @@ fn place_of_own(
     ensures place { result ≡ place_of_own once own endpoint.now moment from.now sessions.now }
     ensures there { IfSome result (λ place. place < length sessions.now) }
 {
-    if once
-        || count_of_node(sessions, own, from) < MAX_OF_NODE
-        || is_any_unheard_of(sessions, own, from)
-    {
+    if !is_at_limit(sessions, own, from) {
+        return None;
+    }
+    let overdue = place_of_own_overdue_on(own, sessions, moment, from);
+    if once || overdue.is_some() {
+        return overdue;
+    }
+    if is_any_unheard_of(sessions, own, from) {
         return None;
     }
     sessions.iter().position(|session| is_first_own(own, endpoint, sessions, moment, from, session))
@@ -446,8 +484,8 @@ pub fn make_space(
     evict_at(endpoint, sessions, place)
 }
 
-/// Evicts a silent connection of the node of an address, if the node has 8 and asks for one more.
-/// Returns the connection, if there was one to evict.
+/// Evicts a connection of the node of an address, if the node has as many as it may have and asks
+/// for one more. Returns the connection, if there was one to evict.
 pub fn make_space_of_own(
     once: bool,
     endpoint: &mut Endpoint,

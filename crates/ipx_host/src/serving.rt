@@ -4,7 +4,7 @@ ghost use Rattle.std.specs.Prelude.{◌≡◌, ◌<◌, ◌≤◌, [], ℕ, List
 ghost use Rattle.ipx_carrier.specs.Counting.{raised};
 ghost use Rattle.ipx_site.specs.Moments.{IsLoggedIfDue};
 ghost use Rattle.spx_messages.specs.EndpointView.{held_at};
-ghost use Rattle.ipx_host.specs.Sessions.{AdmitsRequest, Asks, AsksOrCounts, CountsRequest, CountsTurnedAway, OnlyEnded, KeepsHeard, KeepsOne, LetsLinkGo, MakesSpace, NotesHeard, session_of, heard_by, is_evicted_for, is_overdue, is_silent_evicted, keeps_one_prop, place_of_own, raised_if, without};
+ghost use Rattle.ipx_host.specs.Sessions.{AdmitsRequest, Asks, AsksOrCounts, CountsRequest, CountsTurnedAway, OnlyEnded, KeepsHeard, KeepsOne, LetsLinkGo, MakesSpace, NotesHeard, session_of, heard_by, is_evicted_for, is_overdue, is_own_evicted, is_silent_evicted, keeps_one_prop, place_of_own, raised_if, without};
 ghost use Rattle.ipx_host.specs.SessionActions.{is_unheard};
 ghost use Rattle.ipx_host.specs.Hosting.{MovesSome, MovesUntilFull};
 ghost use Rattle.ipx_host.specs.ListenOutcomes.{parted, stop_in};
@@ -18,7 +18,7 @@ ghost use Rattle.ipx_host.specs.declared.listening.ListenOutcome.TheVariants as 
 
 use crate::eviction::{
     MAX_SESSIONS, ask, count_if, hear_session, hold, let_link_go, make_space, make_space_of_own,
-    place_of_overdue,
+    place_of_overdue, place_of_own_overdue,
 };
 use crate::idle::{action_in, first_to_tend};
 use crate::listening::ListenOutcome;
@@ -167,7 +167,8 @@ impl Sessions {
     }
 
     /// Holds a connection that was accepted at a moment if there is a free slot. Otherwise it is turned
-    /// away before it is answered. If its node holds too many, a silent one of these is evicted first.
+    /// away before it is answered. If its node holds as many as it may
+    /// hold, an overdue or silent one of these is evicted first.
     fn admit<R: Log>(&mut self, rt: &R, endpoint: &mut Endpoint, accepted: Accepted, moment: u64)
         ensures admits { AdmitsRequest self.old.once moment accepted
             endpoint.old endpoint.new self.old.held.items self.new.held.items }
@@ -175,15 +176,17 @@ impl Sessions {
         ensures counts { CountsTurnedAway self.old.once endpoint.old.network accepted.from
             (without (place_of_own self.old.once endpoint.old.network endpoint.old moment accepted.from
             self.old.held.items) self.old.held.items) self.old.turned_away self.new.turned_away }
-        ensures evicted { self.new.evicted ≡ raised_if (is_some (place_of_own self.old.once
-            endpoint.old.network endpoint.old moment accepted.from self.old.held.items))
+        ensures evicted { self.new.evicted ≡ raised_if (is_own_evicted self.old.once
+            endpoint.old.network endpoint.old moment accepted.from self.old.held.items)
             self.old.evicted }
         ensures output { self.new.output ≡ self.old.output }
         ensures once { self.new.once ≡ self.old.once }
     {
         let from = accepted.from;
+        let is_overdue = place_of_own_overdue(endpoint, &self.held, moment, &from).is_some();
         let evicted = make_space_of_own(self.once, endpoint, &mut self.held, moment, &from);
-        self.evicted = count_if(evicted.is_some(), self.evicted);
+        self.never_heard = count_if(evicted.is_some() && is_overdue, self.never_heard);
+        self.evicted = count_if(evicted.is_some() && !is_overdue, self.evicted);
         if let Some(session) = evicted {
             tell_parted(rt, &session, SessionAction::GivenUp);
         }
