@@ -15,6 +15,8 @@ mod hosts;
 #[cfg(test)]
 mod mapping;
 #[cfg(test)]
+mod port_driver;
+#[cfg(test)]
 mod port_marks;
 #[cfg(test)]
 mod queues;
@@ -24,8 +26,6 @@ mod refused;
 mod refused_calls;
 #[cfg(test)]
 mod refused_turns;
-#[cfg(test)]
-mod port_driver;
 #[cfg(test)]
 mod turns;
 #[cfg(test)]

@@ -3,7 +3,7 @@
 use crate::fixture::{one_peer_each, text_of, two_ports};
 use crate::turns::are_first;
 use ipx_carrier::{
-    Rfc1234Ports, Datagrams, DeviceFault, MemoryDatagrams, PacketSent, PortDriver, SteppedClock,
+    Datagrams, DeviceFault, MemoryDatagrams, PacketSent, PortDriver, Rfc1234Ports, SteppedClock,
     run_over_ports,
 };
 use ipx_wire::Node;
