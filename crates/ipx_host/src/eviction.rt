@@ -63,6 +63,14 @@ fn count_unheard_of(sessions: &[Session], own: Network, from: &Address) -> usize
         .count()
 }
 
+/// Whether the node of an address has 8 connections, or 4 that were not heard from.
+fn is_at_limit(sessions: &[Session], own: Network, from: &Address) -> bool
+    ensures { result ≡ is_at_limit own from.now sessions.now }
+{
+    count_of_node(sessions, own, from) >= MAX_OF_NODE
+        || count_unheard_of(sessions, own, from) >= MAX_UNHEARD
+}
+
 /// Whether a host of a network has no slot for a connection from an address: with `once` if one was
 /// heard from; if 16 are held, or 8 of its node, or 4 of its node that were not heard from.
 fn is_full_on(own: Network, once: bool, sessions: &[Session], from: &Address) -> bool
@@ -71,9 +79,7 @@ fn is_full_on(own: Network, once: bool, sessions: &[Session], from: &Address) ->
     if once && is_any_heard(sessions) {
         return true;
     }
-    sessions.len() >= MAX_SESSIONS
-        || count_of_node(sessions, own, from) >= MAX_OF_NODE
-        || count_unheard_of(sessions, own, from) >= MAX_UNHEARD
+    sessions.len() >= MAX_SESSIONS || is_at_limit(sessions, own, from)
 }
 
 /// The same for the host of an endpoint.
@@ -332,14 +338,6 @@ fn is_first_own(
         && !is_any_own_before(own, endpoint, sessions, moment, from, session)
 }
 
-/// Whether the node of an address has 8 connections, or 4 that were not heard from.
-fn is_at_limit(sessions: &[Session], own: Network, from: &Address) -> bool
-    ensures { result ≡ is_at_limit own from.now sessions.now }
-{
-    count_of_node(sessions, own, from) >= MAX_OF_NODE
-        || count_unheard_of(sessions, own, from) >= MAX_UNHEARD
-}
-
 /// The place of the first overdue connection of the node of an address, for a host of a network.
 fn place_of_own_overdue_on(
     own: Network,
@@ -382,9 +380,9 @@ fn place_of_own(
     if !is_at_limit(sessions, own, from) {
         return None;
     }
-    let overdue = place_of_own_overdue_on(own, sessions, moment, from);
-    if once || overdue.is_some() {
-        return overdue;
+    let own_overdue = place_of_own_overdue_on(own, sessions, moment, from);
+    if once || own_overdue.is_some() {
+        return own_overdue;
     }
     if is_any_unheard_of(sessions, own, from) {
         return None;

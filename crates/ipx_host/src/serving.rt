@@ -183,10 +183,10 @@ impl Sessions {
         ensures once { self.new.once ≡ self.old.once }
     {
         let from = accepted.from;
-        let is_overdue = place_of_own_overdue(endpoint, &self.held, moment, &from).is_some();
+        let was_overdue = place_of_own_overdue(endpoint, &self.held, moment, &from).is_some();
         let evicted = make_space_of_own(self.once, endpoint, &mut self.held, moment, &from);
-        self.never_heard = count_if(evicted.is_some() && is_overdue, self.never_heard);
-        self.evicted = count_if(evicted.is_some() && !is_overdue, self.evicted);
+        self.never_heard = count_if(evicted.is_some() && was_overdue, self.never_heard);
+        self.evicted = count_if(evicted.is_some() && !was_overdue, self.evicted);
         if let Some(session) = evicted {
             tell_parted(rt, &session, SessionAction::GivenUp);
         }
