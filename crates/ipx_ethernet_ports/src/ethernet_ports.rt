@@ -130,7 +130,7 @@ impl<D: EndSockets + Drop> EthernetPorts<D> {
 }
 
 impl EthernetPorts<EthernetSockets> {
-    /// Marks a port: something came to its socket, as for `EthernetSockets::mark`.
+    /// Marks a port: something came to its socket, as for `EthernetSockets::set_ready`.
     pub fn set_ready(&mut self, port: usize)
         ensures { self.new ≡ record self.old {
           sockets = record self.old.sockets {

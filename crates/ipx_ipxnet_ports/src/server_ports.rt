@@ -144,7 +144,7 @@ impl<D: PlaceSockets + Drop> Servers<D> {
 }
 
 impl Servers<ServerSockets> {
-    /// Marks a port: something came to its socket, as for `ServerSockets::mark`.
+    /// Marks a port: something came to its socket, as for `ServerSockets::set_ready`.
     pub fn set_ready(&mut self, port: usize)
         ensures { self.new ≡ record self.old {
           sockets = record self.old.sockets {
