@@ -363,6 +363,22 @@ pub fn place_of_own_overdue(
     place_of_own_overdue_on(endpoint.network(), sessions, moment, from)
 }
 
+/// The place of the connection of the node of an address that is silent for longest, if one may be
+/// evicted.
+fn place_of_own_silent(
+    own: Network,
+    endpoint: &Endpoint,
+    sessions: &[Session],
+    moment: u64,
+    from: &Address,
+) -> Option<usize>
+    ensures place { result
+        ≡ position (is_first_own own endpoint.now moment from.now sessions.now) sessions.now }
+    ensures there { IfSome result (λ place. place < length sessions.now) }
+{
+    sessions.iter().position(|session| is_first_own(own, endpoint, sessions, moment, from, session))
+}
+
 /// The place of the connection that is evicted for another one of its own node, if the node has as
 /// many as it may have: the first overdue one, or if each was heard from, and without `once`, a
 /// silent one.
@@ -387,7 +403,7 @@ fn place_of_own(
     if is_any_unheard_of(sessions, own, from) {
         return None;
     }
-    sessions.iter().position(|session| is_first_own(own, endpoint, sessions, moment, from, session))
+    place_of_own_silent(own, endpoint, sessions, moment, from)
 }
 
 /// The same for the network of the endpoint.

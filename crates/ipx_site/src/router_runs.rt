@@ -24,9 +24,9 @@ impl<'a, R: SystemClock> RunningRouter<'a, R> {
     }
 }
 
-/// Runs a started router until a wait fails, and returns the exit status: 1 then, and 0 after 2^64
-/// - 1 rounds. One line on standard error, which begins with the path of the router's file, says
-/// why.
+/// Runs a started router until a wait fails, and returns the exit status: 1 then, and 0 after
+/// 2^64 - 1 rounds. One line on standard error, which begins with the path of the router's file,
+/// says why.
 pub fn run_router<R: Log + Files + SystemClock + Eprint>(
     rt: &R,
     alloc: Global,
