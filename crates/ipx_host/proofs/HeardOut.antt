@@ -113,7 +113,7 @@ own_at now asker c e zero id from one within is =
     not_overdue (is_unheard c.phase) (nat_le 1000 (now - c.heard)) one.2 (both_left (is_overdue now c) (is_of_node e.network asker c) is)
 own_at now asker c e (suc k) id from one within is = omega (arith, within)
 
-only_if : (b : Bool) (o : Option ℕ) (k : ℕ) → (if not b then None else o) ≡ Some k → o ≡ Some k
+only_if : (b : Bool) (o : Option ℕ) (k : ℕ) → cond (not b) None o ≡ Some k → o ≡ Some k
 only_if true o k h = h
 only_if false o k h = absurd (cc)
 
