@@ -29,6 +29,9 @@ module _ {C : Type 0} (hears : C → ℕ → List ℕ → ℕ → C → Type 0) 
       let goal : TokenBucketsView → Type 0 = λ t. back_at old.buckets.queriers who ≤ max (back_at t.queriers who) now in
       let same : goal old.buckets = omega arith in
       let buckets : RateLimiterView C → TokenBucketsView = λ v. v.buckets in
+      let queriers : RateLimiterView C → List Asking = λ v. v.buckets.queriers in
+      let asking : List Asking → Type 0 = λ xs. back_at old.buckets.queriers who ≤ max (back_at xs who) now in
+      let others = λ (is : new.buckets.queriers ≡ old.buckets.queriers). subst asking (sym is) same in
       elim h [
         | inl q ↦ elim q [
           | inl x ↦
@@ -38,14 +41,16 @@ module _ {C : Type 0} (hears : C → ℕ → List ℕ → ℕ → C → Type 0) 
         ]
         | inr y ↦ elim y [
           | inl d ↦ elim d [
-            | inl x ↦
-                let queriers : RateLimiterView C → List Asking = λ v. v.buckets.queriers in
-                let asking : List Asking → Type 0 = λ xs. back_at old.buckets.queriers who ≤ max (back_at xs who) now in
-                let is : new.buckets.queriers ≡ old.buckets.queriers = ap queriers x.1.3 in
-                subst asking (sym is) same
-            | inr x ↦ let is : new.buckets ≡ old.buckets = ap buckets x.3 in subst goal (sym is) same
+            | inl x ↦ others (ap queriers x.1.3)
+            | inr x ↦ others (ap queriers x.3)
           ]
-          | inr x ↦ let is : new.buckets ≡ old.buckets = ap buckets x.3 in subst goal (sym is) same
+          | inr z ↦ elim z [
+            | inl d ↦ elim d [
+              | inl x ↦ others (ap queriers x.1.3)
+              | inr x ↦ others (ap queriers x.3)
+            ]
+            | inr x ↦ others (ap queriers x.4)
+          ]
         ]
       ]
 

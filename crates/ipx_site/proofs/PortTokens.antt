@@ -1,16 +1,16 @@
--- How the bucket of a port, for general queries or for directed broadcasts, changes as a core with limits
--- hears.
+-- How a bucket of a port, for general queries, nearest queries or directed broadcasts, changes as a core with
+-- limits hears.
 use Rattle.std.proofs.Common.{◌≡◌, ◌≤◌, inl, inr, ◌∙◌, ℕ, zero, suc, ◌+◌, ◌*◌, true, List, [], ◌∷◌, Option, Some, get_or, slice_set, max, sym, ap, refl, subst, arith}
 use Rattle.std.proofs.lemmas.Option.{same_Some}
 use Rattle.std.specs.Option.{option_map}
 use Rattle.ipx_site.specs.declared.port_buckets.PortBuckets.{PortBuckets}
 use Rattle.ipx_site.specs.declared.querier.Querier.{Querier}
 use Rattle.ipx_site.specs.declared.token_bucket.TokenBucket.{TokenBucket}
-use Rattle.ipx_site.specs.PortBuckets.{at_port, directed_has, directed_taken, is_free, no_tokens, query_has, query_taken}
+use Rattle.ipx_site.specs.PortBuckets.{at_port, directed_has, directed_taken, is_free, nearest_has, nearest_taken, no_tokens, query_has, query_taken}
 use Rattle.ipx_site.specs.TokenBucket.{bucket_has, bucket_taken}
 use Rattle.ipx_site.specs.TokenBuckets.{TokenBucketsView}
 use Rattle.ipx_site.specs.RateLimiter.{HearsRateLimited, RateLimiterView}
-use Rattle.ipx_site.specs.QueryRate.{AreSuch, Coming, Course, IsHeardAt, IsToLeaveBy, most_in}
+use Rattle.ipx_site.specs.QueryRate.{AreSuch, Coming, Course, IsHeardAt, IsNearestHeardAt, IsToLeaveBy, most_in}
 use Rattle.ipx_site.proofs.PortRates.{Later, has, seldom}
 
 -- what holds for an element still holds after an element is replaced, if it holds for the new one
@@ -49,6 +49,7 @@ module _ (pick : PortBuckets → Option TokenBucket) (port : ℕ) where
 
   module _ {C : Type 0} (hears : C → ℕ → List ℕ → ℕ → C → Type 0)
       (query : (bucket : TokenBucket) (now : ℕ) (p : PortBuckets) → pick p ≡ Some bucket → Keeps bucket now (query_taken now p))
+      (nearest : (bucket : TokenBucket) (now : ℕ) (p : PortBuckets) → pick p ≡ Some bucket → Keeps bucket now (nearest_taken now p))
       (directed : (bucket : TokenBucket) (now : ℕ) (p : PortBuckets) → pick p ≡ Some bucket → Keeps bucket now (directed_taken now p)) where
     step : (old : RateLimiterView C) (at : ℕ) (bytes : List ℕ) (now : ℕ) (new : RateLimiterView C) → HearsRateLimited hears old at bytes now new
         → (bucket : TokenBucket) → of old.buckets ≡ Some bucket → (later : TokenBucket) × (of new.buckets ≡ Some later) × Later bucket later now
@@ -62,11 +63,17 @@ module _ (pick : PortBuckets → Option TokenBucket) (port : ℕ) where
             | inr x ↦ subst goal (sym (ap ports x.3)) stays
           ]
           | inr y ↦ elim y [
-            | inl d ↦ elim d [
-              | inl x ↦ subst goal (sym (ap ports x.1.3)) (changed bucket now (directed_taken now) (directed bucket now) old.buckets.ports x.0.leaves_by is)
+            | inl q ↦ elim q [
+              | inl x ↦ subst goal (sym (ap ports x.1.3)) (changed bucket now (nearest_taken now) (nearest bucket now) old.buckets.ports x.0.port is)
               | inr x ↦ subst goal (sym (ap ports x.3)) stays
             ]
-            | inr x ↦ subst goal (sym (ap ports x.3)) stays
+            | inr z ↦ elim z [
+              | inl d ↦ elim d [
+                | inl x ↦ subst goal (sym (ap ports x.1.3)) (changed bucket now (directed_taken now) (directed bucket now) old.buckets.ports x.0.leaves_by is)
+                | inr x ↦ subst goal (sym (ap ports x.3)) stays
+              ]
+              | inr x ↦ subst goal (sym (ap ports x.4)) stays
+            ]
           ]
         ]
 
@@ -74,12 +81,18 @@ module _ (pick : PortBuckets → Option TokenBucket) (port : ℕ) where
 no_query : (now : ℕ) → query_has no_tokens now ≡ true → ⊥
 no_query now h = let le : max 0 (0 * now) + 1000 ≤ 0 * now + 1000 * 0 = has 0 0 (0 * now) h in absurd (omega arith)
 
+no_nearest : (now : ℕ) → nearest_has no_tokens now ≡ true → ⊥
+no_nearest now h = let le : max 0 (0 * now) + 1000 ≤ 0 * now + 1000 * 0 = has 0 0 (0 * now) h in absurd (omega arith)
+
 no_directed : (now : ℕ) → directed_has no_tokens now ≡ true → ⊥
 no_directed now h = let le : max 0 (0 * now) + 1000 ≤ 0 * now + 1000 * 0 = has 0 0 (0 * now) h in absurd (omega arith)
 
 module _ {C : Type 0} (hears : C → ℕ → List ℕ → ℕ → C → Type 0) (port a b : ℕ) where
   abbrev queries_of : PortBuckets → Option TokenBucket
   queries_of p = Some p.queries
+
+  abbrev nearest_of : PortBuckets → Option TokenBucket
+  nearest_of p = Some p.nearest
 
   abbrev directed_of : PortBuckets → Option TokenBucket
   directed_of p = p.directed
@@ -102,6 +115,24 @@ module _ {C : Type 0} (hears : C → ℕ → List ℕ → ℕ → C → Type 0) 
       let after : c.after.buckets.ports ≡ slice_set ports who.port (query_taken c.now (at_port ports who.port)) = ap (λ (v : RateLimiterView C). v.buckets.ports) heard.3 in
       (first, last, has, subst (λ (ps : List PortBuckets). P (at_port ps port)) (sym after) at_who)
 
+  take_nearest : (c : Coming C) → IsNearestHeardAt hears port a b c → (bucket : TokenBucket) → of nearest_of port c.before.buckets ≡ Some bucket
+      → (a ≤ c.now) × (c.now ≤ b) × (bucket_has bucket c.now ≡ true) × (of nearest_of port c.after.buckets ≡ Some (bucket_taken bucket c.now))
+  take_nearest c (first, last, here, (who, heard)) bucket is =
+      let ports = c.before.buckets.ports in
+      let asks : who.port ≡ port = ap (λ (w : Querier). w.port) heard.0.2.3 ∙ here in
+      let token : nearest_has (at_port ports port) c.now ≡ true = subst (λ (k : ℕ). nearest_has (at_port ports k) c.now ≡ true) asks heard.1 in
+      let bucket_is : (at_port ports port).nearest ≡ bucket = same_Some (at_port ports port).nearest bucket is in
+      let has : bucket_has bucket c.now ≡ true = subst (λ (it : TokenBucket). bucket_has it c.now ≡ true) bucket_is token in
+      let there : at_port ports port ≡ no_tokens → ⊥ = λ e. no_nearest c.now (subst (λ (p : PortBuckets). nearest_has p c.now ≡ true) e token) in
+      let new = nearest_taken c.now (at_port ports port) in
+      let P : PortBuckets → Type 0 = λ p. nearest_of p ≡ Some (bucket_taken bucket c.now) in
+      let now_taken : P new = ap (λ (it : TokenBucket). Some (bucket_taken it c.now)) bucket_is in
+      let set : P (at_port (slice_set ports port new) port) = set_there P ports port new no_tokens there now_taken in
+      let at_who : P (at_port (slice_set ports who.port (nearest_taken c.now (at_port ports who.port))) port) =
+      subst (λ (k : ℕ). P (at_port (slice_set ports k (nearest_taken c.now (at_port ports k))) port)) (sym asks) set in
+      let after : c.after.buckets.ports ≡ slice_set ports who.port (nearest_taken c.now (at_port ports who.port)) = ap (λ (v : RateLimiterView C). v.buckets.ports) heard.3 in
+      (first, last, has, subst (λ (ps : List PortBuckets). P (at_port ps port)) (sym after) at_who)
+
   take_directed : (c : Coming C) → IsToLeaveBy hears port a b c → (bucket : TokenBucket) → of directed_of port c.before.buckets ≡ Some bucket
       → (a ≤ c.now) × (c.now ≤ b) × (bucket_has bucket c.now ≡ true) × (of directed_of port c.after.buckets ≡ Some (bucket_taken bucket c.now))
   take_directed c (first, last, (it, leaves, heard)) bucket is =
@@ -118,22 +149,34 @@ module _ {C : Type 0} (hears : C → ℕ → List ℕ → ℕ → C → Type 0) 
       let after : c.after.buckets.ports ≡ slice_set ports it.leaves_by (directed_taken c.now (at_port ports it.leaves_by)) = ap (λ (v : RateLimiterView C). v.buckets.ports) heard.3 in
       (first, last, has, subst (λ (ps : List PortBuckets). P (at_port ps port)) (sym after) at_it)
 
-  -- a query takes no token of a directed broadcast, and the other way round
+  -- what takes a token of one bucket of a port takes none of its others
   pub queries_seldom : (from n : ℕ) (old : RateLimiterView C) (course : List (Coming C)) → Course hears from old course
       → AreSuch (IsHeardAt hears port a b) course n → n ≤ most_in (at_port old.buckets.ports port).queries.limit a b
   queries_seldom from n old course runs are =
       let query = λ (bucket : TokenBucket) (now : ℕ) (p : PortBuckets) (is : queries_of p ≡ Some bucket).
       taken queries_of port bucket now (query_taken now p) (ap (λ (it : TokenBucket). Some (bucket_taken it now)) (same_Some p.queries bucket is)) in
+      let nearest = λ (bucket : TokenBucket) (now : ℕ) (p : PortBuckets) (is : queries_of p ≡ Some bucket). same queries_of port bucket now (nearest_taken now p) is in
       let directed = λ (bucket : TokenBucket) (now : ℕ) (p : PortBuckets) (is : queries_of p ≡ Some bucket). same queries_of port bucket now (directed_taken now p) is in
-      seldom hears (of queries_of port) (IsHeardAt hears port a b) a b (step queries_of port hears query directed) take_query
+      seldom hears (of queries_of port) (IsHeardAt hears port a b) a b (step queries_of port hears query nearest directed) take_query
       from n old course (at_port old.buckets.ports port).queries refl runs are
+
+  pub nearest_seldom : (from n : ℕ) (old : RateLimiterView C) (course : List (Coming C)) → Course hears from old course
+      → AreSuch (IsNearestHeardAt hears port a b) course n → n ≤ most_in (at_port old.buckets.ports port).nearest.limit a b
+  nearest_seldom from n old course runs are =
+      let query = λ (bucket : TokenBucket) (now : ℕ) (p : PortBuckets) (is : nearest_of p ≡ Some bucket). same nearest_of port bucket now (query_taken now p) is in
+      let nearest = λ (bucket : TokenBucket) (now : ℕ) (p : PortBuckets) (is : nearest_of p ≡ Some bucket).
+      taken nearest_of port bucket now (nearest_taken now p) (ap (λ (it : TokenBucket). Some (bucket_taken it now)) (same_Some p.nearest bucket is)) in
+      let directed = λ (bucket : TokenBucket) (now : ℕ) (p : PortBuckets) (is : nearest_of p ≡ Some bucket). same nearest_of port bucket now (directed_taken now p) is in
+      seldom hears (of nearest_of port) (IsNearestHeardAt hears port a b) a b (step nearest_of port hears query nearest directed) take_nearest
+      from n old course (at_port old.buckets.ports port).nearest refl runs are
 
   pub directed_seldom : (from n : ℕ) (old : RateLimiterView C) (course : List (Coming C)) (bucket : TokenBucket)
       → (at_port old.buckets.ports port).directed ≡ Some bucket → Course hears from old course
       → AreSuch (IsToLeaveBy hears port a b) course n → n ≤ most_in bucket.limit a b
   directed_seldom from n old course bucket is runs are =
       let query = λ (bucket : TokenBucket) (now : ℕ) (p : PortBuckets) (is : directed_of p ≡ Some bucket). same directed_of port bucket now (query_taken now p) is in
+      let nearest = λ (bucket : TokenBucket) (now : ℕ) (p : PortBuckets) (is : directed_of p ≡ Some bucket). same directed_of port bucket now (nearest_taken now p) is in
       let directed = λ (bucket : TokenBucket) (now : ℕ) (p : PortBuckets) (is : directed_of p ≡ Some bucket).
       taken directed_of port bucket now (directed_taken now p) (ap (λ (found : Option TokenBucket). option_map (λ k. bucket_taken k now) found) is) in
-      seldom hears (of directed_of port) (IsToLeaveBy hears port a b) a b (step directed_of port hears query directed) take_directed
+      seldom hears (of directed_of port) (IsToLeaveBy hears port a b) a b (step directed_of port hears query nearest directed) take_directed
       from n old course bucket is runs are

@@ -23,7 +23,9 @@ comes_below apart now port bytes old new (inl (inl x)) = inl (apart now (Comes p
 comes_below apart now port bytes old new (inl (inr x)) = inr (port, bytes, refl, ap (λ (v : RateLimiterView (WithStaticsView CountedView)). v.core) x.3)
 comes_below apart now port bytes old new (inr (inl (inl x))) = inl (apart now (Comes port bytes) old.core new.core x.1.2)
 comes_below apart now port bytes old new (inr (inl (inr x))) = inr (port, bytes, refl, ap (λ (v : RateLimiterView (WithStaticsView CountedView)). v.core) x.3)
-comes_below apart now port bytes old new (inr (inr x)) = inl (apart now (Comes port bytes) old.core new.core x.2)
+comes_below apart now port bytes old new (inr (inr (inl (inl x)))) = inl (apart now (Comes port bytes) old.core new.core x.1.2)
+comes_below apart now port bytes old new (inr (inr (inl (inr x)))) = inr (port, bytes, refl, ap (λ (v : RateLimiterView (WithStaticsView CountedView)). v.core) x.3)
+comes_below apart now port bytes old new (inr (inr (inr x))) = inl (apart now (Comes port bytes) old.core new.core x.3)
 
 -- what fails a source check is dropped
 heard_below : StaticsAreCountedSeparately → (now port : ℕ) (bytes : List ℕ) (old new : SiteCore) → SiteHears old port bytes now new → DoesBelow now (Comes port bytes) old.core.core new.core.core

@@ -1,5 +1,5 @@
--- The token buckets of a router's ports: for the general queries that come by a port, and for the directed
--- broadcasts that leave by it. Defined by this project.
+-- The token buckets of a router's ports: for the general and the nearest queries that come by a port, and for
+-- the directed broadcasts that leave by it. Defined by this project.
 use Rattle.std.specs.Prelude.{ℕ, List, Bool, true, false, Option, Some, None, slice_index_or, slice_set}
 use Rattle.std.specs.Option.{option_map}
 use Rattle.ipx_site.specs.declared.port_buckets.PortBuckets.{PortBuckets}
@@ -13,8 +13,12 @@ never = record { burst = 0; per_second = 0 }
 
 -- the buckets of a port; without any token if there is no such port
 abbrev pub no_tokens : PortBuckets
-no_tokens =
-    record { queries = full_bucket never; directed = Some (full_bucket never); groups = false }
+no_tokens = record {
+  queries = full_bucket never;
+  nearest = full_bucket never;
+  directed = Some (full_bucket never);
+  groups = false;
+}
 
 abbrev pub at_port : List PortBuckets → ℕ → PortBuckets
 at_port ports port = slice_index_or ports port no_tokens
@@ -25,6 +29,13 @@ query_has p now = bucket_has p.queries now
 
 abbrev pub query_taken : ℕ → PortBuckets → PortBuckets
 query_taken now p = record p { queries = bucket_taken p.queries now }
+
+-- there is a token for a nearest query
+abbrev pub nearest_has : PortBuckets → ℕ → Bool
+nearest_has p now = bucket_has p.nearest now
+
+abbrev pub nearest_taken : ℕ → PortBuckets → PortBuckets
+nearest_taken now p = record p { nearest = bucket_taken p.nearest now }
 
 -- there is a token for a directed broadcast, or none is needed
 abbrev pub is_free : Option TokenBucket → ℕ → Bool
@@ -44,6 +55,9 @@ has_groups ports port = (at_port ports port).groups
 -- a token was taken at this port, and at no other
 abbrev pub with_query_taken : List PortBuckets → ℕ → ℕ → List PortBuckets
 with_query_taken ports port now = slice_set ports port (query_taken now (at_port ports port))
+
+abbrev pub with_nearest_taken : List PortBuckets → ℕ → ℕ → List PortBuckets
+with_nearest_taken ports port now = slice_set ports port (nearest_taken now (at_port ports port))
 
 abbrev pub with_directed_taken : List PortBuckets → ℕ → ℕ → List PortBuckets
 with_directed_taken ports port now = slice_set ports port (directed_taken now (at_port ports port))

@@ -12,15 +12,24 @@ use Rattle.ipx_site.specs.PortBuckets.{never}
 use Rattle.ipx_site.specs.PortKinds.{directed_of_kind, kind_of_port}
 use Rattle.ipx_site.specs.TokenBucket.{full_bucket}
 
--- the usual limit of a port
+-- the usual limits of a port, the second one for nearest queries
 abbrev pub usual : RateLimit
 usual = record { burst = 16; per_second = 8 }
+
+abbrev pub usual_nearest : RateLimit
+usual_nearest = record { burst = 64; per_second = 32 }
 
 -- the limit of general queries that come by a port: lower for all clients of an ipxnet port together
 abbrev pub query_limit : Kind → RateLimit
 query_limit Of.Rfc1234 = usual
 query_limit Of.Frames = usual
 query_limit Of.Ipxnet = record { burst = 2; per_second = 1 }
+
+-- the limit of nearest queries that come by it: higher, since each is answered by one packet
+abbrev pub nearest_limit : Kind → RateLimit
+nearest_limit Of.Rfc1234 = usual_nearest
+nearest_limit Of.Frames = usual_nearest
+nearest_limit Of.Ipxnet = record { burst = 8; per_second = 4 }
 
 -- the limit of directed broadcasts that leave by it: none, few, or all
 abbrev pub directed_bucket : Directed → Option TokenBucket
@@ -38,6 +47,7 @@ has_group_nodes Of.Ipxnet = false
 abbrev pub buckets_of_port : PortConfig → PortBuckets
 buckets_of_port p = record {
   queries = full_bucket (query_limit (kind_of_port p));
+  nearest = full_bucket (nearest_limit (kind_of_port p));
   directed = directed_bucket (directed_of_kind p);
   groups = has_group_nodes (kind_of_port p);
 }

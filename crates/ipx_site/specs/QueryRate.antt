@@ -1,5 +1,5 @@
 -- How often a core with limits hears one querier, all queriers at a port, and the directed broadcasts that
--- leave by a port. Defined by this project.
+-- leave by a port; and how often all at a port ask for the nearest service. Defined by this project.
 use Rattle.std.specs.Prelude.{◌≡◌, ◌≤◌, ◌⊎◌, ℕ, ◌+◌, ◌-◌, ◌*◌, ◌/◌, List, [], ◌∷◌, Some}
 use Rattle.ipx_site.specs.declared.directed_broadcast.DirectedBroadcast.{DirectedBroadcast}
 use Rattle.ipx_site.specs.declared.querier.Querier.{Querier}
@@ -7,7 +7,7 @@ use Rattle.ipx_site.specs.declared.token_bucket.RateLimit.{RateLimit}
 use Rattle.ipx_site.specs.declared.token_bucket.TokenBucket.{TokenBucket}
 use Rattle.ipx_site.specs.PortBuckets.{at_port}
 use Rattle.ipx_site.specs.TokenBuckets.{own_tokens}
-use Rattle.ipx_site.specs.RateLimiter.{HearsDirected, HearsWithToken, HearsRateLimited, RateLimiterView}
+use Rattle.ipx_site.specs.RateLimiter.{HearsDirected, HearsNearestWithToken, HearsWithToken, HearsRateLimited, RateLimiterView}
 
 -- bytes that came in on a port at a time, and the core before and after it heard them
 pub record Coming (C : Type 0) : Type 0 where
@@ -45,6 +45,11 @@ module _ {C : Type 0} (hears : C → ℕ → List ℕ → ℕ → C → Type 0) 
   IsHeardAt port a b c = (a ≤ c.now) × (c.now ≤ b) × (c.port ≡ port)
       × ((who : Querier) × HearsWithToken hears c.before c.port c.bytes c.now c.after who)
 
+  -- the same for a nearest query of any node at a port
+  abbrev pub IsNearestHeardAt : ℕ → ℕ → ℕ → Coming C → Type 0
+  IsNearestHeardAt port a b c = (a ≤ c.now) × (c.now ≤ b) × (c.port ≡ port)
+      × ((who : Querier) × HearsNearestWithToken hears c.before c.port c.bytes c.now c.after who)
+
   -- the same for a directed broadcast that leaves by a port
   abbrev pub IsToLeaveBy : ℕ → ℕ → ℕ → Coming C → Type 0
   IsToLeaveBy port a b c = (a ≤ c.now) × (c.now ≤ b) × ((it : DirectedBroadcast) × (it.leaves_by ≡ port)
@@ -60,6 +65,12 @@ module _ {C : Type 0} (hears : C → ℕ → List ℕ → ℕ → C → Type 0) 
   IsPortQueryRateBounded = (port from a b n : ℕ) (old : RateLimiterView C) (course : List (Coming C))
       → Course from old course → AreSuch (IsHeardAt port a b) course n
       → n ≤ most_in (at_port old.buckets.ports port).queries.limit a b
+
+  -- of the nearest queries at a port it hears at most as many as the port's limit of these lets pass
+  abbrev pub IsNearestRateBounded : Type 0
+  IsNearestRateBounded = (port from a b n : ℕ) (old : RateLimiterView C) (course : List (Coming C))
+      → Course from old course → AreSuch (IsNearestHeardAt port a b) course n
+      → n ≤ most_in (at_port old.buckets.ports port).nearest.limit a b
 
   -- of directed broadcasts that leave by a port it hears at most as many as the port's limit lets pass, if it
   -- has one

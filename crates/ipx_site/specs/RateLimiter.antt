@@ -1,5 +1,5 @@
--- A core over a core that limits how often nodes send general queries, and how many directed broadcasts leave
--- by its ports. Defined by this project.
+-- A core over a core that limits how often nodes send general and nearest queries, and how many directed
+-- broadcasts leave by its ports. Defined by this project.
 use Rattle.std.specs.Prelude.{◌≡◌, ◌⊎◌, ℕ, true, false, List, Option, Some, slice_get}
 use Rattle.ipx_wire.specs.Ipx.{BeginsWith, PacketView}
 use Rattle.ipx_control.specs.declared.rip.packet.RipEntry.{RipEntry}
@@ -19,7 +19,7 @@ use Rattle.ipx_site.specs.declared.directed_broadcast.DirectedDrops.{DirectedDro
 use Rattle.ipx_site.specs.declared.querier.Querier.{Querier}
 use Rattle.ipx_site.specs.declared.source_filter.DropCount.{DropCount}
 use Rattle.ipx_site.specs.DirectedBroadcasts.{IsDirectedBroadcast, one_more_directed}
-use Rattle.ipx_site.specs.PortBuckets.{at_port, directed_has, with_directed_taken}
+use Rattle.ipx_site.specs.PortBuckets.{at_port, directed_has, nearest_has, with_directed_taken, with_nearest_taken}
 use Rattle.ipx_site.specs.TokenBuckets.{TokenBucketsView, HasToken, with_token_taken}
 use Rattle.ipx_site.specs.SourceFilter.{one_more}
 
@@ -50,6 +50,28 @@ abbrev pub IsGeneralQuery : List Port → ℕ → List ℕ → Querier → Type 
 IsGeneralQuery ports port bytes who =
     (at : Port) × (slice_get ports port ≡ Some at) × AsksAt at port bytes who
 
+-- a body asks for the nearest service of a type
+abbrev pub AsksNearestService : List ℕ → Type 0
+AsksNearestService body = (kind : ℕ) × (tail : List ℕ) × IsSap (sap.Query true kind) body tail
+
+-- a body asks for the nearest service, given the kind of its packet: SAP for the router
+abbrev pub AsksNearest : Concern → List ℕ → Type 0
+AsksNearest concerns.Rip body = ⊥
+AsksNearest concerns.Sap body = AsksNearestService body
+AsksNearest concerns.Forward body = ⊥
+AsksNearest (concerns.Dropped reason) body = ⊥
+
+-- bytes are a packet that asks for the nearest service, at the port with this number, and this node sent it
+abbrev pub AsksNearestAt : Port → ℕ → List ℕ → Querier → Type 0
+AsksNearestAt at port bytes who = (p : PacketView) × BeginsWith bytes p
+    × AsksNearest (concern_of at p.header) p.body
+    × (who ≡ record { port = port; node = p.header.from.node })
+
+-- bytes are a nearest query at a port that exists
+abbrev pub IsNearestQuery : List Port → ℕ → List ℕ → Querier → Type 0
+IsNearestQuery ports port bytes who =
+    (at : Port) × (slice_get ports port ≡ Some at) × AsksNearestAt at port bytes who
+
 -- the core below, its ports, the tokens, the dropped queries, and the dropped directed broadcasts
 pub record RateLimiterView (C : Type 0) : Type 0 where
   pub core : C
@@ -75,6 +97,22 @@ module _ {C : Type 0} (hears : C → ℕ → List ℕ → ℕ → C → Type 0) 
       × (HasToken old.buckets who now → ⊥)
       × (new ≡ record old { kept = one_more old.kept (ip_at who.node) })
 
+  -- the core below hears a nearest query, and the port by which it came then has one token less
+  abbrev pub HearsNearestWithToken : RateLimiterView C → ℕ → List ℕ → ℕ → RateLimiterView C → Querier → Type 0
+  HearsNearestWithToken old port bytes now new who = IsNearestQuery old.ports port bytes who
+      × (nearest_has (at_port old.buckets.ports who.port) now ≡ true)
+      × hears old.core port bytes now new.core
+      × (new ≡ record old {
+        core = new.core;
+        buckets = record old.buckets { ports = with_nearest_taken old.buckets.ports who.port now };
+      })
+
+  -- if that port has no token, the query is dropped and counted, and the core below is unchanged
+  abbrev pub DropsNearest : RateLimiterView C → ℕ → List ℕ → ℕ → RateLimiterView C → Type 0
+  DropsNearest old port bytes now new = (who : Querier) × IsNearestQuery old.ports port bytes who
+      × (nearest_has (at_port old.buckets.ports who.port) now ≡ false)
+      × (new ≡ record old { kept = one_more old.kept (ip_at who.node) })
+
   -- the core below hears a directed broadcast, and the port by which it leaves then has one token less
   abbrev pub HearsDirected : RateLimiterView C → ℕ → List ℕ → ℕ → RateLimiterView C → DirectedBroadcast → Type 0
   HearsDirected old port bytes now new it = IsDirectedBroadcast old.ports old.buckets.ports port bytes it
@@ -96,22 +134,28 @@ module _ {C : Type 0} (hears : C → ℕ → List ℕ → ℕ → C → Type 0) 
   abbrev pub HearsBelow : RateLimiterView C → ℕ → List ℕ → ℕ → RateLimiterView C → Type 0
   HearsBelow old port bytes now new =
       ((who : Querier) → IsGeneralQuery old.ports port bytes who → ⊥)
+      × ((who : Querier) → IsNearestQuery old.ports port bytes who → ⊥)
       × ((it : DirectedBroadcast) → IsDirectedBroadcast old.ports old.buckets.ports port bytes it → ⊥)
       × hears old.core port bytes now new.core × (new ≡ record old { core = new.core })
 
-  -- a general query is heard or dropped, and so is a directed broadcast
+  -- a general query is heard or dropped, and so are a nearest query and a directed broadcast
   abbrev pub HearsQuery : RateLimiterView C → ℕ → List ℕ → ℕ → RateLimiterView C → Type 0
   HearsQuery old port bytes now new =
       ((who : Querier) × HearsWithToken old port bytes now new who) ⊎ CountsFiltered old port bytes now new
+
+  abbrev pub HearsNearest : RateLimiterView C → ℕ → List ℕ → ℕ → RateLimiterView C → Type 0
+  HearsNearest old port bytes now new =
+      ((who : Querier) × HearsNearestWithToken old port bytes now new who) ⊎ DropsNearest old port bytes now new
 
   abbrev pub HearsBroadcast : RateLimiterView C → ℕ → List ℕ → ℕ → RateLimiterView C → Type 0
   HearsBroadcast old port bytes now new =
       ((it : DirectedBroadcast) × HearsDirected old port bytes now new it) ⊎ DropsDirected old port bytes now new
 
-  -- one of the three
+  -- one of the four
   abbrev pub HearsRateLimited : RateLimiterView C → ℕ → List ℕ → ℕ → RateLimiterView C → Type 0
   HearsRateLimited old port bytes now new = HearsQuery old port bytes now new
-      ⊎ (HearsBroadcast old port bytes now new ⊎ HearsBelow old port bytes now new)
+      ⊎ (HearsNearest old port bytes now new
+      ⊎ (HearsBroadcast old port bytes now new ⊎ HearsBelow old port bytes now new))
 
 -- the core below runs out of memory as it hears, and no token was taken
 abbrev pub HearOutOfMemoryBelow : {C : Type 0} → (C → ℕ → List ℕ → ℕ → C → Type 0)

@@ -1,7 +1,7 @@
 //! The token buckets of a port.
 
 ghost use Rattle.std.specs.Prelude.{◌≡◌, true};
-ghost use Rattle.ipx_site.specs.PortBuckets.{at_port, directed_has, directed_taken, has_groups, query_has, query_taken, with_directed_taken, with_query_taken};
+ghost use Rattle.ipx_site.specs.PortBuckets.{at_port, directed_has, directed_taken, has_groups, nearest_has, nearest_taken, query_has, query_taken, with_directed_taken, with_nearest_taken, with_query_taken};
 
 use crate::token_bucket::TokenBucket;
 
@@ -10,6 +10,8 @@ use crate::token_bucket::TokenBucket;
 pub struct PortBuckets {
     /// The general queries that come by it, of all nodes together.
     pub queries: TokenBucket,
+    /// The queries for the nearest service that come by it, of all nodes together.
+    pub nearest: TokenBucket,
     /// The directed broadcasts that leave by it. None means that they are not limited.
     pub directed: Option<TokenBucket>,
     /// Whether what is for a group of nodes is one too: a switch floods it.
@@ -22,6 +24,13 @@ impl PortBuckets {
         ensures { self.new ≡ query_taken now self.old }
     {
         self.queries.take_token(now);
+    }
+
+    fn take_nearest(&mut self, now: u64)
+        requires { nearest_has self.old now ≡ true }
+        ensures { self.new ≡ nearest_taken now self.old }
+    {
+        self.nearest.take_token(now);
     }
 
     fn has_directed(&self, now: u64) -> bool
@@ -70,6 +79,26 @@ pub fn take_query(ports: &mut [PortBuckets], port: usize, now: u64)
 {
     if port < ports.len() {
         ports[port].take_query(now);
+    }
+}
+
+/// Whether the nodes at a port have a token for a query for the nearest service.
+pub fn has_nearest(ports: &[PortBuckets], port: usize, now: u64) -> bool
+    ensures { result ≡ nearest_has (at_port ports.now port) now }
+{
+    match ports.get(port) {
+        Some(buckets) => buckets.nearest.has_token(now),
+        None => false,
+    }
+}
+
+/// Takes that token.
+pub fn take_nearest(ports: &mut [PortBuckets], port: usize, now: u64)
+    requires { nearest_has (at_port ports.old port) now ≡ true }
+    ensures { ports.new ≡ with_nearest_taken ports.old port now }
+{
+    if port < ports.len() {
+        ports[port].take_nearest(now);
     }
 }
 

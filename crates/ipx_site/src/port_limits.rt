@@ -1,7 +1,7 @@
 //! The limits at the ports of a router, as its file sets them.
 
 ghost use Rattle.std.specs.Prelude.{◌≡◌, IfOk};
-ghost use Rattle.ipx_site.specs.PortLimits.{buckets_of_port, directed_bucket, has_group_nodes, limits_of, query_limit};
+ghost use Rattle.ipx_site.specs.PortLimits.{buckets_of_port, directed_bucket, has_group_nodes, limits_of, nearest_limit, query_limit};
 
 use crate::port_buckets::PortBuckets;
 use crate::site::{Directed, Kind, PortConfig};
@@ -20,6 +20,18 @@ const CLIENTS: RateLimit = RateLimit {
     per_second: 1,
 };
 
+/// The limit of a port for queries for the nearest service.
+const NEAREST: RateLimit = RateLimit {
+    burst: 64,
+    per_second: 32,
+};
+
+/// The limit that all clients of an ipxnet port share for queries for the nearest service.
+const CLIENTS_NEAREST: RateLimit = RateLimit {
+    burst: 8,
+    per_second: 4,
+};
+
 /// A limit that lets nothing pass.
 const NEVER: RateLimit = RateLimit {
     burst: 0,
@@ -33,6 +45,16 @@ fn query_limit(kind: Kind) -> RateLimit
     match kind {
         Kind::Rfc1234 | Kind::Frames => USUAL,
         Kind::Ipxnet => CLIENTS,
+    }
+}
+
+/// The limit of the queries for the nearest service that come by a port of this kind.
+fn nearest_limit(kind: Kind) -> RateLimit
+    ensures { result ≡ nearest_limit kind }
+{
+    match kind {
+        Kind::Rfc1234 | Kind::Frames => NEAREST,
+        Kind::Ipxnet => CLIENTS_NEAREST,
     }
 }
 
@@ -63,6 +85,7 @@ fn buckets_of_port(port: &PortConfig) -> PortBuckets
 {
     PortBuckets {
         queries: TokenBucket::full(query_limit(port.kind())),
+        nearest: TokenBucket::full(nearest_limit(port.kind())),
         directed: directed_bucket(port.directed()),
         groups: has_group_nodes(port.kind()),
     }

@@ -1,9 +1,9 @@
-//! Which datagrams ask a router for all that it knows, and who sent them.
+//! Which datagrams ask a router for all that it knows, or for the nearest service, and who sent them.
 
 ghost use Rattle.std.specs.Prelude.{◌≡◌, ◌↔◌, IsTrue, IfNone, IfSome};
 ghost use Rattle.ipx_router.specs.Classify.{concern_of, concern_on_network, is_from_neighbour};
 ghost use Rattle.ipx_router.specs.Replying.{asks_all};
-ghost use Rattle.ipx_site.specs.RateLimiter.{AsksAllRoutes, AsksAllServices, AsksAt, AsksForAll, IsGeneralQuery};
+ghost use Rattle.ipx_site.specs.RateLimiter.{AsksAllRoutes, AsksAllServices, AsksAt, AsksForAll, AsksNearest, AsksNearestAt, AsksNearestService, IsGeneralQuery, IsNearestQuery};
 
 use ipx_control::{RipBody, RipEntries, SapBody, read_rip, read_sap};
 use ipx_router::Port;
@@ -50,6 +50,17 @@ fn asks_all_services(body: &[u8]) -> bool
     }
 }
 
+/// Whether a SAP body asks for the nearest service of a type.
+fn asks_nearest_service(body: &[u8]) -> bool
+    ensures { IsTrue result ↔ AsksNearestService body.now }
+{
+    match read_sap(body) {
+        Ok(SapBody::Query { nearest, .. }) => nearest,
+        Ok(SapBody::Response { .. }) => false,
+        Err(_) => false,
+    }
+}
+
 /// Whether a packet is for the router at this port, and from a neighbour there.
 fn comes_from_neighbour(at: Port, header: &IpxHeader) -> bool
     ensures { result ≡ is_from_neighbour at header.now }
@@ -75,6 +86,22 @@ fn asks_on_network(at: Port, header: &IpxHeader, body: &[u8]) -> bool
     false
 }
 
+/// Whether a packet for the local network asks its router for the nearest service.
+fn asks_nearest_on_network(at: Port, header: &IpxHeader, body: &[u8]) -> bool
+    ensures { IsTrue result ↔ AsksNearest (concern_on_network at header.now) body.now }
+{
+    if !comes_from_neighbour(at, header) {
+        return false;
+    }
+    if header.to.socket == Socket::RIP {
+        return false;
+    }
+    if header.to.socket == Socket::SAP {
+        return asks_nearest_service(body);
+    }
+    false
+}
+
 /// Whether a packet that came to a port asks its router for all.
 fn asks_for_all(at: Port, header: &IpxHeader, body: &[u8]) -> bool
     ensures { IsTrue result ↔ AsksForAll (concern_of at header.now) body.now }
@@ -84,6 +111,19 @@ fn asks_for_all(at: Port, header: &IpxHeader, body: &[u8]) -> bool
     }
     if header.to.network == Network::LOCAL || header.to.network == at.network {
         return asks_on_network(at, header, body);
+    }
+    false
+}
+
+/// Whether a packet that came to a port asks its router for the nearest service.
+fn asks_nearest(at: Port, header: &IpxHeader, body: &[u8]) -> bool
+    ensures { IsTrue result ↔ AsksNearest (concern_of at header.now) body.now }
+{
+    if header.kind == packet_type::NETBIOS_PROPAGATION {
+        return false;
+    }
+    if header.to.network == Network::LOCAL || header.to.network == at.network {
+        return asks_nearest_on_network(at, header, body);
     }
     false
 }
@@ -105,6 +145,23 @@ fn querier_at(at: Port, port: usize, bytes: &[u8]) -> Option<Querier>
     })
 }
 
+/// The node that asks for the nearest service at the port with this number.
+fn nearest_querier_at(at: Port, port: usize, bytes: &[u8]) -> Option<Querier>
+    ensures asked { IfSome result (AsksNearestAt at port bytes.now) }
+    ensures none { IfNone result ((who : Querier) → AsksNearestAt at port bytes.now who → ⊥) }
+{
+    let Ok(packet) = decode(bytes) else {
+        return None;
+    };
+    if !asks_nearest(at, &packet.header, packet.body) {
+        return None;
+    }
+    Some(Querier {
+        port,
+        node: packet.header.from.node,
+    })
+}
+
 /// The node that asks a router with these ports for all that it knows, if bytes that came to the
 /// port with this number do. They are then a RIP request with an entry for network FFFFFFFF, or a
 /// SAP query that is not for the nearest service.
@@ -115,6 +172,19 @@ pub fn general_query_from(ports: &[Port], port: usize, bytes: &[u8]) -> Option<Q
 {
     match ports.get(port) {
         Some(at) => querier_at(*at, port, bytes),
+        None => None,
+    }
+}
+
+/// The node that asks a router with these ports for the nearest service of a type, if bytes that
+/// came to the port with this number do.
+pub fn nearest_query_from(ports: &[Port], port: usize, bytes: &[u8]) -> Option<Querier>
+    ensures asked { IfSome result (IsNearestQuery ports.now port bytes.now) }
+    ensures none { IfNone result
+        ((who : Querier) → IsNearestQuery ports.now port bytes.now who → ⊥) }
+{
+    match ports.get(port) {
+        Some(at) => nearest_querier_at(*at, port, bytes),
         None => None,
     }
 }

@@ -1,6 +1,6 @@
-//! Laws on how many general queries and directed broadcasts pass a rate limiter. They do nothing.
+//! Laws on how many queries and directed broadcasts pass a rate limiter. They do nothing.
 
-ghost use Rattle.ipx_site.specs.QueryRate.{IsDirectedRateBounded, IsPortQueryRateBounded, IsQueryRateBounded};
+ghost use Rattle.ipx_site.specs.QueryRate.{IsDirectedRateBounded, IsNearestRateBounded, IsPortQueryRateBounded, IsQueryRateBounded};
 
 use ipx_carrier::Core;
 
@@ -15,6 +15,12 @@ pub fn query_rate_is_bounded<C: Core>()
 /// its rate for each second between the two times.
 pub fn port_query_rate_is_bounded<C: Core>()
     ensures { IsPortQueryRateBounded C.hears }
+{}
+
+/// The same holds for the queries for the nearest service that come by a port, with its limit of
+/// these.
+pub fn nearest_rate_is_bounded<C: Core>()
+    ensures { IsNearestRateBounded C.hears }
 {}
 
 /// The same holds for the directed broadcasts that leave by a port, if they are limited there.

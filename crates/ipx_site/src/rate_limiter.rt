@@ -1,13 +1,13 @@
-//! A core that limits general queries and directed broadcasts.
+//! A core that limits general queries, nearest queries and directed broadcasts.
 
 ghost use Rattle.std.specs.Prelude.{◌≡◌, ◌<◌, [], IfOk, OnErr, OnOk};
 ghost use Rattle.ipx_site.specs.DirectedBroadcasts.{IsDirectedBroadcast, no_directed_drops};
-ghost use Rattle.ipx_site.specs.RateLimiter.{HearsBroadcast, HearsQuery, IsGeneralQuery, HearOutOfMemoryBelow};
+ghost use Rattle.ipx_site.specs.RateLimiter.{HearsBroadcast, HearsNearest, HearsQuery, IsGeneralQuery, IsNearestQuery, HearOutOfMemoryBelow};
 ghost use Rattle.ipx_site.specs.SourceFilter.{zero_drops};
 
 use crate::directed_broadcast::{DirectedBroadcast, DirectedDrops, directed_broadcast_in};
 use crate::port_buckets::PortBuckets;
-use crate::querier::{Querier, general_query_from};
+use crate::querier::{Querier, general_query_from, nearest_query_from};
 use crate::source_filter::DropCount;
 use crate::token_buckets::TokenBuckets;
 use ipx_carrier::{Core, ip_of};
@@ -18,13 +18,14 @@ use std::alloc::{AllocError, Global};
 use std::marker::Model;
 
 /// A core over another one. It drops and counts general queries of nodes that ask too often, and
-/// directed broadcasts over a limit. A general query is a RIP request for all networks, or a SAP
-/// query for all services or all of a type. All else goes to the core below as it comes.
+/// nearest queries and directed broadcasts over a limit. A general query is a RIP request for all
+/// networks, or a SAP query for all services or all of a type. A nearest query is a SAP query for
+/// the nearest service of a type. All else goes to the core below as it comes.
 ///
 /// A querier is a node at a port. It has 8 tokens, of which one comes back each second. All
 /// queriers at a port also share the tokens of the port. At most 1,024 queriers with missing tokens
 /// are remembered. If there are that many, a new querier has no token. A directed broadcast takes a
-/// token of the port by which it leaves.
+/// token of the port by which it leaves, and a nearest query one of the port by which it came.
 pub struct RateLimiter<C: Core + Drop> {
     core: C,
     ports: Vec<Port>,
@@ -130,6 +131,32 @@ impl<C: Core + Drop> RateLimiter<C> {
         Ok(())
     }
 
+    /// Passes on a query for the nearest service that came by a port, or drops it.
+    fn hear_nearest(
+        &mut self,
+        alloc: Global,
+        port: usize,
+        querier: Querier,
+        bytes: &[u8],
+        now: u64,
+    ) -> Result<(), OutOfMemory>
+        requires there { port < C.port_count self.old.core }
+        requires asks { IsNearestQuery self.old.ports port bytes.now querier }
+        ensures heard { OnOk result (HearsNearest C.hears self.old port bytes.now now self.new) }
+        ensures refused { OnErr result
+            (HearOutOfMemoryBelow C.hear_out_of_memory self.old port bytes.now now self.new) }
+        ensures count { C.port_count self.new.core ≡ C.port_count self.old.core }
+    {
+        if !self.buckets.has_nearest_token(querier.port, now) {
+            let sender = ip_of(querier.node).ok();
+            DropCount::saturating_increment(&mut self.kept, sender);
+            return Ok(());
+        }
+        self.core.hear(alloc, port, bytes, now)?;
+        self.buckets.take_nearest_token(querier.port, now);
+        Ok(())
+    }
+
     /// Passes on a directed broadcast that came by a port, or drops it.
     fn hear_directed(
         &mut self,
@@ -193,6 +220,9 @@ impl<C: Core + Drop> Core for RateLimiter<C> {
     ) -> Result<(), OutOfMemory> {
         if let Some(querier) = general_query_from(&self.ports, port, bytes) {
             return self.hear_query(alloc, port, querier, bytes, now);
+        }
+        if let Some(querier) = nearest_query_from(&self.ports, port, bytes) {
+            return self.hear_nearest(alloc, port, querier, bytes, now);
         }
         if let Some(broadcast) = directed_broadcast_in(
             &self.ports,

@@ -1,10 +1,12 @@
 //! The tokens of the nodes that send general queries to a router, and those of its ports.
 
 ghost use Rattle.std.specs.Prelude.{◌≡◌, ◌↔◌, [], true, IsTrue, IfOk, count_by};
-ghost use Rattle.ipx_site.specs.PortBuckets.{at_port, directed_has, query_has, with_directed_taken, with_query_taken};
+ghost use Rattle.ipx_site.specs.PortBuckets.{at_port, directed_has, nearest_has, query_has, with_directed_taken, with_nearest_taken, with_query_taken};
 ghost use Rattle.ipx_site.specs.TokenBuckets.{HasToken, asked_by, back_at, is_another_out, with_token_taken};
 
-use crate::port_buckets::{PortBuckets, has_directed, has_query, take_directed, take_query};
+use crate::port_buckets::{
+    PortBuckets, has_directed, has_nearest, has_query, take_directed, take_nearest, take_query,
+};
 use crate::querier::Querier;
 use crate::token_bucket::{full_again_at, is_token_there};
 use std::alloc::{AllocError, Global};
@@ -125,6 +127,21 @@ impl TokenBuckets {
     {
         self.remember(querier, now);
         self.take_query_token(querier.port, now);
+    }
+
+    /// Whether a port has a token at `now`, in milliseconds, for a query for the nearest service.
+    pub fn has_nearest_token(&self, port: usize, now: u64) -> bool
+        ensures { result ≡ nearest_has (at_port self.now.ports port) now }
+    {
+        has_nearest(&self.ports, port, now)
+    }
+
+    /// Takes that token. The port must have one at that time.
+    pub fn take_nearest_token(&mut self, port: usize, now: u64)
+        requires { nearest_has (at_port self.old.ports port) now ≡ true }
+        ensures { self.new ≡ record self.old { ports = with_nearest_taken self.old.ports port now } }
+    {
+        take_nearest(&mut self.ports, port, now);
     }
 
     /// Whether a directed broadcast may leave by a port at `now`, in milliseconds.

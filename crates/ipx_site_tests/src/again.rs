@@ -29,6 +29,7 @@ fn limits(alloc: Global) -> Result<Vec<PortBuckets>, AllocError> {
     });
     let limits = PortBuckets {
         queries: bucket,
+        nearest: bucket,
         directed: Some(bucket),
         groups: false,
     };

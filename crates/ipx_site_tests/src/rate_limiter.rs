@@ -1,4 +1,4 @@
-//! General queries, how often those of each querier pass, and directed broadcasts.
+//! General queries, how often those of each querier pass, nearest queries, and directed broadcasts.
 
 use ipx_carrier::Core;
 use ipx_router::Port;
@@ -92,6 +92,16 @@ const CLIENTS: RateLimit = RateLimit {
     per_second: 1,
 };
 
+const NEAREST: RateLimit = RateLimit {
+    burst: 64,
+    per_second: 32,
+};
+
+const CLIENTS_NEAREST: RateLimit = RateLimit {
+    burst: 8,
+    per_second: 4,
+};
+
 const NOTHING: RateLimit = RateLimit {
     burst: 0,
     per_second: 0,
@@ -106,9 +116,10 @@ fn port(number: u8, network: Network) -> Port {
     }
 }
 
-fn limits(queries: RateLimit, directed: Option<RateLimit>) -> PortBuckets {
+fn limits(queries: RateLimit, nearest: RateLimit, directed: Option<RateLimit>) -> PortBuckets {
     PortBuckets {
         queries: TokenBucket::full(queries),
+        nearest: TokenBucket::full(nearest),
         directed: match directed {
             Some(limit) => Some(TokenBucket::full(limit)),
             None => None,
@@ -128,12 +139,12 @@ fn ears_by(
     let ears = Ears { heard: 0, refused };
     let ports = vec![in alloc; port(1, HERE), port(2, AWAY), port(3, PLAYERS)]?;
     let limits = vec![in alloc;
-        limits(USUAL, Some(USUAL)),
+        limits(USUAL, NEAREST, Some(USUAL)),
         PortBuckets {
             groups: true,
-            ..limits(USUAL, Some(USUAL))
+            ..limits(USUAL, NEAREST, Some(USUAL))
         },
-        limits(CLIENTS, directed),
+        limits(CLIENTS, CLIENTS_NEAREST, directed),
     ]?;
     RateLimiter::new(alloc, ears, ports, limits)
 }
@@ -265,6 +276,37 @@ fn each_port_has_its_tokens(rt: HostRuntime) -> Result<(), AllocError> {
     assert_eq!(rt; ears.core().heard, 35);
     ask_each(&mut ears, rt.alloc(), (1, AWAY), 100, 2000);
     assert_eq!(rt; ears.core().heard, 43);
+    Ok(())
+}
+
+/// This many queries for the nearest file server at a port, from node 10.0.0.2 at one time.
+fn ask_nearest(
+    ears: &mut RateLimiter<Ears>,
+    alloc: Global,
+    at: (usize, Network),
+    count: u32,
+    now: u64,
+) {
+    for _query in 0..count {
+        let to = every_node(at.1, Socket::SAP);
+        let _had = hear_at(ears, alloc, (at.0, at.1, 2), to, &NEAREST_SERVER, now);
+    }
+}
+
+#[test]
+fn nearest_queries_have_their_own_tokens(rt: HostRuntime) -> Result<(), AllocError> {
+    let mut ears = ears(rt.alloc(), 0)?;
+    ask_nearest(&mut ears, rt.alloc(), (0, HERE), 65, 0);
+    assert_eq!(rt; ears.core().heard, 64);
+    assert_eq!(rt; ears.kept(), kept(1, Some([10, 0, 0, 2])));
+    ask(&mut ears, rt.alloc(), 2, 9, 0);
+    assert_eq!(rt; ears.core().heard, 72);
+    ask_nearest(&mut ears, rt.alloc(), (0, HERE), 100, 1000);
+    assert_eq!(rt; ears.core().heard, 104);
+    ask_nearest(&mut ears, rt.alloc(), (2, PLAYERS), 100, 1000);
+    assert_eq!(rt; ears.core().heard, 112);
+    ask_nearest(&mut ears, rt.alloc(), (2, PLAYERS), 100, 2000);
+    assert_eq!(rt; ears.core().heard, 116);
     Ok(())
 }
 
