@@ -36,7 +36,7 @@ fn let_links_go(endpoint: &mut Endpoint, sessions: &[Session])
     }
 }
 
-/// Whether a connection was heard.
+/// Whether data was received on any connection.
 fn is_any_heard(sessions: &[Session]) -> bool
     ensures { result ≡ list_any has_spoken sessions.now }
 {
@@ -82,7 +82,7 @@ fn is_full_on(own: Network, once: bool, sessions: &[Session], from: &Address) ->
     sessions.len() >= MAX_SESSIONS || is_at_limit(sessions, own, from)
 }
 
-/// The same for the host of an endpoint.
+/// `is_full_on` for the network of an endpoint.
 fn is_full(endpoint: &Endpoint, once: bool, sessions: &[Session], from: &Address) -> bool
     ensures { IsTrue result ↔ HasNoPlaceFor once endpoint.now.network from.now sessions.now }
 {
@@ -111,7 +111,7 @@ pub fn hold(
     false
 }
 
-/// The place of the first connection that was heard.
+/// The place of the first connection on which data was received.
 fn place_of_heard(sessions: &[Session]) -> Option<usize>
     ensures place { result ≡ position has_spoken sessions.now }
     ensures there { IfSome result (λ place. place < length sessions.now) }
@@ -163,7 +163,7 @@ fn protects(own: Network, asker: &Address, session: &Session, other: &Session) -
         && (other.is_of_node(own, asker) || !other.is_of_node(own, &session.from))
 }
 
-/// Whether any connection does so.
+/// Whether any connection protects this one from being evicted.
 fn is_protected(own: Network, sessions: &[Session], asker: &Address, session: &Session) -> bool
     ensures { result ≡ list_any (protects own asker.now session.now) sessions.now }
 {
@@ -277,7 +277,7 @@ fn place_to_evict(
     }
 }
 
-/// The same for the network of the endpoint.
+/// `place_to_evict` for the network of the endpoint.
 fn place_in(
     once: bool,
     endpoint: &Endpoint,
@@ -351,7 +351,7 @@ fn place_of_own_overdue_on(
     sessions.iter().position(|session| session.is_overdue(moment) && session.is_of_node(own, from))
 }
 
-/// The same for the host of an endpoint.
+/// The place of the first overdue connection of the node of an address.
 pub fn place_of_own_overdue(
     endpoint: &Endpoint,
     sessions: &[Session],
@@ -406,7 +406,7 @@ fn place_of_own(
     place_of_own_silent(own, endpoint, sessions, moment, from)
 }
 
-/// The same for the network of the endpoint.
+/// `place_of_own` for the network of the endpoint.
 fn place_of_own_in(
     once: bool,
     endpoint: &Endpoint,
@@ -441,7 +441,8 @@ fn evict_at(
     Some(session)
 }
 
-/// Keeps the first connection that was heard alone, where one was: the others go, and their links.
+/// If data was received on a connection, keeps only the first such one, and releases the others and
+/// their links.
 fn keep_heard(endpoint: &mut Endpoint, sessions: &mut Vec<Session>)
     requires { 16 ≤ vec_capacity sessions.old }
     ensures keeps { KeepsHeard true endpoint.old endpoint.new sessions.old.items sessions.new.items }
@@ -456,7 +457,8 @@ fn keep_heard(endpoint: &mut Endpoint, sessions: &mut Vec<Session>)
     let _ = sessions.push(heard);
 }
 
-/// Notes that a connection was heard at a moment. With `once` it stays alone.
+/// Records that a connection received something at this time. With `once`, all other connections
+/// are released.
 pub fn hear_session(
     once: bool,
     endpoint: &mut Endpoint,
@@ -521,14 +523,14 @@ pub fn make_space_of_own(
     evict_at(endpoint, sessions, place)
 }
 
-/// A count, one higher where so it is.
+/// The count, plus one if `more`; at most the greatest u64.
 pub fn count_if(more: bool, count: u64) -> u64
     ensures { result ≡ raised_if more count }
 {
     if more { count.saturating_add(1) } else { count }
 }
 
-/// Whether a message was refused for want of memory.
+/// Whether a message was refused because memory ran out.
 fn is_out_of_memory(fault: EndFault) -> bool
     ensures { IsTrue result ↔ IsOutOfMemory fault }
 {
@@ -538,10 +540,10 @@ fn is_out_of_memory(fault: EndFault) -> bool
     )
 }
 
-/// Asks whether a connection is still there, by a message of no bytes: a peer that is there
-/// acknowledges it, and without one the link is Lost some five seconds later. Where the message is
-/// refused, since memory is or the connection ends, nothing goes out: the silence counts anew, and
-/// it is asked again after it. It answers whether memory was refused.
+/// Probes a connection with a message of no bytes. A peer that is there acknowledges it; otherwise
+/// the link is Lost some five seconds later. If the message is refused, because memory ran out or
+/// the connection is ending, nothing is sent. The silence is then counted from now, and the
+/// connection is probed again later. Returns whether memory ran out.
 pub fn ask(alloc: Global, endpoint: &mut Endpoint, session: &mut Session, moment: u64) -> bool
     ensures asks { Asks moment endpoint.old endpoint.new session.old session.new }
     ensures asked { IsAskedUnless result endpoint.old endpoint.new session.old session.new }

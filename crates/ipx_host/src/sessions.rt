@@ -10,45 +10,44 @@ ghost use Rattle.ipx_site.specs.AllowedPeers.{home_network};
 use ipx_wire::{Address, Network};
 use spx_link::State;
 
-/// How long a connection is kept once its end came, counted from the last datagram of it, in
-/// milliseconds: a peer that lost the confirmation asks again each second at least.
+/// How long a connection is kept after its end was received, from its last datagram, in
+/// milliseconds. A peer that lost the confirmation asks again at least each second.
 pub const LINGER: u64 = 3000;
 
-/// How long an open connection is silent before it is asked whether it is still there, in
-/// milliseconds.
+/// How long an open connection is silent before it is probed, in milliseconds.
 pub const KEEPALIVE_AFTER: u64 = 60_000;
 
-/// How long a connection of which nothing was heard yet is waited for, before it is asked whether
-/// it is there, or makes room, in milliseconds.
+/// How long to wait for the first data of a connection before it is probed or may be evicted, in
+/// milliseconds.
 pub const FIRST_DATA_TIMEOUT: u64 = 1000;
 
 /// How long a connection is silent before it may be evicted for a new request, in milliseconds.
 pub const EVICT_AFTER: u64 = 10_000;
 
-/// How a connection that was accepted stands with this host.
+/// The phase of an accepted connection.
 #[derive(Clone, Copy, PartialEq, Eq)]
 pub enum Phase {
-    /// Nothing was heard of it since it was accepted.
+    /// Nothing was received since it was accepted.
     New,
-    /// So it is, and it is asked whether it is there.
+    /// Nothing was received since it was accepted, and it was probed.
     NewProbed,
-    /// It was heard.
+    /// Something was received.
     Open,
-    /// It was silent, and is asked whether it is still there.
+    /// It was silent, and was probed.
     KeepaliveSent,
-    /// Its end was taken: all that came before it, too.
+    /// Its end was taken, and everything before it.
     Ended,
 }
 
 impl Phase {
-    /// Whether nothing was heard of the connection since it was accepted.
+    /// Whether nothing was received since the connection was accepted.
     pub fn is_unheard(self) -> bool
         ensures { result ≡ is_unheard self }
     {
         matches!(self, Phase::New | Phase::NewProbed)
     }
 
-    /// How it stands once it is asked whether it is there.
+    /// The phase after a probe.
     pub fn asked(self) -> Phase
         ensures { result ≡ phase_asked self }
     {
@@ -76,13 +75,13 @@ fn home_of(own: Network, address: &Address) -> Network
 pub struct Session {
     pub id: u16,
     pub from: Address,
-    /// The moment at which it came, was heard last, or could not be asked.
+    /// When it was accepted, last received something, or last could not be probed.
     pub heard: u64,
     pub phase: Phase,
 }
 
 impl Session {
-    /// It is heard at a moment, so it is there.
+    /// Records that something was received at this time.
     pub fn hear(&mut self, now: u64)
         ensures { self.new ≡ record self.old {
           heard = now;
@@ -95,21 +94,22 @@ impl Session {
         }
     }
 
-    /// Whether something was heard of it.
+    /// Whether something was received since it was accepted.
     pub fn is_heard(&self) -> bool
         ensures { result ≡ has_spoken self.now }
     {
         !self.phase.is_unheard()
     }
 
-    /// Whether nothing was heard of it, and a second ago or longer it came, or could not be asked.
+    /// Whether nothing was received, and it was accepted, or could not be probed, at least a second
+    /// ago.
     pub fn is_overdue(&self, now: u64) -> bool
         ensures { result ≡ is_overdue now self.now }
     {
         self.phase.is_unheard() && now.saturating_sub(self.heard) >= FIRST_DATA_TIMEOUT
     }
 
-    /// Whether nothing was received on it for ten seconds, or it could not be probed so long ago.
+    /// Whether nothing was received for ten seconds, or it could not be probed for that long.
     pub fn is_silent(&self, now: u64) -> bool
         ensures { result ≡ is_silent now self.now }
     {
@@ -123,14 +123,14 @@ impl Session {
         home_of(own, &self.from) == home_of(own, from) && self.from.node == from.node
     }
 
-    /// Whether it was not heard from, and belongs to the node of an address.
+    /// Whether nothing was received, and it belongs to the node of an address.
     pub fn is_unheard_of(&self, own: Network, from: &Address) -> bool
         ensures { result ≡ is_unheard_of own from.now self.now }
     {
         self.phase.is_unheard() && self.is_of_node(own, from)
     }
 
-    /// It is heard at a moment, if it is the one that was heard.
+    /// Records the time if this is the connection that received the datagram.
     fn note(&mut self, heard: u16, now: u64)
         ensures { self.new ≡ heard_by heard now self.old }
     {
@@ -140,7 +140,7 @@ impl Session {
     }
 }
 
-/// Notes in each connection which one was heard at a moment.
+/// Records in the connections which of them received a datagram at this time.
 pub fn hear_one(sessions: &mut [Session], heard: u16, moment: u64)
     ensures { sessions.new ≡ map (heard_by heard moment) sessions.old }
 {
@@ -149,21 +149,21 @@ pub fn hear_one(sessions: &mut [Session], heard: u16, moment: u64)
     }
 }
 
-/// What becomes of a connection.
+/// What to do with a connection.
 #[derive(Clone, Copy, PartialEq, Eq)]
 pub enum SessionAction {
-    /// It is held on.
+    /// It is kept.
     Stays,
-    /// It is held on, and asked whether it is still there.
+    /// It is kept, and probed.
     Asks,
-    /// It is over, and its place is free for another.
+    /// It has ended, and its slot is free.
     Over,
-    /// It was given up before its end came.
+    /// It was given up before its end was received.
     GivenUp,
 }
 
-/// What becomes of a connection of this standing, whose link has this state, or is gone, and that
-/// was silent for so many milliseconds.
+/// What to do with a connection in this phase, by the state of its link (None if it is gone) and
+/// how many milliseconds it was silent.
 pub fn session_action(phase: Phase, state: Option<State>, silent: u64) -> SessionAction
     ensures fate { IsSessionAction result phase state silent }
     ensures given_up { (result ≡ ActionsOfSessions.GivenUp) ↔ (state ≡ Some States.Lost) }
