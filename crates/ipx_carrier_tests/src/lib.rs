@@ -15,7 +15,7 @@ mod hosts;
 #[cfg(test)]
 mod mapping;
 #[cfg(test)]
-mod port_driver;
+mod port_drivers;
 #[cfg(test)]
 mod port_marks;
 #[cfg(test)]
