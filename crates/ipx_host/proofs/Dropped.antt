@@ -20,11 +20,11 @@ use Rattle.ipx_host.proofs.Fed.{either_one, for_memory, no_memory}
 
 -- what a take gives, by what is held: nothing if nothing is held, otherwise something, or that a message is
 -- too long
-abbrev IsGiven : List Piece → Result TakenView EndFault → Type 0
+abbrev pub IsGiven : List Piece → Result TakenView EndFault → Type 0
 IsGiven [] r = r ≡ Ok Nothing
 IsGiven (u ∷ us) r = (r ≡ Err overlong) ⊎ ((t : TakenView) × (r ≡ Ok t) × (t ≢ Nothing))
 
-given_first : (h : Held) (us : List Piece) → IsGiven us (takes_first h (first_held us)).0
+pub given_first : (h : Held) (us : List Piece) → IsGiven us (takes_first h (first_held us)).0
 given_first h [] = refl
 given_first h (u ∷ us) =
     let P : (Result TakenView EndFault × Held) → Type 0 = λ x. (x.0 ≡ Err overlong) ⊎ ((t : TakenView) × (x.0 ≡ Ok t) × (t ≢ Nothing)) in
@@ -46,15 +46,15 @@ some_held [] r given other = λ e. other given
 some_held (u ∷ us) r given other = λ e. cc
 
 -- a fault is that of a message that is too long
-fault_of : (us : List Piece) (r : Result TakenView EndFault) (f : EndFault) → IsGiven us r → r ≡ Err f → r ≡ Err overlong
+pub fault_of : (us : List Piece) (r : Result TakenView EndFault) (f : EndFault) → IsGiven us r → r ≡ Err f → r ≡ Err overlong
 fault_of [] r f given is = absurd (cc)
 fault_of (u ∷ us) r f (inl e) is = e
 fault_of (u ∷ us) r f (inr (t, e, some)) is = absurd (cc)
 
-abbrev Takes : EndpointView → EndpointView → ℕ → Result Taken EndFault → Option Held → Type 0
+abbrev pub Takes : EndpointView → EndpointView → ℕ → Result Taken EndFault → Option Held → Type 0
 Takes old new id r o = IfSome o (λ h. r ≢ Err no_memory → (result_view r ≡ (take_end h).0) × ChangesEnd old new id (take_end h).1)
 
-abbrev Refuses : EndpointView → EndpointView → Result Taken EndFault → Option Held → Type 0
+abbrev pub Refuses : EndpointView → EndpointView → Result Taken EndFault → Option Held → Type 0
 Refuses old new r o = IfSome o (λ h. r ≡ Err no_memory → IsPushed h × SameBut old new)
 
 -- what is taken is removed

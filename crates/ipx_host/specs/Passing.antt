@@ -1,10 +1,10 @@
 -- What passes from a connection to an outlet, by takes one after another. Nothing here is from a public
 -- standard.
-use Rattle.std.specs.Prelude.{◌≡◌, ◌≢◌, ℕ, zero, suc, true, List, [], ◌∷◌, ◌++◌, Option, Some, None, Result, Ok, Err}
+use Rattle.std.specs.Prelude.{◌≡◌, ◌≢◌, ◌⊎◌, ℕ, zero, suc, true, List, [], ◌∷◌, ◌++◌, length, Option, Some, None, Result, Ok, Err}
 use Rattle.spx_link.specs.Links.{count_of}
 use Rattle.spx_messages.specs.Changes.{ChangesEnd, SameBut, SameSelf}
 use Rattle.spx_messages.specs.EndpointView.{EndpointView, Held, held_at}
-use Rattle.spx_messages.specs.Taking.{TakenView, Nothing, Part, PeerEnd, Whole, take_end}
+use Rattle.spx_messages.specs.Taking.{IsPushed, TakenView, Nothing, Part, PeerEnd, Whole, take_end}
 use Rattle.spx_messages.specs.declared.fault.EndFault.{EndFault}
 use Rattle.ipx_host.specs.SessionActions.{is_unheard}
 use Rattle.ipx_host.specs.HostOutput.{Writes, left_of}
@@ -109,6 +109,25 @@ abbrev pub takes_from : (before after : Option Held) (waiting left : List ℕ) (
 takes_from None after waiting left written writes session session' p = []
 takes_from (Some h) after waiting left written writes session session' p = takes_after session.id p.0 h
 
+-- the most units that are taken from a connection in one turn
+abbrev pub max_takes : ℕ
+max_takes = 256
+
+-- nothing more can be taken: the link is gone, no unit is held, or memory was refused for the first unit that is
+-- held. Only a unit that is added to a message can be refused
+abbrev pub GivesNoMore : Option Held → Type 0
+GivesNoMore None = Unit {0}
+GivesNoMore (Some h) = ((take_end h).0 ≡ Ok Nothing) ⊎ IsPushed h
+
+-- the turn of a connection ends only if it was not heard from, its end was taken, something is left to write,
+-- the most units were taken in this turn, or nothing more can be taken
+abbrev pub TurnEnds : (after : Option Held) (left : List ℕ) (session session' : Session) (takes : List Take) → Type 0
+TurnEnds after left session session' takes = (is_unheard session.phase ≡ true)
+    ⊎ ((session'.phase ≡ Standings.Ended)
+    ⊎ ((left ≢ [])
+    ⊎ ((length takes ≡ max_takes)
+    ⊎ GivesNoMore after)))
+
 -- what is held under any other id, the number of links, the id assigned last, and the listening sockets are
 -- unchanged
 pub record SameOthers (old new : EndpointView) (id : ℕ) : Type 0 where
@@ -118,8 +137,9 @@ pub record SameOthers (old new : EndpointView) (id : ℕ) : Type 0 where
   pub self : SameSelf old new
   pub heard : new.heard ≡ old.heard
 
--- what passes from one connection of a host. Nothing is taken if it was not heard from. If its end is taken in
--- this pass, nothing is left to write. The same holds if its end was taken before and nothing was left then
+-- what passes from one connection of a host in its turn, until the turn ends. Nothing is taken if it was not
+-- heard from. If its end is taken in this pass, nothing is left to write. The same holds if its end was taken
+-- before and nothing was left then
 pub record PassesOne (old new : EndpointView) (waiting left : List ℕ)
     (written writes : Option (List ℕ)) (session session' : Session) : Type 0 where
   pub from : PassesFrom (held_at old session.id) (held_at new session.id) waiting left written writes session session'
@@ -128,6 +148,8 @@ pub record PassesOne (old new : EndpointView) (waiting left : List ℕ)
       × (takes_from (held_at old session.id) (held_at new session.id) waiting left written writes session session' from ≡ [])
   pub behind : (session.phase ≡ Standings.Ended → waiting ≡ [])
       → session'.phase ≡ Standings.Ended → left ≡ []
+  pub ends : TurnEnds (held_at new session.id) left session session'
+      (takes_from (held_at old session.id) (held_at new session.id) waiting left written writes session session' from)
 
 -- what passes from connections, one after another, while nothing is left to write
 abbrev pub PassesEach : EndpointView → EndpointView → List ℕ → List ℕ → Option (List ℕ) → Option (List ℕ) → List Session → List Session → Type 0

@@ -1,6 +1,6 @@
 //! Messages that are being written.
 
-ghost use Rattle.std.specs.Prelude.{◌≡◌, ◌≤◌, ◌<◌, ◌↔◌, IfOk, IsTrue, [], length};
+ghost use Rattle.std.specs.Prelude.{◌≡◌, ◌≢◌, ◌≤◌, ◌<◌, ◌↔◌, IfOk, IsTrue, OnErr, [], length};
 
 use crate::readiness_gate::Gate;
 use std::alloc::Global;
@@ -62,6 +62,8 @@ impl Outlet {
             (W.contents writer.old) (W.contents writer.new) }
         ensures wrote { IfOk result (λ wrote. IsTrue wrote
             ↔ (length (left_of self.new) < length (left_of self.old))) }
+        // What the writer did not take is left.
+        ensures failed { OnErr result (left_of self.new ≢ []) }
     {
         let mut wrote = false;
         for _ in 0..MAX_PIECES {
@@ -79,6 +81,7 @@ impl Outlet {
             (W.contents writer.old) (W.contents writer.new) }
         ensures wrote { IfOk result (λ wrote. IsTrue wrote
             ↔ (length (left_of self.new) < length (left_of self.old))) }
+        ensures failed { OnErr result (left_of self.new ≡ left_of self.old) }
     {
         let rest = &self.bytes[self.written..];
         let piece = &rest[..rest.len().min(PIECE)];

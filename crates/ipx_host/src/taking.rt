@@ -4,7 +4,7 @@ ghost use Rattle.std.specs.Prelude.{◌≡◌, ◌<◌, [], ℕ, take, false, le
 ghost use Rattle.spx_messages.specs.EndpointView.{held_at};
 ghost use Rattle.spx_messages.specs.Taking.{PeerEnd as TheEnd, take_end};
 ghost use Rattle.ipx_host.specs.HostOutput.{left_of};
-ghost use Rattle.ipx_host.specs.Passing.{PassesFirst, PassesHeld, PassesOne, PassesSome, PassesUntilFull, SameOthers, Takes, TakesNothing};
+ghost use Rattle.ipx_host.specs.Passing.{GivesNoMore, PassesFirst, PassesHeld, PassesOne, PassesSome, PassesUntilFull, SameOthers, Takes, TakesNothing};
 ghost use Rattle.ipx_host.specs.declared.sessions.Session.{Session};
 
 use crate::output::{Outlet, WriteFault};
@@ -31,6 +31,7 @@ fn take_next(
     ensures ends { IfSome (held_at endpoint.old session.old.id) (λ h.
         (take_end h).0 ≡ Ok TheEnd → IsTrue result) }
     ensures unknown { held_at endpoint.old session.old.id ≡ None → result ≡ false }
+    ensures no_more { result ≡ false → GivesNoMore (held_at endpoint.old session.old.id) }
     ensures id { session.new.id ≡ session.old.id }
     ensures others { SameOthers endpoint.old endpoint.new session.old.id }
 {
@@ -48,8 +49,9 @@ fn take_next(
     }
 }
 
-/// Takes what a connection holds, if it was heard from, and writes each message. It stops if a
-/// message can't be written without blocking. Returns whether it took anything.
+/// Takes what a connection holds, if it was heard from, and writes each message. It stops only if a
+/// message can't be written without blocking, the end of the peer was taken, nothing more can be
+/// taken, or `MAX_TAKES` units were taken. Returns whether it took anything.
 fn take_some<W: Write>(
     alloc: Global,
     endpoint: &mut Endpoint,
@@ -63,6 +65,7 @@ fn take_some<W: Write>(
     ensures passes { IfSome (held_at endpoint.old session.old.id) (λ h.
         PassesHeld h (held_at endpoint.new session.old.id) (left_of output.old) (left_of output.new)
         (W.contents writer.old) (W.contents writer.new)) }
+    // If the writer fails, something is left to write.
     ensures one { PassesOne endpoint.old endpoint.new (left_of output.old) (left_of output.new)
         (W.contents writer.old) (W.contents writer.new) session.old session.new }
     ensures id { session.new.id ≡ session.old.id }
@@ -74,7 +77,7 @@ fn take_some<W: Write>(
         return Ok(false);
     }
     let mut took = false;
-    for _ in 0..MAX_TAKES {
+    for _take in 0..MAX_TAKES {
         output.write(writer)?;
         let ended = session.phase == Phase::Ended;
         if ended || !output.is_empty() || !take_next(alloc, endpoint, output, session) {

@@ -1,8 +1,18 @@
 use Rattle.std.proofs.Common.{refl}
 use Rattle.std.proofs.lemmas.Result.{err_from_is_err_and}
 use Rattle.ipx_host.specs.HostOutput.{left_of}
+use Rattle.ipx_host.proofs.Holding.{keeps_written}
 use Rattle.ipx_host.proofs.Hosted.{moved_all, moved_none, moved_some}
 use Rattle.ipx_host.proofs.serving.Sessions.pass.Goals as goal
+
+pub invariant_of-self : goal.invariant_of-self
+invariant_of-self g c =
+    let held = g.W.Write.contents in
+    let old = c.args.self.now in
+    record {
+      room = old.room;
+      one = keeps_written old.once old.held.items (left_of old.output) (left_of c.write.new.self) (held c.args.writer.now) (held c.write.new.writer) c.write.ensures.writes old.one;
+    }
 
 pub returns-in_err-wrote-clause-some : goal.returns-in_err-wrote-clause-some
 returns-in_err-wrote-clause-some g c =
