@@ -1,6 +1,9 @@
 -- How a sending host paces its connection: what its link may do at the next poll. Nothing here is from a
 -- public standard.
-use Rattle.std.specs.Prelude.{◌≡◌, ◌≢◌, ◌<◌, ◌⊎◌, ◌&&◌, ℕ, Bool, List, IfSome, IsTrue, Option, Some, None, option_map, true, false}
+use Rattle.std.specs.Prelude.{◌≡◌, ◌≢◌, ◌-◌, ◌<◌, ◌≤◌, ◌⊎◌, ◌&&◌, ℕ, Bool, List, [], IfSome, IsTrue, Option, Some, None, option_map, true, false, unwrap_or}
+use Rattle.ipx_wire.specs.Ipx.{BeginsWith, PacketView}
+use Rattle.ipx_wire.specs.Spx.{IsSpx}
+use Rattle.ipx_wire.specs.declared.spx.packet.SpxHeader.{SpxHeader}
 use Rattle.ipx_carrier.specs.HostCore.{HostGives}
 use Rattle.ipx_carrier.specs.Turns.{Given}
 use Rattle.spx_link.specs.LinkView.{LinkView, is_working, numbers_of}
@@ -15,7 +18,8 @@ use Rattle.spx_messages.specs.EndpointView.{EndpointView, Held, held_at}
 use Rattle.spx_messages.specs.declared.arrived.Arrived.{Arrived}
 use Rattle.spx_messages.specs.declared.arrived.Arrived.TheVariants.{Link}
 use Rattle.spx_congestion.specs.Giving.{gave_of}
-use Rattle.spx_congestion.specs.Pacing.{PacerView, credit_after, has_given_up, wakes_at, holds_back, plan_of}
+use Rattle.spx_congestion.specs.Measured.{IsBounded}
+use Rattle.spx_congestion.specs.Pacing.{MendsOn, PacerView, Tends, WaitsOn, behind, credit_after, flight, given_by, has_given_up, is_double, wakes_at, holds_back, plan_of, waited_since, with_outstanding}
 use Rattle.spx_congestion.specs.declared.plan.Plan.{Plan}
 use Rattle.ipx_host.specs.Noting.{is_untold}
 use Rattle.ipx_host.specs.declared.paced_host_core.PacedHostCore.{PacedHostCore}
@@ -30,10 +34,12 @@ asked_again_at (Some place) l = again_link l place
 abbrev pub planned : Plan → LinkView → LinkView
 planned plan l = asked_again_at plan.again (pace_link l plan.window true)
 
--- a plan of a pacer that counts as many outstanding units as the link has
-pub record IsPlanOf (plan : Plan) (pacer : PacerView) (l : LinkView) : Type 0 where
-  pub counts : pacer.out ≡ l.out
-  pub value : plan ≡ plan_of pacer
+-- a plan at this time of a pacer for its link. The pacer counts as many outstanding units as the link has, and
+-- has done what was due by then
+pub record IsPlanOf (plan : Plan) (old : PacerView) (now : ℕ) (new : PacerView) (l : LinkView) : Type 0 where
+  pub tends : Tends old l.out now new
+  pub counts : new.out ≡ l.out
+  pub value : plan ≡ plan_of new
 
 -- a link that sends units is given up if its pacer has given up, after ten timeouts in a row
 abbrev pub is_given_up : PacerView → LinkView → Bool
@@ -44,64 +50,100 @@ abbrev pub FollowsPlan : Bool → ℕ → Plan → Held → EndpointView → End
 FollowsPlan true id plan held old new = ReleasesEnd old new id
 FollowsPlan false id plan held old new = ChangesEnd old new id (record held { link = planned plan held.link })
 
--- the link of an id, if it is there, is set as its pacer plans, or is released if it is given up
-abbrev pub PlansLink : ℕ → PacerView → PacerView → Option Held → EndpointView → EndpointView → Type 0
-PlansLink id pacer pacer' None old new = (pacer' ≡ pacer) × (new ≡ old)
-PlansLink id pacer pacer' (Some held) old new = (plan : Plan) × IsPlanOf plan pacer' held.link
+-- the link of an id, if it is there, is set as its pacer plans now, or is released if it is given up
+abbrev pub PlansLink : ℕ → ℕ → PacerView → PacerView → Option Held → EndpointView → EndpointView → Type 0
+PlansLink id now pacer pacer' None old new = (pacer' ≡ pacer) × (new ≡ old)
+PlansLink id now pacer pacer' (Some held) old new = (plan : Plan) × IsPlanOf plan pacer now pacer' held.link
     × FollowsPlan (is_given_up pacer' held.link) id plan held old new
     × (new.said ≡ old.said) × (new.heard ≡ old.heard)
 
 -- the same for the paced connection. If there is none, nothing changes
-abbrev pub Plans : Option Paced → Option Paced → EndpointView → EndpointView → Type 0
-Plans None after old new = (after ≡ None) × (new ≡ old)
-Plans (Some paced) after old new = (pacer : PacerView) × (after ≡ Some (record paced { pacer = pacer }))
-    × PlansLink paced.id paced.pacer pacer (held_at old paced.id) old new
+abbrev pub Plans : Option Paced → ℕ → Option Paced → EndpointView → EndpointView → Type 0
+Plans None now after old new = (after ≡ None) × (new ≡ old)
+Plans (Some paced) now after old new = (pacer : PacerView) × (after ≡ Some (record paced { pacer = pacer }))
+    × PlansLink paced.id now paced.pacer pacer (held_at old paced.id) old new
 
--- a link gave a packet, and has this many outstanding units after it. Its pacer has counted them, and has
--- less credit if the packet carried a unit
-abbrev pub CountsGiven : Sent → ℕ → PacerView → PacerView → Type 0
-CountsGiven what out pacer pacer' = (pacer'.out ≡ out)
-    × ((stream : ℕ) × (pacer'.credit ≡ credit_after pacer.credit (gave_of what stream)))
+-- this is the datastream type of the SPX packet that the bytes begin with, if they begin with one
+abbrev pub IsStreamIn : List ℕ → ℕ → Type 0
+IsStreamIn bytes stream =
+    (p : PacketView) (h : SpxHeader) (body : List ℕ) → BeginsWith bytes p → IsSpx h body p.body → stream ≡ h.stream
 
--- after a poll the pacer of the link of an id is updated with what that link gave, and with nothing else
-abbrev pub NotesGiven : ℕ → Option (ℕ × Sent) → Option Held → PacerView → PacerView → Type 0
-NotesGiven id None held pacer pacer' = pacer' ≡ pacer
-NotesGiven id (Some given) None pacer pacer' = pacer' ≡ pacer
-NotesGiven id (Some given) (Some held) pacer pacer' =
-    (given.0 ≡ id → CountsGiven given.1 held.link.out pacer pacer')
+-- a link gave a packet now, and has this many outstanding units after it. Its pacer has counted them, and what
+-- was given, by its datastream type. It has less credit if the packet carried a unit
+pub record CountsGiven (what : Sent) (bytes : List ℕ) (out now : ℕ) (old new : PacerView) : Type 0 where
+  pub stream : ℕ
+  pub reads : IsStreamIn bytes stream
+  pub value : new ≡ given_by (with_outstanding old out now) (gave_of what stream) now
+  pub counts : new.out ≡ out
+  pub credit : new.credit ≡ credit_after old.credit (gave_of what stream)
+
+-- after a poll now, which gave these bytes, the pacer of the link of an id is updated with what that link gave,
+-- and with nothing else
+abbrev pub NotesGiven : ℕ → Option (ℕ × Sent) → List ℕ → Option Held → ℕ → PacerView → PacerView → Type 0
+NotesGiven id None bytes held now pacer pacer' = pacer' ≡ pacer
+NotesGiven id (Some given) bytes None now pacer pacer' = pacer' ≡ pacer
+NotesGiven id (Some given) bytes (Some held) now pacer pacer' =
+    (given.0 ≡ id → CountsGiven given.1 bytes held.link.out now pacer pacer')
     × ((given.0 ≡ id → ⊥) → pacer' ≡ pacer)
 
 -- the same for the paced connection, if there is one
-abbrev pub NotesPoll : Option Paced → EndpointView → Option Paced → Type 0
-NotesPoll None e after = after ≡ None
-NotesPoll (Some paced) e after = (pacer : PacerView) × (after ≡ Some (record paced { pacer = pacer }))
-    × NotesGiven paced.id e.said (held_at e paced.id) paced.pacer pacer
+abbrev pub NotesPoll : Option Paced → EndpointView → List ℕ → ℕ → Option Paced → Type 0
+NotesPoll None e bytes now after = after ≡ None
+NotesPoll (Some paced) e bytes now after = (pacer : PacerView)
+    × (after ≡ Some (record paced { pacer = pacer }))
+    × NotesGiven paced.id e.said bytes (held_at e paced.id) now paced.pacer pacer
 
 -- the link of an id read a datagram as one of its peer
 abbrev pub LinkReads : ℕ → Arrived → Type 0
 LinkReads id arrived = (received : Received) × (arrived ≡ Link id received) × (received ≢ Stranger)
 
--- after the link of an id read a datagram, its pacer counts as many outstanding units as the link has, if the
--- link is there. If the link did not read the datagram, the pacer is unchanged
-pub record NotesHeard (id : ℕ) (arrived : Arrived) (pacer pacer' : PacerView) (there : Option Held) : Type 0 where
+-- a link read a packet now, which changed its numbers from those before, and its pacer was told so: what the
+-- clauses of a pacer say of it. What is acknowledged moves the base, and begins the timeout anew, undoubled. Any
+-- other packet leaves the base, and the timeout too, unless it takes a unit out of flight during a repair. No
+-- credit changes
+pub record CountsHeard (old : PacerView) (before after : Numbers) (now : ℕ) (new : PacerView) : Type 0 where
+  pub counts : new.out ≡ after.out
+  pub acknowledged : after.out < before.out
+      → (new.timer ≡ waited_since None after.out now) × (new.trip.doubled ≡ 0)
+  pub waits : before.out ≤ after.out → WaitsOn old after.out now new × (new.trip.doubled ≡ old.trip.doubled)
+  pub still : before.out ≤ after.out → flight (with_outstanding old after.out now) ≤ flight new
+      → new.timer ≡ waited_since old.timer after.out now
+  pub timed : IsBounded new.trip
+  pub counted : before.out ≤ after.out → is_double before after ≡ false
+      → new ≡ record (with_outstanding old after.out now) { trip = new.trip }
+  pub mends : MendsOn old now new
+  pub ended : new.ended ≡ old.ended
+  pub base : after.out < before.out → new.base ≡ behind old.base (before.out - after.out)
+  pub unmoved : before.out ≤ after.out → new.base ≡ old.base
+  pub credit : (new.credit ≡ old.credit) × (new.tick ≡ old.tick)
+
+-- after the link of an id read a datagram now, its pacer counts as many outstanding units as the link has, and
+-- has heard how the link's numbers changed, if the link is there. If it was not there before, they changed
+-- nothing. If the link did not read the datagram, the pacer is unchanged
+pub record NotesHeard (id : ℕ) (arrived : Arrived) (before : Option Numbers) (now : ℕ) (pacer pacer' : PacerView)
+    (there : Option Held) : Type 0 where
   pub counts : LinkReads id arrived → IfSome there (λ h. pacer'.out ≡ h.link.out)
+  pub hears : LinkReads id arrived
+      → IfSome there (λ h. CountsHeard pacer (unwrap_or before (numbers_of h.link)) (numbers_of h.link) now pacer')
   pub stays : (LinkReads id arrived → ⊥) → pacer' ≡ pacer
 
 -- the same for the paced connection, if there is one
-abbrev pub NotesDatagram : Option Paced → Arrived → EndpointView → Option Paced → Type 0
-NotesDatagram None arrived e after = after ≡ None
-NotesDatagram (Some paced) arrived e after = (pacer : PacerView) × (after ≡ Some (record paced { pacer = pacer }))
-    × NotesHeard paced.id arrived paced.pacer pacer (held_at e paced.id)
-
--- an endpoint returns a result for a datagram, and the pacer is updated
-abbrev pub NotesAnswer : EndpointView → List ℕ → ℕ → EndpointView → Option Paced → Option Paced → Type 0
-NotesAnswer old bytes now new paced after =
-    (answer : Arrived) × Arrives old bytes now answer new × NotesDatagram paced answer new after
+abbrev pub NotesDatagram : Option Paced → Arrived → Option Numbers → ℕ → EndpointView → Option Paced → Type 0
+NotesDatagram None arrived before now e after = after ≡ None
+NotesDatagram (Some paced) arrived before now e after = (pacer : PacerView)
+    × (after ≡ Some (record paced { pacer = pacer }))
+    × NotesHeard paced.id arrived before now paced.pacer pacer (held_at e paced.id)
 
 -- the numbers of the link of the paced connection, if there is one
 abbrev pub paced_numbers : Option Paced → EndpointView → Option Numbers
 paced_numbers None e = None
 paced_numbers (Some paced) e = option_map (λ h. numbers_of h.link) (held_at e paced.id)
+
+-- an endpoint returns a result for a datagram, and the pacer is updated with how it changed the link's numbers
+abbrev pub NotesAnswer : EndpointView → List ℕ → ℕ → EndpointView → Option Paced → Option Paced → Type 0
+NotesAnswer old bytes now new paced after =
+    (answer : Arrived) × Arrives old bytes now answer new
+    × NotesDatagram paced answer (paced_numbers paced old) now new after
 
 -- the time at which the plan for the paced connection, if there is one, may change
 abbrev pub paced_due : Option Paced → ℕ → Option ℕ
@@ -118,14 +160,19 @@ abbrev pub IsAwake : Option Paced → Type 0
 IsAwake None = ⊥
 IsAwake (Some paced) = (0 < paced.pacer.out) ⊎ IsTrue (holds_back paced.pacer)
 
+-- the bytes of the packet that is given, if one is
+abbrev pub bytes_given : Option Given → List ℕ
+bytes_given None = []
+bytes_given (Some given) = given.bytes
+
 -- the core of a host is asked for a packet. The paced connection, if there is one, follows its plan. Then the
 -- endpoint is polled and gives a packet or none, and the pacer is updated
 pub record GivesAsPlanned (old : PacedHostCore) (now : ℕ) (given : Option Given) (new : PacedHostCore) : Type 0 where
   pub ready : EndpointView
   pub paced : Option Paced
-  pub plans : Plans old.paced paced old.endpoint ready
+  pub plans : Plans old.paced now paced old.endpoint ready
   pub gives : HostGives ready now given new.endpoint
-  pub notes : NotesPoll paced new.endpoint new.paced
+  pub notes : NotesPoll paced new.endpoint (bytes_given given) now new.paced
   pub core : new ≡ record old { endpoint = new.endpoint; moment = now; paced = new.paced }
 
 -- no packet is given until the host has noted an accepted connection. So a connection for which there is no

@@ -231,10 +231,10 @@ impl PacedHostCore {
         self.moment = now;
         plan(&mut self.paced, &mut self.endpoint, now);
         let polled = self.endpoint.poll(now, room);
-        note_poll(&mut self.paced, &self.endpoint, room, now);
         let Some((node, count)) = polled else {
             return None;
         };
+        note_poll(&mut self.paced, &self.endpoint, &room[..count], now);
         Some((0, node, count))
     }
 

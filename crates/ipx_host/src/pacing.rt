@@ -1,6 +1,9 @@
 //! The pacer of the connection of a sending host.
 
-ghost use Rattle.std.specs.Prelude.{◌≡◌, ◌≤◌, ◌+◌, IfOk, IfSome, IsNone, Some};
+ghost use Rattle.std.specs.Prelude.{◌≡◌, ◌≤◌, ◌+◌, IfOk, IfSome, IsNone, List, Some, ℕ};
+ghost use Rattle.ipx_wire.specs.Ipx.{BeginsWith, PacketView};
+ghost use Rattle.ipx_wire.specs.Spx.{IsSpx};
+ghost use Rattle.ipx_wire.specs.declared.spx.packet.SpxHeader.{SpxHeader};
 ghost use Rattle.spx_congestion.specs.Pacing.{made_pacer};
 ghost use Rattle.spx_messages.specs.EndpointView.{held_at};
 ghost use Rattle.ipx_host.specs.Paced.{FollowsPlan, HoldsBack, IsAwake, NotesDatagram, NotesPoll};
@@ -38,7 +41,10 @@ fn follow(endpoint: &mut Endpoint, id: u16, plan: Plan, given_up: bool)
 }
 
 /// Returns the datastream type of an SPX packet.
-fn stream_of(bytes: &[u8]) -> Option<u8> {
+fn stream_of(bytes: &[u8]) -> Option<u8>
+    ensures { (p : PacketView) (h : SpxHeader) (body : List ℕ) → BeginsWith bytes.now p
+        → IsSpx h body p.body → result ≡ Some h.stream }
+{
     let packet = decode(bytes).ok()?;
     let (header, _) = decode_spx(packet.body).ok()?;
     Some(header.stream)
@@ -67,7 +73,7 @@ impl Paced {
     /// Applies the plan of the pacer to the link for the next poll. The link becomes manual. If the
     /// connection is given up, its link is released.
     fn plan(&mut self, endpoint: &mut Endpoint, now: u64)
-        ensures { Plans (Some self.old) (Some self.new) endpoint.old endpoint.new }
+        ensures { Plans (Some self.old) now (Some self.new) endpoint.old endpoint.new }
     {
         let Ok(numbers) = endpoint.numbers(self.id) else {
             return;
@@ -80,7 +86,7 @@ impl Paced {
     /// Updates the pacer after a poll of the endpoint. If the endpoint returned a packet, it wrote
     /// the packet to the start of these bytes.
     fn gave(&mut self, endpoint: &Endpoint, bytes: &[u8], now: u64)
-        ensures { NotesPoll (Some self.old) endpoint.now (Some self.new) }
+        ensures { NotesPoll (Some self.old) endpoint.now bytes.now now (Some self.new) }
     {
         let Some((id, what)) = endpoint.sent() else {
             return;
@@ -97,7 +103,7 @@ impl Paced {
     /// Updates the pacer after a datagram, for which the endpoint returned this result. `before`
     /// has the numbers of the link before the datagram.
     fn heard(&mut self, endpoint: &Endpoint, arrived: Arrived, before: Option<Numbers>, now: u64)
-        ensures { NotesDatagram (Some self.old) arrived endpoint.now (Some self.new) }
+        ensures { NotesDatagram (Some self.old) arrived before now endpoint.now (Some self.new) }
     {
         let Arrived::Link(id, received) = arrived else {
             return;
@@ -133,7 +139,7 @@ pub fn due_of(paced: &Option<Paced>, now: u64) -> Option<u64>
 /// Applies the plan of the pacer to the paced connection, if there is one. Must be called before
 /// each poll.
 pub fn plan(paced: &mut Option<Paced>, endpoint: &mut Endpoint, now: u64)
-    ensures { Plans paced.old paced.new endpoint.old endpoint.new }
+    ensures { Plans paced.old now paced.new endpoint.old endpoint.new }
 {
     if let Some(paced) = paced {
         paced.plan(endpoint, now);
@@ -142,7 +148,7 @@ pub fn plan(paced: &mut Option<Paced>, endpoint: &mut Endpoint, now: u64)
 
 /// Updates the pacer after a poll, which wrote these bytes.
 pub fn note_poll(paced: &mut Option<Paced>, endpoint: &Endpoint, bytes: &[u8], now: u64)
-    ensures { NotesPoll paced.old endpoint.now paced.new }
+    ensures { NotesPoll paced.old endpoint.now bytes.now now paced.new }
 {
     if let Some(paced) = paced {
         paced.gave(endpoint, bytes, now);
@@ -166,7 +172,7 @@ pub fn note_datagram(
     before: Option<Numbers>,
     now: u64,
 )
-    ensures { NotesDatagram paced.old arrived endpoint.now paced.new }
+    ensures { NotesDatagram paced.old arrived before now endpoint.now paced.new }
 {
     if let Some(paced) = paced {
         paced.heard(endpoint, arrived, before, now);

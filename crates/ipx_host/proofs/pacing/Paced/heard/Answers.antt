@@ -7,7 +7,7 @@ pub returns-in_default : goal.returns-in_default
 returns-in_default c =
     let paced = c.args.self.now in
     let there = held_at c.args.endpoint.now paced.id in
-    (paced.pacer, refl, unread paced.id c.args.arrived paced.pacer there (read_none paced.id c.args.arrived c.in_default.not-Link))
+    (paced.pacer, refl, unread paced.id c.args.arrived c.args.before c.args.now paced.pacer there (read_none paced.id c.args.arrived c.in_default.not-Link))
 
 pub returns-then-id-self : goal.returns-then-id-self
 returns-then-id-self c =
@@ -15,7 +15,7 @@ returns-then-id-self c =
     let there = held_at c.args.endpoint.now paced.id in (
       paced.pacer,
       refl,
-      unread paced.id c.args.arrived paced.pacer there
+      unread paced.id c.args.arrived c.args.before c.args.now paced.pacer there
           (read_other paced.id c.in-Link.id c.in-Link.received c.args.arrived c.in-Link.is c.if-id-self.true),
     )
 
@@ -25,7 +25,7 @@ returns-in-Stranger c =
     let there = held_at c.args.endpoint.now paced.id in (
       paced.pacer,
       refl,
-      unread paced.id c.args.arrived paced.pacer there
+      unread paced.id c.args.arrived c.args.before c.args.now paced.pacer there
           (read_unknown_sender paced.id c.in-Link.id c.in-Link.received c.args.arrived c.in-Link.is c.in-Stranger.is),
     )
 
@@ -35,6 +35,6 @@ returns-in_default-numbers c =
     let there = held_at c.args.endpoint.now paced.id in (
       paced.pacer,
       refl,
-      heard_gone paced.id c.args.arrived paced.pacer there
+      heard_gone paced.id c.args.arrived c.args.before c.args.now paced.pacer there
           (absent there c.numbers.result c.in_default-numbers.field-0 c.numbers.ensures.known c.in_default-numbers.is),
     )

@@ -9,6 +9,6 @@ returns-in_default c =
     let e = c.args.endpoint.now in (
       paced.pacer,
       refl,
-      plans_none paced.id paced.pacer (held_at e paced.id) e
+      plans_none paced.id c.args.now paced.pacer (held_at e paced.id) e
           (absent (held_at e paced.id) c.numbers.result c.in_default.field-0 c.numbers.ensures.known c.in_default.is),
     )
