@@ -62,12 +62,15 @@ def check_busy(sites):
     sites.start_router(NAME)
     ends = {ip: bound(ip, sites.port) for ip in (FLOODED, SENDER, RECEIVER)}
     until(lambda: len(sites.routers[NAME].said()) >= 4, 10)
-    flooding = [sys.executable, __file__, str(sites.port)]
-    with subprocess.Popen(flooding, preexec_fn=die_with_the_parent) as flooder:
-        time.sleep(0.5)
+    flooding = [sys.executable, "-B", __file__, str(sites.port)]
+    found = {**os.environ, "PYTHONPATH": os.pathsep.join(sys.path)}
+    with subprocess.Popen(flooding, preexec_fn=die_with_the_parent, env=found) as flooder:
+        is_flooded = until(lambda: select.select([ends[FLOODED]], [], [], 0)[0], 10)
         watch = Watch(sites.routers[NAME].popen.pid)
         came = came_of(ends, sites.port, sites.routers[NAME].popen.pid)
+        goes_on = flooder.poll() is None
         flooder.kill()
+    sites.check("a port is flooded, and what comes goes on to another one", is_flooded and goes_on)
     sites.check(f"{PACKETS} packets of one port pass while another is flooded", len(came) == PACKETS, f"{len(came)} came")
     if came:
         sites.check(f"half of them within {MOST_MS} ms", came[len(came) // 2] <= MOST_MS,
