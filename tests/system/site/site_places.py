@@ -1,11 +1,13 @@
-"""Who gets a slot of a listener with --once, and how long it stays, who gets one where other nodes hold all that they may, what
-comes of those that ended before their bytes were written, and the share of each sender if the output is read slowly, for
-`sites`."""
+"""Who gets a slot of a listener with --once, and how long it stays, who gets one where other nodes hold all that they may, where
+its own node does, and while many requests come in its name or of another node, what comes of those that ended before their
+bytes were written, and the share of each sender if the output is read slowly, for `sites`."""
 import collections
+import itertools
 import os
 import re
 import select
 import struct
+import sys
 import threading
 import time
 
@@ -24,11 +26,16 @@ HELD = {"one": ("127.0.1.43", "127.0.1.44", ["127.0.1.45"]),
         "busy": ("127.0.1.73", "127.0.1.74", ["127.0.1.75", "127.0.1.76"]),
         "uneven": ("127.0.1.25", "127.0.1.26", ["127.0.1.27", "127.0.1.28", "127.0.1.29"]),
         "own": ("127.0.1.38", "127.0.1.39", ["127.0.1.77", "127.0.1.78"]),
-        "ended": ("127.0.1.176", "127.0.1.177", ["127.0.1.178", "127.0.1.179"])}
+        "ended": ("127.0.1.176", "127.0.1.177", ["127.0.1.178", "127.0.1.179"]),
+        "restarted": ("127.0.1.140", "127.0.1.141", ["127.0.1.141"]),
+        "flooded": ("127.0.1.249", "127.0.1.250", ["127.0.1.251", "127.0.1.252", "127.0.1.253", "127.0.1.254", "127.0.1.7",
+                                                   "127.0.1.8", "127.0.1.9", "127.0.1.17", "127.0.1.18"])}
 HELD_ADDRESSES = [address for listener, sender, nodes in HELD.values() for address in (listener, sender, *nodes)]
 # A listener with --once, and a node that repeats the end of its connection.
 STAYING, REPEATING = "127.0.1.33", "127.0.1.34"
-PLACES = [ONCE, FIRST, SECOND, SLOW, *BOTH, *HELD_ADDRESSES, STAYING, REPEATING]
+# A listener whose router forwards from another network, the router, and a sender on that network, which has this node.
+FORGED, FORGER, NAMED, FARTHER = "127.0.1.168", "127.0.1.169", "127.0.1.186", "00000045"
+PLACES = [ONCE, FIRST, SECOND, SLOW, *BOTH, *HELD_ADDRESSES, STAYING, REPEATING, FORGED, FORGER, NAMED]
 # A sender that gets no answer ends within this number of seconds, and one that is to get through where nodes hold connections
 # within that.
 ENDS, THROUGH = 6, 15
@@ -41,6 +48,13 @@ ASKING = 1.6
 REPLACING = 3
 # How many connections each of three nodes asks for, and how many it gets. The third one is silent.
 UNEVEN, GOT = (6, 6, 5), [5, 6, 5]
+# How many connections each of nine nodes holds; how often the first one asks for more then, each second, and how often at once,
+# so that what one request evicts the next one takes; and for how many seconds before another node asks.
+FLOODED, FLOOD, AT_ONCE, FLOODING = [7] + [1] * 8, 1000, 20, 1
+# How often somebody asks in the name of a node, in seconds: so that each fifth request comes before the first of four is a
+# second old, and the next one long after it is. And for how many seconds before that node asks: four are held then, of which
+# the first is not given up before the sender ends that gets no answer.
+FORGING, BEFORE = 0.24, 1
 # The units of each connection that ends before its bytes are written, the bytes of each unit, and the buffers of the listener.
 UNITS, UNIT, BUFFERS = 56, 534, 64
 END, CONFIRMATION = 0xfe, 0xff
@@ -191,11 +205,12 @@ class Holder:
         return [number for number in self.numbers if self.is_heard(number)]
 
 
-def start_later(sites, name, go, data):
+def start_later(sites, name, go, data, listener=None):
     """The sender to one of the listeners, which waits for an event first."""
     sender = sites.world.start(
         f"{name}-kept-out", "-c", 'read -r line && exec "$0" "$@"', sites.world.program, "send",
-        sites.world.path(f"{name}-kept-out.toml"), NETWORK, node(HELD[name][0]), "4002", stdin=True, program="/bin/sh")
+        sites.world.path(f"{name}-kept-out.toml"), NETWORK, node(listener or HELD[name][0]), "4002", stdin=True,
+        program="/bin/sh")
     sender.feed([go, b"\n", data])
     return sender
 
@@ -210,7 +225,8 @@ class Held:
         address, sender, nodes = HELD[name]
         self.speaking, self.every, self.after = speaking, every, after
         sites.host(f"{name}-holders", NETWORK, address, "127.0.1.89", "4002", listed("peers", [sender, *nodes]))
-        sites.host(f"{name}-kept-out", NETWORK, sender, "127.0.1.89", "4003")
+        # It has a socket of its own, since it may be of one of the nodes.
+        sites.host(f"{name}-kept-out", NETWORK, sender, "127.0.1.89", "4004")
         self.data = bytes(byte | 128 for byte in some_bytes(sites.seed + 14, 20_000))
         self.listener = sites.start_listener(name=f"{name}-holders")
         # The main thread starts the sender, which waits for a line first.
@@ -248,9 +264,16 @@ class Held:
                     holder.speak()
             if now >= start + self.after and not self.ending:
                 self.accepted = [len(holder.accepted) for holder in self.holders]
-                self.evicted = [line for line in self.listener.said() if "evicted" in line]
-                self.ending = Ending(self.sender)
-                self.go.set()
+                self.start_sender()
+        self.speak()
+
+    def start_sender(self):
+        self.evicted = [line for line in self.listener.said() if "evicted" in line]
+        self.ending = Ending(self.sender)
+        self.go.set()
+
+    def speak(self):
+        """Each node speaks on each connection, and those are counted on which that is acknowledged."""
         for holder in self.holders:
             holder.speak()
         time.sleep(0.5)
@@ -269,6 +292,111 @@ class Held:
     def end(self):
         for holder in self.holders:
             holder.socket.close()
+        for process in (self.listener, self.sender):
+            process.end()
+
+
+class Restarted(Held):
+    """A node holds as many connections as it may have, and sends on each. Its socket is closed then, as that of a program that
+    ended, and after SILENCE seconds a sender of the same node asks for one more. In the end the node speaks on each, which
+    shows which of them are still held."""
+
+    def __init__(self, sites):
+        super().__init__(sites, "restarted", [OF_A_NODE], 0, 0, SILENCE)
+
+    def run(self):
+        holder, = self.holders
+        until(self.ask, 10)
+        self.accepted = [len(holder.accepted)]
+        holder.socket.close()
+        time.sleep(self.after)
+        self.start_sender()
+        self.ending.thread.join(30)
+        holder.socket = bound(holder.ip, holder.port)
+        self.speak()
+
+
+class Flooded(Held):
+    """A node holds many connections, others one each, and all are silent for SILENCE seconds. Then another process asks from the
+    first one again and again, until a sender of one more node has ended. In the end each node speaks on each connection."""
+
+    def __init__(self, sites):
+        listener, _, nodes = HELD["flooded"]
+        self.flood = threading.Event()
+        self.flooder = sites.world.start(
+            "flooder", "-B", os.path.abspath(__file__), nodes[0], listener, str(sites.port), stdin=True, program=sys.executable,
+            environment={"PYTHONPATH": os.pathsep.join(sys.path)})
+        self.flooder.feed([self.flood, b"\n"])
+        super().__init__(sites, "flooded", FLOODED, 0, 0, SILENCE)
+
+    def run(self):
+        first = self.holders[0]
+        until(self.ask, 10)
+        self.accepted = [len(holder.accepted) for holder in self.holders]
+        time.sleep(self.after)
+        first.socket.close()
+        self.flood.set()
+        time.sleep(FLOODING)
+        self.start_sender()
+        self.ending.thread.join(30)
+        self.flooder.end()
+        first.socket = bound(first.ip, first.port)
+        self.speak()
+
+    def end(self):
+        self.flooder.end()
+        super().end()
+
+
+class Forged:
+    """A listener, and a router that forwards between it and a node of another network. Somebody beyond that router asks for
+    connections in the name of that node. Then a sender of that node starts."""
+
+    def __init__(self, sites):
+        sites.host("forged-holder", NETWORK, FORGED, FORGER, "4002")
+        sites.host("forged-kept-out", FARTHER, NAMED, FORGER, "4003")
+        self.port, self.socket = sites.port, bound(FORGER, sites.port)
+        self.data = some_bytes(sites.seed + 15, 20_000)
+        self.listener = sites.start_listener(name="forged-holder")
+        self.go, self.ending = threading.Event(), None
+        self.sender = start_later(sites, "forged", self.go, self.data, FORGED)
+        until(self.listener.said, 5)
+        self.thread = threading.Thread(target=self.run, daemon=True)
+        self.thread.start()
+
+    def forge(self, number):
+        """A request in the name of the node, from another of its sockets."""
+        header = struct.pack(">BBHHHHH", 0xc0, 0, number, 0xffff, 0, 0, 7)
+        source = (FARTHER, node(NAMED), "4004")
+        self.socket.sendto(ipx(5, (NETWORK, node(FORGED), "4002"), source, header, 1), (FORGED, self.port))
+
+    def forward(self):
+        """Forwards what comes, for some time."""
+        if select.select([self.socket], [], [], 0.01)[0]:
+            packet = bytearray(self.socket.recv(2048))
+            packet[4] += 1
+            self.socket.sendto(packet, (FORGED if packet[6:10].hex() == NETWORK else NAMED, self.port))
+
+    def run(self):
+        start, number = time.monotonic(), 0
+        while not self.ending or self.ending.thread.is_alive():
+            now = time.monotonic()
+            if now >= start + number * FORGING:
+                number += 1
+                self.forge(number)
+            if now >= start + BEFORE and not self.ending:
+                self.ending = Ending(self.sender)
+                self.go.set()
+            self.forward()
+
+    def ended(self):
+        """The status of the sender, after how many seconds it ended, what it said, and what the listener wrote."""
+        self.thread.join(40)
+        seconds = self.ending.seconds or 99 if self.ending else 99
+        return self.sender.status(0), seconds, self.sender.said(), bytes(self.listener.out)
+
+    def end(self):
+        self.socket.close()
         for process in (self.listener, self.sender):
             process.end()
 
@@ -410,13 +538,17 @@ def start_held(sites):
     """A node that asks for all connections; two that hold all, of which one is silent then, and the other one asks for one more;
     two that go on to speak; three that hold all, of which the one with the fewest is silent, and the other one with so few asks
     for one more; two that hold all and are silent, of which one asks for one more; and two that end all before their bytes are
-    written. And a node that repeats its end."""
+    written. A node that holds all that it may, and restarts; one that asks again and again; and one in whose name somebody else
+    does. And a node that repeats its end."""
     return {"one": Held(sites, "one", [MOST], 1, 5, 0),
             "silent": Held(sites, "silent", [OF_A_NODE + 1, OF_A_NODE], 1, 3, SILENCE + ASKING),
             "busy": Held(sites, "busy", [OF_A_NODE] * 2, 2, 3, SILENCE),
             "uneven": Held(sites, "uneven", UNEVEN, 2, 3, SILENCE + ASKING),
             "own": Held(sites, "own", [OF_A_NODE + 1, OF_A_NODE], 0, 3, SILENCE + ASKING + REPLACING),
             "ended": Ended(sites),
+            "restarted": Restarted(sites),
+            "flooded": Flooded(sites),
+            "forged": Forged(sites),
             "repeated": Repeated(sites)}
 
 
@@ -447,6 +579,10 @@ def check_held(sites, held):
                 f"{busy.accepted} accepted, {busy.heard} acknowledged")
     check_line(sites, "and its requests are counted", busy, AWAY)
     check_ended(sites, held["ended"])
+    check_restarted(sites, held["restarted"])
+    check_flooded(sites, held["flooded"])
+    check_through(sites, f"a sender in whose name somebody else asks {1 / FORGING:.0f} times a second gets through",
+                  held["forged"])
     for it in held.values():
         it.end()
 
@@ -485,6 +621,23 @@ def check_ended(sites, it):
                 f"missing, by their value: {missing}" if missing else "")
 
 
+def check_restarted(sites, it):
+    """A node replaces a silent connection of its own where it holds as many as it may have, though there are free slots."""
+    check_through(sites, f"a sender of a node with {OF_A_NODE} connections that are silent for 10 s gets through, if no other "
+                  "node has any", it)
+    sites.check("for which one of those is evicted", it.accepted == [OF_A_NODE] and it.heard == [OF_A_NODE - 1],
+                f"{it.accepted} accepted, {it.heard} acknowledged")
+    check_line(sites, "and is counted there", it, EVICTED)
+
+
+def check_flooded(sites, it):
+    """A node that asks for more and more protects none of its own silent connections."""
+    check_through(sites, f"a sender gets through while a node with {FLOODED[0]} silent connections asks for more, some {FLOOD} "
+                  "times a second, and others hold the rest", it)
+    sites.check("and those others keep theirs", it.accepted == FLOODED and it.heard[1:] == FLOODED[1:],
+                f"{it.accepted} accepted, {it.heard} acknowledged")
+
+
 def check_through(sites, name, held):
     """The sender ends with status 0 soon, and all its bytes came."""
     status, took, said, came = held.ended()
@@ -495,3 +648,17 @@ def check_through(sites, name, held):
 def check_line(sites, name, held, line):
     """The listener logged such a line."""
     sites.check(name, any(re.fullmatch(line, said) for said in held.listener.said()), str(held.listener.said()[-2:]))
+
+
+def flood(ip, listener, udp_port):
+    """Asks a listener for connections from a node, each time another one, until it is ended."""
+    with bound(ip, udp_port) as one:
+        for first in itertools.cycle(range(0x1000, 0xf000, AT_ONCE)):
+            for number in range(first, first + AT_ONCE):
+                call(one, ip, listener, udp_port, number)
+            time.sleep(AT_ONCE / FLOOD)
+
+
+if __name__ == "__main__":
+    sys.stdin.readline()
+    flood(*sys.argv[1:3], int(sys.argv[3]))
