@@ -1,4 +1,4 @@
-//! The connections of a host that listens: they come, pass what they hold, are asked, and go.
+//! The connections of a host that listens: how they are accepted, read, probed and released.
 
 ghost use Rattle.std.specs.Prelude.{◌≡◌, ◌<◌, ◌≤◌, [], ℕ, List, false, is_some, length, map, position, remove, slice_get, slice_set, vec_capacity, IfOk, IfSome, IsTrue, OnErr, OnOk, Err, Ok};
 ghost use Rattle.ipx_carrier.specs.Counting.{raised};
@@ -37,7 +37,7 @@ use std::io::Write;
 use std::net::Net;
 use std::rt::Clock;
 
-/// Logs that a connection is lost, where it was heard and its end did not come.
+/// Logs that a connection was lost, if data was received on it and its end was not.
 fn tell_parted<R: Log>(rt: &R, session: &Session, fate: SessionAction) {
     let ended = fate == SessionAction::Over && session.phase == Phase::Ended;
     if session.is_heard() && !ended {
@@ -46,7 +46,7 @@ fn tell_parted<R: Log>(rt: &R, session: &Session, fate: SessionAction) {
     }
 }
 
-/// Whether a host stops once a connection of this standing went by this fate.
+/// Whether a host stops after a connection in this phase ends by this action.
 fn stop_of(once: bool, fate: SessionAction, phase: Phase) -> Result<(), ListenOutcome>
     ensures stops { stop_in result ≡ parted once fate phase }
     ensures only { OnErr result (IsTrue once) }
@@ -61,11 +61,12 @@ fn stop_of(once: bool, fate: SessionAction, phase: Phase) -> Result<(), ListenOu
     }
 }
 
-/// The connections that a host that listens holds, and what was taken of them and is left to write.
+/// The connections of a host that listens, and the output that is not written yet.
 pub struct Sessions {
     pub held: Vec<Session>,
     pub output: Outlet,
-    /// Whether the first connection that is heard is the only one, and all is over with it.
+    /// Whether the first connection on which data is received is the only one, and the host stops when
+    /// it ends.
     pub once: bool,
     /// The number of connections that ended without sending data.
     never_heard: u64,
@@ -97,7 +98,7 @@ impl Drop for Sessions {
 }
 
 impl Sessions {
-    /// None is held yet, and nothing is left to write for the writer behind this gate.
+    /// No connections and no pending output, for the writer that this gate checks.
     pub fn new(alloc: Global, gate: Gate, once: bool) -> Result<Sessions, AllocError>
         ensures nobody { IfOk result (λ c. c.held.items ≡ []) }
         ensures nothing { IfOk result (λ c. left_of c.output ≡ []) }
@@ -116,7 +117,7 @@ impl Sessions {
         })
     }
 
-    /// Takes from each connection. It answers whether there was anything.
+    /// Takes from each connection. Returns whether it took anything.
     fn take_all<W: Write>(
         &mut self,
         alloc: Global,
@@ -140,8 +141,8 @@ impl Sessions {
         take_each(alloc, endpoint, &mut self.output, &mut self.held, writer)
     }
 
-    /// Writes what is left to write, and then takes from each connection. It answers whether it
-    /// wrote or took anything.
+    /// Writes what is left to write, and then takes from each connection. Returns whether it wrote or
+    /// took anything.
     pub fn pass<W: Write>(
         &mut self,
         alloc: Global,
@@ -167,8 +168,8 @@ impl Sessions {
     }
 
     /// Holds a connection that was accepted at a moment if there is a free slot. Otherwise it is turned
-    /// away before it is answered. If its node holds as many as it may
-    /// hold, an overdue or silent one of these is evicted first.
+    /// away before it is answered. If its node holds as many as it may, an overdue or silent one of
+    /// these is evicted first.
     fn admit<R: Log>(&mut self, rt: &R, endpoint: &mut Endpoint, accepted: Accepted, moment: u64)
         ensures admits { AdmitsRequest self.old.once moment accepted
             endpoint.old endpoint.new self.old.held.items self.new.held.items }
@@ -200,7 +201,8 @@ impl Sessions {
         self.turned_away = count_if(is_turned_away, self.turned_away);
     }
 
-    /// Notes that a connection was heard. With `once` it stays alone.
+    /// Records that a connection received something. With `once`, all other connections are
+    /// released.
     fn hear_session(&mut self, endpoint: &mut Endpoint, id: u16, moment: u64)
         ensures heard { KeepsHeard self.old.once endpoint.old endpoint.new
             (map (heard_by id moment) self.old.held.items) self.new.held.items }
@@ -212,7 +214,7 @@ impl Sessions {
         hear_session(self.once, endpoint, &mut self.held, id, moment);
     }
 
-    /// Evicts a connection, if there is one to evict, since there was no link for a request from an
+    /// Evicts a connection, if there is one to evict, because no link was free for a request from an
     /// address. That request is turned away.
     fn make_space<R: Log>(&mut self, rt: &R, endpoint: &mut Endpoint, moment: u64, asker: &Address)
         ensures room { MakesSpace self.old.once moment asker.now endpoint.old endpoint.new
@@ -237,7 +239,7 @@ impl Sessions {
         self.turned_away = count_if(true, self.turned_away);
     }
 
-    /// Notes which connection the last datagram was of, or made, or did not find room for.
+    /// Records which connection the last datagram belonged to, opened, or could not open.
     pub fn note<R: Log>(&mut self, rt: &R, core: &mut PacedHostCore)
         ensures notes { NotesHeard self.old.once core.old core.new
             self.old.held.items self.new.held.items }
@@ -263,8 +265,7 @@ impl Sessions {
         }
     }
 
-    /// Asks whether the connection at a place is still there. Where memory is refused, that is
-    /// counted.
+    /// Probes the connection at a place. If memory runs out, that is counted.
     fn ask<R: Net + Log + Clock>(
         &mut self,
         alloc: Global,
@@ -375,7 +376,7 @@ impl Sessions {
         }
     }
 
-    /// Lets a connection go. With `once` all is over then, where it was heard.
+    /// Releases a connection. With `once`, the host stops if data was received on it.
     fn let_go<R: Log>(
         &mut self,
         rt: &R,
@@ -406,7 +407,7 @@ impl Sessions {
         stop_of(self.once, fate, session.phase)
     }
 
-    /// Does what is to be done with the connection at a place.
+    /// Releases or probes the connection at a place, by its action.
     fn tend<R: Net + Log + Clock>(
         &mut self,
         rt: &R,
@@ -447,7 +448,7 @@ impl Sessions {
         }
     }
 
-    /// Lets go the connections that are over or given up, and asks those that are silent.
+    /// Releases the connections that have ended or are lost, and probes those that are silent.
     pub fn reap<R: Net + Log + Clock>(
         &mut self,
         rt: &R,
