@@ -332,7 +332,7 @@ impl Sessions {
         let count = self.evicted;
         if let Some(more) = self.of_evicted.tell(count, moment) {
             warn!(rt; target: "ipx",
-                "{more} connections were evicted after 10 s of silence, since all were taken ({count} since the start)");
+                "{more} connections were evicted after 10 s of silence, for new requests ({count} since the start)");
         }
     }
 

@@ -63,7 +63,7 @@ TIMES, PAUSE, STAYS = 4, 2, (2.5, 4)
 # How many bytes of the slow output are read each second, for how many seconds, and the least share of each sender.
 RATE, SECONDS, SHARE = 1_000_000, 6, 1 / 3
 AWAY = r"\[WARN  ipx\] \d+ requests were turned away: no free slot \((\d+) since the start\)"
-EVICTED = r"\[WARN  ipx\] 1 connections were evicted after 10 s of silence, since all were taken \(1 since the start\)"
+EVICTED = r"\[WARN  ipx\] 1 connections were evicted after 10 s of silence, for new requests \(1 since the start\)"
 
 
 class Ending:
@@ -205,12 +205,13 @@ class Holder:
         return [number for number in self.numbers if self.is_heard(number)]
 
 
-def start_later(sites, name, go, data, listener=None):
-    """The sender to one of the listeners, which waits for an event first."""
+def start_later(sites, name, go, data, listener=None, again=0):
+    """The sender to one of the listeners, which waits for an event first. It is started again so often if it gets no answer: it
+    reads nothing before it has one."""
+    script = "read -r line && " + '"$0" "$@" || ' * again + 'exec "$0" "$@"'
     sender = sites.world.start(
-        f"{name}-kept-out", "-c", 'read -r line && exec "$0" "$@"', sites.world.program, "send",
-        sites.world.path(f"{name}-kept-out.toml"), NETWORK, node(listener or HELD[name][0]), "4002", stdin=True,
-        program="/bin/sh")
+        f"{name}-kept-out", "-c", script, sites.world.program, "send", sites.world.path(f"{name}-kept-out.toml"), NETWORK,
+        node(listener or HELD[name][0]), "4002", stdin=True, program="/bin/sh")
     sender.feed([go, b"\n", data])
     return sender
 
@@ -220,6 +221,8 @@ class Held:
     nodes, `speaking`, speak again each `every` seconds. The sender starts after `after` seconds, and all goes on for `every`
     seconds at least. In the end each node speaks on each connection, which shows which of them are still held. The last node
     asks first; the others ask on for what they did not get, until the sender starts if that is later."""
+    # How often the sender is started again.
+    again = 0
 
     def __init__(self, sites, name, wanted, speaking, every, after):
         address, sender, nodes = HELD[name]
@@ -231,7 +234,7 @@ class Held:
         self.listener = sites.start_listener(name=f"{name}-holders")
         # The main thread starts the sender, which waits for a line first.
         self.go, self.ending = threading.Event(), None
-        self.sender = start_later(sites, name, self.go, self.data)
+        self.sender = start_later(sites, name, self.go, self.data, again=self.again)
         until(self.listener.said, 5)
         self.holders = [Holder(sites, ip, address, number) for ip, number in zip(nodes, wanted)]
         # The connections that were accepted of each node as the sender starts, and on which all is acknowledged at last.
@@ -319,6 +322,8 @@ class Restarted(Held):
 class Flooded(Held):
     """A node holds many connections, others one each, and all are silent for SILENCE seconds. Then another process asks from the
     first one again and again, until a sender of one more node has ended. In the end each node speaks on each connection."""
+    # It needs six of ten requests, and more where the machine is busy.
+    again = 1
 
     def __init__(self, sites):
         listener, _, nodes = HELD["flooded"]
@@ -632,8 +637,8 @@ def check_restarted(sites, it):
 
 def check_flooded(sites, it):
     """A node that asks for more and more protects none of its own silent connections."""
-    check_through(sites, f"a sender gets through while a node with {FLOODED[0]} silent connections asks for more, some {FLOOD} "
-                  "times a second, and others hold the rest", it)
+    check_through(sites, f"a sender that dials twice at most gets through while a node with {FLOODED[0]} silent connections asks "
+                  f"for more, some {FLOOD} times a second, and others hold the rest", it)
     sites.check("and those others keep theirs", it.accepted == FLOODED and it.heard[1:] == FLOODED[1:],
                 f"{it.accepted} accepted, {it.heard} acknowledged")
 
