@@ -15,7 +15,7 @@ use Rattle.spx_messages.specs.declared.fault.EndFault.{EndFault}
 use Rattle.ipx_host.specs.Hosting.{HearsOneOut, Host, IsOneIfHeard, MovesSome, NotesIf, Serves, StepView, Steps, StepsWithoutStop, WritesAndPasses, end_of, takes_of}
 use Rattle.ipx_host.specs.Passing.{PassesEach, PassesFrom, Take, TakesWhileOpen, held_after, phase_after, phase_with, takes_after, takes_each, takes_from}
 use Rattle.ipx_host.specs.SessionActions.{ends, is_unheard, phase_heard}
-use Rattle.ipx_host.specs.Sessions.{Admits, Asks as IsAsked, DoesNoted, Evicts, has_spoken, heard_by, is_at_limit, is_ended, is_of_node, is_overdue, LetsLinkGo, LetsLinksGo, once_heard, place_of_own, place_to_free, session_of}
+use Rattle.ipx_host.specs.Sessions.{Admits, Asks as IsAsked, DoesNoted, Evicts, has_spoken, heard_by, is_at_limit, is_ended, is_of_node, is_overdue, is_unanswered, LetsLinkGo, LetsLinksGo, once_heard, place_of_own, place_to_free, session_of}
 use Rattle.ipx_host.specs.Tending.{DoesAction, TendsFirst, TendsOn}
 use Rattle.ipx_host.specs.declared.listening.ListenOutcome.{ListenOutcome}
 use Rattle.ipx_host.specs.declared.listening.ListenOutcome.TheVariants as Stops
@@ -108,9 +108,9 @@ no_room_by now id from asker c e e' ts (Some zero) one is d =
 no_room_by now id from asker c e e' ts (Some (suc n)) one is d = absurd (omega (arith, (position-Some (is_overdue now) (c ∷ []) (suc n) c is).0))
 
 own_at : (now : ℕ) (asker : Address) (c : Session) (e : EndpointView) (k id : ℕ) (from : Address) → Is id from c → k < 1
-    → (is_overdue now (get_or (c ∷ []) k c) && is_of_node e.network asker (get_or (c ∷ []) k c)) ≡ true → ⊥
+    → (is_unanswered now (get_or (c ∷ []) k c) && is_of_node e.network asker (get_or (c ∷ []) k c)) ≡ true → ⊥
 own_at now asker c e zero id from one within is =
-    not_overdue (is_unheard c.phase) (nat_le 1000 (now - c.heard)) one.2 (both_left (is_overdue now c) (is_of_node e.network asker c) is)
+    not_overdue (is_unheard c.phase) (nat_le 1500 (now - c.heard)) one.2 (both_left (is_unanswered now c) (is_of_node e.network asker c) is)
 own_at now asker c e (suc k) id from one within is = omega (arith, within)
 
 only_if : (b : Bool) (o : Option ℕ) (k : ℕ) → cond (not b) None o ≡ Some k → o ≡ Some k
@@ -121,7 +121,7 @@ own_by : (now id : ℕ) (from asker : Address) (c : Session) (e mid : EndpointVi
     → Evicts found e mid (c ∷ []) ts → ts ≡ c ∷ []
 own_by now id from asker c e mid ts None one is d = d.0
 own_by now id from asker c e mid ts (Some k) one is d =
-    let own : Session → Bool = λ k. is_overdue now k && is_of_node e.network asker k in
+    let own : Session → Bool = λ k. is_unanswered now k && is_of_node e.network asker k in
     let at = position-Some own (c ∷ []) k c (only_if (is_at_limit e.network asker (c ∷ [])) (position own (c ∷ [])) k is) in
     absurd (own_at now asker c e k id from one at.0 at.1)
 

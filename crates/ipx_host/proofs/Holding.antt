@@ -15,7 +15,7 @@ use Rattle.spx_messages.specs.Taking.{TakenView, Nothing, Part, PeerEnd, Whole, 
 use Rattle.spx_messages.specs.declared.fault.EndFault.{EndFault}
 use Rattle.ipx_wire.specs.declared.address.Address.{Address}
 use Rattle.ipx_wire.specs.declared.address.Network.{Network}
-use Rattle.ipx_host.specs.Sessions.{Admits, Asks as IsAsked, Evicts, has_spoken, heard_by, is_at_limit, is_ended, is_of_node, is_overdue, is_to_go, KeepsHeard, KeepsOne, LetsLinkGo, LetsLinksGo, MakesSpace, once_heard, OnlyEnded, place_of_own, place_of_own_overdue, place_to_free, without}
+use Rattle.ipx_host.specs.Sessions.{Admits, Asks as IsAsked, Evicts, has_spoken, heard_by, is_at_limit, is_ended, is_of_node, is_overdue, is_to_go, is_unanswered, KeepsHeard, KeepsOne, LetsLinkGo, LetsLinksGo, MakesSpace, once_heard, OnlyEnded, place_of_own, place_of_own_unanswered, place_to_free, without}
 use Rattle.ipx_host.specs.HostOutput.{Writes}
 use Rattle.ipx_host.specs.Tending.{DoesAction, IsActionFor, JustStays, Tends}
 use Rattle.ipx_host.specs.declared.paced_host_core.PacedHostCore.{PacedHostCore}
@@ -511,10 +511,10 @@ keeps_admitted once cs cs' left c old new called (inl p) keeps =
     (keeps_push once cs left c (λ is. elim (either (list_any has_spoken cs)) [ inl some ↦ absurd (p.0 (inl (is, some))) | inr none ↦ none ]) called keeps)
 keeps_admitted once cs cs' left c old new called (inr p) keeps = subst (λ (l : List Session). KeepsOne once l left) (sym p.1) keeps
 
--- of its own node an overdue one is evicted
+-- of its own node an unanswered one is evicted
 own_within : (b : Bool) (now : ℕ) (own : Network) (from : Address) (cs : List Session) (place : ℕ) (d : Session)
-    → (if not b then None else place_of_own_overdue own now from cs) ≡ Some place → place < length cs
-own_within true now own from cs place d is = (position-Some (λ (c : Session). is_overdue now c && is_of_node own from c) cs place d is).0
+    → (if not b then None else place_of_own_unanswered own now from cs) ≡ Some place → place < length cs
+own_within true now own from cs place d is = (position-Some (λ (c : Session). is_unanswered now c && is_of_node own from c) cs place d is).0
 own_within false now own from cs place d is = absurd (cc)
 
 own_kept : (now : ℕ) (from : Address) (cs cs' : List Session) (left : List ℕ) (old new : EndpointView) (found : Option ℕ) → place_of_own true old.network old now from cs ≡ found

@@ -96,6 +96,10 @@ KeepsHeard true old new sessions sessions' = MatchOption (position has_spoken se
 abbrev pub is_overdue : ℕ → Session → Bool
 is_overdue now c = is_unheard c.phase && nat_le 1000 (now - c.heard)
 
+-- the same half a second later: the probe was not answered
+abbrev pub is_unanswered : ℕ → Session → Bool
+is_unanswered now c = is_unheard c.phase && nat_le 1500 (now - c.heard)
+
 -- nothing was received on a connection for ten seconds, or it could not be probed so long ago
 abbrev pub is_silent : ℕ → Session → Bool
 is_silent now c = nat_le 10000 (now - c.heard)
@@ -165,18 +169,18 @@ abbrev pub is_at_limit : Network → Address → List Session → Bool
 is_at_limit own from sessions = nat_le 8 (count_by (is_of_node own from) sessions)
     || nat_le 4 (count_by (is_unheard_of own from) sessions)
 
--- the first overdue connection of that node
-abbrev pub place_of_own_overdue : Network → ℕ → Address → List Session → Option ℕ
-place_of_own_overdue own now from sessions =
-    position (λ c. is_overdue now c && is_of_node own from c) sessions
+-- the first unanswered connection of that node
+abbrev pub place_of_own_unanswered : Network → ℕ → Address → List Session → Option ℕ
+place_of_own_unanswered own now from sessions =
+    position (λ c. is_unanswered now c && is_of_node own from c) sessions
 
 -- the connection that is evicted for another one of its own node, if the node has as many as it may have: the
--- first overdue one, or if each was heard from, and without `once`, a silent one
+-- first unanswered one, or if each was heard from, and without `once`, a silent one
 abbrev pub place_of_own : Bool → Network → EndpointView → ℕ → Address → List Session → Option ℕ
 place_of_own once own e now from sessions =
-    let overdue = place_of_own_overdue own now from sessions in
+    let unanswered = place_of_own_unanswered own now from sessions in
     if not (is_at_limit own from sessions) then None
-    else (if once || is_some overdue then overdue
+    else (if once || is_some unanswered then unanswered
     else (if list_any (is_unheard_of own from) sessions then None
     else position (is_first_own own e now from sessions) sessions))
 
@@ -215,7 +219,7 @@ is_silent_evicted once own e now asker sessions = is_some (place_to_free once ow
 -- the same for one of its own node
 abbrev pub is_own_evicted : Bool → Network → EndpointView → ℕ → Address → List Session → Bool
 is_own_evicted once own e now from sessions = is_some (place_of_own once own e now from sessions)
-    && not (is_some (place_of_own_overdue own now from sessions))
+    && not (is_some (place_of_own_unanswered own now from sessions))
 
 -- a request is counted exactly if there is no slot for its connection
 abbrev pub CountsTurnedAway : Bool → Network → Address → List Session → ℕ → ℕ → Type 0

@@ -3,7 +3,7 @@
 
 ghost use Rattle.std.specs.Prelude.{◌≡◌, ◌↔◌, ◌<◌, ◌≤◌, ◌&&◌, true, count_by, is_some, length, map, nat_lt, position, slice_get, vec_capacity, IfSome, IsTrue};
 ghost use Rattle.std.specs.List.{list_any};
-ghost use Rattle.ipx_host.specs.Sessions.{Admits, Asks, Evicts, IsAskedUnless, HasNoPlaceFor, IsOutOfMemory, KeepsHeard, LetsLinkGo, LetsLinksGo, MakesSpace, goes_before, has_more, heard_by, has_spoken, is_at_limit, is_first_own, is_of_node, is_overdue, is_own_silent, is_to_go, is_unheard_of, may_go, may_go_for, place_of_own, place_of_own_overdue, place_to_free, protects, raised_if};
+ghost use Rattle.ipx_host.specs.Sessions.{Admits, Asks, Evicts, IsAskedUnless, HasNoPlaceFor, IsOutOfMemory, KeepsHeard, LetsLinkGo, LetsLinksGo, MakesSpace, goes_before, has_more, heard_by, has_spoken, is_at_limit, is_first_own, is_of_node, is_overdue, is_own_silent, is_to_go, is_unheard_of, may_go, may_go_for, place_of_own, place_of_own_unanswered, place_to_free, protects, raised_if};
 
 use crate::sessions::{Session, hear_one};
 use ipx_wire::{Address, Network};
@@ -338,29 +338,30 @@ fn is_first_own(
         && !is_any_own_before(own, endpoint, sessions, moment, from, session)
 }
 
-/// The place of the first overdue connection of the node of an address, for a host of a network.
-fn place_of_own_overdue_on(
+/// The place of the first unanswered connection of the node of an address, for a host of a network.
+fn place_of_own_unanswered_on(
     own: Network,
     sessions: &[Session],
     moment: u64,
     from: &Address,
 ) -> Option<usize>
-    ensures place { result ≡ place_of_own_overdue own moment from.now sessions.now }
+    ensures place { result ≡ place_of_own_unanswered own moment from.now sessions.now }
     ensures there { IfSome result (λ place. place < length sessions.now) }
 {
-    sessions.iter().position(|session| session.is_overdue(moment) && session.is_of_node(own, from))
+    sessions.iter().position(|session| session.is_unanswered(moment)
+        && session.is_of_node(own, from))
 }
 
-/// The place of the first overdue connection of the node of an address.
-pub fn place_of_own_overdue(
+/// The place of the first unanswered connection of the node of an address.
+pub fn place_of_own_unanswered(
     endpoint: &Endpoint,
     sessions: &[Session],
     moment: u64,
     from: &Address,
 ) -> Option<usize>
-    ensures { result ≡ place_of_own_overdue endpoint.now.network moment from.now sessions.now }
+    ensures { result ≡ place_of_own_unanswered endpoint.now.network moment from.now sessions.now }
 {
-    place_of_own_overdue_on(endpoint.network(), sessions, moment, from)
+    place_of_own_unanswered_on(endpoint.network(), sessions, moment, from)
 }
 
 /// The place of the connection of the node of an address that is silent for longest, if one may be
@@ -380,7 +381,7 @@ fn place_of_own_silent(
 }
 
 /// The place of the connection that is evicted for another one of its own node, if the node has as
-/// many as it may have: the first overdue one, or if each was heard from, and without `once`, a
+/// many as it may have: the first unanswered one, or if each was heard from, and without `once`, a
 /// silent one.
 fn place_of_own(
     once: bool,
@@ -396,9 +397,9 @@ fn place_of_own(
     if !is_at_limit(sessions, own, from) {
         return None;
     }
-    let own_overdue = place_of_own_overdue_on(own, sessions, moment, from);
-    if once || own_overdue.is_some() {
-        return own_overdue;
+    let unanswered = place_of_own_unanswered_on(own, sessions, moment, from);
+    if once || unanswered.is_some() {
+        return unanswered;
     }
     if is_any_unheard_of(sessions, own, from) {
         return None;

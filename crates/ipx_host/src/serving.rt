@@ -18,7 +18,7 @@ ghost use Rattle.ipx_host.specs.declared.listening.ListenOutcome.TheVariants as 
 
 use crate::eviction::{
     MAX_SESSIONS, ask, count_if, hear_session, hold, let_link_go, make_space, make_space_of_own,
-    place_of_overdue, place_of_own_overdue,
+    place_of_overdue, place_of_own_unanswered,
 };
 use crate::idle::{action_in, first_to_tend};
 use crate::listening::ListenOutcome;
@@ -168,8 +168,8 @@ impl Sessions {
     }
 
     /// Holds a connection that was accepted at a moment if there is a free slot. Otherwise it is turned
-    /// away before it is answered. If its node holds as many as it may, an overdue or silent one of
-    /// these is evicted first.
+    /// away before it is answered. If its node holds as many as it may, an unanswered or silent
+    /// one of these is evicted first.
     fn admit<R: Log>(&mut self, rt: &R, endpoint: &mut Endpoint, accepted: Accepted, moment: u64)
         ensures admits { AdmitsRequest self.old.once moment accepted
             endpoint.old endpoint.new self.old.held.items self.new.held.items }
@@ -184,10 +184,10 @@ impl Sessions {
         ensures once { self.new.once ≡ self.old.once }
     {
         let from = accepted.from;
-        let was_overdue = place_of_own_overdue(endpoint, &self.held, moment, &from).is_some();
+        let was_unanswered = place_of_own_unanswered(endpoint, &self.held, moment, &from).is_some();
         let evicted = make_space_of_own(self.once, endpoint, &mut self.held, moment, &from);
-        self.never_heard = count_if(evicted.is_some() && was_overdue, self.never_heard);
-        self.evicted = count_if(evicted.is_some() && !was_overdue, self.evicted);
+        self.never_heard = count_if(evicted.is_some() && was_unanswered, self.never_heard);
+        self.evicted = count_if(evicted.is_some() && !was_unanswered, self.evicted);
         if let Some(session) = evicted {
             tell_parted(rt, &session, SessionAction::GivenUp);
         }

@@ -3,7 +3,7 @@
 ghost use Rattle.std.specs.Prelude.{◌≡◌, ◌↔◌, Some, map};
 ghost use Rattle.spx_link.specs.declared.state.State.TheVariants as States;
 ghost use Rattle.ipx_host.specs.SessionActions.{IsSessionAction, IsOver, IsToAsk, is_unheard, phase_asked, phase_heard};
-ghost use Rattle.ipx_host.specs.Sessions.{heard_by, has_spoken, is_of_node, is_overdue, is_silent, is_unheard_of};
+ghost use Rattle.ipx_host.specs.Sessions.{heard_by, has_spoken, is_of_node, is_overdue, is_silent, is_unanswered, is_unheard_of};
 ghost use Rattle.ipx_host.specs.declared.sessions.SessionAction.TheVariants as ActionsOfSessions;
 ghost use Rattle.ipx_site.specs.AllowedPeers.{home_network};
 
@@ -20,6 +20,10 @@ pub const KEEPALIVE_AFTER: u64 = 60_000;
 /// How long to wait for the first data of a connection before it is probed or may be evicted, in
 /// milliseconds.
 pub const FIRST_DATA_TIMEOUT: u64 = 1000;
+
+/// How long to wait for the first data of a connection before it gives way to another one of its own
+/// node, in milliseconds: half a second longer, so that it can answer the probe.
+const UNANSWERED_AFTER: u64 = 1500;
 
 /// How long a connection is silent before it may be evicted for a new request, in milliseconds.
 pub const EVICT_AFTER: u64 = 10_000;
@@ -107,6 +111,13 @@ impl Session {
         ensures { result ≡ is_overdue now self.now }
     {
         self.phase.is_unheard() && now.saturating_sub(self.heard) >= FIRST_DATA_TIMEOUT
+    }
+
+    /// The same half a second later, when the probe was not answered.
+    pub fn is_unanswered(&self, now: u64) -> bool
+        ensures { result ≡ is_unanswered now self.now }
+    {
+        self.phase.is_unheard() && now.saturating_sub(self.heard) >= UNANSWERED_AFTER
     }
 
     /// Whether nothing was received for ten seconds, or it could not be probed for that long.
