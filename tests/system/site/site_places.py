@@ -35,7 +35,9 @@ HELD_ADDRESSES = [address for listener, sender, nodes in HELD.values() for addre
 STAYING, REPEATING = "127.0.1.33", "127.0.1.34"
 # A listener whose router forwards from another network, the router, and a sender on that network, which has this node.
 FORGED, FORGER, NAMED, FARTHER = "127.0.1.168", "127.0.1.169", "127.0.1.186", "00000045"
-PLACES = [ONCE, FIRST, SECOND, SLOW, *BOTH, *HELD_ADDRESSES, STAYING, REPEATING, FORGED, FORGER, NAMED]
+# A listener, and a node that asks for connections at once and sends nothing for some seconds.
+PATIENT, QUIET = "127.0.1.231", "127.0.1.232"
+PLACES = [ONCE, FIRST, SECOND, SLOW, *BOTH, *HELD_ADDRESSES, STAYING, REPEATING, FORGED, FORGER, NAMED, PATIENT, QUIET]
 # A sender that gets no answer ends within this number of seconds, and one that is to get through where nodes hold connections
 # within that.
 ENDS, THROUGH = 6, 15
@@ -58,6 +60,10 @@ FORGING, BEFORE = 0.24, 1
 # The units of each connection that ends before its bytes are written, the bytes of each unit, and the buffers of the listener.
 UNITS, UNIT, BUFFERS = 56, 534, 64
 END, CONFIRMATION = 0xfe, 0xff
+# The bits of a packet that asks for an acknowledgement, and of one that carries no data.
+ASKS, SYSTEM = 0x40, 0x80
+# For how many seconds a node sends nothing that answers when it is asked, and after how many seconds its answer comes.
+PATIENCE, AWAY_BY = 4.5, 0.2
 # How often an end is repeated, and each how many seconds; and after how many seconds of silence the listener ends.
 TIMES, PAUSE, STAYS = 4, 2, (2.5, 4)
 # How many bytes of the slow output are read each second, for how many seconds, and the least share of each sender.
@@ -297,6 +303,73 @@ class Held:
             holder.socket.close()
         for process in (self.listener, self.sender):
             process.end()
+
+
+class Answerer(Holder):
+    """A node far away that sends nothing on a connection by itself, but answers when it is asked whether it is there."""
+
+    def __init__(self, *what):
+        super().__init__(*what)
+        # The answers on their way: when each is sent, and it.
+        self.answers = []
+
+    def answer(self):
+        """Sends the answers that are due."""
+        while self.answers and self.answers[0][0] <= time.monotonic():
+            self.socket.sendto(self.answers.pop(0)[1], (self.listener, self.port))
+
+    def read(self):
+        self.answer()
+        while True:
+            try:
+                packet = self.socket.recv(2048)
+            except BlockingIOError:
+                return
+            control, _, there, here, number, self.acknowledged[here], _ = struct.unpack(">BBHHHHH", packet[30:42])
+            if here not in self.accepted:
+                self.accepted[here], self.sent[here] = there, 0
+            elif control & ASKS and not control & SYSTEM:
+                header = struct.pack(">BBHHHHH", SYSTEM, 0, here, there, self.sent[here], number + 1, 7)
+                packet = ipx(5, (NETWORK, node(self.listener), "4002"), (NETWORK, node(self.ip), "4003"), header)
+                self.answers.append((time.monotonic() + AWAY_BY, packet))
+
+
+class Patient:
+    """A listener, and a node that asks for as many connections as it may have. It answers when it is asked, and sends on each
+    after some seconds."""
+
+    def __init__(self, sites):
+        sites.host("patient-listener", NETWORK, PATIENT, "127.0.1.89", "4002", listed("peers", [QUIET]))
+        self.listener = sites.start_listener(name="patient-listener")
+        until(self.listener.said, 5)
+        self.holder = Answerer(sites, QUIET, PATIENT, OF_A_NODE)
+        self.accepted = self.heard = None
+        self.thread = threading.Thread(target=self.run, daemon=True)
+        self.thread.start()
+
+    def run(self):
+        start, asked = time.monotonic(), 0
+        while time.monotonic() < start + PATIENCE:
+            if time.monotonic() >= asked + AWAY_BY / 2:
+                asked = time.monotonic()
+                self.holder.ask()
+            time.sleep(0.01)
+            self.holder.read()
+        self.accepted = len(self.holder.accepted)
+        self.holder.speak()
+        time.sleep(0.5)
+        self.heard = len(self.holder.heard())
+
+    def check(self, sites):
+        self.thread.join(20)
+        lost = [line for line in self.listener.said() if "lost" in line or "evicted" in line]
+        sites.check(f"{OF_A_NODE} connections of one node that send nothing for seconds, but answer, are all kept",
+                    self.accepted == self.heard == OF_A_NODE and not lost,
+                    f"{self.accepted} accepted, {self.heard} acknowledged, {lost}")
+
+    def end(self):
+        self.holder.socket.close()
+        self.listener.end()
 
 
 class Restarted(Held):
@@ -543,8 +616,8 @@ def start_held(sites):
     """A node that asks for all connections; two that hold all, of which one is silent then, and the other one asks for one more;
     two that go on to speak; three that hold all, of which the one with the fewest is silent, and the other one with so few asks
     for one more; two that hold all and are silent, of which one asks for one more; and two that end all before their bytes are
-    written. A node that holds all that it may, and restarts; one that asks again and again; and one in whose name somebody else
-    does. And a node that repeats its end."""
+    written. A node that holds all that it may, and restarts; one that asks again and again; one in whose name somebody else
+    does; and one that sends nothing for some seconds. And a node that repeats its end."""
     return {"one": Held(sites, "one", [MOST], 1, 5, 0),
             "silent": Held(sites, "silent", [OF_A_NODE + 1, OF_A_NODE], 1, 3, SILENCE + ASKING),
             "busy": Held(sites, "busy", [OF_A_NODE] * 2, 2, 3, SILENCE),
@@ -554,6 +627,7 @@ def start_held(sites):
             "restarted": Restarted(sites),
             "flooded": Flooded(sites),
             "forged": Forged(sites),
+            "patient": Patient(sites),
             "repeated": Repeated(sites)}
 
 
@@ -588,6 +662,7 @@ def check_held(sites, held):
     check_flooded(sites, held["flooded"])
     check_through(sites, f"a sender in whose name somebody else asks {1 / FORGING:.0f} times a second gets through",
                   held["forged"])
+    held["patient"].check(sites)
     for it in held.values():
         it.end()
 
