@@ -36,7 +36,7 @@ STAYING, REPEATING = "127.0.1.33", "127.0.1.34"
 # A listener whose router forwards from another network, the router, and a sender on that network, which has this node.
 FORGED, FORGER, NAMED, FARTHER = "127.0.1.168", "127.0.1.169", "127.0.1.186", "00000045"
 # A listener, and a node that asks for connections at once and sends nothing for some seconds.
-PATIENT, QUIET = "127.0.1.231", "127.0.1.232"
+PATIENT, QUIET = "127.0.1.97", "127.0.1.98"
 PLACES = [ONCE, FIRST, SECOND, SLOW, *BOTH, *HELD_ADDRESSES, STAYING, REPEATING, FORGED, FORGER, NAMED, PATIENT, QUIET]
 # A sender that gets no answer ends within this number of seconds, and one that is to get through where nodes hold connections
 # within that.
