@@ -113,8 +113,8 @@ takes_from (Some h) after waiting left written writes session session' p = takes
 abbrev pub max_takes : ℕ
 max_takes = 256
 
--- nothing more can be taken: the link is gone, no unit is held, or memory was refused for the first unit that is
--- held. Only a unit that is added to a message can be refused
+-- nothing more can be taken: the link is gone, or no unit is held. Or the first unit that is held is one of a
+-- message, for which memory may be refused; no clause can say that it was
 abbrev pub GivesNoMore : Option Held → Type 0
 GivesNoMore None = Unit {0}
 GivesNoMore (Some h) = ((take_end h).0 ≡ Ok Nothing) ⊎ IsPushed h

@@ -96,7 +96,7 @@ KeepsHeard true old new sessions sessions' = MatchOption (position has_spoken se
 abbrev pub is_overdue : ℕ → Session → Bool
 is_overdue now c = is_unheard c.phase && nat_le 1000 (now - c.heard)
 
--- the same half a second later: the probe was not answered
+-- the same 1.5 seconds ago or longer, so that it had half a second to answer a probe
 abbrev pub is_unanswered : ℕ → Session → Bool
 is_unanswered now c = is_unheard c.phase && nat_le 1500 (now - c.heard)
 
@@ -200,8 +200,8 @@ abbrev pub without : Option ℕ → List Session → List Session
 without None sessions = sessions
 without (Some place) sessions = remove sessions place
 
--- a connection was accepted at this time: if its node has too many, a silent one of these is evicted. Then it
--- is added if there is a slot
+-- a connection was accepted at this time: if its node has as many as it may have, an unanswered or silent one
+-- of these may be evicted. Then it is added if there is a slot
 abbrev pub AdmitsRequest : Bool → ℕ → Accepted → EndpointView → EndpointView → List Session → List Session → Type 0
 AdmitsRequest once now a old new sessions sessions' = (mid : EndpointView) × (between : List Session)
     × Evicts (place_of_own once old.network old now a.from sessions) old mid sessions between
