@@ -10,6 +10,8 @@ use Rattle.ipx_carrier.specs.Runs.{EndsEarlyBy, RunsBy}
 use Rattle.ipx_carrier.specs.declared.report.Batch.{Batch}
 use Rattle.ipx_carrier.specs.Counting.{counted}
 use Rattle.ipx_carrier.specs.Device.{TrafficOf}
+use Rattle.ipx_carrier.specs.MarkedTurns.{BreaksMarkedTurn, TakesMarkedTurn}
+use Rattle.ipx_carrier.specs.Readiness.{Readiness}
 use Rattle.ipx_carrier.specs.Driving.{AreBusy, BurstsBy, CanBeginBy, ChainBy, CountsTurns, EndsBy, IsIdle, Stops, TakesTurnBy, TurnTaken, no_turns, refused}
 
 -- a turn can begin over the same as before
@@ -63,15 +65,6 @@ module _ {C K : Type 0} (hears hear_out_of_memory : C → ℕ → List ℕ → �
   takes before after l m b c (Ok report) well ill = well
   takes before after l m b c (Err f) well ill = ill
 
-  -- the traffic is not stated any more
-  pub ran_untold : (before after : Option (TrafficOf A)) (l m : K) (b c : C) (report : Report)
-      → RunsBy hears gives tells ports transmissions 1 before after l m b c report → RunsBy hears gives tells ports transmissions 1 None None l m b c report
-  ran_untold before after l m b c report h = (h.0, h.1, h.2, tt, h.4, h.5)
-
-  pub ended_untold : (before after : Option (TrafficOf A)) (l m : K) (f : RunFault) (b c : C)
-      → EndsEarlyBy hears hear_out_of_memory gives next_out_of_memory tells ports transmissions 1 before after l m f b c → EndsEarlyBy hears hear_out_of_memory gives next_out_of_memory tells ports transmissions 1 None None l m f b c
-  ended_untold before after l m f b c h = (h.0, h.1, h.2, h.3, h.4, h.5, h.6, tt, h.8)
-
 -- what holds of any turn
 pub on_whole : {P : Type 0} (ran : Result Report RunFault) → P → OnOk ran P
 on_whole (Ok report) p = p
@@ -105,49 +98,52 @@ module _ {C K : Type 0} (hears : C → ℕ → List ℕ → ℕ → C → Type 0
     (gives : C → ℕ → Option Given → C → Type 0) (tells : K → ℕ → K → Type 0)
     (ports : ℕ) {A : Type 0} (transmissions : Ways A) where
   -- this many whole turns, none of them idle, and their counts
-  abbrev pub Goes : ℕ → Batch → ℕ → ℕ → K → K → C → C → Type 0
-  Goes count b kept kept_after clock clock_after old new = (turns : List TurnTaken) × (length turns ≡ count)
-      × ChainBy hears gives tells ports transmissions turns kept kept_after clock clock_after old new
+  abbrev pub Goes : ℕ → Batch → ℕ → ℕ → Readiness → Readiness → K → K → C → C → Type 0
+  Goes count b filtered filtered_after marked marked_after clock clock_after old new = (turns : List TurnTaken) × (length turns ≡ count)
+      × ChainBy hears gives tells ports transmissions turns filtered filtered_after marked marked_after clock clock_after old new
       × CountsTurns turns b × AreBusy turns
 
   -- a turn over the same ports and ways
-  ran_here : (here : ℕ) (there : Ways A) (l m : K) (b c : C) (report : Report) → here ≡ ports → there ≡ transmissions
-      → RunsBy hears gives tells here there 1 None None l m b c report → RunsBy hears gives tells ports transmissions 1 None None l m b c report
-  ran_here here there l m b c report e w ran =
-      subst (λ (it : Ways A). RunsBy hears gives tells ports it 1 None None l m b c report) w
-      (subst (λ n. RunsBy hears gives tells n there 1 None None l m b c report) e ran)
+  ran_here : (here : ℕ) (there : Ways A) (u v : Readiness) (l m : K) (b c : C) (report : Report) → here ≡ ports → there ≡ transmissions
+      → TakesMarkedTurn hears gives tells here there u v l m b c report → TakesMarkedTurn hears gives tells ports transmissions u v l m b c report
+  ran_here here there u v l m b c report e w ran =
+      subst (λ (it : Ways A). TakesMarkedTurn hears gives tells ports it u v l m b c report) w
+      (subst (λ n. TakesMarkedTurn hears gives tells n there u v l m b c report) e ran)
 
-  chain_on : (ts : List TurnTaken) (t : TurnTaken) (i j : ℕ) (k l m : K) (a b c : C) → ChainBy hears gives tells ports transmissions ts i j k l a b
-      → t.before ≡ j → j ≤ t.after → RunsBy hears gives tells ports transmissions 1 None None l m b c t.report
-      → ChainBy hears gives tells ports transmissions (ts ++ t ∷ []) i t.after k m a c
-  chain_on [] t i j k l m a b c h e le ran =
-      let ran' = subst (λ l. RunsBy hears gives tells ports transmissions 1 None None l m b c t.report) h.1 ran in (
+  chain_on : (ts : List TurnTaken) (t : TurnTaken) (i j : ℕ) (o p q : Readiness) (k l m : K) (a b c : C) → ChainBy hears gives tells ports transmissions ts i j o p k l a b
+      → t.before ≡ j → j ≤ t.after → TakesMarkedTurn hears gives tells ports transmissions p q l m b c t.report
+      → ChainBy hears gives tells ports transmissions (ts ++ t ∷ []) i t.after o q k m a c
+  chain_on [] t i j o p q k l m a b c h e le ran =
+      let from = subst (λ p. TakesMarkedTurn hears gives tells ports transmissions p q l m b c t.report) h.1 ran in
+      let at = subst (λ l. TakesMarkedTurn hears gives tells ports transmissions o q l m b c t.report) h.2 from in (
         m,
         c,
+        q,
         rw (← h.0) e,
         rw (← h.0) le,
-        subst (λ b. RunsBy hears gives tells ports transmissions 1 None None k m b c t.report) h.2 ran',
-        (refl, refl, refl),
+        subst (λ b. TakesMarkedTurn hears gives tells ports transmissions o q k m b c t.report) h.3 at,
+        (refl, refl, refl, refl),
       )
-  chain_on (s ∷ ss) t i j k l m a b c h e le ran = (h.0, h.1, h.2, h.3, h.4, chain_on ss t s.after j h.0 l m h.1 b c h.5 e le ran)
+  chain_on (s ∷ ss) t i j o p q k l m a b c h e le ran =
+      (h.0, h.1, h.2, h.3, h.4, h.5, chain_on ss t s.after j h.2 p q h.0 l m h.1 b c h.6 e le ran)
 
-  pub goes_nowhere : (i : ℕ) (k : K) (a : C) (batch : Batch) → CountsTurns [] batch → Goes 0 batch i i k k a a
-  goes_nowhere i k a batch counts = ([], refl, (refl, refl, refl), counts, All-nil (λ t. IsIdle t → ⊥))
+  pub goes_nowhere : (i : ℕ) (o : Readiness) (k : K) (a : C) (batch : Batch) → CountsTurns [] batch → Goes 0 batch i i o o k k a a
+  goes_nowhere i o k a batch counts = ([], refl, (refl, refl, refl, refl), counts, All-nil (λ t. IsIdle t → ⊥))
 
   -- one more turn, idle or not
-  one_more : (here count : ℕ) (there : Ways A) (i j n : ℕ) (k l m : K) (a b c : C) (x : Batch) (report : Report) → here ≡ ports
-      → there ≡ transmissions → (h : Goes count x i j k l a b) → j ≤ n → RunsBy hears gives tells here there 1 None None l m b c report
-      → ChainBy hears gives tells ports transmissions (h.0 ++ taken report j n ∷ []) i n k m a c
-  one_more here count there i j n k l m a b c x report e w h le ran =
-      chain_on h.0 (taken report j n) i j k l m a b c h.2 refl le (ran_here here there l m b c report e w ran)
+  one_more : (here count : ℕ) (there : Ways A) (i j n : ℕ) (o p q : Readiness) (k l m : K) (a b c : C) (x : Batch) (report : Report) → here ≡ ports
+      → there ≡ transmissions → (h : Goes count x i j o p k l a b) → j ≤ n → TakesMarkedTurn hears gives tells here there p q l m b c report
+      → ChainBy hears gives tells ports transmissions (h.0 ++ taken report j n ∷ []) i n o q k m a c
+  one_more here count there i j n o p q k l m a b c x report e w h le ran =
+      chain_on h.0 (taken report j n) i j o p q k l m a b c h.2 refl le (ran_here here there p q l m b c report e w ran)
 
-  pub goes_on : (here count : ℕ) (there : Ways A) (i j n : ℕ) (k l m : K) (a b c : C) (x y : Batch) (report : Report) → here ≡ ports
-      → there ≡ transmissions → Goes count x i j k l a b → j ≤ n → RunsBy hears gives tells here there 1 None None l m b c report → CountsOne report x y
-      → (IsIdle (taken report j n) → ⊥) → Goes (count + 1) y i n k m a c
-  goes_on here count there i j n k l m a b c x y report e w h le ran counts busy = (
+  pub goes_on : (here count : ℕ) (there : Ways A) (i j n : ℕ) (o p q : Readiness) (k l m : K) (a b c : C) (x y : Batch) (report : Report) → here ≡ ports
+      → there ≡ transmissions → Goes count x i j o p k l a b → j ≤ n → TakesMarkedTurn hears gives tells here there p q l m b c report → CountsOne report x y
+      → (IsIdle (taken report j n) → ⊥) → Goes (count + 1) y i n o q k m a c
+  goes_on here count there i j n o p q k l m a b c x y report e w h le ran counts busy = (
     h.0 ++ taken report j n ∷ [],
     omega (arith, length-append h.0 (taken report j n ∷ []), h.1),
-    one_more here count there i j n k l m a b c x report e w h le ran,
+    one_more here count there i j n o p q k l m a b c x report e w h le ran,
     more_counts h.0 (taken report j n) x y h.3 counts,
     All-push (λ t. IsIdle t → ⊥) h.0 (taken report j n) h.4 busy,
   )
@@ -155,63 +151,66 @@ module _ {C K : Type 0} (hears : C → ℕ → List ℕ → ℕ → C → Type 0
 module _ {C K : Type 0} (hears hear_out_of_memory : C → ℕ → List ℕ → ℕ → C → Type 0)
     (gives : C → ℕ → Option Given → C → Type 0) (next_out_of_memory : C → ℕ → C → Type 0)
     (tells : K → ℕ → K → Type 0) (ports : ℕ) {A : Type 0} (transmissions : Ways A) where
-  nothing_more : (fault : Option RunFault) (j : ℕ) (l : K) (b : C) → fault ≡ None
-      → EndsBy hears hear_out_of_memory gives next_out_of_memory tells ports transmissions fault j j l l b b
-  nothing_more fault j l b e =
-      subst (λ (it : Option RunFault). EndsBy hears hear_out_of_memory gives next_out_of_memory tells ports transmissions it j j l l b b) (sym e) (refl, refl, refl)
+  nothing_more : (fault : Option RunFault) (j : ℕ) (o : Readiness) (l : K) (b : C) → fault ≡ None
+      → EndsBy hears hear_out_of_memory gives next_out_of_memory tells ports transmissions fault j j o o l l b b
+  nothing_more fault j o l b e =
+      subst (λ (it : Option RunFault). EndsBy hears hear_out_of_memory gives next_out_of_memory tells ports transmissions it j j o o l l b b) (sym e) (refl, refl, refl, refl)
 
   -- no fault ended the batch, and it is not quiet: all turns were taken
-  pub ends_at_most : (count most : ℕ) (i j : ℕ) (k l : K) (a b : C) (x : Batch) → count ≡ most → x.fault ≡ None → x.quiet ≡ false
-      → Goes hears gives tells ports transmissions count x i j k l a b
-      → BurstsBy hears hear_out_of_memory gives next_out_of_memory tells ports transmissions most x i j k l a b
-  ends_at_most count most i j k l a b x all e f h = (
+  pub ends_at_most : (count most : ℕ) (i j : ℕ) (o p : Readiness) (k l : K) (a b : C) (x : Batch) → count ≡ most → x.fault ≡ None → x.quiet ≡ false
+      → Goes hears gives tells ports transmissions count x i j o p k l a b
+      → BurstsBy hears hear_out_of_memory gives next_out_of_memory tells ports transmissions most x i j o p k l a b
+  ends_at_most count most i j o p k l a b x all e f h = (
     h.0,
     j,
+    p,
     l,
     b,
     h.2,
-    nothing_more x.fault j l b e,
+    nothing_more x.fault j p l b e,
     h.3,
     subst (λ (it : Option RunFault). Stops most h.0 it x.quiet) (sym e)
         (subst (λ (it : Bool). Stops most h.0 None it) (sym f) (omega (arith, h.1, all), h.4)),
   )
 
-  pub ends_quietly : (here count most : ℕ) (there : Ways A) (i j n : ℕ) (k l m : K) (a b c : C) (x y z : Batch) (report : Report) → here ≡ ports
-      → there ≡ transmissions → count < most → Goes hears gives tells ports transmissions count x i j k l a b → n ≡ j
-      → RunsBy hears gives tells here there 1 None None l m b c report → (report.heard ≡ 0) × (report.sent ≡ 0)
+  pub ends_quietly : (here count most : ℕ) (there : Ways A) (i j n : ℕ) (o p q : Readiness) (k l m : K) (a b c : C) (x y z : Batch) (report : Report) → here ≡ ports
+      → there ≡ transmissions → count < most → Goes hears gives tells ports transmissions count x i j o p k l a b → n ≡ j
+      → TakesMarkedTurn hears gives tells here there p q l m b c report → (report.heard ≡ 0) × (report.sent ≡ 0)
       → CountsOne report x y → y.fault ≡ None → z ≡ record y { quiet = true }
-      → BurstsBy hears hear_out_of_memory gives next_out_of_memory tells ports transmissions most z i n k m a c
+      → BurstsBy hears hear_out_of_memory gives next_out_of_memory tells ports transmissions most z i n o q k m a c
   unfolding one_more
-  ends_quietly here count most there i j n k l m a b c x y z report e w few h same ran idle counts f is =
+  ends_quietly here count most there i j n o p q k l m a b c x y z report e w few h same ran idle counts f is =
       let last = taken report j n in
-      subst (λ (it : Batch). BurstsBy hears hear_out_of_memory gives next_out_of_memory tells ports transmissions most it i n k m a c) (sym is) (
+      subst (λ (it : Batch). BurstsBy hears hear_out_of_memory gives next_out_of_memory tells ports transmissions most it i n o q k m a c) (sym is) (
         h.0 ++ last ∷ [],
         n,
+        q,
         m,
         c,
-        one_more hears gives tells ports transmissions here count there i j n k l m a b c x report e w h (omega (arith, same)) ran,
-        nothing_more y.fault n m c f,
+        one_more hears gives tells ports transmissions here count there i j n o p q k l m a b c x report e w h (omega (arith, same)) ran,
+        nothing_more y.fault n q m c f,
         more_counts h.0 last x y h.3 counts,
         subst (λ (it : Option RunFault). Stops most (h.0 ++ last ∷ []) it true) (sym f)
             (omega (arith, length-append h.0 (last ∷ []), h.1, few), (h.0, last, refl, h.4, (idle.0, idle.1, same))),
       )
 
-  pub ends_badly : (here count most : ℕ) (there : Ways A) (i j n : ℕ) (k l m : K) (a b c : C) (x y : Batch) (f : RunFault) → here ≡ ports
+  pub ends_badly : (here count most : ℕ) (there : Ways A) (i j n : ℕ) (o p q : Readiness) (k l m : K) (a b c : C) (x y : Batch) (f : RunFault) → here ≡ ports
       → there ≡ transmissions → count < most → x.quiet ≡ false → y ≡ record x { fault = Some f }
-      → Goes hears gives tells ports transmissions count x i j k l a b → j ≤ n
-      → EndsEarlyBy hears hear_out_of_memory gives next_out_of_memory tells here there 1 None None l m f b c
-      → BurstsBy hears hear_out_of_memory gives next_out_of_memory tells ports transmissions most y i n k m a c
-  ends_badly here count most there i j n k l m a b c x y f e w few loud is h le how =
-      subst (λ (it : Batch). BurstsBy hears hear_out_of_memory gives next_out_of_memory tells ports transmissions most it i n k m a c) (sym is) (
+      → Goes hears gives tells ports transmissions count x i j o p k l a b → j ≤ n
+      → BreaksMarkedTurn hears hear_out_of_memory gives next_out_of_memory tells here there p q l m f b c
+      → BurstsBy hears hear_out_of_memory gives next_out_of_memory tells ports transmissions most y i n o q k m a c
+  ends_badly here count most there i j n o p q k l m a b c x y f e w few loud is h le how =
+      subst (λ (it : Batch). BurstsBy hears hear_out_of_memory gives next_out_of_memory tells ports transmissions most it i n o q k m a c) (sym is) (
         h.0,
         j,
+        p,
         l,
         b,
         h.2,
         (
           le,
-          subst (λ (it : Ways A). EndsEarlyBy hears hear_out_of_memory gives next_out_of_memory tells ports it 1 None None l m f b c) w
-              (subst (λ n. EndsEarlyBy hears hear_out_of_memory gives next_out_of_memory tells n there 1 None None l m f b c) e how),
+          subst (λ (it : Ways A). BreaksMarkedTurn hears hear_out_of_memory gives next_out_of_memory tells ports it p q l m f b c) w
+              (subst (λ n. BreaksMarkedTurn hears hear_out_of_memory gives next_out_of_memory tells n there p q l m f b c) e how),
         ),
         h.3,
         (omega (arith, h.1, few), h.4, loud),

@@ -8,7 +8,7 @@ use Rattle.ipx_carrier.specs.declared.report.SendCounts.{SendCounts}
 use Rattle.ipx_carrier.specs.Device.{Passes, Reception, TellsMoments, TrafficOf}
 use Rattle.ipx_carrier.specs.Turns.{Given, Turn, Turns, Ways, copies_of, moments_of, packets_of, received_of, sent_of}
 use Rattle.ipx_carrier.specs.Counts.{heard_in, plus, report_of, unmapped_in}
-use Rattle.ipx_carrier.specs.Parts.{AsksPorts, AsksSomePorts, SendsAll, SendsSome}
+use Rattle.ipx_carrier.specs.Parts.{AsksPorts, AsksSomePorts, SendsAll, SendsSome, totals_of}
 use Rattle.ipx_carrier.specs.Runs.{EndsEarlyBy, RunsBy}
 use Rattle.ipx_carrier.proofs.Passing.{count-append, passes_nothing, passes_on, tells_on}
 
@@ -61,6 +61,14 @@ module _ {C : Type 0} (hears : C → ℕ → List ℕ → ℕ → C → Type 0)
   turns_on [] us a b c h k = subst (λ a. Turns hears gives ports us a c) h k
   turns_on (t ∷ ts) us a b c h k = (h.0, h.1, turns_on ts us h.0 b c h.2 k)
 
+-- the report of a turn, by the counts of its two parts
+pub report_one : {A : Type 0} (transmissions : Ways A) (now heard : ℕ) (totals : SendCounts) (rs : List Reception) (ps : List Given)
+    → heard ≡ heard_in rs → totals ≡ totals_of transmissions ps
+    → turn_report heard totals ≡ report_of transmissions (record { moment = now; answers = rs; packets = ps } ∷ [])
+report_one transmissions now heard totals rs ps e k =
+    ap (λ n. turn_report n totals) e ∙ ap (λ t. turn_report (heard_in rs) t) k
+    ∙ ap (λ rs. counted 1 transmissions rs ps) (sym (append-nil rs)) ∙ ap (λ ps. counted 1 transmissions (rs ++ []) ps) (sym (append-nil ps))
+
 module _ {C : Type 0} (hears : C → ℕ → List ℕ → ℕ → C → Type 0)
     (gives : C → ℕ → Option Given → C → Type 0) {K : Type 0} (tells : K → ℕ → K → Type 0) (ports : ℕ) {A : Type 0} (transmissions : Ways A) where
   pub ran_none : (s : Option (TrafficOf A)) (r : K) (a : C) (report : Report) → report ≡ counted 0 transmissions [] [] → RunsBy hears gives tells ports transmissions 0 s s r r a a report
@@ -76,8 +84,7 @@ module _ {C : Type 0} (hears : C → ℕ → List ℕ → ℕ → C → Type 0)
         (c, (h.1, b, h.3, k.1), refl),
         subst (λ (ps : List Given). Passes s u (h.0 ++ []) (sent_of transmissions ps)) (sym (append-nil k.0)) passed,
         (r', told, refl),
-        ap (λ n. turn_report n totals) h.4 ∙ ap (λ t. turn_report (heard_in h.0) t) k.3
-            ∙ ap (λ rs. counted 1 transmissions rs k.0) (sym (append-nil h.0)) ∙ ap (λ ps. counted 1 transmissions (h.0 ++ []) ps) (sym (append-nil k.0)),
+        report_one transmissions now heard totals h.0 k.0 h.4 k.3,
       )
 
   pub ran_on : (m n : ℕ) (s t u : Option (TrafficOf A)) (r r' r'' : K) (a b c : C) (x y : Report) → RunsBy hears gives tells ports transmissions m s t r r' a b x → RunsBy hears gives tells ports transmissions n t u r' r'' b c y → RunsBy hears gives tells ports transmissions (m + n) s u r r'' a c (plus x y)

@@ -1,4 +1,4 @@
--- The marks of a driver's ports over several askings, turns and a batch.
+-- The marks of a driver's ports over several askings and a turn.
 use Rattle.std.proofs.Common.{◌≡◌, ◌<◌, ◌⊎◌, ℕ, ◌+◌, Bool, true, false, List, [], ◌∷◌, ◌++◌, length, map, filter, Option, Some, None, is_some, refl, sym, ap, ◌∙◌, subst, cond, inl, inr, arith, append_assoc, append-nil, length-append}
 use Rattle.std.specs.Prelude.{◌==◌, slice_set, suc, zero}
 use Rattle.std.proofs.lemmas.Bool.{eqb-true, eqb-false}
@@ -6,20 +6,17 @@ use Rattle.std.proofs.lemmas.List.{map-append}
 use Rattle.std.proofs.lemmas.List.Elements.{filter-append}
 use Rattle.ipx_carrier.specs.declared.fault.RunFault.{RunFault}
 use Rattle.ipx_carrier.specs.declared.fault.RunFault.TheVariants.{Device, OutOfMemory}
-use Rattle.ipx_carrier.specs.declared.report.Batch.{Batch}
 use Rattle.ipx_carrier.specs.declared.report.SendCounts.{SendCounts}
-use Rattle.ipx_carrier.specs.Counting.{counted}
 use Rattle.ipx_carrier.specs.Counts.{heard_in}
 use Rattle.ipx_carrier.specs.Device.{Reception, TrafficOf}
-use Rattle.ipx_carrier.specs.MarkedTurns.{AnswersAtEnd, AsksMarkedPorts, AsksSomeMarkedPorts, MarksFollowBatch, MarksFollowFault, MarksFollowTurn}
+use Rattle.ipx_carrier.specs.MarkedTurns.{AsksMarkedPorts, AsksSomeMarkedPorts, BreaksMarkedTurn, TakesMarkedTurn}
 use Rattle.ipx_carrier.specs.Parts.{AsksPort, PollFails, SendsAll, SendsSome}
 use Rattle.ipx_carrier.specs.Readiness.{AsksPortWithMark, EndsInNone, FailsWithMark, MarksFollow, MarksStay, Readiness}
 use Rattle.ipx_carrier.specs.ReadySet.{is_port_marked}
-use Rattle.ipx_carrier.specs.Turns.{FailsAtPort, Given, Turn, Turns, Ways, received_of}
+use Rattle.ipx_carrier.specs.Turns.{FailsAtPort, Given, Turn, Ways}
 use Rattle.ipx_carrier.specs.Waits.{answers_of_port}
 use Rattle.ipx_carrier.proofs.Asking.{heard_more, hears_more}
-use Rattle.ipx_carrier.proofs.Courses.{more_received, turns_on}
-use Rattle.ipx_carrier.proofs.Passing.{count-append}
+use Rattle.ipx_carrier.proofs.Courses.{report_one, turn_report}
 
 is_on : Bool → Type 0
 is_on true = Unit {0}
@@ -142,83 +139,32 @@ module _ {C : Type 0} (hears hear_out_of_memory : C → ℕ → List ℕ → ℕ
       )
 
 module _ {C : Type 0} (hears : C → ℕ → List ℕ → ℕ → C → Type 0)
-    (gives : C → ℕ → Option Given → C → Type 0) (ports : ℕ) where
-  pub turn_follows : {A : Type 0} (now : ℕ) (there : Ways A) (t u : Option (TrafficOf A)) (l m n : Readiness) (a b c : C) (heard : ℕ) (totals : SendCounts)
-      → AsksMarkedPorts hears now ports l m a b heard → SendsAll gives now there t u b c totals → MarksStay m n
-      → MarksFollowTurn hears gives ports l n a c heard
-  turn_follows now there t u l m n a b c heard totals h k stay =
+    (gives : C → ℕ → Option Given → C → Type 0) {K : Type 0} (tells : K → ℕ → K → Type 0)
+    (ports : ℕ) {A : Type 0} (transmissions : Ways A) where
+  pub turn_follows : (now : ℕ) (there : Ways A) (t u : Option (TrafficOf A)) (l m n : Readiness) (r s : K) (a b c : C) (heard : ℕ) (totals : SendCounts)
+      → tells r now s → there ≡ transmissions → AsksMarkedPorts hears now ports l m a b heard → SendsAll gives now there t u b c totals → MarksStay m n
+      → TakesMarkedTurn hears gives tells ports transmissions l n r s a c (turn_report heard totals)
+  turn_follows now there t u l m n r s a b c heard totals told is h k' stay =
+      let k = subst (λ w. SendsAll gives now w t u b c totals) is k' in
       let turn : Turn = record { moment = now; answers = h.0; packets = k.0 } in
-      (turn, (h.1, b, h.2, k.1), h.3, follow_stays h.0 l m n h.4 stay)
-
-  -- the turns so far, which are whole
-  abbrev pub FollowSoFar : Readiness → Readiness → C → C → ℕ → Type 0
-  FollowSoFar l m a b heard = (turns : List Turn) × Turns hears gives ports turns a b
-      × (heard ≡ counted (heard_in (received_of turns))) × MarksFollow (received_of turns) l m
-
-  pub so_far_more : (here : ℕ) (l m n : Readiness) (a b c : C) (heard one more : ℕ) → here ≡ ports → FollowSoFar l m a b heard
-      → MarksFollowTurn hears gives here m n b c one → more ≡ counted (heard + one) → FollowSoFar l n a c more
-  so_far_more here l m n a b c heard one more e h k' is =
-      let k = subst (λ p. MarksFollowTurn hears gives p m n b c one) e k' in
-      let ts = h.0 in
-      let t : Turn = k.0 in
-      let rs = received_of ts in
-      let all : received_of (ts ++ t ∷ []) ≡ rs ++ t.answers = more_received ts (t ∷ []) ∙ ap (λ ys. rs ++ ys) (append-nil t.answers) in
-      let sum : heard_in (rs ++ t.answers) ≡ heard_in rs + heard_in t.answers = count-append (λ (x : Reception). is_some x.bytes) rs t.answers in
-      let before : heard ≡ counted (heard_in rs) = h.2 in
-      let last : one ≡ heard_in t.answers = k.2 in
-      let total : more ≡ counted (heard_in (rs ++ t.answers)) = omega (arith, is, sum, before, last) in (
-        ts ++ t ∷ [],
-        turns_on hears gives ports ts (t ∷ []) a b c h.1 (c, k.1, refl),
-        total ∙ ap (λ ys. counted (heard_in ys)) (sym all),
-        subst (λ (ys : List Reception). MarksFollow ys l n) (sym all) (follow_on rs t.answers l m n h.3 k.3),
-      )
+      (turn, (h.1, b, h.2, k.1), told, report_one transmissions now heard totals h.0 k.0 h.3 k.3, follow_stays h.0 l m n h.4 stay)
 
 module _ {C : Type 0} (hears hear_out_of_memory : C → ℕ → List ℕ → ℕ → C → Type 0)
     (gives : C → ℕ → Option Given → C → Type 0) (next_out_of_memory : C → ℕ → C → Type 0)
-    (ports : ℕ) {A : Type 0} (transmissions : Ways A) where
-  pub fault_hearing : (now : ℕ) (f : RunFault) (l m : Readiness) (a b : C) → AsksSomeMarkedPorts hears hear_out_of_memory now ports l m f a b
-      → MarksFollowFault hears hear_out_of_memory gives next_out_of_memory ports transmissions l m f a b
-  fault_hearing now f l m a b h =
+    {K : Type 0} (tells : K → ℕ → K → Type 0) (ports : ℕ) {A : Type 0} (transmissions : Ways A) where
+  pub fault_hearing : (now : ℕ) (f : RunFault) (l m : Readiness) (r s : K) (a b : C) → tells r now s → AsksSomeMarkedPorts hears hear_out_of_memory now ports l m f a b
+      → BreaksMarkedTurn hears hear_out_of_memory gives next_out_of_memory tells ports transmissions l m r s f a b
+  fault_hearing now f l m r s a b told h =
       let turn : Turn = record { moment = now; answers = h.0 ++ h.1; packets = [] } in
-      (turn, [], inl (h.0, h.1, h.2, refl, h.3, h.4, h.5, refl, refl), h.6)
+      (turn, [], inl (h.0, h.1, h.2, refl, h.3, h.4, h.5, refl, refl), told, h.6)
 
-  pub fault_sending : (now : ℕ) (there : Ways A) (t u : Option (TrafficOf A)) (l m n : Readiness) (f : RunFault) (a b c : C) (heard : ℕ)
-      → there ≡ transmissions → AsksMarkedPorts hears now ports l m a b heard → SendsSome gives next_out_of_memory 64 now there t u f b c
-      → MarksStay m n → MarksFollowFault hears hear_out_of_memory gives next_out_of_memory ports transmissions l n f a c
-  fault_sending now there t u l m n f a b c heard is h k' stay =
+  pub fault_sending : (now : ℕ) (there : Ways A) (t u : Option (TrafficOf A)) (l m n : Readiness) (r s : K) (f : RunFault) (a b c : C) (heard : ℕ)
+      → tells r now s → there ≡ transmissions → AsksMarkedPorts hears now ports l m a b heard → SendsSome gives next_out_of_memory 64 now there t u f b c
+      → MarksStay m n → BreaksMarkedTurn hears hear_out_of_memory gives next_out_of_memory tells ports transmissions l n r s f a c
+  fault_sending now there t u l m n r s f a b c heard told is h k' stay =
       let k = subst (λ w. SendsSome gives next_out_of_memory 64 now w t u f b c) is k' in
       let turn : Turn = record { moment = now; answers = h.0; packets = k.0 } in
-      (turn, k.1, inr (h.1, b, h.2, k.2), follow_stays h.0 l m n h.4 stay)
-
-  -- all turns were whole
-  pub batch_follows : (l m : Readiness) (a b : C) (x : Batch) → x.fault ≡ None → FollowSoFar hears gives ports l m a b x.heard
-      → MarksFollowBatch hears hear_out_of_memory gives next_out_of_memory ports transmissions l m a b x
-  batch_follows l m a b x e h = (
-    h.0,
-    b,
-    [],
-    h.1,
-    subst (λ (f : Option RunFault). AnswersAtEnd hears hear_out_of_memory gives next_out_of_memory ports transmissions f [] b b) (sym e) (refl, refl),
-    h.2,
-    subst (λ (rs : List Reception). MarksFollow rs l m) (sym (append-nil (received_of h.0))) h.3,
-  )
-
-  -- a fault ended the last one
-  pub batch_ended : (here : ℕ) (there : Ways A) (l m n : Readiness) (a b c : C) (x : Batch) (heard : ℕ) (f : RunFault) → here ≡ ports → there ≡ transmissions
-      → x.fault ≡ Some f → x.heard ≡ heard → FollowSoFar hears gives ports l m a b heard
-      → MarksFollowFault hears hear_out_of_memory gives next_out_of_memory here there m n f b c
-      → MarksFollowBatch hears hear_out_of_memory gives next_out_of_memory ports transmissions l n a c x
-  batch_ended here there l m n a b c x heard f e w is same h k' =
-      let k = subst (λ (it : Ways A). MarksFollowFault hears hear_out_of_memory gives next_out_of_memory ports it m n f b c) w
-      (subst (λ p. MarksFollowFault hears hear_out_of_memory gives next_out_of_memory p there m n f b c) e k') in (
-        h.0,
-        b,
-        k.0.answers,
-        h.1,
-        subst (λ (f : Option RunFault). AnswersAtEnd hears hear_out_of_memory gives next_out_of_memory ports transmissions f k.0.answers b c) (sym is) (k.0, k.1, refl, k.2),
-        same ∙ h.2,
-        follow_on (received_of h.0) k.0.answers l m n h.3 k.3,
-      )
+      (turn, k.1, inr (h.1, b, h.2, k.2), told, follow_stays h.0 l m n h.4 stay)
 
 -- one mark of a list is cleared
 cleared_at : (marks : List Bool) (port : ℕ) → is_port_marked (slice_set marks port false) port ≡ false

@@ -1,6 +1,6 @@
 -- What one turn of a core over a device leaves, and what consecutive turns do for as long as there is work.
--- The entry points are `TakesTurn` and `Bursts`, and `CanBegin` for when a turn is possible. `TakesTurnBy`,
--- `BurstsBy` and `CanBeginBy` are the same over any port driver. Defined by this project.
+-- The entry points are `TakesTurn`, and `CanBegin` for when a turn is possible. `TakesTurnBy` and `CanBeginBy`
+-- are the same over any port driver, and `BurstsBy` is a batch of turns. Defined by this project.
 use Rattle.std.specs.Prelude.{◌≡◌, ◌<◌, ◌≤◌, ℕ, zero, suc, ◌+◌, ◌^◌, List, [], ◌∷◌, ◌++◌, length, sum_by, All, Bool, true, false, Option, Some, None, Result, Ok, Err}
 use Rattle.ipx_carrier.specs.declared.fault.RunFault.{RunFault}
 use Rattle.ipx_carrier.specs.declared.fault.RunFault.TheVariants.{Device, OutOfMemory}
@@ -8,6 +8,8 @@ use Rattle.ipx_carrier.specs.declared.report.Batch.{Batch}
 use Rattle.ipx_carrier.specs.declared.report.Report.{Report}
 use Rattle.ipx_carrier.specs.Counting.{counted}
 use Rattle.ipx_carrier.specs.Device.{Traffic, TrafficOf}
+use Rattle.ipx_carrier.specs.MarkedTurns.{BreaksMarkedTurn, TakesMarkedTurn}
+use Rattle.ipx_carrier.specs.Readiness.{Readiness}
 use Rattle.ipx_carrier.specs.Turns.{Given, Peers, Ways, by_ip}
 use Rattle.ipx_carrier.specs.Runs.{EndsEarlyBy, RunsBy}
 
@@ -86,39 +88,31 @@ Stops most turns None false = (length turns ≡ most) × AreBusy turns
 module _ {C : Type 0} (hears : C → ℕ → List ℕ → ℕ → C → Type 0)
     (gives : C → ℕ → Option Given → C → Type 0) {K : Type 0} (tells : K → ℕ → K → Type 0)
     (ports : ℕ) where
-  -- consecutive runs of one turn each. The device's count of filtered datagrams goes from the first number to
-  -- the second, and never falls. What its sockets carried is not stated
-  abbrev pub ChainBy : {A : Type 0} → Ways A → List TurnTaken → ℕ → ℕ → K → K → C → C → Type 0
-  ChainBy transmissions [] kept kept_after clock clock_after old new =
-      (kept_after ≡ kept) × (clock_after ≡ clock) × (new ≡ old)
-  ChainBy transmissions (t ∷ ts) kept kept_after clock clock_after old new = (tick : K) × (mid : C)
-      × (t.before ≡ kept) × (kept ≤ t.after)
-      × RunsBy hears gives tells ports transmissions 1 None None clock tick old mid t.report
-      × ChainBy transmissions ts t.after kept_after tick clock_after mid new
-
-  abbrev pub Chain : Peers → List TurnTaken → ℕ → ℕ → K → K → C → C → Type 0
-  Chain peers = ChainBy (by_ip peers)
+  -- consecutive whole turns. The device's count of filtered datagrams goes from the first number to the second,
+  -- and never falls. The marks of its ports follow from what they answer in each turn. What its sockets carried
+  -- is not stated
+  abbrev pub ChainBy : {A : Type 0} → Ways A → List TurnTaken → ℕ → ℕ → Readiness → Readiness → K → K → C → C → Type 0
+  ChainBy transmissions [] filtered filtered_after marked marked_after clock clock_after old new =
+      (filtered_after ≡ filtered) × (marked_after ≡ marked) × (clock_after ≡ clock) × (new ≡ old)
+  ChainBy transmissions (t ∷ ts) filtered filtered_after marked marked_after clock clock_after old new =
+      (tick : K) × (mid : C) × (marks : Readiness) × (t.before ≡ filtered) × (filtered ≤ t.after)
+      × TakesMarkedTurn hears gives tells ports transmissions marked marks clock tick old mid t.report
+      × ChainBy transmissions ts t.after filtered_after marks marked_after tick clock_after mid new
 
 module _ {C : Type 0} (hears hear_out_of_memory : C → ℕ → List ℕ → ℕ → C → Type 0)
     (gives : C → ℕ → Option Given → C → Type 0) (next_out_of_memory : C → ℕ → C → Type 0)
-    {K : Type 0} (tells : K → ℕ → K → Type 0) (ports : ℕ) where
+    {K : Type 0} (tells : K → ℕ → K → Type 0) (ports : ℕ) {A : Type 0} (transmissions : Ways A) where
   -- no fault, and nothing more happens; or a fault ends a turn that had begun
-  abbrev pub EndsBy : {A : Type 0} → Ways A → Option RunFault → ℕ → ℕ → K → K → C → C → Type 0
-  EndsBy transmissions None kept kept_after clock clock_after old new =
-      (kept_after ≡ kept) × (clock_after ≡ clock) × (new ≡ old)
-  EndsBy transmissions (Some f) kept kept_after clock clock_after old new = (kept ≤ kept_after)
-      × EndsEarlyBy hears hear_out_of_memory gives next_out_of_memory tells ports transmissions 1 None None clock clock_after f old new
-
-  abbrev pub Ends : Peers → Option RunFault → ℕ → ℕ → K → K → C → C → Type 0
-  Ends peers = EndsBy (by_ip peers)
+  abbrev pub EndsBy : Option RunFault → ℕ → ℕ → Readiness → Readiness → K → K → C → C → Type 0
+  EndsBy None filtered filtered_after marked marked_after clock clock_after old new =
+      (filtered_after ≡ filtered) × (marked_after ≡ marked) × (clock_after ≡ clock) × (new ≡ old)
+  EndsBy (Some f) filtered filtered_after marked marked_after clock clock_after old new = (filtered ≤ filtered_after)
+      × BreaksMarkedTurn hears hear_out_of_memory gives next_out_of_memory tells ports transmissions marked marked_after clock clock_after f old new
 
   -- at most `most` whole turns, which are counted, and then that end
-  abbrev pub BurstsBy : {A : Type 0} → Ways A → ℕ → Batch → ℕ → ℕ → K → K → C → C → Type 0
-  BurstsBy transmissions most b kept kept_after clock clock_after old new = (turns : List TurnTaken)
-      × (kept_then : ℕ) × (tick : K) × (mid : C)
-      × ChainBy hears gives tells ports transmissions turns kept kept_then clock tick old mid
-      × EndsBy transmissions b.fault kept_then kept_after tick clock_after mid new
+  abbrev pub BurstsBy : ℕ → Batch → ℕ → ℕ → Readiness → Readiness → K → K → C → C → Type 0
+  BurstsBy most b filtered filtered_after marked marked_after clock clock_after old new = (turns : List TurnTaken)
+      × (filtered_then : ℕ) × (marks : Readiness) × (tick : K) × (mid : C)
+      × ChainBy hears gives tells ports transmissions turns filtered filtered_then marked marks clock tick old mid
+      × EndsBy b.fault filtered_then filtered_after marks marked_after tick clock_after mid new
       × CountsTurns turns b × Stops most turns b.fault b.quiet
-
-  abbrev pub Bursts : Peers → ℕ → Batch → ℕ → ℕ → K → K → C → C → Type 0
-  Bursts peers = BurstsBy (by_ip peers)

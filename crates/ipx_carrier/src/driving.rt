@@ -1,19 +1,18 @@
 //! Turns of a core over a device: a single turn, or turns for as long as there is work.
 
 ghost use Rattle.std.specs.Prelude.{◌≡◌, ◌⊎◌, ◌≤◌, ◌↔◌, ◌+◌, ◌<◌, ◌^◌, IfOk, IfErr, IsTrue, OnOk, Err, length};
-ghost use Rattle.ipx_carrier.specs.Driving.{Bursts, BurstsBy, CanBegin, CanBeginBy, TakesTurn, TakesTurnBy, failed_after, refused};
-ghost use Rattle.ipx_carrier.specs.MarkedTurns.{MarksFollowBatch, MarksFollowFault, MarksFollowTurn};
+ghost use Rattle.ipx_carrier.specs.Driving.{BurstsBy, CanBegin, CanBeginBy, TakesTurn, TakesTurnBy, failed_after, refused};
+ghost use Rattle.ipx_carrier.specs.MarkedTurns.{BreaksMarkedTurn, TakesMarkedTurn};
 ghost use Rattle.ipx_carrier.specs.RunFaultNumbers.{failures_after};
 ghost use Rattle.ipx_carrier.specs.Runs.{EndsEarly, EndsEarlyBy, Runs, RunsBy};
 ghost use Rattle.ipx_carrier.specs.Turns.{peers_of};
 
 use crate::clock::Clock;
 use crate::cores::Core;
-use crate::datagrams::{CountsFiltered, Datagrams};
+use crate::datagrams::Datagrams;
 use crate::fault::RunFault;
 use crate::port_driver::{PortDriver, PortDriverFilters};
 use crate::report::{Batch, Report};
-use crate::rfc1234_ports::Rfc1234Ports;
 use crate::running::{MAX_DATAGRAM, run, run_once_in};
 use std::alloc::Global;
 
@@ -81,13 +80,16 @@ fn run_once_lent<C: Core, S: PortDriver, K: Clock>(
     ensures transmissions { S.transmissions driver.new ≡ S.transmissions driver.old }
     ensures access { S.access driver.new ≡ S.access driver.old }
     ensures filtered { S.filtered driver.old ≤ S.filtered driver.new }
-    ensures marks { IfOk result (λ report. MarksFollowTurn C.hears C.gives (C.port_count core.old)
-        (S.marked driver.old) (S.marked driver.new) core.old core.new report.heard) }
+    ensures marks { IfOk result (λ report.
+        TakesMarkedTurn C.hears C.gives K.tells (C.port_count core.old) (S.transmissions driver.old)
+        (S.marked driver.old) (S.marked driver.new) clock.old clock.new
+        core.old core.new report) }
     ensures marks_fault { CanBeginBy (C.port_count core.old) (S.port_count driver.old)
         (S.failed driver.old) → IfErr result (λ f.
-        MarksFollowFault C.hears C.hear_out_of_memory C.gives C.next_out_of_memory
+        BreaksMarkedTurn C.hears C.hear_out_of_memory C.gives C.next_out_of_memory K.tells
         (C.port_count core.old) (S.transmissions driver.old)
-        (S.marked driver.old) (S.marked driver.new) f core.old core.new) }
+        (S.marked driver.old) (S.marked driver.new) clock.old clock.new
+        f core.old core.new) }
     ensures kept { S.kept driver.new ≡ S.kept driver.old }
 {
     if !can_begin_over(core, driver) {
@@ -136,14 +138,17 @@ pub fn run_once_over_ports<C: Core, S: PortDriver, K: Clock>(
     ensures transmissions { S.transmissions driver.new ≡ S.transmissions driver.old }
     ensures access { S.access driver.new ≡ S.access driver.old }
     ensures filtered { S.filtered driver.old ≤ S.filtered driver.new }
-    // What the ports answered, which the core heard, explains their marks.
-    ensures marks { IfOk result (λ report. MarksFollowTurn C.hears C.gives (C.port_count core.old)
-        (S.marked driver.old) (S.marked driver.new) core.old core.new report.heard) }
+    // What the ports answered in this turn, which the core heard, explains their marks.
+    ensures marks { IfOk result (λ report.
+        TakesMarkedTurn C.hears C.gives K.tells (C.port_count core.old) (S.transmissions driver.old)
+        (S.marked driver.old) (S.marked driver.new) clock.old clock.new
+        core.old core.new report) }
     ensures marks_fault { CanBeginBy (C.port_count core.old) (S.port_count driver.old)
         (S.failed driver.old) → IfErr result (λ f.
-        MarksFollowFault C.hears C.hear_out_of_memory C.gives C.next_out_of_memory
+        BreaksMarkedTurn C.hears C.hear_out_of_memory C.gives C.next_out_of_memory K.tells
         (C.port_count core.old) (S.transmissions driver.old)
-        (S.marked driver.old) (S.marked driver.new) f core.old core.new) }
+        (S.marked driver.old) (S.marked driver.new) clock.old clock.new
+        f core.old core.new) }
     ensures kept { S.kept driver.new ≡ S.kept driver.old }
 {
     let mut room = [0; MAX_DATAGRAM];
@@ -164,14 +169,14 @@ pub fn run_batch<C: Core, S: PortDriverFilters, K: Clock>(
     clock: &mut K,
     most: u32,
 ) -> Batch
-    // If turns can begin, the core and the clock after come of whole turns, each as
-    // `run_over_ports` takes it, which are counted. If a fault ended a turn, that part of a turn
-    // follows them.
+    // If turns can begin, the core, the clock and the marks after come of whole turns, which are
+    // counted. If a fault ended a turn, that part of a turn follows them. A port loses its mark only
+    // in a turn in which it answered None, and gains none.
     ensures turns { CanBeginBy (C.port_count core.old) (S.port_count driver.old)
         (S.failed driver.old)
         → BurstsBy C.hears C.hear_out_of_memory C.gives C.next_out_of_memory K.tells (C.port_count core.old)
         (S.transmissions driver.old) most result (S.filtered driver.old) (S.filtered driver.new)
-        clock.old clock.new core.old core.new }
+        (S.marked driver.old) (S.marked driver.new) clock.old clock.new core.old core.new }
     // If none can begin, nothing happens.
     ensures refused { (CanBeginBy (C.port_count core.old) (S.port_count driver.old)
         (S.failed driver.old) → ⊥) → (result ≡ refused most)
@@ -184,13 +189,6 @@ pub fn run_batch<C: Core, S: PortDriverFilters, K: Clock>(
     // How packets are sent, who may send, and what no call changes all stay.
     ensures transmissions { S.transmissions driver.new ≡ S.transmissions driver.old }
     ensures access { S.access driver.new ≡ S.access driver.old }
-    // No port is marked that was not. A port lost its mark only if it answered None when it was last
-    // asked. The answers are those that the core heard.
-    ensures marks { CanBeginBy (C.port_count core.old) (S.port_count driver.old)
-        (S.failed driver.old)
-        → MarksFollowBatch C.hears C.hear_out_of_memory C.gives C.next_out_of_memory
-        (C.port_count core.old) (S.transmissions driver.old)
-        (S.marked driver.old) (S.marked driver.new) core.old core.new result }
     ensures kept { S.kept driver.new ≡ S.kept driver.old }
 {
     let mut room = [0; MAX_DATAGRAM];
@@ -255,47 +253,4 @@ pub fn turn<C: Core, D: Datagrams, K: Clock>(
         return Err(RunFault::Device);
     }
     run(alloc, core, device, peers, clock, 1)
-}
-
-/// Takes turns until one is idle, a fault ends one, or `most` turns were taken. An idle turn
-/// receives, sends and filters nothing.
-///
-/// The last turn of a quiet batch was idle. The caller then waits, unless packets are queued in a
-/// router, as `PriorityRouterCore::queued` tells. After a batch that is not quiet, the caller takes
-/// the next. If no turn can begin, as for `turn`, the fault is `Device` and nothing happens.
-pub fn batch<C: Core, D: CountsFiltered, K: Clock>(
-    alloc: Global,
-    core: &mut C,
-    device: &mut D,
-    peers: &[Vec<[u8; 4]>],
-    clock: &mut K,
-    most: u32,
-) -> Batch
-    // If turns can begin, the core and the clock after come of whole turns, each as `run` takes it,
-    // which are counted. If a fault ended a turn, that part of a turn follows them.
-    ensures turns { CanBegin (C.port_count core.old) (D.port_count device.old)
-        (length peers.now) (D.failed device.old)
-        → Bursts C.hears C.hear_out_of_memory C.gives C.next_out_of_memory K.tells (C.port_count core.old)
-        (peers_of peers.now) most result (D.filtered device.old) (D.filtered device.new)
-        clock.old clock.new core.old core.new }
-    // If none can begin, nothing happens.
-    ensures refused { (CanBegin (C.port_count core.old) (D.port_count device.old)
-        (length peers.now) (D.failed device.old) → ⊥) → (result ≡ refused most)
-        × (core.new ≡ core.old) × (device.new ≡ device.old) × (clock.new ≡ clock.old) }
-    ensures failures { CanBegin (C.port_count core.old) (D.port_count device.old)
-        (length peers.now) (D.failed device.old)
-        → D.failed device.new ≡ failed_after result.fault (D.failed device.old) }
-    ensures ports { C.port_count core.new ≡ C.port_count core.old }
-    ensures device_ports { D.port_count device.new ≡ D.port_count device.old }
-    // Who may send stays.
-    ensures access { D.access device.new ≡ D.access device.old }
-{
-    if peers.len() != core.ports() {
-        return Batch::refused(most);
-    }
-    let mut driver = Rfc1234Ports {
-        datagrams: device,
-        peers,
-    };
-    run_batch(alloc, core, &mut driver, clock, most)
 }

@@ -3,7 +3,7 @@
 //! A [`Core`] receives datagrams and gives packets. [`Datagrams`] is a device with ports, and a
 //! [`Clock`] tells the time. [`run`] takes turns over the three. [`MemoryDatagrams`] keeps its
 //! datagrams in memory, and [`UdpDatagrams`] has a UDP socket for each port. [`turn`] takes one
-//! turn if one can begin, and [`batch`] takes turns for as long as there is work.
+//! turn if one can begin, and [`run_batch`] takes turns for as long as there is work.
 //!
 //! A [`PortDriver`] says how a packet for a node leaves a port, and what is received there, over
 //! any network. [`run_over_ports`], [`run_once_over_ports`] and [`run_batch`] take turns over it.
@@ -41,7 +41,7 @@ pub use clock::{Clock, SteppedClock};
 pub use cores::Core;
 pub use counting::saturating_increment;
 pub use datagrams::{CountsFiltered, Datagrams};
-pub use driving::{batch, run_batch, run_once_over_ports, turn};
+pub use driving::{run_batch, run_once_over_ports, turn};
 pub use fault::{CarrierFault, DeviceFault, RunFault};
 pub use host_core::HostCore;
 pub use mapping::{ip_of, node_of, node_of_ip_has_that_ip, node_with_ip_is_of_it};

@@ -4,7 +4,7 @@ ghost use Rattle.std.specs.Prelude.{◌≡◌, ◌<◌, ◌≤◌, ◌+◌, ◌*
 ghost use Rattle.ipx_carrier.specs.RunFaultNumbers.{failures_after};
 ghost use Rattle.ipx_carrier.specs.Turns.{peers_of};
 ghost use Rattle.ipx_carrier.specs.Counts.{plus};
-ghost use Rattle.ipx_carrier.specs.MarkedTurns.{MarksFollowFault, MarksFollowTurn};
+ghost use Rattle.ipx_carrier.specs.MarkedTurns.{BreaksMarkedTurn, TakesMarkedTurn};
 ghost use Rattle.ipx_carrier.specs.Parts.{TakesFromDevice};
 ghost use Rattle.ipx_carrier.specs.Runs.{EndsEarly, EndsEarlyBy, Runs, RunsBy};
 ghost use Rattle.ipx_carrier.specs.Waits.{DrainsDevice};
@@ -71,12 +71,15 @@ pub fn run_once_in<C: Core, S: PortDriver, K: Clock>(
     ensures transmissions { S.transmissions driver.new ≡ S.transmissions driver.old }
     ensures access { S.access driver.new ≡ S.access driver.old }
     ensures filtered { S.filtered driver.old ≤ S.filtered driver.new }
-    ensures marks { IfOk result (λ report. MarksFollowTurn C.hears C.gives (C.port_count core.old)
-        (S.marked driver.old) (S.marked driver.new) core.old core.new report.heard) }
+    ensures marks { IfOk result (λ report.
+        TakesMarkedTurn C.hears C.gives K.tells (C.port_count core.old) (S.transmissions driver.old)
+        (S.marked driver.old) (S.marked driver.new) clock.old clock.new
+        core.old core.new report) }
     ensures marks_fault { IfErr result (λ f.
-        MarksFollowFault C.hears C.hear_out_of_memory C.gives C.next_out_of_memory
+        BreaksMarkedTurn C.hears C.hear_out_of_memory C.gives C.next_out_of_memory K.tells
         (C.port_count core.old) (S.transmissions driver.old)
-        (S.marked driver.old) (S.marked driver.new) f core.old core.new) }
+        (S.marked driver.old) (S.marked driver.new) clock.old clock.new
+        f core.old core.new) }
     ensures kept { S.kept driver.new ≡ S.kept driver.old }
 {
     let now = clock.now();

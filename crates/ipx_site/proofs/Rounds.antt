@@ -4,7 +4,6 @@ use Rattle.ipx_carrier.specs.declared.fault.RunFault.{RunFault}
 use Rattle.ipx_carrier.specs.Turns.{Ways}
 use Rattle.ipx_carrier.specs.declared.report.Batch.{Batch}
 use Rattle.ipx_carrier.specs.Driving.{BurstsBy}
-use Rattle.ipx_carrier.specs.MarkedTurns.{MarksFollowBatch}
 use Rattle.ipx_carrier.specs.Readiness.{Readiness}
 use Rattle.ipx_site.specs.IdleTime.{Deadlines, EventCounts, IsTimeUntilDue, IsDue, deadlines}
 use Rattle.ipx_site.specs.declared.warnings.Warnings.{Warnings}
@@ -20,20 +19,16 @@ same_ports now times times_after old mid (inr h) = ap (λ (v : SiteCore). length
 pub is_round : {K A : Type 0} (stops tells : K → ℕ → K → Type 0) (clock told tick clock_after : K) (transmissions here : Ways A)
     (i j n : ℕ) (marked there marked_after : Readiness) (now moment times times_after : ℕ) (old mid new : SiteCore) (b : Batch) → stops clock now told → tick ≡ told → moment ≡ now
     → AsksAgain now times times_after old mid → here ≡ transmissions → j ≡ i
-    → BurstsBy SiteHears SiteHearOutOfMemory SiteGives SiteNextOutOfMemory tells (length mid.core.core.core.router.ports) here 32 b j n tick clock_after mid new
     → there ≡ marked
-    → MarksFollowBatch SiteHears SiteHearOutOfMemory SiteGives SiteNextOutOfMemory (length mid.core.core.core.router.ports) here there marked_after mid new b
+    → BurstsBy SiteHears SiteHearOutOfMemory SiteGives SiteNextOutOfMemory tells (length mid.core.core.core.router.ports) here 32 b j n there marked_after tick clock_after mid new
     → IsRound clock clock_after stops tells transmissions i n marked marked_after times times_after old new moment b
-is_round {A = A} stops tells clock told tick clock_after transmissions here i j n marked there marked_after now moment times times_after old mid new b h e m asks f g bursts l marks =
-    let at = subst (λ ports. BurstsBy SiteHears SiteHearOutOfMemory SiteGives SiteNextOutOfMemory tells ports here 32 b j n tick clock_after mid new)
+is_round {A = A} stops tells clock told tick clock_after transmissions here i j n marked there marked_after now moment times times_after old mid new b h e m asks f g l bursts =
+    let at = subst (λ ports. BurstsBy SiteHears SiteHearOutOfMemory SiteGives SiteNextOutOfMemory tells ports here 32 b j n there marked_after tick clock_after mid new)
     (same_ports now times times_after old mid asks) bursts in
-    let by = subst (λ (it : Ways A). BurstsBy SiteHears SiteHearOutOfMemory SiteGives SiteNextOutOfMemory tells (length old.core.core.core.router.ports) it 32 b j n tick clock_after mid new) f at in
-    let kept = subst (λ it. BurstsBy SiteHears SiteHearOutOfMemory SiteGives SiteNextOutOfMemory tells (length old.core.core.core.router.ports) transmissions 32 b it n tick clock_after mid new) g by in
-    let follow = subst (λ ports. MarksFollowBatch SiteHears SiteHearOutOfMemory SiteGives SiteNextOutOfMemory ports here there marked_after mid new b)
-    (same_ports now times times_after old mid asks) marks in
-    let ways = subst (λ (it : Ways A). MarksFollowBatch SiteHears SiteHearOutOfMemory SiteGives SiteNextOutOfMemory (length old.core.core.core.router.ports) it there marked_after mid new b) f follow in
-    let from = subst (λ (it : Readiness). MarksFollowBatch SiteHears SiteHearOutOfMemory SiteGives SiteNextOutOfMemory (length old.core.core.core.router.ports) transmissions it marked_after mid new b) l ways in
-    (now, tick, mid, subst (λ it. stops clock now it) (sym e) h, m, asks, kept, from)
+    let by = subst (λ (it : Ways A). BurstsBy SiteHears SiteHearOutOfMemory SiteGives SiteNextOutOfMemory tells (length old.core.core.core.router.ports) it 32 b j n there marked_after tick clock_after mid new) f at in
+    let filtered = subst (λ it. BurstsBy SiteHears SiteHearOutOfMemory SiteGives SiteNextOutOfMemory tells (length old.core.core.core.router.ports) transmissions 32 b it n there marked_after tick clock_after mid new) g by in
+    let from = subst (λ (it : Readiness). BurstsBy SiteHears SiteHearOutOfMemory SiteGives SiteNextOutOfMemory tells (length old.core.core.core.router.ports) transmissions 32 b i n it marked_after tick clock_after mid new) l filtered in
+    (now, tick, mid, subst (λ it. stops clock now it) (sym e) h, m, asks, from)
 
 -- how long a router waits, by how its batch ended
 pub rests : {K : Type 0} (todo : ℕ → Type 0) (marked : Bool) (clock clock' : K) (stops : K → ℕ → K → Type 0) (asked : Option ℕ)

@@ -5,7 +5,6 @@ use Rattle.ipx_carrier.specs.declared.fault.RunFault.{RunFault}
 use Rattle.ipx_carrier.specs.Turns.{Ways}
 use Rattle.ipx_carrier.specs.declared.report.Batch.{Batch}
 use Rattle.ipx_carrier.specs.Driving.{BurstsBy}
-use Rattle.ipx_carrier.specs.MarkedTurns.{MarksFollowBatch}
 use Rattle.ipx_carrier.specs.Readiness.{Readiness}
 use Rattle.ipx_site.specs.IdleTime.{IsTimeUntilDue}
 use Rattle.ipx_site.specs.Moments.{IsToAskAgain}
@@ -19,17 +18,16 @@ AsksAgain now times times_after old new =
 
 -- one round, at the time at which the clock is stopped. It repeats requests if it is time. It then takes a
 -- batch of at most 32 turns with such a stopped clock. Packets are sent these ways, and the ports' count of
--- drops rises from `kept` to `kept_after`. A port loses its mark only if it gave nothing when it was last
--- asked. Its Ethernet ports send and receive at that time. Its core hears static entries when due, drops what
+-- drops rises from `filtered` to `filtered_after`. A port loses its mark only in a turn in which it gave
+-- nothing. Its Ethernet ports send and receive at that time. Its core hears static entries when due, drops what
 -- fails a source check, and limits general queries
 abbrev pub IsRound : {K A : Type 0} → K → K → (K → ℕ → K → Type 0) → (K → ℕ → K → Type 0) → Ways A → ℕ → ℕ → Readiness → Readiness → ℕ → ℕ → SiteCore → SiteCore → ℕ → Batch → Type 0
-IsRound {K} clock clock_after stops tells transmissions kept kept_after marked marked_after times times_after old new moment b = (now : ℕ) × (tick : K)
+IsRound {K} clock clock_after stops tells transmissions filtered filtered_after marked marked_after times times_after old new moment b = (now : ℕ) × (tick : K)
     × (mid : SiteCore) × stops clock now tick
     × (moment ≡ now) × AsksAgain now times times_after old mid
     × BurstsBy SiteHears SiteHearOutOfMemory SiteGives SiteNextOutOfMemory tells
-    (length old.core.core.core.router.ports) transmissions 32 b kept kept_after tick clock_after mid new
-    × MarksFollowBatch SiteHears SiteHearOutOfMemory SiteGives SiteNextOutOfMemory
-    (length old.core.core.core.router.ports) transmissions marked marked_after mid new b
+    (length old.core.core.core.router.ports) transmissions 32 b filtered filtered_after marked marked_after
+    tick clock_after mid new
 
 -- how long it waits, and when. After a fault it waits 100 ms. After a batch that was not quiet it does not
 -- wait, but learns where something came. After a quiet batch it stops the clock and waits as long as there is

@@ -2,7 +2,9 @@
 //! that use any of their network's routers. Each access list names the routers. Nobody forges
 //! packets there, and nothing is dropped by access lists.
 
-use ipx_carrier::{Datagrams, DeviceFault, PriorityRouterCore, SteppedClock, batch, node_of};
+use ipx_carrier::{
+    Datagrams, DeviceFault, PriorityRouterCore, Rfc1234Ports, SteppedClock, node_of, run_batch,
+};
 use ipx_router::{Port, Router};
 use ipx_site::{AccessList, Senders, SourceFilter};
 use ipx_wire::{Address, IpxHeader, Network, Node, Packet, Socket, decode, encode_into};
@@ -315,7 +317,11 @@ impl Internetwork {
             return Ok(());
         };
         let mut clock = SteppedClock::new(now, 0);
-        let _batch = batch(alloc, core, &mut device, &peers, &mut clock, 10_000);
+        let mut driver = Rfc1234Ports {
+            datagrams: &mut device,
+            peers: &peers,
+        };
+        let _batch = run_batch(alloc, core, &mut driver, &mut clock, 10_000);
         self.count(&device);
         for letter in &device.device().sent {
             let network = self.stands[me].networks[letter.port];
@@ -495,7 +501,11 @@ fn what_waits_after_forged_datagrams_is_heard(rt: HostRuntime) -> Result<(), Fai
     let mut core = PriorityRouterCore::new(alloc, Router::new(alloc, vec![in alloc; port]?)?);
     let peers = vec![in alloc; Vec::new(alloc)]?;
     let mut clock = SteppedClock::new(0, 0);
-    let batch = batch(alloc, &mut core, &mut device, &peers, &mut clock, 20_000);
+    let mut driver = Rfc1234Ports {
+        datagrams: &mut device,
+        peers: &peers,
+    };
+    let batch = run_batch(alloc, &mut core, &mut driver, &mut clock, 20_000);
     assert!(rt; batch.quiet);
     assert_eq!(rt; batch.heard, 1);
     assert_eq!(rt; device.kept().spoofed.count, FORGED as u64);

@@ -2,7 +2,7 @@
 //! Run these with each allocation refused.
 
 use crate::metrics::METRICS;
-use ipx_carrier::{Batch, Core, Datagrams, RunFault, batch};
+use ipx_carrier::{Batch, Core, Datagrams, Rfc1234Ports, RunFault, run_batch};
 use ipx_site::{AccessList, BindFault, Poller, SourceFilter, SteadyClock, UdpSockets, WaitFault};
 use ipx_wire::{Network, Node, OutOfMemory};
 use std::alloc::Global;
@@ -86,7 +86,11 @@ fn batch_of(
     if peers.push(Vec::new(alloc)).is_err() {
         let _again = peers.push(Vec::new(alloc));
     }
-    batch(alloc, &mut Greedy, device, &peers, clock, 4)
+    let mut driver = Rfc1234Ports {
+        datagrams: device,
+        peers: &peers,
+    };
+    run_batch(alloc, &mut Greedy, &mut driver, clock, 4)
 }
 
 #[test]

@@ -1,6 +1,6 @@
 //! Waiting for sockets of the loopback interface, and batches of turns over them.
 
-use ipx_carrier::{Clock, Core, Datagrams, DeviceFault, batch};
+use ipx_carrier::{Clock, Core, Datagrams, DeviceFault, Rfc1234Ports, run_batch};
 use ipx_site::{AccessList, BindFault, ClockFault, Poller, SourceFilter, SteadyClock, UdpSockets};
 use ipx_wire::{Network, Node, OutOfMemory};
 use std::alloc::{AllocError, Global};
@@ -100,7 +100,11 @@ fn a_batch_ends_quietly(rt: HostRuntime) -> Result<(), Fail> {
     send(&mut peer, 3)?;
     let peers = vec![in alloc; Vec::new(alloc)]?;
     let mut clock = SteadyClock::new(&rt)?;
-    let batch = batch(alloc, &mut Mute, &mut device, &peers, &mut clock, 8);
+    let mut driver = Rfc1234Ports {
+        datagrams: &mut device,
+        peers: &peers,
+    };
+    let batch = run_batch(alloc, &mut Mute, &mut driver, &mut clock, 8);
     assert!(rt; batch.quiet && batch.fault.is_none());
     assert_eq!(rt; (batch.heard, batch.sent), (1, 0));
     assert_eq!(rt; device.kept().unknown_senders.count, 1);

@@ -1,7 +1,6 @@
 use Rattle.std.proofs.Common.{◌∙◌, arith, ap, sym}
 use Rattle.ipx_carrier.specs.declared.fault.RunFault.TheVariants.{Device}
-use Rattle.ipx_carrier.proofs.Bursting.{begins_again, ended_untold, ends_badly, ends_quietly, goes_on, is_busy_so, no_fault, ran_untold, refused_first, refused_none, same_fault}
-use Rattle.ipx_carrier.proofs.Marking.{batch_ended, batch_follows, so_far_more}
+use Rattle.ipx_carrier.proofs.Bursting.{begins_again, ends_badly, ends_quietly, goes_on, is_busy_so, no_fault, refused_first, refused_none, same_fault}
 use Rattle.ipx_carrier.proofs.driving.run_batch.Goals.{else-is_idle-via-then-is_idle+else-filtered-kept, else-is_idle-via-else-is_idle}
 use Rattle.ipx_carrier.proofs.driving.run_batch.Goals as goal
 
@@ -11,7 +10,7 @@ returns-in-Err-clause-turns g c =
     let l = c.loop-turn in
     let i = l.invariant in
     let again = begins_again i.ports i.driver_ports (i.failures can) can in
-    ends_badly g.C.Core.hears g.C.Core.hear_out_of_memory g.C.Core.gives g.C.Core.next_out_of_memory g.K.Clock.tells (g.C.Core.port_count c.args.core.now) (g.S.PortDriver.transmissions c.args.driver.now) (g.C.Core.port_count l.core) l._turn c.args.most (g.S.PortDriver.transmissions l.driver) (g.S.PortDriver.filtered c.args.driver.now) (g.S.PortDriver.filtered l.driver) (g.S.PortDriver.filtered c.run_once_lent.new.driver) c.args.clock.now l.clock c.run_once_lent.new.clock c.args.core.now l.core c.run_once_lent.new.core l.batch c.ended_by.result c.in-Err.fault i.ports i.transmissions (omega (arith, c.loop-turn-test.true)) i.loud c.ended_by.ensures (i.goes can) c.in-Err.ensures.filtered (ended_untold g.C.Core.hears g.C.Core.hear_out_of_memory g.C.Core.gives g.C.Core.next_out_of_memory g.K.Clock.tells (g.C.Core.port_count l.core) (g.S.PortDriver.transmissions l.driver) (g.S.PortDriver.traffic l.driver) (g.S.PortDriver.traffic c.run_once_lent.new.driver) l.clock c.run_once_lent.new.clock c.in-Err.fault l.core c.run_once_lent.new.core (c.in-Err.ensures.begins again))
+    ends_badly g.C.Core.hears g.C.Core.hear_out_of_memory g.C.Core.gives g.C.Core.next_out_of_memory g.K.Clock.tells (g.C.Core.port_count c.args.core.now) (g.S.PortDriver.transmissions c.args.driver.now) (g.C.Core.port_count l.core) l._turn c.args.most (g.S.PortDriver.transmissions l.driver) (g.S.PortDriver.filtered c.args.driver.now) (g.S.PortDriver.filtered l.driver) (g.S.PortDriver.filtered c.run_once_lent.new.driver) (g.S.PortDriver.marked c.args.driver.now) (g.S.PortDriver.marked l.driver) (g.S.PortDriver.marked c.run_once_lent.new.driver) c.args.clock.now l.clock c.run_once_lent.new.clock c.args.core.now l.core c.run_once_lent.new.core l.batch c.ended_by.result c.in-Err.fault i.ports i.transmissions (omega (arith, c.loop-turn-test.true)) i.loud c.ended_by.ensures (i.goes can) c.in-Err.ensures.filtered (c.in-Err.ensures.marks_fault again)
 
 pub returns-in-Err-clause-refused : goal.returns-in-Err-clause-refused
 returns-in-Err-clause-refused g c =
@@ -34,31 +33,7 @@ returns-then-filtered-kept-clause-turns g c =
     let i = l.invariant in
     let report = c.in-Ok.report in
     let counted = c.with-batch.ensures in
-    ends_quietly g.C.Core.hears g.C.Core.hear_out_of_memory g.C.Core.gives g.C.Core.next_out_of_memory g.K.Clock.tells (g.C.Core.port_count c.args.core.now) (g.S.PortDriver.transmissions c.args.driver.now) (g.C.Core.port_count l.core) l._turn c.args.most (g.S.PortDriver.transmissions l.driver) (g.S.PortDriver.filtered c.args.driver.now) (g.S.PortDriver.filtered l.driver) (g.S.PortDriver.filtered c.run_once_lent.new.driver) c.args.clock.now l.clock c.run_once_lent.new.clock c.args.core.now l.core c.run_once_lent.new.core l.batch c.with-batch.result c.quieted.result report i.ports i.transmissions (omega (arith, c.loop-turn-test.true)) (i.goes can) (sym c.filtered.ensures ∙ c.if-filtered-kept.true ∙ c.filtered-kept.ensures) (ran_untold g.C.Core.hears g.C.Core.hear_out_of_memory g.C.Core.gives g.C.Core.next_out_of_memory g.K.Clock.tells (g.C.Core.port_count l.core) (g.S.PortDriver.transmissions l.driver) (g.S.PortDriver.traffic l.driver) (g.S.PortDriver.traffic c.run_once_lent.new.driver) l.clock c.run_once_lent.new.clock l.core c.run_once_lent.new.core report c.in-Ok.ensures.turn) (c.is_idle.ensures.0 c.if-is_idle.true) (counted.heard, counted.sent, counted.unmapped) (counted.rest.0 ∙ i.whole) c.quieted.ensures
-
-pub returns-in-Err-clause-marks : goal.returns-in-Err-clause-marks
-returns-in-Err-clause-marks g c =
-    λ can.
-    let l = c.loop-turn in
-    let i = l.invariant in
-    let again = begins_again i.ports i.driver_ports (i.failures can) can in
-    batch_ended g.C.Core.hears g.C.Core.hear_out_of_memory g.C.Core.gives g.C.Core.next_out_of_memory (g.C.Core.port_count c.args.core.now) (g.S.PortDriver.transmissions c.args.driver.now) (g.C.Core.port_count l.core) (g.S.PortDriver.transmissions l.driver) (g.S.PortDriver.marked c.args.driver.now) (g.S.PortDriver.marked l.driver) (g.S.PortDriver.marked c.run_once_lent.new.driver) c.args.core.now l.core c.run_once_lent.new.core c.ended_by.result l.batch.heard c.in-Err.fault i.ports i.transmissions (ap (λ b. b.fault) c.ended_by.ensures) (ap (λ b. b.heard) c.ended_by.ensures) i.marks (c.in-Err.ensures.marks_fault again)
-
-pub returns-then-filtered-kept-clause-marks : goal.returns-then-filtered-kept-clause-marks
-returns-then-filtered-kept-clause-marks g c =
-    λ can.
-    let l = c.loop-turn in
-    let i = l.invariant in
-    let report = c.in-Ok.report in
-    let counted = c.with-batch.ensures in
-    batch_follows g.C.Core.hears g.C.Core.hear_out_of_memory g.C.Core.gives g.C.Core.next_out_of_memory (g.C.Core.port_count c.args.core.now) (g.S.PortDriver.transmissions c.args.driver.now) (g.S.PortDriver.marked c.args.driver.now) (g.S.PortDriver.marked c.run_once_lent.new.driver) c.args.core.now c.run_once_lent.new.core c.quieted.result (ap (λ b. b.fault) c.quieted.ensures ∙ counted.rest.0 ∙ i.whole)
-    (so_far_more g.C.Core.hears g.C.Core.gives (g.C.Core.port_count c.args.core.now) (g.C.Core.port_count l.core) (g.S.PortDriver.marked c.args.driver.now) (g.S.PortDriver.marked l.driver) (g.S.PortDriver.marked c.run_once_lent.new.driver) c.args.core.now l.core c.run_once_lent.new.core l.batch.heard report.heard c.quieted.result.heard i.ports i.marks c.in-Ok.ensures.marks (ap (λ b. b.heard) c.quieted.ensures ∙ counted.heard))
-
-pub returns-clause-marks : goal.returns-clause-marks
-returns-clause-marks g c =
-    λ can.
-    let l = c.loop-turn in
-    batch_follows g.C.Core.hears g.C.Core.hear_out_of_memory g.C.Core.gives g.C.Core.next_out_of_memory (g.C.Core.port_count c.args.core.now) (g.S.PortDriver.transmissions c.args.driver.now) (g.S.PortDriver.marked c.args.driver.now) (g.S.PortDriver.marked l.driver) c.args.core.now l.core l.batch l.invariant.whole l.invariant.marks
+    ends_quietly g.C.Core.hears g.C.Core.hear_out_of_memory g.C.Core.gives g.C.Core.next_out_of_memory g.K.Clock.tells (g.C.Core.port_count c.args.core.now) (g.S.PortDriver.transmissions c.args.driver.now) (g.C.Core.port_count l.core) l._turn c.args.most (g.S.PortDriver.transmissions l.driver) (g.S.PortDriver.filtered c.args.driver.now) (g.S.PortDriver.filtered l.driver) (g.S.PortDriver.filtered c.run_once_lent.new.driver) (g.S.PortDriver.marked c.args.driver.now) (g.S.PortDriver.marked l.driver) (g.S.PortDriver.marked c.run_once_lent.new.driver) c.args.clock.now l.clock c.run_once_lent.new.clock c.args.core.now l.core c.run_once_lent.new.core l.batch c.with-batch.result c.quieted.result report i.ports i.transmissions (omega (arith, c.loop-turn-test.true)) (i.goes can) (sym c.filtered.ensures ∙ c.if-filtered-kept.true ∙ c.filtered-kept.ensures) c.in-Ok.ensures.marks (c.is_idle.ensures.0 c.if-is_idle.true) (counted.heard, counted.sent, counted.unmapped) (counted.rest.0 ∙ i.whole) c.quieted.ensures
 
 pub loop-turn-preserved : goal.loop-turn-preserved
 loop-turn-preserved g c =
@@ -68,7 +43,7 @@ loop-turn-preserved g c =
     let counted = c.with-batch.ensures in
     record {
       failures = λ can. c.in-Ok.ensures.failures (begins_again i.ports i.driver_ports (i.failures can) can) ∙ i.failures can;
-      goes = λ can. goes_on g.C.Core.hears g.C.Core.gives g.K.Clock.tells (g.C.Core.port_count c.args.core.now) (g.S.PortDriver.transmissions c.args.driver.now) (g.C.Core.port_count l.core) l._turn (g.S.PortDriver.transmissions l.driver) (g.S.PortDriver.filtered c.args.driver.now) (g.S.PortDriver.filtered l.driver) (g.S.PortDriver.filtered c.run_once_lent.new.driver) c.args.clock.now l.clock c.run_once_lent.new.clock c.args.core.now l.core c.run_once_lent.new.core l.batch c.with-batch.result report i.ports i.transmissions (i.goes can) c.in-Ok.ensures.filtered (ran_untold g.C.Core.hears g.C.Core.hear_out_of_memory g.C.Core.gives g.C.Core.next_out_of_memory g.K.Clock.tells (g.C.Core.port_count l.core) (g.S.PortDriver.transmissions l.driver) (g.S.PortDriver.traffic l.driver) (g.S.PortDriver.traffic c.run_once_lent.new.driver) l.clock c.run_once_lent.new.clock l.core c.run_once_lent.new.core report c.in-Ok.ensures.turn) (counted.heard, counted.sent, counted.unmapped)
+      goes = λ can. goes_on g.C.Core.hears g.C.Core.gives g.K.Clock.tells (g.C.Core.port_count c.args.core.now) (g.S.PortDriver.transmissions c.args.driver.now) (g.C.Core.port_count l.core) l._turn (g.S.PortDriver.transmissions l.driver) (g.S.PortDriver.filtered c.args.driver.now) (g.S.PortDriver.filtered l.driver) (g.S.PortDriver.filtered c.run_once_lent.new.driver) (g.S.PortDriver.marked c.args.driver.now) (g.S.PortDriver.marked l.driver) (g.S.PortDriver.marked c.run_once_lent.new.driver) c.args.clock.now l.clock c.run_once_lent.new.clock c.args.core.now l.core c.run_once_lent.new.core l.batch c.with-batch.result report i.ports i.transmissions (i.goes can) c.in-Ok.ensures.filtered c.in-Ok.ensures.marks (counted.heard, counted.sent, counted.unmapped)
           (λ idle. elim c.else-is_idle.branch [ else-is_idle-via-then-is_idle+else-filtered-kept w ↦ w.if-filtered-kept.false (w.filtered.ensures ∙ idle.2 ∙ sym c.filtered-kept.ensures) | else-is_idle-via-else-is_idle w ↦ is_busy_so c.is_idle.result report c.is_idle.ensures w.if-is_idle.false (idle.0, idle.1) ]);
       nothing = λ cannot.
           let still = i.nothing cannot in
@@ -80,7 +55,6 @@ loop-turn-preserved g c =
       driver_ports = c.in-Ok.ensures.driver_ports ∙ i.driver_ports;
       transmissions = c.in-Ok.ensures.transmissions ∙ i.transmissions;
       access = c.in-Ok.ensures.access ∙ i.access;
-      marks = so_far_more g.C.Core.hears g.C.Core.gives (g.C.Core.port_count c.args.core.now) (g.C.Core.port_count l.core) (g.S.PortDriver.marked c.args.driver.now) (g.S.PortDriver.marked l.driver) (g.S.PortDriver.marked c.run_once_lent.new.driver) c.args.core.now l.core c.run_once_lent.new.core l.batch.heard report.heard c.with-batch.result.heard i.ports i.marks c.in-Ok.ensures.marks counted.heard;
       kept = c.in-Ok.ensures.kept ∙ i.kept;
     }
 

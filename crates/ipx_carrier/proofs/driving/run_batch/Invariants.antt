@@ -1,7 +1,6 @@
 use Rattle.std.proofs.Common.{◌≡◌, None, false}
 use Rattle.ipx_carrier.specs.Driving.{CanBeginBy, no_turns}
 use Rattle.ipx_carrier.proofs.Bursting.{Goes}
-use Rattle.ipx_carrier.proofs.Marking.{FollowSoFar}
 use Rattle.ipx_carrier.proofs.driving.run_batch.Given as goal
 
 abbrev pub invariant-loop-turn : goal.invariant-loop-turn
@@ -9,7 +8,7 @@ invariant-loop-turn g l =
     let begun = CanBeginBy (g.C.Core.port_count l.fn.core) (g.S.PortDriver.port_count l.fn.driver) (g.S.PortDriver.failed l.fn.driver) in
     record {
       failures : begun → g.S.PortDriver.failed l.driver ≡ g.S.PortDriver.failed l.fn.driver;
-      goes : begun → Goes g.C.Core.hears g.C.Core.gives g.K.Clock.tells (g.C.Core.port_count l.fn.core) (g.S.PortDriver.transmissions l.fn.driver) l._turn l.batch (g.S.PortDriver.filtered l.fn.driver) (g.S.PortDriver.filtered l.driver) l.fn.clock l.clock l.fn.core l.core;
+      goes : begun → Goes g.C.Core.hears g.C.Core.gives g.K.Clock.tells (g.C.Core.port_count l.fn.core) (g.S.PortDriver.transmissions l.fn.driver) l._turn l.batch (g.S.PortDriver.filtered l.fn.driver) (g.S.PortDriver.filtered l.driver) (g.S.PortDriver.marked l.fn.driver) (g.S.PortDriver.marked l.driver) l.fn.clock l.clock l.fn.core l.core;
       nothing : (begun → ⊥) → (l._turn ≡ 0) × (l.batch ≡ no_turns) × (l.core ≡ l.fn.core) × (l.driver ≡ l.fn.driver) × (l.clock ≡ l.fn.clock);
       whole : l.batch.fault ≡ None;
       loud : l.batch.quiet ≡ false;
@@ -17,6 +16,5 @@ invariant-loop-turn g l =
       driver_ports : g.S.PortDriver.port_count l.driver ≡ g.S.PortDriver.port_count l.fn.driver;
       transmissions : g.S.PortDriver.transmissions l.driver ≡ g.S.PortDriver.transmissions l.fn.driver;
       access : g.S.PortDriver.access l.driver ≡ g.S.PortDriver.access l.fn.driver;
-      marks : FollowSoFar g.C.Core.hears g.C.Core.gives (g.C.Core.port_count l.fn.core) (g.S.PortDriver.marked l.fn.driver) (g.S.PortDriver.marked l.driver) l.fn.core l.core l.batch.heard;
       kept : g.S.PortDriver.kept l.driver ≡ g.S.PortDriver.kept l.fn.driver;
     }

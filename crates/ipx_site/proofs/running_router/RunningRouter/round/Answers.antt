@@ -1,10 +1,10 @@
 use Rattle.std.proofs.Common.{List, ◌∙◌, ap, arith, length, subst}
-use Rattle.ipx_carrier.specs.MarkedTurns.{MarksFollowBatch}
+use Rattle.ipx_carrier.specs.Driving.{BurstsBy}
 use Rattle.ipx_site.specs.declared.router_ports.PortIndex.{PortIndex}
 use Rattle.ipx_site.specs.SiteCore.{SiteGives, SiteHearOutOfMemory, SiteHears, SiteNextOutOfMemory}
 use Rattle.ipx_site.specs.PortsView.{filtered_in_ports, ways_in}
 use Rattle.ipx_site.specs.SiteMarks.{kind_marks, port_marks}
-use Rattle.ipx_site.specs.Steady.{StopsThere}
+use Rattle.ipx_site.specs.Steady.{NeverGoesBack, StopsThere}
 use Rattle.ipx_site.proofs.PortsRun.{kept_stays, marks_stay, ways_stay}
 use Rattle.ipx_site.proofs.Rounds.{is_round}
 use Rattle.ipx_site.proofs.running_router.RunningRouter.round.Goals as goal
@@ -20,9 +20,8 @@ returns-clause-core g c =
     c.stop-now.result c.run_batch-batch.new.driver.ethernet.moment c.args.self.now.asked kept.asked c.args.self.now.core kept.core c.run_batch-batch.new.core c.run_batch-batch.result
     c.stop-now.ensures c.keep.ensures.clock (ap (λ k. k.2) c.run_batch-batch.ensures.kept ∙ ap (λ w. w.moment) later.ethernet) c.keep.ensures.core (ways_stay kept.ports told c.stop-now.result later.datagrams later.ethernet later.servers later.port_indices ∙ ap ways_in c.keep.ensures.ports)
     (kept_stays kept.ports told c.stop-now.result later.datagrams later.ethernet later.servers ∙ ap filtered_in_ports c.keep.ensures.ports)
-    (c.run_batch-batch.ensures.turns (ap (λ s. length s.items) later.port_indices ∙ kept.port_indices, omega arith))
     (marks_stay kept.ports told c.stop-now.result later.datagrams later.ethernet later.servers later.port_indices ∙ ap (λ p. port_marks p.port_indices.items (kind_marks p)) c.keep.ensures.ports)
-    (subst (λ (xs : List PortIndex). MarksFollowBatch SiteHears SiteHearOutOfMemory SiteGives SiteNextOutOfMemory (length kept.core.core.core.core.router.ports) (ways_in told)
-    (port_marks told.port_indices.items (kind_marks told)) (port_marks xs (kind_marks c.run_batch-batch.new.driver)) kept.core c.run_batch-batch.new.core c.run_batch-batch.result)
+    (subst (λ (xs : List PortIndex). BurstsBy SiteHears SiteHearOutOfMemory SiteGives SiteNextOutOfMemory NeverGoesBack (length kept.core.core.core.core.router.ports) (ways_in told) 32 c.run_batch-batch.result
+    (filtered_in_ports told) (filtered_in_ports c.run_batch-batch.new.driver) (port_marks told.port_indices.items (kind_marks told)) (port_marks xs (kind_marks c.run_batch-batch.new.driver)) kept.clock c.run_batch-batch.new.clock kept.core c.run_batch-batch.new.core)
     (ap (λ k. k.1) c.run_batch-batch.ensures.kept ∙ ap (λ s. s.items) later.port_indices ∙ ap (λ p. p.port_indices.items) c.keep.ensures.ports)
-    (c.run_batch-batch.ensures.marks (ap (λ s. length s.items) later.port_indices ∙ kept.port_indices, omega arith)))
+    (c.run_batch-batch.ensures.turns (ap (λ s. length s.items) later.port_indices ∙ kept.port_indices, omega arith)))
