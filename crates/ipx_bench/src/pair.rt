@@ -79,7 +79,7 @@ fn accepted(alloc: Global, request: &SpxHeader, buffers: u16) -> Result<End, Out
 }
 
 impl Pair {
-    /// A pair with this many buffers at each end. The request has arrived, and the far end owes its
+    /// A pair with this many buffers at each end. The request has arrived, and the far end must send its
     /// reply.
     pub fn new(alloc: Global, buffers: u16) -> Result<Pair, OutOfMemory>
         ensures near { IfOk result (λ p. IsLive p.near.links p.near.id) }

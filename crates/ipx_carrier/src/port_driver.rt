@@ -14,7 +14,7 @@ use ipx_wire::Node;
 /// What became of a packet that a port driver was given.
 #[derive(Clone, Copy, PartialEq, Eq)]
 pub enum PacketSent {
-    /// It was not sent, because its node has no address there.
+    /// It was not sent: its node has no address there, or it is too long for the port.
     Unmapped,
     /// It was sent this many times.
     Transmitted(usize),

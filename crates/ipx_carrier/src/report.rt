@@ -15,7 +15,7 @@ pub struct Report {
     pub heard: u128,
     /// The datagrams that it sent; a broadcast counts once for each peer.
     pub sent: u128,
-    /// The packets that were not sent, because their node has no IP address.
+    /// The packets that could not be sent: their node has no address, or they are too long.
     pub unmapped: u128,
 }
 
@@ -33,7 +33,7 @@ pub struct Batch {
     pub heard: u64,
     /// The datagrams that were sent.
     pub sent: u64,
-    /// The packets that were not sent, because their node has no IP address.
+    /// The packets that could not be sent: their node has no address, or they are too long.
     pub unmapped: u64,
     /// The fault that ended a turn early, and with it the batch.
     pub fault: Option<RunFault>,

@@ -99,7 +99,7 @@ pub fn run_once_in<C: Core, S: PortDriver, K: Clock>(
 /// core. Then it asks the core for packets until it gives none, or gave 64, and sends each by its
 /// port.
 ///
-/// The caller owes a port driver with as many ports as the core, and at most 1,000,000 turns. The
+/// The caller must pass a port driver with as many ports as the core, and at most 1,000,000 turns. The
 /// driver's count of failures must be able to rise. A fault ends the run, and what was done before
 /// it remains. It is `Device` if the port driver failed, and `OutOfMemory` if the core ran out of
 /// memory.
@@ -158,7 +158,7 @@ pub fn run_over_ports<C: Core, S: PortDriver, K: Clock>(
 /// broadcast goes to each peer of its port, in order, another packet to the IP address of its node.
 /// A packet is not sent if its node has no IP address.
 ///
-/// `peers` has the IP addresses of the other nodes, for each port of the core. The caller owes
+/// `peers` has the IP addresses of the other nodes, for each port of the core. The caller must pass
 /// that, a device with as many ports as the core, and at most 1,000,000 turns. The device's count
 /// of failures must be able to rise. A fault ends the run, and what was done before it remains. It
 /// is `Device` if the device failed, and `OutOfMemory` if the core ran out of memory.

@@ -56,7 +56,7 @@ fn print_outcome(rt: &impl Print, alloc: Global, outcome: &Outcome) -> Result<()
     }
 }
 
-/// Passes a datagram in hex to the router, and prints what it does with it. The caller owes a port
+/// Passes a datagram in hex to the router, and prints what it does with it. The caller must pass a port
 /// that exists.
 fn hand_in(rt: &impl Print, alloc: Global, router: &mut Router, port: u8, text: &str) -> Result<()>
     requires first { 1 ≤ port }

@@ -17,7 +17,7 @@ use Rattle.ipx_net.specs.declared.routers.RouterNow.{RouterNow}
 abbrev pub PortLists : Type 0
 PortLists = List (Vec Port Global)
 
--- ---- what the caller owes
+-- ---- what the caller must pass
 
 -- of a host: a network that a port may have, and 1 to 8,192 buffers if it listens
 pub record IsHostOwed (h : Host) : Type 0 where

@@ -56,7 +56,7 @@ LeavesMarks (Events.Deliver parcel (Places.Host host)) old new =
     FollowsMarks (marks_of old) (marks_of new)
 LeavesMarks event old new = marks_of new ≡ marks_of old
 
--- what the caller owes: buffers in range
+-- what the caller must pass: buffers in range
 abbrev pub IsOwed : Event → Type 0
 IsOwed (Events.Dial host socket to buffers) = (0 < buffers) × (buffers ≤ most_units)
 IsOwed (Events.Send who message) = Unit {0}

@@ -22,7 +22,7 @@ use spx_link::Unit;
 use spx_messages::{Message, Taken};
 use std::alloc::Global;
 
-/// A host requests a connection. The caller owes 1 to 8,192 buffers.
+/// A host requests a connection. The caller must pass 1 to 8,192 buffers.
 pub fn dial(
     alloc: Global,
     hosts: &mut Hosts,

@@ -15,7 +15,7 @@ pub enum Member {
 /// made.
 #[derive(Drop)]
 pub enum Event {
-    /// A host asks for a connection from one of its sockets to an address. The caller owes 1 to
+    /// A host asks for a connection from one of its sockets to an address. The caller must pass 1 to
     /// 8,192 buffers.
     Dial {
         host: usize,

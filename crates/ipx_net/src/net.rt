@@ -120,8 +120,8 @@ impl Net {
     /// A network of these hosts and routers, numbered from 0 in their order, at time 0. Nothing has
     /// happened in it, its routers know nothing, and its hosts have no connections.
     ///
-    /// The caller owes networks other than 0 and FFFFFFFF, for hosts and for ports. If a host
-    /// listens, the caller owes 1 to 8,192 buffers. It is refused with the fault of the first
+    /// The caller must pass networks other than 0 and FFFFFFFF, for hosts and for ports. If a host
+    /// listens, the caller must pass 1 to 8,192 buffers. It is refused with the fault of the first
     /// router that is refused, otherwise only if out of memory.
     pub fn new(alloc: Global, hosts: Vec<Host>, routers: Vec<Vec<Port>>) -> Result<Net, NewFault>
         requires hosts { All IsHostOwed hosts.items }
@@ -146,7 +146,7 @@ impl Net {
 
     /// Takes one event, and returns its answer.
     ///
-    /// The caller owes 1 to 8,192 buffers for a dial. It is refused as `Spent` if memory was
+    /// The caller must pass 1 to 8,192 buffers for a dial. It is refused as `Spent` if memory was
     /// refused before. Otherwise it is refused as `Full` if the log holds 1,000,000 entries, or
     /// with a fault if it names something that does not exist, or as out of memory. If out of
     /// memory, the log and the parcels remain, and so do the ends, with what is known of messages

@@ -96,7 +96,7 @@ impl NetState {
     /// Makes a network of these hosts and routers, numbered from 0 in their order. Its time is 0.
     /// Nothing has happened in it: its routers know nothing, and its hosts have no connections.
     ///
-    /// The caller owes networks other than 0 and FFFFFFFF, of hosts and of ports, and 1 to 8,192
+    /// The caller must pass networks other than 0 and FFFFFFFF, of hosts and of ports, and 1 to 8,192
     /// buffers for a host that listens. It fails with the fault of the first router that is
     /// refused, or else if out of memory.
     pub fn new(

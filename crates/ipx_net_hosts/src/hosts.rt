@@ -93,7 +93,7 @@ impl Hosts {
         (end.host, end.id)
     }
 
-    /// A host requests a connection, whose end gets the next number. The caller owes 1 to 8,192
+    /// A host requests a connection, whose end gets the next number. The caller must pass 1 to 8,192
     /// buffers. It is refused if 16 links are live, otherwise only if out of memory.
     pub fn dial(
         &mut self,
@@ -253,7 +253,7 @@ impl Hosts {
         (unit, taken)
     }
 
-    /// Asks a host for its next packet, which it writes to the start of the buffer. The caller owes
+    /// Asks a host for its next packet, which it writes to the start of the buffer. The caller must pass
     /// a buffer of 576 bytes.
     pub fn poll(&mut self, host: usize, now: u64, room: &mut [u8]) -> Option<(Node, usize)>
         requires there { host < length self.old.stations }

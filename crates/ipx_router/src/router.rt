@@ -55,7 +55,7 @@ impl Router {
     /// Makes a router of these ports. They are numbered from 1 in their order. It has learned
     /// nothing yet.
     ///
-    /// The caller owes networks other than 0, which means the local network, and FFFFFFFF, which
+    /// The caller must pass networks other than 0, which means the local network, and FFFFFFFF, which
     /// means all networks. Any other fault of the ports is returned as `NewFault`.
     pub fn new(alloc: Global, ports: Vec<Port>) -> Result<Router, NewFault>
         requires { All IsOwnNetwork ports.items }
@@ -106,7 +106,7 @@ impl Router {
 
     /// Handles bytes that came in on a port. Call it for each datagram, as soon as it arrives.
     ///
-    /// `port` is the number of one of the router's ports, which the caller owes. `now` is a time in
+    /// `port` is the number of one of the router's ports, which the caller must pass. `now` is a time in
     /// milliseconds. Offers that are three minutes old are removed first, and stay removed whatever
     /// the answer is. If memory runs out, the entries before that were learned, and the others were
     /// not.

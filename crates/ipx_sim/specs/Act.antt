@@ -46,6 +46,6 @@ HasLines (Events.Poll member) = Unit {0}
 HasLines (Events.Deliver parcel place) = Unit {0}
 HasLines (Events.Inject segment next bytes) = Unit {0}
 
--- what the caller owes: what a step needs, and an event with lines
+-- what the caller must pass: what a step needs, and an event with lines
 abbrev pub IsActOwed : Event → Type 0
 IsActOwed e = IsOwed e × HasLines e

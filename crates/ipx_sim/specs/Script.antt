@@ -1,4 +1,4 @@
--- What a line of a script owes the network, and an input that is too long for a script.
+-- What a line of a script must give the network, and an input that is too long for a script.
 use Rattle.std.specs.Prelude.{ℕ, ◌<◌, List, length, codes}
 use Rattle.ipx_inspect.specs.Text.{max_input}
 use Rattle.ipx_sim.specs.Act.{IsActOwed}

@@ -35,7 +35,7 @@ pub fn step(alloc: Global, net: &mut Net, event: Event) -> Result<Answer, NetFau
 /// Does one event at a network and writes the lines that report it: those of its answer, or of the
 /// fault that refused it.
 ///
-/// The caller owes what the caller of `Net::step` owes, and an event other than `Take`, which has
+/// The caller must pass what the caller of `Net::step` must, and an event other than `Take`, which has
 /// no line. `Ok` is the status of the line: 1 if an end refused, or the network met a fault,
 /// otherwise 0. `Err` is always 1, with which the command ends. After a write fault nothing more is
 /// written. If out of memory while printing, it writes `fault (14) OutOfMemory`. The event took

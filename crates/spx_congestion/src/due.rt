@@ -56,7 +56,7 @@ impl Pacer {
         }
     }
 
-    /// Whether something would be sent now, if there were credit or nothing else went first.
+    /// Whether a unit could be sent now, but lacks credit or waits for a retransmission.
     fn holds_back(&self) -> bool
         ensures { result ≡ holds_back self.now }
     {

@@ -179,7 +179,7 @@ impl Pacer {
         }
     }
 
-    /// Whether a duplicate begins the wait anew. After a timeout it does not, since the first
+    /// Whether a duplicate restarts the timer. After a timeout it does not, since the first
     /// outstanding unit is sent again only at the next one.
     fn waits_anew(&self) -> bool
         ensures { result ≡ (self.now.mends && (self.now.trip.doubled == 0)) }

@@ -6,9 +6,9 @@ ghost use Rattle.spx_congestion.specs.Timeouts.{GivesUpAfterTen};
 ghost use Rattle.spx_congestion.specs.Waiting.{NothingElsePostpones, TimeoutsLast};
 ghost use Rattle.spx_congestion.specs.Waiting.{WaitsAreBounded};
 
-/// A unit that is held back only for lack of credit is sent a quarter of a second later. From any
-/// pacer, of two plans 256 ms apart with nothing outstanding, the second lets a unit go. What the
-/// pacer hears and gives between them changes no tick.
+/// A unit that is held back only for lack of credit is sent a quarter of a second later. If nothing
+/// is outstanding, then of two plans 256 ms apart the second allows a unit, whatever is received or
+/// sent between them.
 pub fn plans_go_on()
     ensures { (first second between third : PacerView) (now later : ℕ) → first.tick ≤ now
         → now + 256 ≤ later → Tends first 0 now second → between.tick ≡ second.tick
@@ -21,10 +21,10 @@ pub fn ten_timeouts_give_up()
     ensures { GivesUpAfterTen }
 {}
 
-/// A packet that acknowledges nothing new and takes no unit out of flight postpones no timeout, nor
-/// does any packet without a new acknowledgement after a timeout. So a peer that only asks whether
-/// the sender is there does not keep it waiting. When the wait since the last news is over, a plan
-/// counts a timeout, and the first outstanding unit is to be sent again.
+/// A packet that acknowledges nothing new and takes no unit out of flight delays no timeout. After
+/// a timeout, only a new acknowledgement delays the next one. So a peer that only asks whether the
+/// sender is there does not keep it waiting. When the timeout expires, a plan counts it, and the
+/// first outstanding unit is to be sent again.
 pub fn nothing_else_postpones()
     ensures { NothingElsePostpones }
 {}

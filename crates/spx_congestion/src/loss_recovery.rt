@@ -17,8 +17,8 @@ pub struct LossRecovery {
     /// The range of positions that are to be sent again.
     pub from: u64,
     pub to: u64,
-    /// The position up to which units were to be sent again so far, and when the first outstanding
-    /// one was.
+    /// The end of the range that was marked for retransmission so far, and when the first
+    /// outstanding unit was marked.
     pub fixed: u64,
     pub fixed_at: u64,
     /// How often the first outstanding unit was sent again and was missing again.
@@ -98,7 +98,7 @@ impl LossRecovery {
         self.to <= self.from.max(base)
     }
 
-    /// Whether a duplicate means that a repair was received, and not a unit.
+    /// Whether a duplicate acknowledges a retransmission, and not a new unit.
     pub fn counts_repairs(&self) -> bool {
         self.is_on() && (self.run > 1 || self.timed)
     }

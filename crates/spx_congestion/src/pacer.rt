@@ -29,7 +29,8 @@ pub struct Pacer {
     /// The position of the first outstanding unit, and how many are outstanding.
     pub(crate) base: u64,
     pub(crate) out: u16,
-    /// How many of these were received or are given up, and how many were sent again.
+    /// How many of these are no longer in flight, as they were received or given up, and how many
+    /// retransmissions are in flight.
     pub(crate) left: u16,
     pub(crate) in_flight: u16,
     /// The number of duplicates since the last acknowledgement of a unit. `ignore` more are

@@ -17,7 +17,7 @@ ghost use Rattle.spx_link.specs.Offer.{offer_link, owe_reply_link, pace_link, re
 ghost use Rattle.spx_link.specs.Poll.{poll_link};
 ghost use Rattle.spx_link.specs.Receive.{receive_link};
 
-/// In Opening and Live no end is queued. A new link is so, and each call keeps it.
+/// In Opening and Live no end is queued. This holds for a new link, and each call keeps it.
 pub fn open_links_queue_no_end()
     ensures dialed { (own : ℕ) (s : Socket) (a : Address) (buffers now : ℕ)
         → HasNoEndWhileOpen (dialed own s a buffers now) }
@@ -40,8 +40,8 @@ pub fn open_links_queue_no_end()
         → HasNoEndWhileOpen (again_link l place) }
 {}
 
-/// In Confirmed the end was queued, and everything that was queued is acknowledged. A new link is
-/// so, and each call keeps it.
+/// In Confirmed the end was queued, and everything that was queued is acknowledged. This holds
+/// for a new link, and each call keeps it.
 pub fn confirmed_links_are_whole()
     ensures dialed { (own : ℕ) (s : Socket) (a : Address) (buffers now : ℕ)
         → IsWholeOnceConfirmed (dialed own s a buffers now) }
@@ -64,8 +64,8 @@ pub fn confirmed_links_are_whole()
         → IsWholeOnceConfirmed (again_link l place) }
 {}
 
-/// The units taken and the units held are all those before the expected one. A new link is so, and
-/// each call keeps it. A take that gives a unit adds one to the units taken.
+/// The units taken and the units held are all those before the expected one. This holds for a new
+/// link, and each call keeps it. A take that gives a unit adds one to the units taken.
 pub fn taken_and_held_are_expected()
     ensures dialed { (own : ℕ) (s : Socket) (a : Address) (buffers now : ℕ)
         → HasTaken 0 (dialed own s a buffers now) }

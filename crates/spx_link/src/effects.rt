@@ -225,7 +225,7 @@ pub fn others_change_no_number()
         → (numbers_of (again_link l place) ≡ numbers_of l) × SamePeer l (again_link l place) }
 {}
 
-/// An accepted link starts as Live and owes a reply.
+/// An accepted link starts as Live and must send a reply.
 pub fn accepted_owes_its_reply()
     ensures state { (own : ℕ) (s : Socket) (a : Address) (h : SpxHeader) (buffers now : ℕ)
         → (accepted_from own s a h buffers now).state ≡ Live }

@@ -15,7 +15,7 @@ impl Link {
     /// A link that requests a connection from a local socket to a remote address. Its buffers are
     /// allocated here. `now` is in milliseconds.
     ///
-    /// The caller owes an id from 0001 to FFFE that no other link of its host has, and 1 to 8,192
+    /// The caller must pass an id from 0001 to FFFE that no other link of its host has, and 1 to 8,192
     /// buffers. A host calls `Links::dial`, which assigns the id.
     pub fn dial(
         alloc: Global,
@@ -56,10 +56,10 @@ impl Link {
         })
     }
 
-    /// A link for a request that was received from a remote address at a local socket. It owes its
+    /// A link for a request that was received from a remote address at a local socket. It must send its
     /// reply.
     ///
-    /// The caller owes the same as for `dial`. A host calls `Links::accept`.
+    /// The caller must pass the same as for `dial`. A host calls `Links::accept`.
     pub fn accept(
         alloc: Global,
         own: u16,
@@ -81,7 +81,7 @@ impl Link {
         Ok(link)
     }
 
-    /// The link owes its reply again. A host calls this if the request that made the link arrives
+    /// The link must send its reply again. A host calls this if the request that made the link arrives
     /// again, since the reply to it was lost.
     pub fn owe_reply(&mut self)
         ensures { self.new ≡ spec.owe_reply_link self.old }

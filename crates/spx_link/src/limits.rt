@@ -6,10 +6,10 @@ pub const MAX_UNITS: u16 = 8192;
 /// The most links that a host may hold.
 pub const MAX_LINKS: usize = 16;
 
-/// How often a unit, a request or a probe is sent.
+/// The most times that a unit, a request or a probe is sent.
 pub const MAX_SENDS: u8 = 10;
 
-/// How often a manual link sends a probe, which lasts half a minute.
+/// The most probes of a manual link: at 500 ms each, half a minute.
 pub const MAX_MANUAL_PROBES: u8 = 60;
 
 /// The number of milliseconds before a retransmission.

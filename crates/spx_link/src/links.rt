@@ -52,7 +52,7 @@ impl Links {
     }
 
     /// A new link, which requests a connection from a local socket to a remote address. The caller
-    /// owes 1 to 8,192 buffers.
+    /// must pass 1 to 8,192 buffers.
     ///
     /// It is refused as `TooMany` if 16 links are held, otherwise only if out of memory.
     pub fn dial(
@@ -79,7 +79,7 @@ impl Links {
         Ok(id)
     }
 
-    /// A new link for a request to a local socket. The caller owes 1 to 8,192 buffers.
+    /// A new link for a request to a local socket. The caller must pass 1 to 8,192 buffers.
     ///
     /// It is refused as `dial` is.
     pub fn accept(

@@ -19,7 +19,7 @@ pub fn chain()
         → IsChain m.two m.one }
 {}
 
-/// What is outstanding fits the peer's buffers, and what is held fits one's own. No more is sent or
+/// Outstanding units fit the peer's buffers, and held units fit the end's own. No more is sent or
 /// read than there are units.
 pub fn within()
     ensures one { (steps : List Step) (a b : ℕ) (m : Machine) → IsRun steps (start a b) m

@@ -38,7 +38,7 @@ fn the_end() -> Unit
 }
 
 impl Link {
-    /// Queues the units, all or none. The caller owes streams under FE.
+    /// Queues the units, all or none. The caller must pass streams under FE.
     ///
     /// It is refused as `NotLive` while the link is opening, as `Ended` in any other state but
     /// Live, and if out of memory.

@@ -30,7 +30,7 @@ fn after_end(state: State) -> State
 }
 
 impl Link {
-    /// Reads a packet from the peer. The caller owes a body of at most 534 bytes.
+    /// Reads a packet from the peer. The caller must pass a body of at most 534 bytes.
     ///
     /// It needs no memory. The body of a unit that is kept is copied once, into its buffer.
     pub fn receive(&mut self, header: &SpxHeader, body: &[u8], _now: u64) -> Received

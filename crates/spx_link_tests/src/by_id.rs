@@ -105,7 +105,7 @@ fn keeps_a_unit(rt: &impl Abort, links: &mut Links) {
     assert_eq!(rt; taken(links, 1), Some(0));
 }
 
-/// One link owes its reply again, and another is given up.
+/// One link must reply once more, and another is given up.
 #[test]
 fn given_up_by_id(rt: HostRuntime) -> Result<(), Fail> {
     let mut links = both_kinds(&rt, rt.alloc())?;

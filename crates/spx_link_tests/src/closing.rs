@@ -78,7 +78,7 @@ fn no_end_before_it_is_live(rt: HostRuntime) -> Result<(), Fail> {
     Ok(())
 }
 
-/// A unit after the peer's end is not kept, and owes nothing.
+/// A unit after the peer's end is not kept, and needs no answer.
 #[test]
 fn after_the_end(rt: HostRuntime) -> Result<(), Fail> {
     let mut b = joined(&rt, rt.alloc(), 7)?;

@@ -17,7 +17,7 @@ fn due_request(rt: HostRuntime) -> Result<(), Fail> {
     Ok(())
 }
 
-/// A link that owes nothing waits for a packet or a call. One with a unit outstanding waits 500 ms.
+/// A link with nothing to send waits for a packet or a call. One with a unit outstanding waits 500 ms.
 #[test]
 fn due_unit(rt: HostRuntime) -> Result<(), Fail> {
     let mut end = joined(&rt, rt.alloc(), 7)?;

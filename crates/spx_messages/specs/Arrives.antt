@@ -95,7 +95,7 @@ pub record IsAccepted (old : EndpointView) (bytes : List ℕ) (now id : ℕ)
       (accepted_from id packet.header.to.socket packet.header.from header buffers now)
   pub heard : new.heard ≡ None
 
--- a repeated request: the link that was made for it owes another reply
+-- a repeated request: the link that was made for it must reply once more
 pub record IsAskedAgain (old : EndpointView) (bytes : List ℕ) (id : ℕ)
     (new : EndpointView) : Type 0 where
   pub packet : PacketView

@@ -23,7 +23,7 @@ pub record IsSamePoll (a b : Option (Node × ℕ)) (written_a written_b : List �
   pub said : other.said ≡ new.said
   pub heard : other.heard ≡ new.heard
 
--- the buffer is as long as the caller of `poll` owes it
+-- the buffer is as long as the caller of `poll` must pass it
 abbrev pub IsOnePoll : Type 0
 IsOnePoll = (old new other : EndpointView) (now : ℕ) (a b : Option (Node × ℕ))
     (room written_a written_b : List ℕ) → spx_max_packet_size ≤ length room

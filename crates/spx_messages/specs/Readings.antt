@@ -92,7 +92,7 @@ pub record Forgets (old new : List Part) (id : ℕ) : Type 0 where
   pub gone : rest_in new id ≡ None
   pub others : (q : ℕ) → q ≢ id → rest_in new q ≡ rest_in old q
 
--- a repeated request: the link that was made for it owes another reply
+-- a repeated request: the link that was made for it must reply once more
 pub record OwesReplyAgain (old new : LinksView) (r : ConnectionPacket) (id : ℕ) : Type 0 where
   pub least : IsLeast (IsAcceptedFrom old r.from r.header.from_id) id
   pub link : LinkView

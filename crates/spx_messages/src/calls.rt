@@ -29,7 +29,7 @@ use std::alloc::Global;
 
 impl Endpoint {
     /// Asks for a connection from a local socket to an address, and gives the id of its link. The
-    /// caller owes 1 to 8,192 buffers.
+    /// caller must pass 1 to 8,192 buffers.
     ///
     /// It is refused if there are 16 links, and otherwise only if it is out of memory.
     pub fn dial(
@@ -129,8 +129,8 @@ impl Endpoint {
 
     /// Limits the outstanding units of a link to `window` from now on. A window over 8,192 acts as
     /// 8,192. If `manual`, units are retransmitted only when `again` asks for it, and not 500
-    /// milliseconds after they were sent. A caller that sets `manual` owes these calls, or a lost
-    /// unit stays lost.
+    /// milliseconds after they were sent. A caller that sets `manual` must make these calls,
+    /// or a lost unit stays lost.
     ///
     /// It is refused only if no link has the id.
     pub fn pace(&mut self, id: u16, window: u16, manual: bool) -> Result<(), EndFault>

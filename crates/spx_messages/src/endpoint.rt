@@ -72,7 +72,7 @@ impl Endpoint {
         }
     }
 
-    /// Accepts connections at a socket from now on, each with so many buffers. The caller owes 1 to
+    /// Accepts connections at a socket from now on, each with so many buffers. The caller must pass 1 to
     /// 8,192 buffers. If the socket listens already, its number of buffers is replaced, and nothing
     /// is allocated.
     pub fn listen(

@@ -34,7 +34,7 @@ fn place_of(parts: &[Part], id: u16) -> Option<usize>
 }
 
 /// Adds a unit to the message of an id, and gives the message that it completes, if any. The caller
-/// owes another stream than FE. If memory is refused, the partial message is as it was.
+/// must pass another stream than FE. If memory is refused, the partial message is as it was.
 pub fn add_unit(
     alloc: Global,
     parts: &mut Vec<Part>,

@@ -14,7 +14,7 @@ use ipx_wire::Node;
 
 impl Endpoint {
     /// Writes one packet to the front of the buffer, and gives its next node and its length in
-    /// bytes. After that, `sent` gives its link and kind. The caller owes a buffer of 576 bytes.
+    /// bytes. After that, `sent` gives its link and kind. The caller must pass a buffer of 576 bytes.
     ///
     /// Links are polled in the order of their ids. `None` if no link has anything to send at this
     /// time. It allocates nothing.

@@ -16,7 +16,7 @@ use Rattle.spx_link.specs.Units.{unit_in}
 use Rattle.spx_link.specs.Receive.{read_numbers, is_system, may_confirm, with_ack_owed, read_system, beyond_expected, repeated, after_end, put, is_taken, leading, any_end, keep_end, keep_units, settle, keep, in_turn, not_behind, read_unit, read_packet, is_own, receive_joined, receive_at, receive_link}
 use Rattle.spx_theory.proofs.RoundLists.{or_first, or_left, or_right, or_second}
 
--- it owes an answer
+-- it must answer
 abbrev pub Owes : LinkView → Type 0
 Owes l = (l.owes_ack || l.owes_confirm) ≡ true
 

@@ -42,7 +42,7 @@ fn put_rip(out: &mut [u8], operation: u16, entries: &[RipEntry])
 }
 
 /// Writes a RIP packet to the front of the buffer. It gives the number of bytes: 2, and 8 for each
-/// entry. The caller owes at most 50 entries, and space for the packet.
+/// entry. The caller must pass at most 50 entries, and space for the packet.
 pub fn encode_rip_into(rip: &Rip, out: &mut [u8]) -> usize
     requires limit { length (rip_entries (rip_view rip.now)) ≤ rip_max_entries }
     requires room { rip_size (rip_view rip.now) ≤ length out.old }
@@ -64,7 +64,7 @@ pub fn encode_rip_into(rip: &Rip, out: &mut [u8]) -> usize
 
 /// Writes a RIP response with these routes to the front of the buffer. It gives the number of
 /// bytes: 2, and 8 for each route. It writes the same as `encode_rip_into`, but from a slice. The
-/// caller owes at most 50 routes, and space for the packet.
+/// caller must pass at most 50 routes, and space for the packet.
 pub fn encode_routes_into(routes: &[RipEntry], out: &mut [u8]) -> usize
     requires limit { length routes.now ≤ rip_max_entries }
     requires room { rip_size (response_of routes.now) ≤ length out.old }

@@ -54,7 +54,7 @@ fn put_response(out: &mut [u8], nearest: bool, services: &[ServiceEntry])
 }
 
 /// Writes a SAP packet to the front of the buffer. It gives the number of bytes: 4 for a query, and
-/// 2 and 64 for each service for a response. The caller owes at most 7 services, and space for the
+/// 2 and 64 for each service for a response. The caller must pass at most 7 services, and space for the
 /// packet.
 pub fn encode_sap_into(sap: &Sap, out: &mut [u8]) -> usize
     requires limit { IsSapWithinLimit (sap_view sap.now) }
@@ -79,7 +79,7 @@ pub fn encode_sap_into(sap: &Sap, out: &mut [u8]) -> usize
 
 /// Writes a SAP response with these services to the front of the buffer. It gives the number of
 /// bytes: 2, and 64 for each service. It writes the same as `encode_sap_into`, but from a slice.
-/// The caller owes at most 7 services, and space for the packet.
+/// The caller must pass at most 7 services, and space for the packet.
 pub fn encode_services_into(nearest: bool, services: &[ServiceEntry], out: &mut [u8]) -> usize
     requires limit { length services.now ≤ sap_max_services }
     requires room { sap_size (response_of nearest services.now) ≤ length out.old }

@@ -15,7 +15,7 @@ fn node_at(bytes: &[u8]) -> Node
     Node(node)
 }
 
-/// Reads the address at the front of the bytes: network 4 bytes, node 6, socket 2. The caller owes
+/// Reads the address at the front of the bytes: network 4 bytes, node 6, socket 2. The caller must pass
 /// these twelve bytes. It serves addresses inside a body, as in a SAP service.
 pub fn address_at(bytes: &[u8]) -> Address
     requires { 12 ≤ length bytes.now }
@@ -31,7 +31,7 @@ pub fn address_at(bytes: &[u8]) -> Address
     }
 }
 
-/// Writes an address to the first twelve bytes of the buffer, which the caller owes. It serves
+/// Writes an address to the first twelve bytes of the buffer, which the caller must pass. It serves
 /// addresses inside a body, as in a SAP service.
 pub fn put_address(out: &mut [u8], address: Address)
     requires { 12 ≤ length out.old }

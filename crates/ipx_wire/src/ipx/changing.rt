@@ -10,7 +10,7 @@ use crate::ipx::packet::Packet;
 use crate::size::IPX_HEADER_SIZE;
 use byteorder::{BigEndian, ByteOrder};
 
-/// The bytes of a packet that was read from a datagram, without those after it. The caller owes
+/// The bytes of a packet that was read from a datagram, without those after it. The caller must pass
 /// that it was read from there. A router uses it so that padding is not forwarded.
 pub fn packet_part<'a>(datagram: &'a [u8], packet: &Packet<'_>) -> &'a [u8]
     requires { BeginsWith datagram.now (packet_view packet.now) }
@@ -21,7 +21,7 @@ pub fn packet_part<'a>(datagram: &'a [u8], packet: &Packet<'_>) -> &'a [u8]
     &datagram[..IPX_HEADER_SIZE + packet.body.len()]
 }
 
-/// Changes the hops of the packet at the front of the bytes. The caller owes as many bytes as a
+/// Changes the hops of the packet at the front of the bytes. The caller must pass as many bytes as a
 /// header has. A router calls it for each packet that it forwards.
 pub fn set_hops(bytes: &mut [u8], hops: u8)
     requires { ipx_header_size ≤ length bytes.old }
@@ -33,7 +33,7 @@ pub fn set_hops(bytes: &mut [u8], hops: u8)
     bytes[4] = hops;
 }
 
-/// Changes the source network of the packet at the front of the bytes. The caller owes as many
+/// Changes the source network of the packet at the front of the bytes. The caller must pass as many
 /// bytes as a header has. A router calls it if the sender left its network out.
 pub fn set_source_network(bytes: &mut [u8], network: Network)
     requires { ipx_header_size ≤ length bytes.old }

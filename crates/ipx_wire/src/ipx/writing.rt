@@ -35,7 +35,7 @@ fn put_packet(out: &mut [u8], packet: &Packet<'_>)
 }
 
 /// Writes a packet to the front of the buffer. It gives the number of bytes: 30 and the body's. The
-/// caller owes a body of at most 1,470 bytes, and space for the packet.
+/// caller must pass a body of at most 1,470 bytes, and space for the packet.
 ///
 /// It copies the body. If the body is already in place, call `encapsulate`.
 pub fn encode_into(packet: &Packet<'_>, out: &mut [u8]) -> usize
@@ -50,7 +50,7 @@ pub fn encode_into(packet: &Packet<'_>, out: &mut [u8]) -> usize
 }
 
 /// Writes a header in front of a body that is already at offset 30 of the buffer. It gives the
-/// number of bytes of the packet. Only the 30 bytes of the header are written. The caller owes a
+/// number of bytes of the packet. Only the 30 bytes of the header are written. The caller must pass a
 /// body of at most 1,470 bytes at that offset.
 ///
 /// If the body is elsewhere, call `encode_into`.

@@ -83,7 +83,7 @@ impl Links {
         self.links[place].is_all_acked()
     }
 
-    /// `Link::receive` of the link with a live id. It needs no memory. The caller owes a body of at
+    /// `Link::receive` of the link with a live id. It needs no memory. The caller must pass a body of at
     /// most 534 bytes.
     pub fn receive(&mut self, id: u16, header: &SpxHeader, body: &[u8], now: u64) -> Received
         requires live { IsLive self.old id }
@@ -97,7 +97,7 @@ impl Links {
         self.links[place].receive(header, body, now)
     }
 
-    /// `Link::offer` of the link with a live id. The caller owes streams under FE.
+    /// `Link::offer` of the link with a live id. The caller must pass streams under FE.
     pub fn offer(&mut self, alloc: Global, id: u16, units: Vec<Unit>) -> Result<(), OfferFault>
         requires live { IsLive self.old id }
         requires streams { All (λ u. u.stream < end_stream) units.items }

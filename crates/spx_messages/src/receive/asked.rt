@@ -29,7 +29,7 @@ pub fn is_request(header: &SpxHeader) -> bool
         && header.from_id < NO_ID
 }
 
-/// The answer to a request. If it came before, its link owes another reply. Any other request is
+/// The answer to a request. If it came before, its link must reply once more. Any other request is
 /// accepted if its socket listens and there is space for a link.
 pub fn ask(
     listening: &[Listener],

@@ -8,7 +8,7 @@ use crate::receive::reading::ConnectionPacket;
 use spx_link::{Links, Received, receive_reads_its_own};
 
 /// Passes a packet to its link, which reads it. `None` if there is no such link, or if the link
-/// does not know the sender. The caller owes a body of at most 534 bytes.
+/// does not know the sender. The caller must pass a body of at most 534 bytes.
 pub fn hear(links: &mut Links, reading: &ConnectionPacket<'_>, now: u64) -> Option<(u16, Received)>
     requires { length reading.now.body.now ≤ spx_max_data_size }
     ensures heard { IfSome result (λ p. IsReadBy links.old links.new reading.now p.0 p.1) }
