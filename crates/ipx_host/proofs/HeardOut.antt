@@ -15,7 +15,7 @@ use Rattle.spx_messages.specs.declared.fault.EndFault.{EndFault}
 use Rattle.ipx_host.specs.Hosting.{HearsOneOut, Host, IsOneIfHeard, MovesSome, NotesIf, Serves, StepView, Steps, StepsWithoutStop, WritesAndPasses, end_of, takes_of}
 use Rattle.ipx_host.specs.Passing.{PassesEach, PassesFrom, Take, TakesWhileOpen, held_after, phase_after, phase_with, takes_after, takes_each, takes_from}
 use Rattle.ipx_host.specs.SessionActions.{ends, is_unheard, phase_heard}
-use Rattle.ipx_host.specs.Sessions.{Admits, Asks as IsAsked, DoesNoted, Evicts, has_spoken, heard_by, is_at_limit, is_ended, is_of_node, is_overdue, is_unanswered, LetsLinkGo, LetsLinksGo, once_heard, place_of_own, place_to_free, session_of}
+use Rattle.ipx_host.specs.Sessions.{Admits, Asks as IsAsked, DoesNoted, Evicts, has_spoken, heard_by, is_at_limit, is_ended, is_of_node, is_unanswered, LetsLinkGo, LetsLinksGo, once_heard, place_of_own, place_to_free, session_of}
 use Rattle.ipx_host.specs.Tending.{DoesAction, TendsFirst, TendsOn}
 use Rattle.ipx_host.specs.declared.listening.ListenOutcome.{ListenOutcome}
 use Rattle.ipx_host.specs.declared.listening.ListenOutcome.TheVariants as Stops
@@ -95,22 +95,22 @@ both_left : (a b : Bool) → (a && b) ≡ true → a ≡ true
 both_left true b h = refl
 both_left false b h = h
 
-not_overdue : (u v : Bool) → not u ≡ true → (u && v) ≡ true → ⊥
-not_overdue true v e o = absurd (cc)
-not_overdue false v e o = absurd (cc)
+not_unanswered : (u v : Bool) → not u ≡ true → (u && v) ≡ true → ⊥
+not_unanswered true v e o = absurd (cc)
+not_unanswered false v e o = absurd (cc)
 
 no_room_by : (now id : ℕ) (from asker : Address) (c : Session) (e e' : EndpointView) (ts : List Session) (found : Option ℕ) → Is id from c → place_to_free true e.network e now asker (c ∷ []) ≡ found
     → MatchOption found ((ts ≡ c ∷ []) × (e' ≡ e)) (λ place. (ts ≡ remove (c ∷ []) place) × IfSome (slice_get (c ∷ []) place) (λ k. LetsLinkGo e e' k.id))
     → ts ≡ c ∷ []
 no_room_by now id from asker c e e' ts None one is d = d.0
 no_room_by now id from asker c e e' ts (Some zero) one is d =
-    absurd (not_overdue (is_unheard c.phase) (nat_le 1000 (now - c.heard)) one.2 (position-Some (is_overdue now) (c ∷ []) 0 c is).1)
-no_room_by now id from asker c e e' ts (Some (suc n)) one is d = absurd (omega (arith, (position-Some (is_overdue now) (c ∷ []) (suc n) c is).0))
+    absurd (not_unanswered (is_unheard c.phase) (nat_le 1500 (now - c.heard)) one.2 (position-Some (is_unanswered now) (c ∷ []) 0 c is).1)
+no_room_by now id from asker c e e' ts (Some (suc n)) one is d = absurd (omega (arith, (position-Some (is_unanswered now) (c ∷ []) (suc n) c is).0))
 
 own_at : (now : ℕ) (asker : Address) (c : Session) (e : EndpointView) (k id : ℕ) (from : Address) → Is id from c → k < 1
     → (is_unanswered now (get_or (c ∷ []) k c) && is_of_node e.network asker (get_or (c ∷ []) k c)) ≡ true → ⊥
 own_at now asker c e zero id from one within is =
-    not_overdue (is_unheard c.phase) (nat_le 1500 (now - c.heard)) one.2 (both_left (is_unanswered now c) (is_of_node e.network asker c) is)
+    not_unanswered (is_unheard c.phase) (nat_le 1500 (now - c.heard)) one.2 (both_left (is_unanswered now c) (is_of_node e.network asker c) is)
 own_at now asker c e (suc k) id from one within is = omega (arith, within)
 
 only_if : (b : Bool) (o : Option ℕ) (k : ℕ) → cond (not b) None o ≡ Some k → o ≡ Some k

@@ -15,7 +15,7 @@ use Rattle.spx_messages.specs.Taking.{TakenView, Nothing, Part, PeerEnd, Whole, 
 use Rattle.spx_messages.specs.declared.fault.EndFault.{EndFault}
 use Rattle.ipx_wire.specs.declared.address.Address.{Address}
 use Rattle.ipx_wire.specs.declared.address.Network.{Network}
-use Rattle.ipx_host.specs.Sessions.{Admits, Asks as IsAsked, Evicts, has_spoken, heard_by, is_at_limit, is_ended, is_of_node, is_overdue, is_to_go, is_unanswered, KeepsHeard, KeepsOne, LetsLinkGo, LetsLinksGo, MakesSpace, once_heard, OnlyEnded, place_of_own, place_of_own_unanswered, place_to_free, without}
+use Rattle.ipx_host.specs.Sessions.{Admits, Asks as IsAsked, Evicts, has_spoken, heard_by, is_at_limit, is_ended, is_of_node, is_unanswered, is_to_go, is_unanswered, KeepsHeard, KeepsOne, LetsLinkGo, LetsLinksGo, MakesSpace, once_heard, OnlyEnded, place_of_own, place_of_own_unanswered, place_to_free, without}
 use Rattle.ipx_host.specs.HostOutput.{Writes}
 use Rattle.ipx_host.specs.Tending.{DoesAction, IsActionFor, JustStays, Tends}
 use Rattle.ipx_host.specs.declared.paced_host_core.PacedHostCore.{PacedHostCore}
@@ -538,8 +538,8 @@ are_without (Some place) old new cs cs' evicts = evicts.0
 
 -- the place of a connection that is evicted is one of the list
 freed_by : (of : Bool) (e : EndpointView) (now : ℕ) (asker : Address) (own : Network) (cs : List Session) (place : ℕ) (d : Session)
-    → (if of then position (is_overdue now) cs else position (is_to_go own e now asker cs) cs) ≡ Some place → place < length cs
-freed_by true e now asker own cs place d is = (position-Some (is_overdue now) cs place d is).0
+    → (if of then position (is_unanswered now) cs else position (is_to_go own e now asker cs) cs) ≡ Some place → place < length cs
+freed_by true e now asker own cs place d is = (position-Some (is_unanswered now) cs place d is).0
 freed_by false e now asker own cs place d is = (position-Some (is_to_go own e now asker cs) cs place d is).0
 
 room_kept : (once : Bool) (now : ℕ) (asker : Address) (cs cs' : List Session) (left : List ℕ) (old new : EndpointView) (found : Option ℕ) → place_to_free once old.network old now asker cs ≡ found
@@ -549,7 +549,7 @@ room_kept true now asker [] cs' left old new (Some place) is keeps k = absurd (c
 room_kept false now asker [] cs' left old new (Some place) is keeps k = absurd (cc)
 room_kept once now asker (d ∷ ds) cs' left old new (Some place) is keeps k =
     subst (λ (l : List Session). KeepsOne once l left) (sym k.0)
-    (keeps_removed once (d ∷ ds) left place (freed_by (once || is_some (position (is_overdue now) (d ∷ ds))) old now asker old.network (d ∷ ds) place d is) keeps)
+    (keeps_removed once (d ∷ ds) left place (freed_by (once || is_some (position (is_unanswered now) (d ∷ ds))) old now asker old.network (d ∷ ds) place d is) keeps)
 
 pub keeps_room : (once : Bool) (now : ℕ) (asker : Address) (cs cs' : List Session) (left : List ℕ) (old new : EndpointView) → MakesSpace once now asker old new cs cs' → KeepsOne once cs left → KeepsOne once cs' left
 keeps_room once now asker cs cs' left old new k keeps = room_kept once now asker cs cs' left old new (place_to_free once old.network old now asker cs) refl keeps k

@@ -92,11 +92,8 @@ KeepsHeard true old new sessions sessions' = MatchOption (position has_spoken se
     (λ place. IfSome (slice_get sessions place) (λ c. sessions' ≡ c ∷ [])
     × LetsLinksGo (remove sessions place) old new)
 
--- a connection was not heard from, and was accepted, or could not be probed, a second ago or longer
-abbrev pub is_overdue : ℕ → Session → Bool
-is_overdue now c = is_unheard c.phase && nat_le 1000 (now - c.heard)
-
--- the same 1.5 seconds ago or longer, so that it had half a second to answer a probe
+-- a connection was not heard from, and was accepted, or could not be probed, 1.5 seconds ago or longer. So it
+-- had half a second to answer a probe
 abbrev pub is_unanswered : ℕ → Session → Bool
 is_unanswered now c = is_unheard c.phase && nat_le 1500 (now - c.heard)
 
@@ -148,12 +145,12 @@ abbrev pub is_to_go : Network → EndpointView → ℕ → Address → List Sess
 is_to_go own e now asker sessions c = may_go_for own e now asker sessions c
     && not (list_any (λ d. goes_before own e now asker sessions d c) sessions)
 
--- the connection that is evicted for a request from an address: the first overdue one, or if there is none,
+-- the connection that is evicted for a request from an address: the first unanswered one, or if there is none,
 -- and without `once`, a silent one of the node that asks or of a node that has more connections
 abbrev pub place_to_free : Bool → Network → EndpointView → ℕ → Address → List Session → Option ℕ
 place_to_free once own e now asker sessions =
-    let overdue = position (is_overdue now) sessions in
-    if once || is_some overdue then overdue
+    let unanswered = position (is_unanswered now) sessions in
+    if once || is_some unanswered then unanswered
     else position (is_to_go own e now asker sessions) sessions
 
 -- a connection of the node of an address may be evicted, and of those none was silent for longer
@@ -214,7 +211,7 @@ raised_if more n = if more then raised n else n
 -- a connection that was heard from is evicted
 abbrev pub is_silent_evicted : Bool → Network → EndpointView → ℕ → Address → List Session → Bool
 is_silent_evicted once own e now asker sessions = is_some (place_to_free once own e now asker sessions)
-    && not (is_some (position (is_overdue now) sessions))
+    && not (is_some (position (is_unanswered now) sessions))
 
 -- the same for one of its own node
 abbrev pub is_own_evicted : Bool → Network → EndpointView → ℕ → Address → List Session → Bool

@@ -3,7 +3,7 @@
 
 ghost use Rattle.std.specs.Prelude.{◌≡◌, ◌↔◌, ◌<◌, ◌≤◌, ◌&&◌, true, count_by, is_some, length, map, nat_lt, position, slice_get, vec_capacity, IfSome, IsTrue};
 ghost use Rattle.std.specs.List.{list_any};
-ghost use Rattle.ipx_host.specs.Sessions.{Admits, Asks, Evicts, IsAskedUnless, HasNoPlaceFor, IsOutOfMemory, KeepsHeard, LetsLinkGo, LetsLinksGo, MakesSpace, goes_before, has_more, heard_by, has_spoken, is_at_limit, is_first_own, is_of_node, is_overdue, is_own_silent, is_to_go, is_unheard_of, may_go, may_go_for, place_of_own, place_of_own_unanswered, place_to_free, protects, raised_if};
+ghost use Rattle.ipx_host.specs.Sessions.{Admits, Asks, Evicts, IsAskedUnless, HasNoPlaceFor, IsOutOfMemory, KeepsHeard, LetsLinkGo, LetsLinksGo, MakesSpace, goes_before, has_more, heard_by, has_spoken, is_at_limit, is_first_own, is_of_node, is_unanswered, is_own_silent, is_to_go, is_unheard_of, may_go, may_go_for, place_of_own, place_of_own_unanswered, place_to_free, protects, raised_if};
 
 use crate::sessions::{Session, hear_one};
 use ipx_wire::{Address, Network};
@@ -119,14 +119,14 @@ fn place_of_heard(sessions: &[Session]) -> Option<usize>
     sessions.iter().position(|session| session.is_heard())
 }
 
-/// The place of the first connection that is overdue.
-pub fn place_of_overdue(sessions: &[Session], moment: u64) -> Option<usize>
-    ensures place { result ≡ position (is_overdue moment) sessions.now }
+/// The place of the first connection that is unanswered.
+pub fn place_of_unanswered(sessions: &[Session], moment: u64) -> Option<usize>
+    ensures place { result ≡ position (is_unanswered moment) sessions.now }
     ensures there { IfSome result (λ place. place < length sessions.now) }
 {
     sessions
         .iter()
-        .position(|session| session.is_overdue(moment))
+        .position(|session| session.is_unanswered(moment))
 }
 
 /// Whether a connection of the node of an address was not heard from.
@@ -255,7 +255,7 @@ fn place_of_silent(
     sessions.iter().position(|session| is_to_go(own, endpoint, sessions, moment, asker, session))
 }
 
-/// The place of the connection that is evicted for a request: the first overdue one, or if there is
+/// The place of the connection that is evicted for a request: the first unanswered one, or if there is
 /// none, and without `once`, a silent one of the node that asks or of a node that has more
 /// connections.
 fn place_to_evict(
@@ -269,9 +269,9 @@ fn place_to_evict(
     ensures place { result ≡ place_to_free once own endpoint.now moment asker.now sessions.now }
     ensures there { IfSome result (λ place. place < length sessions.now) }
 {
-    let overdue = place_of_overdue(sessions, moment);
-    if once || overdue.is_some() {
-        overdue
+    let unanswered = place_of_unanswered(sessions, moment);
+    if once || unanswered.is_some() {
+        unanswered
     } else {
         place_of_silent(own, endpoint, sessions, moment, asker)
     }

@@ -4,7 +4,7 @@ ghost use Rattle.std.specs.Prelude.{◌≡◌, ◌<◌, ◌≤◌, [], ℕ, List
 ghost use Rattle.ipx_carrier.specs.Counting.{raised};
 ghost use Rattle.ipx_site.specs.Moments.{IsLoggedIfDue};
 ghost use Rattle.spx_messages.specs.EndpointView.{held_at};
-ghost use Rattle.ipx_host.specs.Sessions.{AdmitsRequest, Asks, AsksOrCounts, CountsRequest, CountsTurnedAway, OnlyEnded, KeepsHeard, KeepsOne, LetsLinkGo, MakesSpace, NotesHeard, session_of, heard_by, is_evicted_for, is_overdue, is_own_evicted, is_silent_evicted, keeps_one_prop, place_of_own, raised_if, without};
+ghost use Rattle.ipx_host.specs.Sessions.{AdmitsRequest, Asks, AsksOrCounts, CountsRequest, CountsTurnedAway, OnlyEnded, KeepsHeard, KeepsOne, LetsLinkGo, MakesSpace, NotesHeard, session_of, heard_by, is_evicted_for, is_unanswered, is_own_evicted, is_silent_evicted, keeps_one_prop, place_of_own, raised_if, without};
 ghost use Rattle.ipx_host.specs.SessionActions.{is_unheard};
 ghost use Rattle.ipx_host.specs.Hosting.{MovesSome, MovesUntilFull};
 ghost use Rattle.ipx_host.specs.ListenOutcomes.{parted, stop_in};
@@ -18,7 +18,7 @@ ghost use Rattle.ipx_host.specs.declared.listening.ListenOutcome.TheVariants as 
 
 use crate::eviction::{
     MAX_SESSIONS, ask, count_if, hear_session, hold, let_link_go, make_space, make_space_of_own,
-    place_of_overdue, place_of_own_unanswered,
+    place_of_own_unanswered, place_of_unanswered,
 };
 use crate::idle::{action_in, first_to_tend};
 use crate::listening::ListenOutcome;
@@ -220,7 +220,7 @@ impl Sessions {
         ensures room { MakesSpace self.old.once moment asker.now endpoint.old endpoint.new
             self.old.held.items self.new.held.items }
         ensures counts { self.new.never_heard
-            ≡ raised_if (is_some (position (is_overdue moment) self.old.held.items))
+            ≡ raised_if (is_some (position (is_unanswered moment) self.old.held.items))
             self.old.never_heard }
         ensures evicted { self.new.evicted ≡ raised_if (is_silent_evicted self.old.once
             endpoint.old.network endpoint.old moment asker.now self.old.held.items)
@@ -229,10 +229,10 @@ impl Sessions {
         ensures output { self.new.output ≡ self.old.output }
         ensures once { self.new.once ≡ self.old.once }
     {
-        let is_overdue = place_of_overdue(&self.held, moment).is_some();
+        let is_unanswered = place_of_unanswered(&self.held, moment).is_some();
         let evicted = make_space(self.once, endpoint, &mut self.held, moment, asker);
-        self.never_heard = count_if(is_overdue, self.never_heard);
-        self.evicted = count_if(evicted.is_some() && !is_overdue, self.evicted);
+        self.never_heard = count_if(is_unanswered, self.never_heard);
+        self.evicted = count_if(evicted.is_some() && !is_unanswered, self.evicted);
         if let Some(session) = evicted {
             tell_parted(rt, &session, SessionAction::GivenUp);
         }

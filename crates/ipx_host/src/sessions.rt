@@ -3,7 +3,7 @@
 ghost use Rattle.std.specs.Prelude.{◌≡◌, ◌↔◌, Some, map};
 ghost use Rattle.spx_link.specs.declared.state.State.TheVariants as States;
 ghost use Rattle.ipx_host.specs.SessionActions.{IsSessionAction, IsOver, IsToAsk, is_unheard, phase_asked, phase_heard};
-ghost use Rattle.ipx_host.specs.Sessions.{heard_by, has_spoken, is_of_node, is_overdue, is_silent, is_unanswered, is_unheard_of};
+ghost use Rattle.ipx_host.specs.Sessions.{heard_by, has_spoken, is_of_node, is_silent, is_unanswered, is_unheard_of};
 ghost use Rattle.ipx_host.specs.declared.sessions.SessionAction.TheVariants as ActionsOfSessions;
 ghost use Rattle.ipx_site.specs.AllowedPeers.{home_network};
 
@@ -17,12 +17,11 @@ pub const LINGER: u64 = 3000;
 /// How long an open connection is silent before it is probed, in milliseconds.
 pub const KEEPALIVE_AFTER: u64 = 60_000;
 
-/// How long to wait for the first data of a connection before it is probed or may be evicted, in
-/// milliseconds.
+/// How long to wait for the first data of a connection before it is probed, in milliseconds.
 pub const FIRST_DATA_TIMEOUT: u64 = 1000;
 
-/// How long to wait for the first data of a connection before it gives way to another one of its own
-/// node, in milliseconds: half a second longer, so that it can answer the probe.
+/// How long to wait for the first data of a connection before it may be evicted, in milliseconds:
+/// half a second longer, so that it can answer the probe.
 const UNANSWERED_AFTER: u64 = 1500;
 
 /// How long a connection is silent before it may be evicted for a new request, in milliseconds.
@@ -105,15 +104,8 @@ impl Session {
         !self.phase.is_unheard()
     }
 
-    /// Whether nothing was received, and it was accepted, or could not be probed, at least a second
-    /// ago.
-    pub fn is_overdue(&self, now: u64) -> bool
-        ensures { result ≡ is_overdue now self.now }
-    {
-        self.phase.is_unheard() && now.saturating_sub(self.heard) >= FIRST_DATA_TIMEOUT
-    }
-
-    /// The same half a second later, when the probe was not answered.
+    /// Whether nothing was received, and it was accepted, or could not be probed, at least 1.5
+    /// seconds ago. So it did not answer the probe within half a second.
     pub fn is_unanswered(&self, now: u64) -> bool
         ensures { result ≡ is_unanswered now self.now }
     {
