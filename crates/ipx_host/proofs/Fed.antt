@@ -204,39 +204,42 @@ goes_err id seen old new (Some w) f goes =
     (subst (λ (x : SendOutcome). ◌≡◌ {A = Result (Unit {0}) SendOutcome} (Err f) (Err x)) same refl, goes.1)
 goes_err id seen old new None f goes = (inl goes.0, tt)
 
-pub step_ok : {K : Type 0} (old new : SendState K) (more : Bool) (tells : K → ℕ → K → Type 0) (peers : Peers) (id : ℕ)
-    → IsSendStep IsFeedFault old new (Ok more) tells peers id → IsSendStep {T = Unit {0}} IsStepFault old new (Ok tt) tells peers id
-step_ok old new more tells peers id s = record {
+pub step_ok : {K : Type 0} (old new : SendState K) (more : Bool) (tells : K → ℕ → K → Type 0) (peers : Peers) (id : ℕ) (before after : Activity → Type 0)
+    → ((turn : Activity) → before turn → after turn) → IsSendStep IsFeedFault before old new (Ok more) tells peers id → IsSendStep {T = Unit {0}} IsStepFault after old new (Ok tt) tells peers id
+step_ok old new more tells peers id before after on s = record {
   seen = s.seen;
   turn = s.turn;
   turned = s.turned;
   verdict = s.verdict;
   sees = s.sees;
   goes = goes_ok id s.seen.endpoint (feeding_of old) (feeding_of new) s.verdict more s.goes;
+  waited = on s.turn s.waited;
   core = s.core;
 }
 
-pub step_unwaited : {K : Type 0} (old new : SendState K) (more : Bool) (tells : K → ℕ → K → Type 0) (peers : Peers) (id : ℕ)
-    → IsSendStep IsFeedFault old new (Ok more) tells peers id → IsSendStep {T = Unit {0}} IsStepFault old new (Err Unwaited) tells peers id
-step_unwaited old new more tells peers id s = record {
+pub step_unwaited : {K : Type 0} (old new : SendState K) (more : Bool) (tells : K → ℕ → K → Type 0) (peers : Peers) (id : ℕ) (before after : Activity → Type 0)
+    → ((turn : Activity) → before turn → after turn) → IsSendStep IsFeedFault before old new (Ok more) tells peers id → IsSendStep {T = Unit {0}} IsStepFault after old new (Err Unwaited) tells peers id
+step_unwaited old new more tells peers id before after on s = record {
   seen = s.seen;
   turn = s.turn;
   turned = s.turned;
   verdict = s.verdict;
   sees = s.sees;
   goes = goes_unwaited id s.seen.endpoint (feeding_of old) (feeding_of new) s.verdict more s.goes;
+  waited = on s.turn s.waited;
   core = s.core;
 }
 
-pub step_err : {K : Type 0} (old new : SendState K) (f : SendOutcome) (tells : K → ℕ → K → Type 0) (peers : Peers) (id : ℕ)
-    → IsSendStep {T = Bool} IsFeedFault old new (Err f) tells peers id → IsSendStep {T = Unit {0}} IsStepFault old new (Err f) tells peers id
-step_err old new f tells peers id s = record {
+pub step_err : {K : Type 0} (old new : SendState K) (f : SendOutcome) (tells : K → ℕ → K → Type 0) (peers : Peers) (id : ℕ) (before after : Activity → Type 0)
+    → ((turn : Activity) → before turn → after turn) → IsSendStep {T = Bool} IsFeedFault before old new (Err f) tells peers id → IsSendStep {T = Unit {0}} IsStepFault after old new (Err f) tells peers id
+step_err old new f tells peers id before after on s = record {
   seen = s.seen;
   turn = s.turn;
   turned = s.turned;
   verdict = s.verdict;
   sees = s.sees;
   goes = goes_err id s.seen.endpoint (feeding_of old) (feeding_of new) s.verdict f s.goes;
+  waited = on s.turn s.waited;
   core = s.core;
 }
 
@@ -245,7 +248,7 @@ pub same_place : {K : Type 0} (clock clock' : K) (core core' : PacedHostCore) (n
     → clock' ≡ clock → core' ≡ core → place clock core n r c l k ≡ place clock' core' n r c l k
 same_place clock clock' core core' n r c l k p q = cc
 
-pub step_waited : {K : Type 0} (old : SendState K) (clock clock' : K) (core core' : PacedHostCore) (n : SeenSoFar) (r c : Bool) (l : Ledger) (k : Option (List ℕ)) (answer : Result (Unit {0}) SendOutcome) (tells : K → ℕ → K → Type 0) (peers : Peers) (id : ℕ)
-    → clock' ≡ clock → core' ≡ core → IsSendStep IsStepFault old (place clock core n r c l k) answer tells peers id → IsSendStep IsStepFault old (place clock' core' n r c l k) answer tells peers id
-step_waited {K} old clock clock' core core' n r c l k answer tells peers id p q s =
-    subst (λ (x : SendState K). IsSendStep IsStepFault old x answer tells peers id) (same_place clock clock' core core' n r c l k p q) s
+pub step_waited : {K : Type 0} (old : SendState K) (clock clock' : K) (core core' : PacedHostCore) (n : SeenSoFar) (r c : Bool) (l : Ledger) (k : Option (List ℕ)) (answer : Result (Unit {0}) SendOutcome) (tells : K → ℕ → K → Type 0) (peers : Peers) (id : ℕ) (waits : Activity → Type 0)
+    → clock' ≡ clock → core' ≡ core → IsSendStep IsStepFault waits old (place clock core n r c l k) answer tells peers id → IsSendStep IsStepFault waits old (place clock' core' n r c l k) answer tells peers id
+step_waited {K} old clock clock' core core' n r c l k answer tells peers id waits p q s =
+    subst (λ (x : SendState K). IsSendStep IsStepFault waits old x answer tells peers id) (same_place clock clock' core core' n r c l k p q) s

@@ -14,6 +14,7 @@ use Rattle.ipx_host.specs.Hosting.{HearsAndNotesAll, Host, ListensWell, WritesAn
 use Rattle.ipx_host.specs.HostOutput.{Writes, left_of}
 use Rattle.ipx_host.specs.Passing.{PassesEach, PassesFrom, PassesSome, PassesUntilFull, Take, bodies_after, bodies_of, held_after, left_with, takes_after, takes_each, takes_from}
 use Rattle.ipx_host.specs.ListenOutcomes.{parted, stop_status}
+use Rattle.ipx_host.specs.Turning.{TakesHostTurn}
 use Rattle.ipx_host.specs.Tending.{DoesAction, JustStays, Tends, TendsFirst, TendsOn, Tidies}
 use Rattle.ipx_host.specs.declared.sessions.Session.{Session}
 use Rattle.ipx_host.specs.declared.sessions.SessionAction.{SessionAction}
@@ -178,14 +179,20 @@ moved_none core cs x y a b wrote = moved_some core core cs cs x y y a b b wrote 
 -- ---- one step
 
 pub stepped : {K : Type 0} (clock clock1 clock2 clock3 : K) (core core1 core2 core3 : PacedHostCore) (cs cs1 cs2 cs3 : List Session) (o o1 o2 o3 : Outlet) (once once' : Bool) (a b : Option (List ℕ))
-    (stop : Option ListenOutcome) (tells : K → ℕ → K → Type 0) (peers : Peers) (takes : List Take)
-    → HearsAndNotesAll clock clock1 core core1 cs cs1 once tells peers → o1 ≡ o → clock2 ≡ clock1 → once' ≡ once
+    (stop : Option ListenOutcome) (tells : K → ℕ → K → Type 0) (peers : Peers) (takes : List Take) (active : Bool)
+    → (hears : HearsAndNotesAll clock clock1 core core1 cs cs1 once tells peers) → active ≡ hears.turn.active → o1 ≡ o → clock2 ≡ clock1 → once' ≡ once
     → MovesUntilFull core1 core2 cs1 cs2 (left_of o1) (left_of o2) a b takes → clock3 ≡ clock2 → o3 ≡ o2 → Tidies once' core2 core3 cs2 cs3 stop
-    → Steps (host clock core cs (left_of o) a) (host clock3 core3 cs3 (left_of o3) b) once stop tells peers (record { there = cs1; takes = takes })
-stepped {K} clock clock1 clock2 clock3 core core1 core2 core3 cs cs1 cs2 cs3 o o1 o2 o3 once once' a b stop tells peers takes hears unheard ticks same moves tidied unwritten tidies =
+    → Steps (host clock core cs (left_of o) a) (host clock3 core3 cs3 (left_of o3) b) once stop tells peers (record { active = active; there = cs1; takes = takes })
+stepped {K} clock clock1 clock2 clock3 core core1 core2 core3 cs cs1 cs2 cs3 o o1 o2 o3 once once' a b stop tells peers takes active hears did unheard ticks same moves tidied unwritten tidies =
     record {
       heard = core1;
-      hears = subst (λ (k : K). HearsAndNotesAll clock k core core1 cs cs1 once tells peers) (sym (tidied ∙ ticks)) hears;
+      hears = record {
+        seen = hears.seen;
+        turn = hears.turn;
+        turned = subst (λ (k : K). TakesHostTurn clock k tells peers core hears.seen hears.turn) (sym (tidied ∙ ticks)) hears.turned;
+        noted = hears.noted;
+      };
+      active = did;
       moved = core2;
       still = cs2;
       moves = subst (λ (k : Outlet). MovesUntilFull core1 core2 cs1 cs2 (left_of k) (left_of o3) a b takes) unheard
@@ -195,12 +202,13 @@ stepped {K} clock clock1 clock2 clock3 core core1 core2 core3 cs cs1 cs2 cs3 o o
 
 -- and one that the writer breaks off
 pub broken_off : {K : Type 0} (clock clock1 : K) (core core1 core2 : PacedHostCore) (cs cs1 cs2 : List Session) (o o1 o2 : Outlet) (once : Bool) (a b : Option (List ℕ))
-    (tells : K → ℕ → K → Type 0) (peers : Peers) (takes : List Take) → HearsAndNotesAll clock clock1 core core1 cs cs1 once tells peers → o1 ≡ o
+    (tells : K → ℕ → K → Type 0) (peers : Peers) (takes : List Take) (active : Bool) → (hears : HearsAndNotesAll clock clock1 core core1 cs cs1 once tells peers) → active ≡ hears.turn.active → o1 ≡ o
     → MovesSome core1 core2 cs1 cs2 (left_of o1) (left_of o2) a b takes
-    → WriterBreaksOff (host clock core cs (left_of o) a) (host clock1 core2 cs2 (left_of o2) b) once tells peers (record { there = cs1; takes = takes })
-broken_off clock clock1 core core1 core2 cs cs1 cs2 o o1 o2 once a b tells peers takes hears unheard moves = record {
+    → WriterBreaksOff (host clock core cs (left_of o) a) (host clock1 core2 cs2 (left_of o2) b) once tells peers (record { active = active; there = cs1; takes = takes })
+broken_off clock clock1 core core1 core2 cs cs1 cs2 o o1 o2 once a b tells peers takes active hears did unheard moves = record {
   heard = core1;
   hears = hears;
+  active = did;
   moves = subst (λ (k : Outlet). MovesSome core1 core2 cs1 cs2 (left_of k) (left_of o2) a b takes) unheard moves;
 }
 

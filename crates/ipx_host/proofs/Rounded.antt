@@ -12,6 +12,7 @@ use Rattle.spx_messages.specs.EndpointView.{EndpointView, held_at}
 use Rattle.ipx_host.specs.Books.{EntersAcknowledged}
 use Rattle.ipx_host.specs.Access.{is_nowhere}
 use Rattle.ipx_host.specs.Feeding.{Feeds, FeedState, HandsOn}
+use Rattle.ipx_host.specs.declared.running_host.Activity.{Activity}
 use Rattle.ipx_host.specs.SendRounds.{IsSendStep, LastRound, SendState, Round, Rounds, Transfers, feeding_of}
 use Rattle.ipx_host.specs.Sent.{IsDialing, SendsInput}
 use Rattle.ipx_host.specs.SendSteps.{GoesOnOrEnds, IsStepFault, Sees}
@@ -91,18 +92,32 @@ rounds_more old (b ∷ more) last new tells peers id bytes run round =
     (run.0, run.1, rounds_more run.0 more last new tells peers id bytes run.2 round)
 
 -- the same step, of the same id and peers
-pub same_step : {K T : Type 0} (faults : Option State → SendOutcome → Type 0) (old new : SendState K) (answer : Result T SendOutcome) (tells : K → ℕ → K → Type 0) (peers here : Peers) (id id' : ℕ)
-    → id' ≡ id → here ≡ peers → IsSendStep faults old new answer tells here id' → IsSendStep faults old new answer tells peers id
-same_step faults old new answer tells peers here id id' same among s =
-    subst (λ (i : ℕ). IsSendStep faults old new answer tells peers i) same (subst (λ (p : Peers). IsSendStep faults old new answer tells p id') among s)
+pub same_step : {K T : Type 0} (faults : Option State → SendOutcome → Type 0) (old new : SendState K) (answer : Result T SendOutcome) (tells : K → ℕ → K → Type 0) (peers here : Peers) (id id' : ℕ) (waits : Activity → Type 0)
+    → id' ≡ id → here ≡ peers → IsSendStep faults waits old new answer tells here id' → IsSendStep faults waits old new answer tells peers id
+same_step faults old new answer tells peers here id id' waits same among s =
+    subst (λ (i : ℕ). IsSendStep faults waits old new answer tells peers i) same (subst (λ (p : Peers). IsSendStep faults waits old new answer tells p id') among s)
+
+-- a step that ends the transfer, whatever its turn did
+pub ends_so : {K : Type 0} (old new : SendState K) (verdict : SendOutcome) (tells : K → ℕ → K → Type 0) (peers : Peers) (id : ℕ) (waits : Activity → Type 0)
+    → IsSendStep {T = Unit {0}} IsStepFault waits old new (Err verdict) tells peers id → IsSendStep {T = Unit {0}} IsStepFault (λ turn. Unit {0}) old new (Err verdict) tells peers id
+ends_so old new verdict tells peers id waits s = record {
+  seen = s.seen;
+  turn = s.turn;
+  turned = s.turned;
+  verdict = s.verdict;
+  sees = s.sees;
+  goes = s.goes;
+  waited = tt;
+  core = s.core;
+}
 
 -- a run goes on by a step without an outcome
-round_of : {K : Type 0} (last new : SendState K) (tells : K → ℕ → K → Type 0) (peers : Peers) (id : ℕ) (s : IsSendStep {T = Unit {0}} IsStepFault last new (Ok tt) tells peers id) (v : Option SendOutcome) → s.verdict ≡ v
+round_of : {K : Type 0} (last new : SendState K) (tells : K → ℕ → K → Type 0) (peers : Peers) (id : ℕ) (waits : Activity → Type 0) (s : IsSendStep {T = Unit {0}} IsStepFault waits last new (Ok tt) tells peers id) (v : Option SendOutcome) → s.verdict ≡ v
     → (bytes : List ℕ) × Round last new bytes tells peers id
-round_of last new tells peers id s (Some w) is =
+round_of last new tells peers id waits s (Some w) is =
     let goes = subst (λ (v : Option SendOutcome). GoesOnOrEnds {T = Unit {0}} IsStepFault id s.seen.endpoint (feeding_of last) (feeding_of new) v (Ok tt)) is s.goes in
     absurd (let no = goes.0 in cc)
-round_of last new tells peers id s None is =
+round_of last new tells peers id waits s None is =
     let goes = subst (λ (v : Option SendOutcome). GoesOnOrEnds {T = Unit {0}} IsStepFault id s.seen.endpoint (feeding_of last) (feeding_of new) v (Ok tt)) is s.goes in (
       goes.1.0,
       record {
@@ -119,11 +134,11 @@ round_of last new tells peers id s None is =
 count_more : (bodies : List (List ℕ)) (bytes : List ℕ) → length (bodies ++ bytes ∷ []) ≡ length bodies + 1
 count_more bodies bytes = omega (arith, length-append bodies (bytes ∷ []))
 
-pub rounds_step : {K : Type 0} (old : SendState K) (bodies : List (List ℕ)) (last new : SendState K) (tells : K → ℕ → K → Type 0) (peers : Peers) (id : ℕ) (count : ℕ)
-    → length bodies ≡ count → Rounds old bodies last tells peers id → IsSendStep {T = Unit {0}} IsStepFault last new (Ok tt) tells peers id
+pub rounds_step : {K : Type 0} (old : SendState K) (bodies : List (List ℕ)) (last new : SendState K) (tells : K → ℕ → K → Type 0) (peers : Peers) (id : ℕ) (count : ℕ) (waits : Activity → Type 0)
+    → length bodies ≡ count → Rounds old bodies last tells peers id → IsSendStep {T = Unit {0}} IsStepFault waits last new (Ok tt) tells peers id
     → (more : List (List ℕ)) × (length more ≡ count + 1) × Rounds old more new tells peers id
-rounds_step old bodies last new tells peers id count so run step =
-    let round = round_of last new tells peers id step step.verdict refl in
+rounds_step old bodies last new tells peers id count waits so run step =
+    let round = round_of last new tells peers id waits step step.verdict refl in
     (bodies ++ round.0 ∷ [], omega (arith, so, count_more bodies round.0), rounds_more old bodies last new tells peers id round.0 run round.1)
 
 not_fault : (state : Option State) → IsStepFault state Done → ⊥
@@ -132,12 +147,12 @@ not_fault state (inl (live, inr e)) = cc
 not_fault state (inr e) = cc
 
 -- and takes a last turn in the step that answers that it is done
-last_of : {K : Type 0} (last new : SendState K) (tells : K → ℕ → K → Type 0) (peers : Peers) (id : ℕ) (s : IsSendStep {T = Unit {0}} IsStepFault last new (Err Done) tells peers id) (v : Option SendOutcome) → s.verdict ≡ v
+last_of : {K : Type 0} (last new : SendState K) (tells : K → ℕ → K → Type 0) (peers : Peers) (id : ℕ) (waits : Activity → Type 0) (s : IsSendStep {T = Unit {0}} IsStepFault waits last new (Err Done) tells peers id) (v : Option SendOutcome) → s.verdict ≡ v
     → LastRound last new tells peers id
-last_of last new tells peers id s None is =
+last_of last new tells peers id waits s None is =
     let goes = subst (λ (v : Option SendOutcome). GoesOnOrEnds {T = Unit {0}} IsStepFault id s.seen.endpoint (feeding_of last) (feeding_of new) v (Err Done)) is s.goes in
     absurd (not_fault (state_at s.seen.endpoint id) goes.0)
-last_of last new tells peers id s (Some w) is =
+last_of last new tells peers id waits s (Some w) is =
     let goes = subst (λ (v : Option SendOutcome). GoesOnOrEnds {T = Unit {0}} IsStepFault id s.seen.endpoint (feeding_of last) (feeding_of new) v (Err Done)) is s.goes in
     let same : w ≡ Done = (let it = goes.0 in cc) in
     let at : new.core ≡ s.seen = subst (λ (e : EndpointView). new.core ≡ record s.seen { endpoint = e }) (ap (λ (i : FeedState). i.endpoint) goes.1.is) s.core in
@@ -153,11 +168,11 @@ last_of last new tells peers id s (Some w) is =
       known = ap (λ (i : FeedState). i.known) goes.1.is;
     }
 
-pub last_round : {K : Type 0} (last new : SendState K) (tells : K → ℕ → K → Type 0) (peers : Peers) (id : ℕ) (f : SendOutcome)
-    → f ≡ Done → IsSendStep {T = Unit {0}} IsStepFault last new (Err f) tells peers id → LastRound last new tells peers id
-last_round last new tells peers id f done step =
-    let s = subst (λ (v : SendOutcome). IsSendStep {T = Unit {0}} IsStepFault last new (Err v) tells peers id) done step in
-    last_of last new tells peers id s s.verdict refl
+pub last_round : {K : Type 0} (last new : SendState K) (tells : K → ℕ → K → Type 0) (peers : Peers) (id : ℕ) (f : SendOutcome) (waits : Activity → Type 0)
+    → f ≡ Done → IsSendStep {T = Unit {0}} IsStepFault waits last new (Err f) tells peers id → LastRound last new tells peers id
+last_round last new tells peers id f waits done step =
+    let s = subst (λ (v : SendOutcome). IsSendStep {T = Unit {0}} IsStepFault waits last new (Err v) tells peers id) done step in
+    last_of last new tells peers id waits s s.verdict refl
 
 -- if a transfer ended well, the reader is at its end
 pub transfers_end : {K : Type 0} (old new : SendState K) (tells : K → ℕ → K → Type 0) (peers : Peers) (id : ℕ)

@@ -74,8 +74,10 @@ abbrev pub MovesUntilFull : PacedHostCore → PacedHostCore → List Session →
 MovesUntilFull old new sessions sessions' waiting left written writes takes =
     (some : MovesSome old new sessions sessions' waiting left written writes takes) × (some.rest ≢ [] → left ≢ [])
 
--- the view of a step: the connections after it noted what was received, and the takes from them
+-- the view of a step: whether its turn did anything, the connections after it noted what was received, and the
+-- takes from them
 pub record StepView : Type 0 where
+  pub active : Bool
   pub there : List Session
   pub takes : List Take
 
@@ -84,6 +86,7 @@ pub record Steps {K : Type 0} (old new : Host K) (once : Bool) (stop : Option Li
     (tells : K → ℕ → K → Type 0) (peers : Peers) (step : StepView) : Type 0 where
   pub heard : PacedHostCore
   pub hears : HearsAndNotesAll old.clock new.clock old.core heard old.sessions step.there once tells peers
+  pub active : step.active ≡ hears.turn.active
   pub moved : PacedHostCore
   pub still : List Session
   pub moves : MovesUntilFull heard moved step.there still old.left new.left old.written new.written step.takes
@@ -94,6 +97,7 @@ pub record WriterBreaksOff {K : Type 0} (old new : Host K) (once : Bool) (tells 
     (peers : Peers) (step : StepView) : Type 0 where
   pub heard : PacedHostCore
   pub hears : HearsAndNotesAll old.clock new.clock old.core heard old.sessions step.there once tells peers
+  pub active : step.active ≡ hears.turn.active
   pub moves : MovesSome heard new.core step.there new.sessions old.left new.left old.written new.written step.takes
 
 -- a step, by why it stops the host, if it does. The wait after a step changes nothing

@@ -44,8 +44,9 @@ abbrev pub feeding_of : {K : Type 0} → SendState K → FeedState
 feeding_of p = feed_state p.core.endpoint p.read p.closed p.acked_bytes p.known
 
 -- one step, and its result. A turn leaves a core, whose connection is noted and judged, and the transfer ends
--- or continues. Nothing else of the core changes
-pub record IsSendStep {K T : Type 0} (faults : Option State → SendOutcome → Type 0) (old new : SendState K)
+-- or continues. Nothing else of the core changes. Whether the host waits then depends on what the turn did
+pub record IsSendStep {K T : Type 0} (faults : Option State → SendOutcome → Type 0) (waits : Activity → Type 0)
+    (old new : SendState K)
     (answer : Result T SendOutcome) (tells : K → ℕ → K → Type 0) (peers : Peers) (id : ℕ) : Type 0 where
   pub seen : PacedHostCore
   pub turn : Activity
@@ -53,6 +54,7 @@ pub record IsSendStep {K T : Type 0} (faults : Option State → SendOutcome → 
   pub verdict : Option SendOutcome
   pub sees : Sees old.noted new.noted seen.endpoint seen.moment id old.closed verdict
   pub goes : GoesOnOrEnds faults id seen.endpoint (feeding_of old) (feeding_of new) verdict answer
+  pub waited : waits turn
   pub core : new.core ≡ record seen { endpoint = new.core.endpoint }
 
 -- one round: a step without an outcome, which feeds these bytes
@@ -106,7 +108,7 @@ pub record EndsWith {K : Type 0} (old new : SendState K) (verdict : SendOutcome)
   pub bodies : List (List ℕ)
   pub last : SendState K
   pub rounds : Rounds old bodies last tells peers id
-  pub step : IsSendStep {T = Unit {0}} IsStepFault last new (Err verdict) tells peers id
+  pub step : IsSendStep {T = Unit {0}} IsStepFault (λ turn. Unit {0}) last new (Err verdict) tells peers id
 
 -- a transfer that did not end in 2^64 - 1 rounds, and is given up
 pub record LastsOn {K : Type 0} (old new : SendState K) (verdict : SendOutcome) (tells : K → ℕ → K → Type 0)

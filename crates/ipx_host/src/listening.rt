@@ -141,10 +141,11 @@ impl<'a, R: Net + Log + Clock> ListeningHost<'a, R> {
         // More may be waiting after a filtered datagram.
         ensures kept { drops_in self.old.station.host_socket.device.kept
             < drops_in self.new.station.host_socket.device.kept → IsTrue result.active }
-        ensures hears { HearsAndNotesAll self.old.station.clock self.new.station.clock
+        ensures hears { (hears : HearsAndNotesAll self.old.station.clock self.new.station.clock
             self.old.station.core self.new.station.core
             self.old.sessions.held.items self.new.sessions.held.items self.old.sessions.once
-            NeverGoesBack (peers_of self.old.station.host_socket.peers.items) }
+            NeverGoesBack (peers_of self.old.station.host_socket.peers.items))
+            × (hears.turn ≡ result) }
         ensures peers { self.new.station.host_socket.peers ≡ self.old.station.host_socket.peers }
         ensures access { map access_by self.new.station.host_socket.device.access_lists.items
             ≡ map access_by self.old.station.host_socket.device.access_lists.items }
@@ -171,10 +172,12 @@ impl<'a, R: Net + Log + Clock> ListeningHost<'a, R> {
         // More may be waiting after a filtered datagram.
         ensures kept { drops_in self.old.station.host_socket.device.kept
             < drops_in self.new.station.host_socket.device.kept → IfOk result IsTrue }
+        // After a turn that did something there may be more to do.
         ensures steps { (step : StepView) × StepsTo (listening_at self.old (W.contents writer.old))
             (listening_at self.new (W.contents writer.new))
             self.old.sessions.once (stop_in result)
-            NeverGoesBack (peers_of self.old.station.host_socket.peers.items) step }
+            NeverGoesBack (peers_of self.old.station.host_socket.peers.items) step
+            × IfOk result (λ more. IsTrue step.active → IsTrue more) }
         ensures peers { self.new.station.host_socket.peers ≡ self.old.station.host_socket.peers }
         ensures access { map access_by self.new.station.host_socket.device.access_lists.items
             ≡ map access_by self.old.station.host_socket.device.access_lists.items }
@@ -200,10 +203,12 @@ impl<'a, R: Net + Log + Clock> ListeningHost<'a, R> {
         ensures kept { drops_in self.old.station.host_socket.device.kept
             < drops_in self.new.station.host_socket.device.kept →
             self.new.station.poller.asked ≡ self.old.station.poller.asked }
+        // After a turn that did something it does not wait.
         ensures steps { (step : StepView) × StepsTo (listening_at self.old (W.contents writer.old))
             (listening_at self.new (W.contents writer.new))
             self.old.sessions.once (stop_in result)
-            NeverGoesBack (peers_of self.old.station.host_socket.peers.items) step }
+            NeverGoesBack (peers_of self.old.station.host_socket.peers.items) step
+            × (IsTrue step.active → self.new.station.poller ≡ self.old.station.poller) }
         ensures peers { self.new.station.host_socket.peers ≡ self.old.station.host_socket.peers }
         ensures access { map access_by self.new.station.host_socket.device.access_lists.items
             ≡ map access_by self.old.station.host_socket.device.access_lists.items }

@@ -180,7 +180,10 @@ impl<'a, R: Net + Log + Clock + Eprint> SendingHost<'a, R> {
             < drops_in self.new.station.host_socket.device.kept → IfOk result IsTrue }
         ensures id { self.new.id ≡ self.old.id }
         // The host notes, judges and feeds by the state after the turn.
-        ensures steps { IsSendStep IsFeedFault (sending_at self.old (I.remaining reader.old))
+        // After a turn that did something there may be more to do.
+        ensures steps { IsSendStep IsFeedFault
+            (λ turn. IfOk result (λ more. IsTrue turn.active → IsTrue more))
+            (sending_at self.old (I.remaining reader.old))
             (sending_at self.new (I.remaining reader.new))
             result NeverGoesBack (peers_of self.old.station.host_socket.peers.items) self.old.id }
         ensures peers { self.new.station.host_socket.peers ≡ self.old.station.host_socket.peers }
@@ -231,7 +234,10 @@ impl<'a, R: Net + Log + Clock + Eprint> SendingHost<'a, R> {
             self.new.station.poller.asked ≡ self.old.station.poller.asked }
         ensures id { self.new.id ≡ self.old.id }
         // The host notes, judges and feeds by the state after the turn.
-        ensures steps { IsSendStep IsStepFault (sending_at self.old (I.remaining reader.old))
+        // After a turn that did something it does not wait.
+        ensures steps { IsSendStep IsStepFault
+            (λ turn. IsTrue turn.active → self.new.station.poller ≡ self.old.station.poller)
+            (sending_at self.old (I.remaining reader.old))
             (sending_at self.new (I.remaining reader.new))
             result NeverGoesBack (peers_of self.old.station.host_socket.peers.items) self.old.id }
         ensures peers { self.new.station.host_socket.peers ≡ self.old.station.host_socket.peers }

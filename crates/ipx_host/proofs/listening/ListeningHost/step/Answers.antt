@@ -17,10 +17,10 @@ returns-in_err-reap-clause-steps g c =
     let stop = c.in_err-reap.field-0.0 in
     let p = err_from_is_err_and c.from_residual-in_err-reap.result c.from_residual-in_err-reap.ensures.1 in
     rw (p.1, p.2) (
-      record { there = heard.sessions.held.items; takes = moves.0 },
+      record { active = c.hear-turn.ensures.hears.0.turn.active; there = heard.sessions.held.items; takes = moves.0 },
       tidied_to (listening_at old (held c.args.writer.now))
           (listening_at (record heard { station = station; sessions = new }) (held c.pass.new.writer)) old.sessions.once stop _ _ _
-          (stepped old.station.clock heard.station.clock heard.station.clock station.clock old.station.core heard.station.core core station.core old.sessions.held.items heard.sessions.held.items passed.held.items new.held.items old.sessions.output heard.sessions.output passed.output new.output old.sessions.once passed.once (held c.args.writer.now) (held c.pass.new.writer) (Some stop) _ _ moves.0 c.hear-turn.ensures.hears c.hear-turn.ensures.output refl (c.pass.ensures.once ∙ c.hear-turn.ensures.once) moves.1 c.reap.ensures.clock c.reap.ensures.output c.in_err-reap.ensures.tidies),
+          (stepped old.station.clock heard.station.clock heard.station.clock station.clock old.station.core heard.station.core core station.core old.sessions.held.items heard.sessions.held.items passed.held.items new.held.items old.sessions.output heard.sessions.output passed.output new.output old.sessions.once passed.once (held c.args.writer.now) (held c.pass.new.writer) (Some stop) _ _ moves.0 _ c.hear-turn.ensures.hears.0 refl c.hear-turn.ensures.output refl (c.pass.ensures.once ∙ c.hear-turn.ensures.once) moves.1 c.reap.ensures.clock c.reap.ensures.output c.in_err-reap.ensures.tidies),
     )
 
 pub returns-in_err-moved-clause-steps : goal.returns-in_err-moved-clause-steps
@@ -32,8 +32,8 @@ returns-in_err-moved-clause-steps g c =
     let moves = c.in_err-moved.ensures.some in
     let p = err_from_is_err_and c.from_residual.result c.from_residual.ensures.1 in
     rw (p.1, p.2) (
-      record { there = heard.sessions.held.items; takes = moves.0 },
-      broken_off old.station.clock heard.station.clock old.station.core heard.station.core c.pass.new.core old.sessions.held.items heard.sessions.held.items passed.held.items old.sessions.output heard.sessions.output passed.output old.sessions.once (held c.args.writer.now) (held c.pass.new.writer) _ _ moves.0 c.hear-turn.ensures.hears c.hear-turn.ensures.output moves.1,
+      record { active = c.hear-turn.ensures.hears.0.turn.active; there = heard.sessions.held.items; takes = moves.0 },
+      broken_off old.station.clock heard.station.clock old.station.core heard.station.core c.pass.new.core old.sessions.held.items heard.sessions.held.items passed.held.items old.sessions.output heard.sessions.output passed.output old.sessions.once (held c.args.writer.now) (held c.pass.new.writer) _ _ moves.0 _ c.hear-turn.ensures.hears.0 refl c.hear-turn.ensures.output moves.1,
     )
 
 pub returns-clause-steps : goal.returns-clause-steps
@@ -46,6 +46,6 @@ returns-clause-steps g c =
     let new = c.reap.new.self in
     let station = c.reap.new.station in
     let moves = c.in_ok-moved.ensures.all in (
-      record { there = heard.sessions.held.items; takes = moves.0 },
-      stepped old.station.clock heard.station.clock heard.station.clock station.clock old.station.core heard.station.core core station.core old.sessions.held.items heard.sessions.held.items passed.held.items new.held.items old.sessions.output heard.sessions.output passed.output new.output old.sessions.once passed.once (held c.args.writer.now) (held c.pass.new.writer) None _ _ moves.0 c.hear-turn.ensures.hears c.hear-turn.ensures.output refl (c.pass.ensures.once ∙ c.hear-turn.ensures.once) moves.1 c.reap.ensures.clock c.reap.ensures.output c.in_ok-reap.ensures.tidies,
+      record { active = c.hear-turn.ensures.hears.0.turn.active; there = heard.sessions.held.items; takes = moves.0 },
+      stepped old.station.clock heard.station.clock heard.station.clock station.clock old.station.core heard.station.core core station.core old.sessions.held.items heard.sessions.held.items passed.held.items new.held.items old.sessions.output heard.sessions.output passed.output new.output old.sessions.once passed.once (held c.args.writer.now) (held c.pass.new.writer) None _ _ moves.0 _ c.hear-turn.ensures.hears.0 refl c.hear-turn.ensures.output refl (c.pass.ensures.once ∙ c.hear-turn.ensures.once) moves.1 c.reap.ensures.clock c.reap.ensures.output c.in_ok-reap.ensures.tidies,
     )

@@ -6,7 +6,7 @@ use Rattle.ipx_host.specs.Midway.{sending_at}
 use Rattle.ipx_host.specs.SendRounds.{place}
 use Rattle.ipx_host.specs.SendSteps.{noted}
 use Rattle.ipx_host.specs.Transfer.{IsWholeAt}
-use Rattle.ipx_host.proofs.Rounded.{last_round, rounds_bytes, rounds_end, rounds_short, rounds_step, same_step}
+use Rattle.ipx_host.proofs.Rounded.{ends_so, last_round, rounds_bytes, rounds_end, rounds_short, rounds_step, same_step}
 use Rattle.ipx_host.proofs.sending.SendingHost.serve.Goals as goal
 
 pub loop-init : goal.loop-init
@@ -22,11 +22,11 @@ loop-preserved g c =
     let before = sending_at now (g.I.Read.remaining c.loop.reader) in
     let after = sending_at new (g.I.Read.remaining c.step_or_wait.new.reader) in
     let among = ap (λ l. peers_of l.items) c.loop.invariant.peers in
-    let step = same_step _ before after _ _ _ _ old.id now.id c.loop.invariant.id among c.in_default.ensures.steps in
+    let step = same_step _ before after _ _ _ _ old.id now.id _ c.loop.invariant.id among c.in_default.ensures.steps in
     record {
       id = c.step_or_wait.ensures.id ∙ c.loop.invariant.id;
       peers = c.step_or_wait.ensures.peers ∙ c.loop.invariant.peers;
-      fed = rounds_step start fed.0 before after _ _ old.id c.loop.counter fed.1 fed.2 step;
+      fed = rounds_step start fed.0 before after _ _ old.id c.loop.counter _ fed.1 fed.2 step;
     }
 
 pub returns-in-Err-clause-fed : goal.returns-in-Err-clause-fed
@@ -40,8 +40,8 @@ returns-in-Err-clause-fed g c = λ done.
     let before = sending_at now (g.I.Read.remaining c.loop.reader) in
     let after = sending_at new (g.I.Read.remaining c.step_or_wait.new.reader) in
     let among = ap (λ l. peers_of l.items) c.loop.invariant.peers in
-    let step = same_step _ before after _ _ _ _ old.id now.id c.loop.invariant.id among c.in-Err.ensures.steps in
-    let last = last_round before after _ _ old.id c.in-Err.verdict done step in
+    let step = same_step _ before after _ _ _ _ old.id now.id _ c.loop.invariant.id among c.in-Err.ensures.steps in
+    let last = last_round before after _ _ old.id c.in-Err.verdict _ done step in
     let is = ap (λ v. Err v) done in
     let ended = c.in-Err.ensures.ended is in
     record {
@@ -64,8 +64,8 @@ returns-in-Err-clause-all g c = λ done was.
     let before = sending_at now (g.I.Read.remaining c.loop.reader) in
     let after = sending_at new (g.I.Read.remaining c.step_or_wait.new.reader) in
     let among = ap (λ l. peers_of l.items) c.loop.invariant.peers in
-    let step = same_step _ before after _ _ _ _ old.id now.id c.loop.invariant.id among c.in-Err.ensures.steps in
-    let last = last_round before after _ _ old.id c.in-Err.verdict done step in
+    let step = same_step _ before after _ _ _ _ old.id now.id _ c.loop.invariant.id among c.in-Err.ensures.steps in
+    let last = last_round before after _ _ old.id c.in-Err.verdict _ done step in
     let all = (c.in-Err.ensures.ended (ap (λ v. Err v) done)).1 in
     subst (λ (k : Option (List ℕ)). IsAtEnd k) (sym last.known) (rounds_end start fed.0 before _ _ _ fed.2 was (sym last.read ∙ all))
 
@@ -79,5 +79,5 @@ returns-in-Err-clause-ends g c =
     let before = sending_at now (g.I.Read.remaining c.loop.reader) in
     let after = sending_at new (g.I.Read.remaining c.step_or_wait.new.reader) in
     let among = ap (λ l. peers_of l.items) c.loop.invariant.peers in
-    let step = same_step _ before after _ _ _ _ old.id now.id c.loop.invariant.id among c.in-Err.ensures.steps in
-    inl (record { bodies = fed.0; last = before; rounds = fed.2; step = step })
+    let step = same_step _ before after _ _ _ _ old.id now.id _ c.loop.invariant.id among c.in-Err.ensures.steps in
+    inl (record { bodies = fed.0; last = before; rounds = fed.2; step = ends_so before after c.in-Err.verdict _ _ old.id _ step })

@@ -52,6 +52,7 @@ returns-clause-steps g c =
       turned = turned _ _ _ _ _ _ _ _ (ticked ∙ ticks ∙ timed) c.turn-turn.ensures.core;
       verdict = None;
       sees = sees_later look.joined shown.joined look.left shown.left (record { joined = old.joined; left = old.left }) seen.endpoint seen.moment old.id old.input.closed None (same.joined ∙ joined) (same.left ∙ gone) seeing;
+      waited = λ active. or_left c.turn-turn.result.active c.in_ok-fed.field-0 active;
       goes = (tt, (fed.0, stepped old.id look.id seen look.station.core old.station.core.endpoint dropped old.input.read look.input.read old.input.closed look.input.closed old.input.acked_bytes look.input.acked_bytes known new fed.0 told.id looked told.read told.closed told.acked_bytes c.drop_what_came.ensures fed' only));
       core = went_on seen look.station.core mid.station.core shown.station.core looked goes stays;
     }
@@ -72,6 +73,7 @@ returns-in-Some-clause-steps g c =
       turned = turned _ _ _ _ _ _ _ _ timed c.turn-turn.ensures.core;
       verdict = Some (ended_at old.input.closed verdict);
       sees = sees old.joined look.joined old.left look.left seen look.station.core old.id look.id old.input.closed look.input.closed c.is_all_acked-whole.result c.waits.result c.look-state.result (Some verdict) told.state looked told.id told.closed told.joined told.left c.is_all_acked-whole.ensures c.waits.ensures c.in-Some.ensures.verdict;
+      waited = tt;
       goes = (
         ap (λ (v : SendOutcome). Err v) (c.ended_by.ensures ∙ ap (λ (b : Bool). ended_at b verdict) told.closed),
         record {
@@ -100,6 +102,7 @@ returns-in_err-fed-clause-steps g c =
       turned = turned _ _ _ _ _ _ _ _ timed c.turn-turn.ensures.core;
       verdict = None;
       sees = seeing;
+      waited = tt;
       goes = ((sym told.state ∙ is, c.in_err-fed.ensures.fault), tt);
       core = went_on seen look.station.core core core looked refl refl;
     })

@@ -11,7 +11,7 @@ returns-then-branch-clause-steps g c =
     let new = c.step.new.self in
     let before = sending_at old (g.I.Read.remaining c.args.reader.now) in
     let after = sending_at new (g.I.Read.remaining c.step.new.reader) in
-    step_ok before after c.in_ok-step.field-0 _ _ old.id c.in_ok-step.ensures.steps
+    step_ok before after c.in_ok-step.field-0 _ _ old.id _ _ (λ turn w active. c.step.ensures.poller) c.in_ok-step.ensures.steps
 
 pub returns-in-Ok-clause-steps : goal.returns-in-Ok-clause-steps
 returns-in-Ok-clause-steps g c =
@@ -20,8 +20,8 @@ returns-in-Ok-clause-steps g c =
     let waited = c.wait.new.self in
     let before = sending_at old (g.I.Read.remaining c.args.reader.now) in
     let after = sending_at new (g.I.Read.remaining c.step.new.reader) in
-    step_waited before new.station.clock waited.clock new.station.core waited.core _ _ _ _ _ _ _ _ old.id c.wait.ensures.clock c.wait.ensures.core
-    (step_ok before after c.in_ok-step.field-0 _ _ old.id c.in_ok-step.ensures.steps)
+    step_waited before new.station.clock waited.clock new.station.core waited.core _ _ _ _ _ _ _ _ old.id _ c.wait.ensures.clock c.wait.ensures.core
+    (step_ok before after c.in_ok-step.field-0 _ _ old.id _ _ (λ turn w active. absurd (not_true c.in_ok-step.field-0 c.if-step.false (w active))) c.in_ok-step.ensures.steps)
 
 pub returns-in-Err-clause-steps : goal.returns-in-Err-clause-steps
 returns-in-Err-clause-steps g c =
@@ -30,8 +30,8 @@ returns-in-Err-clause-steps g c =
     let waited = c.wait.new.self in
     let before = sending_at old (g.I.Read.remaining c.args.reader.now) in
     let after = sending_at new (g.I.Read.remaining c.step.new.reader) in
-    step_waited before new.station.clock waited.clock new.station.core waited.core _ _ _ _ _ _ _ _ old.id c.wait.ensures.clock c.wait.ensures.core
-    (step_unwaited before after c.in_ok-step.field-0 _ _ old.id c.in_ok-step.ensures.steps)
+    step_waited before new.station.clock waited.clock new.station.core waited.core _ _ _ _ _ _ _ _ old.id _ c.wait.ensures.clock c.wait.ensures.core
+    (step_unwaited before after c.in_ok-step.field-0 _ _ old.id _ _ (λ turn w active. absurd (not_true c.in_ok-step.field-0 c.if-step.false (w active))) c.in_ok-step.ensures.steps)
 
 pub returns-in_err-step-clause-steps : goal.returns-in_err-step-clause-steps
 returns-in_err-step-clause-steps g c =
@@ -40,7 +40,7 @@ returns-in_err-step-clause-steps g c =
     let before = sending_at old (g.I.Read.remaining c.args.reader.now) in
     let after = sending_at new (g.I.Read.remaining c.step.new.reader) in
     let p = err_from_is_err_and c.from_residual.result c.from_residual.ensures.1 in
-    rw (p.1, p.2) (step_err before after _ _ _ old.id c.in_err-step.ensures.steps)
+    rw (p.1, p.2) (step_err before after _ _ _ old.id _ _ (λ turn w active. c.step.ensures.poller) c.in_err-step.ensures.steps)
 
 pub returns-then-branch-clause-waits : goal.returns-then-branch-clause-waits
 returns-then-branch-clause-waits g c = inl (ap (λ r. r.asked) c.step.ensures.poller)
