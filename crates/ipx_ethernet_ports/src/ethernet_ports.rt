@@ -21,7 +21,7 @@ const FRAME_BUFFER: usize = 1536;
 /// others, the core gets what is for it, and its packets are sent in frames. There are as many
 /// ports as both the sockets and the switches are for.
 ///
-/// A failure to send to one remote is a lost frame, and keeps no other port from its turn. The
+/// A failure to send to one remote is a lost frame, and does not affect other ports. The
 /// sockets count it, and also count failures to receive.
 #[derive(Drop)]
 pub struct EthernetPorts<D: EndSockets + Drop> {

@@ -153,9 +153,10 @@ fn has_more(sessions: &[Session], own: Network, from: &Address, other: &Address)
     count_of_node(sessions, own, from) > count_of_node(sessions, own, other)
 }
 
-/// Whether a connection keeps another from being evicted for a request from an address. It was not
-/// heard from yet, and is of the node that asks or of another node than that connection. So a flood
-/// of requests evicts one connection each second, and protects none of the node that sends it.
+/// Whether a connection that has sent no data yet protects another from being evicted for a request.
+/// It does if it is of the node that asks, or of another node than that connection. So a flood of
+/// requests evicts at most one connection in 1.5 seconds, and protects none of the node that sends
+/// it.
 fn protects(own: Network, asker: &Address, session: &Session, other: &Session) -> bool
     ensures { result ≡ protects own asker.now session.now other.now }
 {
@@ -189,8 +190,8 @@ fn may_go_for(
         && !is_protected(own, sessions, asker, session)
 }
 
-/// Whether a connection goes before another: it may be evicted for the request, and its node has
-/// more connections, or as many and it was silent for longer.
+/// Whether a connection is evicted in preference to another: it may be evicted for the request, and
+/// its node has more connections, or as many and it was silent for longer.
 fn goes_before(
     own: Network,
     endpoint: &Endpoint,

@@ -47,7 +47,8 @@ impl Outlet {
         self.written == self.bytes.len()
     }
 
-    /// Puts in the bytes of a message. The bytes before must be written already, or they are lost.
+    /// Sets the bytes of the next message. The previous ones must be written already, or what
+    /// remains of them is lost.
     pub fn put(&mut self, bytes: Vec<u8>)
         ensures { left_of self.new ≡ bytes.items }
     {

@@ -1,5 +1,5 @@
-//! What an operator's host asks: routers of its network what they know, and a listener whether it
-//! is there.
+//! Queries of a host: to the routers of its network for networks and services, and pings of a
+//! listener.
 //!
 //! [`QueryCore`] is a core of `ipx_carrier`. It sends RIP requests for all networks, or SAP queries
 //! for the services of a type, and learns what the routers answer. [`PingCore`] sends requests for

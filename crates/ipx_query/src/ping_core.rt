@@ -19,7 +19,7 @@ use std::alloc::Global;
 /// The time between two requests, in milliseconds.
 const INTERVAL: u64 = 1000;
 
-/// How long the last request is waited for, in milliseconds.
+/// How long to wait for the answer to the last request, in milliseconds.
 const PING_TIMEOUT: u64 = 2000;
 
 /// A host that pings an SPX listener, over a device of one port. It sends requests for a

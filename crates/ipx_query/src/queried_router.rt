@@ -17,7 +17,7 @@ pub struct QueriedRouter {
     pub rounds: u8,
     /// Whether it answered.
     pub answered: bool,
-    /// Whether its answer came to its end: a packet that was not full.
+    /// Whether the last packet of its answer was received, which is one that is not full.
     pub ended: bool,
 }
 

@@ -10,15 +10,16 @@ use std::alloc::{AllocError, Global};
 /// What a router counted since it started.
 #[derive(Clone, Copy, PartialEq, Eq)]
 pub struct Metrics {
-    /// The datagrams that it processed, each of which has an outcome, and those that the system
-    /// took to be sent.
+    /// The datagrams that it processed, each of which has an outcome.
     pub heard: u64,
+    /// The datagrams that the system took to be sent.
     pub sent: u64,
     /// The outcomes of those that it processed.
     pub outcomes: OutcomeCounters,
-    /// The packets that found no room in its queue, and those that could not be sent to their node.
-    /// Such a node has no IP address, or no frame holds the packet, which `unframed` counts too.
+    /// The packets that found no room in its queue.
     pub queue_full: u64,
+    /// The packets that could not be sent to their node: it has no IP address, or no frame holds
+    /// the packet, which `unframed` counts too.
     pub unmapped: u64,
     /// The datagrams that were dropped on arrival.
     pub kept: FilterDrops,
@@ -30,19 +31,23 @@ pub struct Metrics {
     pub source_drops: SourceDrops,
     /// The datagrams that were to go to no peer, and were not sent.
     pub refused: u64,
-    /// The datagrams that came from no remote of an Ethernet port, and the packets that no frame
-    /// could carry. Last, the frames with a packet in an encapsulation other than their port's.
+    /// The datagrams at Ethernet ports that came from none of their remotes.
     pub frame_unknown_senders: u64,
+    /// The packets that no frame could carry.
     pub unframed: u64,
+    /// The frames with a packet in an encapsulation other than their port's.
     pub other_encapsulation: u64,
-    /// How often the system refused a datagram, memory, or the metrics file.
+    /// How often the system refused to send or to receive a datagram.
     pub device_faults: u64,
+    /// How often memory was refused.
     pub memory_faults: u64,
+    /// How often the metrics file could not be written.
     pub file_faults: u64,
     /// The packets that wait to be sent.
     pub queue: u64,
-    /// How many networks and services of others it knows.
+    /// How many networks of others it knows.
     pub routes: u64,
+    /// How many services of others it knows.
     pub services: u64,
     /// The seconds since it started.
     pub seconds: u64,

@@ -7,8 +7,8 @@ ghost use Rattle.ipx_site.specs.Moments.{HasPassed, IsReached};
 /// The longest that a router waits, in milliseconds.
 pub const LONGEST: u64 = 10_000;
 
-/// The time at which `period` has passed since something was done, or 0 if it never was. None if no
-/// clock can show that time.
+/// The time at which `period` has passed since something was done, or 0 if it never was. None if
+/// that time exceeds a u64.
 pub fn end_of(last: Option<u64>, period: u64) -> Option<u64>
     ensures { (t : ℕ) → t < 2 ^ 64 → IsReached result t ↔ HasPassed period last t }
 {

@@ -14,7 +14,8 @@ pub struct PortBuckets {
     pub nearest: TokenBucket,
     /// The directed broadcasts that leave by it. None means that they are not limited.
     pub directed: Option<TokenBucket>,
-    /// Whether what is for a group of nodes is one too: a switch floods it.
+    /// Whether a packet for a group of nodes also counts as a directed broadcast, since a switch
+    /// sends it to each remote.
     pub groups: bool,
 }
 

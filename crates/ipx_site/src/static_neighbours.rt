@@ -69,7 +69,7 @@ fn services_by(
         .collect(alloc)
 }
 
-/// A neighbour, and what it is to have advertised.
+/// A neighbour, and the static entries that count as its advertisements.
 fn silent_by(
     alloc: Global,
     entries: &[StaticEntry],
@@ -103,8 +103,8 @@ fn silent_by_each(
     Ok(silent)
 }
 
-/// The silent neighbours from which static entries are heard, each once, with all that it is to
-/// have advertised.
+/// The silent neighbours of the static entries, each once, with the entries that count as its
+/// advertisements.
 pub fn silent_of(alloc: Global, entries: &[StaticEntry]) -> Result<Vec<StaticNeighbour>, AllocError>
     ensures silent { IfOk result (λ v. AreSilent entries.now v.items) }
     // If the ports of the entries exist, so do those of the neighbours.

@@ -52,8 +52,8 @@ impl ThrottledLog {
         Some(more)
     }
 
-    /// The time from which on it is due, if it happened `count` times. None if no clock can show
-    /// that time.
+    /// When it is due, if it happened `count` times. None if it is not, or if that time exceeds a
+    /// u64.
     pub fn next(&self, count: u64) -> Option<u64>
         ensures next { MatchOption result ((t : ℕ) → t < 2 ^ 64 → IsDue self.now count t → ⊥)
             (λ m. (t : ℕ) → IsDue self.now count t ↔ (m ≤ t)) }

@@ -137,7 +137,7 @@ fn count_at(warnings: &[Warning], place: usize) -> u64
     }
 }
 
-/// The earliest time at which one of these is due; None if no clock can show it.
+/// The earliest time at which one of these is due; None if none is, or if it exceeds a u64.
 fn next_of(causes: &[ThrottledLog], warnings: &[Warning]) -> Option<u64>
     ensures { (t : ℕ) → t < 2 ^ 64
         → IsReached result t ↔ IsOneDue causes.now (counts_of warnings.now) t }
@@ -209,7 +209,7 @@ impl Warnings {
         self.causes[ENCAPSULATIONS].is_due(metrics.other_encapsulation, now)
     }
 
-    /// The earliest time at which one is due; None if no clock can show it.
+    /// The earliest time at which one is due; None if none is, or if it exceeds a u64.
     pub fn next(&self, metrics: &Metrics) -> Option<u64>
         ensures { (t : ℕ) → t < 2 ^ 64
             → IsReached result t ↔ IsLineDue self.now (happened_in metrics.now) t }

@@ -8,9 +8,9 @@ use ipx_metrics::LastDrop;
 use ipx_router::Port;
 use ipx_wire::{IpxHeader, Network, Node, Socket, decode, packet_type};
 
-/// A port of a router, and whether it is an Ethernet port. A station there has the address of one
-/// station. A player of an ipxnet port may have that of a group, since its node is an IP address
-/// and a UDP port.
+/// A port of a router, and whether it is an Ethernet port. There a source is never the address of a
+/// group. The node of a player of an ipxnet port can look like one, since it is an IP address and a
+/// UDP port.
 #[derive(Clone, Copy, PartialEq, Eq)]
 pub struct CheckedPort {
     pub port: Port,

@@ -2,8 +2,8 @@
 //!
 //! [`SourceChecked`] is a core of `ipx_carrier` over another one, such as a router's. It drops RIP
 //! and SAP that another router forwarded, RIP and SAP from a group or from zero at an Ethernet port,
-//! and packets for another network that claim to come from that same network. No honest router or
-//! host sends such a packet. A host that forges its source can have one forwarded.
+//! and packets for another network that claim to come from that same network. No conforming router
+//! or host sends such a packet. A host that forges its source can have one forwarded.
 #![tactic(auto)]
 
 mod drops;

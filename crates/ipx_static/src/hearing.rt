@@ -11,7 +11,7 @@ use ipx_router::Reply;
 use ipx_wire::OutOfMemory;
 use std::alloc::Global;
 
-/// After this many milliseconds the advertisements come again.
+/// The period of the advertisements of static entries, in milliseconds.
 const PERIOD: u64 = 60_000;
 
 /// Whether they are due: at first, and once a minute has passed since the last time.
@@ -24,7 +24,7 @@ pub fn is_time(said: Option<u64>, now: u64) -> bool
     }
 }
 
-/// The time from which on they are due.
+/// When they are due next.
 pub fn next_time(said: Option<u64>) -> Option<u64>
     ensures { IsNextAdvertisement said result }
 {

@@ -60,9 +60,9 @@ pub fn static_services_are_refreshed()
     sources_are_distinct();
 }
 
-/// If no table is full as a packet is first asked for, each static route stays an offer that
-/// counts. It stays even if tables fill up later. This holds while the router is asked each minute,
-/// and the neighbour itself advertises nothing of it.
+/// If no table is full when a packet is first requested, each static route remains a valid offer,
+/// even if tables fill up later. This holds while the router is asked for packets each minute, and
+/// the neighbour itself advertises nothing of it.
 pub fn static_routes_hold()
     ensures { StaticRoutesHold }
 {
@@ -71,7 +71,7 @@ pub fn static_routes_hold()
     sources_are_distinct();
 }
 
-/// Each static service stays one too.
+/// The same of each static service.
 pub fn static_services_hold()
     ensures { StaticServicesHold }
 {
@@ -80,8 +80,8 @@ pub fn static_services_hold()
     sources_are_distinct();
 }
 
-/// A router that counts receives static advertisements, and gives packets, as one that does not
-/// count by port.
+/// Counting by port changes neither which static advertisements a router receives nor which packets
+/// it gives.
 pub fn statics_are_counted_separately()
     ensures { StaticsAreCountedSeparately }
 {}

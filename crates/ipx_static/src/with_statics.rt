@@ -66,8 +66,8 @@ impl<C: Core + Drop> WithStatics<C> {
         &self.core
     }
 
-    /// The time, in milliseconds, from which on the core below receives the advertisements as it is
-    /// asked for a packet. None if no clock can show that time.
+    /// When the core below receives the static advertisements next, in milliseconds, if it is asked
+    /// for a packet then. None if that time exceeds a u64.
     ///
     /// If you wait for datagrams, wake by then, and ask for a packet.
     pub fn next_refresh(&self) -> Option<u64>
