@@ -45,7 +45,9 @@ pub fn is_nowhere(file: &HostConfig, to: Address) -> bool
 pub fn tell_nowhere<R: Eprint>(rt: &R, path: &str, node: Node) -> u8
     ensures { result ≡ 2 }
 {
-    let _ = eprintln!(rt; "{path}: node {node} has no IP address, so it is not on this network");
+    let _ = eprintln!(rt;
+        "node {node} names no IP address: on the network of {path} a node is 0000 and an IP address in hex"
+    );
     2
 }
 

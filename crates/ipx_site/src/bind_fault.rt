@@ -39,6 +39,7 @@ impl BindError {
     fn hint(&self) -> &'static str {
         match self.kind {
             ErrorKind::AddrNotAvailable => "; no interface of this machine has this address",
+            ErrorKind::AddrInUse => "; another program uses it, perhaps another ipx",
             ErrorKind::PermissionDenied if self.udp_port < 1024 => {
                 "; UDP ports below 1024 need root or CAP_NET_BIND_SERVICE"
             }

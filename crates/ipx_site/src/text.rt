@@ -71,6 +71,29 @@ fn is_of_file(name: &str) -> bool {
     matches!(name, "metrics_file" | "tables_file")
 }
 
+/// Which file a name is a key of, if it is a key of another one than was read: of a host in place of
+/// a router, or the other way round.
+fn other_file_of(name: &str) -> Option<&'static str> {
+    match name {
+        "metrics_file" | "tables_file" | "port" | "route" | "service" => {
+            Some("a router's file, and this command reads a host's file")
+        }
+        "network"
+        | "address"
+        | "router"
+        | "udp_port"
+        | "socket"
+        | "buffers"
+        | "peers"
+        | "routers"
+        | "allow"
+        | "accept" => Some(
+            "a table [[port]] or of a host's file, and not of a router's file itself",
+        ),
+        _ => None,
+    }
+}
+
 /// The valid values of a key of a route or a service. These name a port, and no network of the
 /// router itself.
 fn valid_statics(key: Key) -> &'static str {
@@ -92,6 +115,15 @@ fn right_in(table: usize, key: Key) -> &'static str {
         }
         (0, Key::Routers) => "a list of at most 256 IP addresses that are also in peers",
         _ => key.right(),
+    }
+}
+
+/// What a file may have in place of a key that is missing.
+fn instead_of(table: usize, key: Key) -> &'static str {
+    match (table, key) {
+        (1..=LAST_PORT, Key::Peers) =>
+            "; a port of kind \"ipxnet\" may have accept = \"any\" instead",
+        _ => "",
     }
 }
 
@@ -146,6 +178,11 @@ impl fmt::Display for ConfigError {
                 if *table > 0 && is_of_file(name.as_str()) {
                     return write!(f, "{name} must come before the first [[port]]");
                 }
+                if *table == 0 {
+                    if let Some(other) = other_file_of(name.as_str()) {
+                        return write!(f, "{name} is a key of {other}");
+                    }
+                }
                 let name = Escaped(name.as_bytes());
                 write!(f, "unknown key {name}: {}", keys_of(*table))
             }
@@ -160,7 +197,11 @@ impl fmt::Display for ConfigError {
             ConfigError::Missing(table, key) => {
                 write_place(f, *table)?;
                 let right = right_in(*table, *key);
-                write!(f, "{key} is missing: expected {right}")
+                write!(
+                    f,
+                    "{key} is missing: expected {right}{}",
+                    instead_of(*table, *key)
+                )
             }
             ConfigError::Wrong(table, key) => {
                 write_place(f, *table)?;

@@ -104,7 +104,7 @@ const PORTS: [(&str, &str); 13] = [
     ),
     (
         "",
-        "port 1: peers is missing: expected a list of IP addresses, such as [\"198.51.100.7\", \"203.0.113.9\"]",
+        "port 1: peers is missing: expected a list of IP addresses, such as [\"198.51.100.7\", \"203.0.113.9\"]; a port of kind \"ipxnet\" may have accept = \"any\" instead",
     ),
     (
         "peers = [\"10.1.0\"]",
@@ -148,7 +148,7 @@ const HOSTS: [(&str, &str); 3] = [
     ),
     (
         "port = 1",
-        "unknown key port: the keys of a router are metrics_file, tables_file, port, route and service; those of a host are network, address, router, udp_port, socket, buffers, peers, routers, allow and accept",
+        "port is a key of a router's file, and this command reads a host's file",
     ),
 ];
 

@@ -110,11 +110,11 @@ const PLAYERS: [(&str, &str); 21] = [
     ),
     (
         "",
-        "port 1: peers is missing: expected a list of IP addresses, such as [\"198.51.100.7\", \"203.0.113.9\"]",
+        "port 1: peers is missing: expected a list of IP addresses, such as [\"198.51.100.7\", \"203.0.113.9\"]; a port of kind \"ipxnet\" may have accept = \"any\" instead",
     ),
     (
         "accept = \"peers\"",
-        "port 1: peers is missing: expected a list of IP addresses, such as [\"198.51.100.7\", \"203.0.113.9\"]",
+        "port 1: peers is missing: expected a list of IP addresses, such as [\"198.51.100.7\", \"203.0.113.9\"]; a port of kind \"ipxnet\" may have accept = \"any\" instead",
     ),
     (
         "accept = \"any\"\npeers = 1",

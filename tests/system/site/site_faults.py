@@ -50,6 +50,8 @@ ROUTER = 'the IP address of a router, such as "10.1.0.1"'
 BUFFERS = "a number from 1 to 8192, such as 64"
 FROM = ('a list of at most 256 networks, each with or without a node after it, such as '
         '["00000022 00000a02001e", "00000033"]')
+INSTEAD = '; a port of kind "ipxnet" may have accept = "any" instead'
+OF_PORT = "a table [[port]] or of a host's file, and not of a router's file itself"
 FEW_PEERS = 'a list of at most 256 IP addresses, such as ["198.51.100.7", "203.0.113.9"]'
 ROUTERS = "a list of at most 256 IP addresses that are also in peers"
 ACCEPT = '"peers" or "any"'
@@ -89,7 +91,7 @@ ipx_address = "00000011 00000a010014 4002"
 """
 
 
-IN_USE = "Address already in use (os error 98)"
+IN_USE = "Address already in use (os error 98); another program uses it, perhaps another ipx"
 NOT_HERE = "Cannot assign requested address (os error 99); no interface of this machine has this address"
 CLOSED = "standard input, output or error is closed"
 FREE = "127.0.1.52", "127.0.1.53"
@@ -126,7 +128,8 @@ ROUTER_FILES = [
     ('metrics_file = "hq"\ntables_file = "hq"\n' + PORT, f"tables_file: expected {TABLES}"),
     ('metrics_file = "hq"\ntables_file = "hq.new"\n' + PORT, f"tables_file: expected {TABLES}"),
     ('metrics_file = "hq.new"\ntables_file = "hq"\n' + PORT, f"tables_file: expected {TABLES}"),
-    ("peers = []\n" + PORT, f"unknown key peers: {KEYS}"),
+    ("peers = []\n" + PORT, f"peers is a key of {OF_PORT}"),
+    ("peer = []\n" + PORT, f"unknown key peer: {KEYS}"),
     ('status = "a"\n' + PORT, "`status` is now `metrics_file`"),
     ('tables = "a"\n' + PORT, "`tables` is now `tables_file`"),
     (PORT + "ends = []\n", "port 1: `ends` is now `remotes`"),
@@ -139,7 +142,7 @@ ROUTER_FILES = [
     (PORT + '"a\\nb\\u001b" = 1\n', f"port 1: unknown key a.b.: {PORT_KEYS}"),
     (without(PORT, "network"), f"port 1: network is missing: expected {NETWORK}"),
     (without(PORT, "address"), f"port 1: address is missing: expected {ADDRESS}"),
-    (without(PORT, "peers"), f"port 1: peers is missing: expected {PEERS}"),
+    (without(PORT, "peers"), f"port 1: peers is missing: expected {PEERS}{INSTEAD}"),
     (changed(PORT, "network", '"00000000"'), f"port 1: network: expected {NETWORK}"),
     (changed(PORT, "network", '"ffffffff"'), f"port 1: network: expected {NETWORK}"),
     (changed(PORT, "network", '"11"'), f"port 1: network: expected {NETWORK}"),
@@ -165,7 +168,7 @@ ROUTER_FILES = [
     (PORT + "kind = \"dosbox\"\npeer = []\n", f"port 1: kind: expected {KIND}"),
     (PORT + "kind = 1\n", f"port 1: kind: expected {KIND}"),
     (PORT + "switch = true\n", f'port 1: switch is not a key of kind "rfc1234": {RFC1234_KEYS}'),
-    (PLAYERS, f"port 1: peers is missing: expected {PEERS}"),
+    (PLAYERS, f"port 1: peers is missing: expected {PEERS}{INSTEAD}"),
     (PLAYERS + 'accept = "any"\nclients = 151\n', "port 1: clients: expected a number from 1 to 150, such as 64"),
     (PLAYERS + 'accept = "any"\nrouters = []\n', f'port 1: routers is not a key of kind "ipxnet": {IPXNET_KEYS}'),
     (PORT + "kind = \"rfc1234\"\nremotes = []\n", f'port 1: remotes is not a key of kind "rfc1234": {RFC1234_KEYS}'),
@@ -290,7 +293,7 @@ HOST_FILES = [
     (HOST + "routers = 1\nallow = 1\n", f"routers: expected {ROUTERS}"),
     (HOST + "allow = 1\naccept = 1\n", f"allow: expected {FROM}"),
     (HOST + "from = []\n", "`from` is now `allow`"),
-    (HOST + "metrics_file = \"a\"\n", f"unknown key metrics_file: {KEYS}"),
+    (HOST + "metrics_file = \"a\"\n", "metrics_file is a key of a router's file, and this command reads a host's file"),
 ]
 
 

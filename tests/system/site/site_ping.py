@@ -159,7 +159,7 @@ def check_places(sites):
 def check_nowhere(sites):
     """What no IP address has, nothing can be sent to on the host's own network, which 0 is too."""
     file = sites.world.path("pinger.toml")
-    wanted = [f"{file}: node 020000000022 has no IP address, so it is not on this network"]
+    wanted = [f"node 020000000022 names no IP address: on the network of {file} a node is 0000 and an IP address in hex"]
     for command, network in ((command, network) for command in ("ping", "send") for network in (NEAR, "00000000")):
         process = sites.world.start(f"nowhere-{command}", command, file, network, "020000000022", "4002")
         status = process.status(3)
