@@ -14,7 +14,7 @@ use Rattle.ipx_site.specs.declared.ipxnet_port.IpxnetPortConfig.{IpxnetPortConfi
 use Rattle.ipx_site.specs.declared.site.Kind.TheVariants as Of
 use Rattle.ipx_site.specs.Fields.{Holds, HoldsOr, IsFault, IsMissing, IsRight, IsRightOr, IsStray, IsWrong}
 use Rattle.ipx_site.specs.Keys.{first_unknown, ipxnet_keys, key_text}
-use Rattle.ipx_site.specs.Values.{AreAddressesOf, IsAccept, IsCount, IsDirected, IsIpAddress, IsNetwork}
+use Rattle.ipx_site.specs.Values.{AreAddressesOf, IsAccept, IsAnyOrAddress, IsCount, IsDirected, IsNetwork}
 use Rattle.ipx_site.specs.EthernetValues.{AreEthernetEnds, IsStation, are_places_distinct, made_station}
 
 -- the peers that may register; the key is required unless everybody may register
@@ -41,7 +41,7 @@ IsJoinFault ms table f = IsWrong AreEthernetEnds Key.Join ms table f
 pub record IsIpxnetTable (ms : Members) (p : IpxnetPortConfig) : Type 0 where
   pub known : first_unknown ipxnet_keys ms ≡ None
   pub network : Holds IsNetwork Key.Network ms p.network
-  pub address : Holds IsIpAddress Key.Address ms p.address
+  pub address : Holds IsAnyOrAddress Key.Address ms p.address
   pub udp_port : Holds (IsCount 65535) Key.UdpPort ms p.udp_port
   pub cost : HoldsOr (IsCount 65535) Key.Cost ms 1 p.cost
   pub node : HoldsOr IsStation Key.Node ms (made_station p.address p.udp_port) p.node
@@ -69,8 +69,8 @@ abbrev pub IsIpxnetFault : ℕ → Members → ConfigError → Type 0
 IsIpxnetFault table ms f =
     IsStray Of.Ipxnet ms table f
     ⊎ ((first_unknown ipxnet_keys ms ≡ None) × (IsFault IsNetwork Key.Network ms table f
-    ⊎ (IsRight IsNetwork Key.Network ms × (IsFault IsIpAddress Key.Address ms table f
-    ⊎ (IsRight IsIpAddress Key.Address ms × (IsFault (IsCount 65535) Key.UdpPort ms table f
+    ⊎ (IsRight IsNetwork Key.Network ms × (IsFault IsAnyOrAddress Key.Address ms table f
+    ⊎ (IsRight IsAnyOrAddress Key.Address ms × (IsFault (IsCount 65535) Key.UdpPort ms table f
     ⊎ (IsRight (IsCount 65535) Key.UdpPort ms × (IsWrong (IsCount 65535) Key.Cost ms table f
     ⊎ (IsRightOr (IsCount 65535) Key.Cost ms × (IsWrong IsStation Key.Node ms table f
     ⊎ (IsRightOr IsStation Key.Node ms × IsClientsFault ms table f)))))))))))

@@ -1,5 +1,5 @@
 -- What the value of a key gives: the number of a network, an address, and so on.
-use Rattle.std.specs.Prelude.{String, Vec, string_bytes, ◌≡◌, ◌≢◌, ⊤, ℕ, suc, ◌==◌, ◌≤◌, pos, Bool, true, not, ◌&&◌, List, [], ◌∷◌, ◌++◌, length, Option, Some, codes, MatchOption}
+use Rattle.std.specs.Prelude.{String, Vec, string_bytes, ◌≡◌, ◌≢◌, ⊤, ℕ, suc, ◌==◌, ◌≤◌, pos, Bool, true, not, ◌&&◌, ◌⊎◌, List, [], ◌∷◌, ◌++◌, length, Option, Some, codes, MatchOption}
 use Rattle.std.specs.Global.{Global}
 use Rattle.std.specs.List.{list_all, list_any}
 use Rattle.std.specs.Net.Grammar.{IsDotted}
@@ -34,6 +34,10 @@ IsSocket d s = (text : List ℕ) × (as_str d ≡ Some text) × (spelled_socket 
 abbrev pub IsIpAddress : Data → List ℕ → Type 0
 IsIpAddress d ip = (text : List ℕ) × (as_str d ≡ Some text) × IsDotted text ip
     × (text ≢ codes "0.0.0.0")
+
+-- such a string, or the word any, which is each address of this machine
+abbrev pub IsAnyOrAddress : Data → List ℕ → Type 0
+IsAnyOrAddress d ip = ((as_str d ≡ Some (codes "any")) × (ip ≡ 0 ∷ 0 ∷ 0 ∷ 0 ∷ [])) ⊎ IsIpAddress d ip
 
 -- an integer from 1 to `most`
 abbrev pub IsCount : ℕ → Data → ℕ → Type 0

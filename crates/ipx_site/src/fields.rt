@@ -7,7 +7,7 @@ ghost use Rattle.toml.specs.View.{table_view, view};
 ghost use Rattle.ipx_site.specs.Keys.{first_unknown, key_text, keys_of_kind};
 ghost use Rattle.ipx_site.specs.Neighbours.{AreAmong, AreNeighbours};
 ghost use Rattle.ipx_site.specs.AllowedPeers.{AreOrigins};
-ghost use Rattle.ipx_site.specs.Values.{AreAddressesOf, AreRouterPeers, IsAccept, IsIpAddress, IsCount, IsDirected, IsKind, IsNetwork, IsSocket, IsFileName, IsOtherFileName};
+ghost use Rattle.ipx_site.specs.Values.{AreAddressesOf, AreRouterPeers, IsAccept, IsAnyOrAddress, IsIpAddress, IsCount, IsDirected, IsKind, IsNetwork, IsSocket, IsFileName, IsOtherFileName};
 ghost use Rattle.ipx_site.specs.Fields.{Gives, GivesIf, GivesOr, Holds, HoldsOr, IsMissing, IsStray, IsStrayName, IsUnknown, IsWrong};
 
 use crate::allowed_peer::{AllowedPeer, origins_of};
@@ -16,8 +16,8 @@ use crate::key::{Key, is_key, key_in, keys_of_kind, keys_of_other_kinds};
 use crate::neighbours::{among, neighbours_of};
 use crate::site::{Accept, Directed, Kind};
 use crate::values::{
-    accept_of, are_distinct, count_of, directed_of, file_name_of, kind_of, parse_ip_address,
-    parse_network, parse_peers, parse_socket, routers_of,
+    accept_of, any_or_address_of, are_distinct, count_of, directed_of, file_name_of, kind_of,
+    parse_ip_address, parse_network, parse_peers, parse_socket, routers_of,
 };
 use ipx_wire::{Network, OutOfMemory, Socket};
 use std::alloc::Global;
@@ -124,6 +124,16 @@ pub fn address_in(table: &Table, number: usize, key: Key) -> Result<[u8; 4], Con
     match parse_ip_address(required(table, number, key)?) {
         Some(ip) => Ok(ip),
         None => Err(ConfigError::Wrong(number, key)),
+    }
+}
+
+/// The IP address to bind, or each address of this machine.
+pub fn any_or_address_in(table: &Table, number: usize) -> Result<[u8; 4], ConfigError>
+    ensures { Gives IsAnyOrAddress Key.Address (table_view table.now) number result }
+{
+    match any_or_address_of(required(table, number, Key::Address)?) {
+        Some(ip) => Ok(ip),
+        None => Err(ConfigError::Wrong(number, Key::Address)),
     }
 }
 

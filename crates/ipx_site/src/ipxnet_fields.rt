@@ -8,7 +8,9 @@ ghost use Rattle.ipx_site.specs.EthernetValues.{are_places_distinct};
 use crate::ethernet_fields::{required_count_in, station_in};
 use crate::ethernet_values::{ends_of, station_at};
 use crate::fault::ConfigError;
-use crate::fields::{accept_in, address_in, count_in, directed_in, held, network_in, refuse_stray};
+use crate::fields::{
+    accept_in, any_or_address_in, count_in, directed_in, held, network_in, refuse_stray,
+};
 use crate::ipxnet_port::IpxnetPortConfig;
 use crate::key::Key;
 use crate::site::{Accept, Kind};
@@ -93,7 +95,7 @@ pub fn ipxnet_port_in(
 {
     refuse_stray(alloc, table, number, Kind::Ipxnet)?;
     let network = network_in(table, number)?;
-    let address = address_in(table, number, Key::Address)?;
+    let address = any_or_address_in(table, number)?;
     let udp_port = required_count_in(table, number, Key::UdpPort, 65535)?;
     let cost = count_in(table, number, Key::Cost, 65535, 1)?;
     let made = station_at(address, udp_port);

@@ -110,6 +110,9 @@ fn right_in(table: usize, key: Key) -> &'static str {
         return valid_statics(key);
     }
     match (table, key) {
+        (1..=LAST_PORT, Key::Address) => {
+            "an IP address of this machine, such as \"192.0.2.10\", or for kind \"ipxnet\" also \"any\""
+        }
         (0, Key::Peers) => {
             "a list of at most 256 IP addresses, such as [\"198.51.100.7\", \"203.0.113.9\"]"
         }

@@ -3,7 +3,7 @@
 ghost use Rattle.std.specs.Prelude.{◌≡◌, ◌↔◌, IfOk, IsTrue};
 ghost use Rattle.std.specs.List.{list_all};
 ghost use Rattle.toml.specs.View.{items_view, view};
-ghost use Rattle.ipx_site.specs.Values.{AreDistinctFiles, AreAddresses, AreAddressesOf, AreRouterPeers, IsAccept, IsIpAddress, IsCount, IsDirected, IsKind, IsNetwork, IsSocket, IsFileName, ReadsAddresses, ReadsNetwork, can_name_file, temporary_name};
+ghost use Rattle.ipx_site.specs.Values.{AreDistinctFiles, AreAddresses, AreAddressesOf, AreRouterPeers, IsAccept, IsAnyOrAddress, IsIpAddress, IsCount, IsDirected, IsKind, IsNetwork, IsSocket, IsFileName, ReadsAddresses, ReadsNetwork, can_name_file, temporary_name};
 ghost use Rattle.ipx_site.specs.Fields.{Reads};
 ghost use Rattle.ipx_site.specs.SourceFilter.{is_peer};
 
@@ -44,6 +44,16 @@ pub fn parse_ip_address(value: &Value) -> Option<[u8; 4]>
         Ok(ip) => Some(ip.octets()),
         Err(_) => None,
     }
+}
+
+/// The IP address to bind that a value gives. `any` is 0.0.0.0, each address of this machine.
+pub fn any_or_address_of(value: &Value) -> Option<[u8; 4]>
+    ensures { Reads IsAnyOrAddress (view value.now) result }
+{
+    if value.as_str()? == "any" {
+        return Some([0; 4]);
+    }
+    parse_ip_address(value)
 }
 
 /// A number from 1 to `most`.
