@@ -14,6 +14,7 @@ pub mod Stepped
 pub mod Counting
 pub mod ReadySet
 pub mod OutcomeCounters
+pub mod SocketEvents
 pub mod Traces
 pub mod RouterQueues
 pub mod RouterCore

@@ -1,8 +1,9 @@
 -- Marks of the ports of a device, numbered from 0. At a marked port something may wait; at another nothing
 -- does. Defined by this project.
-use Rattle.std.specs.Prelude.{◌≡◌, ◌⊎◌, ◌<◌, ◌+◌, ◌==◌, ◌||◌, ℕ, Bool, true, false, if◌then◌else◌, List, length, slice_index_or, slice_set}
+use Rattle.std.specs.Prelude.{◌≡◌, ◌<◌, ◌==◌, ◌||◌, ℕ, Bool, true, false, if◌then◌else◌, List, Some, None, Ok, Err, length, slice_index_or, slice_set}
 use Rattle.std.specs.List.{list_any}
-use Rattle.ipx_carrier.specs.Counting.{counted, raised}
+use Rattle.ipx_carrier.specs.Counting.{raised}
+use Rattle.ipx_carrier.specs.Traces.{Got}
 
 -- a port is marked
 abbrev pub is_port_marked : List Bool → ℕ → Bool
@@ -18,18 +19,17 @@ AreMarked numbers old new = (length new ≡ length old)
     × ((port : ℕ) → port < length old
     → is_port_marked new port ≡ (is_port_marked old port || list_any (λ n. n == port) numbers))
 
--- so many tries at a port failed, and how they ended. Before the eighth failed, something came, or nothing
--- waited and the mark is cleared. Or eight failed, and the mark stays
-abbrev pub EndsTries : ℕ → Bool → ℕ → List Bool → List Bool → Type 0
-EndsTries port true failed old new = (failed < 8) × (new ≡ old)
-EndsTries port false failed old new = ((failed < 8) × (new ≡ slice_set old port false))
-    ⊎ ((failed ≡ 8) × (new ≡ old))
+-- the marks after a port was asked: its own is cleared if nothing waits, and else all stay
+abbrev pub marks_after : ℕ → Got → List Bool → List Bool
+marks_after port (Ok None) marks = slice_set marks port false
+marks_after port (Ok (Some came)) marks = marks
+marks_after port (Err _) marks = marks
 
--- how a marked port is asked, and whether something came. Failed tries are counted. The marks of other ports
--- stay
-abbrev pub AsksMarked : ℕ → Bool → List Bool → List Bool → ℕ → ℕ → Type 0
-AsksMarked port came old new faults faults_after = (failed : ℕ)
-    × (faults_after ≡ counted (faults + failed)) × EndsTries port came failed old new
+-- something came
+abbrev pub is_come : Got → Bool
+is_come (Ok (Some came)) = true
+is_come (Ok None) = false
+is_come (Err _) = false
 
 -- whether something came to a port that filters: it is returned, or else counted as filtered. If nothing came
 -- it is neither

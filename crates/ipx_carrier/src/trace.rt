@@ -1,17 +1,17 @@
-//! Datagrams that only proofs read.
+//! What sockets were asked, which only proofs read.
 
-ghost use Rattle.std.specs.Prelude.{◌≡◌, ℕ, List, [], ◌∷◌, ◌++◌};
+ghost use Rattle.std.specs.Prelude.{◌≡◌, List, [], ◌∷◌, ◌++◌};
 ghost use Rattle.std.specs.Borrow.{ftrue};
-ghost use Rattle.std.specs.declared.net.socket_addr.SocketAddr.{SocketAddr};
+ghost use Rattle.ipx_carrier.specs.SocketEvents.{SocketEvent, Received, FoundNothing, ReceiveFailed, Sent, SendRefused};
 
 use std::marker::Model;
 use std::net::SocketAddr;
 
-/// Datagrams in order: of each the socket address of the other side, and its bytes. Only proofs
-/// read it. It takes no memory, and its functions do nothing when the program runs.
+/// What a socket was asked, in order, and what came of it. Only proofs read it. It takes no memory,
+/// and its functions do nothing when the program runs.
 #[derive(Drop)]
 pub struct Trace {
-    pub ghost items: { List (SocketAddr × List ℕ) },
+    pub ghost items: { List SocketEvent },
 }
 
 impl Model for Trace {
@@ -19,15 +19,35 @@ impl Model for Trace {
 }
 
 impl Trace {
-    /// No datagram.
+    /// Nothing was asked.
     pub(crate) fn new() -> Trace
         ensures { result.items ≡ [] }
     {
         Trace {}
     }
 
-    /// Adds a datagram.
-    pub(crate) fn note(&mut self, _other: &SocketAddr, _bytes: &[u8])
-        ensures { self.new.items ≡ self.old.items ++ (_other.now, _bytes.now) ∷ [] }
+    /// Adds that a datagram came.
+    pub(crate) fn note_received(&mut self, _from: &SocketAddr, _bytes: &[u8])
+        ensures { self.new.items ≡ self.old.items ++ Received _from.now _bytes.now ∷ [] }
+    {}
+
+    /// Adds that nothing waited.
+    pub(crate) fn note_nothing(&mut self)
+        ensures { self.new.items ≡ self.old.items ++ FoundNothing ∷ [] }
+    {}
+
+    /// Adds that the system failed to receive.
+    pub(crate) fn note_failed(&mut self)
+        ensures { self.new.items ≡ self.old.items ++ ReceiveFailed ∷ [] }
+    {}
+
+    /// Adds that a datagram was sent.
+    pub(crate) fn note_sent(&mut self, _to: &SocketAddr, _bytes: &[u8])
+        ensures { self.new.items ≡ self.old.items ++ Sent _to.now _bytes.now ∷ [] }
+    {}
+
+    /// Adds that the system refused to send a datagram.
+    pub(crate) fn note_refused(&mut self, _to: &SocketAddr, _bytes: &[u8])
+        ensures { self.new.items ≡ self.old.items ++ SendRefused _to.now _bytes.now ∷ [] }
     {}
 }

@@ -1,8 +1,8 @@
 //! Datagrams over UDP (RFC 1234, Tunneling IPX Traffic through IP Networks).
 
 ghost use Rattle.ipx_carrier.specs.RunFaultNumbers.{device_failures};
-ghost use Rattle.ipx_carrier.specs.Traces.{SendsTo, v4_at};
-ghost use Rattle.std.specs.Prelude.{◌≡◌, ◌<◌, ◌+◌, ◌^◌, IfOk, OnErr, OnOk, length, map};
+ghost use Rattle.ipx_carrier.specs.Traces.{AsksOnce, RefusesTo, SendsTo, v4_at};
+ghost use Rattle.std.specs.Prelude.{◌≡◌, ◌<◌, ◌≤◌, ◌+◌, ◌^◌, IfOk, IfSome, OnErr, OnOk, length, map};
 
 use crate::datagrams::Datagrams;
 use crate::fault::DeviceFault;
@@ -91,7 +91,8 @@ impl Datagrams for UdpDatagrams {
         requires countable { self.old.failures + 1 < 2 ^ 64 }
         ensures to { OnOk result (SendsTo port (v4_at to self.old.port) bytes.now
             self.old.sockets.items self.new.sockets.items) }
-        ensures nowhere { OnErr result (self.new.sockets.items ≡ self.old.sockets.items) }
+        ensures nowhere { OnErr result (RefusesTo port (v4_at to self.old.port) bytes.now
+            self.old.sockets.items self.new.sockets.items) }
         ensures failures { self.new.failures ≡ device_failures result self.old.failures }
         ensures ports { length self.new.sockets.items ≡ length self.old.sockets.items }
     {
@@ -103,7 +104,15 @@ impl Datagrams for UdpDatagrams {
         Ok(())
     }
 
-    fn receive(&mut self, port: usize, room: &mut [u8]) -> Result<Option<usize>, DeviceFault> {
+    fn receive(&mut self, port: usize, room: &mut [u8]) -> Result<Option<usize>, DeviceFault>
+        requires there { port < length self.old.sockets.items }
+        requires countable { self.old.failures + 1 < 2 ^ 64 }
+        // The port's socket was asked once, and this came of it.
+        ensures asks { AsksOnce port result room.new self.old.sockets.items self.new.sockets.items }
+        ensures within { IfOk result (λ count. IfSome count (λ n. n ≤ length room.old)) }
+        ensures failures { self.new.failures ≡ device_failures result self.old.failures }
+        ensures ports { length self.new.sockets.items ≡ length self.old.sockets.items }
+    {
         match self.sockets[port].receive(room) {
             Ok(came) => Ok(came.map(|(count, _)| count)),
             Err(_) => {

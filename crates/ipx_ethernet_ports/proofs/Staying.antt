@@ -1,13 +1,18 @@
--- What stays of the sockets as one of them sends or receives, and what one of them receives.
-use Rattle.std.proofs.Common.{Vec, ◌≡◌, ℕ, List, Option, Some, None, length, ap, refl, subst, sym, ◌∙◌, slice_index_or, slice_set}
+-- What stays of the sockets as one of them sends or receives, and what came of asking one of them.
+use Rattle.std.proofs.Common.{Vec, ◌≡◌, ℕ, Bool, false, List, Option, Some, None, Result, Ok, Err, length, ap, refl, subst, sym, ◌∙◌, slice_index_or, slice_set}
 use Rattle.std.proofs.Math.Seq.{map-set_same}
 use Rattle.std.proofs.lemmas.Option.{get_or_from_slice_get}
-use Rattle.std.specs.Prelude.{IfSome, slice_get}
+use Rattle.std.specs.Prelude.{IfSome, OnOk, is_err, slice_get}
+use Rattle.std.specs.Option.{option_map}
 use Rattle.std.specs.Global.{Global}
-use Rattle.std.specs.declared.net.socket_addr.SocketAddr.{SocketAddr}
 use Rattle.std.specs.declared.net.socket_addr.SocketAddrV4.{SocketAddrV4}
-use Rattle.ipx_carrier.specs.Traces.{received_from}
-use Rattle.ipx_ethernet_ports.specs.EthernetAddresses.{ReceivesFrame, end_at_place, remote_counts}
+use Rattle.ipx_carrier.specs.declared.fault.DeviceFault.{DeviceFault}
+use Rattle.ipx_carrier.specs.declared.placed_socket.PlacedSocket.{PlacedSocket}
+use Rattle.ipx_carrier.specs.Counting.{raised}
+use Rattle.ipx_carrier.specs.ReadySet.{IsFilteredOrAnswer, is_come, marks_after}
+use Rattle.ipx_carrier.specs.Traces.{Got, TriesToReceive, sent_to}
+use Rattle.ipx_ethernet_ports.specs.EthernetAddresses.{AsksForFrame, SendsFrame, end_at_place, frame_handed, remote_counts, with_remote}
+use Rattle.ipx_ethernet_ports.specs.declared.end_sockets.FrameCame.{FrameCame}
 use Rattle.ipx_ethernet_ports.specs.declared.sockets.EthernetSocket.{EthernetSocket}
 
 -- a socket that keeps its remotes takes the place of one: each port has as many as before
@@ -17,21 +22,64 @@ counts_stay ethernet port w after there same =
     map-set_same (λ (s : EthernetSocket). length s.ends.items) ethernet port after w
     (ap (λ (ends : Vec SocketAddrV4 Global). length ends.items) same ∙ ap (λ (s : EthernetSocket). length s.ends.items) there)
 
--- what holds of the value of an option holds of a value that it is known to have
-pub of_value : {X : Type 0} (P : X → Type 0) (found : Option X) (x : X) → found ≡ Some x → IfSome found P → P x
-of_value {X = X} P found x is p = subst (λ (o : Option X). IfSome o P) is p
-
 -- what holds of a socket holds of the one at its port
 at_port : (P : EthernetSocket → Type 0) (found : Option EthernetSocket) (w : EthernetSocket) → ((v : EthernetSocket) → found ≡ Some v → v ≡ w)
     → P w → IfSome found P
 at_port P None w same p = tt
 at_port P (Some v) w same p = subst P (sym (same v refl)) p
 
--- the socket of a port, found in a list that is the old one, received a datagram
-pub receives : (old ethernet : List EthernetSocket) (port : ℕ) (w after : EthernetSocket) (from : SocketAddr) (bytes : List ℕ) (end : Option ℕ)
-    → ethernet ≡ old → w ≡ slice_index_or ethernet port w → after ≡ record w { socket = received_from w.socket from bytes }
-    → end_at_place from w.ends.items ≡ end → ReceivesFrame port bytes end old (slice_set ethernet port after)
-receives old ethernet port w after from bytes end same there is found =
-    at_port _ (slice_get old port) w
-    (λ v e. sym (there ∙ ap (λ (l : List EthernetSocket). slice_index_or l port w) same ∙ get_or_from_slice_get old port v w e))
-    (from, ap (λ (l : List EthernetSocket). slice_set l port after) same ∙ ap (slice_set old port) is, found)
+-- the socket of a port was asked
+pub asks_there : (ethernet : List EthernetSocket) (port : ℕ) (w wire : EthernetSocket) (after : PlacedSocket) (got : Got) (room : List ℕ) (answer : Option FrameCame) (faults more : ℕ)
+    → w ≡ slice_index_or ethernet port w → TriesToReceive got room w.socket after faults more → wire ≡ record w { socket = after }
+    → answer ≡ frame_handed w.ends.items got → AsksForFrame port got room answer ethernet (slice_set ethernet port wire) faults more
+asks_there ethernet port w wire after got room answer faults more there tries is handed =
+    at_port _ (slice_get ethernet port) w (λ v e. sym (there ∙ get_or_from_slice_get ethernet port v w e)) (after, tries, ap (slice_set ethernet port) is, handed)
+
+-- what holds of a value of an option implies what else holds of it
+weaker : {X : Type 0} (P Q : X → Type 0) (found : Option X) → ((x : X) → P x → Q x) → IfSome found P → IfSome found Q
+weaker P Q None h p = tt
+weaker P Q (Some x) h p = h x p
+
+-- what holds after a call that did not fail
+pub not_failed : {T E P : Type 0} (r : Result T E) → is_err r ≡ false → OnOk r P → P
+not_failed (Ok t) e p = p
+not_failed (Err f) e p = absurd (cc)
+
+-- the socket of a port sent a frame
+pub sends_there : (ethernet : List EthernetSocket) (port end : ℕ) (bytes : List ℕ) (w wire : EthernetSocket) → w ≡ slice_index_or ethernet port w
+    → IfSome (slice_get w.ends.items end) (λ to. wire ≡ record w { socket = sent_to w.socket to bytes }) → SendsFrame port end bytes ethernet (slice_set ethernet port wire)
+sends_there ethernet port end bytes w wire there sent =
+    at_port _ (slice_get ethernet port) w (λ v e. sym (there ∙ get_or_from_slice_get ethernet port v w e))
+    (weaker (λ (to : SocketAddrV4). wire ≡ record w { socket = sent_to w.socket to bytes }) (λ (to : SocketAddrV4). slice_set ethernet port wire ≡ slice_set ethernet port (record w { socket = sent_to w.socket to bytes })) (slice_get w.ends.items end)
+    (λ to is. ap (slice_set ethernet port) is) sent)
+
+abbrev frame : ℕ → ℕ → FrameCame
+frame end size = record { end = end; size = size }
+
+abbrev remote_in : Result (Option (ℕ × Option ℕ)) DeviceFault → Option ℕ
+remote_in (Ok (Some came)) = came.1
+remote_in (Ok None) = None
+remote_in (Err f) = None
+
+-- what is handed over, and what becomes of the mark, if an unknown sender sent what came
+pub of_unknown : (port : ℕ) (ends : List SocketAddrV4) (marks : List Bool) (unknown more size : ℕ) (got : Got) → with_remote ends got ≡ Ok (Some (size, None)) → more ≡ raised unknown
+    → (None ≡ frame_handed ends got) × (marks ≡ marks_after port got marks) × IsFilteredOrAnswer (is_come got) false unknown more
+of_unknown port ends marks unknown more size (Ok (Some came)) e counted =
+    let from : end_at_place came.1 ends ≡ None = ap remote_in e in
+    (sym (ap (option_map (λ (end : ℕ). frame end came.0)) from), refl, counted)
+of_unknown port ends marks unknown more size (Ok None) e counted = absurd (cc)
+of_unknown port ends marks unknown more size (Err f) e counted = absurd (cc)
+
+-- the same, if nothing waits
+pub of_nothing : (port : ℕ) (ends : List SocketAddrV4) (marks after : List Bool) (unknown : ℕ) (got : Got) → with_remote ends got ≡ Ok None → after ≡ slice_set marks port false
+    → (None ≡ frame_handed ends got) × (after ≡ marks_after port got marks) × IsFilteredOrAnswer (is_come got) false unknown unknown
+of_nothing port ends marks after unknown (Ok (Some came)) e cleared = absurd (cc)
+of_nothing port ends marks after unknown (Ok None) e cleared = (refl, cleared, (refl, refl))
+of_nothing port ends marks after unknown (Err f) e cleared = absurd (cc)
+
+-- the same, if the system failed at each try
+pub of_failing : (port : ℕ) (ends : List SocketAddrV4) (marks : List Bool) (unknown : ℕ) (got : Got) (fault : DeviceFault) → with_remote ends got ≡ Err fault
+    → (None ≡ frame_handed ends got) × (marks ≡ marks_after port got marks) × IsFilteredOrAnswer (is_come got) false unknown unknown
+of_failing port ends marks unknown (Ok (Some came)) fault e = absurd (cc)
+of_failing port ends marks unknown (Ok None) fault e = absurd (cc)
+of_failing port ends marks unknown (Err f) fault e = (refl, refl, (refl, refl))

@@ -1,13 +1,16 @@
 -- To which remote a UDP datagram goes, and from which one it comes. Defined by this project: a datagram over
 -- IPv6 comes from none.
-use Rattle.std.specs.Prelude.{◌≡◌, ℕ, List, Bool, true, false, ◌==◌, ◌&&◌, Option, Some, None, IfSome, ⊤, length, map, position, slice_get, slice_set, take}
+use Rattle.std.specs.Prelude.{◌≡◌, ℕ, ℤ, List, Bool, true, false, ◌==◌, ◌&&◌, Option, Some, None, Result, Ok, Err, IfSome, length, map, position, slice_get, slice_set}
+use Rattle.std.specs.Option.{option_map}
 use Rattle.std.specs.Str.{bytes_eq}
 use Rattle.std.specs.Net.Addr.{ipv4_octets}
 use Rattle.std.specs.Net.Socket.{v4_ip, v4_port}
 use Rattle.std.specs.declared.net.socket_addr.SocketAddr.{SocketAddr}
 use Rattle.std.specs.declared.net.socket_addr.SocketAddr.TheVariants.{V4, V6}
 use Rattle.std.specs.declared.net.socket_addr.SocketAddrV4.{SocketAddrV4}
-use Rattle.ipx_carrier.specs.Traces.{received_from, sent_to}
+use Rattle.ipx_carrier.specs.declared.fault.DeviceFault.{DeviceFault}
+use Rattle.ipx_carrier.specs.declared.placed_socket.PlacedSocket.{PlacedSocket}
+use Rattle.ipx_carrier.specs.Traces.{Got, TriesToReceive, raw_fd_of, refused_to, sent_to}
 use Rattle.ipx_ethernet_ports.specs.declared.end_sockets.FrameCame.{FrameCame}
 use Rattle.ipx_ethernet_ports.specs.declared.sockets.EthernetSocket.{EthernetSocket}
 
@@ -32,18 +35,38 @@ remote_places ethernet = map (λ w. w.ends.items) ethernet
 abbrev pub bound_places : List EthernetSocket → List SocketAddrV4
 bound_places ethernet = map (λ w. w.socket.at) ethernet
 
--- the socket of this port sent these bytes to the address of this remote; no other changed
+-- the descriptor of the socket of each
+abbrev pub ethernet_fds : List EthernetSocket → List ℤ
+ethernet_fds ethernet = map (λ w. raw_fd_of w.socket) ethernet
+
+-- the socket of this port sent these bytes to the address of this remote, or the system refused them; no other
+-- changed
 abbrev pub SendsFrame : ℕ → ℕ → List ℕ → List EthernetSocket → List EthernetSocket → Type 0
 SendsFrame port end bytes old new = IfSome (slice_get old port) (λ w. IfSome (slice_get w.ends.items end) (λ to.
     new ≡ slice_set old port (record w { socket = sent_to w.socket to bytes })))
 
--- the socket of this port received these bytes from this remote, or from none of them; no other changed
-abbrev pub ReceivesFrame : ℕ → List ℕ → Option ℕ → List EthernetSocket → List EthernetSocket → Type 0
-ReceivesFrame port bytes end old new = IfSome (slice_get old port) (λ w. (from : SocketAddr)
-    × (new ≡ slice_set old port (record w { socket = received_from w.socket from bytes })) × (end_at_place from w.ends.items ≡ end))
+abbrev pub RefusesFrame : ℕ → ℕ → List ℕ → List EthernetSocket → List EthernetSocket → Type 0
+RefusesFrame port end bytes old new = IfSome (slice_get old port) (λ w. IfSome (slice_get w.ends.items end) (λ to.
+    new ≡ slice_set old port (record w { socket = refused_to w.socket to bytes })))
 
--- what came and is not returned has a sender that is none of the remotes. If nothing came, the sockets stay
-abbrev pub IsUnknownOrNothing : Bool → ℕ → List ℕ → Option FrameCame → List EthernetSocket → List EthernetSocket → Type 0
-IsUnknownOrNothing true port room None old new = (size : ℕ) × ReceivesFrame port (take size room) None old new
-IsUnknownOrNothing true port room (Some c) old new = ⊤
-IsUnknownOrNothing false port room answer old new = new ≡ old
+-- the frame that is handed over, of what a socket with these remotes got: none if an unknown sender sent it
+abbrev pub frame_handed : List SocketAddrV4 → Got → Option FrameCame
+frame_handed ends (Ok (Some came)) = option_map (λ end. record { end = end; size = came.0 }) (end_at_place came.1 ends)
+frame_handed ends (Ok None) = None
+frame_handed ends (Err _) = None
+
+-- the socket of this port was asked and got this, of which it hands over that; no other changed. Each failure
+-- was counted
+abbrev pub AsksForFrame : ℕ → Got → List ℕ → Option FrameCame → List EthernetSocket → List EthernetSocket → ℕ → ℕ → Type 0
+AsksForFrame port got room answer old new faults faults_after = IfSome (slice_get old port) (λ w. (after : PlacedSocket)
+    × TriesToReceive got room w.socket after faults faults_after
+    × (new ≡ slice_set old port (record w { socket = after }))
+    × (answer ≡ frame_handed w.ends.items got))
+
+-- ---- definitions for the private functions
+
+-- what a socket got, and the remote that sent it, if one did
+abbrev pub with_remote : List SocketAddrV4 → Got → Result (Option (ℕ × Option ℕ)) DeviceFault
+with_remote ends (Ok (Some came)) = Ok (Some (came.0, end_at_place came.1 ends))
+with_remote ends (Ok None) = Ok None
+with_remote ends (Err fault) = Err fault

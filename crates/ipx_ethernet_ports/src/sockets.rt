@@ -1,13 +1,13 @@
 //! UDP sockets for Ethernet ports: each datagram is one Ethernet frame.
 
-ghost use Rattle.std.specs.Prelude.{◌≡◌, ◌<◌, ◌≤◌, ◌↔◌, ◌++◌, ◌∷◌, [], Bool, IfOk, IfSome, IsSome, None, Ok, OnErr, OnOk, Some, false, is_some, length, slice_get, slice_index, slice_set, take, true};
+ghost use Rattle.std.specs.Prelude.{◌≡◌, ◌<◌, ◌≤◌, ◌++◌, ◌∷◌, [], IfOk, IfSome, IsSome, None, Ok, OnErr, OnOk, Some, false, is_some, length, slice_get, slice_index, slice_set, true};
+ghost use Rattle.ipx_carrier.specs.declared.placed_socket.PlacedSocket.{PlacedSocket};
 ghost use Rattle.ipx_carrier.specs.Counting.{raised};
 ghost use Rattle.ipx_carrier.specs.Readiness.{AsksPortWithMark};
-ghost use Rattle.ipx_carrier.specs.ReadySet.{AsksMarked, IsFilteredOrAnswer, is_port_marked};
-ghost use Rattle.ipx_carrier.specs.Traces.{received_from, sent_to};
+ghost use Rattle.ipx_carrier.specs.ReadySet.{IsFilteredOrAnswer, is_come, is_port_marked, marks_after};
+ghost use Rattle.ipx_carrier.specs.Traces.{Got, TriesToReceive, refused_to, sent_to};
 ghost use Rattle.ipx_ethernet_ports.specs.EndTraffic.{failures_counted};
-ghost use Rattle.ipx_ethernet_ports.specs.EthernetAddresses.{IsUnknownOrNothing, ReceivesFrame, SendsFrame, bound_places, end_at_place, is_place, remote_counts, remote_places};
-ghost use Rattle.std.specs.declared.net.socket_addr.SocketAddr.{SocketAddr};
+ghost use Rattle.ipx_ethernet_ports.specs.EthernetAddresses.{AsksForFrame, RefusesFrame, SendsFrame, bound_places, end_at_place, ethernet_fds, is_place, remote_counts, remote_places, with_remote};
 
 use crate::end_sockets::{EndSockets, FrameCame};
 use ipx_carrier::{DeviceFault, PlacedSocket, ReadySet, saturating_increment};
@@ -43,9 +43,6 @@ pub struct EthernetSockets {
     unknown_senders: u64,
 }
 
-/// How often a port is asked again for a frame if the system fails.
-const TRIES: u32 = 8;
-
 /// Whether a datagram came from this address.
 fn is_at(place: &SocketAddrV4, from: SocketAddr) -> bool
     ensures { result ≡ is_place from place.now }
@@ -72,31 +69,37 @@ impl EthernetSocket {
         requires { end < length self.old.ends.items }
         ensures sent { OnOk result (IfSome (slice_get self.old.ends.items end) (λ to.
             self.new ≡ record self.old { socket = sent_to self.old.socket to bytes.now })) }
-        ensures refused { OnErr result (self.new ≡ self.old) }
+        ensures refused { OnErr result (IfSome (slice_get self.old.ends.items end) (λ to.
+            self.new ≡ record self.old { socket = refused_to self.old.socket to bytes.now })) }
         ensures ends { self.new.ends ≡ self.old.ends }
     {
         self.socket.send_to(self.ends[end], bytes)
     }
 
     /// Receives a frame, and says its size and which remote sent it, if one did. `None` means that
-    /// nothing waits.
-    fn receive(&mut self, room: &mut [u8]) -> io::Result<Option<(usize, Option<usize>)>>
-        ensures came { IfOk result (λ came. IfSome came (λ c. (from : SocketAddr)
-            × (self.new ≡ record self.old {
-              socket = received_from self.old.socket from (take c.0 room.new);
-            })
-            × (end_at_place from self.old.ends.items ≡ c.1))) }
+    /// nothing waits. If the system fails it is asked again, eight times at most, and each failure
+    /// is counted. An error means that it failed each time.
+    fn receive(
+        &mut self,
+        room: &mut [u8],
+        faults: &mut u64,
+    ) -> Result<Option<(usize, Option<usize>)>, DeviceFault>
+        ensures asks { (got : Got) × (after : PlacedSocket)
+            × TriesToReceive got room.new self.old.socket after faults.old faults.new
+            × (self.new ≡ record self.old { socket = after })
+            × (result ≡ with_remote self.old.ends.items got) }
         ensures there { IfOk result (λ came. IfSome came (λ c. IfSome c.1 (λ end.
             end < length self.old.ends.items))) }
         ensures within { IfOk result (λ came. IfSome came (λ c. c.0 ≤ length room.old)) }
-        ensures nothing { result ≡ Ok None → self.new ≡ self.old }
-        ensures refused { OnErr result (self.new ≡ self.old) }
+        ensures room { length room.new ≡ length room.old }
+        ensures faults { faults.old ≤ faults.new }
         ensures ends { self.new.ends ≡ self.old.ends }
     {
-        let Some((size, from)) = self.socket.receive(room)? else {
-            return Ok(None);
-        };
-        Ok(Some((size, end_at(&self.ends, from))))
+        match self.socket.receive_in_tries(room, faults) {
+            Ok(Some((size, from))) => Ok(Some((size, end_at(&self.ends, from)))),
+            Ok(None) => Ok(None),
+            Err(fault) => Err(fault),
+        }
     }
 }
 
@@ -164,7 +167,7 @@ impl EthernetSockets {
 
     /// The descriptor of the socket of a port, to wait for. The first port is 0.
     pub fn descriptor(&self, port: usize) -> Option<RawFd>
-        ensures { IsSome result ↔ port < length self.now.ethernet.items }
+        ensures { result ≡ slice_get (ethernet_fds self.now.ethernet.items) port }
     {
         let wire = self.ethernet.get(port)?;
         Some(wire.socket.as_raw_fd())
@@ -219,10 +222,12 @@ impl EndSockets for EthernetSockets {
     fn send(&mut self, port: usize, end: usize, bytes: &[u8]) -> Result<(), DeviceFault>
         requires there { port < length (remote_counts self.old.ethernet.items) }
         requires end { end < slice_index (remote_counts self.old.ethernet.items) port }
-        // The port's socket sent the bytes to the address of the remote, or nothing.
+        // The port's socket was asked to send the bytes to the address of the remote. The system
+        // took them, or refused them.
         ensures to { OnOk result (SendsFrame port end bytes.now self.old.ethernet.items
             self.new.ethernet.items) }
-        ensures nowhere { OnErr result (self.new.ethernet.items ≡ self.old.ethernet.items) }
+        ensures nowhere { OnErr result (RefusesFrame port end bytes.now self.old.ethernet.items
+            self.new.ethernet.items) }
         ensures ends { remote_counts self.new.ethernet.items ≡ remote_counts self.old.ethernet.items }
         // The system took it or refused it, and that is counted.
         ensures sent { OnOk result (self.new.sent ≡ raised self.old.sent) }
@@ -244,19 +249,17 @@ impl EndSockets for EthernetSockets {
         // A port without a mark is not asked, and nothing changes.
         ensures unmarked { is_port_marked self.old.marks port ≡ false
             → (result ≡ Ok None) × (self.new ≡ self.old) × (room.new ≡ room.old) }
-        // A marked port is asked until something comes or nothing waits, at most eight times. The
-        // mark is cleared exactly if nothing waits. What came is returned or counted.
+        // The socket of a marked port is asked until something comes or nothing waits, at most
+        // eight times. Each failure is counted. The mark is cleared exactly if nothing waits. What
+        // came from a remote is returned, and what came from an unknown sender is counted.
         ensures marked { is_port_marked self.old.marks port ≡ true → IfOk result (λ answer.
-            (came : Bool) × AsksMarked port came self.old.marks self.new.marks
-            self.old.faults self.new.faults
-            × IsFilteredOrAnswer came (is_some answer) self.old.unknown_senders self.new.unknown_senders
-            × IsUnknownOrNothing came port room.new answer self.old.ethernet.items
-            self.new.ethernet.items) }
+            (got : Got) × AsksForFrame port got room.new answer self.old.ethernet.items
+            self.new.ethernet.items self.old.faults self.new.faults
+            × (self.new.marks ≡ marks_after port got self.old.marks)
+            × IsFilteredOrAnswer (is_come got) (is_some answer)
+            self.old.unknown_senders self.new.unknown_senders) }
         ensures marks { IfOk result (λ answer. AsksPortWithMark port (is_some answer)
             (is_port_marked self.old.marks) (is_port_marked self.new.marks)) }
-        // What came from a remote is returned, and what came from an unknown sender is counted.
-        ensures from { IfOk result (λ came. IfSome came (λ c. ReceivesFrame port
-            (take c.size room.new) (Some c.end) self.old.ethernet.items self.new.ethernet.items)) }
         ensures end { IfOk result (λ came. IfSome came (λ c.
             c.end < slice_index (remote_counts self.old.ethernet.items) port)) }
         ensures within { IfOk result (λ came. IfSome came (λ c. c.size ≤ length room.old)) }
@@ -271,20 +274,17 @@ impl EndSockets for EthernetSockets {
         if !self.marks.is_marked(port) {
             return Ok(None);
         }
-        for _try in 0..TRIES {
-            match self.ethernet[port].receive(room) {
-                Ok(Some((size, Some(end)))) => return Ok(Some(FrameCame { end, size })),
-                Ok(Some((_, None))) => {
-                    saturating_increment(&mut self.unknown_senders);
-                    return Ok(None);
-                }
-                Ok(None) => {
-                    self.marks.clear_ready(port);
-                    return Ok(None);
-                }
-                Err(_) => saturating_increment(&mut self.faults),
+        match self.ethernet[port].receive(room, &mut self.faults) {
+            Ok(Some((size, Some(end)))) => Ok(Some(FrameCame { end, size })),
+            Ok(Some((_, None))) => {
+                saturating_increment(&mut self.unknown_senders);
+                Ok(None)
             }
+            Ok(None) => {
+                self.marks.clear_ready(port);
+                Ok(None)
+            }
+            Err(_) => Ok(None),
         }
-        Ok(None)
     }
 }

@@ -1,14 +1,17 @@
 -- Where the sockets of ipxnet servers are bound, where a datagram goes and which one comes, and whether its
 -- source address is accepted. Defined by this project: a datagram over IPv6 is never accepted.
-use Rattle.std.specs.Prelude.{◌≡◌, ℕ, List, Bool, true, false, Option, Some, None, IfSome, ⊤, map, nat_eq, slice_get, slice_set, take}
+use Rattle.std.specs.Prelude.{◌≡◌, ℕ, ℤ, List, Bool, true, if◌then◌else◌, Option, Some, None, Result, Ok, Err, IfSome, map, nat_eq, slice_get, slice_set}
 use Rattle.std.specs.Cmp.Lexicographic.{pointwise}
 use Rattle.std.specs.List.{list_any}
+use Rattle.std.specs.Option.{option_map}
 use Rattle.std.specs.Net.Addr.{ipv4_octets}
 use Rattle.std.specs.Net.Socket.{v4_ip}
 use Rattle.std.specs.declared.net.socket_addr.SocketAddr.{SocketAddr}
 use Rattle.std.specs.declared.net.socket_addr.SocketAddr.TheVariants.{V4, V6}
 use Rattle.std.specs.declared.net.socket_addr.SocketAddrV4.{SocketAddrV4}
-use Rattle.ipx_carrier.specs.Traces.{received_from, sent_to}
+use Rattle.ipx_carrier.specs.declared.fault.DeviceFault.{DeviceFault}
+use Rattle.ipx_carrier.specs.declared.placed_socket.PlacedSocket.{PlacedSocket}
+use Rattle.ipx_carrier.specs.Traces.{Got, TriesToReceive, raw_fd_of, refused_to, sent_to}
 use Rattle.ipx_ipxnet_ports.specs.declared.allow.Allow.{Allow}
 use Rattle.ipx_ipxnet_ports.specs.declared.allow.Allow.TheVariants as Allowed
 use Rattle.ipx_ipxnet_ports.specs.declared.place_sockets.DatagramCame.{DatagramCame}
@@ -27,37 +30,46 @@ abbrev pub is_ip_heard : Option (List (List ℕ)) → List ℕ → Bool
 is_ip_heard None ip = true
 is_ip_heard (Some ips) ip = list_any (λ heard. pointwise nat_eq heard ip) ips
 
--- a socket accepts datagrams from an address: it is one of IPv4, and its IP address is accepted
-abbrev pub is_place_heard : ServerSocket → SocketAddr → Bool
-is_place_heard s (V4 a) = is_ip_heard (ips_heard s) (ipv4_octets (v4_ip a))
-is_place_heard s (V6 a) = false
+-- the source address of a datagram, if a socket accepts it: it is one of IPv4, and its IP address is accepted
+abbrev pub place_heard : ServerSocket → SocketAddr → Option SocketAddrV4
+place_heard s (V4 a) = if is_ip_heard (ips_heard s) (ipv4_octets (v4_ip a)) then Some a else None
+place_heard s (V6 a) = None
 
 -- where each socket is bound
 abbrev pub bound_places : List ServerSocket → List SocketAddrV4
 bound_places sockets = map (λ s. s.socket.at) sockets
 
--- the socket of this port sent these bytes to this address; no other changed
+-- the descriptor of each
+abbrev pub server_fds : List ServerSocket → List ℤ
+server_fds sockets = map (λ s. raw_fd_of s.socket) sockets
+
+-- the socket of this port sent these bytes to this address, or the system refused them; no other changed
 abbrev pub SendsToPlace : ℕ → SocketAddrV4 → List ℕ → List ServerSocket → List ServerSocket → Type 0
 SendsToPlace port to bytes old new = IfSome (slice_get old port) (λ s.
     new ≡ slice_set old port (record s { socket = sent_to s.socket to bytes }))
 
--- the socket of this port received these bytes from this address, and accepts them from there or not; no
--- other changed
-abbrev pub ReceivesFrom : ℕ → SocketAddr → List ℕ → Bool → List ServerSocket → List ServerSocket → Type 0
-ReceivesFrom port from bytes heard old new = IfSome (slice_get old port) (λ s.
-    (new ≡ slice_set old port (record s { socket = received_from s.socket from bytes }))
-    × (is_place_heard s from ≡ heard))
+abbrev pub RefusesToPlace : ℕ → SocketAddrV4 → List ℕ → List ServerSocket → List ServerSocket → Type 0
+RefusesToPlace port to bytes old new = IfSome (slice_get old port) (λ s.
+    new ≡ slice_set old port (record s { socket = refused_to s.socket to bytes }))
 
--- what came and is not returned came from no accepted address of IPv4. If nothing came, the sockets stay
-abbrev pub IsRefusedOrNothing : Bool → ℕ → List ℕ → Option DatagramCame → List ServerSocket → List ServerSocket → Type 0
-IsRefusedOrNothing true port room None old new =
-    (from : SocketAddr) × (size : ℕ) × ReceivesFrom port from (take size room) false old new
-IsRefusedOrNothing true port room (Some c) old new = ⊤
-IsRefusedOrNothing false port room answer old new = new ≡ old
+-- the datagram that is handed over, of what a socket got: none if it came from an address that is not accepted
+abbrev pub datagram_handed : ServerSocket → Got → Option DatagramCame
+datagram_handed s (Ok (Some came)) = option_map (λ from. record { from = from; size = came.0 }) (place_heard s came.1)
+datagram_handed s (Ok None) = None
+datagram_handed s (Err _) = None
+
+-- the socket of this port was asked and got this, of which it hands over that; no other changed. Each failure
+-- was counted
+abbrev pub AsksForDatagram : ℕ → Got → List ℕ → Option DatagramCame → List ServerSocket → List ServerSocket → ℕ → ℕ → Type 0
+AsksForDatagram port got room answer old new faults faults_after = IfSome (slice_get old port) (λ s. (after : PlacedSocket)
+    × TriesToReceive got room s.socket after faults faults_after
+    × (new ≡ slice_set old port (record s { socket = after }))
+    × (answer ≡ datagram_handed s got))
 
 -- ---- definitions for the private functions
 
--- the sender of a datagram is this address, if it is accepted
-abbrev pub IsSender : ServerSocket → SocketAddr → Option SocketAddrV4 → Type 0
-IsSender s from (Some place) = (from ≡ V4 place) × (is_place_heard s from ≡ true)
-IsSender s from None = is_place_heard s from ≡ false
+-- what a socket got, and the source address, if it accepts that
+abbrev pub with_place : ServerSocket → Got → Result (Option (ℕ × Option SocketAddrV4)) DeviceFault
+with_place s (Ok (Some came)) = Ok (Some (came.0, place_heard s came.1))
+with_place s (Ok None) = Ok None
+with_place s (Err fault) = Err fault

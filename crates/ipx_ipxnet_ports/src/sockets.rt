@@ -1,15 +1,14 @@
 //! UDP sockets for ipxnet servers.
 
-ghost use Rattle.std.specs.Prelude.{◌≡◌, ◌<◌, ◌≤◌, ◌↔◌, ◌++◌, ◌∷◌, [], Bool, IfOk, IfSome, IsSome, None, Ok, OnErr, OnOk, false, is_some, length, map, slice_get, slice_set, take, true};
+ghost use Rattle.std.specs.Prelude.{◌≡◌, ◌<◌, ◌≤◌, ◌++◌, ◌∷◌, [], IfOk, IfSome, IsSome, None, Ok, OnErr, OnOk, false, is_some, length, map, slice_get, slice_set, true};
 ghost use Rattle.std.specs.Net.Addr.{ipv4_octets};
 ghost use Rattle.std.specs.Net.Socket.{v4_ip};
+ghost use Rattle.ipx_carrier.specs.declared.placed_socket.PlacedSocket.{PlacedSocket};
 ghost use Rattle.ipx_carrier.specs.Counting.{raised};
 ghost use Rattle.ipx_carrier.specs.Readiness.{AsksPortWithMark};
-ghost use Rattle.ipx_carrier.specs.ReadySet.{AsksMarked, IsFilteredOrAnswer, is_port_marked};
-ghost use Rattle.std.specs.declared.net.socket_addr.SocketAddr.{SocketAddr};
-ghost use Rattle.std.specs.declared.net.socket_addr.SocketAddr.TheVariants.{V4};
-ghost use Rattle.ipx_carrier.specs.Traces.{received_from};
-ghost use Rattle.ipx_ipxnet_ports.specs.ServerAddresses.{IsRefusedOrNothing, IsSender, ReceivesFrom, SendsToPlace, bound_places, ips_heard, is_ip_heard, listed_ips};
+ghost use Rattle.ipx_carrier.specs.ReadySet.{IsFilteredOrAnswer, is_come, is_port_marked, marks_after};
+ghost use Rattle.ipx_carrier.specs.Traces.{Got, TriesToReceive};
+ghost use Rattle.ipx_ipxnet_ports.specs.ServerAddresses.{AsksForDatagram, RefusesToPlace, SendsToPlace, bound_places, ips_heard, is_ip_heard, listed_ips, place_heard, server_fds, with_place};
 ghost use Rattle.ipx_ipxnet_ports.specs.PlaceTraffic.{failures_with};
 
 use crate::allow::Allow;
@@ -48,13 +47,10 @@ pub struct ServerSockets {
     nowhere: u64,
 }
 
-/// How often a port is asked again for a datagram if the system fails.
-const TRIES: u32 = 8;
-
 impl ServerSocket {
     /// The source address of a datagram, if it is accepted.
     fn sender(&self, from: SocketAddr) -> Option<SocketAddrV4>
-        ensures { IsSender self.now from result }
+        ensures { result ≡ place_heard self.now from }
     {
         match from {
             SocketAddr::V4(place) if self.allow.allows(place.ip().octets()) => Some(place),
@@ -63,21 +59,28 @@ impl ServerSocket {
     }
 
     /// Receives a datagram, and says its size and its source address, if that is accepted. `None`
-    /// means that nothing waits.
-    fn receive(&mut self, room: &mut [u8]) -> io::Result<Option<(usize, Option<SocketAddrV4>)>>
-        ensures came { IfOk result (λ came. IfSome came (λ c. (from : SocketAddr)
-            × (self.new ≡ record self.old {
-              socket = received_from self.old.socket from (take c.0 room.new);
-            })
-            × IsSender self.old from c.1)) }
+    /// means that nothing waits. If the system fails it is asked again, eight times at most, and
+    /// each failure is counted. An error means that it failed each time.
+    fn receive(
+        &mut self,
+        room: &mut [u8],
+        faults: &mut u64,
+    ) -> Result<Option<(usize, Option<SocketAddrV4>)>, DeviceFault>
+        ensures asks { (got : Got) × (after : PlacedSocket)
+            × TriesToReceive got room.new self.old.socket after faults.old faults.new
+            × (self.new ≡ record self.old { socket = after })
+            × (result ≡ with_place self.old got) }
         ensures within { IfOk result (λ came. IfSome came (λ c. c.0 ≤ length room.old)) }
-        ensures nothing { result ≡ Ok None → self.new ≡ self.old }
-        ensures refused { OnErr result (self.new ≡ self.old) }
+        ensures heard { IfOk result (λ came. IfSome came (λ c. IfSome c.1 (λ from.
+            is_ip_heard (ips_heard self.old) (ipv4_octets (v4_ip from)) ≡ true))) }
+        ensures room { length room.new ≡ length room.old }
+        ensures faults { faults.old ≤ faults.new }
     {
-        let Some((size, from)) = self.socket.receive(room)? else {
-            return Ok(None);
-        };
-        Ok(Some((size, self.sender(from))))
+        match self.socket.receive_in_tries(room, faults) {
+            Ok(Some((size, from))) => Ok(Some((size, self.sender(from)))),
+            Ok(None) => Ok(None),
+            Err(fault) => Err(fault),
+        }
     }
 }
 
@@ -138,7 +141,7 @@ impl ServerSockets {
 
     /// The descriptor of the socket of a port, to wait for. The first port is 0.
     pub fn descriptor(&self, port: usize) -> Option<RawFd>
-        ensures { IsSome result ↔ port < length self.now.sockets.items }
+        ensures { result ≡ slice_get (server_fds self.now.sockets.items) port }
     {
         let socket = self.sockets.get(port)?;
         Some(socket.socket.as_raw_fd())
@@ -188,10 +191,12 @@ impl PlaceSockets for ServerSockets {
 
     fn send(&mut self, port: usize, place: SocketAddrV4, bytes: &[u8]) -> Result<(), DeviceFault>
         requires { port < length self.old.sockets.items }
-        // The socket of the port sent the bytes to the address, or nothing.
+        // The socket of the port was asked to send the bytes to the address. The system took them,
+        // or refused them.
         ensures to { OnOk result (SendsToPlace port place bytes.now self.old.sockets.items
             self.new.sockets.items) }
-        ensures nowhere { OnErr result (self.new.sockets.items ≡ self.old.sockets.items) }
+        ensures nowhere { OnErr result (RefusesToPlace port place bytes.now self.old.sockets.items
+            self.new.sockets.items) }
         // The system took it or refused it, and that is counted.
         ensures sent { OnOk result (self.new.sent ≡ raised self.old.sent) }
         ensures refused { OnErr result (self.new.sent ≡ self.old.sent) }
@@ -212,20 +217,16 @@ impl PlaceSockets for ServerSockets {
         // A port without a mark is not asked, and nothing changes.
         ensures unmarked { is_port_marked self.old.marks port ≡ false
             → (result ≡ Ok None) × (self.new ≡ self.old) × (room.new ≡ room.old) }
-        // A marked port is asked until something comes or nothing waits, at most eight times. The
-        // mark is cleared exactly if nothing waits. What came is returned or counted.
+        // The socket of a marked port is asked until something comes or nothing waits, at most
+        // eight times. Each failure is counted. The mark is cleared exactly if nothing waits. What
+        // came from an accepted address is returned, and what came from another is counted.
         ensures marked { is_port_marked self.old.marks port ≡ true → IfOk result (λ answer.
-            (came : Bool) × AsksMarked port came self.old.marks self.new.marks
-            self.old.faults self.new.faults
-            × IsFilteredOrAnswer came (is_some answer) self.old.nowhere self.new.nowhere
-            × IsRefusedOrNothing came port room.new answer self.old.sockets.items
-            self.new.sockets.items) }
+            (got : Got) × AsksForDatagram port got room.new answer self.old.sockets.items
+            self.new.sockets.items self.old.faults self.new.faults
+            × (self.new.marks ≡ marks_after port got self.old.marks)
+            × IsFilteredOrAnswer (is_come got) (is_some answer) self.old.nowhere self.new.nowhere) }
         ensures marks { IfOk result (λ answer. AsksPortWithMark port (is_some answer)
             (is_port_marked self.old.marks) (is_port_marked self.new.marks)) }
-        // What is returned is the datagram that came last, and the address that sent it. That is
-        // accepted; what came from any other is counted.
-        ensures from { IfOk result (λ came. IfSome came (λ c. ReceivesFrom port (V4 c.from)
-            (take c.size room.new) true self.old.sockets.items self.new.sockets.items)) }
         ensures within { IfOk result (λ came. IfSome came (λ c. c.size ≤ length room.old)) }
         ensures answered { IfOk result (λ came. IsSome came
             → self.new.nowhere ≡ self.old.nowhere) }
@@ -241,20 +242,17 @@ impl PlaceSockets for ServerSockets {
         if !self.marks.is_marked(port) {
             return Ok(None);
         }
-        for _try in 0..TRIES {
-            match self.sockets[port].receive(room) {
-                Ok(Some((size, Some(from)))) => return Ok(Some(DatagramCame { from, size })),
-                Ok(Some((_, None))) => {
-                    saturating_increment(&mut self.nowhere);
-                    return Ok(None);
-                }
-                Ok(None) => {
-                    self.marks.clear_ready(port);
-                    return Ok(None);
-                }
-                Err(_) => saturating_increment(&mut self.faults),
+        match self.sockets[port].receive(room, &mut self.faults) {
+            Ok(Some((size, Some(from)))) => Ok(Some(DatagramCame { from, size })),
+            Ok(Some((_, None))) => {
+                saturating_increment(&mut self.nowhere);
+                Ok(None)
             }
+            Ok(None) => {
+                self.marks.clear_ready(port);
+                Ok(None)
+            }
+            Err(_) => Ok(None),
         }
-        Ok(None)
     }
 }

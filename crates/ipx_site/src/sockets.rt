@@ -1,11 +1,11 @@
 //! UDP sockets, one for each RFC 1234 port of a site.
 
-ghost use Rattle.std.specs.Prelude.{◌≡◌, ◌⊎◌, ◌<◌, ◌≤◌, ◌↔◌, ◌∷◌, [], IfOk, IfSome, IsSome, None, Ok, OnErr, Some, false, is_some, length, map, replicate, slice_get, slice_set, take, true};
+ghost use Rattle.std.specs.Prelude.{◌≡◌, ◌⊎◌, ◌<◌, ◌≤◌, ◌↔◌, ◌∷◌, [], IfOk, IfSome, IsSome, None, Ok, OnErr, Some, false, is_some, length, map, replicate, slice_get, slice_set, true};
 ghost use Rattle.ipx_carrier.specs.Counting.{raised};
 ghost use Rattle.ipx_carrier.specs.Readiness.{AsksPortWithMark};
-ghost use Rattle.ipx_carrier.specs.ReadySet.{AsksMarked, is_port_marked};
-ghost use Rattle.ipx_carrier.specs.Traces.{v4_at};
-ghost use Rattle.ipx_site.specs.Senders.{ReceivesPacket, SendsPacket, ipv4_of_place};
+ghost use Rattle.ipx_carrier.specs.ReadySet.{is_port_marked, marks_after};
+ghost use Rattle.ipx_carrier.specs.Traces.{Got, v4_at};
+ghost use Rattle.ipx_site.specs.Senders.{AsksForPacket, RefusesPacket, SendsPacket, ipv4_of_place, sender_after, size_got, udp_fds};
 ghost use Rattle.ipx_site.specs.KindPorts.{datagram_places, datagram_ports};
 ghost use Rattle.ipx_site.specs.SitePorts.{udp_ports};
 
@@ -47,9 +47,6 @@ pub struct UdpSockets {
     faults: u64,
     sender: Option<[u8; 4]>,
 }
-
-/// How often a port is read again if the system fails.
-const TRIES: u32 = 8;
 
 /// The IP address of a socket address, if it is IPv4.
 fn ip_of(place: SocketAddr) -> Option<[u8; 4]>
@@ -183,7 +180,7 @@ impl UdpSockets {
 
     /// The descriptor of a port's socket, to wait for it. Ports count from 0.
     pub fn descriptor(&self, port: usize) -> Option<RawFd>
-        ensures { IsSome result ↔ port < length self.now.sockets.items }
+        ensures { result ≡ slice_get (udp_fds self.now.sockets.items) port }
     {
         let port = self.sockets.get(port)?;
         Some(port.socket.as_raw_fd())
@@ -263,13 +260,13 @@ impl Datagrams for UdpSockets {
 
     fn send(&mut self, port: usize, to: [u8; 4], bytes: &[u8]) -> Result<(), DeviceFault>
         requires there { port < length self.old.sockets.items }
-        // The system took it or refused it, and that is counted. What it took went from the port's
-        // socket to that IP address, at the UDP port of the port's peers.
+        // The port's socket was asked to send it to that IP address, at the UDP port of the port's
+        // peers. The system took it or refused it, and that is counted.
         ensures counted { ((self.new.sent ≡ raised self.old.sent)
             × (self.new.faults ≡ self.old.faults)
             × SendsPacket port to bytes.now self.old.sockets.items self.new.sockets.items)
             ⊎ ((self.new.sent ≡ self.old.sent) × (self.new.faults ≡ raised self.old.faults)
-            × (self.new.sockets.items ≡ self.old.sockets.items)) }
+            × RefusesPacket port to bytes.now self.old.sockets.items self.new.sockets.items) }
         ensures ports { length self.new.sockets.items ≡ length self.old.sockets.items }
         ensures marks { self.new.marks ≡ self.old.marks }
         ensures goes_on { OnErr result ⊥ }
@@ -287,18 +284,16 @@ impl Datagrams for UdpSockets {
         // A port without a mark is not read, and nothing changes.
         ensures unmarked { is_port_marked self.old.marks port ≡ false
             → (result ≡ Ok None) × (self.new ≡ self.old) × (room.new ≡ room.old) }
-        // A marked port is read until something comes or nothing waits, at most eight times. The
-        // mark is cleared only if nothing waits.
+        // The socket of a marked port is asked until something comes or nothing waits, at most
+        // eight times. Each failure is counted. The mark is cleared exactly if nothing waits. The
+        // last sender is that of what came.
         ensures marked { is_port_marked self.old.marks port ≡ true → IfOk result (λ count.
-            AsksMarked port (is_some count) self.old.marks self.new.marks
-            self.old.faults self.new.faults) }
+            (got : Got) × AsksForPacket port got room.new self.old.sockets.items
+            self.new.sockets.items self.old.faults self.new.faults
+            × (self.new.marks ≡ marks_after port got self.old.marks)
+            × (count ≡ size_got got) × (self.new.sender ≡ sender_after got self.old.sender)) }
         ensures marks { IfOk result (λ count. AsksPortWithMark port (is_some count)
             (is_port_marked self.old.marks) (is_port_marked self.new.marks)) }
-        // The last sender is that of the datagram that the port's socket received.
-        ensures sender { IfOk result (λ count. IfSome count (λ n. ReceivesPacket port
-            (take n room.new) self.new.sender self.old.sockets.items self.new.sockets.items)) }
-        ensures nothing { result ≡ Ok None → (self.new.sender ≡ self.old.sender)
-            × (self.new.sockets.items ≡ self.old.sockets.items) }
         ensures ports { length self.new.sockets.items ≡ length self.old.sockets.items }
         ensures sent { self.new.sent ≡ self.old.sent }
         ensures faults { self.old.faults ≤ self.new.faults }
@@ -308,20 +303,18 @@ impl Datagrams for UdpSockets {
         if !self.marks.is_marked(port) {
             return Ok(None);
         }
-        for _try in 0..TRIES {
-            match self.sockets[port].socket.receive(room) {
-                Ok(Some((count, from))) => {
-                    self.sender = ip_of(from);
-                    return Ok(Some(count));
-                }
-                Ok(None) => {
-                    self.marks.clear_ready(port);
-                    return Ok(None);
-                }
-                Err(_) => self.count_fault(),
+        let socket = &mut self.sockets[port].socket;
+        match socket.receive_in_tries(room, &mut self.faults) {
+            Ok(Some((count, from))) => {
+                self.sender = ip_of(from);
+                Ok(Some(count))
             }
+            Ok(None) => {
+                self.marks.clear_ready(port);
+                Ok(None)
+            }
+            Err(_) => Ok(None),
         }
-        Ok(None)
     }
 }
 

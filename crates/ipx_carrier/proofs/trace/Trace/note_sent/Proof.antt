@@ -28,14 +28,15 @@ use denote.Triple.Entry.{on_entry}
 use denote.Triple.Spec.{Meets, triple_of}
 use denote.Triple.Table.{entered}
 use denote.Triple.Walked.{says, Stays, stay_ref, stay_none_ref, stay_none_slice, walk_of, AllGo, Goes-ref, Goes-none_ref, Goes-none_slice, Walks, ends_at, walked, walk_Meets}
+use Rattle.ipx_carrier.specs.SocketEvents.{Sent}
 use Rattle.ipx_carrier.specs.declared.trace.Trace.{Trace}
 use Rattle.std.specs.declared.net.socket_addr.SocketAddr.{SocketAddr}
 use Rattle.std.specs.contracts.net.socket_addr.SocketAddr as S
 use Rattle.ipx_carrier.specs.contracts.trace.Trace as T
-use Rattle.ipx_carrier.specs.contracts.trace.Trace.note.Key.{name as #it}
-use Rattle.ipx_carrier.specs.contracts.trace.Trace.note as it
-use Rattle.ipx_carrier.proofs.trace.Trace.note.Statement as stated
-use Rattle.ipx_carrier.proofs.trace.Trace.note.Code as code
+use Rattle.ipx_carrier.specs.contracts.trace.Trace.note_sent.Key.{name as #it}
+use Rattle.ipx_carrier.specs.contracts.trace.Trace.note_sent as it
+use Rattle.ipx_carrier.proofs.trace.Trace.note_sent.Statement as stated
+use Rattle.ipx_carrier.proofs.trace.Trace.note_sent.Code as code
 
 abbrev Arg : Type 0
 Arg = MutBor Trace × (Bor SocketAddr × (Bor (List ℕ) × Unit {0}))
@@ -50,7 +51,7 @@ module _ {M : Type 1} {𝓤 : Ura M} (𝓛 : Logic 𝓤) (at_mem : Memory → SP
   x = (record { ref_ptr = (b, o); ghost_name = γ; now = h }, (k, (s, tt)))
 
   abbrev h' : Trace
-  h' = record { items = h.items ++ (k.now, s.now) ∷ [] }
+  h' = record { items = h.items ++ Sent k.now s.now ∷ [] }
 
   abbrev at : List Val × (List Val × (List Val × Unit {0}))
   at = (vptr b o ∷ [], (vptr k.ref_ptr.0 k.ref_ptr.1 ∷ [], (slice_val s.ref_ptr (length s.now) ∷ [], tt)))
@@ -94,9 +95,9 @@ meets : {M : Type 1} {𝓤 : Ura M} (𝓛 : Logic 𝓤) → (at_mem : Memory →
     → Meets 𝓛 it.signature (WpFn 𝓤 𝓛.H 𝓣.C 𝓣.Λ code.function) (it.spec 𝓛 at_mem run)
 meets {𝓤 = 𝓤} 𝓛 at_mem run 𝓣 = walk_Meets 𝓛 it.ended stayed (goes 𝓛 at_mem run) (it.clauses 𝓛 at_mem run) (WpFn 𝓤 𝓛.H 𝓣.C 𝓣.Λ code.function) (WpFn-mono 𝓤 𝓛.H 𝓛.laws 𝓣 code.function) (walks 𝓛 at_mem run 𝓣.C 𝓣.Λ)
 
-pub note_spec : {M : Type 1} → stated.statement M
+pub note_sent_spec : {M : Type 1} → stated.statement M
 unfolding tables_of
-note_spec 𝓤 𝓛 𝓜 𝓡 wired =
+note_sent_spec 𝓤 𝓛 𝓜 𝓡 wired =
     entered 𝓤 𝓛.H (triple_of 𝓛 it.signature (it.spec 𝓛 𝓜.mem 𝓡.returns))
     (tables 𝓤 𝓛.H 𝓜 𝓡 𝓡.env).C (tables 𝓤 𝓛.H 𝓜 𝓡 𝓡.env).Λ #it code.function (code.unfolded 𝓤 𝓛.H 𝓜 𝓡 wired)
     (meets 𝓛 𝓜.mem 𝓡.returns (tables_of 𝓤 𝓛.H 𝓜 (tables 𝓤 𝓛.H 𝓜 𝓡 𝓡.env)))
