@@ -99,27 +99,28 @@ hands_after ds came s t u f g first h =
 abbrev pub reached_among : ServerView → Recipients → List Client → List Client
 reached_among l takers cs = filter (λ c. takers_reach l takers c.place) cs
 
-among_more : (l : ServerView) (takers : Recipients) (cs : List Client) (n : ℕ) (d : Client) (b : Bool) → n < length cs → takers_reach l takers (get_or cs n d).place ≡ b → reached_among l takers (take (n + 1) cs) ≡ reached_among l takers (take n cs) ++ cond b (get_or cs n d ∷ []) []
-among_more l takers cs n d b lt is =
-    ap (reached_among l takers) (take_more cs n d lt) ∙ filter-append (λ (c : Client). takers_reach l takers c.place) (take n cs) (get_or cs n d ∷ [])
-    ∙ ap (λ (t : Bool). reached_among l takers (take n cs) ++ cond t (get_or cs n d ∷ []) []) is
+module _ (p : Client → Bool) (cs : List Client) (n : ℕ) (d : Client) (lt : n < length cs) where
+  among_more : (b : Bool) → p (get_or cs n d) ≡ b → filter p (take (n + 1) cs) ≡ filter p (take n cs) ++ cond b (get_or cs n d ∷ []) []
+  among_more b is =
+      ap (filter p) (take_more cs n d lt) ∙ filter-append p (take n cs) (get_or cs n d ∷ [])
+      ∙ ap (λ (t : Bool). filter p (take n cs) ++ cond t (get_or cs n d ∷ []) []) is
 
-pub reaches_past : (l : ServerView) (takers : Recipients) (cs : List Client) (n : ℕ) (d : Client) (port : ℕ) (bytes : List ℕ) (s t : Option PlaceTraffic) (f g : ℕ) → n < length cs → takers_reach l takers (get_or cs n d).place ≡ false
-    → HandsOver (relayed_to port bytes (reached_among l takers (take n cs))) [] s t f g → HandsOver (relayed_to port bytes (reached_among l takers (take (n + 1) cs))) [] s t f g
-reaches_past l takers cs n d port bytes s t f g lt is h =
-    let same : reached_among l takers (take (n + 1) cs) ≡ reached_among l takers (take n cs) = among_more l takers cs n d false lt is ∙ append-nil _ in
-    subst (λ (xs : List Client). HandsOver (relayed_to port bytes xs) [] s t f g) (sym same) h
+  pub reaches_past : (port : ℕ) (bytes : List ℕ) (s t : Option PlaceTraffic) (f g : ℕ) → p (get_or cs n d) ≡ false
+      → HandsOver (relayed_to port bytes (filter p (take n cs))) [] s t f g → HandsOver (relayed_to port bytes (filter p (take (n + 1) cs))) [] s t f g
+  reaches_past port bytes s t f g is h =
+      let same : filter p (take (n + 1) cs) ≡ filter p (take n cs) = among_more false is ∙ append-nil _ in
+      subst (λ (xs : List Client). HandsOver (relayed_to port bytes xs) [] s t f g) (sym same) h
 
-pub reaches_one : {T E : Type 0} (sent : Result T E) (l : ServerView) (takers : Recipients) (cs : List Client) (n : ℕ) (d : Client) (port : ℕ) (bytes : List ℕ) (s t u : Option PlaceTraffic) (f g i : ℕ) → n < length cs → takers_reach l takers (get_or cs n d).place ≡ true
-    → HandsOver (relayed_to port bytes (reached_among l takers (take n cs))) [] s t f g
-    → OnOk sent (PlacesPass t u [] (place_datagram port bytes (get_or cs n d).place ∷ [])) → OnErr sent (u ≡ t) → i ≡ failures_with sent g
-    → HandsOver (relayed_to port bytes (reached_among l takers (take (n + 1) cs))) [] s u f i
-reaches_one sent l takers cs n d port bytes s t u f g i lt is h went none counted =
-    let before : List Client = reached_among l takers (take n cs) in
-    let one : PlaceDatagram = place_datagram port bytes (get_or cs n d).place in
-    let same : relayed_to port bytes (reached_among l takers (take (n + 1) cs)) ≡ relayed_to port bytes before ++ one ∷ [] =
-    ap (relayed_to port bytes) (among_more l takers cs n d true lt is) ∙ map-append (λ (c : Client). place_datagram port bytes c.place) before (get_or cs n d ∷ []) in
-    subst (λ (ds : List PlaceDatagram). HandsOver ds [] s u f i) (sym same) (hands_both (relayed_to port bytes before) (one ∷ []) s t u f g i h (hands_one sent one t u g i went none counted))
+  pub reaches_one : {T E : Type 0} (sent : Result T E) (port : ℕ) (bytes : List ℕ) (s t u : Option PlaceTraffic) (f g i : ℕ) → p (get_or cs n d) ≡ true
+      → HandsOver (relayed_to port bytes (filter p (take n cs))) [] s t f g
+      → OnOk sent (PlacesPass t u [] (place_datagram port bytes (get_or cs n d).place ∷ [])) → OnErr sent (u ≡ t) → i ≡ failures_with sent g
+      → HandsOver (relayed_to port bytes (filter p (take (n + 1) cs))) [] s u f i
+  reaches_one sent port bytes s t u f g i is h went none counted =
+      let before : List Client = filter p (take n cs) in
+      let one : PlaceDatagram = place_datagram port bytes (get_or cs n d).place in
+      let same : relayed_to port bytes (filter p (take (n + 1) cs)) ≡ relayed_to port bytes before ++ one ∷ [] =
+      ap (relayed_to port bytes) (among_more true is) ∙ map-append (λ (c : Client). place_datagram port bytes c.place) before (get_or cs n d ∷ []) in
+      subst (λ (ds : List PlaceDatagram). HandsOver ds [] s u f i) (sym same) (hands_both (relayed_to port bytes before) (one ∷ []) s t u f g i h (hands_one sent one t u g i went none counted))
 
 -- ---- joined routers, one after another
 

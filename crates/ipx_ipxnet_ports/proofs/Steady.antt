@@ -12,13 +12,13 @@ use Rattle.ipxnet_server.specs.declared.clients.Client.{Client}
 use Rattle.ipxnet_server.specs.declared.drops.ServerDrop.{ServerDrop}
 use Rattle.ipxnet_server.specs.declared.drops.ServerDrop.TheVariants.{TooLong}
 use Rattle.ipxnet_server.specs.declared.disposition.Disposition.{Disposition}
-use Rattle.ipxnet_server.specs.declared.disposition.Disposition.TheVariants.{Registered, Pinged, ToClient, ToOthers, ToOthersAndCore, ToCore, ToJoined, FromJoined, Dropped}
+use Rattle.ipxnet_server.specs.declared.disposition.Disposition.TheVariants.{Registered, Pinged, ToClient, ToOthers, ToOthersAndCore, ToCore, Heard, ToJoined, FromJoined, Dropped}
 use Rattle.std.specs.declared.net.socket_addr.SocketAddrV4.{SocketAddrV4}
 use Rattle.ipxnet_server.specs.declared.port.ServerPort.{ServerPort}
 use Rattle.ipxnet_server.specs.declared.recipients.Recipients.{Recipients}
 use Rattle.ipxnet_server.specs.declared.recipients.Recipients.TheVariants.{Joined, Nobody}
 use Rattle.ipxnet_server.specs.ServerClients.{client_at, client_of_node}
-use Rattle.ipxnet_server.specs.ServerHears.{ServerView, all_get, answer_of, client_gets, is_dropped, is_from_server, is_joined_taker, is_taker, is_to_service, server_aged, server_gives, server_giving, server_hearing, server_learned, max_client_bytes, notice_of, takers_join, takers_of, takers_reach}
+use Rattle.ipxnet_server.specs.ServerHears.{ServerView, all_get, answer_of, client_gets, is_dropped, is_from_server, is_joined_taker, is_taker, is_to_service, server_aged, server_gives, server_giving, max_client_bytes, notice_of, takers_join, takers_of, takers_reach}
 use Rattle.ipxnet_server.specs.PeerServers.{is_joined_place}
 use Rattle.ipx_carrier.specs.declared.port_driver.PacketSent.{PacketSent}
 use Rattle.ipx_carrier.specs.PortDrivers.{copies_count, count_in}
@@ -32,21 +32,6 @@ use Rattle.ipx_ipxnet_ports.proofs.Handing.{hands_after}
 abbrev port_in : ServerView → ServerPort × ℕ
 port_in l = (l.port, l.most)
 
-told_stays : (told : Option Node) (from : SocketAddrV4) (now : ℕ) (l : ServerView) → port_in (server_learned told from now l) ≡ port_in l
-told_stays None from now l = refl
-told_stays (Some node) from now l = refl
-
-hearing_stays : (heard : Disposition) (from : SocketAddrV4) (now : ℕ) (l : ServerView) → port_in (server_hearing heard from now l) ≡ port_in l
-hearing_stays (Registered answer) from now l = refl
-hearing_stays (Pinged giver answer) from now l = refl
-hearing_stays (ToClient place) from now l = refl
-hearing_stays (ToOthers giver) from now l = refl
-hearing_stays (ToOthersAndCore giver) from now l = refl
-hearing_stays ToCore from now l = refl
-hearing_stays (ToJoined takers) from now l = refl
-hearing_stays (FromJoined told takers) from now l = told_stays told from now l
-hearing_stays (Dropped drop) from now l = refl
-
 giving_stays : (given : Result Recipients ServerDrop) (l : ServerView) → port_in (server_giving given l) ≡ port_in l
 giving_stays (Ok takers) l = refl
 giving_stays (Err drop) l = refl
@@ -57,7 +42,7 @@ ports_stay servers port l after there same =
 
 pub hearing_leaves_ports : (now most : ℕ) (d : PlaceDatagram) (came : List PlaceDatagram) (room : List ℕ) (up : Option ℕ) (old new : ServersView) → HearsAtServer now most d came room up old new → server_ports new.servers ≡ server_ports old.servers
 hearing_leaves_ports now most d came room up old new r =
-    ap (map port_in) r.servers ∙ ports_stay old.servers d.port r.server r.after r.at_port (ap port_in r.becomes ∙ hearing_stays r.heard d.place now (server_aged now r.server))
+    ap (map port_in) r.servers ∙ ports_stay old.servers d.port r.server r.after r.at_port (ap (λ (p : ServerPort). (p, r.after.most)) r.hears.stays.0 ∙ ap (λ (n : ℕ). (r.server.port, n)) r.hears.stays.1)
 
 pub sending_leaves_ports : (now port : ℕ) (node : Node) (packet : List ℕ) (sent : PacketSent) (old new : ServersView) → SendsThroughServer now port node packet sent old new → server_ports new.servers ≡ server_ports old.servers
 sending_leaves_ports now port node packet sent old new r =
@@ -81,6 +66,7 @@ answered_kept (ToClient place) e = refl
 answered_kept (ToOthers giver) e = refl
 answered_kept (ToOthersAndCore giver) e = refl
 answered_kept ToCore e = refl
+answered_kept Heard e = refl
 answered_kept (ToJoined takers) e = refl
 answered_kept (FromJoined told takers) e = refl
 answered_kept (Dropped drop) e = cc
@@ -101,8 +87,8 @@ answer_known port place l (Some answer) h =
     All-cons (λ (d : PlaceDatagram). is_some (client_at d.place l.clients) ≡ true) (place_datagram port answer place) [] (h refl) (All-nil (λ (d : PlaceDatagram). is_some (client_at d.place l.clients) ≡ true))
 
 answered_separate : (joined : Bool) (heard : Disposition) → (joined ≡ true → answer_of heard ≡ None) → is_some (answer_of heard) ≡ true → joined ≡ false
-answered_separate true heard unanswered e = cc (ap is_some (unanswered refl))
-answered_separate false heard unanswered e = refl
+answered_separate true given unanswered e = cc (ap is_some (unanswered refl))
+answered_separate false given unanswered e = refl
 
 -- a sender that is answered was heard and is no joined router, so it is a client
 pub sends_known : (joined : Bool) (l : ServerView) (heard : Disposition) (d : PlaceDatagram) (answer : Option (List ℕ)) (c : Client) → is_some answer ≡ is_some (answer_of heard) → (is_dropped heard ≡ false → joined ≡ false → client_at d.place l.clients ≡ Some c) → (joined ≡ true → answer_of heard ≡ None)
@@ -136,6 +122,7 @@ none_noticed (ToClient place) e = refl
 none_noticed (ToOthers giver) e = refl
 none_noticed (ToOthersAndCore giver) e = refl
 none_noticed ToCore e = refl
+none_noticed Heard e = refl
 none_noticed (ToJoined takers) e = refl
 none_noticed (FromJoined told takers) e = refl
 none_noticed (Dropped drop) e = refl
@@ -220,7 +207,6 @@ hears_after now most d room up servers kept s t f f' new as_often first r =
       heard = r.heard;
       at_port = r.at_port;
       hears = r.hears;
-      becomes = r.becomes;
       onward = record {
         answer = r.onward.answer;
         answered = r.onward.answered;

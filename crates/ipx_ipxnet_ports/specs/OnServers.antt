@@ -1,10 +1,11 @@
 -- What ports with ipxnet servers do with what comes from an address, and with packets of their core. Defined
 -- by this project; what a server makes of bytes is defined with the server.
-use Rattle.std.specs.Prelude.{◌≡◌, ◌≤◌, ◌⊎◌, ℕ, List, [], ◌∷◌, ◌++◌, All, Bool, true, false, Option, Some, None, IfSome, Result, Ok, Err, filter, is_some, length, map, nat_lt, slice_get, slice_set, take, if◌then◌else◌}
+use Rattle.std.specs.Prelude.{◌≡◌, ◌≤◌, ◌⊎◌, ℕ, zero, suc, List, [], ◌∷◌, ◌++◌, All, Bool, true, false, Option, Some, None, IfSome, Result, Ok, Err, filter, is_some, length, map, nat_lt, slice_get, slice_set, take, if◌then◌else◌}
+use Rattle.std.specs.List.{list_any}
 use Rattle.ipx_wire.specs.Assigned.{broadcast_node}
 use Rattle.ipx_wire.specs.declared.address.Node.{Node}
 use Rattle.ipx_wire.specs.declared.ipx.fault.IpxFault.{IpxFault}
-use Rattle.ipx_wire.specs.Ipx.{BeginsWith, PacketView, ipx_fault}
+use Rattle.ipx_wire.specs.Ipx.{BeginsWith, IsIpx, PacketView, ipx_fault, packet_of}
 use Rattle.ipxnet_server.specs.declared.clients.Client.{Client}
 use Rattle.ipxnet_server.specs.declared.drops.ServerDrop.{ServerDrop}
 use Rattle.ipxnet_server.specs.declared.drops.ServerDrop.TheVariants.{Malformed}
@@ -15,8 +16,10 @@ use Rattle.ipxnet_server.specs.declared.port.ServerPort.{ServerPort}
 use Rattle.ipxnet_server.specs.declared.recipients.Recipients.{Recipients}
 use Rattle.ipxnet_server.specs.declared.recipients.Recipients.TheVariants.{Nobody, Joined}
 use Rattle.ipxnet_server.specs.ServerClients.{EachClientOnce, client_at}
-use Rattle.ipxnet_server.specs.ServerHears.{IsAnswer, IsNotice, ServerView, answer_of, goes_to_core, is_from_server, is_taker, is_to_service, server_aged, server_gives, server_giving, server_hearing, server_hears, max_client_bytes, notice_of, takers_join, takers_of, takers_reach}
+use Rattle.ipxnet_server.specs.ServerHears.{IsAnswer, IsNotice, ServerView, answer_of, goes_to_core, is_from_server, is_taker, is_to_service, router_ping, server_aged, server_dropping, server_gives, server_giving, server_hearing, server_hears, server_met, server_pinging, max_client_bytes, notice_of, takers_join, takers_of, takers_reach}
 use Rattle.ipxnet_server.specs.PeerServers.{is_joined_place}
+use Rattle.ipxnet_server.specs.Pings.{is_one_pinged, is_pinged}
+use Rattle.ipxnet_server.specs.declared.pings.PingTurn.{PingTurn}
 use Rattle.ipx_carrier.specs.declared.port_driver.PacketSent.{PacketSent}
 use Rattle.ipx_carrier.specs.declared.port_driver.PacketSent.TheVariants.{Unmapped, Transmitted}
 use Rattle.ipx_carrier.specs.Counting.{raised}
@@ -77,11 +80,18 @@ AreForRouters l datagrams = All (λ d. is_joined_place d.place l.routers ≡ tru
 abbrev pub AreForClients : ServerView → List PlaceDatagram → Type 0
 AreForClients l datagrams = All (λ d. is_some (client_at d.place l.clients) ≡ true) datagrams
 
--- what a server makes of bytes from an address, if they are no packet, and if they begin with one
-pub record HearsBytes (l : ServerView) (from : SocketAddrV4) (bytes : List ℕ) (now : ℕ) (heard : Disposition) : Type 0 where
+-- what a server makes of bytes from an address, and what it is then, if they are no packet, and if they begin
+-- with one. A packet finds its sender among the clients, if it makes it one
+pub record HearsBytes (l : ServerView) (from : SocketAddrV4) (bytes : List ℕ) (now : ℕ) (heard : Disposition) (after : ServerView) : Type 0 where
   pub malformed : (f : IpxFault) → ipx_fault bytes ≡ Some f → heard ≡ Dropped (Malformed f)
-  pub packet : (p : PacketView) → BeginsWith bytes p
-      → heard ≡ server_hears (server_aged now l) from p (length bytes) now
+  pub unread : (f : IpxFault) → ipx_fault bytes ≡ Some f
+      → after ≡ server_dropping (Malformed f) (server_aged now l)
+  pub packet : (p : PacketView) → BeginsWith bytes p → heard
+      ≡ server_hears (server_met from p.header (length bytes) now (server_aged now l)) from p (length bytes) now
+  pub becomes : (p : PacketView) → BeginsWith bytes p → after
+      ≡ server_hearing heard from now (server_met from p.header (length bytes) now (server_aged now l))
+  pub stays : (after.port ≡ l.port) × (after.most ≡ l.most) × (after.routers ≡ l.routers)
+      × (after.pinged ≡ l.pinged)
 
 -- bytes that a server received are sent on. All that it sends is handed to the sockets: the answer, if there
 -- is one, the bytes for its clients, and then what is for joined routers. Each client has one address, and
@@ -129,8 +139,7 @@ pub record HearsAtServer (now most : ℕ) (d : PlaceDatagram) (came : List Place
   pub after : ServerView
   pub heard : Disposition
   pub at_port : slice_get old.servers d.port ≡ Some server
-  pub hears : HearsBytes server d.place d.bytes now heard
-  pub becomes : after ≡ server_hearing heard d.place now (server_aged now server)
+  pub hears : HearsBytes server d.place d.bytes now heard after
   pub onward : GivesOn after heard d came old.traffic new.traffic old.failed new.failed
   pub known : AreForClients after (server_sends after heard d onward.answer)
   pub joined : AreForRouters after (joined_sends after heard d onward.announcement)
@@ -194,3 +203,33 @@ pub record SendsThroughServer (now port : ℕ) (node : Node) (packet : List ℕ)
   pub said : sent ≡ packet_said (length packet)
   pub servers : new.servers ≡ slice_set old.servers port after
   pub counted : new.kept ≡ old.kept
+
+-- the clients that a turn pings, in the order in which the server has them
+abbrev pub clients_pinged : PingTurn → ServerView → List Client
+clients_pinged turn l = filter (is_pinged turn) l.clients
+
+-- the server of a port pings its silent clients: the ping of its router is handed to the sockets for each of
+-- them, and for nobody else
+pub record PingsAtServer (now port : ℕ) (old new : ServersView) : Type 0 where
+  pub server : ServerView
+  pub after : ServerView
+  pub ping : List ℕ
+  pub at_port : slice_get old.servers port ≡ Some server
+  pub becomes : after ≡ server_pinging now server
+  pub is_ping : IsIpx (packet_of (router_ping server.port) []) ping []
+  pub gone : HandsOver (relayed_to port ping
+      (clients_pinged (record { before = server.pinged; now = now }) after)) []
+      old.traffic new.traffic old.failed new.failed
+  pub once : EachClientOnce after.clients
+  pub servers : new.servers ≡ slice_set old.servers port after
+  pub counted : new.kept ≡ old.kept
+
+-- the servers of the first ports do so, in order
+abbrev pub PingsAtServers : ℕ → ℕ → ServersView → ServersView → Type 0
+PingsAtServers now zero old new = new ≡ old
+PingsAtServers now (suc n) old new =
+    (mid : ServersView) × PingsAtServers now n old mid × PingsAtServer now n mid new
+
+-- a turn at this time pings a client of one of these servers
+abbrev pub is_any_pinged : List ServerView → ℕ → Bool
+is_any_pinged servers now = list_any (λ l. is_one_pinged l.pinged l.clients now) servers

@@ -4,12 +4,12 @@ ghost use Rattle.std.specs.Prelude.{◌≡◌, ◌<◌, [], false};
 ghost use Rattle.ipx_carrier.specs.Readiness.{MarksStay};
 ghost use Rattle.ipxnet_server.specs.ServerClients.{EachClientOnce};
 ghost use Rattle.ipxnet_server.specs.ServerHears.{is_taker, takers_of};
-ghost use Rattle.ipx_ipxnet_ports.specs.OnServers.{GivesOn, answer_for, clients_reached, notice_for, relayed_on, relayed_to, routers_reached};
+ghost use Rattle.ipx_ipxnet_ports.specs.OnServers.{GivesOn, answer_for, clients_pinged, clients_reached, notice_for, relayed_on, relayed_to, routers_reached};
 ghost use Rattle.ipx_ipxnet_ports.specs.PlaceTraffic.{HandsOver, place_datagram};
 
 use crate::place_sockets::PlaceSockets;
 use ipx_wire::IPX_HEADER_SIZE;
-use ipxnet_server::{Disposition, IpxnetServer, Recipients};
+use ipxnet_server::{Disposition, IpxnetServer, PingTurn, Recipients};
 use std::net::SocketAddrV4;
 
 /// Sends bytes by a port to each client of its server that the takers reach, in order. If that
@@ -34,6 +34,32 @@ pub fn send_to_clients<D: PlaceSockets>(
     for client in clients {
         if server.reaches(takers, client.place) {
             let _ = sockets.send(port, client.place, bytes);
+        }
+    }
+}
+
+/// Sends a ping by a port to each client of its server that a turn pings, in order. If that fails
+/// for one, the others still get theirs.
+pub fn send_pings<D: PlaceSockets>(
+    sockets: &mut D,
+    port: usize,
+    server: &IpxnetServer,
+    turn: PingTurn,
+    ping: &[u8],
+)
+    requires { port < D.port_count sockets.old }
+    ensures gone { HandsOver (relayed_to port ping.now (clients_pinged turn server.now)) []
+        (D.traffic sockets.old) (D.traffic sockets.new)
+        (D.failed sockets.old) (D.failed sockets.new) }
+    ensures once { EachClientOnce server.now.clients }
+    ensures ports { D.port_count sockets.new ≡ D.port_count sockets.old }
+    ensures filtered { D.filtered sockets.new ≡ D.filtered sockets.old }
+    ensures marks { MarksStay (D.marked sockets.old) (D.marked sockets.new) }
+{
+    let known = server.clients();
+    for client in known {
+        if turn.pings(client) {
+            let _ = sockets.send(port, client.place, ping);
         }
     }
 }

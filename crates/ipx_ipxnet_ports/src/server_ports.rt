@@ -3,11 +3,12 @@
 ghost use Rattle.std.specs.Prelude.{◌≡◌, ◌<◌, ◌≤◌, ◌+◌, ◌^◌, [], Option, None, IfOk, IfSome, OnErr, is_some, length, min, slice_set, true};
 ghost use Rattle.ipx_carrier.specs.PortDrivers.{copies_count, count_in};
 ghost use Rattle.ipx_carrier.specs.Readiness.{AsksPortWithMark, MarksStay};
-ghost use Rattle.ipx_ipxnet_ports.specs.OnServers.{HearsAtServer, ReceivesAtServer, SendsThroughServer, by_servers, servers_view, server_ports, packet_said};
+ghost use Rattle.ipx_ipxnet_ports.specs.OnServers.{HearsAtServer, PingsAtServer, PingsAtServers, ReceivesAtServer, SendsThroughServer, by_servers, is_any_pinged, servers_view, server_ports, packet_said};
 ghost use Rattle.ipx_ipxnet_ports.specs.PlaceTraffic.{PlaceDatagram, place_datagram};
+ghost use Rattle.ipxnet_server.specs.Pings.{IsNextPing, earlier};
 
 use crate::front::put_front;
-use crate::giving_on::{give_on, send_to_clients, send_to_routers};
+use crate::giving_on::{give_on, send_pings, send_to_clients, send_to_routers};
 use crate::place_sockets::PlaceSockets;
 use crate::sockets::ServerSockets;
 use ipx_carrier::{DeviceFault, PacketSent, PortDriver, PortDriverFilters, saturating_increment};
@@ -42,6 +43,17 @@ fn said_of(size: usize) -> PacketSent
         PacketSent::Unmapped
     } else {
         PacketSent::Transmitted(1)
+    }
+}
+
+/// The earlier of two times, if there is any.
+fn sooner(a: Option<u64>, b: Option<u64>) -> Option<u64>
+    ensures { result ≡ earlier a b }
+{
+    match (a, b) {
+        (Some(a), Some(b)) => Some(if a <= b { a } else { b }),
+        (Some(a), None) => Some(a),
+        (None, b) => b,
     }
 }
 
@@ -80,6 +92,62 @@ impl<D: PlaceSockets + Drop> Servers<D> {
         ensures { result.now ≡ self.now.servers.items }
     {
         &self.servers
+    }
+
+    /// Sends a ping to each silent client of a port that is due for one.
+    fn ping_port(&mut self, port: usize)
+        requires server { port < length self.old.servers.items }
+        requires there { port < D.port_count self.old.sockets }
+        ensures pings { PingsAtServer self.old.moment port
+            (servers_view self.old.servers.items self.old.kept
+            (D.traffic self.old.sockets) (D.failed self.old.sockets))
+            (servers_view self.new.servers.items self.new.kept
+            (D.traffic self.new.sockets) (D.failed self.new.sockets)) }
+        ensures moment { self.new.moment ≡ self.old.moment }
+        ensures kept { self.new.kept ≡ self.old.kept }
+        ensures servers { length self.new.servers.items ≡ length self.old.servers.items }
+        ensures ports { D.port_count self.new.sockets ≡ D.port_count self.old.sockets }
+        ensures filtered { D.filtered self.new.sockets ≡ D.filtered self.old.sockets }
+        ensures marks { MarksStay (D.marked self.old.sockets) (D.marked self.new.sockets) }
+    {
+        let server = &mut self.servers[port];
+        let turn = server.begin_pings(self.moment);
+        send_pings(&mut self.sockets, port, server, turn, &server.ping());
+    }
+
+    /// Sends the pings that are due at the time that is set: at each port to each client that was
+    /// silent for 25 seconds, or for 25 more. A failure to send one counts as for other datagrams.
+    /// Call it after `set_time`.
+    pub fn send_pings(&mut self)
+        ensures pings { PingsAtServers self.old.moment
+            (min (length self.old.servers.items) (D.port_count self.old.sockets))
+            (servers_view self.old.servers.items self.old.kept
+            (D.traffic self.old.sockets) (D.failed self.old.sockets))
+            (servers_view self.new.servers.items self.new.kept
+            (D.traffic self.new.sockets) (D.failed self.new.sockets)) }
+        ensures moment { self.new.moment ≡ self.old.moment }
+        ensures kept { self.new.kept ≡ self.old.kept }
+        ensures servers { length self.new.servers.items ≡ length self.old.servers.items }
+        ensures ports { D.port_count self.new.sockets ≡ D.port_count self.old.sockets }
+        ensures filtered { D.filtered self.new.sockets ≡ D.filtered self.old.sockets }
+        ensures marks { MarksStay (D.marked self.old.sockets) (D.marked self.new.sockets) }
+    {
+        for port in 0..self.ports() {
+            self.ping_port(port);
+        }
+    }
+
+    /// When `send_pings` has a ping to send next, if no datagram comes before. None if no clock can
+    /// show that time.
+    pub fn next_pings(&self) -> Option<u64>
+        ensures { IsNextPing (is_any_pinged self.now.servers.items) result }
+    {
+        let servers = self.servers();
+        let mut next = None;
+        for server in servers {
+            next = sooner(next, server.next_pings());
+        }
+        next
     }
 
     /// Sends a packet of the core to the clients of a port that its node reaches. It is also sent

@@ -9,14 +9,14 @@ use Rattle.ipxnet_server.specs.declared.clients.Client.{Client}
 use Rattle.ipxnet_server.specs.declared.drops.ServerDrop.{ServerDrop}
 use Rattle.ipxnet_server.specs.declared.drops.ServerDrop.TheVariants.{NodeTaken, TooManyNew, Full, Unregistered, OtherSource, TooLong, NoSuchNode, ToItself, PingElsewhere, BroadcastElsewhere, FromElsewhere, Response, NotBehind, ForElsewhere}
 use Rattle.ipxnet_server.specs.declared.disposition.Disposition.{Disposition}
-use Rattle.ipxnet_server.specs.declared.disposition.Disposition.TheVariants.{Registered, Pinged, ToClient, ToOthers, ToOthersAndCore, ToCore, ToJoined, FromJoined, Dropped}
+use Rattle.ipxnet_server.specs.declared.disposition.Disposition.TheVariants.{Registered, Pinged, ToClient, ToOthers, ToOthersAndCore, ToCore, Heard, ToJoined, FromJoined, Dropped}
 use Rattle.std.specs.declared.net.socket_addr.SocketAddrV4.{SocketAddrV4}
 use Rattle.ipxnet_server.specs.declared.port.ServerPort.{ServerPort}
 use Rattle.ipxnet_server.specs.declared.peer_servers.RemoteClient.{RemoteClient}
 use Rattle.ipxnet_server.specs.declared.recipients.Recipients.{Recipients}
 use Rattle.ipxnet_server.specs.declared.recipients.Recipients.TheVariants.{Nobody, One, Here, Joined, JoinedAt}
 use Rattle.ipxnet_server.specs.ServerClients.{are_one_place, is_server_full, client_at, client_of_node, has_client_node, is_client_at, max_recent_registrations, recent_registrations}
-use Rattle.ipxnet_server.specs.ServerHears.{IsAnswer, ServerView, all_hear, all_hear_joined, client_hears, core_hears, hear_remote, remote_source, goes_to_core, is_dropped, is_for_server, is_from_server, is_joined_taker, is_node_here, is_node_taken, is_not_behind, is_of_client, is_registration, is_taker, is_to_all_nodes, is_to_service, joined_hears, joined_takers, server_hears, server_hears_elsewhere, server_hears_from, server_hears_here, server_socket, may_reach_core, max_client_bytes, registration_drop, new_client_hears, node_given, one_hears_joined, ping_answer, registration_answer, registration_hears, takers_of, tells_node, tells_router}
+use Rattle.ipxnet_server.specs.ServerHears.{IsAnswer, ServerView, all_hear, all_hear_joined, client_hears, core_hears, hear_remote, remote_source, goes_to_core, is_dropped, is_for_server, is_from_server, is_joined_taker, is_node_here, is_node_taken, is_not_behind, is_of_client, is_registration, is_taker, is_to_all_nodes, is_to_service, joined_hears, joined_takers, server_hears, server_hears_elsewhere, server_hears_from, server_hears_here, server_socket, may_reach_core, max_client_bytes, registration_drop, new_client_hears, node_given, one_hears_joined, ping_answer, registration_answer, registration_hears, router_hears, stranger_drop, stranger_hears, takers_of, tells_node, tells_router, makes_client}
 use Rattle.ipxnet_server.specs.PeerServers.{remote_client_of, is_joined_place}
 use Rattle.ipxnet_server.specs.ServerInside.{IsSoundHearing, StaysAmongClients}
 use Rattle.ipx_wire.specs.declared.address.Node.{Node}
@@ -91,6 +91,14 @@ dropped_hears l from size d = record {
   member = λ e. refl;
 }
 
+-- a node that a registration gets is no client's
+free_node : (l : ServerView) (node : Node) (now : ℕ) → registration_drop l node now ≡ None → client_of_node node l.clients ≡ None
+free_node l node now e =
+    let rest : Option ServerDrop = if nat_le max_recent_registrations (recent_registrations now l.clients) then Some TooManyNew else if is_server_full l.most now l.clients then Some Full else None in
+    let taken : is_node_taken l node ≡ false = first_none (is_node_taken l node) (NodeTaken node) rest e in
+    let here : is_node_here l.port l.clients node ≡ false = left_false (is_node_here l.port l.clients node) (is_some (remote_client_of node l.far)) taken in
+    is_none (client_of_node node l.clients) (right_false (bytes_eq node.0 l.port.own.0 || bytes_eq node.0 broadcast_node) (is_some (client_of_node node l.clients)) here)
+
 module _ (l : ServerView) (from : SocketAddrV4) (size : ℕ) (thirty : ipx_header_size ≤ size) where
   abbrev Sound : Disposition → Type 0
   Sound heard = IsSoundHearing l from size heard
@@ -122,19 +130,16 @@ module _ (l : ServerView) (from : SocketAddrV4) (size : ℕ) (thirty : ipx_heade
       member = λ e. refl;
     }
 
+    stranger : (o : Option ServerDrop) → Sound (stranger_hears o)
+    stranger None = dropped Unregistered
+    stranger (Some d) = dropped d
+
     newcomer : (o : Option ServerDrop) → size ≡ ipx_header_size → (o ≡ None → client_of_node (node_given l from) l.clients ≡ None) → Sound (new_client_hears l.port (node_given l from) o)
     newcomer None is free = registered (registration_answer l.port (node_given l from)) is (λ e. free refl)
     newcomer (Some d) is free = dropped d
 
-    free_node : (node : Node) (now : ℕ) → registration_drop l node now ≡ None → client_of_node node l.clients ≡ None
-    free_node node now e =
-        let rest : Option ServerDrop = if nat_le max_recent_registrations (recent_registrations now l.clients) then Some TooManyNew else if is_server_full l.most now l.clients then Some Full else None in
-        let taken : is_node_taken l node ≡ false = first_none (is_node_taken l node) (NodeTaken node) rest e in
-        let here : is_node_here l.port l.clients node ≡ false = left_false (is_node_here l.port l.clients node) (is_some (remote_client_of node l.far)) taken in
-        is_none (client_of_node node l.clients) (right_false (bytes_eq node.0 l.port.own.0 || bytes_eq node.0 broadcast_node) (is_some (client_of_node node l.clients)) here)
-
     registering : (now : ℕ) (o : Option Client) → client_at from l.clients ≡ o → size ≡ ipx_header_size → Sound (registration_hears l from now o)
-    registering now None known is = newcomer (registration_drop l (node_given l from) now) is (free_node (node_given l from) now)
+    registering now None known is = newcomer (registration_drop l (node_given l from) now) is (free_node l (node_given l from) now)
     registering now (Some c) known is = registered (registration_answer l.port c.node) is (λ none. cc)
 
     module _ (c : Client) (known : client_at from l.clients ≡ Some c) where
@@ -156,6 +161,9 @@ module _ (l : ServerView) (from : SocketAddrV4) (size : ℕ) (thirty : ipx_heade
 
       to_core : Sound ToCore
       to_core = sent ToCore refl (λ header e. cc) (λ place e. cc) refl
+
+      heard_only : Sound Heard
+      heard_only = sent Heard refl (λ header e. cc) (λ place e. cc) refl
 
       to_others : Sound (ToOthers from)
       to_others = sent (ToOthers from) (ap not (same_place from)) (λ header e. cc) (λ place e. cc) refl
@@ -196,6 +204,9 @@ module _ (l : ServerView) (from : SocketAddrV4) (size : ℕ) (thirty : ipx_heade
           either Sound (not (is_from_server l.port p.header)) _ _ (dropped (FromElsewhere p.header.from.network))
           (either Sound (tells_router p) _ _ (dropped Response) to_core)
 
+      router : (p : PacketView) → Sound (router_hears l.port p)
+      router p = either Sound (p.header.to.socket.0 == server_socket) _ _ heard_only (core p)
+
       far : (node : Node) → Sound (hear_remote l node size)
       far node =
           either Sound (length l.routers == 0) _ _ (dropped (NoSuchNode node))
@@ -210,26 +221,26 @@ module _ (l : ServerView) (from : SocketAddrV4) (size : ℕ) (thirty : ipx_heade
       here : (p : PacketView) → Sound (server_hears_here l from p size)
       here p =
           either Sound (is_to_all_nodes p.header) _ _ (all p)
-          (either Sound (bytes_eq p.header.to.node.0 l.port.own.0) _ _ (core p) (client p.header (client_of_node p.header.to.node l.clients) refl))
+          (either Sound (bytes_eq p.header.to.node.0 l.port.own.0) _ _ (router p) (client p.header (client_of_node p.header.to.node l.clients) refl))
 
       elsewhere : (p : PacketView) → Sound (server_hears_elsewhere l.port p)
       elsewhere p =
           either Sound (p.header.to.socket.0 == server_socket) _ _ (dropped (PingElsewhere p.header.to.network))
           (either Sound (is_to_all_nodes p.header) _ _ (dropped (BroadcastElsewhere p.header.to.network)) (core p))
 
-      known_hears : (p : PacketView) → Sound (server_hears_from l from p size (Some c))
-      known_hears p =
+      known_hears : (p : PacketView) (now : ℕ) → Sound (server_hears_from l from p size now (Some c))
+      known_hears p now =
           either Sound (not (bytes_eq p.header.from.node.0 c.node.0)) _ _ (dropped (OtherSource p.header.from.node))
           (either Sound (is_for_server l.port p.header) _ _ (here p) (elsewhere p))
 
-    from_place : (p : PacketView) (o : Option Client) → client_at from l.clients ≡ o → Sound (server_hears_from l from p size o)
-    from_place p None known = dropped Unregistered
-    from_place p (Some c) known = known_hears c known p
+    from_place : (p : PacketView) (now : ℕ) (o : Option Client) → client_at from l.clients ≡ o → Sound (server_hears_from l from p size now o)
+    from_place p now None known = stranger (stranger_drop l from p.header now)
+    from_place p now (Some c) known = known_hears c known p now
 
-    from_client : (p : PacketView) (now : ℕ) → Sound (if is_registration p.header size then registration_hears l from now (client_at from l.clients) else server_hears_from l from p size (client_at from l.clients))
+    from_client : (p : PacketView) (now : ℕ) → Sound (if is_registration p.header size then registration_hears l from now (client_at from l.clients) else server_hears_from l from p size now (client_at from l.clients))
     from_client p now =
         either_by Sound (is_registration p.header size) _ _ (λ e. registering now (client_at from l.clients) refl (size_is p.header size e))
-        (λ e. from_place p (client_at from l.clients) refl)
+        (λ e. from_place p now (client_at from l.clients) refl)
 
   -- ---- what a joined router sent
 
@@ -272,6 +283,46 @@ module _ (l : ServerView) (from : SocketAddrV4) (size : ℕ) (thirty : ipx_heade
   sound_hearing p now =
       either_by Sound (is_joined_place from l.routers) _ _ (λ is. enters is p.header) (λ apart. from_client apart p now)
 
+-- ---- a sender that becomes a client
+
+not_some : (o : Option ServerDrop) → not (is_some o) ≡ true → o ≡ None
+not_some None e = refl
+not_some (Some d) e = cc
+
+not_known : (o : Option Client) → not (is_some o) ≡ true → o ≡ None
+not_known None e = refl
+not_known (Some c) e = cc
+
+not_so : (b : Bool) → not b ≡ true → b ≡ false
+not_so true e = cc
+not_so false e = refl
+
+all_true : (a b c d : Bool) → (a && b && c && d) ≡ true → (a ≡ true) × (c ≡ true) × (d ≡ true)
+all_true true true true true e = (refl, refl, refl)
+all_true true true true false e = cc
+all_true true true false d e = cc
+all_true true false c d e = cc
+all_true false b c d e = cc
+
+accepted : (b : Bool) (o : Option ServerDrop) → (if b then o else Some Unregistered) ≡ None → o ≡ None
+accepted true o e = e
+accepted false o e = cc
+
+module _ (l : ServerView) (from : SocketAddrV4) (h : IpxHeader) (size now : ℕ) (makes : makes_client l from h size now ≡ true) where
+  parts : (not (is_joined_place from l.routers) ≡ true) × (not (is_some (client_at from l.clients)) ≡ true) × (not (is_some (stranger_drop l from h now)) ≡ true)
+  parts = all_true (not (is_joined_place from l.routers)) (not (is_registration h size)) (not (is_some (client_at from l.clients))) (not (is_some (stranger_drop l from h now))) makes
+
+  pub makes_apart : is_joined_place from l.routers ≡ false
+  makes_apart = not_so (is_joined_place from l.routers) parts.0
+
+  pub makes_new : client_at from l.clients ≡ None
+  makes_new = not_known (client_at from l.clients) parts.1
+
+  pub makes_free : client_of_node (node_given l from) l.clients ≡ None
+  makes_free =
+      free_node l (node_given l from) now
+      (accepted (bytes_eq h.from.node.0 (node_given l from).0) (registration_drop l (node_given l from) now) (not_some (stranger_drop l from h now) parts.2))
+
 -- what shows a remote client came from a joined router
 pub told_joined : (b : Bool) (heard : Disposition) (told : Option Node) (takers : Recipients) → (b ≡ false → is_of_client heard ≡ not (is_dropped heard)) → heard ≡ FromJoined told takers → b ≡ true
 told_joined true heard told takers member e = refl
@@ -298,6 +349,14 @@ reaches_core port p =
     (λ here. either_by (ReachesCore port p) (tells_router p) _ _ (λ e. λ goes. cc)
     (λ silent. λ goes. rw (is_so (is_from_server port p.header) here, silent) refl))
 
+reaches_router : (port : ServerPort) (p : PacketView) → ReachesCore port p (router_hears port p)
+reaches_router port p =
+    either (ReachesCore port p) (p.header.to.socket.0 == server_socket) _ _ (λ goes. cc) (reaches_core port p)
+
+reaches_stranger : (port : ServerPort) (p : PacketView) (o : Option ServerDrop) → ReachesCore port p (stranger_hears o)
+reaches_stranger port p None = λ goes. cc
+reaches_stranger port p (Some d) = λ goes. cc
+
 reaches_all : (port : ServerPort) (from : SocketAddrV4) (p : PacketView) (size : ℕ) → ReachesCore port p (all_hear port from p size)
 reaches_all port from p size =
     either (ReachesCore port p) (nat_lt max_client_bytes size) _ _ (λ goes. cc)
@@ -316,13 +375,13 @@ reaches_client l from p size (Some c) =
     either (ReachesCore l.port p) (are_one_place c.place from) _ _ (λ goes. cc)
     (either (ReachesCore l.port p) (nat_lt max_client_bytes size) _ _ (λ goes. cc) (λ goes. cc))
 
-reaches_from : (l : ServerView) (from : SocketAddrV4) (p : PacketView) (size : ℕ) (o : Option Client) → ReachesCore l.port p (server_hears_from l from p size o)
-reaches_from l from p size None = λ goes. cc
-reaches_from l from p size (Some c) =
+reaches_from : (l : ServerView) (from : SocketAddrV4) (p : PacketView) (size now : ℕ) (o : Option Client) → ReachesCore l.port p (server_hears_from l from p size now o)
+reaches_from l from p size now None = reaches_stranger l.port p (stranger_drop l from p.header now)
+reaches_from l from p size now (Some c) =
     either (ReachesCore l.port p) (not (bytes_eq p.header.from.node.0 c.node.0)) _ _ (λ goes. cc)
     (either (ReachesCore l.port p) (is_for_server l.port p.header) _ _
     (either (ReachesCore l.port p) (is_to_all_nodes p.header) _ _ (reaches_all l.port from p size)
-    (either (ReachesCore l.port p) (bytes_eq p.header.to.node.0 l.port.own.0) _ _ (reaches_core l.port p)
+    (either (ReachesCore l.port p) (bytes_eq p.header.to.node.0 l.port.own.0) _ _ (reaches_router l.port p)
     (reaches_client l from p size (client_of_node p.header.to.node l.clients))))
     (either (ReachesCore l.port p) (p.header.to.socket.0 == server_socket) _ _ (λ goes. cc)
     (either (ReachesCore l.port p) (is_to_all_nodes p.header) _ _ (λ goes. cc) (reaches_core l.port p))))
@@ -354,4 +413,4 @@ pub core_law : (l : ServerView) (from : SocketAddrV4) (p : PacketView) (size now
 core_law l from p size now =
     either (ReachesCore l.port p) (is_joined_place from l.routers) _ _ (reaches_joined l from p size)
     (either (ReachesCore l.port p) (is_registration p.header size) _ _ (reaches_registering l from p now (client_at from l.clients))
-    (reaches_from l from p size (client_at from l.clients)))
+    (reaches_from l from p size now (client_at from l.clients)))

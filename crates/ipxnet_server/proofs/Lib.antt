@@ -3,3 +3,4 @@ pub mod Hears
 pub mod Once
 pub mod Still
 pub mod Learned
+pub mod PingTimes

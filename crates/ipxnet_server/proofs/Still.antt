@@ -10,19 +10,21 @@ use Rattle.std.proofs.lemmas.Bool.{eqb-true}
 use Rattle.std.proofs.lemmas.Slice.Eq.{bytes_eq-Decides}
 use Rattle.ipxnet_server.specs.declared.clients.Client.{Client}
 use Rattle.ipxnet_server.specs.declared.disposition.Disposition.{Disposition}
-use Rattle.ipxnet_server.specs.declared.disposition.Disposition.TheVariants.{Registered, Pinged, ToClient, ToOthers, ToOthersAndCore, ToCore, ToJoined, FromJoined, Dropped}
+use Rattle.ipxnet_server.specs.declared.disposition.Disposition.TheVariants.{Registered, Pinged, ToClient, ToOthers, ToOthersAndCore, ToCore, Heard, ToJoined, FromJoined, Dropped}
 use Rattle.ipxnet_server.specs.declared.drops.ServerDrop.{ServerDrop}
 use Rattle.ipxnet_server.specs.declared.drops.ServerDrop.TheVariants.{NoSuchNode, TooLong}
 use Rattle.std.specs.declared.net.socket_addr.SocketAddrV4.{SocketAddrV4}
 use Rattle.ipxnet_server.specs.declared.peer_servers.RemoteClient.{RemoteClient}
+use Rattle.ipxnet_server.specs.declared.port.ServerPort.{ServerPort}
 use Rattle.ipxnet_server.specs.declared.recipients.Recipients.{Recipients}
 use Rattle.ipxnet_server.specs.declared.recipients.Recipients.TheVariants.{One}
 use Rattle.ipx_wire.specs.Assigned.{broadcast_node}
 use Rattle.ipx_wire.specs.declared.address.Node.{Node}
 use Rattle.ipx_wire.specs.declared.ipx.packet.IpxHeader.{IpxHeader}
 use Rattle.ipxnet_server.specs.ServerClients.{are_one_place, client_at, client_heard, client_of_node, clients_heard, is_client_at}
-use Rattle.ipxnet_server.specs.ServerHears.{ServerView, all_get, client_gets, is_dropped, is_from_server, is_given_from_server, is_given_to_service, is_joined_taker, is_of_client, is_taker, is_to_service, joined_takers, server_gives, server_hearing, server_learned, max_client_bytes, node_given, takers_of}
-use Rattle.ipxnet_server.specs.PeerServers.{remote_client_of}
+use Rattle.ipxnet_server.specs.ServerHears.{ServerView, all_get, client_gets, is_dropped, is_from_server, is_given_from_server, is_given_to_service, is_joined_taker, is_of_client, is_taker, is_to_service, joined_takers, server_gives, server_hearing, server_knowing, server_learned, max_client_bytes, node_given, takers_of}
+use Rattle.ipxnet_server.specs.PeerServers.{is_joined_place, remote_client_of}
+use Rattle.ipxnet_server.specs.ServerInside.{MayKnow, Known, Same}
 use Rattle.ipxnet_server.proofs.Hears.{taker_known}
 use Rattle.ipxnet_server.proofs.Once.{fewer, found_passes, same_place}
 
@@ -135,6 +137,7 @@ hearing_clients (ToClient place) from now l e = refl
 hearing_clients (ToOthers giver) from now l e = refl
 hearing_clients (ToOthersAndCore giver) from now l e = refl
 hearing_clients ToCore from now l e = refl
+hearing_clients Heard from now l e = refl
 hearing_clients (ToJoined takers) from now l e = refl
 hearing_clients (FromJoined told takers) from now l e = cc
 hearing_clients (Dropped d) from now l e = cc
@@ -150,6 +153,7 @@ others_clients (ToClient place) from now l e = cc
 others_clients (ToOthers giver) from now l e = cc
 others_clients (ToOthersAndCore giver) from now l e = cc
 others_clients ToCore from now l e = cc
+others_clients Heard from now l e = cc
 others_clients (ToJoined takers) from now l e = cc
 others_clients (FromJoined told takers) from now l e = told_clients told from now l
 others_clients (Dropped d) from now l e = refl
@@ -171,9 +175,55 @@ hearing_far (ToClient place) from now l e = refl
 hearing_far (ToOthers giver) from now l e = refl
 hearing_far (ToOthersAndCore giver) from now l e = refl
 hearing_far ToCore from now l e = refl
+hearing_far Heard from now l e = refl
 hearing_far (ToJoined takers) from now l e = refl
 hearing_far (FromJoined told takers) from now l e = cc
 hearing_far (Dropped d) from now l e = refl
+
+-- ---- a server whose sender became a client before its packet was judged
+
+heard_again : (now : ℕ) (node : Node) (from : SocketAddrV4) (o : Option Client) → o ≡ None → Some (client_heard node from now (Some (client_heard node from now o))) ≡ Some (client_heard node from now o)
+heard_again now node from None e = refl
+heard_again now node from (Some c) e = cc
+
+pub met_heard : (from : SocketAddrV4) (now : ℕ) (l m : ServerView) → MayKnow from now l m
+    → Some (client_heard (node_given m from) from now (client_at from m.clients)) ≡ Some (client_heard (node_given l from) from now (client_at from l.clients))
+met_heard from now l m (Same e) =
+    ap (λ (v : ServerView). Some (client_heard (node_given v from) from now (client_at from v.clients))) e
+met_heard from now l m (Known apart none e) =
+    ap (λ (v : ServerView). Some (client_heard (node_given v from) from now (client_at from v.clients))) e
+    ∙ ap (λ (o : Option Client). Some (client_heard (node_given l from) from now o)) (heard_found l.most now (node_given l from) from l.clients)
+    ∙ heard_again now (node_given l from) from (client_at from l.clients) none
+
+pub met_joined : (from : SocketAddrV4) (now : ℕ) (l m : ServerView) → MayKnow from now l m → is_joined_place from l.routers ≡ true → m ≡ l
+met_joined from now l m (Same e) is = e
+met_joined from now l m (Known apart none e) is = cc
+
+-- only its clients can be others
+pub met_rest : (from : SocketAddrV4) (now : ℕ) (l m : ServerView) → MayKnow from now l m → record m { clients = l.clients } ≡ l
+met_rest from now l m (Same e) = ap (λ (v : ServerView). record v { clients = l.clients }) e
+met_rest from now l m (Known apart none e) = ap (λ (v : ServerView). record v { clients = l.clients }) e
+
+-- ---- what no datagram changes
+
+abbrev rest_of : ServerView → ServerPort × ℕ × List SocketAddrV4 × ℕ
+rest_of l = (l.port, l.most, l.routers, l.pinged)
+
+told_rest : (told : Option Node) (from : SocketAddrV4) (now : ℕ) (l : ServerView) → rest_of (server_learned told from now l) ≡ rest_of l
+told_rest None from now l = refl
+told_rest (Some node) from now l = refl
+
+pub hearing_rest : (heard : Disposition) (from : SocketAddrV4) (now : ℕ) (l : ServerView) → rest_of (server_hearing heard from now l) ≡ rest_of l
+hearing_rest (Registered answer) from now l = refl
+hearing_rest (Pinged giver answer) from now l = refl
+hearing_rest (ToClient place) from now l = refl
+hearing_rest (ToOthers giver) from now l = refl
+hearing_rest (ToOthersAndCore giver) from now l = refl
+hearing_rest ToCore from now l = refl
+hearing_rest Heard from now l = refl
+hearing_rest (ToJoined takers) from now l = refl
+hearing_rest (FromJoined told takers) from now l = told_rest told from now l
+hearing_rest (Dropped d) from now l = refl
 
 -- ---- packets of the core
 

@@ -1,4 +1,5 @@
 pub mod ServerClients
+pub mod Pings
 pub mod PeerServers
 pub mod ServerHears
 pub mod JoinedLearns

@@ -8,11 +8,16 @@ use Rattle.byteorder.specs.Endian.{big_bytes}
 use Rattle.ipx_wire.specs.declared.address.Node.{Node}
 use Rattle.ipxnet_server.specs.declared.peer_servers.RemoteClient.{RemoteClient}
 use Rattle.std.specs.declared.net.socket_addr.SocketAddrV4.{SocketAddrV4}
-use Rattle.ipxnet_server.specs.ServerClients.{are_one_place, forgotten_after, node_of_place}
+use Rattle.ipxnet_server.specs.ServerClients.{are_one_place, node_of_place}
 
 -- how many clients of joined routers are known at most
 abbrev pub max_remote_clients : ℕ
 max_remote_clients = 1024
+
+-- after this many ms a silent one is forgotten: a day. What keeps a client known at its own router, as answers to
+-- pings, is not passed on to others
+abbrev pub remote_forgotten_after : ℕ
+remote_forgotten_after = 86400000
 
 -- a joined router has this address
 abbrev pub is_joined_place : SocketAddrV4 → List SocketAddrV4 → Bool
@@ -27,7 +32,7 @@ remote_client_of node far = find (has_remote_node node) far
 
 -- the clients that were heard less than a day ago; if the clock went back, no time has passed
 abbrev pub was_remote_heard : ℕ → RemoteClient → Bool
-was_remote_heard now f = nat_lt (now - f.heard) forgotten_after
+was_remote_heard now f = nat_lt (now - f.heard) remote_forgotten_after
 
 abbrev pub remote_clients_left : ℕ → List RemoteClient → List RemoteClient
 remote_clients_left now far = filter (was_remote_heard now) far

@@ -16,10 +16,10 @@ max_server_clients = 150
 -- times in ms: after the first a silent client is forgotten, and after the second if there is no room for
 -- another. Only so many new ones may register within the third
 abbrev pub forgotten_after : ℕ
-forgotten_after = 86400000
+forgotten_after = 300000
 
 abbrev pub replaced_after : ℕ
-replaced_after = 3600000
+replaced_after = 60000
 
 abbrev pub recent_client_time : ℕ
 recent_client_time = 1000
@@ -76,7 +76,7 @@ is_recent_client now c = nat_lt (now - c.since) recent_client_time
 abbrev pub recent_registrations : ℕ → List Client → ℕ
 recent_registrations now known = count_by (is_recent_client now) known
 
--- the first one, which was heard before all others in the order of calls, was heard within the last hour
+-- the first one, which was heard before all others in the order of calls, was heard within the last minute
 abbrev pub is_first_heard : ℕ → List Client → Bool
 is_first_heard now [] = true
 is_first_heard now (c ∷ rest) = was_heard_within replaced_after now c

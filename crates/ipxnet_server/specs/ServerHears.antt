@@ -14,7 +14,7 @@ use Rattle.ipxnet_server.specs.declared.counts.ServerCounts.{ServerCounts}
 use Rattle.ipxnet_server.specs.declared.drops.ServerDrop.{ServerDrop}
 use Rattle.ipxnet_server.specs.declared.drops.ServerDrop.TheVariants.{NodeTaken, TooManyNew, Full, Unregistered, OtherSource, TooLong, NoSuchNode, ToItself, PingElsewhere, BroadcastElsewhere, FromElsewhere, Response, NotBehind, ForElsewhere}
 use Rattle.ipxnet_server.specs.declared.disposition.Disposition.{Disposition}
-use Rattle.ipxnet_server.specs.declared.disposition.Disposition.TheVariants.{Registered, Pinged, ToClient, ToOthers, ToOthersAndCore, ToCore, ToJoined, FromJoined, Dropped}
+use Rattle.ipxnet_server.specs.declared.disposition.Disposition.TheVariants.{Registered, Pinged, ToClient, ToOthers, ToOthersAndCore, ToCore, Heard, ToJoined, FromJoined, Dropped}
 use Rattle.ipxnet_server.specs.declared.recipients.Recipients.{Recipients}
 use Rattle.ipxnet_server.specs.declared.recipients.Recipients.TheVariants.{Nobody, One, Others, All, Here, Joined, JoinedAt}
 use Rattle.ipxnet_server.specs.declared.peer_servers.RemoteClient.{RemoteClient}
@@ -24,7 +24,8 @@ use Rattle.ipxnet_server.specs.ServerCounted.{drop_counted, no_drops}
 use Rattle.ipxnet_server.specs.PeerServers.{remote_client_of, remote_clients_heard, remote_clients_left, is_joined_place, new_client_node}
 
 -- a server: its port, the most clients that it may have, its clients in the order in which they were last
--- heard, and its counts. Also the addresses of joined routers, and their clients
+-- heard, and its counts. Also the addresses of joined routers, and their clients, and when its clients were
+-- pinged the last time
 pub record ServerView : Type 0 where
   pub port : ServerPort
   pub most : ℕ
@@ -32,6 +33,7 @@ pub record ServerView : Type 0 where
   pub counts : ServerCounts
   pub routers : List SocketAddrV4
   pub far : List RemoteClient
+  pub pinged : ℕ
 
 -- the socket of registrations and pings, and the most bytes that a client accepts
 abbrev pub server_socket : ℕ
@@ -57,6 +59,11 @@ registration_answer port node = server_header port.network node port.own
 -- to a ping from a node
 abbrev pub ping_answer : ServerPort → Node → IpxHeader
 ping_answer port node = server_header (record { 0 = local_network }) node port.own
+
+-- what a silent client is sent: a ping from the router
+abbrev pub router_ping : ServerPort → IpxHeader
+router_ping port =
+    server_header (record { 0 = local_network }) (record { 0 = broadcast_node }) port.own
 
 -- ---- what a packet is
 
@@ -144,6 +151,10 @@ core_hears port p =
     else if tells_router p then Dropped Response
     else ToCore
 
+-- to the router's node. What answers its pings is for nobody
+abbrev pub router_hears : ServerPort → PacketView → Disposition
+router_hears port p = if p.header.to.socket.0 == server_socket then Heard else core_hears port p
+
 -- to the joined router where a node is known, otherwise to each
 abbrev pub joined_takers : Option RemoteClient → Recipients
 joined_takers None = Joined
@@ -168,7 +179,7 @@ client_hears l from h size (Some c) =
 abbrev pub server_hears_here : ServerView → SocketAddrV4 → PacketView → ℕ → Disposition
 server_hears_here l from p size =
     if is_to_all_nodes p.header then all_hear l.port from p size
-    else if bytes_eq p.header.to.node.0 l.port.own.0 then core_hears l.port p
+    else if bytes_eq p.header.to.node.0 l.port.own.0 then router_hears l.port p
     else client_hears l from p.header size (client_of_node p.header.to.node l.clients)
 
 -- to another network
@@ -178,10 +189,21 @@ server_hears_elsewhere port p =
     else if is_to_all_nodes p.header then Dropped (BroadcastElsewhere p.header.to.network)
     else core_hears port p
 
+-- from an address where no client is known: why the packet makes its sender none. It is from another node than
+-- a registration from there would be given, or that would be refused
+abbrev pub stranger_drop : ServerView → SocketAddrV4 → IpxHeader → ℕ → Option ServerDrop
+stranger_drop l from h now =
+    if bytes_eq h.from.node.0 (node_given l from).0 then registration_drop l (node_given l from) now
+    else Some Unregistered
+
+abbrev pub stranger_hears : Option ServerDrop → Disposition
+stranger_hears None = Dropped Unregistered
+stranger_hears (Some drop) = Dropped drop
+
 -- from an address where this client is known
-abbrev pub server_hears_from : ServerView → SocketAddrV4 → PacketView → ℕ → Option Client → Disposition
-server_hears_from l from p size None = Dropped Unregistered
-server_hears_from l from p size (Some c) =
+abbrev pub server_hears_from : ServerView → SocketAddrV4 → PacketView → ℕ → ℕ → Option Client → Disposition
+server_hears_from l from p size now None = stranger_hears (stranger_drop l from p.header now)
+server_hears_from l from p size now (Some c) =
     if not (bytes_eq p.header.from.node.0 c.node.0) then Dropped (OtherSource p.header.from.node)
     else if is_for_server l.port p.header then server_hears_here l from p size
     else server_hears_elsewhere l.port p
@@ -229,7 +251,7 @@ server_hears l from p size now =
     if is_joined_place from l.routers then joined_hears l from p.header size
     else if is_registration p.header size
     then registration_hears l from now (client_at from l.clients)
-    else server_hears_from l from p size (client_at from l.clients)
+    else server_hears_from l from p size now (client_at from l.clients)
 
 -- ---- where it is sent
 
@@ -241,6 +263,7 @@ takers_of (ToClient place) = One place
 takers_of (ToOthers from) = Others from
 takers_of (ToOthersAndCore from) = Others from
 takers_of ToCore = Nobody
+takers_of Heard = Nobody
 takers_of (ToJoined takers) = takers
 takers_of (FromJoined told takers) = takers
 takers_of (Dropped drop) = Nobody
@@ -280,6 +303,7 @@ goes_to_core (ToClient place) = false
 goes_to_core (ToOthers from) = false
 goes_to_core (ToOthersAndCore from) = true
 goes_to_core ToCore = true
+goes_to_core Heard = false
 goes_to_core (ToJoined takers) = false
 goes_to_core (FromJoined told takers) = false
 goes_to_core (Dropped drop) = false
@@ -292,6 +316,7 @@ answer_of (ToClient place) = None
 answer_of (ToOthers from) = None
 answer_of (ToOthersAndCore from) = None
 answer_of ToCore = None
+answer_of Heard = None
 answer_of (ToJoined takers) = None
 answer_of (FromJoined told takers) = None
 answer_of (Dropped drop) = None
@@ -304,6 +329,7 @@ is_dropped (ToClient place) = false
 is_dropped (ToOthers from) = false
 is_dropped (ToOthersAndCore from) = false
 is_dropped ToCore = false
+is_dropped Heard = false
 is_dropped (ToJoined takers) = false
 is_dropped (FromJoined told takers) = false
 is_dropped (Dropped drop) = true
@@ -316,6 +342,7 @@ is_of_client (ToClient place) = true
 is_of_client (ToOthers from) = true
 is_of_client (ToOthersAndCore from) = true
 is_of_client ToCore = true
+is_of_client Heard = true
 is_of_client (ToJoined takers) = true
 is_of_client (FromJoined told takers) = false
 is_of_client (Dropped drop) = false
@@ -328,6 +355,7 @@ notice_of (ToClient place) = None
 notice_of (ToOthers from) = None
 notice_of (ToOthersAndCore from) = None
 notice_of ToCore = None
+notice_of Heard = None
 notice_of (ToJoined takers) = None
 notice_of (FromJoined told takers) = None
 notice_of (Dropped drop) = None
@@ -372,7 +400,7 @@ server_gives l node header size =
 
 -- ---- the server after that
 
--- clients that were silent for a day are forgotten
+-- clients that were silent for five minutes are forgotten, and those of joined routers after a day
 abbrev pub server_aged : ℕ → ServerView → ServerView
 server_aged now l =
     record l { clients = clients_left now l.clients; far = remote_clients_left now l.far }
@@ -386,6 +414,17 @@ abbrev pub server_knowing : SocketAddrV4 → ℕ → ServerView → ServerView
 server_knowing from now l =
     record l { clients = clients_heard l.most (node_given l from) from now l.clients }
 
+-- a packet makes its sender a client, as a registration would. No client is known at its address, and no router is
+-- joined there
+abbrev pub makes_client : ServerView → SocketAddrV4 → IpxHeader → ℕ → ℕ → Bool
+makes_client l from h size now = not (is_joined_place from l.routers) && not (is_registration h size)
+    && not (is_some (client_at from l.clients)) && not (is_some (stranger_drop l from h now))
+
+-- the server that a packet finds: with its sender among the clients, if it makes it one
+abbrev pub server_met : SocketAddrV4 → IpxHeader → ℕ → ℕ → ServerView → ServerView
+server_met from h size now l =
+    if makes_client l from h size now then server_knowing from now l else l
+
 -- the joined router at an address showed where a node is, or nothing
 abbrev pub server_learned : Option Node → SocketAddrV4 → ℕ → ServerView → ServerView
 server_learned None from now l = l
@@ -398,6 +437,7 @@ server_hearing (ToClient place) from now l = server_knowing from now l
 server_hearing (ToOthers giver) from now l = server_knowing from now l
 server_hearing (ToOthersAndCore giver) from now l = server_knowing from now l
 server_hearing ToCore from now l = server_knowing from now l
+server_hearing Heard from now l = server_knowing from now l
 server_hearing (ToJoined takers) from now l = server_knowing from now l
 server_hearing (FromJoined told takers) from now l = server_learned told from now l
 server_hearing (Dropped drop) from now l = server_dropping drop l
@@ -406,6 +446,10 @@ server_hearing (Dropped drop) from now l = server_dropping drop l
 abbrev pub server_giving : Result Recipients ServerDrop → ServerView → ServerView
 server_giving (Ok takers) l = l
 server_giving (Err drop) l = server_dropping drop l
+
+-- silent clients are pinged
+abbrev pub server_pinging : ℕ → ServerView → ServerView
+server_pinging now l = record (server_aged now l) { pinged = now }
 
 -- no client is known yet
 abbrev pub joined_server : ServerPort → ℕ → List SocketAddrV4 → ServerView
@@ -416,6 +460,7 @@ joined_server port most routers = record {
   counts = no_drops;
   routers = routers;
   far = [];
+  pinged = 0;
 }
 
 abbrev pub new_server : ServerPort → ℕ → ServerView

@@ -8,7 +8,7 @@ use Rattle.ipxnet_server.specs.declared.peer_servers.RemoteClient.{RemoteClient}
 use Rattle.std.specs.declared.net.socket_addr.SocketAddrV4.{SocketAddrV4}
 use Rattle.ipxnet_server.specs.declared.recipients.Recipients.TheVariants.{One}
 use Rattle.ipxnet_server.specs.ServerClients.{EachClientOnce, client_at, client_of_node, max_server_clients}
-use Rattle.ipxnet_server.specs.ServerHears.{IsAnswer, ServerView, answer_of, goes_to_core, is_dropped, is_joined_taker, is_of_client, is_taker, node_given, takers_of}
+use Rattle.ipxnet_server.specs.ServerHears.{IsAnswer, ServerView, answer_of, goes_to_core, is_dropped, is_joined_taker, is_of_client, is_taker, node_given, server_knowing, takers_of}
 use Rattle.ipxnet_server.specs.PeerServers.{is_joined_place, max_remote_clients}
 
 -- how many clients there may be, and the clients
@@ -34,6 +34,12 @@ pub record AreRemoteClients (routers : List SocketAddrV4) (far : List RemoteClie
   pub none : routers ≡ [] → far ≡ []
   pub within : length far ≤ max_remote_clients
   pub all : room ≡ max_remote_clients
+
+-- before a packet is judged its sender became a client, or nothing changed
+pub data MayKnow (from : SocketAddrV4) (now : ℕ) (old new : ServerView) : Type 0 where
+  Same : new ≡ old → MayKnow from now old new
+  Known : is_joined_place from old.routers ≡ false → client_at from old.clients ≡ None
+      → new ≡ server_knowing from now old → MayKnow from now old new
 
 -- what comes from a joined router goes to no joined router and not to the core, and is not answered
 pub record StaysAmongClients (heard : Disposition) : Type 0 where

@@ -13,12 +13,12 @@ use std::net::SocketAddrV4;
 /// The most clients that a server may have, as `IpxnetServer::may_have` says.
 pub const MAX_CLIENTS: usize = 150;
 
-/// A client is forgotten after this many milliseconds of silence: a day.
-pub const FORGOTTEN_AFTER_MS: u64 = 86_400_000;
+/// A client is forgotten after this many milliseconds of silence: five minutes.
+pub const FORGOTTEN_AFTER_MS: u64 = 300_000;
 
 /// If there is no room for another client, one is forgotten after this many milliseconds of
-/// silence: an hour.
-pub const REPLACED_AFTER_MS: u64 = 3_600_000;
+/// silence: a minute.
+pub const REPLACED_AFTER_MS: u64 = 60_000;
 
 /// How many new clients may register in less than a second.
 pub const MAX_RECENT_REGISTRATIONS: usize = 10;
@@ -66,7 +66,7 @@ fn leave_out(known: &mut Vec<Client>, place: SocketAddrV4)
     known.retain(|client| client.place != place);
 }
 
-/// Removes the clients that were silent for a day.
+/// Removes the clients that were silent for five minutes.
 fn leave_out_silent(known: &mut Vec<Client>, now: u64)
     ensures items { known.new.items ≡ clients_left now known.old.items }
     ensures fewer { vec_len known.new ≤ vec_len known.old }
@@ -130,7 +130,7 @@ impl Clients {
         &self.known
     }
 
-    /// Forgets the clients that were silent for a day.
+    /// Forgets the clients that were silent for five minutes.
     pub fn age(&mut self, now: u64)
         ensures left { self.new ≡ record self.old { known = clients_left now self.old.known } }
         ensures few { length self.new.known ≤ self.new.most }
@@ -163,7 +163,7 @@ impl Clients {
     }
 
     /// Whether there is no room for one more: there are as many as allowed, all heard within the
-    /// last hour.
+    /// last minute.
     pub fn is_full(&self, now: u64) -> bool
         ensures { result ≡ is_server_full self.now.most now self.now.known }
     {
@@ -200,9 +200,10 @@ impl Clients {
     pub fn put(&mut self, node: Node, place: SocketAddrV4, now: u64)
         requires { client_at place self.old.known ≡ None
             → client_of_node node self.old.known ≡ None }
-        ensures { self.new ≡ record self.old {
+        ensures put { self.new ≡ record self.old {
           known = clients_heard self.old.most node place now self.old.known;
         } }
+        ensures few { length self.new.known ≤ self.new.most }
     {
         let client = self.heard_at(node, place, now);
         leave_out(&mut self.known, place);

@@ -25,6 +25,8 @@ pub enum Disposition {
     ToOthersAndCore(SocketAddrV4),
     /// Only the core of the port gets it.
     ToCore,
+    /// It answers a ping of the router. Its sender was heard, and nobody gets it.
+    Heard,
     /// A client sent it to a node that no client has. It is sent to these joined routers.
     ToJoined(Recipients),
     /// It came from a joined router, and is sent to these clients. If it shows that a node is at
@@ -35,7 +37,7 @@ pub enum Disposition {
 }
 
 /// The bytes of a header without a body.
-fn bytes_of(header: IpxHeader) -> [u8; IPX_HEADER_SIZE]
+pub fn bytes_of(header: IpxHeader) -> [u8; IPX_HEADER_SIZE]
     ensures { IsIpx (packet_of header []) result [] }
 {
     let mut bytes = [0; IPX_HEADER_SIZE];
@@ -55,8 +57,10 @@ impl Disposition {
             | Disposition::ToOthers(from)
             | Disposition::ToOthersAndCore(from) => { Recipients::Others(from) }
             Disposition::ToJoined(takers) | Disposition::FromJoined(_, takers) => takers,
-            Disposition::Registered(_) | Disposition::ToCore | Disposition::Dropped(_) =>
-                Recipients::Nobody,
+            Disposition::Registered(_)
+            | Disposition::ToCore
+            | Disposition::Heard
+            | Disposition::Dropped(_) => Recipients::Nobody,
         }
     }
 
@@ -80,6 +84,7 @@ impl Disposition {
             | Disposition::ToOthers(_)
             | Disposition::ToOthersAndCore(_)
             | Disposition::ToCore
+            | Disposition::Heard
             | Disposition::ToJoined(_)
             | Disposition::FromJoined(_, _)
             | Disposition::Dropped(_) => None,
@@ -103,6 +108,7 @@ impl Disposition {
             | Disposition::ToOthers(_)
             | Disposition::ToOthersAndCore(_)
             | Disposition::ToCore
+            | Disposition::Heard
             | Disposition::ToJoined(_)
             | Disposition::FromJoined(_, _)
             | Disposition::Dropped(_) => None,

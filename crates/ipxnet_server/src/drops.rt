@@ -9,19 +9,20 @@ pub enum ServerDrop {
     /// It is not a packet, for this cause.
     #[error("{0}")]
     Malformed(IpxFault),
-    /// It is a registration whose node is taken. It is the router's or the broadcast node, or, if
-    /// servers are joined, that of another client here or at a joined router. The value is the
-    /// node.
+    /// Its sender would be a new client whose node is taken. It is the router's or the broadcast
+    /// node, or, if servers are joined, that of another client here or at a joined router. The value
+    /// is the node.
     #[error("the client's node is already in use: {0}")]
     NodeTaken(Node),
-    /// It is a registration, and ten clients registered less than a second ago.
+    /// Its sender would be a new client, and ten became clients less than a second ago.
     #[error("too many registrations in a second")]
     TooManyNew,
-    /// It is a registration, and there are as many clients as allowed, all heard within the last
-    /// hour.
+    /// Its sender would be a new client, and there are as many as allowed, all heard within the
+    /// last minute.
     #[error("the server is full")]
     Full,
-    /// No client is known at its source address.
+    /// No client is known at its source address, and its source node is not the one that a
+    /// registration from there would be given.
     #[error("from an unregistered sender")]
     Unregistered,
     /// Its source node, which is the value, is not the one that its client was given.

@@ -4,7 +4,7 @@ ghost use Rattle.std.specs.Prelude.{◌≡◌, None, Some, nat_lt};
 ghost use Rattle.ipx_wire.specs.declared.ipx.fault.IpxFault.{IpxFault};
 ghost use Rattle.ipx_wire.specs.Ipx.{BeginsWith, PacketView, ipx_fault, packet_view};
 ghost use Rattle.ipxnet_server.specs.ServerHears.{all_get, all_hear, core_hears, has_socket, is_for_server, is_from_server, is_given_from_server, is_given_to_service, is_registration, is_to_all_nodes, is_to_service, joined_takers};
-ghost use Rattle.ipxnet_server.specs.ServerHears.{all_hear_joined, remote_source, server_header, server_hears_elsewhere, may_reach_core, max_client_bytes, one_hears_joined, registration_answer, tells_node, tells_router};
+ghost use Rattle.ipxnet_server.specs.ServerHears.{all_hear_joined, remote_source, server_header, server_hears_elsewhere, may_reach_core, max_client_bytes, one_hears_joined, registration_answer, router_hears, router_ping, tells_node, tells_router};
 
 use crate::clients::Client;
 use crate::disposition::Disposition;
@@ -61,6 +61,13 @@ pub fn answer_with_node(port: ServerPort, node: Node) -> IpxHeader
     ensures { result ≡ registration_answer port node }
 {
     header_between(port.network, node, port.own)
+}
+
+/// The ping that a silent client is sent.
+pub fn ping_from(port: ServerPort) -> IpxHeader
+    ensures { result ≡ router_ping port }
+{
+    header_between(Network::LOCAL, Node::BROADCAST, port.own)
 }
 
 /// Whether a packet, in a datagram of `size` bytes, is a registration.
@@ -183,6 +190,16 @@ pub fn to_core(port: ServerPort, packet: &Packet<'_>) -> Disposition
         return Disposition::Dropped(ServerDrop::Response);
     }
     Disposition::ToCore
+}
+
+/// What becomes of a packet for the router's node. An answer to its ping is for nobody.
+pub fn to_router(port: ServerPort, packet: &Packet<'_>) -> Disposition
+    ensures { result ≡ router_hears port (packet_view packet.now) }
+{
+    if packet.header.to.socket == SERVER_SOCKET {
+        return Disposition::Heard;
+    }
+    to_core(port, packet)
 }
 
 /// What becomes of a packet for all nodes here, in a datagram of `size` bytes.

@@ -1,17 +1,18 @@
 //! What becomes of a packet, from the clients that are known.
 
-ghost use Rattle.std.specs.Prelude.{◌≡◌, []};
+ghost use Rattle.std.specs.Prelude.{◌≡◌, [], None, false, true};
 ghost use Rattle.ipx_wire.specs.Ipx.{packet_view};
-ghost use Rattle.ipxnet_server.specs.ServerClients.{client_of_node, node_of_place};
+ghost use Rattle.ipxnet_server.specs.PeerServers.{is_joined_place};
+ghost use Rattle.ipxnet_server.specs.ServerClients.{client_at, client_of_node, node_of_place};
 ghost use Rattle.ipxnet_server.specs.ServerHears.{client_hears, hear_remote, is_node_here, is_node_taken, is_not_behind, joined_hears, server_hears};
-ghost use Rattle.ipxnet_server.specs.ServerHears.{server_hears_from, server_hears_here, registration_drop, node_given, registration_hears};
+ghost use Rattle.ipxnet_server.specs.ServerHears.{server_hears_from, server_hears_here, registration_drop, node_given, registration_hears, makes_client, stranger_drop, stranger_hears};
 
 use crate::clients::{Client, MAX_RECENT_REGISTRATIONS};
 use crate::disposition::Disposition;
 use crate::drops::ServerDrop;
 use crate::hearing::{
     answer_with_node, elsewhere, is_for_all, is_from_here, is_too_long, joined_takers_of,
-    joined_to_all, joined_to_one, notes_node, registers, stays, to_all, to_core,
+    joined_to_all, joined_to_one, notes_node, registers, stays, to_all, to_router,
 };
 use crate::recipients::Recipients;
 use crate::server::IpxnetServer;
@@ -64,6 +65,42 @@ impl IpxnetServer {
         None
     }
 
+    /// Why a packet makes its sender no client, at an address where none is known.
+    fn refuses_stranger(
+        &self,
+        from: SocketAddrV4,
+        header: IpxHeader,
+        now: u64,
+    ) -> Option<ServerDrop>
+        ensures { result ≡ stranger_drop self.now from header now }
+    {
+        let node = self.node_for(from);
+        if header.from.node != node {
+            return Some(ServerDrop::Unregistered);
+        }
+        self.refuses(node, now)
+    }
+
+    /// Whether a packet, in a datagram of `size` bytes, makes its sender a client.
+    pub(crate) fn admits(
+        &self,
+        from: SocketAddrV4,
+        header: IpxHeader,
+        size: usize,
+        now: u64,
+    ) -> bool
+        ensures admits { result ≡ makes_client self.now from header size now }
+        ensures apart { result ≡ true → is_joined_place from self.now.routers ≡ false }
+        ensures stranger { result ≡ true → client_at from self.now.clients ≡ None }
+        ensures free { result ≡ true
+            → client_of_node (node_given self.now from) self.now.clients ≡ None }
+    {
+        !self.joined.has(from)
+            && !registers(header, size)
+            && self.clients.at(from).is_none()
+            && self.refuses_stranger(from, header, now).is_none()
+    }
+
     /// What becomes of a registration.
     fn registration(&self, from: SocketAddrV4, now: u64, known: Option<Client>) -> Disposition
         ensures { result ≡ registration_hears self.now from now known }
@@ -112,9 +149,19 @@ impl IpxnetServer {
             return to_all(self.port, from, packet, size);
         }
         if packet.header.to.node == self.port.own {
-            return to_core(self.port, packet);
+            return to_router(self.port, packet);
         }
         self.to_node(from, packet.header, size)
+    }
+
+    /// What becomes of a packet from an address where no client is known, and none became one.
+    fn from_stranger(&self, from: SocketAddrV4, header: IpxHeader, now: u64) -> Disposition
+        ensures { result ≡ stranger_hears (stranger_drop self.now from header now) }
+    {
+        match self.refuses_stranger(from, header, now) {
+            Some(drop) => Disposition::Dropped(drop),
+            None => Disposition::Dropped(ServerDrop::Unregistered),
+        }
     }
 
     /// What becomes of a packet from a client's address, if a client is known there.
@@ -123,13 +170,14 @@ impl IpxnetServer {
         from: SocketAddrV4,
         packet: &Packet<'_>,
         size: usize,
+        now: u64,
         known: Option<Client>,
     ) -> Disposition
-        ensures { result ≡ server_hears_from self.now from (packet_view packet.now) size known }
+        ensures { result ≡ server_hears_from self.now from (packet_view packet.now) size now known }
     {
         let header = packet.header;
         let Some(client) = known else {
-            return Disposition::Dropped(ServerDrop::Unregistered);
+            return self.from_stranger(from, header, now);
         };
         if header.from.node != client.node {
             return Disposition::Dropped(ServerDrop::OtherSource(header.from.node));
@@ -182,6 +230,6 @@ impl IpxnetServer {
         if registers(packet.header, size) {
             return self.registration(from, now, known);
         }
-        self.from_client(from, packet, size, known)
+        self.from_client(from, packet, size, now, known)
     }
 }

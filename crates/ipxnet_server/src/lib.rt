@@ -2,8 +2,9 @@
 //!
 //! [`IpxnetServer::hear`] takes a datagram and its source address. It tells what is answered, which
 //! clients the bytes are sent to, and whether the core of the port gets them.
-//! [`IpxnetServer::give`] tells which clients a packet of the core is sent to. Only
-//! [`IpxnetServer::new`] and [`IpxnetServer::joined_to`] allocate memory.
+//! [`IpxnetServer::give`] tells which clients a packet of the core is sent to, and
+//! [`IpxnetServer::begin_pings`] which silent clients are pinged. Only [`IpxnetServer::new`] and
+//! [`IpxnetServer::joined_to`] allocate memory.
 //!
 //! Servers of several routers can be joined as one network. Joined routers get what a client sends
 //! to all nodes, or to a node that no client of its server has. They send it only to their clients.
@@ -18,6 +19,7 @@ mod hearing;
 mod judging;
 mod laws;
 mod peer_servers;
+mod pings;
 mod port;
 mod recipients;
 mod server;
@@ -30,8 +32,9 @@ pub use counts::ServerCounts;
 pub use disposition::Disposition;
 pub use drops::ServerDrop;
 pub use hearing::{MAX_CLIENT_BYTES, SERVER_SOCKET};
-pub use laws::no_given_packet_shows_a_client;
-pub use peer_servers::{MAX_REMOTE_CLIENTS, RemoteClient};
+pub use laws::{no_given_packet_shows_a_client, only_silent_clients_are_pinged, pings_are_seldom};
+pub use peer_servers::{MAX_REMOTE_CLIENTS, REMOTE_FORGOTTEN_AFTER_MS, RemoteClient};
+pub use pings::{PING_PERIOD_MS, PingTurn};
 pub use port::ServerPort;
 pub use recipients::Recipients;
 pub use server::IpxnetServer;

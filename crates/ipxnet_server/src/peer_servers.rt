@@ -6,7 +6,6 @@ ghost use Rattle.ipxnet_server.specs.ServerClients.{node_of_place};
 ghost use Rattle.ipxnet_server.specs.PeerServers.{remote_client_of, remote_clients_heard, remote_clients_left, has_remote_node, is_joined_place, made_node, max_remote_clients, new_client_node};
 
 use crate::client_node::node_of;
-use crate::clients::FORGOTTEN_AFTER_MS;
 use byteorder::{BigEndian, ByteOrder};
 use ipx_wire::Node;
 use std::alloc::{AllocError, Global};
@@ -15,6 +14,9 @@ use std::net::SocketAddrV4;
 
 /// How many clients of joined routers are known at most.
 pub const MAX_REMOTE_CLIENTS: usize = 1024;
+
+/// A client of a joined router is forgotten after this many milliseconds of silence: a day.
+pub const REMOTE_FORGOTTEN_AFTER_MS: u64 = 86_400_000;
 
 /// A client of a joined router.
 #[derive(Clone, Copy, Debug, PartialEq, Eq)]
@@ -68,7 +70,7 @@ fn leave_out_silent(far: &mut Vec<RemoteClient>, now: u64)
     ensures fewer { vec_len far.new ≤ vec_len far.old }
     ensures capacity { vec_capacity far.new ≡ vec_capacity far.old }
 {
-    far.retain(|client| now.saturating_sub(client.heard) < FORGOTTEN_AFTER_MS);
+    far.retain(|client| now.saturating_sub(client.heard) < REMOTE_FORGOTTEN_AFTER_MS);
 }
 
 /// Removes the client that was heard before all others, if there is no room for another.

@@ -2,7 +2,7 @@
 
 ghost use Rattle.std.specs.Prelude.{◌≡◌, ◌≤◌, ◌&&◌, ℕ, All, List, [], IfOk, None, Ok, Option, Some, false, is_some, length, nat_le, true};
 ghost use Rattle.ipx_wire.specs.declared.ipx.fault.IpxFault.{IpxFault};
-ghost use Rattle.ipx_wire.specs.Ipx.{BeginsWith, PacketView, ipx_fault};
+ghost use Rattle.ipx_wire.specs.Ipx.{BeginsWith, IsIpx, PacketView, ipx_fault, packet_of};
 ghost use Rattle.ipx_wire.specs.declared.ipx.packet.IpxHeader.{IpxHeader};
 ghost use Rattle.ipxnet_server.specs.declared.disposition.Disposition.TheVariants.{Dropped, FromJoined, Registered};
 ghost use Rattle.ipxnet_server.specs.declared.drops.ServerDrop.TheVariants.{Malformed};
@@ -12,22 +12,25 @@ ghost use Rattle.ipxnet_server.specs.declared.recipients.Recipients.{Recipients}
 ghost use Rattle.ipxnet_server.specs.declared.recipients.Recipients.TheVariants.{One};
 ghost use Rattle.ipxnet_server.specs.ServerClients.{EachClientOnce, client_at, client_heard, client_of_node, clients_left, max_server_clients, node_of_place};
 ghost use Rattle.ipxnet_server.specs.ServerHears.{IsAnswer, answer_of, goes_to_core, is_dropped, is_from_server, is_joined_taker, is_of_client, is_taker};
-ghost use Rattle.ipxnet_server.specs.ServerHears.{joined_server, server_aged, server_gives, server_giving, server_hearing, server_knowing, server_learned};
+ghost use Rattle.ipxnet_server.specs.ServerHears.{joined_server, router_ping, server_aged, server_dropping, server_gives, server_giving, server_hearing, server_knowing, server_learned, server_met, server_pinging};
 ghost use Rattle.ipxnet_server.specs.ServerHears.{server_hears, may_reach_core, new_server, node_given, takers_join, takers_of, takers_reach};
-ghost use Rattle.ipxnet_server.specs.ServerInside.{IsSoundHearing};
+ghost use Rattle.ipxnet_server.specs.ServerInside.{IsSoundHearing, MayKnow};
 ghost use Rattle.ipxnet_server.specs.PeerServers.{is_joined_place, max_remote_clients};
+ghost use Rattle.ipxnet_server.specs.Pings.{IsNextPing, is_one_pinged};
 
 use crate::clients::{Client, Clients, MAX_CLIENTS};
 use crate::counts::ServerCounts;
-use crate::disposition::Disposition;
+use crate::disposition::{Disposition, bytes_of};
 use crate::drops::ServerDrop;
 use crate::hearing::{
-    comes_from_here, header_of, is_for_service, is_too_long, joined_takers_of, takers_of_all,
+    comes_from_here, header_of, is_for_service, is_too_long, joined_takers_of, ping_from,
+    takers_of_all,
 };
 use crate::peer_servers::{Joined, RemoteClient};
+use crate::pings::{PingTurn, next_ping};
 use crate::port::ServerPort;
 use crate::recipients::Recipients;
-use ipx_wire::{IpxHeader, Node, decode};
+use ipx_wire::{IPX_HEADER_SIZE, IpxHeader, Node, decode};
 use std::alloc::{AllocError, Global};
 use std::marker::Model;
 use std::net::SocketAddrV4;
@@ -40,6 +43,7 @@ pub struct IpxnetServer {
     pub(crate) clients: Clients,
     pub(crate) counts: ServerCounts,
     pub(crate) joined: Joined,
+    pub(crate) pinged: u64,
 }
 
 impl Model for IpxnetServer {
@@ -56,6 +60,7 @@ impl Model for IpxnetServer {
       counts = l.counts;
       routers = l.joined.routers;
       far = l.joined.far;
+      pinged = l.pinged;
     } };
 
     ghost invariant = { λ l. l.joined.routers ≡ [] → All HasPlaceNode l.clients.known };
@@ -99,6 +104,7 @@ impl IpxnetServer {
             clients,
             counts: ServerCounts::new(),
             joined,
+            pinged: 0,
         })
     }
 
@@ -174,14 +180,32 @@ impl IpxnetServer {
         }
     }
 
-    /// The client at an address was heard.
+    /// The client at an address was heard, or becomes one.
     fn know(&mut self, from: SocketAddrV4, now: u64)
         requires { client_at from self.old.clients ≡ None
             → client_of_node (node_given self.old from) self.old.clients ≡ None }
-        ensures { self.new ≡ server_knowing from now self.old }
+        ensures knows { self.new ≡ server_knowing from now self.old }
+        ensures few { length self.new.clients ≤ self.new.most }
     {
         let node = self.node_for(from);
         self.clients.put(node, from, now);
+    }
+
+    /// Makes the sender of a datagram a client, if its packet does that.
+    fn meet(&mut self, from: SocketAddrV4, bytes: &[u8], now: u64)
+        requires few { length self.old.clients ≤ self.old.most }
+        ensures packet { (p : PacketView) → BeginsWith bytes.now p
+            → self.new ≡ server_met from p.header (length bytes.now) now self.old }
+        ensures malformed { (f : IpxFault) → ipx_fault bytes.now ≡ Some f → self.new ≡ self.old }
+        ensures known { MayKnow from now self.old self.new }
+        ensures few { length self.new.clients ≤ self.new.most }
+    {
+        let Some(header) = header_of(bytes) else {
+            return;
+        };
+        if self.admits(from, header, bytes.len(), now) {
+            self.know(from, now);
+        }
     }
 
     /// The joined router at an address showed where a node is, or nothing.
@@ -212,11 +236,13 @@ impl IpxnetServer {
             | Disposition::ToOthers(_)
             | Disposition::ToOthersAndCore(_)
             | Disposition::ToJoined(_)
-            | Disposition::ToCore => self.know(from, now),
+            | Disposition::ToCore
+            | Disposition::Heard => self.know(from, now),
         }
     }
 
-    /// Forgets the clients that were silent for a day.
+    /// Forgets the clients that were silent for five minutes, and those of joined routers that were
+    /// silent for a day.
     fn age(&mut self, now: u64)
         ensures aged { self.new ≡ server_aged now self.old }
         ensures few { length self.new.clients ≤ self.new.most }
@@ -231,16 +257,23 @@ impl IpxnetServer {
     ///
     /// Call it with each datagram. First send the answer to that address. Then send the bytes, as
     /// they arrived, to each client and joined router among the takers, and the announcement to
-    /// each joined router. A dropped datagram changes only the count of its cause. Each call
-    /// forgets the clients that were silent for a day.
+    /// each joined router. A dropped datagram changes only the count of its cause, unless it makes
+    /// its sender a client. Each call forgets the clients that were silent for five minutes.
     pub fn hear(&mut self, from: SocketAddrV4, bytes: &[u8], now: u64) -> Disposition
         // What becomes of it, if the bytes are no packet, and if they begin with one.
         ensures malformed { (f : IpxFault) → ipx_fault bytes.now ≡ Some f
             → result ≡ Dropped (Malformed f) }
         ensures packet { (p : PacketView) → BeginsWith bytes.now p
-            → result ≡ server_hears (server_aged now self.old) from p (length bytes.now) now }
-        // What the server is then.
-        ensures server { self.new ≡ server_hearing result from now (server_aged now self.old) }
+            → result ≡ server_hears (server_met from p.header (length bytes.now) now
+            (server_aged now self.old)) from p (length bytes.now) now }
+        // What the server is then. A packet finds its sender among the clients, if it makes it one.
+        ensures server { (p : PacketView) → BeginsWith bytes.now p
+            → self.new ≡ server_hearing result from now (server_met from p.header (length bytes.now)
+            now (server_aged now self.old)) }
+        ensures unread { (f : IpxFault) → ipx_fault bytes.now ≡ Some f
+            → self.new ≡ server_dropping (Malformed f) (server_aged now self.old) }
+        ensures stays { (self.new.port ≡ self.old.port) × (self.new.most ≡ self.old.most)
+            × (self.new.routers ≡ self.old.routers) × (self.new.pinged ≡ self.old.pinged) }
         // It is never sent back to its sender, except as an answer. A registration has an answer of
         // as many bytes.
         ensures back { is_taker (takers_of result) from ≡ false }
@@ -272,6 +305,7 @@ impl IpxnetServer {
             → self.new.far ≡ (server_aged now self.old).far }
     {
         self.age(now);
+        self.meet(from, bytes, now);
         let heard = self.judge(from, bytes, now);
         self.keep(heard, from, now);
         heard
@@ -304,6 +338,37 @@ impl IpxnetServer {
             Err(drop) => self.counts.count(drop),
         }
         takers
+    }
+
+    /// Begins a turn of pings at time `now`, in ms, and forgets the clients that were silent for
+    /// five minutes. Send `ping` to each of `clients` that the turn pings. What answers it is heard
+    /// like any packet, so a client that answers is not forgotten. It allocates no memory.
+    pub fn begin_pings(&mut self, now: u64) -> PingTurn
+        ensures turn { result ≡ record { before = self.old.pinged; now = now } }
+        ensures server { self.new ≡ server_pinging now self.old }
+    {
+        self.age(now);
+        let turn = PingTurn {
+            before: self.pinged,
+            now,
+        };
+        self.pinged = now;
+        turn
+    }
+
+    /// When the next turn of pings is due, in ms, if no datagram comes before. None if no clock can
+    /// show that time.
+    pub fn next_pings(&self) -> Option<u64>
+        ensures { IsNextPing (is_one_pinged self.now.pinged self.now.clients) result }
+    {
+        next_ping(self.pinged, self.clients.all())
+    }
+
+    /// The ping of the router, as it is sent to silent clients.
+    pub fn ping(&self) -> [u8; IPX_HEADER_SIZE]
+        ensures { IsIpx (packet_of (router_ping self.now.port) []) result [] }
+    {
+        bytes_of(ping_from(self.port))
     }
 
     /// Which clients and joined routers a packet of the core, with this header and of `size` bytes,

@@ -37,7 +37,7 @@ pub fn give(
 #[test]
 fn datagrams_of_three_players(rt: HostRuntime) -> Result<(), Fail> {
     let mut server = IpxnetServer::new(rt.alloc(), PORT, 64)?;
-    // Before a player registers nobody gets anything, and what it sends is dropped.
+    // Its first packet makes the first player a client, and the second is none yet.
     assert_eq!(rt;
         give(&mut server, first_place(), &CAME),
         (false, [false; 3], false)

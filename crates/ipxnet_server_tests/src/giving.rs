@@ -96,17 +96,17 @@ fn long_packets_of_the_core(rt: HostRuntime) -> Result<(), Fail> {
     Ok(())
 }
 
-/// A player that was silent for a day gets none.
+/// A player that was silent for five minutes gets none.
 #[test]
 fn to_one_who_is_forgotten(rt: HostRuntime) -> Result<(), Fail> {
     let mut server = IpxnetServer::new(rt.alloc(), PORT, 64)?;
     server.hear(first_place(), &REGISTRATION, 5);
     assert_eq!(rt;
-        server.give(FIRST_NODE, &[0; 40], 86_400_004),
+        server.give(FIRST_NODE, &[0; 40], 300_004),
         Ok(Recipients::One(first_place()))
     );
     assert_eq!(rt;
-        server.give(FIRST_NODE, &[0; 40], 86_400_005),
+        server.give(FIRST_NODE, &[0; 40], 300_005),
         Err(ServerDrop::NoSuchNode(FIRST_NODE))
     );
     assert!(rt; server.clients().is_empty());

@@ -15,11 +15,15 @@ mod giving;
 #[cfg(test)]
 mod joined;
 #[cfg(test)]
+mod pinging;
+#[cfg(test)]
 mod pings;
 #[cfg(test)]
 mod refused;
 #[cfg(test)]
 mod registering;
+#[cfg(test)]
+mod restart;
 #[cfg(test)]
 mod room;
 #[cfg(test)]

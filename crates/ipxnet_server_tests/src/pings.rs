@@ -1,7 +1,9 @@
 //! What `ipxnet ping` sends, and who answers it.
 
 use crate::caller::give;
-use crate::fixture::{CAME, PORT, first_place, register_all, second_place, third_place};
+use crate::fixture::{
+    CAME, PORT, REGISTRATION, first_place, register_all, second_place, third_place,
+};
 use ipxnet_server::{Disposition, IpxnetServer, ServerDrop};
 use std::test::Fail;
 
@@ -55,7 +57,8 @@ fn a_ping_of_another_kind(rt: HostRuntime) -> Result<(), Fail> {
     Ok(())
 }
 
-/// A ping to one node is sent there like any packet, and one to another network is dropped.
+/// A ping to one node is sent there like any packet. To the router's node it is what an answer to a
+/// ping is too: for nobody. One to another network is dropped.
 #[test]
 fn pings_that_the_router_leaves(rt: HostRuntime) -> Result<(), Fail> {
     let mut server = IpxnetServer::new(rt.alloc(), PORT, 64)?;
@@ -67,7 +70,7 @@ fn pings_that_the_router_leaves(rt: HostRuntime) -> Result<(), Fail> {
         Disposition::ToClient(third_place())
     );
     bytes[10..16].copy_from_slice(&PORT.own.0);
-    assert_eq!(rt; server.hear(first_place(), &bytes, 0), Disposition::ToCore);
+    assert_eq!(rt; server.hear(first_place(), &bytes, 0), Disposition::Heard);
     let mut elsewhere = PING;
     elsewhere[9] = 0x99;
     let dropped = server.hear(first_place(), &elsewhere, 0);
@@ -82,9 +85,9 @@ fn pings_that_the_router_leaves(rt: HostRuntime) -> Result<(), Fail> {
 #[test]
 fn a_ping_of_an_unknown_sender(rt: HostRuntime) -> Result<(), Fail> {
     let mut server = IpxnetServer::new(rt.alloc(), PORT, 64)?;
-    server.hear(second_place(), &crate::fixture::REGISTRATION, 0);
+    server.hear(second_place(), &REGISTRATION, 0);
     assert_eq!(rt;
-        give(&mut server, first_place(), &PING),
+        give(&mut server, third_place(), &PING),
         (false, [false; 3], false)
     );
     assert_eq!(rt; server.counts().unregistered, 1);

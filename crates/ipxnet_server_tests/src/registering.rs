@@ -144,7 +144,7 @@ fn nodes_that_are_taken(rt: HostRuntime) -> Result<(), Fail> {
     assert_eq!(rt; server.counts().node_taken, 2);
     assert_eq!(rt;
         server.hear(first_place(), &CAME, 0),
-        Disposition::Dropped(ServerDrop::Unregistered)
+        Disposition::Dropped(ServerDrop::NodeTaken(FIRST_NODE))
     );
     Ok(())
 }

@@ -48,7 +48,7 @@ fn ten_before_the_clock_went_back(rt: HostRuntime) -> Result<(), Fail> {
     Ok(())
 }
 
-/// In a full server, the player that was silent longest makes room after an hour.
+/// In a full server, the player that was silent longest makes room after a minute.
 #[test]
 fn who_makes_room(rt: HostRuntime) -> Result<(), Fail> {
     let mut server = IpxnetServer::new(rt.alloc(), PORT, 2)?;
@@ -61,19 +61,19 @@ fn who_makes_room(rt: HostRuntime) -> Result<(), Fail> {
         20,
     );
     assert_eq!(rt;
-        registers(&mut server, third_place(), 3_600_009),
+        registers(&mut server, third_place(), 60_009),
         Some(ServerDrop::Full)
     );
     assert_eq!(rt; server.counts().full, 1);
     // A known client registers as before.
     assert_eq!(rt; server.clients().len(), 2);
-    assert_eq!(rt; registers(&mut server, third_place(), 3_600_010), None);
+    assert_eq!(rt; registers(&mut server, third_place(), 60_010), None);
     assert_eq!(rt; server.clients().len(), 2);
     assert_eq!(rt; server.clients()[0].place, first_place());
     assert_eq!(rt; server.clients()[1].place, third_place());
-    assert_eq!(rt; registers(&mut server, first_place(), 3_600_011), None);
+    assert_eq!(rt; registers(&mut server, first_place(), 60_011), None);
     assert_eq!(rt;
-        registers(&mut server, second_place(), 3_600_012),
+        registers(&mut server, second_place(), 60_012),
         Some(ServerDrop::Full)
     );
     Ok(())
@@ -105,7 +105,7 @@ fn ten_in_a_second(rt: HostRuntime) -> Result<(), Fail> {
     Ok(())
 }
 
-/// A hundred and fifty, and no more within the hour.
+/// A hundred and fifty, and no more within the minute.
 #[test]
 fn a_full_server(rt: HostRuntime) -> Result<(), Fail> {
     let mut server = IpxnetServer::new(rt.alloc(), PORT, 150)?;
@@ -117,10 +117,10 @@ fn a_full_server(rt: HostRuntime) -> Result<(), Fail> {
     }
     assert_eq!(rt; server.clients().len(), 150);
     assert_eq!(rt;
-        registers(&mut server, place(151), 3_600_099),
+        registers(&mut server, place(151), 60_099),
         Some(ServerDrop::Full)
     );
-    assert_eq!(rt; registers(&mut server, place(151), 3_600_100), None);
+    assert_eq!(rt; registers(&mut server, place(151), 60_100), None);
     assert_eq!(rt; server.clients().len(), 150);
     assert_eq!(rt; server.clients()[0].place, place(2));
     Ok(())

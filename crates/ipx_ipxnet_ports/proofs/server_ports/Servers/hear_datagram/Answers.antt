@@ -19,8 +19,13 @@ returns-then-not-is_for_core-clause-heard g c =
       after = after;
       heard = heard;
       at_port = slice_get_read servers (length servers) c.args.port server (refl {a = length servers}) c.requires.server c.index_mut-server.ensures.value;
-      hears = record { malformed = c.hear-heard.ensures.malformed; packet = c.hear-heard.ensures.packet };
-      becomes = c.hear-heard.ensures.server;
+      hears = record {
+        malformed = c.hear-heard.ensures.malformed;
+        unread = c.hear-heard.ensures.unread;
+        packet = c.hear-heard.ensures.packet;
+        becomes = c.hear-heard.ensures.server;
+        stays = c.hear-heard.ensures.stays;
+      };
       onward = onward;
       known = sends_known (is_joined_place c.args.from server.routers) after heard d onward.answer _ onward.answered c.hear-heard.ensures.sender c.hear-heard.ensures.unanswered;
       joined = sends_joined after heard d onward.announcement;
@@ -44,8 +49,13 @@ returns-clause-heard g c =
       after = after;
       heard = heard;
       at_port = slice_get_read servers (length servers) c.args.port server (refl {a = length servers}) c.requires.server c.index_mut-server.ensures.value;
-      hears = record { malformed = c.hear-heard.ensures.malformed; packet = c.hear-heard.ensures.packet };
-      becomes = c.hear-heard.ensures.server;
+      hears = record {
+        malformed = c.hear-heard.ensures.malformed;
+        unread = c.hear-heard.ensures.unread;
+        packet = c.hear-heard.ensures.packet;
+        becomes = c.hear-heard.ensures.server;
+        stays = c.hear-heard.ensures.stays;
+      };
       onward = onward;
       known = sends_known (is_joined_place c.args.from server.routers) after heard d onward.answer _ onward.answered c.hear-heard.ensures.sender c.hear-heard.ensures.unanswered;
       joined = sends_joined after heard d onward.announcement;

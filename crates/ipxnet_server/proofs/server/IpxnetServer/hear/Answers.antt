@@ -1,21 +1,60 @@
 use Rattle.std.proofs.Common.{◌≡◌, true, Some, length, not, ap, refl, subst, ◌∙◌}
 use Rattle.std.specs.Prelude.{is_some}
 use Rattle.ipxnet_server.specs.declared.disposition.Disposition.{Disposition}
+use Rattle.ipx_wire.specs.Ipx.{BeginsWith, PacketView}
 use Rattle.ipxnet_server.specs.ServerClients.{client_at, client_heard}
-use Rattle.ipxnet_server.specs.ServerHears.{ServerView, goes_to_core, is_of_client, may_reach_core, node_given}
+use Rattle.ipxnet_server.specs.declared.drops.ServerDrop.TheVariants.{Malformed}
+use Rattle.ipxnet_server.specs.ServerHears.{ServerView, goes_to_core, is_of_client, may_reach_core, node_given, server_aged, server_dropping, server_hearing, server_hears, server_met}
 use Rattle.ipxnet_server.specs.ServerInside.{StaysAmongClients}
 use Rattle.ipxnet_server.specs.PeerServers.{is_joined_place}
 use Rattle.ipxnet_server.proofs.Hears.{core_law, told_joined}
-use Rattle.ipxnet_server.proofs.Still.{hearing_clients, hearing_far, heard_found, others_clients, taker_kept}
+use Rattle.ipxnet_server.proofs.Still.{hearing_clients, hearing_far, hearing_rest, heard_found, met_heard, met_joined, met_rest, others_clients, taker_kept}
 use Rattle.ipxnet_server.proofs.server.IpxnetServer.hear.Goals as goal
 
 pub keep-requires-clause-joined : goal.keep-requires-clause-joined
 keep-requires-clause-joined c =
-    λ told takers e. told_joined (is_joined_place c.args.from c.age.new.self.routers) c.judge-heard.result told takers c.judge-heard.ensures.sound.member e
+    λ told takers e. told_joined (is_joined_place c.args.from c.meet.new.self.routers) c.judge-heard.result told takers c.judge-heard.ensures.sound.member e
+
+-- only its clients changed before the packet was judged
+rest : (c : goal.After-keep) → record c.meet.new.self { clients = c.age.new.self.clients } ≡ server_aged c.args.now c.args.self.now
+rest c = met_rest c.args.from c.args.now c.age.new.self c.meet.new.self c.meet.ensures.known ∙ c.age.ensures.aged
 
 -- the server has the routers that it had
-routers : (c : goal.After-keep) → is_joined_place c.args.from c.age.new.self.routers ≡ is_joined_place c.args.from c.args.self.now.routers
-routers c = ap (λ (v : ServerView). is_joined_place c.args.from v.routers) c.age.ensures.aged
+routers : (c : goal.After-keep) → is_joined_place c.args.from c.meet.new.self.routers ≡ is_joined_place c.args.from c.args.self.now.routers
+routers c = ap (λ (v : ServerView). is_joined_place c.args.from v.routers) (rest c)
+
+-- a packet finds the server with its sender, if it makes it a client
+met : (c : goal.After-keep) (p : PacketView) → BeginsWith c.args.bytes.now p
+    → c.meet.new.self ≡ server_met c.args.from p.header (length c.args.bytes.now) c.args.now (server_aged c.args.now c.args.self.now)
+met c p begins =
+    c.meet.ensures.packet p begins ∙ ap (server_met c.args.from p.header (length c.args.bytes.now) c.args.now) c.age.ensures.aged
+
+pub returns-clause-packet : goal.returns-clause-packet
+returns-clause-packet c =
+    λ p begins.
+    c.judge-heard.ensures.packet p begins
+    ∙ ap (λ (v : ServerView). server_hears v c.args.from p (length c.args.bytes.now) c.args.now) (met c p begins)
+
+pub returns-clause-server : goal.returns-clause-server
+returns-clause-server c =
+    λ p begins. c.keep.ensures ∙ ap (server_hearing c.judge-heard.result c.args.from c.args.now) (met c p begins)
+
+pub returns-clause-unread : goal.returns-clause-unread
+returns-clause-unread c =
+    λ f faulty.
+    c.keep.ensures
+    ∙ ap (λ (heard : Disposition). server_hearing heard c.args.from c.args.now c.meet.new.self) (c.judge-heard.ensures.malformed f faulty)
+    ∙ ap (server_dropping (Malformed f)) (c.meet.ensures.malformed f faulty ∙ c.age.ensures.aged)
+
+pub returns-clause-stays : goal.returns-clause-stays
+returns-clause-stays c =
+    let heard = c.judge-heard.result in
+    let kept = hearing_rest heard c.args.from c.args.now c.meet.new.self in (
+      ap (λ (v : ServerView). v.port) c.keep.ensures ∙ ap (λ r. r.0) kept ∙ ap (λ (v : ServerView). v.port) (rest c),
+      ap (λ (v : ServerView). v.most) c.keep.ensures ∙ ap (λ r. r.1) kept ∙ ap (λ (v : ServerView). v.most) (rest c),
+      ap (λ (v : ServerView). v.routers) c.keep.ensures ∙ ap (λ r. r.2) kept ∙ ap (λ (v : ServerView). v.routers) (rest c),
+      ap (λ (v : ServerView). v.pinged) c.keep.ensures ∙ ap (λ r. r.3) kept ∙ ap (λ (v : ServerView). v.pinged) (rest c),
+    )
 
 stays : (c : goal.After-keep) → is_joined_place c.args.from c.args.self.now.routers ≡ true → StaysAmongClients c.judge-heard.result
 stays c is = c.judge-heard.ensures.sound.joined (routers c ∙ is)
@@ -25,26 +64,27 @@ returns-clause-sender c =
     let from = c.args.from in
     let now = c.args.now in
     let heard = c.judge-heard.result in
-    let l = c.age.new.self in
+    let l = c.meet.new.self in
     λ e apart.
     let sent : is_of_client heard ≡ true = c.judge-heard.ensures.sound.member (routers c ∙ apart) ∙ ap not e in
     ap (λ (v : ServerView). client_at from v.clients) c.keep.ensures ∙ ap (client_at from) (hearing_clients heard from now l sent) ∙ heard_found l.most now (node_given l from) from l.clients
+    ∙ met_heard from now c.age.new.self l c.meet.ensures.known
     ∙ ap (λ (v : ServerView). Some (client_heard (node_given v from) from now (client_at from v.clients))) c.age.ensures.aged
 
 pub returns-clause-taker : goal.returns-clause-taker
 returns-clause-taker c =
     let heard = c.judge-heard.result in
-    let l = c.age.new.self in
+    let l = c.meet.new.self in
     let sound = c.judge-heard.ensures.sound in
     λ place e.
     ap (λ (v : ServerView). is_some (client_at place v.clients)) c.keep.ensures
-    ∙ taker_kept (is_of_client heard) heard c.args.from place c.args.now l refl c.age.ensures.few sound.back e (λ sent. sound.sender place sent e) (sound.taker place e)
+    ∙ taker_kept (is_of_client heard) heard c.args.from place c.args.now l refl c.meet.ensures.few sound.back e (λ sent. sound.sender place sent e) (sound.taker place e)
 
 pub returns-clause-core : goal.returns-clause-core
 returns-clause-core c =
-    let l = c.age.new.self in
+    let l = c.meet.new.self in
     λ p begins goes.
-    subst (λ (v : ServerView). may_reach_core v.port p ≡ true) c.age.ensures.aged
+    subst (λ (v : ServerView). may_reach_core v.port p ≡ true) (rest c)
     (core_law l c.args.from p (length c.args.bytes.now) c.args.now (subst (λ (heard : Disposition). goes_to_core heard ≡ true) (c.judge-heard.ensures.packet p begins) goes))
 
 pub returns-clause-ring : goal.returns-clause-ring
@@ -56,12 +96,16 @@ returns-clause-apart c = λ is. (stays c is).core
 pub returns-clause-unanswered : goal.returns-clause-unanswered
 returns-clause-unanswered c = λ is. (stays c is).answer
 
+before : (c : goal.After-keep) → is_joined_place c.args.from c.args.self.now.routers ≡ true → is_joined_place c.args.from c.age.new.self.routers ≡ true
+before c is = ap (λ (v : ServerView). is_joined_place c.args.from v.routers) c.age.ensures.aged ∙ is
+
 pub returns-clause-members : goal.returns-clause-members
 returns-clause-members c =
     λ is.
-    ap (λ (v : ServerView). v.clients) c.keep.ensures ∙ others_clients c.judge-heard.result c.args.from c.args.now c.age.new.self (stays c is).client ∙ ap (λ (v : ServerView). v.clients) c.age.ensures.aged
+    ap (λ (v : ServerView). v.clients) c.keep.ensures ∙ others_clients c.judge-heard.result c.args.from c.args.now c.meet.new.self (stays c is).client
+    ∙ ap (λ (v : ServerView). v.clients) (met_joined c.args.from c.args.now c.age.new.self c.meet.new.self c.meet.ensures.known (before c is) ∙ c.age.ensures.aged)
 
 pub returns-clause-told : goal.returns-clause-told
 returns-clause-told c =
     λ apart.
-    ap (λ (v : ServerView). v.far) c.keep.ensures ∙ hearing_far c.judge-heard.result c.args.from c.args.now c.age.new.self (c.judge-heard.ensures.sound.member (routers c ∙ apart)) ∙ ap (λ (v : ServerView). v.far) c.age.ensures.aged
+    ap (λ (v : ServerView). v.far) c.keep.ensures ∙ hearing_far c.judge-heard.result c.args.from c.args.now c.meet.new.self (c.judge-heard.ensures.sound.member (routers c ∙ apart)) ∙ ap (λ (v : ServerView). v.far) (rest c)

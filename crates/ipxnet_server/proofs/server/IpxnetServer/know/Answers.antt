@@ -13,5 +13,5 @@ invariant_of-self c =
     let known = c.self.inside.clients.known in
     λ alone.
     let node : c.node_for-node.result ≡ node_of_place c.args.from = c.node_for-node.ensures.alone (sym (ap (λ (v : ServerView). v.routers) c.self.view_is) ∙ alone) in
-    subst (λ (v : ClientsView). All HasPlaceNode v.known) (sym c.put.ensures)
+    subst (λ (v : ClientsView). All HasPlaceNode v.known) (sym c.put.ensures.put)
     (subst (λ (n : Node). All HasPlaceNode (clients_heard most n c.args.from c.args.now known)) (sym node) (nodes_heard most c.args.now c.args.from known (c.self.invariant alone)))

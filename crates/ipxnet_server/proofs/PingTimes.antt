@@ -1,0 +1,95 @@
+-- When clients are pinged.
+use Rattle.std.proofs.Common.{◌≡◌, ◌≤◌, ◌<◌, ◌+◌, ◌-◌, ◌*◌, ◌/◌, ◌^◌, ℕ, List, [], ◌∷◌, ◌++◌, Bool, true, false, Option, Some, None, length, take, get_or, arith, refl, sym, ap, subst, ◌∙◌, ltb-true}
+use Rattle.std.specs.Prelude.{◌||◌, nat_le, nat_lt, if◌then◌else◌}
+use Rattle.std.specs.List.{list_any}
+use Rattle.std.proofs.lemmas.Bool.{false_from_ne_true, leb-false, leb-true, le-leb, lt-ltb, or_left, or_right}
+use Rattle.std.proofs.lemmas.List.{take_more}
+use Rattle.std.proofs.lemmas.List.Folds.{list_any-append}
+use Rattle.ipxnet_server.specs.declared.clients.Client.{Client}
+use Rattle.ipxnet_server.specs.declared.pings.PingTurn.{PingTurn}
+use Rattle.ipxnet_server.specs.Pings.{AreInOrder, IsNextPing, OnlySilentArePinged, PingsAreSeldom, earlier, is_one_pinged, is_past, is_pinged, ping_period, pings_by, turns_that_ping}
+
+-- ---- tests
+
+same_test : (a b : Bool) → (a ≡ true → b ≡ true) → (b ≡ true → a ≡ true) → a ≡ b
+same_test true b f g = sym (f refl)
+same_test false true f g = g refl
+same_test false false f g = refl
+
+or_none : (b : Bool) → (b || false) ≡ b
+or_none true = refl
+or_none false = refl
+
+one_of : {P : Type 0} (a b : Bool) → (a ≡ true → P) → (b ≡ true → P) → (a || b) ≡ true → P
+one_of true b f g e = f refl
+one_of false b f g e = g e
+
+more : (a b : ℕ) → nat_le a b ≡ false → b ≤ a
+more a b e = omega (arith, leb-false a b e)
+
+abbrev turn : ℕ → ℕ → PingTurn
+turn before now = record { before = before; now = now }
+
+-- ---- one client
+
+pub next_time : (before time now : ℕ) (c : Client) → time ≡ c.heard + (pings_by before c + 1) * ping_period → is_pinged (record { before = before; now = now }) c ≡ nat_le time now
+next_time before time now c is =
+    same_test (nat_lt (pings_by before c) (pings_by now c)) (nat_le time now)
+    (λ e. le-leb time now (omega (arith, is, ltb-true (pings_by before c) (pings_by now c) e)))
+    (λ e. lt-ltb (pings_by before c) (pings_by now c) (omega (arith, is, leb-true time now e)))
+
+pub no_time : (before now : ℕ) (c : Client) → now < c.heard + (pings_by before c + 1) * ping_period → is_pinged (record { before = before; now = now }) c ≡ false
+no_time before now c late =
+    false_from_ne_true (nat_lt (pings_by before c) (pings_by now c))
+    (λ e. absurd (omega (arith, late, ltb-true (pings_by before c) (pings_by now c) e)))
+
+-- ---- the earlier of two times
+
+past_by : (a b now : ℕ) (less : Bool) → nat_le a b ≡ less → (nat_le a now || nat_le b now) ≡ nat_le (if less then a else b) now
+past_by a b now true is =
+    same_test (nat_le a now || nat_le b now) (nat_le a now)
+    (one_of (nat_le a now) (nat_le b now) (λ e. e) (λ e. le-leb a now (omega (arith, leb-true a b is, leb-true b now e))))
+    (λ e. or_left (nat_le a now) (nat_le b now) e)
+past_by a b now false is =
+    same_test (nat_le a now || nat_le b now) (nat_le b now)
+    (one_of (nat_le a now) (nat_le b now) (λ e. le-leb b now (omega (arith, more a b is, leb-true a now e))) (λ e. e))
+    (λ e. or_right (nat_le a now) (nat_le b now) e)
+
+pub past_earlier : (a b : Option ℕ) (now : ℕ) → (is_past a now || is_past b now) ≡ is_past (earlier a b) now
+past_earlier None b now = refl
+past_earlier (Some a) None now = or_none (nat_le a now)
+past_earlier (Some a) (Some b) now = past_by a b now (nat_le a b) refl
+
+-- ---- clients, one after another
+
+pub next_of_none : (before : ℕ) → IsNextPing (is_one_pinged before []) None
+next_of_none before now lt = refl
+
+pub next_of_more : (before i : ℕ) (d : Client) (cs : List Client) (a b : Option ℕ) → i < length cs → IsNextPing (is_one_pinged before (take i cs)) a
+    → IsNextPing (λ now. is_pinged (record { before = before; now = now }) (get_or cs i d)) b → IsNextPing (is_one_pinged before (take (i + 1) cs)) (earlier a b)
+next_of_more before i d cs a b less first one now lt =
+    let p = is_pinged (turn before now) in
+    ap (list_any p) (take_more cs i d less) ∙ list_any-append p (take i cs) (get_or cs i d ∷ [])
+    ∙ ap (λ (t : Bool). list_any p (take i cs) || t) (or_none (p (get_or cs i d)))
+    ∙ ap (λ (t : Bool). t || p (get_or cs i d)) (first now lt) ∙ ap (λ (t : Bool). is_past a now || t) (one now lt) ∙ past_earlier a b now
+
+-- ---- the laws
+
+pub silent_pinged : OnlySilentArePinged
+silent_pinged t c e = omega (arith, ltb-true (pings_by t.before c) (pings_by t.now c) e)
+
+later : (before time : ℕ) (c : Client) → before ≤ time → pings_by before c ≤ pings_by time c
+later before time c le = omega (arith, le)
+
+one_more : (b : Bool) (x y : ℕ) → nat_lt x y ≡ b → x ≤ y → (if b then 1 else 0) + x ≤ y
+one_more true x y is le = omega (arith, ltb-true x y is)
+one_more false x y is le = omega (arith, le)
+
+pub few_pings : PingsAreSeldom
+few_pings c before now [] order = omega (arith, later before now c order)
+few_pings c before now (time ∷ times) order =
+    let x = pings_by before c in
+    let y = pings_by time c in
+    let rest = few_pings c time now times order.1 in
+    let first = one_more (nat_lt x y) x y refl (later before time c order.0) in
+    omega (arith, first, rest)

@@ -1,0 +1,61 @@
+-- When a server pings its silent clients. Defined by this project.
+use Rattle.std.specs.Prelude.{◌≡◌, ◌≤◌, ◌<◌, ◌^◌, ℕ, ◌+◌, ◌-◌, ◌/◌, List, [], ◌∷◌, Bool, true, false, nat_le, nat_lt, Option, Some, None, if◌then◌else◌}
+use Rattle.std.specs.List.{list_any}
+use Rattle.ipxnet_server.specs.declared.clients.Client.{Client}
+use Rattle.ipxnet_server.specs.declared.pings.PingTurn.{PingTurn}
+
+-- a silent client is pinged each time that so many more ms have passed
+abbrev pub ping_period : ℕ
+ping_period = 25000
+
+-- how many pings its silence is worth: one for each whole period; if the clock went back, no time has passed
+abbrev pub pings_by : ℕ → Client → ℕ
+pings_by now c = (now - c.heard) / ping_period
+
+-- a turn pings a client: its silence is worth more pings than at the turn before
+abbrev pub is_pinged : PingTurn → Client → Bool
+is_pinged turn c = nat_lt (pings_by turn.before c) (pings_by turn.now c)
+
+-- a turn at this time, after one at `before`, pings one of them
+abbrev pub is_one_pinged : ℕ → List Client → ℕ → Bool
+is_one_pinged before clients now = list_any (is_pinged (record { before = before; now = now })) clients
+
+-- it is that time or later, if there is one
+abbrev pub is_past : Option ℕ → ℕ → Bool
+is_past None now = false
+is_past (Some time) now = nat_le time now
+
+-- from this time on that is so, at any time that a clock can show, while none of them is heard
+abbrev pub IsNextPing : (ℕ → Bool) → Option ℕ → Type 0
+IsNextPing pings next = (now : ℕ) → now < 2 ^ 64 → pings now ≡ is_past next now
+
+-- ---- what follows
+
+-- who is pinged was silent for 25 seconds
+abbrev pub OnlySilentArePinged : Type 0
+OnlySilentArePinged =
+    (turn : PingTurn) (c : Client) → is_pinged turn c ≡ true → ping_period ≤ turn.now - c.heard
+
+-- each turn is at a time from `before` on, none is before an earlier one, and the last is at `now` or before
+abbrev pub AreInOrder : ℕ → List ℕ → ℕ → Type 0
+AreInOrder before [] now = before ≤ now
+AreInOrder before (time ∷ times) now = (before ≤ time) × AreInOrder time times now
+
+-- how many turns at these times ping a client that stays silent
+abbrev pub turns_that_ping : ℕ → List ℕ → Client → ℕ
+turns_that_ping before [] c = 0
+turns_that_ping before (time ∷ times) c =
+    (if is_pinged (record { before = before; now = time }) c then 1 else 0) + turns_that_ping time times c
+
+-- however often there is a turn, a silent client gets at most one ping for each whole period of its silence
+abbrev pub PingsAreSeldom : Type 0
+PingsAreSeldom = (c : Client) (before now : ℕ) (times : List ℕ) → AreInOrder before times now
+    → turns_that_ping before times c + pings_by before c ≤ pings_by now c
+
+-- ---- definitions for private functions
+
+-- the earlier of two times, if there is any
+abbrev pub earlier : Option ℕ → Option ℕ → Option ℕ
+earlier None b = b
+earlier (Some a) None = Some a
+earlier (Some a) (Some b) = Some (if nat_le a b then a else b)
