@@ -40,7 +40,8 @@ RFC1234_KEYS = "its keys are kind, network, address, udp_port, cost, peers, rout
 FRAMES_KEYS = "its keys are kind, network, encapsulation, address, udp_port, cost, remotes, node, switch, directed"
 IPXNET_KEYS = "its keys are kind, network, address, udp_port, cost, node, clients, accept, peers, join, directed"
 NETWORK = 'eight hex digits, neither all 0 nor all f, such as "00000011"'
-ADDRESS = 'an IP address of this machine, such as "192.0.2.10"'
+ADDRESS = 'an IP address of this machine, such as "192.0.2.10", or for kind "ipxnet" also "any"'
+HOST_ADDRESS = 'an IP address of this machine, such as "192.0.2.10"'
 NUMBER = "a number from 1 to 65535, such as 213"
 COST = "a number of ticks from 1 to 65535, such as 6"
 PEERS = 'a list of IP addresses, such as ["198.51.100.7", "203.0.113.9"]'
@@ -150,6 +151,7 @@ ROUTER_FILES = [
     (changed(PORT, "address", '"127.0.1.256"'), f"port 1: address: expected {ADDRESS}"),
     (changed(PORT, "address", '"localhost"'), f"port 1: address: expected {ADDRESS}"),
     (changed(PORT, "address", '"0.0.0.0"'), f"port 1: address: expected {ADDRESS}"),
+    (changed(PORT, "address", '"any"'), f"port 1: address: expected {ADDRESS}"),
     (changed(PORT, "udp_port", "0"), f"port 1: udp_port: expected {NUMBER}"),
     (changed(PORT, "udp_port", "65536"), f"port 1: udp_port: expected {NUMBER}"),
     (PORT + "cost = 0\n", f"port 1: cost: expected {COST}"),
@@ -255,11 +257,12 @@ ROUTER_FILES += [(TWO_PEERS + text, line) for text, line in (
 # The text of a host's file, and what is wrong with it.
 HOST_FILES = [
     (without(HOST, "network"), f"network is missing: expected {NETWORK}"),
-    (without(HOST, "address"), f"address is missing: expected {ADDRESS}"),
+    (without(HOST, "address"), f"address is missing: expected {HOST_ADDRESS}"),
     (without(HOST, "router"), f"router is missing: expected {ROUTER}"),
     (without(HOST, "socket"), f"socket is missing: expected {SOCKET}"),
     (changed(HOST, "network", '"0000001g"'), f"network: expected {NETWORK}"),
-    (changed(HOST, "address", '"127.0.1"'), f"address: expected {ADDRESS}"),
+    (changed(HOST, "address", '"127.0.1"'), f"address: expected {HOST_ADDRESS}"),
+    (changed(HOST, "address", '"any"'), f"address: expected {HOST_ADDRESS}"),
     (changed(HOST, "router", '"r1"'), f"router: expected {ROUTER}"),
     (changed(HOST, "router", '"0.0.0.0"'), f"router: expected {ROUTER}"),
     (changed(HOST, "socket", '"0000"'), f"socket: expected {SOCKET}"),
