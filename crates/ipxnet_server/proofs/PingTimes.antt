@@ -7,7 +7,7 @@ use Rattle.std.proofs.lemmas.List.{take_more}
 use Rattle.std.proofs.lemmas.List.Folds.{list_any-append}
 use Rattle.ipxnet_server.specs.declared.clients.Client.{Client}
 use Rattle.ipxnet_server.specs.declared.pings.PingTurn.{PingTurn}
-use Rattle.ipxnet_server.specs.Pings.{AreInOrder, IsNextPing, OnlySilentArePinged, PingsAreSeldom, earlier, is_one_pinged, is_past, is_pinged, ping_period, pings_by, turns_that_ping}
+use Rattle.ipxnet_server.specs.Pings.{AreInOrder, IsNextPing, OnlySilentArePinged, PingsAreSeldom, earlier, is_one_pinged, is_pinged, ping_period, pings_by, turns_that_ping}
 
 -- ---- tests
 
@@ -55,6 +55,19 @@ past_by a b now false is =
     (one_of (nat_le a now) (nat_le b now) (λ e. le-leb b now (omega (arith, more a b is, leb-true a now e))) (λ e. e))
     (λ e. or_right (nat_le a now) (nat_le b now) e)
 
+-- it is that time or later, if there is one
+abbrev pub is_past : Option ℕ → ℕ → Bool
+is_past None now = false
+is_past (Some time) now = nat_le time now
+
+pub by_past : (pings : ℕ → Bool) (next : Option ℕ) → IsNextPing pings next → (now : ℕ) → now < 2 ^ 64 → pings now ≡ is_past next now
+by_past pings None h now lt = h now lt
+by_past pings (Some time) h now lt = h now lt
+
+pub of_past : (pings : ℕ → Bool) (next : Option ℕ) → ((now : ℕ) → now < 2 ^ 64 → pings now ≡ is_past next now) → IsNextPing pings next
+of_past pings None h = h
+of_past pings (Some time) h = h
+
 pub past_earlier : (a b : Option ℕ) (now : ℕ) → (is_past a now || is_past b now) ≡ is_past (earlier a b) now
 past_earlier None b now = refl
 past_earlier (Some a) None now = or_none (nat_le a now)
@@ -67,11 +80,12 @@ next_of_none before now lt = refl
 
 pub next_of_more : (before i : ℕ) (d : Client) (cs : List Client) (a b : Option ℕ) → i < length cs → IsNextPing (is_one_pinged before (take i cs)) a
     → IsNextPing (λ now. is_pinged (record { before = before; now = now }) (get_or cs i d)) b → IsNextPing (is_one_pinged before (take (i + 1) cs)) (earlier a b)
-next_of_more before i d cs a b less first one now lt =
+next_of_more before i d cs a b less first one = of_past (is_one_pinged before (take (i + 1) cs)) (earlier a b) (λ now lt.
     let p = is_pinged (turn before now) in
     ap (list_any p) (take_more cs i d less) ∙ list_any-append p (take i cs) (get_or cs i d ∷ [])
     ∙ ap (λ (t : Bool). list_any p (take i cs) || t) (or_none (p (get_or cs i d)))
-    ∙ ap (λ (t : Bool). t || p (get_or cs i d)) (first now lt) ∙ ap (λ (t : Bool). is_past a now || t) (one now lt) ∙ past_earlier a b now
+    ∙ ap (λ (t : Bool). t || p (get_or cs i d)) (by_past (is_one_pinged before (take i cs)) a first now lt)
+    ∙ ap (λ (t : Bool). is_past a now || t) (by_past (λ now. is_pinged (record { before = before; now = now }) (get_or cs i d)) b one now lt) ∙ past_earlier a b now)
 
 -- ---- the laws
 

@@ -20,14 +20,10 @@ is_pinged turn c = nat_lt (pings_by turn.before c) (pings_by turn.now c)
 abbrev pub is_one_pinged : ℕ → List Client → ℕ → Bool
 is_one_pinged before clients now = list_any (is_pinged (record { before = before; now = now })) clients
 
--- it is that time or later, if there is one
-abbrev pub is_past : Option ℕ → ℕ → Bool
-is_past None now = false
-is_past (Some time) now = nat_le time now
-
--- from this time on that is so, at any time that a clock can show, while none of them is heard
+-- from this time on that is so, at any time that a clock can show, while none of them is heard; or never
 abbrev pub IsNextPing : (ℕ → Bool) → Option ℕ → Type 0
-IsNextPing pings next = (now : ℕ) → now < 2 ^ 64 → pings now ≡ is_past next now
+IsNextPing pings None = (now : ℕ) → now < 2 ^ 64 → pings now ≡ false
+IsNextPing pings (Some time) = (now : ℕ) → now < 2 ^ 64 → pings now ≡ nat_le time now
 
 -- ---- what follows
 
