@@ -1,5 +1,5 @@
 -- When clients are pinged.
-use Rattle.std.proofs.Common.{◌≡◌, ◌≤◌, ◌<◌, ◌+◌, ◌-◌, ◌*◌, ◌/◌, ◌^◌, ℕ, List, [], ◌∷◌, ◌++◌, Bool, true, false, Option, Some, None, length, take, get_or, arith, refl, sym, ap, subst, ◌∙◌, ltb-true}
+use Rattle.std.proofs.Common.{◌≡◌, ◌≤◌, ◌<◌, ◌+◌, ◌-◌, ◌*◌, ◌/◌, ◌^◌, ℕ, zero, suc, List, [], ◌∷◌, ◌++◌, Bool, true, false, Option, Some, None, length, take, get_or, arith, refl, sym, ap, subst, ◌∙◌, ltb-true}
 use Rattle.std.specs.Prelude.{◌||◌, nat_le, nat_lt, if◌then◌else◌}
 use Rattle.std.specs.List.{list_any}
 use Rattle.std.proofs.lemmas.Bool.{false_from_ne_true, leb-false, leb-true, le-leb, lt-ltb, or_left, or_right}
@@ -99,11 +99,27 @@ one_more : (b : Bool) (x y : ℕ) → nat_lt x y ≡ b → x ≤ y → (if b the
 one_more true x y is le = omega (arith, ltb-true x y is)
 one_more false x y is le = omega (arith, le)
 
-pub few_pings : PingsAreSeldom
-few_pings c before now [] order = omega (arith, later before now c order)
-few_pings c before now (time ∷ times) order =
+InOrder : ℕ → List ℕ → ℕ → Type 0
+InOrder before [] now = before ≤ now
+InOrder before (time ∷ times) now = (before ≤ time) × InOrder time times now
+
+in_order : (before : ℕ) (times : List ℕ) (now : ℕ) → AreInOrder (before ∷ times ++ now ∷ []) → InOrder before times now
+unfolding InOrder
+in_order before [] now h = h zero (suc zero) before (omega arith) (omega arith)
+in_order before (time ∷ times) now h = (
+  h zero (suc zero) before (omega arith) (omega arith),
+  in_order time times now (λ i j d lt within. h (suc i) (suc j) d (omega arith) (omega arith)),
+)
+
+few : (c : Client) (before now : ℕ) (times : List ℕ) → InOrder before times now → turns_that_ping before times c + pings_by before c ≤ pings_by now c
+unfolding InOrder
+few c before now [] order = omega (arith, later before now c order)
+few c before now (time ∷ times) order =
     let x = pings_by before c in
     let y = pings_by time c in
-    let rest = few_pings c time now times order.1 in
+    let rest = few c time now times order.1 in
     let first = one_more (nat_lt x y) x y refl (later before time c order.0) in
     omega (arith, first, rest)
+
+pub few_pings : PingsAreSeldom
+few_pings c before now times order = few c before now times (in_order before times now order)

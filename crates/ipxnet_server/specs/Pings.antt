@@ -1,5 +1,5 @@
 -- When a server pings its silent clients. Defined by this project.
-use Rattle.std.specs.Prelude.{◌≡◌, ◌≤◌, ◌<◌, ◌^◌, ℕ, ◌+◌, ◌-◌, ◌/◌, List, [], ◌∷◌, Bool, true, false, nat_le, nat_lt, Option, Some, None, if◌then◌else◌}
+use Rattle.std.specs.Prelude.{◌≡◌, ◌≤◌, ◌<◌, ◌^◌, ℕ, ◌+◌, ◌-◌, ◌/◌, List, [], ◌∷◌, ◌++◌, AllPairs, Bool, true, false, nat_le, nat_lt, Option, Some, None, if◌then◌else◌}
 use Rattle.std.specs.List.{list_any}
 use Rattle.ipxnet_server.specs.declared.clients.Client.{Client}
 use Rattle.ipxnet_server.specs.declared.pings.PingTurn.{PingTurn}
@@ -32,10 +32,9 @@ abbrev pub OnlySilentArePinged : Type 0
 OnlySilentArePinged =
     (turn : PingTurn) (c : Client) → is_pinged turn c ≡ true → ping_period ≤ turn.now - c.heard
 
--- each turn is at a time from `before` on, none is before an earlier one, and the last is at `now` or before
-abbrev pub AreInOrder : ℕ → List ℕ → ℕ → Type 0
-AreInOrder before [] now = before ≤ now
-AreInOrder before (time ∷ times) now = (before ≤ time) × AreInOrder time times now
+-- none of these times is before an earlier one
+abbrev pub AreInOrder : List ℕ → Type 0
+AreInOrder times = AllPairs (λ a b. a ≤ b) times
 
 -- how many turns at these times ping a client that stays silent
 abbrev pub turns_that_ping : ℕ → List ℕ → Client → ℕ
@@ -45,7 +44,7 @@ turns_that_ping before (time ∷ times) c =
 
 -- however often there is a turn, a silent client gets at most one ping for each whole period of its silence
 abbrev pub PingsAreSeldom : Type 0
-PingsAreSeldom = (c : Client) (before now : ℕ) (times : List ℕ) → AreInOrder before times now
+PingsAreSeldom = (c : Client) (before now : ℕ) (times : List ℕ) → AreInOrder (before ∷ times ++ now ∷ [])
     → turns_that_ping before times c + pings_by before c ≤ pings_by now c
 
 -- ---- definitions for private functions
