@@ -41,6 +41,11 @@ def notice_of(network, node):
     return answer_to(network, node, node)
 
 
+def ping_of(router):
+    """What a router of this node sends to a silent client."""
+    return bytes.fromhex(f"ffff001e000000000000{EVERYBODY}0002" f"00000000{router}0002")
+
+
 class Router:
     """A router with these ports, as a process."""
 
@@ -78,11 +83,11 @@ def two_routers(run, names, addresses, udp_port, lobbies, hosts=()):
 
 
 class Client:
-    """Who is at a place, and what comes there but for what routers of these nodes tell and ask all by RIP and SAP: none do a
-    client of ipxnet. A packet stands behind so many bytes."""
+    """Who is at a place, and what comes there but for pings of routers to silent clients, and what routers of these nodes tell
+    and ask all by RIP and SAP: none do a client of ipxnet. A packet stands behind so many bytes. It keeps when pings came."""
 
     def __init__(self, place, server, routers=(), behind=0):
-        self.server, self.routers, self.behind, self.got = server, routers, behind, []
+        self.server, self.routers, self.behind, self.got, self.pinged = server, routers, behind, [], []
         self.socket = bound(*place)
         self.socket.setsockopt(socket.SOL_SOCKET, socket.SO_RCVBUF, ROOM)
         self.place = self.socket.getsockname()
@@ -99,7 +104,9 @@ class Client:
             except BlockingIOError:
                 return self.got
             header = packet[self.behind:self.behind + 30]
-            if (header[10:16].hex() != EVERYBODY or header[28:30] not in (b"\x04\x52", b"\x04\x53")
+            if packet in (ping_of(node) for node in (ROUTER_NODE, *self.routers)):
+                self.pinged.append(time.monotonic())
+            elif (header[10:16].hex() != EVERYBODY or header[28:30] not in (b"\x04\x52", b"\x04\x53")
                     or header[22:28].hex() not in self.routers):
                 self.got.append(packet)
 

@@ -110,11 +110,11 @@ fn refused_relays(rt: HostRuntime) -> Result<(), Fail> {
         assert_eq!(rt; (went as u64 + failures, known), (5, 3));
         assert!(rt; failures <= 1);
     } else {
-        // One did not come: the first one's registration, without which its packet is an unknown
-        // sender's, or another.
+        // One did not come. Without its registration the first one is a client by its packet, which
+        // is sent to both others.
         assert_eq!(rt; (servers.filtered(), failures), (3, 1));
-        let unregistered = servers.servers()[0].counts().unregistered;
-        assert_eq!(rt; went as u64 + unregistered, 3);
+        let by_packet = servers.sockets().went()[0].place != first_place();
+        assert_eq!(rt; went, if by_packet { 4 } else { 3 });
     }
     let sent = servers.send(0, Node::BROADCAST, &CAME);
     assert!(rt; matches!(sent, Ok(PacketSent::Transmitted(1))));

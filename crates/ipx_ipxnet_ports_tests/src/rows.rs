@@ -25,8 +25,8 @@ fn rows_of_registrations(rt: HostRuntime) -> Result<(), Fail> {
         &rt,
         rt.alloc(),
         "",
-        "row nothing goes to a place that did not register
-in a ffff001e0000 00000000ffffffffffff0002 000000007f00060b60230002
+        "row nothing goes to a place that did not register, by another's node
+in a ffff001e0000 00000000ffffffffffff0002 000000007f00060c60240002
 row a client that connects is told the network, and a node of its IP address and port of UDP
 in a ffff001e0000 000000000000000000000002 000000000000000000000002
 out a ffff001e0000 0000d05b7f00060b60230002 0000d05b0200000000d00002
@@ -50,7 +50,7 @@ in v ffff001e0000 000000000000000000000003 000000000000000000000002
 row to a node it is none
 in v ffff001e0000 000000000200000000d00002 000000000000000000000002
 row from a node it is none
-in v ffff001e0000 000000000000000000000002 000000007f00061060280002
+in v ffff001e0000 000000000000000000000002 000000007f00060d60250002
 row with a body it is none
 in v ffff001f0000 000000000000000000000002 000000000000000000000002 61
 row with a byte behind it it is none
@@ -158,7 +158,7 @@ in a ffff05900004 0000d05b7f00060c60244001 0000d05b7f00060b60234001 61*1395
 row in another's name: nowhere
 in c ffff00210004 0000d05b7f00060c60244001 0000d05b7f00060b60234001 616263
 row of one who did not register: nowhere
-in v ffff00210004 0000d05b7f00060c60244001 0000d05b7f00061060284001 616263
+in v ffff00210004 0000d05b7f00060c60244001 0000d05b7f00060d60254001 616263
 row 20 bytes are no packet
 in a ffff00140004 0000d05b7f00060c60244001 0000
 row three bytes are none

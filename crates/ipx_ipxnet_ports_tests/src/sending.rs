@@ -22,7 +22,7 @@ fn three_players(alloc: Global) -> Result<Servers<MemoryPlaces>, Fail> {
     Ok(servers)
 }
 
-/// To a player's node: to that one, until it was silent for a day. To all nodes: to each.
+/// To a player's node: to that one, until it was silent for five minutes. To all nodes: to each.
 #[test]
 fn packets_to_players(rt: HostRuntime) -> Result<(), Fail> {
     let mut servers = three_players(rt.alloc())?;
@@ -39,10 +39,10 @@ fn packets_to_players(rt: HostRuntime) -> Result<(), Fail> {
             &CAME
         )
     );
-    servers.set_time(86_400_004);
+    servers.set_time(300_004);
     servers.send(0, SECOND_NODE, &CAME)?;
     assert!(rt; went_after(servers.sockets(), 7, &[second_place()], &CAME));
-    servers.set_time(86_400_005);
+    servers.set_time(300_005);
     let sent = servers.send(0, SECOND_NODE, &CAME);
     assert!(rt; matches!(sent, Ok(PacketSent::Transmitted(1))));
     assert_eq!(rt; servers.sockets().went().len(), 8);

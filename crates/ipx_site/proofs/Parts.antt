@@ -1,7 +1,8 @@
 -- When one of several things is to be done.
-use Rattle.std.proofs.Common.{◌≡◌, ◌⊎◌, ◌↔◌, ◌<◌, ◌≤◌, ◌+◌, ◌^◌, ◌∙◌, ℕ, true, Option, Some, None, inl, inr, refl, sym, subst}
+use Rattle.std.proofs.Common.{◌≡◌, ◌⊎◌, ◌↔◌, ◌<◌, ◌≤◌, ◌+◌, ◌^◌, ◌∙◌, ℕ, Bool, true, Option, Some, None, inl, inr, refl, sym, subst}
 use Rattle.std.proofs.lemmas.Bool.{le-leb, leb-true}
 use Rattle.ipx_router.specs.Telling.{IsNextAdvertisement, is_due}
+use Rattle.ipxnet_server.specs.Pings.{IsNextPing}
 use Rattle.ipx_site.specs.IdleTime.{IsTimeUntilDue}
 use Rattle.ipx_site.specs.Moments.{IsReached}
 
@@ -45,6 +46,11 @@ reached (Some n) t = (λ h. (n, refl, h), λ (m, e, h). subst (λ o. IsReached o
 pub telling : (last o : Option ℕ) (t : ℕ) → IsNextAdvertisement last o → t < 2 ^ 64 → IsReached o t ↔ (is_due last t ≡ true)
 telling last None t h less = (λ k. absurd k, λ e. absurd (cc (sym e ∙ h t less)))
 telling last (Some m) t h less = (λ k. h t ∙ le-leb m t k, λ e. leb-true m t (sym (h t) ∙ e))
+
+-- it is time to ping exactly if the time of the next pings is reached
+pub pinging : (pings : ℕ → Bool) (o : Option ℕ) (t : ℕ) → IsNextPing pings o → t < 2 ^ 64 → IsReached o t ↔ (pings t ≡ true)
+pinging pings None t h less = (λ k. absurd k, λ e. absurd (cc (sym e ∙ h t less)))
+pinging pings (Some m) t h less = (λ k. h t less ∙ le-leb m t k, λ e. leb-true m t (sym (h t less) ∙ e))
 
 -- the time with nothing to do is the same for two conditions that agree at each time that a clock can show
 pub as_long : (P Q : ℕ → Type 0) (now time : ℕ) → ((t : ℕ) → t < 2 ^ 64 → P t ↔ Q t) → IsTimeUntilDue P now time → IsTimeUntilDue Q now time

@@ -32,7 +32,7 @@ when_well (Err e) failed P same p well = absurd (let no : true ≡ false = same 
 pub took_round : {R T E : Type 0} (old new : RunningRouter R) (r : Result T E)
     → (between : SteadyClock R) × (batch : Batch) × (marks : KindMarks)
     × IsRound old.clock between StopsThere NeverGoesBack (ways_in old.ports) (filtered_in_ports old.ports) (filtered_in_ports new.ports) (port_marks old.ports.port_indices.items (kind_marks old.ports)) (port_marks old.ports.port_indices.items marks) old.asked new.asked old.core new.core new.ports.ethernet.moment batch
-    × SleepsAfter (IsDue (deadlines new.asked new.looked new.responses new.written new.core new.warnings (happened new.totals new.core new.ports))) (is_any_marked (all_marks marks)) between new.clock StopsThere new.ready.asked batch.fault batch.quiet
+    × SleepsAfter (IsDue (deadlines new.asked new.looked new.responses new.written new.core new.warnings (happened new.totals new.core new.ports) new.ports.servers.servers.items)) (is_any_marked (all_marks marks)) between new.clock StopsThere new.ready.asked batch.fault batch.quiet
     × OnOk r (AreMarked (numbers_come new.ready) (all_marks marks) (marks_in new.ports))
     → is_err r ≡ new.ready.failed → new.ports.servers.moment ≡ new.ports.ethernet.moment → ways_in new.ports ≡ ways_in old.ports
     → peers_of new.ports.datagrams.peers.items ≡ peers_of old.ports.datagrams.peers.items → new.ports.port_indices.items ≡ old.ports.port_indices.items

@@ -1,10 +1,11 @@
 -- One round of a running router.
-use Rattle.std.proofs.Common.{◌≡◌, ◌∙◌, ℕ, length, min, Bool, true, false, if◌then◌else◌, Option, Some, None, is_some, sym, ap, subst, inl, inr}
+use Rattle.std.proofs.Common.{◌≡◌, ◌∙◌, ℕ, List, length, min, Bool, true, false, if◌then◌else◌, Option, Some, None, is_some, sym, ap, subst, inl, inr}
 use Rattle.ipx_carrier.specs.declared.fault.RunFault.{RunFault}
 use Rattle.ipx_carrier.specs.Turns.{Ways}
 use Rattle.ipx_carrier.specs.declared.report.Batch.{Batch}
 use Rattle.ipx_carrier.specs.Driving.{BurstsBy}
 use Rattle.ipx_carrier.specs.Readiness.{Readiness}
+use Rattle.ipxnet_server.specs.ServerHears.{ServerView}
 use Rattle.ipx_site.specs.IdleTime.{Deadlines, EventCounts, IsTimeUntilDue, IsDue, deadlines}
 use Rattle.ipx_site.specs.declared.warnings.Warnings.{Warnings}
 use Rattle.ipx_site.specs.SiteCore.{SiteCore, SiteGives, SiteHears, SiteHearOutOfMemory, SiteNextOutOfMemory}
@@ -70,14 +71,15 @@ sleeps_then a b marked clock clock' stops asked asked' fault quiet e f h =
 
 -- deadlines, part by part
 pub same_deadlines : (asked asked' : ℕ) (looked looked' : Option ℕ) (responses responses' : ℕ) (written written' : Option ℕ)
-    (core core' : SiteCore) (warnings warnings' : Warnings) (count count' : EventCounts)
-    → asked' ≡ asked → looked' ≡ looked → responses' ≡ responses → written' ≡ written → core' ≡ core → warnings' ≡ warnings → count' ≡ count
-    → deadlines asked' looked' responses' written' core' warnings' count' ≡ deadlines asked looked responses written core warnings count
-same_deadlines asked asked' looked looked' responses responses' written written' core core' warnings warnings' count count' a l r w c t n =
-    ap (λ it. deadlines it looked' responses' written' core' warnings' count') a
-    ∙ ap (λ it. deadlines asked it responses' written' core' warnings' count') l
-    ∙ ap (λ it. deadlines asked looked it written' core' warnings' count') r
-    ∙ ap (λ it. deadlines asked looked responses it core' warnings' count') w
-    ∙ ap (λ it. deadlines asked looked responses written it warnings' count') c
-    ∙ ap (λ it. deadlines asked looked responses written core it count') t
-    ∙ ap (λ it. deadlines asked looked responses written core warnings it) n
+    (core core' : SiteCore) (warnings warnings' : Warnings) (count count' : EventCounts) (servers servers' : List ServerView)
+    → asked' ≡ asked → looked' ≡ looked → responses' ≡ responses → written' ≡ written → core' ≡ core → warnings' ≡ warnings → count' ≡ count → servers' ≡ servers
+    → deadlines asked' looked' responses' written' core' warnings' count' servers' ≡ deadlines asked looked responses written core warnings count servers
+same_deadlines asked asked' looked looked' responses responses' written written' core core' warnings warnings' count count' servers servers' a l r w c t n s =
+    ap (λ it. deadlines it looked' responses' written' core' warnings' count' servers') a
+    ∙ ap (λ it. deadlines asked it responses' written' core' warnings' count' servers') l
+    ∙ ap (λ it. deadlines asked looked it written' core' warnings' count' servers') r
+    ∙ ap (λ it. deadlines asked looked responses it core' warnings' count' servers') w
+    ∙ ap (λ it. deadlines asked looked responses written it warnings' count' servers') c
+    ∙ ap (λ it. deadlines asked looked responses written core it count' servers') t
+    ∙ ap (λ it. deadlines asked looked responses written core warnings it servers') n
+    ∙ ap (λ it. deadlines asked looked responses written core warnings count it) s

@@ -4,10 +4,12 @@ use Rattle.ipx_router.specs.Telling.{is_due}
 use Rattle.ipx_site.specs.declared.metrics.Metrics.{Metrics}
 use Rattle.ipx_site.specs.declared.router_counts.RouterCounts.{RouterCounts}
 use Rattle.ipx_carrier.specs.declared.datagrams.Datagrams as OfDevice
+use Rattle.ipx_ipxnet_ports.specs.OnServers.{is_any_pinged}
 use Rattle.ipx_ipxnet_ports.specs.declared.place_sockets.PlaceSockets as OfPlaces
 use Rattle.ipx_ipxnet_ports.specs.declared.sockets.ServerSockets.{ServerSockets}
 use Rattle.ipx_ethernet_ports.specs.declared.end_sockets.EndSockets as OfSockets
 use Rattle.ipx_ethernet_ports.specs.declared.sockets.EthernetSockets.{EthernetSockets}
+use Rattle.ipxnet_server.specs.ServerHears.{ServerView}
 use Rattle.ipx_site.specs.declared.source_filter.SourceFilter.{SourceFilter}
 use Rattle.ipx_site.specs.declared.sockets.UdpSockets.{UdpSockets}
 use Rattle.ipx_site.specs.PortsView.{SitePortsRun}
@@ -101,9 +103,11 @@ pub record Deadlines : Type 0 where
   pub core : SiteCore
   pub warnings : Warnings
   pub count : EventCounts
+  -- the servers of its ipxnet ports, with their clients
+  pub servers : List ServerView
 
-abbrev pub deadlines : ℕ → Option ℕ → ℕ → Option ℕ → SiteCore → Warnings → EventCounts → Deadlines
-deadlines asked looked responses written core warnings count = record {
+abbrev pub deadlines : ℕ → Option ℕ → ℕ → Option ℕ → SiteCore → Warnings → EventCounts → List ServerView → Deadlines
+deadlines asked looked responses written core warnings count servers = record {
   asked = asked;
   looked = looked;
   responses = responses;
@@ -111,6 +115,7 @@ deadlines asked looked responses written core warnings count = record {
   core = core;
   warnings = warnings;
   count = count;
+  servers = servers;
 }
 
 -- it looks at what it knows every ten seconds, or one second after the last look if a response was heard
@@ -123,12 +128,13 @@ abbrev pub IsToSend : PriorityQueues → Type 0
 IsToSend q = 0 < length q.forwarded + length q.own
 
 -- there is something to do: send what waits, repeat requests, advertise to neighbours, hear static entries,
--- look, write the metrics, or log a line
+-- ping a silent client, look, write the metrics, or log a line
 abbrev pub IsDue : Deadlines → ℕ → Type 0
 IsDue a now = IsToSend a.core.core.core.core.queues
     ⊎ IsToAskAgain a.asked now
     ⊎ (is_due a.core.core.core.core.router.told now ≡ true)
     ⊎ (is_due a.core.core.core.said now ≡ true)
+    ⊎ (is_any_pinged a.servers now ≡ true)
     ⊎ HasPassed (look_after a.core.core.core.core.outcomes.heard a.responses) a.looked now
     ⊎ HasPassed 10000 a.written now
     ⊎ IsLineDue a.warnings a.count now

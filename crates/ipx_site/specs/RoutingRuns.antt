@@ -49,7 +49,7 @@ pub record TakesRound {R : Type 0} (old new : RunningRouter R) : Type 0 where
       (port_marks old.ports.port_indices.items marks) old.asked new.asked old.core new.core
       new.ports.ethernet.moment batch
   pub sleeps : SleepsAfter (IsDue (deadlines new.asked new.looked new.responses new.written new.core
-      new.warnings (happened new.totals new.core new.ports))) (is_any_marked (all_marks marks))
+      new.warnings (happened new.totals new.core new.ports) new.ports.servers.servers.items)) (is_any_marked (all_marks marks))
       between new.clock StopsThere new.ready.asked batch.fault batch.quiet
   pub marked : new.ready.failed ≡ false
       → AreMarked (numbers_come new.ready) (all_marks marks) (marks_in new.ports)

@@ -5,7 +5,7 @@ ghost use Rattle.ipx_carrier.specs.Readiness.{AsksPortWithMark, MarksStay};
 ghost use Rattle.ipx_carrier.specs.RunFaultNumbers.{device_failures};
 ghost use Rattle.ipx_carrier.specs.PortDrivers.{SendsFrontOf, copies_count, count_in};
 ghost use Rattle.ipx_carrier.specs.Turns.{copies_of, peers_of};
-ghost use Rattle.ipx_ipxnet_ports.specs.OnServers.{servers_view, server_ports};
+ghost use Rattle.ipx_ipxnet_ports.specs.OnServers.{PingsAtServers, servers_view, server_ports};
 ghost use Rattle.ipx_ethernet_ports.specs.OnEthernet.{ethernet_ports_view};
 ghost use Rattle.ipx_site.specs.RouterMarks.{marked_by_kind};
 ghost use Rattle.ipx_site.specs.RouterPorts.{ReceivesByKind, SendsByKind, by_kind, fits};
@@ -121,6 +121,25 @@ impl<D: Datagrams + Drop, E: EndSockets + Drop, L: PlaceSockets + Drop> RouterPo
     {
         self.ethernet.set_time(moment);
         self.servers.set_time(moment);
+    }
+
+    /// Sends the pings that are due at ipxnet ports, at the time that is set.
+    pub fn send_pings(&mut self)
+        ensures pings { PingsAtServers self.old.servers.moment
+            (min (length self.old.servers.servers.items) (L.port_count self.old.servers.sockets))
+            (servers_view self.old.servers.servers.items self.old.servers.kept
+            (L.traffic self.old.servers.sockets) (L.failed self.old.servers.sockets))
+            (servers_view self.new.servers.servers.items self.new.servers.kept
+            (L.traffic self.new.servers.sockets) (L.failed self.new.servers.sockets)) }
+        ensures moment { self.new.servers.moment ≡ self.old.servers.moment }
+        ensures kept { self.new.servers.kept ≡ self.old.servers.kept }
+        ensures filtered { L.filtered self.new.servers.sockets ≡ L.filtered self.old.servers.sockets }
+        ensures marks { MarksStay (L.marked self.old.servers.sockets) (L.marked self.new.servers.sockets) }
+        ensures ethernet { self.new.ethernet ≡ self.old.ethernet }
+        ensures datagrams { self.new.datagrams ≡ self.old.datagrams }
+        ensures port_indices { self.new.port_indices ≡ self.old.port_indices }
+    {
+        self.servers.send_pings();
     }
 }
 

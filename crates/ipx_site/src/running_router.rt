@@ -317,22 +317,24 @@ impl<'a, R: SystemClock> RunningRouter<'a, R> {
     fn time_until_due(&self, now: u64) -> u64
         ensures { IsTimeUntilDue (IsDue (deadlines self.now.asked self.now.looked self.now.responses
             self.now.written self.now.core self.now.warnings
-            (happened self.now.totals self.now.core self.now.ports))) now result }
+            (happened self.now.totals self.now.core self.now.ports)
+            self.now.ports.servers.servers.items)) now result }
     {
         let telling = self.core.core().core().core().router().next_advertisement();
         let packets = sooner(discovery_retry(self.asked), telling);
         let words = self.core.core().core().next_refresh();
+        let pings = self.ports.servers().next_pings();
         let look = end_of(self.looked, self.look_period());
         let metrics = sooner(
             end_of(self.written, PERIOD),
             self.warnings.next(&self.metrics(now)),
         );
-        let due = sooner(packets, sooner(words, sooner(look, metrics)));
+        let due = sooner(packets, sooner(words, sooner(pings, sooner(look, metrics))));
         time_to(sooner(self.sending_time(), due), now)
     }
 
-    /// Does the work that is due, and takes turns as long as there is something to receive or to
-    /// send.
+    /// Does the work that is due, pings silent clients, and takes turns as long as there is something
+    /// to receive or to send.
     fn round<S: Log + Files>(&mut self, rt: &S, alloc: Global) -> Batch
         ensures core { IsRound self.old.clock self.new.clock
             StopsThere NeverGoesBack (ways_in self.old.ports)
@@ -355,6 +357,7 @@ impl<'a, R: SystemClock> RunningRouter<'a, R> {
         let now = self.clock.stop();
         self.keep(rt, alloc, now);
         self.ports.set_time(now);
+        self.ports.send_pings();
         let batch = run_batch(
             alloc,
             &mut self.core,
@@ -372,7 +375,8 @@ impl<'a, R: SystemClock> RunningRouter<'a, R> {
     fn rest(&mut self, batch: Batch) -> u64
         ensures rests { SleepsAfter (IsDue (deadlines self.old.asked self.old.looked self.old.responses
             self.old.written self.old.core self.old.warnings
-            (happened self.old.totals self.old.core self.old.ports)))
+            (happened self.old.totals self.old.core self.old.ports)
+            self.old.ports.servers.servers.items))
             (is_any_marked (marks_in self.old.ports))
             self.old.clock self.new.clock StopsThere (Some result) batch.fault batch.quiet }
         ensures core { self.new.core ≡ self.old.core }
@@ -413,7 +417,8 @@ impl<'a, R: SystemClock> RunningRouter<'a, R> {
             self.new.ports.ethernet.moment batch
             × SleepsAfter (IsDue (deadlines self.new.asked self.new.looked self.new.responses
             self.new.written self.new.core self.new.warnings
-            (happened self.new.totals self.new.core self.new.ports)))
+            (happened self.new.totals self.new.core self.new.ports)
+            self.new.ports.servers.servers.items))
             (is_any_marked (all_marks marks))
             between self.new.clock StopsThere
             self.new.ready.asked batch.fault batch.quiet

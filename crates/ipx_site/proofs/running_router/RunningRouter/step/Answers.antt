@@ -17,15 +17,15 @@ returns-in_err-wait-clause-core g c =
     let e = c.rest-time.ensures in
     let b = c.round-batch.result in
     let same = same_deadlines s.asked t.asked s.looked t.looked s.responses t.responses s.written t.written s.core t.core s.warnings t.warnings
-    (happened s.totals s.core s.ports) (happened t.totals t.core t.ports) e.asked e.looked.0 e.looked.1 e.looked.2 e.core e.warnings
-    (ap (λ it. happened it t.core t.ports) e.totals ∙ ap (λ it. happened s.totals it t.ports) e.core ∙ ap (λ it. happened s.totals s.core it) e.ports) in (
+    (happened s.totals s.core s.ports) (happened t.totals t.core t.ports) s.ports.servers.servers.items t.ports.servers.servers.items e.asked e.looked.0 e.looked.1 e.looked.2 e.core e.warnings
+    (ap (λ it. happened it t.core t.ports) e.totals ∙ ap (λ it. happened s.totals it t.ports) e.core ∙ ap (λ it. happened s.totals s.core it) e.ports) (ap (λ it. it.servers.servers.items) e.ports) in (
       s.clock,
       b,
       kind_marks s.ports,
       round_then StopsThere NeverGoesBack old.clock s.clock (ways_in old.ports) (filtered_in_ports old.ports) (filtered_in_ports s.ports) (filtered_in_ports t.ports) (port_marks old.ports.port_indices.items (kind_marks old.ports)) (port_marks old.ports.port_indices.items (kind_marks s.ports)) old.asked s.asked t.asked
           old.core s.core t.core s.ports.ethernet.moment t.ports.ethernet.moment b (ap filtered_in_ports e.ports) e.asked e.core (ap (λ it. it.ethernet.moment) e.ports) c.round-batch.ensures.core,
-      sleeps_then (deadlines s.asked s.looked s.responses s.written s.core s.warnings (happened s.totals s.core s.ports))
-          (deadlines t.asked t.looked t.responses t.written t.core t.warnings (happened t.totals t.core t.ports)) (is_any_marked (marks_in s.ports)) s.clock t.clock StopsThere
+      sleeps_then (deadlines s.asked s.looked s.responses s.written s.core s.warnings (happened s.totals s.core s.ports) s.ports.servers.servers.items)
+          (deadlines t.asked t.looked t.responses t.written t.core t.warnings (happened t.totals t.core t.ports) t.ports.servers.servers.items) (is_any_marked (marks_in s.ports)) s.clock t.clock StopsThere
           (Some c.rest-time.result) c.wait.new.self.asked b.fault b.quiet same c.wait.ensures.asked e.rests,
       search rules,
     )
@@ -42,7 +42,8 @@ returns-clause-core g c =
     let count = happened_separate t.ports ports m t.totals t.core ∙ ap (λ it. happened it t.core t.ports) e.totals ∙ ap (λ it. happened s.totals it t.ports) e.core
     ∙ ap (λ it. happened s.totals s.core it) e.ports in
     let same = same_deadlines s.asked t.asked s.looked t.looked s.responses t.responses s.written t.written s.core t.core s.warnings t.warnings
-    (happened s.totals s.core s.ports) (happened t.totals t.core ports) e.asked e.looked.0 e.looked.1 e.looked.2 e.core e.warnings count in (
+    (happened s.totals s.core s.ports) (happened t.totals t.core ports) s.ports.servers.servers.items ports.servers.servers.items e.asked e.looked.0 e.looked.1 e.looked.2 e.core e.warnings count
+    (ap (λ l. l.servers.items) m.servers ∙ ap (λ it. it.servers.servers.items) e.ports) in (
       s.clock,
       b,
       kind_marks t.ports,
@@ -50,10 +51,10 @@ returns-clause-core g c =
           (round_then StopsThere NeverGoesBack old.clock s.clock (ways_in old.ports) (filtered_in_ports old.ports) (filtered_in_ports s.ports) (filtered_in_ports ports) (port_marks old.ports.port_indices.items (kind_marks old.ports)) (port_marks old.ports.port_indices.items (kind_marks s.ports)) old.asked s.asked t.asked
           old.core s.core t.core s.ports.ethernet.moment ports.ethernet.moment b (kept_separate t.ports ports m ∙ ap filtered_in_ports e.ports) e.asked e.core
           (ap (λ it. it.moment) m.ethernet ∙ ap (λ it. it.ethernet.moment) e.ports) c.round-batch.ensures.core),
-      subst (λ it. SleepsAfter (IsDue (deadlines t.asked t.looked t.responses t.written t.core t.warnings (happened t.totals t.core ports)))
+      subst (λ it. SleepsAfter (IsDue (deadlines t.asked t.looked t.responses t.written t.core t.warnings (happened t.totals t.core ports) ports.servers.servers.items))
           (is_any_marked (marks_in it)) s.clock t.clock StopsThere c.wait.new.self.asked b.fault b.quiet) (sym e.ports)
-          (sleeps_then (deadlines s.asked s.looked s.responses s.written s.core s.warnings (happened s.totals s.core s.ports))
-          (deadlines t.asked t.looked t.responses t.written t.core t.warnings (happened t.totals t.core ports)) (is_any_marked (marks_in s.ports)) s.clock t.clock StopsThere
+          (sleeps_then (deadlines s.asked s.looked s.responses s.written s.core s.warnings (happened s.totals s.core s.ports) s.ports.servers.servers.items)
+          (deadlines t.asked t.looked t.responses t.written t.core t.warnings (happened t.totals t.core ports) ports.servers.servers.items) (is_any_marked (marks_in s.ports)) s.clock t.clock StopsThere
           (Some c.rest-time.result) c.wait.new.self.asked b.fault b.quiet same c.wait.ensures.asked e.rests),
       c.mark_ready.ensures.marks,
     )

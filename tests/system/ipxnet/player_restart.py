@@ -1,0 +1,128 @@
+"""A router that is killed and started again under two who play, and pings to silent clients, for `players`."""
+import signal
+import time
+
+from player_boxes import Box
+from player_hostile import Pair, dropped_for, registered, wait_for
+from player_world import EVERYBODY, NETWORKS, ROUTER_NODE, Client, Router, lobby_table
+from site_packets import ipx
+from site_world import free_port, until
+
+LOBBY, PLAYERS, STRANGER = "127.0.6.61", ["127.0.6.62", "127.0.6.63"], "127.0.6.64"
+NETWORK = NETWORKS[0]
+# A ping comes so long after a client was heard last, at most so much later on a machine that is loaded.
+PING_SECONDS, LATE_SECONDS = 25, 4
+# What a client answers to a ping of the router.
+ANSWER_TO = ("00000000", ROUTER_NODE, "0002")
+
+
+class Restarted:
+    """A router with a port for clients, which is killed and started again."""
+
+    def __init__(self, run):
+        self.run = run
+        self.place = (LOBBY, free_port([LOBBY]))
+        self.router = self.started()
+
+    def started(self):
+        return Router(self.run, "restarted", [lobby_table(NETWORK, self.place, 'accept = "any"\n')])
+
+    def again(self):
+        """It is killed, and started again at its place."""
+        self.router.process.end(signal.SIGKILL)
+        self.router = self.started()
+
+    def check_clients(self, wanted):
+        """So many clients are there, by the figures, and nothing was dropped but for the cause that is wanted."""
+        found = self.router.figures(wanted)
+        self.run.check("its figures say who is there, and what it dropped", found == wanted, "" if found == wanted else str(found))
+
+
+def to_all(client, body):
+    """What a client sends to all nodes."""
+    packet = ipx(4, (NETWORK, EVERYBODY, "4001"), (NETWORK, client.node, "4001"), body)
+    client.send(packet)
+    return packet
+
+
+def check_players(it):
+    """Two play on after a restart, and nobody registers again. Who sends in the name of another is none."""
+    pair = Pair([registered((ip, 0), it.place) for ip in PLAYERS])
+    it.run.check("two players are answered", all(client.is_answered for client in pair.clients))
+    for who in (0, 1):
+        pair.send(who)
+    it.run.check("what they send comes", pair.all_came() and pair.is_whole())
+    it.again()
+    first, second = pair.clients
+    to_all(first, b"one is there again")
+    time.sleep(0.2)
+    packet = to_all(second, b"and the other")
+    it.run.check("after a restart a packet of one comes to the other that sent before", wait_for(first) == [packet])
+    it.run.check("and nothing else comes", second.take() == [], str(second.got))
+    for client in pair.clients:
+        client.got = []
+    for _ in range(20):
+        for who in (0, 1):
+            pair.send(who)
+    it.run.check("all that they send then comes, and nobody registered again", pair.all_came() and pair.is_whole())
+    stranger = Client((STRANGER, 0), it.place)
+    stranger.send(ipx(4, (NETWORK, first.node, "4001"), (NETWORK, second.node, "4001"), b"in the name of another"))
+    it.check_clients({'ipx_ipxnet_clients{port="1"}': 2, dropped_for("unregistered"): 1, dropped_for("no_such_node"): 0})
+    it.run.check("what was sent in the name of another comes to nobody", not any(client.take() for client in pair.clients))
+    stranger.end()
+    return pair
+
+
+def check_pings(it, pair):
+    """A silent client gets a ping after 25 seconds, one that sends gets none, and an answer is for nobody."""
+    silent, other = pair.clients
+    heard = time.monotonic()
+    to_all(silent, b"and then nothing")
+    until(other.take, 5)
+    end = heard + PING_SECONDS + LATE_SECONDS
+    while time.monotonic() < end and not silent.pinged:
+        to_all(other, b"still here")
+        time.sleep(0.25)
+        silent.take()
+    after = silent.pinged[0] - heard if silent.pinged else 0
+    good = PING_SECONDS - 0.1 <= after <= PING_SECONDS + LATE_SECONDS
+    it.run.check("a silent player gets a ping after 25 seconds", good, "" if good else f"{after:.1f} s")
+    other.take()
+    it.run.check("and one that sends gets none", not other.pinged)
+    other.got = []
+    silent.send(ipx(0, ANSWER_TO, ("00000000", silent.node, "0002"), b""))
+    time.sleep(0.3)
+    it.run.check("its answer comes to nobody", not other.take(), str(other.got))
+    it.check_clients({'ipx_ipxnet_clients{port="1"}': 2, dropped_for("unregistered"): 1, dropped_for("no_such_node"): 0,
+                      'ipx_dropped_total{reason="not_ours"}': 0})
+
+
+def check_box(it):
+    """DOSBox plays on after a restart, and never connects again."""
+    if it.run.lacks("DOSBox after a restart", "dosbox", "nasm"):
+        return
+    box = Box(it.run, "restarted_box", it.place)
+    it.run.check("DOSBox connects", box.listens() and f"connected to server at {it.place[0]}" in box.said("CONNECT"))
+    other = registered((PLAYERS[0], 0), it.place)
+    it.again()
+    to_all(other, b"who is there?")
+    time.sleep(0.2)
+    packet = box.send((NETWORK, EVERYBODY), b"DOSBox is", [])
+    it.run.check("after a restart what a program of DOS sends comes to the other", wait_for(other, 10) == [packet], str(other.got))
+    packet = ipx(4, (NETWORK, box.node, "4001"), (NETWORK, other.node, "4001"), b"hello, DOSBox")
+    other.send(packet)
+    it.run.check("and it gets what is for it", until(lambda: packet in box.got(), 10), str(box.got()[-2:]))
+    box.process.end()
+    other.end()
+
+
+def check_restart(run):
+    """All of it."""
+    it = Restarted(run)
+    pair = check_players(it)
+    check_pings(it, pair)
+    for client in pair.clients:
+        client.end()
+    check_box(it)
+    run.check("the router goes on", not it.router.process.is_over())
+    it.router.process.end()
