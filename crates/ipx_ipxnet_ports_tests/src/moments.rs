@@ -192,7 +192,14 @@ fn a_ping_that_fails(rt: HostRuntime) -> Result<(), Fail> {
     servers.set_time(25_000);
     servers.send_pings();
     assert_eq!(rt; servers.sockets().failures(), before + 1);
-    assert!(rt; went_after(servers.sockets(), went, &[first_place(), third_place()], &PING));
+    assert!(rt;
+        went_after(
+            servers.sockets(),
+            went,
+            &[first_place(), third_place()],
+            &PING
+        )
+    );
     assert_eq!(rt; servers.failures(), 0);
     Ok(())
 }

@@ -8,7 +8,7 @@ from player_world import EVERYBODY, NETWORKS, ROUTER_NODE, Client, Router, lobby
 from site_packets import ipx
 from site_world import free_port, until
 
-LOBBY, PLAYERS, STRANGER = "127.0.6.61", ["127.0.6.62", "127.0.6.63"], "127.0.6.64"
+LOBBY, PLAYERS, STRANGER = "127.0.6.81", ["127.0.6.82", "127.0.6.83"], "127.0.6.84"
 NETWORK = NETWORKS[0]
 # A ping comes so long after a client was heard last, at most so much later on a machine that is loaded.
 PING_SECONDS, LATE_SECONDS = 25, 4
@@ -58,7 +58,7 @@ def check_players(it):
     time.sleep(0.2)
     packet = to_all(second, b"and the other")
     it.run.check("after a restart a packet of one comes to the other that sent before", wait_for(first) == [packet])
-    it.run.check("and nothing else comes", second.take() == [], str(second.got))
+    it.run.check("and nothing else comes", second.take() == [], str(second.got or ""))
     for client in pair.clients:
         client.got = []
     for _ in range(20):
@@ -92,7 +92,7 @@ def check_pings(it, pair):
     other.got = []
     silent.send(ipx(0, ANSWER_TO, ("00000000", silent.node, "0002"), b""))
     time.sleep(0.3)
-    it.run.check("its answer comes to nobody", not other.take(), str(other.got))
+    it.run.check("its answer comes to nobody", not other.take(), str(other.got or ""))
     it.check_clients({'ipx_ipxnet_clients{port="1"}': 2, dropped_for("unregistered"): 1, dropped_for("no_such_node"): 0,
                       'ipx_dropped_total{reason="not_ours"}': 0})
 
@@ -108,10 +108,10 @@ def check_box(it):
     to_all(other, b"who is there?")
     time.sleep(0.2)
     packet = box.send((NETWORK, EVERYBODY), b"DOSBox is", [])
-    it.run.check("after a restart what a program of DOS sends comes to the other", wait_for(other, 10) == [packet], str(other.got))
+    it.run.check("after a restart what a program of DOS sends comes to the other", wait_for(other, 10) == [packet], str(other.got[1:] or ""))
     packet = ipx(4, (NETWORK, box.node, "4001"), (NETWORK, other.node, "4001"), b"hello, DOSBox")
     other.send(packet)
-    it.run.check("and it gets what is for it", until(lambda: packet in box.got(), 10), str(box.got()[-2:]))
+    it.run.check("and it gets what is for it", until(lambda: packet in box.got(), 10))
     box.process.end()
     other.end()
 
