@@ -261,11 +261,12 @@ def made(rng, one, node):
 
 
 def flooders(rng, server, joined):
-    """From where they come, two of them clients, each with its nodes; or a joined router, with a thousand behind it."""
+    """From where they come, two of them clients, each with its nodes; or a joined router, with a thousand behind it. By its
+    own node each other would be a client too, so it has that of one."""
     if joined:
         return [(Client((JOINED_FLOODER, joined), server), [rng.randbytes(6).hex() for _ in range(1000)])]
-    clients = [registered((ip, 0), server) for ip in FLOODERS[:2]] + [Client((ip, 0), server) for ip in FLOODERS[2:]]
-    return [(client, [client.node]) for client in clients]
+    clients = [registered((ip, 0), server) for ip in FLOODERS[:2]]
+    return [(client, [client.node]) for client in clients] + [(Client((ip, 0), server), [clients[0].node]) for ip in FLOODERS[2:]]
 
 
 def flood(port, joined, seed, window, *nodes):
