@@ -1,14 +1,13 @@
 -- When clients are pinged.
-use Rattle.std.proofs.Common.{◌≡◌, ◌≤◌, ◌<◌, ◌+◌, ◌*◌, ◌^◌, ℕ, List, [], ◌∷◌, Bool, true, false, cond, Option, Some, None, length, take, get_or, arith, refl, sym, ap, ◌∙◌, ltb-true}
-use Rattle.std.specs.Prelude.{◌||◌, count_by, nat_le, nat_lt, if◌then◌else◌}
+use Rattle.std.proofs.Common.{◌≡◌, ◌≤◌, ◌<◌, ◌+◌, ◌-◌, ◌*◌, ◌/◌, ◌^◌, ℕ, zero, suc, List, [], ◌∷◌, ◌++◌, Bool, true, false, Option, Some, None, length, take, get_or, arith, refl, sym, ap, subst, ◌∙◌, ltb-true}
+use Rattle.std.specs.Prelude.{◌||◌, nat_le, nat_lt, if◌then◌else◌}
 use Rattle.std.specs.List.{list_any}
 use Rattle.std.proofs.lemmas.Bool.{false_from_ne_true, leb-false, leb-true, le-leb, lt-ltb, or_left, or_right}
 use Rattle.std.proofs.lemmas.List.{take_more}
 use Rattle.std.proofs.lemmas.List.Folds.{list_any-append}
-use Rattle.std.proofs.lemmas.List.Sums.{sum_by-cons}
 use Rattle.ipxnet_server.specs.declared.clients.Client.{Client}
 use Rattle.ipxnet_server.specs.declared.pings.PingTurn.{PingTurn}
-use Rattle.ipxnet_server.specs.Pings.{IsNextPing, OnlySilentArePinged, PingsAreSeldom, earlier, is_one_pinged, is_pinged, ping_period, pings_by}
+use Rattle.ipxnet_server.specs.Pings.{AreInOrder, IsNextPing, OnlySilentArePinged, PingsAreSeldom, earlier, is_one_pinged, is_pinged, ping_period, pings_by, turns_that_ping}
 
 -- ---- tests
 
@@ -96,15 +95,31 @@ silent_pinged t c e = omega (arith, ltb-true (pings_by t.before c) (pings_by t.n
 later : (before time : ℕ) (c : Client) → before ≤ time → pings_by before c ≤ pings_by time c
 later before time c le = omega (arith, le)
 
-one_more : (b : Bool) (x y : ℕ) → nat_lt x y ≡ b → x ≤ y → cond b 1 0 + x ≤ y
+one_more : (b : Bool) (x y : ℕ) → nat_lt x y ≡ b → x ≤ y → (if b then 1 else 0) + x ≤ y
 one_more true x y is le = omega (arith, ltb-true x y is)
 one_more false x y is le = omega (arith, le)
 
+InOrder : ℕ → List ℕ → ℕ → Type 0
+InOrder before [] now = before ≤ now
+InOrder before (time ∷ times) now = (before ≤ time) × InOrder time times now
+
+in_order : (before : ℕ) (times : List ℕ) (now : ℕ) → AreInOrder (before ∷ times ++ now ∷ []) → InOrder before times now
+unfolding InOrder
+in_order before [] now h = h zero (suc zero) before (omega arith) (omega arith)
+in_order before (time ∷ times) now h = (
+  h zero (suc zero) before (omega arith) (omega arith),
+  in_order time times now (λ i j d lt within. h (suc i) (suc j) d (omega arith) (omega arith)),
+)
+
+few : (c : Client) (before now : ℕ) (times : List ℕ) → InOrder before times now → turns_that_ping before times c + pings_by before c ≤ pings_by now c
+unfolding InOrder
+few c before now [] order = omega (arith, later before now c order)
+few c before now (time ∷ times) order =
+    let x = pings_by before c in
+    let y = pings_by time c in
+    let rest = few c time now times order.1 in
+    let first = one_more (nat_lt x y) x y refl (later before time c order.0) in
+    omega (arith, first, rest)
+
 pub few_pings : PingsAreSeldom
-few_pings c before now [] order = omega (arith, later before now c order)
-few_pings c before now (t ∷ turns) order =
-    let same : pings_by t.before c ≡ pings_by before c = ap (λ (n : ℕ). pings_by n c) order.0 in
-    let first = one_more (nat_lt (pings_by t.before c) (pings_by t.now c)) (pings_by t.before c) (pings_by t.now c) refl (later t.before t.now c (omega (arith, order.0, order.1))) in
-    let pings : PingTurn → Bool = λ turn. is_pinged turn c in
-    let count : count_by pings (t ∷ turns) ≡ cond (pings t) 1 0 + count_by pings turns = sum_by-cons (λ (turn : PingTurn). cond (pings turn) 1 0) t turns in
-    omega (arith, first, same, count, few_pings c t.now now turns order.2)
+few_pings c before now times order = few c before now times (in_order before times now order)

@@ -1,5 +1,5 @@
 -- When a server pings its silent clients. Defined by this project.
-use Rattle.std.specs.Prelude.{◌≡◌, ◌≤◌, ◌<◌, ◌^◌, ℕ, ◌+◌, ◌-◌, ◌/◌, List, [], ◌∷◌, count_by, Bool, true, false, nat_le, nat_lt, Option, Some, None, if◌then◌else◌}
+use Rattle.std.specs.Prelude.{◌≡◌, ◌≤◌, ◌<◌, ◌^◌, ℕ, ◌+◌, ◌-◌, ◌/◌, List, [], ◌∷◌, ◌++◌, AllPairs, Bool, true, false, nat_le, nat_lt, Option, Some, None, if◌then◌else◌}
 use Rattle.std.specs.List.{list_any}
 use Rattle.ipxnet_server.specs.declared.clients.Client.{Client}
 use Rattle.ipxnet_server.specs.declared.pings.PingTurn.{PingTurn}
@@ -32,18 +32,20 @@ abbrev pub OnlySilentArePinged : Type 0
 OnlySilentArePinged =
     (turn : PingTurn) (c : Client) → is_pinged turn c ≡ true → ping_period ≤ turn.now - c.heard
 
--- turns one after another, the first behind one at `before`: each begins where the one before it ended, none is
--- before that, and the last is at `now` or before
-abbrev pub AreTurns : ℕ → List PingTurn → ℕ → Type 0
-AreTurns before [] now = before ≤ now
-AreTurns before (turn ∷ turns) now =
-    (turn.before ≡ before) × (before ≤ turn.now) × AreTurns turn.now turns now
+-- none of these times is before an earlier one
+abbrev pub AreInOrder : List ℕ → Type 0
+AreInOrder times = AllPairs (λ a b. a ≤ b) times
 
--- however often there is a turn, a client that stays silent gets at most one ping for each whole period of its
--- silence
+-- how many turns at these times ping a client that stays silent
+abbrev pub turns_that_ping : ℕ → List ℕ → Client → ℕ
+turns_that_ping before [] c = 0
+turns_that_ping before (time ∷ times) c =
+    (if is_pinged (record { before = before; now = time }) c then 1 else 0) + turns_that_ping time times c
+
+-- however often there is a turn, a silent client gets at most one ping for each whole period of its silence
 abbrev pub PingsAreSeldom : Type 0
-PingsAreSeldom = (c : Client) (before now : ℕ) (turns : List PingTurn) → AreTurns before turns now
-    → count_by (λ turn. is_pinged turn c) turns + pings_by before c ≤ pings_by now c
+PingsAreSeldom = (c : Client) (before now : ℕ) (times : List ℕ) → AreInOrder (before ∷ times ++ now ∷ [])
+    → turns_that_ping before times c + pings_by before c ≤ pings_by now c
 
 -- ---- definitions for private functions
 
