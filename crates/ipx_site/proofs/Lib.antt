@@ -1,3 +1,4 @@
+pub mod Watching
 pub mod ControlSent
 pub mod Each
 pub mod KeptSums

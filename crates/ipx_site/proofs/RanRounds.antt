@@ -1,5 +1,5 @@
 -- One round of a router after another.
-use Rattle.std.proofs.Common.{◌≡◌, ◌⊎◌, ◌+◌, ℕ, suc, Bool, true, false, List, [], Result, Ok, Err, inl, inr, arith, subst, sym, ◌∙◌}
+use Rattle.std.proofs.Common.{◌≡◌, ◌⊎◌, ◌+◌, ◌++◌, ◌∷◌, ℕ, suc, Bool, true, false, List, [], Result, Ok, Err, inl, inr, arith, subst, sym, ◌∙◌}
 use Rattle.std.specs.Prelude.{◌==◌, IfErr, IfOk, OnOk, is_err, map}
 use Rattle.ipx_carrier.specs.ReadySet.{AreMarked, is_any_marked}
 use Rattle.ipx_carrier.specs.Turns.{peers_of}
@@ -8,13 +8,14 @@ use Rattle.ipx_source_checks.specs.SourceChecks.{nothing_dropped_yet}
 use Rattle.ipx_site.specs.IdleTime.{IsDue, deadlines, happened}
 use Rattle.ipx_site.specs.KindPorts.{ArePortsBound}
 use Rattle.ipx_site.specs.Loading.{IsFileText}
+use Rattle.ipx_site.specs.PollEvents.{Waited, Watched}
 use Rattle.ipx_site.specs.PortLimits.{limits_of}
 use Rattle.ipx_site.specs.PortsView.{filtered_in_ports, ways_in}
 use Rattle.ipx_site.specs.RouterRounds.{IsRound, SleepsAfter}
 use Rattle.ipx_site.specs.RoutingRuns.{Rounds, RoutesWell, RunsTo, StartsBy, StartsByFile, TakesRound}
 use Rattle.ipx_site.specs.Site.{IsSiteText}
 use Rattle.ipx_site.specs.RouterMarks.{AreIndicesDistinct}
-use Rattle.ipx_site.specs.SiteMarks.{KindMarks, all_marks, kind_marks, marks_in, numbers_come, port_marks}
+use Rattle.ipx_site.specs.SiteMarks.{KindMarks, all_marks, kind_marks, marks_in, numbers_come, port_fds, port_marks}
 use Rattle.ipx_site.specs.SitePorts.{access_by, checked_ports, router_ports}
 use Rattle.ipx_site.specs.StaticNeighbours.{IsToHear}
 use Rattle.ipx_site.specs.Steady.{NeverGoesBack, StopsThere}
@@ -30,9 +31,10 @@ when_well (Ok t) failed P same p well = p
 when_well (Err e) failed P same p well = absurd (let no : true ≡ false = same ∙ well in cc)
 
 pub took_round : {R T E : Type 0} (old new : RunningRouter R) (r : Result T E)
-    → (between : SteadyClock R) × (batch : Batch) × (marks : KindMarks)
+    → (between : SteadyClock R) × (batch : Batch) × (marks : KindMarks) × (time : ℕ)
     × IsRound old.clock between StopsThere NeverGoesBack (ways_in old.ports) (filtered_in_ports old.ports) (filtered_in_ports new.ports) (port_marks old.ports.port_indices.items (kind_marks old.ports)) (port_marks old.ports.port_indices.items marks) old.asked new.asked old.core new.core new.ports.ethernet.moment batch
-    × SleepsAfter (IsDue (deadlines new.asked new.looked new.responses new.written new.core new.warnings (happened new.totals new.core new.ports) new.ports.servers.servers.items)) (is_any_marked (all_marks marks)) between new.clock StopsThere new.ready.asked batch.fault batch.quiet
+    × SleepsAfter (IsDue (deadlines new.asked new.looked new.responses new.written new.core new.warnings (happened new.totals new.core new.ports) new.ports.servers.servers.items)) (is_any_marked (all_marks marks)) between new.clock StopsThere time batch.fault batch.quiet
+    × (new.ready.trace.items ≡ old.ready.trace.items ++ Waited time ∷ [])
     × OnOk r (AreMarked (numbers_come new.ready) (all_marks marks) (marks_in new.ports))
     → is_err r ≡ new.ready.failed → new.ports.servers.moment ≡ new.ports.ethernet.moment → ways_in new.ports ≡ ways_in old.ports
     → peers_of new.ports.datagrams.peers.items ≡ peers_of old.ports.datagrams.peers.items → new.ports.port_indices.items ≡ old.ports.port_indices.items
@@ -41,9 +43,11 @@ took_round old new r core failed moments transmissions peers port_indices access
   between = core.0;
   batch = core.1;
   marks = core.2;
-  round = core.3;
-  sleeps = core.4;
-  marked = when_well r new.ready.failed (AreMarked (numbers_come new.ready) (all_marks core.2) (marks_in new.ports)) failed core.5;
+  time = core.3;
+  round = core.4;
+  sleeps = core.5;
+  waits = core.6;
+  marked = when_well r new.ready.failed (AreMarked (numbers_come new.ready) (all_marks core.2) (marks_in new.ports)) failed core.7;
   moments = moments;
   transmissions = transmissions;
   peers = peers;
@@ -62,11 +66,11 @@ pub started_by : {R E : Type 0} (site : RouterConfig) (started : Result (Running
     → IfOk started (λ s. s.core.core.core.core.router.ports ≡ router_ports site.ports.items) → IfOk started (λ s. IsToHear site.statics.items s.core.core.core)
     → IfOk started (λ s. (s.core.ports ≡ checked_ports site.ports.items) × (s.core.drops ≡ nothing_dropped_yet))
     → IfOk started (λ s. (s.core.core.ports ≡ router_ports site.ports.items) × (s.core.core.buckets.queriers ≡ []) × (s.core.core.buckets.ports ≡ limits_of site.ports.items))
-    → IfOk started (λ s. ArePortsBound site.ports.items s.ports) → IfOk started (λ s. s.clock.last ≡ 0) → IfOk started (λ s. s.asked ≡ 0)
+    → IfOk started (λ s. ArePortsBound site.ports.items s.ports) → IfOk started (λ s. s.ready.trace.items ≡ map Watched (port_fds s.ports)) → IfOk started (λ s. s.clock.last ≡ 0) → IfOk started (λ s. s.asked ≡ 0)
     → IfOk started (λ s. StartsBy site s)
-started_by site (Ok s) ports statics checks queriers bound clock asked =
-    record { ports = ports; statics = statics; checks = checks; queriers = queriers; bound = bound; indices = subst (λ (it : List PortIndex). AreIndicesDistinct it) (sym bound.port_indices) (distinct site.ports.items); clock = clock; asked = asked }
-started_by site (Err e) ports statics checks queriers bound clock asked = tt
+started_by site (Ok s) ports statics checks queriers bound watched clock asked =
+    record { ports = ports; statics = statics; checks = checks; queriers = queriers; bound = bound; indices = subst (λ (it : List PortIndex). AreIndicesDistinct it) (sym bound.port_indices) (distinct site.ports.items); watched = watched; clock = clock; asked = asked }
+started_by site (Err e) ports statics checks queriers bound watched clock asked = tt
 
 -- a router that started as its file says started as some file says
 pub starts_by_file : {R : Type 0} (loaded : Result RouterConfig ℕ) (result : Result (RunningRouter R) ℕ) → IfOk loaded (λ s. (text : List ℕ) × IsFileText text × IsSiteText text s)

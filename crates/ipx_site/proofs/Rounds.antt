@@ -32,21 +32,21 @@ is_round {A = A} stops tells clock told tick clock_after transmissions here i j 
     (now, tick, mid, subst (λ it. stops clock now it) (sym e) h, m, asks, from)
 
 -- how long a router waits, by how its batch ended
-pub rests : {K : Type 0} (todo : ℕ → Type 0) (marked : Bool) (clock clock' : K) (stops : K → ℕ → K → Type 0) (asked : Option ℕ)
-    (fault : Option RunFault) (quiet : Bool) → is_some fault ≡ true → asked ≡ Some 100 → clock' ≡ clock
+pub rests : {K : Type 0} (todo : ℕ → Type 0) (marked : Bool) (clock clock' : K) (stops : K → ℕ → K → Type 0) (asked : ℕ)
+    (fault : Option RunFault) (quiet : Bool) → is_some fault ≡ true → asked ≡ 100 → clock' ≡ clock
     → SleepsAfter todo marked clock clock' stops asked fault quiet
 rests todo marked clock clock' stops asked (Some f) quiet e at same = (at, same)
 rests todo marked clock clock' stops asked None quiet e at same = absurd (cc)
 
-pub sleeps : {K : Type 0} (todo : ℕ → Type 0) (marked : Bool) (clock clock' : K) (stops : K → ℕ → K → Type 0) (asked : Option ℕ)
+pub sleeps : {K : Type 0} (todo : ℕ → Type 0) (marked : Bool) (clock clock' : K) (stops : K → ℕ → K → Type 0) (asked : ℕ)
     (fault : Option RunFault) (quiet : Bool) → is_some fault ≡ false → quiet ≡ true → (now time : ℕ) → stops clock now clock'
-    → IsTimeUntilDue todo now time → asked ≡ Some (if marked then min time 100 else time) → SleepsAfter todo marked clock clock' stops asked fault quiet
+    → IsTimeUntilDue todo now time → asked ≡ (if marked then min time 100 else time) → SleepsAfter todo marked clock clock' stops asked fault quiet
 sleeps todo marked clock clock' stops asked (Some f) quiet e q now time told time_until_due at = absurd (cc)
 sleeps todo marked clock clock' stops asked None true e q now time told time_until_due at = (now, time, told, time_until_due, at)
 sleeps todo marked clock clock' stops asked None false e q now time told time_until_due at = absurd (cc)
 
-pub goes_on : {K : Type 0} (todo : ℕ → Type 0) (marked : Bool) (clock clock' : K) (stops : K → ℕ → K → Type 0) (asked : Option ℕ)
-    (fault : Option RunFault) (quiet : Bool) → is_some fault ≡ false → quiet ≡ false → asked ≡ Some 0 → clock' ≡ clock
+pub goes_on : {K : Type 0} (todo : ℕ → Type 0) (marked : Bool) (clock clock' : K) (stops : K → ℕ → K → Type 0) (asked : ℕ)
+    (fault : Option RunFault) (quiet : Bool) → is_some fault ≡ false → quiet ≡ false → asked ≡ 0 → clock' ≡ clock
     → SleepsAfter todo marked clock clock' stops asked fault quiet
 goes_on todo marked clock clock' stops asked (Some f) quiet e q at same = absurd (cc)
 goes_on todo marked clock clock' stops asked None true e q at same = absurd (cc)
@@ -62,12 +62,11 @@ round_then stops tells clock clock' transmissions kept kept' kept'' marked marke
     let three = subst (λ it. IsRound clock clock' stops tells transmissions kept kept'' marked marked' asked asked'' old it moment b) (sym g) two in
     subst (λ it. IsRound clock clock' stops tells transmissions kept kept'' marked marked' asked asked'' old new' it b) (sym h) three
 
-pub sleeps_then : {K : Type 0} (a b : Deadlines) (marked : Bool) (clock clock' : K) (stops : K → ℕ → K → Type 0) (asked asked' : Option ℕ)
-    (fault : Option RunFault) (quiet : Bool) → b ≡ a → asked' ≡ asked → SleepsAfter (IsDue a) marked clock clock' stops asked fault quiet
-    → SleepsAfter (IsDue b) marked clock clock' stops asked' fault quiet
-sleeps_then a b marked clock clock' stops asked asked' fault quiet e f h =
-    let one = subst (λ it. SleepsAfter (IsDue it) marked clock clock' stops asked fault quiet) (sym e) h in
-    subst (λ it. SleepsAfter (IsDue b) marked clock clock' stops it fault quiet) (sym f) one
+pub sleeps_then : {K : Type 0} (a b : Deadlines) (marked : Bool) (clock clock' : K) (stops : K → ℕ → K → Type 0) (asked : ℕ)
+    (fault : Option RunFault) (quiet : Bool) → b ≡ a → SleepsAfter (IsDue a) marked clock clock' stops asked fault quiet
+    → SleepsAfter (IsDue b) marked clock clock' stops asked fault quiet
+sleeps_then a b marked clock clock' stops asked fault quiet e h =
+    subst (λ it. SleepsAfter (IsDue it) marked clock clock' stops asked fault quiet) (sym e) h
 
 -- deadlines, part by part
 pub same_deadlines : (asked asked' : ℕ) (looked looked' : Option ℕ) (responses responses' : ℕ) (written written' : Option ℕ)

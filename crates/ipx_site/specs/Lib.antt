@@ -1,3 +1,4 @@
+pub mod PollEvents
 pub mod Keys
 pub mod Values
 pub mod AllowedPeers

@@ -32,11 +32,11 @@ IsRound {K} clock clock_after stops tells transmissions filtered filtered_after 
 -- how long it waits, and when. After a fault it waits 100 ms. After a batch that was not quiet it does not
 -- wait, but learns where something came. After a quiet batch it stops the clock and waits as long as there is
 -- nothing to do. If a port is still marked, which then fails, it waits at most 100 ms
-abbrev pub SleepsAfter : {K : Type 0} → (ℕ → Type 0) → Bool → K → K → (K → ℕ → K → Type 0) → Option ℕ → Option RunFault → Bool → Type 0
-SleepsAfter todo marked clock clock_after stops asked (Some f) quiet =
-    (asked ≡ Some 100) × (clock_after ≡ clock)
-SleepsAfter todo marked clock clock_after stops asked None false =
-    (asked ≡ Some 0) × (clock_after ≡ clock)
-SleepsAfter todo marked clock clock_after stops asked None true = (now time : ℕ)
-    × stops clock now clock_after × IsTimeUntilDue todo now time
-    × (asked ≡ Some (if marked then min time 100 else time))
+abbrev pub SleepsAfter : {K : Type 0} → (ℕ → Type 0) → Bool → K → K → (K → ℕ → K → Type 0) → ℕ → Option RunFault → Bool → Type 0
+SleepsAfter todo marked clock clock_after stops time (Some f) quiet =
+    (time ≡ 100) × (clock_after ≡ clock)
+SleepsAfter todo marked clock clock_after stops time None false =
+    (time ≡ 0) × (clock_after ≡ clock)
+SleepsAfter todo marked clock clock_after stops time None true = (now until : ℕ)
+    × stops clock now clock_after × IsTimeUntilDue todo now until
+    × (time ≡ (if marked then min until 100 else until))

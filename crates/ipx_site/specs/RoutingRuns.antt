@@ -1,6 +1,6 @@
 -- What the router of a file does from its start until it ends: one round after another. The entry points are
 -- `StartsByFile`, `RunsTo` and, of both, `RoutesWell`. Defined by this project.
-use Rattle.std.specs.Prelude.{◌≡◌, ◌^◌, ◌-◌, ℕ, zero, suc, Bool, true, false, List, [], map}
+use Rattle.std.specs.Prelude.{◌≡◌, ◌^◌, ◌-◌, ◌++◌, ◌∷◌, ℕ, zero, suc, Bool, true, false, List, [], map}
 use Rattle.ipx_carrier.specs.ReadySet.{AreMarked, is_any_marked}
 use Rattle.ipx_carrier.specs.Turns.{peers_of}
 use Rattle.ipx_carrier.specs.declared.report.Batch.{Batch}
@@ -8,12 +8,13 @@ use Rattle.ipx_source_checks.specs.SourceChecks.{nothing_dropped_yet}
 use Rattle.ipx_site.specs.IdleTime.{IsDue, deadlines, happened}
 use Rattle.ipx_site.specs.KindPorts.{ArePortsBound}
 use Rattle.ipx_site.specs.Loading.{IsFileText}
+use Rattle.ipx_site.specs.PollEvents.{Waited, Watched}
 use Rattle.ipx_site.specs.PortLimits.{limits_of}
 use Rattle.ipx_site.specs.PortsView.{filtered_in_ports, ways_in}
 use Rattle.ipx_site.specs.RouterRounds.{IsRound, SleepsAfter}
 use Rattle.ipx_site.specs.Site.{IsSiteText}
 use Rattle.ipx_site.specs.RouterMarks.{AreIndicesDistinct}
-use Rattle.ipx_site.specs.SiteMarks.{KindMarks, all_marks, kind_marks, marks_in, numbers_come, port_marks}
+use Rattle.ipx_site.specs.SiteMarks.{KindMarks, all_marks, kind_marks, marks_in, numbers_come, port_fds, port_marks}
 use Rattle.ipx_site.specs.SitePorts.{access_by, checked_ports, router_ports}
 use Rattle.ipx_site.specs.StaticNeighbours.{IsToHear}
 use Rattle.ipx_site.specs.Steady.{NeverGoesBack, StopsThere}
@@ -23,8 +24,8 @@ use Rattle.ipx_site.specs.declared.site.RouterConfig.{RouterConfig}
 
 -- a router has started as its file says. It has the ports of the file, each with its socket and an index of
 -- its own, and is to hear its static entries. It checks sources at its ports, and has dropped nothing. The limits at its ports are
--- those of their kinds and of the file, and no general query has come. Its clock begins at 0, and it has not
--- repeated its requests
+-- those of their kinds and of the file, and no general query has come. Its poller watches the descriptors of
+-- all its sockets, by kind, and has not waited. Its clock begins at 0, and it has not repeated its requests
 pub record StartsBy {R : Type 0} (site : RouterConfig) (first : RunningRouter R) : Type 0 where
   pub ports : first.core.core.core.core.router.ports ≡ router_ports site.ports.items
   pub statics : IsToHear site.statics.items first.core.core.core
@@ -33,16 +34,18 @@ pub record StartsBy {R : Type 0} (site : RouterConfig) (first : RunningRouter R)
       × (first.core.core.buckets.queriers ≡ []) × (first.core.core.buckets.ports ≡ limits_of site.ports.items)
   pub bound : ArePortsBound site.ports.items first.ports
   pub indices : AreIndicesDistinct first.ports.port_indices.items
+  pub watched : first.ready.trace.items ≡ map Watched (port_fds first.ports)
   pub clock : first.clock.last ≡ 0
   pub asked : first.asked ≡ 0
 
--- one round, followed by a wait as long as there is nothing to do. If the wait does not fail, exactly the
+-- one round, followed by one wait, as long as there is nothing to do. If the wait does not fail, exactly the
 -- ports are marked at which something came. The ways of packets, the port indices and the accepted senders
 -- are unchanged
 pub record TakesRound {R : Type 0} (old new : RunningRouter R) : Type 0 where
   pub between : SteadyClock R
   pub batch : Batch
   pub marks : KindMarks
+  pub time : ℕ
   pub round : IsRound old.clock between StopsThere NeverGoesBack (ways_in old.ports)
       (filtered_in_ports old.ports) (filtered_in_ports new.ports)
       (port_marks old.ports.port_indices.items (kind_marks old.ports))
@@ -50,7 +53,8 @@ pub record TakesRound {R : Type 0} (old new : RunningRouter R) : Type 0 where
       new.ports.ethernet.moment batch
   pub sleeps : SleepsAfter (IsDue (deadlines new.asked new.looked new.responses new.written new.core
       new.warnings (happened new.totals new.core new.ports) new.ports.servers.servers.items)) (is_any_marked (all_marks marks))
-      between new.clock StopsThere new.ready.asked batch.fault batch.quiet
+      between new.clock StopsThere time batch.fault batch.quiet
+  pub waits : new.ready.trace.items ≡ old.ready.trace.items ++ Waited time ∷ []
   pub marked : new.ready.failed ≡ false
       → AreMarked (numbers_come new.ready) (all_marks marks) (marks_in new.ports)
   pub moments : new.ports.servers.moment ≡ new.ports.ethernet.moment

@@ -1,6 +1,6 @@
 -- The marks of the ports of a running router, of all kinds, and at which of them something came. Defined by
 -- this project.
-use Rattle.std.specs.Prelude.{◌≡◌, ℕ, Bool, List, ◌++◌, map}
+use Rattle.std.specs.Prelude.{◌≡◌, ℕ, ℤ, Bool, List, ◌++◌, map}
 use Rattle.mio.specs.Event.{event_token}
 use Rattle.mio.specs.Events.{items}
 use Rattle.ipx_carrier.specs.declared.datagrams.Datagrams as OfDevice
@@ -13,8 +13,11 @@ use Rattle.ipx_site.specs.declared.poller.Poller.{Poller}
 use Rattle.ipx_site.specs.declared.sockets.UdpSockets.{UdpSockets}
 use Rattle.ipx_carrier.specs.Readiness.{Readiness}
 use Rattle.ipx_carrier.specs.ReadySet.{is_port_marked}
+use Rattle.ipx_ethernet_ports.specs.EthernetAddresses.{ethernet_fds}
+use Rattle.ipx_ipxnet_ports.specs.ServerAddresses.{server_fds}
 use Rattle.ipx_site.specs.PortsView.{SitePortsRun}
 use Rattle.ipx_site.specs.RouterMarks.{marked_by_kind}
+use Rattle.ipx_site.specs.Senders.{udp_fds}
 use Rattle.ipx_site.specs.declared.router_ports.PortIndex.{PortIndex}
 
 -- the numbers of the descriptors at which something came at the last wait, starting at 0
@@ -46,6 +49,11 @@ all_marks marks = marks.datagrams ++ (marks.ethernet ++ marks.servers)
 
 abbrev pub marks_in : {gd : OfDevice.Ghosts (SourceFilter UdpSockets)} {ge : OfSockets.Ghosts EthernetSockets} {gl : OfPlaces.Ghosts ServerSockets} → SitePortsRun gd ge gl → List Bool
 marks_in r = all_marks (kind_marks r)
+
+-- the descriptors of the sockets of RFC 1234 ports, then of Ethernet ports, then of ipxnet ports
+abbrev pub port_fds : {gd : OfDevice.Ghosts (SourceFilter UdpSockets)} {ge : OfSockets.Ghosts EthernetSockets} {gl : OfPlaces.Ghosts ServerSockets} → SitePortsRun gd ge gl → List ℤ
+port_fds r = (udp_fds r.datagrams.device.device.sockets.items ++ ethernet_fds r.ethernet.sockets.ethernet.items)
+    ++ server_fds r.servers.sockets.sockets.items
 
 -- ports differ in their marks alone
 pub record DifferInMarks {gd : OfDevice.Ghosts (SourceFilter UdpSockets)} {ge : OfSockets.Ghosts EthernetSockets} {gl : OfPlaces.Ghosts ServerSockets} (old new : SitePortsRun gd ge gl) : Type 0 where

@@ -1,8 +1,13 @@
 //! Waiting until a descriptor is readable, or for some time.
 
-ghost use Rattle.std.specs.Prelude.{◌≡◌, ◌+◌, IfOk, None, OnOk, Some, is_err, length};
+ghost use Rattle.std.specs.Prelude.{◌≡◌, ◌+◌, ◌++◌, ◌∷◌, [], ℤ, IfOk, None, OnOk, Some, is_err, length, map};
 ghost use Rattle.ipx_carrier.specs.Counting.{counted, raised};
+ghost use Rattle.ipx_ethernet_ports.specs.EthernetAddresses.{ethernet_fds};
+ghost use Rattle.ipx_ipxnet_ports.specs.ServerAddresses.{server_fds};
+ghost use Rattle.ipx_site.specs.PollEvents.{Waited, Watched};
+ghost use Rattle.ipx_site.specs.Senders.{udp_fds};
 
+use crate::poll_trace::PollTrace;
 use crate::sockets::UdpSockets;
 use ipx_carrier::Datagrams;
 use ipx_ethernet_ports::{EndSockets, EthernetSockets};
@@ -29,6 +34,9 @@ const EVENTS: usize = 32;
 
 /// Waits for sockets. It reports once that something came. Read everything before the next wait,
 /// until nothing is left.
+///
+/// Only here the system is asked to watch descriptors, and to wait. Each time is added to a trace,
+/// which contracts read.
 pub struct Poller {
     poll: Poll,
     events: Events,
@@ -38,6 +46,7 @@ pub struct Poller {
     asked: Option<u64>,
     /// Whether the system failed to wait then.
     failed: bool,
+    trace: PollTrace,
 }
 
 impl Drop for Poller {
@@ -48,6 +57,7 @@ impl Drop for Poller {
             watched: _,
             asked: _,
             failed: _,
+            trace: _,
         } = self;
     }
 }
@@ -57,6 +67,9 @@ impl Poller {
     pub fn new<R: Net>(rt: &R, alloc: Global, sockets: &UdpSockets) -> Result<Poller, WaitFault>
         ensures watched { IfOk result (λ r. r.watched ≡ length sockets.now.sockets.items) }
         ensures asked { IfOk result (λ r. r.asked ≡ None) }
+        // It watches their descriptors, in order, and has not waited.
+        ensures trace { IfOk result (λ r.
+            r.trace.items ≡ map Watched (udp_fds sockets.now.sockets.items)) }
     {
         let Ok(poll) = Poll::new(rt) else {
             return Err(WaitFault::System);
@@ -70,6 +83,7 @@ impl Poller {
             watched: 0,
             asked: None,
             failed: false,
+            trace: PollTrace::new(),
         };
         poller.watch_sockets(sockets)?;
         Ok(poller)
@@ -79,13 +93,11 @@ impl Poller {
         ensures watched { OnOk result (self.new.watched
             ≡ counted (self.old.watched + length sockets.now.sockets.items)) }
         ensures asked { self.new.asked ≡ self.old.asked }
+        ensures trace { OnOk result (self.new.trace.items
+            ≡ self.old.trace.items ++ map Watched (udp_fds sockets.now.sockets.items)) }
     {
         for port in 0..sockets.ports() {
-            if let Some(descriptor) = sockets.descriptor(port) {
-                if !self.watch_reading(descriptor) {
-                    return Err(WaitFault::System);
-                }
-            }
+            self.watch_socket(sockets.descriptor(port))?;
         }
         Ok(())
     }
@@ -95,13 +107,11 @@ impl Poller {
         ensures watched { OnOk result (self.new.watched
             ≡ counted (self.old.watched + length sockets.now.ethernet.items)) }
         ensures asked { self.new.asked ≡ self.old.asked }
+        ensures trace { OnOk result (self.new.trace.items
+            ≡ self.old.trace.items ++ map Watched (ethernet_fds sockets.now.ethernet.items)) }
     {
         for wire in 0..sockets.ports() {
-            if let Some(descriptor) = sockets.descriptor(wire) {
-                if !self.watch_reading(descriptor) {
-                    return Err(WaitFault::System);
-                }
-            }
+            self.watch_socket(sockets.descriptor(wire))?;
         }
         Ok(())
     }
@@ -111,15 +121,27 @@ impl Poller {
         ensures watched { OnOk result (self.new.watched
             ≡ counted (self.old.watched + length sockets.now.sockets.items)) }
         ensures asked { self.new.asked ≡ self.old.asked }
+        ensures trace { OnOk result (self.new.trace.items
+            ≡ self.old.trace.items ++ map Watched (server_fds sockets.now.sockets.items)) }
     {
         for server in 0..sockets.ports() {
-            if let Some(descriptor) = sockets.descriptor(server) {
-                if !self.watch_reading(descriptor) {
-                    return Err(WaitFault::System);
-                }
-            }
+            self.watch_socket(sockets.descriptor(server))?;
         }
         Ok(())
+    }
+
+    /// Waits for the socket with this descriptor too. It fails if there is none, or if the system
+    /// cannot wait for it.
+    fn watch_socket(&mut self, descriptor: Option<RawFd>) -> Result<(), WaitFault>
+        ensures watched { OnOk result (self.new.watched ≡ raised self.old.watched) }
+        ensures trace { OnOk result ((fd : ℤ) × (descriptor ≡ Some fd)
+            × (self.new.trace.items ≡ self.old.trace.items ++ Watched fd ∷ [])) }
+        ensures asked { self.new.asked ≡ self.old.asked }
+    {
+        match descriptor {
+            Some(descriptor) if self.watch_reading(descriptor) => Ok(()),
+            _ => Err(WaitFault::System),
+        }
     }
 
     /// Waits for this descriptor too, until it is readable. It returns false if the system cannot
@@ -127,9 +149,12 @@ impl Poller {
     pub fn watch_reading(&mut self, descriptor: RawFd) -> bool
         ensures watched { self.new.watched ≡ raised self.old.watched }
         ensures asked { self.new.asked ≡ self.old.asked }
+        // The system is asked to watch it, whatever the result.
+        ensures trace { self.new.trace.items ≡ self.old.trace.items ++ Watched descriptor ∷ [] }
     {
         let token = Token(self.watched);
         self.watched = self.watched.saturating_add(1);
+        self.trace.note_watched(&descriptor);
         self.poll
             .registry()
             .register(&mut SourceFd(&descriptor), token, Interest::READABLE)
@@ -148,12 +173,14 @@ impl Poller {
     /// returns whether something is readable.
     pub fn wait(&mut self, most: u64) -> Result<bool, WaitFault>
         ensures watched { self.new.watched ≡ self.old.watched }
-        // The system is asked to wait this long, whatever the result.
+        // The system is asked once, to wait this long, whatever the result.
         ensures asked { self.new.asked ≡ Some most }
+        ensures trace { self.new.trace.items ≡ self.old.trace.items ++ Waited most ∷ [] }
         // It records whether the system failed.
         ensures failed { self.new.failed ≡ is_err result }
     {
         self.asked = Some(most);
+        self.trace.note_waited(&most);
         let timeout = Duration::from_millis(most);
         self.failed = self.poll.poll(&mut self.events, Some(timeout)).is_err();
         if self.failed {

@@ -8,10 +8,12 @@ ghost use Rattle.ipx_carrier.specs.Turns.{peers_of};
 ghost use Rattle.ipx_carrier.specs.Counting.{counted};
 ghost use Rattle.ipx_source_checks.specs.SourceChecks.{nothing_dropped_yet};
 ghost use Rattle.ipx_site.specs.KindPorts.{ArePortsBound, datagram_places, datagram_ports, port_indices_of};
+ghost use Rattle.ipx_site.specs.PollEvents.{Watched};
 ghost use Rattle.ipx_site.specs.PortLimits.{limits_of};
 ghost use Rattle.ipx_site.specs.StaticLists.{HearsAtPorts};
 ghost use Rattle.ipx_site.specs.StaticNeighbours.{IsToHear};
 ghost use Rattle.ipx_site.specs.RoutingRuns.{RoutesWell};
+ghost use Rattle.ipx_site.specs.SiteMarks.{port_fds};
 ghost use Rattle.ipx_site.specs.SitePorts.{AccessListPorts, access_by, access_of, checked_ports, heard_at_port, named, router_ports, site_peers, udp_ports};
 
 use crate::bind_fault::BindFault;
@@ -315,10 +317,11 @@ fn bound_ports<R: Net>(
 
 /// A poller for the sockets of these ports.
 fn ready_for<R: Net>(rt: &R, alloc: Global, ports: &UdpRouterPorts) -> Result<Poller, RouteFault>
-    ensures { IfOk result (λ r. r.watched
+    ensures watched { IfOk result (λ r. r.watched
         ≡ counted (length ports.now.datagrams.device.device.sockets.items
         + length ports.now.ethernet.sockets.ethernet.items
         + length ports.now.servers.sockets.sockets.items)) }
+    ensures trace { IfOk result (λ r. r.trace.items ≡ map Watched (port_fds ports.now)) }
 {
     let mut ready = Poller::new(rt, alloc, ports.device().device())?;
     ready.watch_ethernet(ports.ethernet().sockets())?;
@@ -350,6 +353,8 @@ pub(crate) fn start<'a, R: Net + Log + SystemClock>(
     // Each port has its socket. An RFC 1234 port has its peers and its access list, an Ethernet
     // port its switch, and an ipxnet port its server.
     ensures bound { IfOk result (λ s. ArePortsBound site.ports.items s.ports) }
+    // Its poller watches the descriptors of all ports, by kind, and has not waited.
+    ensures watched { IfOk result (λ s. s.ready.trace.items ≡ map Watched (port_fds s.ports)) }
     ensures clock { IfOk result (λ s. s.clock.last ≡ 0) }
     ensures asked { IfOk result (λ s. s.asked ≡ 0) }
 {

@@ -1,12 +1,13 @@
 //! A router with its sockets, and its work besides the turns of its run.
 
-ghost use Rattle.std.specs.Prelude.{◌≡◌, ◌↔◌, ℕ, Bool, List, IfOk, OnOk, Some, is_err, is_ok, length, map, string_bytes};
+ghost use Rattle.std.specs.Prelude.{◌≡◌, ◌↔◌, ◌++◌, ◌∷◌, [], ℕ, Bool, List, IfOk, OnOk, Some, is_err, is_ok, length, map, string_bytes};
 ghost use Rattle.ipx_carrier.specs.ReadySet.{AreMarked, is_any_marked};
 ghost use Rattle.ipx_carrier.specs.Turns.{peers_of};
 ghost use Rattle.ipx_site.specs.DropLog.{AreDropsLogged};
 ghost use Rattle.ipx_site.specs.IdleTime.{IsTimeUntilDue, IsDue, IsToSend, deadlines, counts_to_log, happened, happened_in, look_after};
 ghost use Rattle.ipx_site.specs.Moments.{AreLoggedIfDue, IsReached};
 ghost use Rattle.ipx_site.specs.KnownFile.{TellsKnown};
+ghost use Rattle.ipx_site.specs.PollEvents.{Waited};
 ghost use Rattle.ipx_site.specs.SitePorts.{access_by};
 ghost use Rattle.ipx_site.specs.PortsView.{filtered_in_ports, ways_in};
 ghost use Rattle.ipx_site.specs.RouterRounds.{AsksAgain, IsRound, SleepsAfter};
@@ -115,6 +116,7 @@ impl<'a, R: SystemClock> RunningRouter<'a, R> {
         ensures core { result.core ≡ parts.entry.core }
         ensures ports { result.ports ≡ parts.entry.ports }
         ensures clock { result.clock ≡ parts.entry.clock }
+        ensures ready { result.ready ≡ parts.entry.ready }
         ensures asked { result.asked ≡ 0 }
     {
         RunningRouter {
@@ -378,7 +380,7 @@ impl<'a, R: SystemClock> RunningRouter<'a, R> {
             (happened self.old.totals self.old.core self.old.ports)
             self.old.ports.servers.servers.items))
             (is_any_marked (marks_in self.old.ports))
-            self.old.clock self.new.clock StopsThere (Some result) batch.fault batch.quiet }
+            self.old.clock self.new.clock StopsThere result batch.fault batch.quiet }
         ensures core { self.new.core ≡ self.old.core }
         ensures ports { self.new.ports ≡ self.old.ports }
         ensures ready { self.new.ready ≡ self.old.ready }
@@ -406,9 +408,9 @@ impl<'a, R: SystemClock> RunningRouter<'a, R> {
     /// Does the work that is due, takes turns as long as there is something to receive or to send,
     /// waits, and marks the ports where something came.
     pub(crate) fn step<S: Log + Files>(&mut self, rt: &S, alloc: Global) -> Result<(), WaitFault>
-        // A round, which stops the clock before its turns, followed by a wait as long as there is
-        // nothing to do. Then the ports are marked at which something came.
-        ensures core { (between : SteadyClock R) × (batch : Batch) × (marks : KindMarks)
+        // A round, which stops the clock before its turns, followed by one wait, as long as there
+        // is nothing to do. Then the ports are marked at which something came.
+        ensures core { (between : SteadyClock R) × (batch : Batch) × (marks : KindMarks) × (time : ℕ)
             × IsRound self.old.clock between StopsThere NeverGoesBack (ways_in self.old.ports)
             (filtered_in_ports self.old.ports) (filtered_in_ports self.new.ports)
             (port_marks self.old.ports.port_indices.items (kind_marks self.old.ports))
@@ -420,8 +422,8 @@ impl<'a, R: SystemClock> RunningRouter<'a, R> {
             (happened self.new.totals self.new.core self.new.ports)
             self.new.ports.servers.servers.items))
             (is_any_marked (all_marks marks))
-            between self.new.clock StopsThere
-            self.new.ready.asked batch.fault batch.quiet
+            between self.new.clock StopsThere time batch.fault batch.quiet
+            × (self.new.ready.trace.items ≡ self.old.ready.trace.items ++ Waited time ∷ [])
             × OnOk result (AreMarked (numbers_come self.new.ready) (all_marks marks)
             (marks_in self.new.ports)) }
         // It fails exactly if the wait did.

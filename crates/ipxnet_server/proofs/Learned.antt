@@ -4,6 +4,7 @@ use Rattle.std.specs.Prelude.{Ok, ◌==◌, ◌&&◌, ◌||◌, nat_lt, if◌the
 use Rattle.std.specs.Str.{bytes_eq}
 use Rattle.std.specs.declared.net.socket_addr.SocketAddrV4.{SocketAddrV4}
 use Rattle.ipx_wire.specs.Assigned.{local_network}
+use Rattle.ipx_wire.specs.Ipx.{PacketView}
 use Rattle.ipx_wire.specs.declared.address.Network.{Network}
 use Rattle.ipx_wire.specs.declared.address.Node.{Node}
 use Rattle.ipx_wire.specs.declared.ipx.packet.IpxHeader.{IpxHeader}

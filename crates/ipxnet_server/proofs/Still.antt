@@ -22,7 +22,7 @@ use Rattle.ipx_wire.specs.Assigned.{broadcast_node}
 use Rattle.ipx_wire.specs.declared.address.Node.{Node}
 use Rattle.ipx_wire.specs.declared.ipx.packet.IpxHeader.{IpxHeader}
 use Rattle.ipxnet_server.specs.ServerClients.{are_one_place, client_at, client_heard, client_of_node, clients_heard, is_client_at}
-use Rattle.ipxnet_server.specs.ServerHears.{ServerView, all_get, client_gets, is_dropped, is_from_server, is_given_from_server, is_given_to_service, is_joined_taker, is_of_client, is_taker, is_to_service, joined_takers, server_gives, server_hearing, server_learned, max_client_bytes, node_given, takers_of}
+use Rattle.ipxnet_server.specs.ServerHears.{ServerView, all_get, client_gets, is_dropped, is_from_server, is_given_from_server, is_given_to_service, is_joined_taker, is_of_client, is_taker, is_to_service, joined_takers, server_gives, server_hearing, server_knowing, server_learned, max_client_bytes, node_given, takers_of}
 use Rattle.ipxnet_server.specs.PeerServers.{is_joined_place, remote_client_of}
 use Rattle.ipxnet_server.specs.ServerInside.{MayKnow, Known, Same}
 use Rattle.ipxnet_server.proofs.Hears.{taker_known}

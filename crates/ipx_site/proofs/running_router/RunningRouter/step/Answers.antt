@@ -1,6 +1,7 @@
-use Rattle.std.proofs.Common.{◌∙◌, Some, ap, rules, subst, sym}
+use Rattle.std.proofs.Common.{◌≡◌, ◌∙◌, ◌++◌, ◌∷◌, [], ap, rules, subst, sym}
 use Rattle.ipx_carrier.specs.ReadySet.{is_any_marked}
 use Rattle.ipx_site.specs.IdleTime.{IsDue, deadlines, happened}
+use Rattle.ipx_site.specs.PollEvents.{Waited}
 use Rattle.ipx_site.specs.PortsView.{filtered_in_ports, ways_in}
 use Rattle.ipx_site.specs.RouterRounds.{IsRound, SleepsAfter}
 use Rattle.ipx_site.specs.SiteMarks.{kind_marks, marks_in, port_marks}
@@ -16,17 +17,21 @@ returns-in_err-wait-clause-core g c =
     let t = c.rest-time.new.self in
     let e = c.rest-time.ensures in
     let b = c.round-batch.result in
+    let waits_once : c.wait.new.self.trace.items ≡ old.ready.trace.items ++ Waited c.rest-time.result ∷ [] =
+    c.wait.ensures.trace ∙ ap (λ it. it.trace.items ++ Waited c.rest-time.result ∷ []) (e.ready ∙ c.round-batch.ensures.ready) in
     let same = same_deadlines s.asked t.asked s.looked t.looked s.responses t.responses s.written t.written s.core t.core s.warnings t.warnings
     (happened s.totals s.core s.ports) (happened t.totals t.core t.ports) s.ports.servers.servers.items t.ports.servers.servers.items e.asked e.looked.0 e.looked.1 e.looked.2 e.core e.warnings
     (ap (λ it. happened it t.core t.ports) e.totals ∙ ap (λ it. happened s.totals it t.ports) e.core ∙ ap (λ it. happened s.totals s.core it) e.ports) (ap (λ it. it.servers.servers.items) e.ports) in (
       s.clock,
       b,
       kind_marks s.ports,
+      c.rest-time.result,
       round_then StopsThere NeverGoesBack old.clock s.clock (ways_in old.ports) (filtered_in_ports old.ports) (filtered_in_ports s.ports) (filtered_in_ports t.ports) (port_marks old.ports.port_indices.items (kind_marks old.ports)) (port_marks old.ports.port_indices.items (kind_marks s.ports)) old.asked s.asked t.asked
           old.core s.core t.core s.ports.ethernet.moment t.ports.ethernet.moment b (ap filtered_in_ports e.ports) e.asked e.core (ap (λ it. it.ethernet.moment) e.ports) c.round-batch.ensures.core,
       sleeps_then (deadlines s.asked s.looked s.responses s.written s.core s.warnings (happened s.totals s.core s.ports) s.ports.servers.servers.items)
           (deadlines t.asked t.looked t.responses t.written t.core t.warnings (happened t.totals t.core t.ports) t.ports.servers.servers.items) (is_any_marked (marks_in s.ports)) s.clock t.clock StopsThere
-          (Some c.rest-time.result) c.wait.new.self.asked b.fault b.quiet same c.wait.ensures.asked e.rests,
+          c.rest-time.result b.fault b.quiet same e.rests,
+      waits_once,
       search rules,
     )
 
@@ -41,20 +46,24 @@ returns-clause-core g c =
     let m = c.mark_ready.ensures.rest in
     let count = happened_separate t.ports ports m t.totals t.core ∙ ap (λ it. happened it t.core t.ports) e.totals ∙ ap (λ it. happened s.totals it t.ports) e.core
     ∙ ap (λ it. happened s.totals s.core it) e.ports in
+    let waits_once : c.wait.new.self.trace.items ≡ old.ready.trace.items ++ Waited c.rest-time.result ∷ [] =
+    c.wait.ensures.trace ∙ ap (λ it. it.trace.items ++ Waited c.rest-time.result ∷ []) (e.ready ∙ c.round-batch.ensures.ready) in
     let same = same_deadlines s.asked t.asked s.looked t.looked s.responses t.responses s.written t.written s.core t.core s.warnings t.warnings
     (happened s.totals s.core s.ports) (happened t.totals t.core ports) s.ports.servers.servers.items ports.servers.servers.items e.asked e.looked.0 e.looked.1 e.looked.2 e.core e.warnings count
     (ap (λ l. l.servers.items) m.servers ∙ ap (λ it. it.servers.servers.items) e.ports) in (
       s.clock,
       b,
       kind_marks t.ports,
+      c.rest-time.result,
       subst (λ it. IsRound old.clock s.clock StopsThere NeverGoesBack (ways_in old.ports) (filtered_in_ports old.ports) (filtered_in_ports ports) (port_marks old.ports.port_indices.items (kind_marks old.ports)) (port_marks old.ports.port_indices.items (kind_marks it)) old.asked t.asked old.core t.core ports.ethernet.moment b) (sym e.ports)
           (round_then StopsThere NeverGoesBack old.clock s.clock (ways_in old.ports) (filtered_in_ports old.ports) (filtered_in_ports s.ports) (filtered_in_ports ports) (port_marks old.ports.port_indices.items (kind_marks old.ports)) (port_marks old.ports.port_indices.items (kind_marks s.ports)) old.asked s.asked t.asked
           old.core s.core t.core s.ports.ethernet.moment ports.ethernet.moment b (kept_separate t.ports ports m ∙ ap filtered_in_ports e.ports) e.asked e.core
           (ap (λ it. it.moment) m.ethernet ∙ ap (λ it. it.ethernet.moment) e.ports) c.round-batch.ensures.core),
       subst (λ it. SleepsAfter (IsDue (deadlines t.asked t.looked t.responses t.written t.core t.warnings (happened t.totals t.core ports) ports.servers.servers.items))
-          (is_any_marked (marks_in it)) s.clock t.clock StopsThere c.wait.new.self.asked b.fault b.quiet) (sym e.ports)
+          (is_any_marked (marks_in it)) s.clock t.clock StopsThere c.rest-time.result b.fault b.quiet) (sym e.ports)
           (sleeps_then (deadlines s.asked s.looked s.responses s.written s.core s.warnings (happened s.totals s.core s.ports) s.ports.servers.servers.items)
           (deadlines t.asked t.looked t.responses t.written t.core t.warnings (happened t.totals t.core ports) ports.servers.servers.items) (is_any_marked (marks_in s.ports)) s.clock t.clock StopsThere
-          (Some c.rest-time.result) c.wait.new.self.asked b.fault b.quiet same c.wait.ensures.asked e.rests),
+          c.rest-time.result b.fault b.quiet same e.rests),
+      waits_once,
       c.mark_ready.ensures.marks,
     )

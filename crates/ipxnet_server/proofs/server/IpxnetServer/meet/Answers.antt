@@ -1,5 +1,6 @@
 use Rattle.std.proofs.Common.{◌≡◌, Bool, false, length, sym, true, ap, ◌∙◌}
 use Rattle.std.specs.Prelude.{if◌then◌else◌}
+use Rattle.ipx_wire.specs.Ipx.{BeginsWith, PacketView}
 use Rattle.ipx_wire.specs.declared.ipx.packet.IpxHeader.{IpxHeader}
 use Rattle.ipxnet_server.specs.ServerHears.{ServerView, makes_client, server_knowing}
 use Rattle.ipxnet_server.proofs.Once.{some_is}
