@@ -33,6 +33,8 @@ impl Pacer {
             → flight (with_outstanding self.old after.out now) ≤ flight self.new
             → self.new.timer ≡ waited_since self.old.timer after.out now }
         ensures timed { IsBounded self.new.trip }
+        // Only an acknowledgement, or the reply to the request, changes how long it waits.
+        ensures trip { joined ≡ false → before.out ≤ after.out → self.new.trip ≡ self.old.trip }
         ensures counted { before.out ≤ after.out → is_double before after ≡ false
             → self.new ≡ record (with_outstanding self.old after.out now) { trip = self.new.trip } }
         ensures mends { MendsOn self.old now self.new }
