@@ -48,8 +48,6 @@ const FIRST_NODE: Node = Node([198, 51, 100, 7, 0xbc, 0x47]);
 
 const SECOND_NODE: Node = Node([198, 51, 100, 7, 0xbc, 0x48]);
 
-const UNKNOWN_SENDER_NODE: Node = Node([203, 0, 113, 9, 0xbc, 0x47]);
-
 const NOBODY: Node = Node([0, 0, 0, 0, 0, 1]);
 
 /// All reasons, in the order of the metrics.
@@ -136,7 +134,7 @@ fn rows() -> [Row; 15] {
             "unregistered",
             false,
             unknown_place(),
-            Sent::Packet((0, SECOND_NODE, 0x4001), (0, UNKNOWN_SENDER_NODE)),
+            Sent::Packet((0, SECOND_NODE, 0x4001), (0, FIRST_NODE)),
         ),
         of_first("other_source", (0, SECOND_NODE, 0x4001), (0, SECOND_NODE)),
         of_place("too_long", false, first_place(), Sent::Long(FIRST_NODE)),
