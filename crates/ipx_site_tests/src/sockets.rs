@@ -123,7 +123,8 @@ fn names_the_port_that_is_in_use(rt: HostRuntime) -> Result<(), Fail> {
     };
     let text = format!(in rt.alloc(); "{fault}")?;
     assert!(rt;
-        text.as_str() == "port 2: bind 127.0.91.3:21391: Address already in use (os error 98); another program uses it, perhaps another ipx"
+        text.as_str()
+            == "port 2: bind 127.0.91.3:21391: Address already in use (os error 98); another program uses it, perhaps another ipx"
     );
     Ok(())
 }
