@@ -1,4 +1,5 @@
-use Rattle.std.proofs.Common.{◌∙◌, None, Some, refl}
+use Rattle.std.proofs.Common.{◌∙◌, None, Some, ap, refl, sym}
+use Rattle.std.proofs.lemmas.Bool.{or_left}
 use Rattle.std.proofs.lemmas.Result.{err_from_is_err_and}
 use Rattle.ipx_host.specs.Midway.{listening_at}
 use Rattle.ipx_host.proofs.Hosted.{broken_off, stepped, tidied_to}
@@ -21,6 +22,7 @@ returns-in_err-reap-clause-steps g c =
       tidied_to (listening_at old (held c.args.writer.now))
           (listening_at (record heard { station = station; sessions = new }) (held c.pass.new.writer)) old.sessions.once stop _ _ _
           (stepped old.station.clock heard.station.clock heard.station.clock station.clock old.station.core heard.station.core core station.core old.sessions.held.items heard.sessions.held.items passed.held.items new.held.items old.sessions.output heard.sessions.output passed.output new.output old.sessions.once passed.once (held c.args.writer.now) (held c.pass.new.writer) (Some stop) _ _ moves.0 _ c.hear-turn.ensures.hears.0 refl c.hear-turn.ensures.output refl (c.pass.ensures.once ∙ c.hear-turn.ensures.once) moves.1 c.reap.ensures.clock c.reap.ensures.output c.in_err-reap.ensures.tidies),
+      tt,
     )
 
 pub returns-in_err-moved-clause-steps : goal.returns-in_err-moved-clause-steps
@@ -34,6 +36,7 @@ returns-in_err-moved-clause-steps g c =
     rw (p.1, p.2) (
       record { active = c.hear-turn.ensures.hears.0.turn.active; there = heard.sessions.held.items; takes = moves.0 },
       broken_off old.station.clock heard.station.clock old.station.core heard.station.core c.pass.new.core old.sessions.held.items heard.sessions.held.items passed.held.items old.sessions.output heard.sessions.output passed.output old.sessions.once (held c.args.writer.now) (held c.pass.new.writer) _ _ moves.0 _ c.hear-turn.ensures.hears.0 refl c.hear-turn.ensures.output moves.1,
+      tt,
     )
 
 pub returns-clause-steps : goal.returns-clause-steps
@@ -48,4 +51,5 @@ returns-clause-steps g c =
     let moves = c.in_ok-moved.ensures.all in (
       record { active = c.hear-turn.ensures.hears.0.turn.active; there = heard.sessions.held.items; takes = moves.0 },
       stepped old.station.clock heard.station.clock heard.station.clock station.clock old.station.core heard.station.core core station.core old.sessions.held.items heard.sessions.held.items passed.held.items new.held.items old.sessions.output heard.sessions.output passed.output new.output old.sessions.once passed.once (held c.args.writer.now) (held c.pass.new.writer) None _ _ moves.0 _ c.hear-turn.ensures.hears.0 refl c.hear-turn.ensures.output refl (c.pass.ensures.once ∙ c.hear-turn.ensures.once) moves.1 c.reap.ensures.clock c.reap.ensures.output c.in_ok-reap.ensures.tidies,
+      λ active. or_left c.hear-turn.result.active c.in_ok-moved.moved (sym (ap (λ t. t.active) c.hear-turn.ensures.hears.1) ∙ active),
     )

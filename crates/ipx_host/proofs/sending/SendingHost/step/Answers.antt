@@ -1,5 +1,6 @@
 use Rattle.std.proofs.Common.{◌≡◌, ◌≢◌, ◌∙◌, ℕ, Bool, List, [], Err, None, Some, refl, sym, ap, subst, inr, arith, rules}
 use Rattle.std.proofs.lemmas.Grind.{common_steps}
+use Rattle.std.proofs.lemmas.Bool.{or_left}
 use Rattle.std.proofs.lemmas.Result.{err_from_is_err_and}
 use Rattle.spx_link.specs.declared.state.State.TheVariants.{Live}
 use Rattle.ipx_host.specs.Feeding.{Feeds, FeedState, LeavesIntake}
@@ -52,7 +53,7 @@ returns-clause-steps g c =
       turned = turned _ _ _ _ _ _ _ _ (ticked ∙ ticks ∙ timed) c.turn-turn.ensures.core;
       verdict = None;
       sees = sees_later look.joined shown.joined look.left shown.left (record { joined = old.joined; left = old.left }) seen.endpoint seen.moment old.id old.input.closed None (same.joined ∙ joined) (same.left ∙ gone) seeing;
-      waited = λ active. or_left c.turn-turn.result.active c.in_ok-fed.field-0 active;
+      waited = λ active. or_left c.turn-turn.result.active _ active;
       goes = (tt, (fed.0, stepped old.id look.id seen look.station.core old.station.core.endpoint dropped old.input.read look.input.read old.input.closed look.input.closed old.input.acked_bytes look.input.acked_bytes known new fed.0 told.id looked told.read told.closed told.acked_bytes c.drop_what_came.ensures fed' only));
       core = went_on seen look.station.core mid.station.core shown.station.core looked goes stays;
     }

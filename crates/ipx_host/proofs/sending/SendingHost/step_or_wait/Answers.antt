@@ -1,9 +1,13 @@
-use Rattle.std.proofs.Common.{ap, inl}
+use Rattle.std.proofs.Common.{ap, inl, false, true, Bool, ◌≡◌}
 use Rattle.std.proofs.lemmas.Result.{err_from_is_err_and}
 use Rattle.ipx_host.specs.Midway.{sending_at}
 use Rattle.ipx_host.proofs.Fed.{step_err, step_ok, step_unwaited, step_waited}
 use Rattle.ipx_host.proofs.Slept.{may_wait}
 use Rattle.ipx_host.proofs.sending.SendingHost.step_or_wait.Goals as goal
+
+not_true : (b : Bool) → b ≡ false → b ≡ true → ⊥
+not_true true e k = cc
+not_true false e k = cc
 
 pub returns-then-branch-clause-steps : goal.returns-then-branch-clause-steps
 returns-then-branch-clause-steps g c =
@@ -21,7 +25,7 @@ returns-in-Ok-clause-steps g c =
     let before = sending_at old (g.I.Read.remaining c.args.reader.now) in
     let after = sending_at new (g.I.Read.remaining c.step.new.reader) in
     step_waited before new.station.clock waited.clock new.station.core waited.core _ _ _ _ _ _ _ _ old.id _ c.wait.ensures.clock c.wait.ensures.core
-    (step_ok before after c.in_ok-step.field-0 _ _ old.id _ _ (λ turn w active. absurd (not_true c.in_ok-step.field-0 c.if-step.false (w active))) c.in_ok-step.ensures.steps)
+    (step_ok before after c.in_ok-step.field-0 _ _ old.id _ _ (λ turn w active. absurd (not_true c.in_ok-step.field-0 c.if-branch.false (w active))) c.in_ok-step.ensures.steps)
 
 pub returns-in-Err-clause-steps : goal.returns-in-Err-clause-steps
 returns-in-Err-clause-steps g c =
@@ -31,7 +35,7 @@ returns-in-Err-clause-steps g c =
     let before = sending_at old (g.I.Read.remaining c.args.reader.now) in
     let after = sending_at new (g.I.Read.remaining c.step.new.reader) in
     step_waited before new.station.clock waited.clock new.station.core waited.core _ _ _ _ _ _ _ _ old.id _ c.wait.ensures.clock c.wait.ensures.core
-    (step_unwaited before after c.in_ok-step.field-0 _ _ old.id _ _ (λ turn w active. absurd (not_true c.in_ok-step.field-0 c.if-step.false (w active))) c.in_ok-step.ensures.steps)
+    (step_unwaited before after c.in_ok-step.field-0 _ _ old.id _ _ (λ turn w active. absurd (not_true c.in_ok-step.field-0 c.if-branch.false (w active))) c.in_ok-step.ensures.steps)
 
 pub returns-in_err-step-clause-steps : goal.returns-in_err-step-clause-steps
 returns-in_err-step-clause-steps g c =
