@@ -1,5 +1,7 @@
 """What tests/system/ipxnet/players stands on: routers with ports for clients of ipxnet, and clients that send what DOSBox
 does."""
+import hashlib
+import os
 import socket
 import time
 
@@ -11,6 +13,8 @@ BETWEEN, NETWORKS = "00000081", ["0000d05b", "0000d05c"]
 ROOM = 4_194_304
 # A status file is written every 10 seconds.
 STATUS_SECONDS = 14
+# What routers make the nodes of clients from, unless their file names no secret.
+SECRET = bytes(range(32))
 # What DOSBox sends as it connects: 30 bytes, to socket 2 of node 0.
 REGISTRATION = bytes.fromhex("ffff001e0000" "000000000000000000000002" "000000000000000000000002")
 
@@ -26,9 +30,15 @@ def join_line(places):
     return listed("join", map(text_of, places)) if places else ""
 
 
-def node_of(place):
-    """The node of a client: its IP address, and then its port of UDP."""
-    return bytes(map(int, place[0].split("."))).hex() + f"{place[1]:04x}"
+def node_of(place, network=NETWORKS[0]):
+    """The node of a client at a router of SECRET: 02, and five bytes of the digest of the secret, the network and the place."""
+    text = SECRET + bytes.fromhex(network) + bytes(map(int, place[0].split("."))) + place[1].to_bytes(2, "big")
+    return "02" + hashlib.sha256(text).digest()[:5].hex()
+
+
+def place_of(node, network, ip="127.0.0.1"):
+    """The place of this IP address that has this node, if there is one."""
+    return next(((ip, port) for port in range(1, 65536) if node_of((ip, port), network) == node), None)
 
 
 def answer_to(network, node, router=ROUTER_NODE):
@@ -36,9 +46,14 @@ def answer_to(network, node, router=ROUTER_NODE):
     return bytes.fromhex(f"ffff001e0000{network}{node}0002{network}{router}0002")
 
 
-def notice_of(network, node):
-    """What joined routers are told as a client registers."""
+def to_itself(network, node):
+    """A packet from a node to the same node."""
     return answer_to(network, node, node)
+
+
+def shows(node, router=ROUTER_NODE):
+    """What a client answers to a ping of its router. By that it is one."""
+    return bytes.fromhex(f"ffff001e000000000000{router}0002" f"00000000{node}0002")
 
 
 def ping_of(router):
@@ -51,7 +66,11 @@ class Router:
 
     def __init__(self, run, name, tables):
         self.run, self.name = run, name
-        file = run.world.write(f"{name}.toml", f'metrics_file = "{run.world.path(name + ".prom")}"\n{"".join(tables)}')
+        secret = run.world.path(f"{name}.secret")
+        if not os.path.exists(secret):
+            run.world.write(f"{name}.secret", f"{SECRET.hex()}\n")
+        files = f'metrics_file = "{run.world.path(name + ".prom")}"\nsecret_file = "{secret}"\n'
+        file = run.world.write(f"{name}.toml", files + "".join(tables))
         self.process = run.world.start(name, "route", file)
         until(lambda: len(self.process.said()) >= len(tables), 10)
 

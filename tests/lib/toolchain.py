@@ -12,7 +12,7 @@ TOP = os.path.dirname(os.path.dirname(os.path.dirname(os.path.abspath(__file__))
 # The crates of tests, which are compiled and run and not proved: lines as in crates.txt. Their sources end in
 # .rs, since `rt` refuses any .rt file that no crate of crates.txt names.
 TESTS = f"{TOP}/tests/data/tests.txt"
-# What one check, or the compilation of a crate's tests, is likely to want of memory, in bytes.
+# What one check, or the compilation of a crate's tests, is likely to need of memory, in bytes.
 ONE_CHECK = 4_000_000_000
 
 
@@ -48,6 +48,29 @@ def make_kit(at, others):
             it.write(text)
         os.chmod(f"{at}/{path}", 0o755)
     return f"{at}/bin/rt"
+
+
+def link_kit(at, rt):
+    """Makes a toolchain of links to the real one, with this text of `rt`, and answers its folder of programs."""
+    os.makedirs(f"{at}/bin")
+    for name in os.listdir(kit()):
+        if name != "bin":
+            os.symlink(f"{kit()}/{name}", f"{at}/{name}")
+    for name in os.listdir(f"{kit()}/bin"):
+        if name not in ("rt", "rtlib.py"):
+            os.symlink(f"{kit()}/bin/{name}", f"{at}/bin/{name}")
+    # (they look for the other files beside themselves)
+    shutil.copy(f"{kit()}/bin/rtlib.py", f"{at}/bin/rtlib.py")
+    with open(f"{at}/bin/rt", "w", encoding="utf-8") as it:
+        it.write(rt)
+    os.chmod(f"{at}/bin/rt", 0o755)
+    return f"{at}/bin"
+
+
+def rt_text():
+    """The text of `rt`."""
+    with open(command() or sys.exit("rt is not on the PATH"), encoding="utf-8") as it:
+        return it.read()
 
 
 def parents(path):

@@ -18,9 +18,9 @@ const SOCKETS: u16 = 0x1000;
 /// The bytes of a route in a response, and of a response's operation.
 const ROUTE: usize = 8;
 const OPERATION: usize = 2;
-/// Of so many service types one is asked for, from the last one to the first one. A port answers 64
-/// queries for the nearest service at once, and then 32 a second.
-const STEP: usize = 39;
+/// Of so many service types one is asked for, from the last one to the first one. A router answers a
+/// node 32 queries for the nearest service at once, and then two a second.
+const STEP: usize = 117;
 
 pub struct Asker<'a> {
     socket: &'a UdpSocket,

@@ -5,6 +5,7 @@ pub mod Courses
 pub mod Givable
 pub mod Queueing
 pub mod Putting
+pub mod Advertising
 pub mod PriorityPutting
 pub mod Waiting
 pub mod Draining

@@ -8,9 +8,9 @@ use Rattle.ipx_router.specs.RouterPackets.{SendingView, sendings}
 use Rattle.ipx_carrier.specs.declared.outcome_counters.OutcomeCounters.{OutcomeCounters}
 use Rattle.ipx_carrier.specs.Turns.{Given}
 use Rattle.ipx_carrier.specs.RouterQueues.{AreGivable, CanBeSent, IsNotAdvertised, one_forwarded, put_after}
-use Rattle.ipx_carrier.specs.PriorityRouterCore.{PriorityQueues, PriorityCoreView, GivesNext, PriorityGives, Dequeues, TakesByPriority, PriorityNextOutOfMemory, put_by_priority, put_forwarded, put_own}
-use Rattle.ipx_carrier.specs.PriorityQueued.{PutsByPriority, priority_queues}
-use Rattle.ipx_carrier.specs.Queued.{Puts, PutsStart, PutsAdvertised}
+use Rattle.ipx_carrier.specs.PriorityRouterCore.{PriorityQueues, PriorityCoreView, GivesNext, PriorityGives, Dequeues, TakesByPriority, PriorityNextOutOfMemory, after_advertisement, put_advertisement, put_by_priority, put_forwarded, put_own}
+use Rattle.ipx_carrier.specs.PriorityQueued.{PutsAdvertisement, PutsByPriority, PutsToldPackets, priority_queues}
+use Rattle.ipx_carrier.specs.Queued.{Puts, PutsStart}
 use Rattle.ipx_carrier.proofs.Givable.{IsGivableAnswer}
 use Rattle.ipx_carrier.proofs.Queueing.{IsKept, first_givable, kept_by_put, kept_rest, kept_same, put_both}
 
@@ -27,6 +27,10 @@ pub put_own_is : (f : OutcomeCounters) (sent w q q' : List SendingView) (row d d
 put_own_is f sent w q q' row d d' router started h =
     let p = put_both sent q q' d d' h in
     ap (λ q. core_of f router (queues_of w q row) started d') p.0 ∙ ap (λ d. core_of f router (queues_of w (put_after q sent) row) started d) p.1
+
+put_told_is : (f : OutcomeCounters) (told w q q' : List SendingView) (row d d' : ℕ) (router : RouterView) (started : Bool) → PutsToldPackets told q d q' d' → core_of f router (queues_of w q' row) started d' ≡ put_advertisement told (core_of f router (queues_of w q row) started d)
+put_told_is f told w q q' row d d' router started h =
+    ap (λ q. core_of f router (queues_of w q row) started d') h.0 ∙ ap (λ d. core_of f router (queues_of w (after_advertisement q told) row) started d) h.1
 
 put_forwarded_is : (f : OutcomeCounters) (sent w w' q : List SendingView) (row d d' : ℕ) (router : RouterView) (started : Bool) → Puts sent w d w' d' → core_of f router (queues_of w' q row) started d' ≡ put_forwarded sent (core_of f router (queues_of w q row) started d)
 put_forwarded_is f sent w w' q row d d' router started h =
@@ -82,11 +86,11 @@ pub same_core : (f : OutcomeCounters) (router : RouterView) (w items items' : Li
 same_core f router w items items' row started started' d d' h s =
     ap (λ (xs : List Reply). core_of f router (priority_queues w xs row) started' d') h.0 ∙ ap (λ d. core_of f router (priority_queues w items row) started' d) h.1 ∙ ap (λ s. core_of f router (priority_queues w items row) s d) s
 
-pub next_gives : (f : OutcomeCounters) (router router' : RouterView) (w w3 items items1 items2 items3 : List Reply) (row row3 : ℕ) (started started' : Bool) (d d1 d2 now : ℕ) (given : Option Given) → PutsStart router started (sendings items) d (sendings items1) d1 → PutsAdvertised router now router' (sendings items1) d1 (sendings items2) d2 → started' ≡ true → GivesNext (priority_queues w items2 row) given (priority_queues w3 items3 row3) → PriorityGives (core_of f router (priority_queues w items row) started d) now given (core_of f router' (priority_queues w3 items3 row3) started' d2)
+pub next_gives : (f : OutcomeCounters) (router router' : RouterView) (w w3 items items1 items2 items3 : List Reply) (row row3 : ℕ) (started started' : Bool) (d d1 d2 now : ℕ) (given : Option Given) → PutsStart router started (sendings items) d (sendings items1) d1 → PutsAdvertisement router now router' (sendings items1) d1 (sendings items2) d2 → started' ≡ true → GivesNext (priority_queues w items2 row) given (priority_queues w3 items3 row3) → PriorityGives (core_of f router (priority_queues w items row) started d) now given (core_of f router' (priority_queues w3 items3 row3) started' d2)
 next_gives f router router' w w3 items items1 items2 items3 row row3 started started' d d1 d2 now given h k s g =
     let new : PriorityCoreView = core_of f router' (priority_queues w3 items3 row3) started' d2 in
-    let x : put_own k.0 (put_own h.0 (core_of f router' (priority_queues w items row) true d)) ≡ core_of f router' (priority_queues w items2 row) true d2 =
-    ap (put_own k.0) (sym (put_own_is f h.0 (sendings w) (sendings items) (sendings items1) row d d1 router' true h.2)) ∙ sym (put_own_is f k.0 (sendings w) (sendings items1) (sendings items2) row d1 d2 router' true k.2) in
+    let x : put_advertisement k.0 (put_own h.0 (core_of f router' (priority_queues w items row) true d)) ≡ core_of f router' (priority_queues w items2 row) true d2 =
+    ap (put_advertisement k.0) (sym (put_own_is f h.0 (sendings w) (sendings items) (sendings items1) row d d1 router' true h.2)) ∙ sym (put_told_is f k.0 (sendings w) (sendings items1) (sendings items2) row d1 d2 router' true k.2) in
     let takes : TakesByPriority (core_of f router' (priority_queues w items2 row) true d2) given new = (g, ap (λ s. core_of f router' (priority_queues w3 items3 row3) s d2) s) in
     (core_of f router' (priority_queues w items2 row) true d2, (h.0, k.0, router', h.1, k.1, sym x), takes)
 

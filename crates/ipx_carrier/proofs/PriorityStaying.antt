@@ -10,7 +10,8 @@ use Rattle.ipx_router.specs.RouterView.{RouterView}
 use Rattle.ipx_router.specs.Starting.{AreStarts}
 use Rattle.ipx_router.specs.Telling.{AreAdvertisements, is_due}
 use Rattle.ipx_carrier.specs.RouterQueues.{TellsNow, dropped_if_full, max_queued, put_after}
-use Rattle.ipx_carrier.specs.PriorityRouterCore.{PriorityQueues, PriorityCoreView, HoldsTheSame, KeepsAllButQueues, Dequeues, PriorityStartsAndTells}
+use Rattle.ipx_carrier.specs.PriorityRouterCore.{PriorityQueues, PriorityCoreView, HoldsTheSame, KeepsAllButQueues, Dequeues, PriorityStartsAndTells, after_advertisement, dropped_by_advertisement}
+use Rattle.ipx_carrier.proofs.Advertising.{counted_after}
 
 -- ---- what is advertised, and when
 
@@ -122,10 +123,10 @@ puts_nothing now old ready mid again h m g =
 pub ready_once : (now : ℕ) (old ready mid again : PriorityCoreView) → PriorityStartsAndTells old now ready → mid ≡ record ready { queues = mid.queues } → PriorityStartsAndTells mid now again → again.queues ≡ mid.queues
 ready_once now old ready mid again h m g =
     let none = puts_nothing now old ready mid again h m g in
-    let own : put_after (put_after mid.queues.own g.0) g.1 ≡ mid.queues.own =
-    ap (λ (xs : List SendingView). put_after (put_after mid.queues.own xs) g.1) none.0
-    ∙ ap (λ (xs : List SendingView). put_after (put_after mid.queues.own []) xs) none.1
-    ∙ put_nothing (put_after mid.queues.own []) ∙ put_nothing mid.queues.own in
+    let own : after_advertisement (put_after mid.queues.own g.0) g.1 ≡ mid.queues.own =
+    ap (λ (xs : List SendingView). after_advertisement (put_after mid.queues.own xs) g.1) none.0
+    ∙ ap (λ (xs : List SendingView). after_advertisement (put_after mid.queues.own []) xs) none.1
+    ∙ put_nothing mid.queues.own in
     ap (λ (c : PriorityCoreView). c.queues) g.5 ∙ ap (λ (xs : List SendingView). record mid.queues { own = xs }) own
 
 -- what was dropped stays
@@ -134,15 +135,14 @@ dropped_once now old ready mid again h m g fewer =
     let none = puts_nothing now old ready mid again h m g in
     let q = mid.queues.own in
     let before : IsCounted ready.queues.own ready.dropped =
-    subst (λ (c : PriorityCoreView). IsCounted c.queues.own c.dropped) (sym h.5) (is_counted (put_after old.queues.own h.0) h.1 (dropped_if_full old.queues.own h.0 old.dropped)) in
+    subst (λ (c : PriorityCoreView). IsCounted c.queues.own c.dropped) (sym h.5) (counted_after (put_after old.queues.own h.0) h.1 (dropped_if_full old.queues.own h.0 old.dropped) (is_counted old.queues.own h.0 old.dropped)) in
     let here : IsCounted q ready.dropped = counted_fewer ready.queues.own q ready.dropped fewer before in
     let counted : IsCounted q mid.dropped = subst (IsCounted q) (sym (ap (λ (c : PriorityCoreView). c.dropped) m)) here in
     let d = mid.dropped in
     ap (λ (c : PriorityCoreView). c.dropped) g.5
-    ∙ ap (λ (xs : List SendingView). dropped_if_full (put_after q xs) g.1 (dropped_if_full q xs d)) none.0
-    ∙ ap (λ (xs : List SendingView). dropped_if_full (put_after q []) xs (dropped_if_full q [] d)) none.1
-    ∙ ap (λ (xs : List SendingView). dropped_if_full xs [] (dropped_if_full q [] d)) (put_nothing q)
-    ∙ ap (dropped_if_full q []) (drops_nothing q d counted) ∙ drops_nothing q d counted
+    ∙ ap (λ (xs : List SendingView). dropped_by_advertisement (put_after q xs) g.1 (dropped_if_full q xs d)) none.0
+    ∙ ap (λ (xs : List SendingView). dropped_by_advertisement (put_after q []) xs (dropped_if_full q [] d)) none.1
+    ∙ drops_nothing q d counted
 
 rest_same : (old new : PriorityCoreView) → new.started ≡ old.started → new.dropped ≡ old.dropped → new.outcomes ≡ old.outcomes → new ≡ record old { router = new.router; queues = new.queues }
 rest_same old new s d f =

@@ -1,15 +1,16 @@
 -- A router as a core that gives forwarded packets before its own. Each of the two has a queue of at most
 -- 16,384. Which packets leave is defined by this project. The entry points are `PriorityHears` and
 -- `PriorityGives`, and `PriorityHearOutOfMemory` and `PriorityNextOutOfMemory` for out of memory.
-use Rattle.std.specs.Prelude.{◌≡◌, ◌<◌, ◌≤◌, ◌⊎◌, ℕ, ◌+◌, ◌-◌, Bool, true, false, List, [], ◌∷◌, ◌++◌, length, map, nat_lt, take, drop, Option, Some, None, option_map, if◌then◌else◌}
+use Rattle.std.specs.Prelude.{◌≡◌, ◌<◌, ◌≤◌, ◌⊎◌, ℕ, ◌+◌, ◌-◌, Bool, true, false, List, [], ◌∷◌, ◌++◌, length, map, nat_le, nat_lt, take, drop, Option, Some, None, option_map, if◌then◌else◌}
 use Rattle.ipx_router.specs.RouterView.{RouterView}
 use Rattle.ipx_router.specs.RouterPackets.{SendingView}
 use Rattle.ipx_router.specs.OutcomeView.{OutcomeView, Forward, Replies, Heard, Dropped}
 use Rattle.ipx_router.specs.Answer.{Receives}
 use Rattle.ipx_router.specs.Knowledge.{HoldsKnown, KeepsAllButOffers, known_in, tables}
 use Rattle.ipx_carrier.specs.declared.outcome_counters.OutcomeCounters.{OutcomeCounters}
+use Rattle.ipx_carrier.specs.Counting.{counted}
 use Rattle.ipx_carrier.specs.OutcomeCounters.{outcome_counted}
-use Rattle.ipx_carrier.specs.RouterQueues.{AreFirst, IsNotAdvertised, IsSpaceFor, ReceivesInVain, TellsNow, dropped_if_full, given_of, one_forwarded, put_after}
+use Rattle.ipx_carrier.specs.RouterQueues.{AreFirst, IsNotAdvertised, IsSpaceFor, ReceivesInVain, TellsNow, dropped_if_full, given_of, max_queued, one_forwarded, put_after}
 use Rattle.ipx_carrier.specs.Turns.{Given, GivesEach}
 
 -- the packets to send, in order
@@ -60,6 +61,30 @@ put_own sent core = record core {
   dropped = dropped_if_full core.queues.own sent core.dropped;
 }
 
+-- what waits after an advertisement: it goes after the packets that waited. If there is no room for all of them,
+-- it takes the place of those that waited. One that has no room even alone is dropped itself
+abbrev pub after_advertisement : List SendingView → List SendingView → List SendingView
+after_advertisement queue [] = queue
+after_advertisement queue (s ∷ told) =
+    if nat_le (length queue + length (s ∷ told)) max_queued then queue ++ s ∷ told
+    else if nat_le (length (s ∷ told)) max_queued then s ∷ told
+    else queue
+
+-- the packets that are dropped then are counted
+abbrev pub dropped_by_advertisement : List SendingView → List SendingView → ℕ → ℕ
+dropped_by_advertisement queue [] dropped = dropped
+dropped_by_advertisement queue (s ∷ told) dropped =
+    if nat_le (length queue + length (s ∷ told)) max_queued then dropped
+    else if nat_le (length (s ∷ told)) max_queued then counted (dropped + length queue)
+    else counted (dropped + length (s ∷ told))
+
+-- the packets of an advertisement go into the queue of the router's own
+abbrev pub put_advertisement : List SendingView → PriorityCoreView → PriorityCoreView
+put_advertisement told core = record core {
+  queues = record core.queues { own = after_advertisement core.queues.own told };
+  dropped = dropped_by_advertisement core.queues.own told core.dropped;
+}
+
 -- the packets of a router's answer go into their queue
 abbrev pub put_by_priority : OutcomeView → PriorityCoreView → PriorityCoreView
 put_by_priority (Forward port next bytes) core = put_forwarded (one_forwarded port next bytes) core
@@ -103,7 +128,12 @@ TakesByPriority core given new =
 abbrev pub PriorityStartsAndTells : PriorityCoreView → ℕ → PriorityCoreView → Type 0
 PriorityStartsAndTells old now new = (first told : List SendingView) × (router : RouterView)
     × AreFirst old.started old.router first × TellsNow old.router now told router
-    × (new ≡ put_own told (put_own first (record old { router = router; started = true })))
+    × (new ≡ put_advertisement told (put_own first (record old { router = router; started = true })))
+
+-- whatever waits, an advertisement is queued whole, if it is at most as long as the queue
+abbrev pub AdvertisementsAreQueued : Type 0
+AdvertisementsAreQueued = (old new : PriorityCoreView) (now : ℕ) (s : PriorityStartsAndTells old now new)
+    → length s.1 ≤ max_queued → (before : List SendingView) × (new.queues.own ≡ before ++ s.1)
 
 -- then the next packet leaves
 abbrev pub PriorityGives : PriorityCoreView → ℕ → Option Given → PriorityCoreView → Type 0

@@ -50,7 +50,9 @@ pub use outcome_counters::OutcomeCounters;
 pub use owned_rfc1234_ports::OwnedRfc1234Ports;
 pub use placed_socket::PlacedSocket;
 pub use port_driver::{PacketSent, PortDriver, PortDriverFilters};
-pub use priority_router_core::{PriorityRouterCore, forwarded_packets_leave_first};
+pub use priority_router_core::{
+    PriorityRouterCore, advertisements_are_queued, forwarded_packets_leave_first,
+};
 pub use ready_set::ReadySet;
 pub use report::{Batch, Report};
 pub use rfc1234_ports::Rfc1234Ports;

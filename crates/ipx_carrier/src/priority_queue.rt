@@ -1,16 +1,17 @@
 //! The packets that a router is to send, in two queues: forwarded packets leave before its own.
 
-ghost use Rattle.std.specs.Prelude.{◌≡◌, ℕ, ◌<◌, ◌≤◌, [], length, option_map, OnOk, OnErr, IfSome};
+ghost use Rattle.std.specs.Prelude.{◌≡◌, ◌↔◌, ℕ, ◌<◌, ◌≤◌, ◌+◌, [], length, option_map, OnOk, OnErr, IfSome, IsTrue};
 ghost use Rattle.ipx_router.specs.RouterPackets.{sending_of, sendings};
 ghost use Rattle.ipx_router.specs.OutcomeView.{router_outcome};
 ghost use Rattle.ipx_carrier.specs.GivenPackets.{given_in};
-ghost use Rattle.ipx_carrier.specs.PriorityQueued.{PutsByPriority, priority_queues};
+ghost use Rattle.ipx_carrier.specs.PriorityQueued.{PutsAdvertisement, PutsByPriority, PutsToldPackets, priority_queues};
 ghost use Rattle.ipx_carrier.specs.PriorityRouterCore.{GivesNext, IsSpaceByPriority, Dequeues, run_after_forward};
-ghost use Rattle.ipx_carrier.specs.RouterQueues.{AreGivable, max_queued};
+ghost use Rattle.ipx_carrier.specs.RouterQueues.{AreGivable, IsNotAdvertised, IsSpaceFor, max_queued};
 
-use crate::queue::{enqueue_all, enqueue_one, write_to};
-use ipx_router::{Outcome, Reply};
+use crate::queue::{MAX_QUEUED, enqueue_all, enqueue_one, write_to};
+use ipx_router::{Outcome, Reply, Router};
 use ipx_wire::{Node, OutOfMemory};
+use std::alloc::Global;
 use std::collections::VecDeque;
 
 /// How many of its own packets a router gives in a row.
@@ -44,6 +45,58 @@ pub fn put_outcome(
         Outcome::Replies(replies) => enqueue_all(own, dropped, replies),
         Outcome::Heard(_) | Outcome::Dropped(_) => Ok(()),
     }
+}
+
+/// Whether an advertisement of so many packets takes the place of those that wait: there is no room
+/// for all, but there is for it alone.
+fn takes_their_place(waiting: usize, told: usize) -> bool
+    requires { waiting ≤ max_queued }
+    ensures { IsTrue result ↔ ((max_queued < waiting + told) × (told ≤ max_queued)) }
+{
+    told > MAX_QUEUED - waiting && told <= MAX_QUEUED
+}
+
+/// Puts an advertisement after the packets that wait. If there is no room for all of them, it takes
+/// their place, and they are counted as dropped. If it is longer than the queue, it is dropped.
+fn enqueue_told(
+    own: &mut VecDeque<Reply>,
+    dropped: &mut u64,
+    told: Vec<Reply>,
+) -> Result<(), OutOfMemory>
+    requires { length own.old.items ≤ max_queued }
+    ensures put { OnOk result (PutsToldPackets (sendings told.items)
+        (sendings own.old.items) dropped.old (sendings own.new.items) dropped.new) }
+    ensures refused { OnErr result
+        ((own.new.items ≡ own.old.items) × (dropped.new ≡ dropped.old)) }
+    ensures lost { OnErr result (IsSpaceFor (sendings own.old.items) (sendings told.items)) }
+{
+    if takes_their_place(own.len(), told.len()) {
+        *dropped = dropped.saturating_add(own.len() as u64);
+        *own = VecDeque::from(told);
+        return Ok(());
+    }
+    enqueue_all(own, dropped, told)
+}
+
+/// Puts a router's advertisements into the queue of its own packets, if they are due.
+pub fn enqueue_advertisements(
+    alloc: Global,
+    router: &mut Router,
+    now: u64,
+    own: &mut VecDeque<Reply>,
+    dropped: &mut u64,
+) -> Result<(), OutOfMemory>
+    requires { length own.old.items ≤ max_queued }
+    ensures put { OnOk result (PutsAdvertisement router.old now router.new
+        (sendings own.old.items) dropped.old (sendings own.new.items) dropped.new) }
+    ensures ports { router.new.ports ≡ router.old.ports }
+    ensures refused { OnErr result
+        ((own.new.items ≡ own.old.items) × (dropped.new ≡ dropped.old)) }
+    ensures lost { OnErr result
+        (IsNotAdvertised router.old now (sendings own.old.items) router.new) }
+{
+    let told = router.tell(alloc, now)?;
+    enqueue_told(own, dropped, told)
 }
 
 /// Takes the first of the router's own packets, unless the most in a row have left. If none leaves,

@@ -15,7 +15,7 @@ use std::alloc::Global;
 use std::collections::VecDeque;
 
 /// The most packets that wait in a queue.
-const MAX_QUEUED: usize = 16_384;
+pub const MAX_QUEUED: usize = 16_384;
 
 /// Puts packets at the end of a queue if all of them fit, and otherwise counts them as dropped.
 pub fn enqueue_all(

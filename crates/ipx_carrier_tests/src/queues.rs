@@ -149,10 +149,11 @@ fn a_turn_sends_two_of_its_own_where_many_wait(rt: HostRuntime) -> Result<(), Fa
     Ok(())
 }
 
-/// If 16,384 of its own packets wait, the next is dropped, and so are the six packets of its start.
-/// A forwarded packet is not.
+/// If 16,384 of its own packets wait, the next answer is dropped. A forwarded packet is not. Of the
+/// six packets of its start, four are dropped. Two are its advertisements, which take the place of
+/// all that wait.
 #[test]
-fn its_own_packets_push_none_out(rt: HostRuntime) -> Result<(), Fail> {
+fn advertisements_take_the_place_of_answers(rt: HostRuntime) -> Result<(), Fail> {
     let alloc = rt.alloc();
     let mut core = two_ports_by_priority(alloc)?;
     hear(alloc, &mut core, REQUEST, 16_384)?;
@@ -162,8 +163,9 @@ fn its_own_packets_push_none_out(rt: HostRuntime) -> Result<(), Fail> {
     hear(alloc, &mut core, ONWARD, 1)?;
     assert_eq!(rt; core.dropped(), 1);
     assert_eq!(rt; core.queued(), 16_385);
-    assert_eq!(rt; given(alloc, &mut core, 2)?.as_str(), "fr");
-    assert_eq!(rt; core.dropped(), 7);
+    assert_eq!(rt; given(alloc, &mut core, 4)?.as_str(), "fss-");
+    assert_eq!(rt; core.dropped(), 16_389);
+    assert_eq!(rt; core.queued(), 0);
     Ok(())
 }
 

@@ -5,13 +5,14 @@ use Rattle.std.proofs.lemmas.Option.{get_or_from_slice_get}
 use Rattle.std.specs.Prelude.{IfSome, OnOk, is_err, slice_get}
 use Rattle.std.specs.Option.{option_map}
 use Rattle.std.specs.Global.{Global}
+use Rattle.std.specs.declared.net.socket_addr.SocketAddr.{SocketAddr}
 use Rattle.std.specs.declared.net.socket_addr.SocketAddrV4.{SocketAddrV4}
 use Rattle.ipx_carrier.specs.declared.fault.DeviceFault.{DeviceFault}
 use Rattle.ipx_carrier.specs.declared.placed_socket.PlacedSocket.{PlacedSocket}
 use Rattle.ipx_carrier.specs.Counting.{raised}
 use Rattle.ipx_carrier.specs.ReadySet.{IsFilteredOrAnswer, is_come, marks_after}
 use Rattle.ipx_carrier.specs.Traces.{Got, TriesToReceive, sent_to}
-use Rattle.ipx_ethernet_ports.specs.EthernetAddresses.{AsksForFrame, SendsFrame, end_at_place, frame_handed, remote_counts, with_remote}
+use Rattle.ipx_ethernet_ports.specs.EthernetAddresses.{AsksForFrame, SendsFrame, end_at_place, frame_handed, last_refused, place_of_sender, remote_counts, with_remote}
 use Rattle.ipx_ethernet_ports.specs.declared.end_sockets.FrameCame.{FrameCame}
 use Rattle.ipx_ethernet_ports.specs.declared.sockets.EthernetSocket.{EthernetSocket}
 
@@ -56,30 +57,40 @@ sends_there ethernet port end bytes w wire there sent =
 abbrev frame : ℕ → ℕ → FrameCame
 frame end size = record { end = end; size = size }
 
-abbrev remote_in : Result (Option (ℕ × Option ℕ)) DeviceFault → Option ℕ
-remote_in (Ok (Some came)) = came.1
+abbrev remote_in : Result (Option (ℕ × SocketAddr × Option ℕ)) DeviceFault → Option ℕ
+remote_in (Ok (Some came)) = came.2
 remote_in (Ok None) = None
 remote_in (Err f) = None
 
--- what is handed over, and what becomes of the mark, if an unknown sender sent what came
-pub of_unknown : (port : ℕ) (ends : List SocketAddrV4) (marks : List Bool) (unknown more size : ℕ) (got : Got) → with_remote ends got ≡ Ok (Some (size, None)) → more ≡ raised unknown
-    → (None ≡ frame_handed ends got) × (marks ≡ marks_after port got marks) × IsFilteredOrAnswer (is_come got) false unknown more
-of_unknown port ends marks unknown more size (Ok (Some came)) e counted =
+abbrev place_in : Result (Option (ℕ × SocketAddr × Option ℕ)) DeviceFault → Option SocketAddrV4
+place_in (Ok (Some came)) = place_of_sender came.1
+place_in (Ok None) = None
+place_in (Err f) = None
+
+-- what is handed over, and what becomes of the mark and the last unknown sender, if an unknown one sent what came
+pub of_unknown : (port : ℕ) (ends : List SocketAddrV4) (marks : List Bool) (unknown more size : ℕ) (sender : SocketAddr) (last : Option SocketAddrV4) (got : Got)
+    → with_remote ends got ≡ Ok (Some (size, sender, None)) → more ≡ raised unknown
+    → (None ≡ frame_handed ends got) × (marks ≡ marks_after port got marks) × (place_of_sender sender ≡ last_refused got false last)
+    × IsFilteredOrAnswer (is_come got) false unknown more
+of_unknown port ends marks unknown more size sender last (Ok (Some came)) e counted =
     let from : end_at_place came.1 ends ≡ None = ap remote_in e in
-    (sym (ap (option_map (λ (end : ℕ). frame end came.0)) from), refl, counted)
-of_unknown port ends marks unknown more size (Ok None) e counted = absurd (cc)
-of_unknown port ends marks unknown more size (Err f) e counted = absurd (cc)
+    let place : place_of_sender came.1 ≡ place_of_sender sender = ap place_in e in
+    (sym (ap (option_map (λ (end : ℕ). frame end came.0)) from), refl, sym place, counted)
+of_unknown port ends marks unknown more size sender last (Ok None) e counted = absurd (cc)
+of_unknown port ends marks unknown more size sender last (Err f) e counted = absurd (cc)
 
 -- the same, if nothing waits
-pub of_nothing : (port : ℕ) (ends : List SocketAddrV4) (marks after : List Bool) (unknown : ℕ) (got : Got) → with_remote ends got ≡ Ok None → after ≡ slice_set marks port false
-    → (None ≡ frame_handed ends got) × (after ≡ marks_after port got marks) × IsFilteredOrAnswer (is_come got) false unknown unknown
-of_nothing port ends marks after unknown (Ok (Some came)) e cleared = absurd (cc)
-of_nothing port ends marks after unknown (Ok None) e cleared = (refl, cleared, (refl, refl))
-of_nothing port ends marks after unknown (Err f) e cleared = absurd (cc)
+pub of_nothing : (port : ℕ) (ends : List SocketAddrV4) (marks after : List Bool) (unknown : ℕ) (last : Option SocketAddrV4) (got : Got)
+    → with_remote ends got ≡ Ok None → after ≡ slice_set marks port false
+    → (None ≡ frame_handed ends got) × (after ≡ marks_after port got marks) × (last ≡ last_refused got false last) × IsFilteredOrAnswer (is_come got) false unknown unknown
+of_nothing port ends marks after unknown last (Ok (Some came)) e cleared = absurd (cc)
+of_nothing port ends marks after unknown last (Ok None) e cleared = (refl, cleared, refl, (refl, refl))
+of_nothing port ends marks after unknown last (Err f) e cleared = absurd (cc)
 
 -- the same, if the system failed at each try
-pub of_failing : (port : ℕ) (ends : List SocketAddrV4) (marks : List Bool) (unknown : ℕ) (got : Got) (fault : DeviceFault) → with_remote ends got ≡ Err fault
-    → (None ≡ frame_handed ends got) × (marks ≡ marks_after port got marks) × IsFilteredOrAnswer (is_come got) false unknown unknown
-of_failing port ends marks unknown (Ok (Some came)) fault e = absurd (cc)
-of_failing port ends marks unknown (Ok None) fault e = absurd (cc)
-of_failing port ends marks unknown (Err f) fault e = (refl, refl, (refl, refl))
+pub of_failing : (port : ℕ) (ends : List SocketAddrV4) (marks : List Bool) (unknown : ℕ) (last : Option SocketAddrV4) (got : Got) (fault : DeviceFault)
+    → with_remote ends got ≡ Err fault
+    → (None ≡ frame_handed ends got) × (marks ≡ marks_after port got marks) × (last ≡ last_refused got false last) × IsFilteredOrAnswer (is_come got) false unknown unknown
+of_failing port ends marks unknown last (Ok (Some came)) fault e = absurd (cc)
+of_failing port ends marks unknown last (Ok None) fault e = absurd (cc)
+of_failing port ends marks unknown last (Err f) fault e = (refl, refl, refl, (refl, refl))

@@ -1,6 +1,6 @@
 -- To which remote a UDP datagram goes, and from which one it comes. Defined by this project: a datagram over
 -- IPv6 comes from none.
-use Rattle.std.specs.Prelude.{◌≡◌, ℕ, ℤ, List, Bool, true, false, ◌==◌, ◌&&◌, Option, Some, None, Result, Ok, Err, IfSome, length, map, position, slice_get, slice_set}
+use Rattle.std.specs.Prelude.{◌≡◌, ℕ, ℤ, List, Bool, true, false, ◌==◌, ◌&&◌, Option, Some, None, Result, Ok, Err, IfSome, if◌then◌else◌, length, map, position, slice_get, slice_set}
 use Rattle.std.specs.Option.{option_map}
 use Rattle.std.specs.Str.{bytes_eq}
 use Rattle.std.specs.Net.Addr.{ipv4_octets}
@@ -63,10 +63,21 @@ AsksForFrame port got room answer old new faults faults_after = IfSome (slice_ge
     × (new ≡ slice_set old port (record w { socket = after }))
     × (answer ≡ frame_handed w.ends.items got))
 
+-- the address of a sender, if it is of IPv4
+abbrev pub place_of_sender : SocketAddr → Option SocketAddrV4
+place_of_sender (V4 a) = Some a
+place_of_sender (V6 a) = None
+
+-- the address from which the last frame came that was not handed over
+abbrev pub last_refused : Got → Bool → Option SocketAddrV4 → Option SocketAddrV4
+last_refused (Ok (Some came)) is_handed last = if is_handed then last else place_of_sender came.1
+last_refused (Ok None) is_handed last = last
+last_refused (Err _) is_handed last = last
+
 -- ---- definitions for the private functions
 
--- what a socket got, and the remote that sent it, if one did
-abbrev pub with_remote : List SocketAddrV4 → Got → Result (Option (ℕ × Option ℕ)) DeviceFault
-with_remote ends (Ok (Some came)) = Ok (Some (came.0, end_at_place came.1 ends))
+-- what a socket got, its sender, and the remote that this is, if it is one
+abbrev pub with_remote : List SocketAddrV4 → Got → Result (Option (ℕ × SocketAddr × Option ℕ)) DeviceFault
+with_remote ends (Ok (Some came)) = Ok (Some (came.0, came.1, end_at_place came.1 ends))
 with_remote ends (Ok None) = Ok None
 with_remote ends (Err fault) = Err fault

@@ -7,7 +7,7 @@ ghost use Rattle.ipx_carrier.specs.Readiness.{AsksPortWithMark};
 ghost use Rattle.ipx_carrier.specs.ReadySet.{IsFilteredOrAnswer, is_come, is_port_marked, marks_after};
 ghost use Rattle.ipx_carrier.specs.Traces.{Got, TriesToReceive, refused_to, sent_to};
 ghost use Rattle.ipx_ethernet_ports.specs.EndTraffic.{failures_counted};
-ghost use Rattle.ipx_ethernet_ports.specs.EthernetAddresses.{AsksForFrame, RefusesFrame, SendsFrame, bound_places, end_at_place, ethernet_fds, is_place, remote_counts, remote_places, with_remote};
+ghost use Rattle.ipx_ethernet_ports.specs.EthernetAddresses.{AsksForFrame, RefusesFrame, SendsFrame, bound_places, end_at_place, ethernet_fds, is_place, last_refused, place_of_sender, remote_counts, remote_places, with_remote};
 
 use crate::end_sockets::{EndSockets, FrameCame};
 use ipx_carrier::{DeviceFault, PlacedSocket, ReadySet, saturating_increment};
@@ -41,6 +41,17 @@ pub struct EthernetSockets {
     failures: u64,
     faults: u64,
     unknown_senders: u64,
+    last_unknown: Option<SocketAddrV4>,
+}
+
+/// The address of a sender, if it is of IPv4.
+fn place_of_sender(from: SocketAddr) -> Option<SocketAddrV4>
+    ensures { result ≡ place_of_sender from }
+{
+    match from {
+        SocketAddr::V4(place) => Some(place),
+        SocketAddr::V6(_) => None,
+    }
 }
 
 /// Whether a datagram came from this address.
@@ -76,19 +87,19 @@ impl EthernetSocket {
         self.socket.send_to(self.ends[end], bytes)
     }
 
-    /// Receives a frame, and says its size and which remote sent it, if one did. `None` means that
-    /// nothing waits. If the system fails it is asked again, eight times at most, and each failure
-    /// is counted. An error means that it failed each time.
+    /// Receives a frame, and says its size, its sender, and which remote that is, if it is one.
+    /// `None` means that nothing waits. If the system fails it is asked again, eight times at most,
+    /// and each failure is counted. An error means that it failed each time.
     fn receive(
         &mut self,
         room: &mut [u8],
         faults: &mut u64,
-    ) -> Result<Option<(usize, Option<usize>)>, DeviceFault>
+    ) -> Result<Option<(usize, SocketAddr, Option<usize>)>, DeviceFault>
         ensures asks { (got : Got) × (after : PlacedSocket)
             × TriesToReceive got room.new self.old.socket after faults.old faults.new
             × (self.new ≡ record self.old { socket = after })
             × (result ≡ with_remote self.old.ends.items got) }
-        ensures there { IfOk result (λ came. IfSome came (λ c. IfSome c.1 (λ end.
+        ensures there { IfOk result (λ came. IfSome came (λ c. IfSome c.2 (λ end.
             end < length self.old.ends.items))) }
         ensures within { IfOk result (λ came. IfSome came (λ c. c.0 ≤ length room.old)) }
         ensures room { length room.new ≡ length room.old }
@@ -96,7 +107,7 @@ impl EthernetSocket {
         ensures ends { self.new.ends ≡ self.old.ends }
     {
         match self.socket.receive_in_tries(room, faults) {
-            Ok(Some((size, from))) => Ok(Some((size, end_at(&self.ends, from)))),
+            Ok(Some((size, from))) => Ok(Some((size, from, end_at(&self.ends, from)))),
             Ok(None) => Ok(None),
             Err(fault) => Err(fault),
         }
@@ -108,7 +119,7 @@ impl EthernetSockets {
     pub fn new(alloc: Global) -> EthernetSockets
         ensures none { (result.ethernet.items ≡ []) × (result.marks ≡ []) }
         ensures fresh { (result.sent ≡ 0) × (result.failures ≡ 0) × (result.faults ≡ 0)
-            × (result.unknown_senders ≡ 0) }
+            × (result.unknown_senders ≡ 0) × (result.last_unknown ≡ None) }
     {
         EthernetSockets {
             ethernet: Vec::new(alloc),
@@ -117,6 +128,7 @@ impl EthernetSockets {
             failures: 0,
             faults: 0,
             unknown_senders: 0,
+            last_unknown: None,
         }
     }
 
@@ -163,6 +175,14 @@ impl EthernetSockets {
         ensures { result ≡ self.now.faults }
     {
         self.faults
+    }
+
+    /// The address of the last unknown sender. None if there was none, or if its frame came over
+    /// IPv6.
+    pub fn last_unknown(&self) -> Option<SocketAddrV4>
+        ensures { result ≡ self.now.last_unknown }
+    {
+        self.last_unknown
     }
 
     /// The descriptor of the socket of a port, to wait for. The first port is 0.
@@ -234,7 +254,8 @@ impl EndSockets for EthernetSockets {
         ensures refused { OnErr result (self.new.sent ≡ self.old.sent) }
         ensures failures { self.new.failures ≡ failures_counted result self.old.failures }
         ensures rest { (self.new.faults ≡ self.old.faults)
-            × (self.new.unknown_senders ≡ self.old.unknown_senders) × (self.new.marks ≡ self.old.marks) }
+            × (self.new.unknown_senders ≡ self.old.unknown_senders)
+            × (self.new.last_unknown ≡ self.old.last_unknown) × (self.new.marks ≡ self.old.marks) }
     {
         if self.ethernet[port].send(end, bytes).is_err() {
             saturating_increment(&mut self.failures);
@@ -251,11 +272,13 @@ impl EndSockets for EthernetSockets {
             → (result ≡ Ok None) × (self.new ≡ self.old) × (room.new ≡ room.old) }
         // The socket of a marked port is asked until something comes or nothing waits, at most
         // eight times. Each failure is counted. The mark is cleared exactly if nothing waits. What
-        // came from a remote is returned, and what came from an unknown sender is counted.
+        // came from a remote is returned. What came from an unknown sender is counted, and its
+        // address is the last unknown one.
         ensures marked { is_port_marked self.old.marks port ≡ true → IfOk result (λ answer.
             (got : Got) × AsksForFrame port got room.new answer self.old.ethernet.items
             self.new.ethernet.items self.old.faults self.new.faults
             × (self.new.marks ≡ marks_after port got self.old.marks)
+            × (self.new.last_unknown ≡ last_refused got (is_some answer) self.old.last_unknown)
             × IsFilteredOrAnswer (is_come got) (is_some answer)
             self.old.unknown_senders self.new.unknown_senders) }
         ensures marks { IfOk result (λ answer. AsksPortWithMark port (is_some answer)
@@ -275,9 +298,10 @@ impl EndSockets for EthernetSockets {
             return Ok(None);
         }
         match self.ethernet[port].receive(room, &mut self.faults) {
-            Ok(Some((size, Some(end)))) => Ok(Some(FrameCame { end, size })),
-            Ok(Some((_, None))) => {
+            Ok(Some((size, _, Some(end)))) => Ok(Some(FrameCame { end, size })),
+            Ok(Some((_, from, None))) => {
                 saturating_increment(&mut self.unknown_senders);
+                self.last_unknown = place_of_sender(from);
                 Ok(None)
             }
             Ok(None) => {

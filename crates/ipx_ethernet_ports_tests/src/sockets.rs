@@ -80,6 +80,7 @@ fn frames_over_sockets(rt: HostRuntime) -> Result<(), Fail> {
     assert!(rt; unknown.send(0, 0, &frame(PORT.own, SECOND)).is_ok());
     assert!(rt; next_packet(&mut ethernet, &mut room)? == None);
     assert_eq!(rt; ethernet.sockets().unknown_senders(), 1);
+    assert!(rt; ethernet.sockets().last_unknown() == Some(place(20_923)));
     assert_eq!(rt; ethernet.filtered(), 1);
     // A packet of the core is sent to the remote of its station, padded.
     assert!(rt;

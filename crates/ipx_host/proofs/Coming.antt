@@ -1,7 +1,7 @@
 -- What is noted of a new connection.
 use Rattle.std.proofs.Common.{◌≡◌, ◌∙◌, ℕ, Bool, List, Option, Some, None, ap, subst, sym}
 use Rattle.spx_messages.specs.EndpointView.{EndpointView}
-use Rattle.ipx_host.specs.Sessions.{AdmitsRequest, CountsRequest, CountsTurnedAway, DoesNoted, NotesHeard, is_evicted_for, is_own_evicted, place_of_own, raised_if, without}
+use Rattle.ipx_host.specs.Sessions.{AdmitsRequest, CountsRequest, CountsTurnedAway, DoesNoted, NotesHeard, is_evicted_for, is_own_evicted, is_own_unheard_evicted, is_unheard_evicted_for, place_of_own, raised_if, without}
 use Rattle.ipx_host.specs.declared.sessions.Session.{Session}
 use Rattle.ipx_host.specs.declared.paced_host_core.Accepted.{Accepted}
 use Rattle.ipx_host.specs.declared.paced_host_core.Arrival.{Arrival}
@@ -36,3 +36,13 @@ evicted_accepted once a came k old mid cs n m told is same cleared counts =
     let here : m ≡ raised_if (is_evicted_for once (Some (Cames.Accepted a)) old.endpoint.network old.endpoint old.moment cs) n =
     subst (λ (e : EndpointView). m ≡ raised_if (is_own_evicted once e.network e old.moment a.from cs) n) (ap (λ (k : PacedHostCore). k.endpoint) cleared) at in
     subst (λ (o : Option Arrival). m ≡ raised_if (is_evicted_for once o old.endpoint.network old.endpoint old.moment cs) n) (sym is ∙ told) here
+
+-- and whether that one was never heard from
+pub unheard_accepted : (once : Bool) (a : Accepted) (came : Option Arrival) (k : ℕ) (old mid : PacedHostCore) (cs : List Session) (n m : ℕ) → came ≡ old.came → came ≡ Some (Cames.Accepted a) → k ≡ old.moment
+    → mid ≡ record old { came = None } → m ≡ raised_if (is_own_unheard_evicted once mid.endpoint.network mid.endpoint k a.from cs) n
+    → m ≡ raised_if (is_unheard_evicted_for once old.came old.endpoint.network old.endpoint old.moment cs) n
+unheard_accepted once a came k old mid cs n m told is same cleared counts =
+    let at = subst (λ (j : ℕ). m ≡ raised_if (is_own_unheard_evicted once mid.endpoint.network mid.endpoint j a.from cs) n) same counts in
+    let here : m ≡ raised_if (is_unheard_evicted_for once (Some (Cames.Accepted a)) old.endpoint.network old.endpoint old.moment cs) n =
+    subst (λ (e : EndpointView). m ≡ raised_if (is_own_unheard_evicted once e.network e old.moment a.from cs) n) (ap (λ (k : PacedHostCore). k.endpoint) cleared) at in
+    subst (λ (o : Option Arrival). m ≡ raised_if (is_unheard_evicted_for once o old.endpoint.network old.endpoint old.moment cs) n) (sym is ∙ told) here

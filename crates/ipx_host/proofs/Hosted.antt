@@ -4,10 +4,10 @@ use Rattle.std.specs.Prelude.{All, IfErr, IfOk, IfSome, IsTrue, OnErr, OnOk, sli
 use Rattle.std.specs.Io.KnownBytes.{Appends}
 use Rattle.ipx_carrier.specs.Mapping.{node_at}
 use Rattle.ipx_carrier.specs.Turns.{Peers}
-use Rattle.ipx_site.specs.Host.{IsHostText}
-use Rattle.ipx_site.specs.Loading.{IsFileText}
-use Rattle.ipx_site.specs.AllowedPeers.{named_in}
-use Rattle.ipx_site.specs.declared.host.HostConfig.{HostConfig}
+use Rattle.ipx_config.specs.Host.{IsHostText}
+use Rattle.ipx_config.specs.Loading.{IsFileText}
+use Rattle.ipx_config.specs.AllowedPeers.{named_in}
+use Rattle.ipx_config.specs.declared.host.HostConfig.{HostConfig}
 use Rattle.ipx_wire.specs.declared.address.Socket.{Socket}
 use Rattle.spx_messages.specs.EndpointView.{EndpointView, Held, buffers_at, held_at}
 use Rattle.ipx_host.specs.Hosting.{HearsAndNotesAll, Host, ListensWell, WritesAndPasses, MovesSome, MovesUntilFull, Serves, ServesWell, StepView, Steps, StepsWithoutStop, StepsTo, WriterBreaksOff, bytes_of, host, takes_of}
@@ -31,7 +31,7 @@ use Rattle.ipx_host.proofs.Written.{writes_none, writes_on}
 
 -- ---- one tending after another
 
-some_at : (cs : List Session) (place : ℕ) → place < length cs → (c : Session) × (slice_get cs place ≡ Some c)
+pub some_at : (cs : List Session) (place : ℕ) → place < length cs → (c : Session) × (slice_get cs place ≡ Some c)
 some_at [] place within = absurd (omega arith)
 some_at (c ∷ cs) zero within = (c, refl)
 some_at (c ∷ cs) (suc n) within = some_at cs n (omega arith)
@@ -60,7 +60,7 @@ tends_more once first mid new cs ms ns n run one =
     subst (λ (k : ℕ). TendsOn k once first new cs ns) next (mid, ms, run, one)
 
 -- what stops a host as it is tidied is that a connection parts
-abbrev IsParting : Option ListenOutcome → Type 0
+abbrev pub IsParting : Option ListenOutcome → Type 0
 IsParting None = Unit {0}
 IsParting (Some Ended) = Unit {0}
 IsParting (Some Lost) = Unit {0}
@@ -91,7 +91,7 @@ does_part once now c place ActionsOfSessions.Asks old new cs cs' stop does = sub
 does_part once now c place ActionsOfSessions.Over old new cs cs' stop does = subst IsParting (sym does.2) (parts once ActionsOfSessions.Over c.phase)
 does_part once now c place ActionsOfSessions.GivenUp old new cs cs' stop does = subst IsParting (sym does.2) (parts once ActionsOfSessions.GivenUp c.phase)
 
-tidied_parts : (once : Bool) (old new : PacedHostCore) (cs cs' : List Session) (stop : ListenOutcome) → Tidies once old new cs cs' (Some stop) → IsParting (Some stop)
+pub tidied_parts : (once : Bool) (old new : PacedHostCore) (cs cs' : List Session) (stop : ListenOutcome) → Tidies once old new cs cs' (Some stop) → IsParting (Some stop)
 tidied_parts once old new cs cs' stop tidied =
     let last = tidied.5 in
     does_part once tidied.2.moment last.session last.place last.tends.0 tidied.2.endpoint new.endpoint tidied.3 cs' (Some stop) last.tends.2

@@ -2,6 +2,8 @@ pub mod Counting
 pub mod Holding
 pub mod Noted
 pub mod Passed
+pub mod Polled
+pub mod Unheard
 pub mod Told
 pub mod Written
 pub mod Turning

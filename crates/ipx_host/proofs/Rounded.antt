@@ -5,12 +5,12 @@ use Rattle.std.specs.List.{All, concat}
 use Rattle.std.specs.Io.KnownBytes.{Consumes, IsAtEnd}
 use Rattle.std.specs.Prelude.{IfOk, OnErr}
 use Rattle.ipx_carrier.specs.Turns.{Peers}
-use Rattle.ipx_site.specs.declared.host.HostConfig.{HostConfig}
+use Rattle.ipx_config.specs.declared.host.HostConfig.{HostConfig}
 use Rattle.ipx_wire.specs.declared.address.Address.{Address}
 use Rattle.spx_link.specs.declared.state.State.{State}
 use Rattle.spx_messages.specs.EndpointView.{EndpointView, held_at}
 use Rattle.ipx_host.specs.Books.{EntersAcknowledged}
-use Rattle.ipx_host.specs.Access.{is_nowhere}
+use Rattle.ipx_config.specs.Destinations.{is_nowhere}
 use Rattle.ipx_host.specs.Feeding.{Feeds, FeedState, HandsOn}
 use Rattle.ipx_host.specs.declared.running_host.Activity.{Activity}
 use Rattle.ipx_host.specs.SendRounds.{IsSendStep, LastRound, SendState, Round, Rounds, Transfers, feeding_of}

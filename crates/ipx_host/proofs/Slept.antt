@@ -5,7 +5,9 @@ use Rattle.std.proofs.lemmas.List.{take_all}
 use Rattle.std.proofs.lemmas.List.Elements.{All-more}
 use Rattle.std.proofs.lemmas.Option.{slice_get-get_or}
 use Rattle.std.specs.Prelude.{All, slice_get}
-use Rattle.ipx_host.specs.Sleeping.{AllStayFor, IsSleep, MayWait, JustStaysAt, StaysFor, longest_wait}
+use Rattle.ipx_sockets.specs.declared.poller.Poller.{Poller}
+use Rattle.ipx_sockets.specs.Polling.{WaitsOnce}
+use Rattle.ipx_host.specs.Sleeping.{AllStayFor, IsSleep, MayRest, MayWait, JustStaysAt, StaysFor, longest_wait}
 use Rattle.ipx_host.specs.declared.sessions.Session.{Session}
 use Rattle.ipx_host.specs.declared.paced_host_core.PacedHostCore.{PacedHostCore}
 
@@ -51,12 +53,24 @@ up_to_all core items i least past all = record {
 }
 
 -- a wait after a step
-pub may_wait : (shows : Bool) (left : Option ℕ) (core core' : PacedHostCore) (asked asked' : Option ℕ) (most : ℕ) → most ≡ longest_wait shows left → core' ≡ core
-    → ((time : ℕ) × IsSleep core most time × (asked' ≡ Some time)) → MayWait shows left core' asked asked'
-may_wait shows left core core' asked asked' most e same (time, sleep, at) =
+pub may_wait : (shows : Bool) (left : Option ℕ) (core core' : PacedHostCore) (old mid new : Poller) (most : ℕ) → most ≡ longest_wait shows left → core' ≡ core → mid ≡ old
+    → ((time : ℕ) × IsSleep core most time × WaitsOnce time mid new) → MayWait shows left core' old new
+may_wait shows left core core' old mid new most e same still (time, sleep, once) =
     inr (
       time,
       subst (λ (k : PacedHostCore). IsSleep k (longest_wait shows left) time) (sym same)
           (subst (λ m. IsSleep core m time) e sleep),
-      at,
+      subst (λ (p : Poller). WaitsOnce time p new) still once,
+    )
+
+-- and a rest
+pub may_rest : (core core' : PacedHostCore) (cs : List Session) (old mid new : Poller) (rest : ℕ) → AllStayFor core cs rest → core' ≡ core → mid ≡ old
+    → ((time : ℕ) × IsSleep core rest time × WaitsOnce time mid new) → MayRest core' cs old new
+may_rest core core' cs old mid new rest stay same still (time, sleep, once) =
+    inr (
+      rest,
+      time,
+      subst (λ (k : PacedHostCore). AllStayFor k cs rest) (sym same) stay,
+      subst (λ (k : PacedHostCore). IsSleep k rest time) (sym same) sleep,
+      subst (λ (p : Poller). WaitsOnce time p new) still once,
     )

@@ -16,7 +16,7 @@ use Rattle.spx_messages.specs.declared.fault.EndFault.{EndFault}
 use Rattle.spx_congestion.specs.Giving.{gave_of}
 use Rattle.spx_congestion.specs.Pacing.{PacerView, credit_after, given_by, with_outstanding}
 use Rattle.spx_congestion.specs.declared.sent_kind.SentKind.{SentKind}
-use Rattle.ipx_host.specs.Paced.{CountsHeard, LinkReads, NotesGiven, NotesHeard, PlansLink}
+use Rattle.ipx_host.specs.Paced.{IsToldOf, LinkReads, NotesGiven, NotesHeard, PlansLink}
 
 -- if no numbers of a link are given, it is not there
 pub absent : (there : Option Held) (told : Result Numbers EndFault) (fault : EndFault)
@@ -88,12 +88,12 @@ read_unknown_sender id other r arrived said unknown (received, is, known) = know
 
 pub unread : (id : ℕ) (arrived : Arrived) (before : Option Numbers) (now : ℕ) (pacer : PacerView) (there : Option Held) → (LinkReads id arrived → ⊥)
     → NotesHeard id arrived before now pacer pacer there
-unread id arrived before now pacer there not = record { counts = λ read. absurd (not read); hears = λ read. absurd (not read); stays = λ _. refl }
+unread id arrived before now pacer there not = record { counts = λ read. absurd (not read); hears = λ received is known. absurd (not (received, is, known)); stays = λ _. refl }
 
 -- its link is not there any more
 pub heard_gone : (id : ℕ) (arrived : Arrived) (before : Option Numbers) (now : ℕ) (pacer : PacerView) (there : Option Held) → there ≡ None → NotesHeard id arrived before now pacer pacer there
 heard_gone id arrived before now pacer there is = record {
   counts = λ read. subst (λ h. IfSome h (λ k. pacer.out ≡ k.link.out)) (sym is) tt;
-  hears = λ read. subst (λ h. IfSome h (λ k. CountsHeard pacer (unwrap_or before (numbers_of k.link)) (numbers_of k.link) now pacer)) (sym is) tt;
+  hears = λ received said known. subst (λ h. IfSome h (λ k. IsToldOf received pacer (unwrap_or before (numbers_of k.link)) (numbers_of k.link) now pacer)) (sym is) tt;
   stays = λ _. refl;
 }

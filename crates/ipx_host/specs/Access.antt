@@ -1,30 +1,9 @@
 -- The senders and destinations that a host accepts, and which routers may forward packets to it, by its file.
 -- Nothing here is from a public standard.
-use Rattle.std.specs.Prelude.{ℕ, List, [], ◌∷◌, ◌++◌, ◌==◌, ◌||◌, ◌&&◌, Bool, Option, Some, None, is_none, if◌then◌else◌}
+use Rattle.std.specs.Prelude.{ℕ, List, [], ◌∷◌, ◌++◌, Option, Some, None}
 use Rattle.ipx_carrier.specs.Device.{Access}
-use Rattle.ipx_carrier.specs.Mapping.{ip_at}
-use Rattle.ipx_site.specs.SitePorts.{heard_at_port}
-use Rattle.ipx_site.specs.declared.host.HostConfig.{HostConfig}
-use Rattle.ipx_wire.specs.Assigned.{local_network}
-use Rattle.ipx_wire.specs.declared.address.Address.{Address}
-
--- the address that a host sends to: network 0 is replaced by its own
-abbrev pub peer_address_of : HostConfig → Address → Address
-peer_address_of file to =
-    if to.network.0 == local_network then record to { network = file.network } else to
-
--- a node of the host's own network is reached without a router. Network 0 is its own network too
-abbrev pub is_on_own_network : HostConfig → Address → Bool
-is_on_own_network file to =
-    (to.network.0 == file.network.0) || (to.network.0 == local_network)
-
--- a node on the host's own network that has no IP address can't be reached
-abbrev pub is_nowhere : HostConfig → Address → Bool
-is_nowhere file to = is_on_own_network file to && is_none (ip_at to.node)
-
--- the IP address that a host dials for a node on its own network
-abbrev pub dialed_ip : HostConfig → Address → Option (List ℕ)
-dialed_ip file to = if is_on_own_network file to then ip_at to.node else None
+use Rattle.ipx_config.specs.SitePorts.{heard_at_port}
+use Rattle.ipx_config.specs.declared.host.HostConfig.{HostConfig}
 
 -- a list followed by the dialed IP address, if there is one
 abbrev pub with_dialed : List (List ℕ) → Option (List ℕ) → List (List ℕ)

@@ -7,7 +7,7 @@ use Rattle.ipx_wire.specs.declared.address.Address.{Address}
 use Rattle.ipx_wire.specs.declared.spx.packet.SpxHeader.{SpxHeader}
 use Rattle.spx_messages.specs.WrittenPackets.{IsRequestFor}
 use Rattle.ipx_carrier.specs.Counting.{raised}
-use Rattle.ipx_site.specs.AllowedPeers.{may_ask, named_in}
+use Rattle.ipx_config.specs.AllowedPeers.{may_ask, named_in}
 use Rattle.ipx_host.specs.Noting.{HearsAndNotes}
 use Rattle.ipx_host.specs.Paced.{NotesAnswer}
 use Rattle.ipx_host.specs.declared.paced_host_core.PacedHostCore.{PacedHostCore}

@@ -6,8 +6,8 @@ use Rattle.std.specs.Fmt.{decimal}
 use Rattle.std.specs.Int.{w16, w32, to_be_bytes}
 use Rattle.hex.specs.Hex.{encode_lower}
 use Rattle.ipx_carrier.specs.Mapping.{node_at}
-use Rattle.ipx_site.specs.Checked.{dotted_text, each_after, others_text, peer_remark, reached_text}
-use Rattle.ipx_site.specs.declared.host.HostConfig.{HostConfig}
+use Rattle.ipx_config.specs.Checked.{dotted_text, each_after, others_text, peer_remark, reached_text}
+use Rattle.ipx_config.specs.declared.host.HostConfig.{HostConfig}
 
 -- where a host listens: its socket in 4 hex digits, its network in 8 and its node in 12
 abbrev pub listen_address_text : HostConfig → List ℕ

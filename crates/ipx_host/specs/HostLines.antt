@@ -1,6 +1,6 @@
 -- How often each problem that a host reports has happened. Nothing here is from a public standard.
 use Rattle.std.specs.Prelude.{ℕ, List, [], ◌∷◌}
-use Rattle.ipx_site.specs.declared.source_filter.FilterDrops.{FilterDrops}
+use Rattle.ipx_sockets.specs.declared.source_filter.FilterDrops.{FilterDrops}
 use Rattle.ipx_host.specs.declared.telling.Counts.{Counts}
 
 -- the filtered datagrams, the requests from those who may not connect, the datagrams that the system refused,

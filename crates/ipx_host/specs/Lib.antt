@@ -16,7 +16,6 @@ pub mod Sent
 pub mod Sleeping
 pub mod SendSteps
 pub mod ListenOutcomes
-pub mod Target
 pub mod Tending
 pub mod Transfer
 pub mod Turning

@@ -1,7 +1,7 @@
 -- The whole state, between two steps, of a sending host, of what it reads into its link, and of a listening
 -- host. Nothing here is from a public standard.
 use Rattle.std.specs.Prelude.{ℕ, List, Option}
-use Rattle.ipx_site.specs.declared.clock.SteadyClock.{SteadyClock}
+use Rattle.ipx_sockets.specs.declared.clock.SteadyClock.{SteadyClock}
 use Rattle.spx_messages.specs.EndpointView.{EndpointView}
 use Rattle.ipx_host.specs.Feeding.{FeedState, feed_state}
 use Rattle.ipx_host.specs.Hosting.{Host, host}

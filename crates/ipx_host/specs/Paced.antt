@@ -1,6 +1,6 @@
 -- How a sending host paces its connection: what its link may do at the next poll. Nothing here is from a
 -- public standard.
-use Rattle.std.specs.Prelude.{◌≡◌, ◌≢◌, ◌-◌, ◌<◌, ◌≤◌, ◌⊎◌, ◌&&◌, ℕ, Bool, List, [], IfSome, IsTrue, Option, Some, None, option_map, true, false, unwrap_or}
+use Rattle.std.specs.Prelude.{◌≡◌, ◌≢◌, ◌<◌, ◌↔◌, ◌⊎◌, ◌&&◌, ℕ, Bool, List, [], IfSome, IsTrue, Option, Some, None, option_map, true, false, unwrap_or}
 use Rattle.ipx_wire.specs.Ipx.{BeginsWith, PacketView}
 use Rattle.ipx_wire.specs.Spx.{IsSpx}
 use Rattle.ipx_wire.specs.declared.spx.packet.SpxHeader.{SpxHeader}
@@ -11,15 +11,15 @@ use Rattle.spx_link.specs.Offer.{again_link, pace_link}
 use Rattle.spx_link.specs.declared.numbers.Numbers.{Numbers}
 use Rattle.spx_link.specs.declared.outgoing.Sent.{Sent}
 use Rattle.spx_link.specs.declared.received.Received.{Received}
-use Rattle.spx_link.specs.declared.received.Received.TheVariants.{Stranger}
+use Rattle.spx_link.specs.declared.received.Received.TheVariants.{Joined, Stranger}
 use Rattle.spx_messages.specs.Arrives.{Arrives}
 use Rattle.spx_messages.specs.Changes.{ChangesEnd, ReleasesEnd}
 use Rattle.spx_messages.specs.EndpointView.{EndpointView, Held, held_at}
 use Rattle.spx_messages.specs.declared.arrived.Arrived.{Arrived}
 use Rattle.spx_messages.specs.declared.arrived.Arrived.TheVariants.{Link}
 use Rattle.spx_congestion.specs.Giving.{gave_of}
-use Rattle.spx_congestion.specs.Measured.{IsBounded}
-use Rattle.spx_congestion.specs.Pacing.{MendsOn, PacerView, Tends, WaitsOn, behind, credit_after, flight, given_by, has_given_up, is_double, wakes_at, holds_back, plan_of, waited_since, with_outstanding}
+use Rattle.spx_congestion.specs.Hearing.{Hears}
+use Rattle.spx_congestion.specs.Pacing.{PacerView, Tends, credit_after, given_by, has_given_up, wakes_at, holds_back, plan_of, with_outstanding}
 use Rattle.spx_congestion.specs.declared.plan.Plan.{Plan}
 use Rattle.ipx_host.specs.Noting.{is_untold}
 use Rattle.ipx_host.specs.declared.paced_host_core.PacedHostCore.{PacedHostCore}
@@ -97,34 +97,20 @@ NotesPoll (Some paced) e bytes now after = (pacer : PacerView)
 abbrev pub LinkReads : ℕ → Arrived → Type 0
 LinkReads id arrived = (received : Received) × (arrived ≡ Link id received) × (received ≢ Stranger)
 
--- a link read a packet now, which changed its numbers from those before, and its pacer was told so: what the
--- clauses of a pacer say of it. What is acknowledged moves the base, and begins the timeout anew, undoubled. Any
--- other packet leaves the base, and the timeout too, unless it takes a unit out of flight during a repair. No
--- credit changes
-pub record CountsHeard (old : PacerView) (before after : Numbers) (now : ℕ) (new : PacerView) : Type 0 where
-  pub counts : new.out ≡ after.out
-  pub acknowledged : after.out < before.out
-      → (new.timer ≡ waited_since None after.out now) × (new.trip.doubled ≡ 0)
-  pub waits : before.out ≤ after.out → WaitsOn old after.out now new × (new.trip.doubled ≡ old.trip.doubled)
-  pub still : before.out ≤ after.out → flight (with_outstanding old after.out now) ≤ flight new
-      → new.timer ≡ waited_since old.timer after.out now
-  pub timed : IsBounded new.trip
-  pub counted : before.out ≤ after.out → is_double before after ≡ false
-      → new ≡ record (with_outstanding old after.out now) { trip = new.trip }
-  pub mends : MendsOn old now new
-  pub ended : new.ended ≡ old.ended
-  pub base : after.out < before.out → new.base ≡ behind old.base (before.out - after.out)
-  pub unmoved : before.out ≤ after.out → new.base ≡ old.base
-  pub credit : (new.credit ≡ old.credit) × (new.tick ≡ old.tick)
+-- a link read a packet now with this result, which changed its numbers from those before, and its pacer was
+-- told so, once, and whether it was the reply to the request
+abbrev pub IsToldOf : Received → PacerView → Numbers → Numbers → ℕ → PacerView → Type 0
+IsToldOf received old before after now new =
+    (joined : Bool) × (IsTrue joined ↔ (received ≡ Joined)) × Hears old before after joined now new
 
 -- after the link of an id read a datagram now, its pacer counts as many outstanding units as the link has, and
--- has heard how the link's numbers changed, if the link is there. If it was not there before, they changed
+-- was told once how the link's numbers changed, if the link is there. If it was not there before, they changed
 -- nothing. If the link did not read the datagram, the pacer is unchanged
 pub record NotesHeard (id : ℕ) (arrived : Arrived) (before : Option Numbers) (now : ℕ) (pacer pacer' : PacerView)
     (there : Option Held) : Type 0 where
   pub counts : LinkReads id arrived → IfSome there (λ h. pacer'.out ≡ h.link.out)
-  pub hears : LinkReads id arrived
-      → IfSome there (λ h. CountsHeard pacer (unwrap_or before (numbers_of h.link)) (numbers_of h.link) now pacer')
+  pub hears : (received : Received) → arrived ≡ Link id received → received ≢ Stranger
+      → IfSome there (λ h. IsToldOf received pacer (unwrap_or before (numbers_of h.link)) (numbers_of h.link) now pacer')
   pub stays : (LinkReads id arrived → ⊥) → pacer' ≡ pacer
 
 -- the same for the paced connection, if there is one

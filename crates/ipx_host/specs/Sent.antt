@@ -4,7 +4,7 @@ use Rattle.std.specs.Prelude.{◌≡◌, ◌≢◌, ◌<◌, ◌≤◌, ℕ, fal
 use Rattle.std.specs.Io.KnownBytes.{IsAtEnd}
 use Rattle.ipx_carrier.specs.Mapping.{node_at}
 use Rattle.ipx_carrier.specs.Turns.{Peers}
-use Rattle.ipx_site.specs.declared.host.HostConfig.{HostConfig}
+use Rattle.ipx_config.specs.declared.host.HostConfig.{HostConfig}
 use Rattle.ipx_wire.specs.declared.address.Address.{Address}
 use Rattle.ipx_wire.specs.declared.address.Socket.{Socket}
 use Rattle.spx_link.specs.Links.{count_of}
@@ -12,7 +12,7 @@ use Rattle.spx_link.specs.Offer.{dialed}
 use Rattle.spx_messages.specs.EndpointView.{buffers_at, held_at}
 use Rattle.spx_congestion.specs.Pacing.{made_pacer}
 use Rattle.ipx_host.specs.Books.{IsUnused}
-use Rattle.ipx_host.specs.Access.{is_nowhere}
+use Rattle.ipx_config.specs.Destinations.{is_nowhere}
 use Rattle.ipx_host.specs.SendRounds.{SendState, Transfers}
 use Rattle.ipx_host.specs.SendSteps.{noted}
 use Rattle.ipx_host.specs.Transfer.{IsWholeAt}

@@ -1,6 +1,6 @@
 -- The connections that a listening host holds, as they are accepted, heard from and released. Nothing here is
 -- from a public standard.
-use Rattle.std.specs.Prelude.{◌≡◌, ◌≤◌, ◌↔◌, ◌⊎◌, ◌==◌, ◌&&◌, ◌||◌, ◌-◌, ℕ, Bool, true, false, not, IsTrue, List, [], ◌∷◌, ◌++◌, length, map, position, remove, count_by, slice_get, slice_set, nat_eq, nat_le, nat_lt, is_some, Option, Some, None, IfSome, MatchOption, if◌then◌else◌}
+use Rattle.std.specs.Prelude.{◌≡◌, ◌≤◌, ◌↔◌, ◌⊎◌, ◌==◌, ◌&&◌, ◌||◌, ◌+◌, ◌-◌, ℕ, Bool, true, false, not, IsTrue, List, [], ◌∷◌, ◌++◌, length, map, position, remove, count_by, slice_get, slice_set, nat_eq, nat_le, nat_lt, is_some, Option, Some, None, IfSome, MatchOption, if◌then◌else◌}
 use Rattle.std.specs.List.{list_any}
 use Rattle.std.specs.Cmp.Lexicographic.{pointwise}
 use Rattle.std.specs.Coded.{Unit-prop}
@@ -15,8 +15,8 @@ use Rattle.spx_messages.specs.declared.fault.EndFault.TheVariants as EndFaults
 use Rattle.spx_messages.specs.Cut.{cut_of}
 use Rattle.spx_messages.specs.Changes.{ChangesEnd, ReleasesEnd, SameBut}
 use Rattle.spx_messages.specs.EndpointView.{EndpointView, Held, held_at}
-use Rattle.ipx_carrier.specs.Counting.{raised}
-use Rattle.ipx_site.specs.AllowedPeers.{home_network}
+use Rattle.ipx_carrier.specs.Counting.{counted, raised}
+use Rattle.ipx_config.specs.AllowedPeers.{home_network}
 use Rattle.ipx_wire.specs.declared.address.Address.{Address}
 use Rattle.ipx_wire.specs.declared.address.Network.{Network}
 use Rattle.ipx_host.specs.Transfer.{state_at}
@@ -218,6 +218,21 @@ abbrev pub is_own_evicted : Bool → Network → EndpointView → ℕ → Addres
 is_own_evicted once own e now from sessions = is_some (place_of_own once own e now from sessions)
     && not (is_some (place_of_own_unanswered own now from sessions))
 
+-- an unanswered connection, which was never heard from, is evicted for a request of its own node
+abbrev pub is_own_unheard_evicted : Bool → Network → EndpointView → ℕ → Address → List Session → Bool
+is_own_unheard_evicted once own e now from sessions = is_some (place_of_own once own e now from sessions)
+    && is_some (place_of_own_unanswered own now from sessions)
+
+-- how many of these connections were never heard from
+abbrev pub unheard_in : List Session → ℕ
+unheard_in sessions = count_by (λ c. is_unheard c.phase) sessions
+
+-- of these connections so many go that were never heard from, and the count rises by as many
+abbrev pub CountsUnheard : List Session → List Session → ℕ → ℕ → Type 0
+CountsUnheard sessions sessions' count count' = (gone : ℕ)
+    × (unheard_in sessions ≡ unheard_in sessions' + gone)
+    × (((gone ≡ 0) × (count' ≡ count)) ⊎ (count' ≡ counted (count + gone)))
+
 -- a request is counted exactly if there is no slot for its connection
 abbrev pub CountsTurnedAway : Bool → Network → Address → List Session → ℕ → ℕ → Type 0
 CountsTurnedAway once own from sessions count count' = (is : Bool)
@@ -251,7 +266,16 @@ is_evicted_for once (Some (Cames.Accepted a)) own e now sessions =
 is_evicted_for once (Some (Cames.NoRoom asker)) own e now sessions =
     is_silent_evicted once own e now asker sessions
 
--- the same for what the core noted last, which is handled once
+-- the same for a connection that was never heard from: an unanswered one
+abbrev pub is_unheard_evicted_for : Bool → Option Arrival → Network → EndpointView → ℕ → List Session → Bool
+is_unheard_evicted_for once None own e now sessions = false
+is_unheard_evicted_for once (Some (Cames.Heard id)) own e now sessions = false
+is_unheard_evicted_for once (Some (Cames.Accepted a)) own e now sessions =
+    is_own_unheard_evicted once own e now a.from sessions
+is_unheard_evicted_for once (Some (Cames.NoRoom asker)) own e now sessions =
+    is_some (position (is_unanswered now) sessions)
+
+-- a host handles what its core noted last, once
 abbrev pub NotesHeard : Bool → PacedHostCore → PacedHostCore → List Session → List Session → Type 0
 NotesHeard once old new sessions sessions' =
     (new ≡ record old { endpoint = new.endpoint; came = None })

@@ -6,7 +6,9 @@ use Rattle.spx_link.specs.LinkView.{LinkView}
 use Rattle.spx_link.specs.Links.{LinksView, link_at}
 use Rattle.ipx_host.specs.SessionActions.{IsSessionAction}
 use Rattle.ipx_host.specs.Paced.{HoldsBack, IsAwake, paced_due}
+use Rattle.ipx_sockets.specs.Polling.{WaitsOnce}
 use Rattle.ipx_host.specs.Transfer.{state_at}
+use Rattle.ipx_sockets.specs.declared.poller.Poller.{Poller}
 use Rattle.ipx_host.specs.declared.sessions.Session.{Session}
 use Rattle.ipx_host.specs.declared.sessions.SessionAction.TheVariants.{Stays}
 use Rattle.ipx_host.specs.declared.paced_host_core.PacedHostCore.{PacedHostCore}
@@ -56,15 +58,13 @@ pub record AllStayFor (core : PacedHostCore) (sessions : List Session) (time : �
 abbrev pub longest_wait : Bool → Option ℕ → ℕ
 longest_wait shows left = if shows then 1000 else (if is_some left then 1000 else 3600000)
 
--- after a step a sending host waits this long, or not at all. The time of its last wait is given too
-abbrev pub MayWait : Bool → Option ℕ → PacedHostCore → Option ℕ → Option ℕ → Type 0
-MayWait shows left core asked asked' = (asked' ≡ asked)
-    ⊎ ((time : ℕ) × IsSleep core (longest_wait shows left) time
-    × (asked' ≡ Some time))
+-- after a step a sending host waits this long, once, or not at all
+abbrev pub MayWait : Bool → Option ℕ → PacedHostCore → Poller → Poller → Type 0
+MayWait shows left core old new = (new ≡ old)
+    ⊎ ((time : ℕ) × IsSleep core (longest_wait shows left) time × WaitsOnce time old new)
 
--- after a step a listening host waits this long, or not at all. It waits only while no action is due for any
--- connection and no link has anything to do
-abbrev pub MayRest : PacedHostCore → List Session → Option ℕ → Option ℕ → Type 0
-MayRest core sessions asked asked' = (asked' ≡ asked)
-    ⊎ ((rest time : ℕ) × AllStayFor core sessions rest
-    × IsSleep core rest time × (asked' ≡ Some time))
+-- after a step a listening host waits this long, once, or not at all. It waits only while no action is due for
+-- any connection and no link has anything to do
+abbrev pub MayRest : PacedHostCore → List Session → Poller → Poller → Type 0
+MayRest core sessions old new = (new ≡ old)
+    ⊎ ((rest time : ℕ) × AllStayFor core sessions rest × IsSleep core rest time × WaitsOnce time old new)

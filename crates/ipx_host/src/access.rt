@@ -1,66 +1,14 @@
 //! The senders and destinations that a host accepts.
 
 ghost use Rattle.std.specs.Prelude.{◌≡◌, ◌∷◌, ◌++◌, [], IfOk};
-ghost use Rattle.ipx_site.specs.SitePorts.{access_by, heard_at_port, named};
-ghost use Rattle.ipx_host.specs.Access.{dialed_ip, peer_address_of, guarded_host, is_nowhere, is_on_own_network, known_ips};
+ghost use Rattle.ipx_sockets.specs.AccessLists.{access_by};
+ghost use Rattle.ipx_config.specs.SitePorts.{heard_at_port, named};
+ghost use Rattle.ipx_host.specs.Access.{guarded_host, known_ips};
 
 use crate::start::StartFault;
-use ipx_carrier::ip_of;
-use ipx_site::{Accept, AccessList, HostConfig};
-use ipx_wire::{Address, Network, Node};
+use ipx_config::{Accept, HostConfig};
+use ipx_sockets::AccessList;
 use std::alloc::Global;
-
-/// Returns the address that the host of a file sends to. Network 0 is replaced by the host's own
-/// network, which is the source of the peer's replies.
-pub fn peer_address_of(file: &HostConfig, to: Address) -> Address
-    ensures { result ≡ peer_address_of file.now to }
-{
-    if to.network == Network::LOCAL {
-        Address {
-            network: file.network,
-            ..to
-        }
-    } else {
-        to
-    }
-}
-
-/// Returns whether an address is on the host's own network. Nodes there are reached without a
-/// router.
-pub fn is_on_own_network(file: &HostConfig, to: Address) -> bool
-    ensures { result ≡ is_on_own_network file.now to }
-{
-    to.network == file.network || to.network == Network::LOCAL
-}
-
-/// Returns whether an address can't be reached: it is a node on the host's own network that has no
-/// IP address.
-pub fn is_nowhere(file: &HostConfig, to: Address) -> bool
-    ensures { result ≡ is_nowhere file.now to }
-{
-    is_on_own_network(file, to) && ip_of(to.node).is_err()
-}
-
-/// Prints that a node on the network of a file's host can't be reached, and returns status 2.
-pub fn tell_nowhere<R: Eprint>(rt: &R, path: &str, node: Node) -> u8
-    ensures { result ≡ 2 }
-{
-    let _ = eprintln!(rt;
-        "node {node} names no IP address: on the network of {path} a node is 0000 and an IP address in hex"
-    );
-    2
-}
-
-/// Returns the IP address that a host dials for a node on its own network. Returns None for another
-/// network, or for a node without an IP address.
-pub fn dialed_ip(file: &HostConfig, to: Address) -> Option<[u8; 4]>
-    ensures { result ≡ dialed_ip file.now to }
-{
-    if !is_on_own_network(file, to) {
-        return None;
-    }
-    ip_of(to.node).ok()
-}
 
 /// Returns these IP addresses, followed by that of the router.
 fn with_router(

@@ -4,10 +4,10 @@ ghost use Rattle.std.specs.Prelude.{◌≡◌, ◌↔◌, IfSome, IsTrue, Some};
 ghost use Rattle.spx_messages.specs.WrittenPackets.{IsRequestFor};
 ghost use Rattle.ipx_wire.specs.declared.address.Address.{Address as AnAddress};
 ghost use Rattle.std.specs.List.{list_any};
-ghost use Rattle.ipx_site.specs.AllowedPeers.{is_of};
+ghost use Rattle.ipx_config.specs.AllowedPeers.{is_of};
 ghost use Rattle.ipx_host.specs.Barring.{IsAskedBy};
 
-use ipx_site::AllowedPeer;
+use ipx_config::AllowedPeer;
 use ipx_wire::{Address, Network, SpxHeader, decode, decode_spx, packet_type};
 
 /// The connection id that means "no connection".

@@ -2,13 +2,13 @@
 
 ghost use Rattle.std.specs.Prelude.{◌≡◌, ◌≤◌, ℕ, List, IfOk, string_bytes};
 ghost use Rattle.std.specs.Io.KnownBytes.{Appends};
-ghost use Rattle.ipx_site.specs.Host.{IsHostText};
-ghost use Rattle.ipx_site.specs.Loading.{IsFileText};
-ghost use Rattle.ipx_site.specs.declared.host.HostConfig.{HostConfig as AHostFile};
+ghost use Rattle.ipx_config.specs.Host.{IsHostText};
+ghost use Rattle.ipx_config.specs.Loading.{IsFileText};
+ghost use Rattle.ipx_config.specs.declared.host.HostConfig.{HostConfig as AHostFile};
 ghost use Rattle.ipx_host.specs.HostCheckLines.{host_line, host_lines, listener_text, listen_address_text, peers_remarks, router_remark};
 
 use ipx_carrier::node_of;
-use ipx_site::{
+use ipx_config::{
     HostConfig, dotted, load_host, others, peers_to_remarks, reached_to_text, write_checked,
 };
 use std::alloc::{AllocError, Global};

@@ -7,7 +7,7 @@ ghost use Rattle.spx_link.specs.Offer.{dialed as link_dialed};
 ghost use Rattle.spx_messages.specs.Changes.{SameSelf};
 ghost use Rattle.spx_messages.specs.EndpointView.{held_at};
 
-use ipx_site::HostConfig;
+use ipx_config::HostConfig;
 use ipx_wire::{Address, Socket};
 use spx_messages::{EndFault, Endpoint};
 use std::alloc::Global;

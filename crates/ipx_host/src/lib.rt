@@ -29,11 +29,8 @@ mod serving;
 mod sessions;
 mod start;
 mod taking;
-mod target;
 mod telling;
 
-pub use access::{is_nowhere, is_on_own_network, peer_address_of, tell_nowhere};
 pub use checking::check_host;
 pub use listen::do_listen;
 pub use send::do_send;
-pub use target::{Target, TargetFault};

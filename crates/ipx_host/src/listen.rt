@@ -2,18 +2,18 @@
 
 ghost use Rattle.std.specs.Prelude.{◌≡◌, ◌<◌, ◌≤◌, ℕ, List, IfErr, IfOk, IsTrue, OnErr, OnOk, Err, Ok};
 ghost use Rattle.ipx_carrier.specs.Turns.{peers_of};
-ghost use Rattle.ipx_site.specs.Host.{IsHostText};
-ghost use Rattle.ipx_site.specs.Loading.{IsFileText};
-ghost use Rattle.ipx_site.specs.Steady.{NeverGoesBack};
-ghost use Rattle.ipx_site.specs.declared.host.HostConfig.{HostConfig as AHostFile};
-ghost use Rattle.ipx_site.specs.declared.clock.SteadyClock.{SteadyClock};
+ghost use Rattle.ipx_config.specs.Host.{IsHostText};
+ghost use Rattle.ipx_config.specs.Loading.{IsFileText};
+ghost use Rattle.ipx_sockets.specs.Steady.{NeverGoesBack};
+ghost use Rattle.ipx_config.specs.declared.host.HostConfig.{HostConfig as AHostFile};
+ghost use Rattle.ipx_sockets.specs.declared.clock.SteadyClock.{SteadyClock};
 ghost use Rattle.ipx_host.specs.Hosting.{ListensWell, ServesWell, StepView};
 ghost use Rattle.ipx_host.specs.Midway.{listening_at};
 
 use crate::checking::listener_to_text;
 use crate::listening::ListeningHost;
 use crate::start::{StartFault, tell_start};
-use ipx_site::{HostConfig, load_host};
+use ipx_config::{HostConfig, load_host};
 use log::{Log, info};
 use std::alloc::Global;
 use std::io::Write;
@@ -84,9 +84,9 @@ fn listen_by<R: Net + Log + Clock + Eprint, W: Write>(
 
 /// Runs the command `listen`. The host of the file accepts connections at its socket, and writes
 /// the bytes of each message when the message is complete. Nothing is written between messages. It
-/// runs until the process is stopped. With `once` it ends three seconds after it receives the end
-/// of the first connection that was heard from. Once that connection is heard from, all others are
-/// released, no more are accepted, and nothing of them is written.
+/// runs until the process is stopped. With `once` it ends three seconds after the last packet of
+/// the first connection that was heard from, if that has ended. Once that connection is heard from,
+/// all others are released, no more are accepted, and nothing of them is written.
 ///
 /// Returns the status. It is 0 if the end of that connection was received. It is 1 if that
 /// connection was lost, the writer failed, the socket can't be opened, or the start ran out of

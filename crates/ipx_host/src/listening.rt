@@ -1,17 +1,20 @@
 //! A host that listens: its steps, and why it stops.
 
-ghost use Rattle.std.specs.Prelude.{◌≡◌, ◌≢◌, ◌<◌, ◌≤◌, ◌∷◌, ◌++◌, [], ℕ, List, IfOk, IsTrue, None, Some, Err, Ok, map};
+ghost use Rattle.std.specs.Prelude.{◌≡◌, ◌≢◌, ◌↔◌, ◌⊎◌, ◌<◌, ◌≤◌, ◌∷◌, ◌++◌, [], ℕ, ℤ, List, Option, IfOk, IsTrue, None, Some, Err, Ok, map};
 ghost use Rattle.ipx_carrier.specs.Mapping.{node_at};
 ghost use Rattle.ipx_carrier.specs.Turns.{peers_of};
-ghost use Rattle.ipx_site.specs.AllowedPeers.{named_in};
-ghost use Rattle.ipx_site.specs.SourceFilter.{drops_in};
-ghost use Rattle.ipx_site.specs.SitePorts.{access_by};
-ghost use Rattle.ipx_site.specs.Steady.{NeverGoesBack};
+ghost use Rattle.ipx_config.specs.AllowedPeers.{named_in};
+ghost use Rattle.ipx_sockets.specs.PollEvents.{Watched};
+ghost use Rattle.ipx_sockets.specs.Senders.{udp_fds};
+ghost use Rattle.ipx_sockets.specs.SourceFilter.{drops_in};
+ghost use Rattle.ipx_sockets.specs.AccessLists.{access_by};
+ghost use Rattle.ipx_sockets.specs.Steady.{NeverGoesBack};
 ghost use Rattle.ipx_wire.specs.declared.address.Socket.{Socket};
 ghost use Rattle.spx_messages.specs.EndpointView.{buffers_at, held_at};
 ghost use Rattle.ipx_host.specs.Access.{guarded_host};
 ghost use Rattle.ipx_host.specs.Hosting.{HearsAndNotesAll, Serves, StepView, StepsTo, bytes_of};
 ghost use Rattle.ipx_host.specs.HostOutput.{Writes, left_of};
+ghost use Rattle.ipx_sockets.specs.Polling.{FailedToWait, FailsToWait, WaitsWell, watched_if};
 ghost use Rattle.ipx_host.specs.Sleeping.{MayRest};
 ghost use Rattle.ipx_host.specs.ListenOutcomes.{stop_in, stop_status};
 ghost use Rattle.ipx_host.specs.declared.listening.ListenOutcome.{ListenOutcome as AStop};
@@ -23,7 +26,8 @@ use crate::readiness_gate::Gate;
 use crate::running_host::{Activity, RunningHost};
 use crate::serving::Sessions;
 use crate::start::StartFault;
-use ipx_site::{HostConfig, WaitFault};
+use ipx_config::HostConfig;
+use ipx_sockets::WaitFault;
 use log::Log;
 use mio::Interest;
 use std::alloc::Global;
@@ -122,6 +126,10 @@ impl<'a, R: Net + Log + Clock> ListeningHost<'a, R> {
         // The file says which hosts it receives from and sends to.
         ensures access_list { IfOk result (λ l.
             map access_by l.station.host_socket.device.access_lists.items ≡ guarded_host file.now None ∷ []) }
+        // It watches its one socket, and standard output if it can be polled, and has not waited.
+        ensures watches { IfOk result (λ l. (gate : Option ℤ) × (l.station.poller.trace.items
+            ≡ map Watched (udp_fds l.station.host_socket.device.device.sockets.items)
+            ++ watched_if gate)) }
     {
         let mut station = RunningHost::open(rt, alloc, file, None)?;
         station
@@ -182,6 +190,7 @@ impl<'a, R: Net + Log + Clock> ListeningHost<'a, R> {
         ensures access { map access_by self.new.station.host_socket.device.access_lists.items
             ≡ map access_by self.old.station.host_socket.device.access_lists.items }
         ensures poller { self.new.station.poller ≡ self.old.station.poller }
+        ensures unwaited { result ≢ Err Stops.Unwaited }
         ensures written { result ≡ Err Stops.Ended
             → IsTrue self.new.sessions.once × (left_of self.new.sessions.output ≡ []) }
         ensures once { self.new.sessions.once ≡ self.old.sessions.once }
@@ -202,7 +211,7 @@ impl<'a, R: Net + Log + Clock> ListeningHost<'a, R> {
         // More may be waiting after a filtered datagram, so the host does not wait.
         ensures kept { drops_in self.old.station.host_socket.device.kept
             < drops_in self.new.station.host_socket.device.kept →
-            self.new.station.poller.asked ≡ self.old.station.poller.asked }
+            self.new.station.poller ≡ self.old.station.poller }
         // After a turn that did something it does not wait.
         ensures steps { (step : StepView) × StepsTo (listening_at self.old (W.contents writer.old))
             (listening_at self.new (W.contents writer.new))
@@ -214,7 +223,10 @@ impl<'a, R: Net + Log + Clock> ListeningHost<'a, R> {
             ≡ map access_by self.old.station.host_socket.device.access_lists.items }
         // The host waits only while no link has anything to do and no connection needs an action.
         ensures rests { MayRest self.new.station.core self.new.sessions.held.items
-            self.old.station.poller.asked self.new.station.poller.asked }
+            self.old.station.poller self.new.station.poller }
+        // It stops because it can't wait exactly if it waits in this step, and that fails.
+        ensures unwaited { (result ≡ Err Stops.Unwaited)
+            ↔ FailsToWait self.old.station.poller self.new.station.poller }
         ensures written { result ≡ Err Stops.Ended
             → IsTrue self.new.sessions.once × (left_of self.new.sessions.output ≡ []) }
         ensures once { self.new.sessions.once ≡ self.old.sessions.once }
@@ -238,6 +250,12 @@ impl<'a, R: Net + Log + Clock> ListeningHost<'a, R> {
             × Writes (left_of self.old.sessions.output ++ bytes_of steps)
             (left_of self.new.sessions.output)
             (W.contents writer.old) (W.contents writer.new) }
+        // It stops because it can't wait exactly if its last wait failed. No other wait fails, and
+        // it watches nothing more.
+        ensures unwaited { (result ≡ Stops.Unwaited)
+            ↔ FailedToWait self.old.station.poller self.new.station.poller }
+        ensures waits { result ≢ Stops.Unwaited → (count : ℕ)
+            × WaitsWell count self.old.station.poller self.new.station.poller }
         ensures written { result ≡ Stops.Ended
             → IsTrue self.new.sessions.once × (left_of self.new.sessions.output ≡ []) }
         ensures once { self.new.sessions.once ≡ self.old.sessions.once }
@@ -265,7 +283,12 @@ impl<'a, R: Net + Log + Clock + Eprint> ListeningHost<'a, R> {
             NeverGoesBack (peers_of self.old.station.host_socket.peers.items) steps
             × Writes (left_of self.old.sessions.output ++ bytes_of steps)
             (left_of self.new.sessions.output)
-            (W.contents writer.old) (W.contents writer.new) }
+            (W.contents writer.old) (W.contents writer.new)
+            × ((stop ≡ Stops.Unwaited)
+            ↔ FailedToWait self.old.station.poller self.new.station.poller) }
+        // Its last wait failed and no other, or no wait failed. It watches nothing more.
+        ensures waits { FailedToWait self.old.station.poller self.new.station.poller
+            ⊎ ((count : ℕ) × WaitsWell count self.old.station.poller self.new.station.poller) }
         ensures written { result ≡ 0
             → IsTrue self.new.sessions.once × (left_of self.new.sessions.output ≡ []) }
         ensures few { result ≤ 1 }

@@ -2,7 +2,7 @@
 
 ghost use Rattle.std.specs.Prelude.{◌<◌, ◌*◌, ◌↔◌, IsTrue};
 
-use ipx_site::{RCVBUF_SIZE, UdpSockets};
+use ipx_sockets::{RCVBUF_SIZE, UdpSockets};
 use log::{Log, warn};
 
 /// The number of bytes of a socket's receive buffer that a unit takes.

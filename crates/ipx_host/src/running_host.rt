@@ -1,20 +1,23 @@
 //! A running host: its endpoint, its socket and its clock.
 
-ghost use Rattle.std.specs.Prelude.{◌≡◌, ◌<◌, ◌↔◌, ◌∷◌, [], ℕ, false, true, IfOk, IsTrue, None, OnErr, Some, length, map, replicate};
+ghost use Rattle.std.specs.Prelude.{◌≡◌, ◌<◌, ◌↔◌, ◌∷◌, ◌++◌, [], ℕ, false, true, IfOk, IsTrue, None, OnErr, Some, is_err, length, map, replicate};
 ghost use Rattle.ipx_carrier.specs.Mapping.{node_at};
 ghost use Rattle.ipx_carrier.specs.Traces.{v4_at};
 ghost use Rattle.ipx_carrier.specs.Turns.{peers_of};
-ghost use Rattle.ipx_site.specs.Moments.{AreLoggedIfDue};
-ghost use Rattle.ipx_site.specs.AllowedPeers.{named_in};
-ghost use Rattle.ipx_site.specs.SourceFilter.{drops_in};
-ghost use Rattle.ipx_site.specs.SitePorts.{access_by};
-ghost use Rattle.ipx_site.specs.Steady.{NeverGoesBack};
+ghost use Rattle.ipx_sockets.specs.Moments.{AreLoggedIfDue};
+ghost use Rattle.ipx_config.specs.AllowedPeers.{named_in};
+ghost use Rattle.ipx_sockets.specs.PollEvents.{Watched};
+ghost use Rattle.ipx_sockets.specs.Senders.{udp_fds};
+ghost use Rattle.ipx_sockets.specs.SourceFilter.{drops_in};
+ghost use Rattle.ipx_sockets.specs.AccessLists.{access_by};
+ghost use Rattle.ipx_sockets.specs.Steady.{NeverGoesBack};
 ghost use Rattle.ipx_wire.specs.declared.address.Socket.{Socket};
 ghost use Rattle.spx_link.specs.Links.{count_of};
 ghost use Rattle.spx_messages.specs.EndpointView.{buffers_at, held_at};
 ghost use Rattle.ipx_host.specs.Sessions.{raised_if};
 ghost use Rattle.ipx_host.specs.Access.{guarded_host};
 ghost use Rattle.ipx_host.specs.HostLines.{counts_of_host, host_counts};
+ghost use Rattle.ipx_sockets.specs.Polling.{WaitsOnce, watched_if};
 ghost use Rattle.ipx_host.specs.Sleeping.{IsSleep};
 ghost use Rattle.ipx_host.specs.Turning.{TakesHostTurn, TellsOf};
 
@@ -25,7 +28,8 @@ use crate::room::warn_small_rcvbuf;
 use crate::start::{StartFault, check_streams};
 use crate::telling::{Counts, Telling};
 use ipx_carrier::{CountsFiltered, Report, RunFault, node_of, turn};
-use ipx_site::{AccessList, HostConfig, Poller, SourceFilter, SteadyClock, UdpSockets, WaitFault};
+use ipx_config::HostConfig;
+use ipx_sockets::{AccessList, Poller, SourceFilter, SteadyClock, UdpSockets, WaitFault};
 use log::Log;
 use spx_messages::Endpoint;
 use std::alloc::Global;
@@ -127,6 +131,9 @@ impl HostSocket {
             ≡ v4_at file.now.address file.now.udp_port ∷ []) }
         ensures access_list { IfOk result (λ r.
             map access_by r.0.device.access_lists.items ≡ guarded_host file.now dials ∷ []) }
+        // The poll watches its socket, and nothing else, and has not waited.
+        ensures watches { IfOk result (λ r.
+            r.1.trace.items ≡ map Watched (udp_fds r.0.device.device.sockets.items)) }
     {
         let router = vec![in alloc; file.router]?;
         let peers = vec![in alloc; router]?;
@@ -213,6 +220,9 @@ impl<'a, R: Net + Log + Clock> RunningHost<'a, R> {
         // Its access list is that of the file and the dialed node.
         ensures access_list { IfOk result (λ s.
             map access_by s.host_socket.device.access_lists.items ≡ guarded_host file.now dials ∷ []) }
+        // It watches its one socket, and nothing else, and has not waited.
+        ensures watches { IfOk result (λ s.
+            s.poller.trace.items ≡ map Watched (udp_fds s.host_socket.device.device.sockets.items)) }
     {
         check_streams(rt)?;
         let clock = SteadyClock::new(rt)?;
@@ -233,6 +243,7 @@ impl<'a, R: Net + Log + Clock> RunningHost<'a, R> {
         ensures core { self.new.core ≡ self.old.core }
         ensures clock { self.new.clock ≡ self.old.clock }
         ensures host_socket { self.new.host_socket ≡ self.old.host_socket }
+        ensures watches { self.new.poller.trace.items ≡ self.old.poller.trace.items ++ watched_if fd }
     {
         if let Some(fd) = fd {
             let _ = self.poller.watch_reading(fd);
@@ -309,9 +320,11 @@ impl<'a, R: Net + Log + Clock> RunningHost<'a, R> {
         ensures core { self.new.core ≡ self.old.core }
         ensures clock { self.new.clock ≡ self.old.clock }
         ensures host_socket { self.new.host_socket ≡ self.old.host_socket }
-        // The host asks the system to wait this long. No link has anything to do until then.
+        // The host asks the system once, to wait this long. No link has anything to do until then.
         ensures sleeps { (time : ℕ) × IsSleep self.old.core most time
-            × (self.new.poller.asked ≡ Some time) }
+            × WaitsOnce time self.old.poller self.new.poller }
+        // It fails exactly if the system fails to wait.
+        ensures failed { is_err result ≡ self.new.poller.failed }
     {
         let time = self.core.time_until_due(most);
         self.poller.wait(time)?;

@@ -1,15 +1,19 @@
 //! A sending host: what it notes of its link after each turn, and how its transfer ends.
 
-ghost use Rattle.std.specs.Prelude.{◌≡◌, ◌<◌, ◌+◌, ◌↔◌, ◌⊎◌, ◌∷◌, [], ℕ, List, false, true, length, map, IfOk, IsTrue, Err, Ok, None, Option, Some};
+ghost use Rattle.std.specs.Prelude.{◌≡◌, ◌≢◌, ◌<◌, ◌+◌, ◌↔◌, ◌⊎◌, ◌∷◌, ◌++◌, [], ℕ, ℤ, List, false, true, length, map, IfOk, IsTrue, Err, Ok, None, Option, Some};
 ghost use Rattle.std.specs.Io.KnownBytes.{IsAtEnd};
 ghost use Rattle.ipx_carrier.specs.Turns.{peers_of};
-ghost use Rattle.ipx_site.specs.SourceFilter.{drops_in};
-ghost use Rattle.ipx_site.specs.SitePorts.{access_by};
-ghost use Rattle.ipx_site.specs.Steady.{NeverGoesBack};
+ghost use Rattle.ipx_sockets.specs.PollEvents.{Watched};
+ghost use Rattle.ipx_sockets.specs.Senders.{udp_fds};
+ghost use Rattle.ipx_sockets.specs.SourceFilter.{drops_in};
+ghost use Rattle.ipx_sockets.specs.AccessLists.{access_by};
+ghost use Rattle.ipx_sockets.specs.Steady.{NeverGoesBack};
 ghost use Rattle.ipx_wire.specs.declared.address.Address.{Address};
 ghost use Rattle.spx_messages.specs.EndpointView.{held_at};
 ghost use Rattle.ipx_host.specs.Books.{EntersAcknowledged};
-ghost use Rattle.ipx_host.specs.Access.{dialed_ip as ip_dialed, guarded_host};
+ghost use Rattle.ipx_host.specs.Access.{guarded_host};
+ghost use Rattle.ipx_config.specs.Destinations.{dialed_ip as ip_dialed};
+ghost use Rattle.ipx_sockets.specs.Polling.{FailedToWait, FailsToWait, WaitsWell, watched_if};
 ghost use Rattle.ipx_host.specs.SendRounds.{EndsWith, IsSendStep, LastsOn, Transfers};
 ghost use Rattle.ipx_host.specs.Sent.{IsDialing};
 ghost use Rattle.ipx_host.specs.Sleeping.{MayWait, longest_wait};
@@ -17,14 +21,13 @@ ghost use Rattle.ipx_host.specs.SendSteps.{IsFeedFault, IsStepFault};
 ghost use Rattle.ipx_host.specs.Transfer.{IsWaiting, IsWholeAt, joined_at, left_at, state_at};
 ghost use Rattle.ipx_host.specs.declared.send_outcome.SendOutcome.TheVariants as Verdicts;
 
-use crate::access::dialed_ip;
 use crate::handing::drop_what_came;
 use crate::ids::{dialed, passed_ids};
 use crate::input::Intake;
 use crate::running_host::RunningHost;
 use crate::send_outcome::{SendOutcome, ended_by, verdict_of};
 use crate::start::StartFault;
-use ipx_site::HostConfig;
+use ipx_config::{HostConfig, dialed_ip};
 use ipx_wire::Address;
 use log::Log;
 use spx_link::State;
@@ -85,6 +88,10 @@ impl<'a, R: Net + Log + Clock + Eprint> SendingHost<'a, R> {
         // Its access list is that of its file and the node that it dials.
         ensures access_list { IfOk result (λ s. map access_by s.station.host_socket.device.access_lists.items
             ≡ guarded_host file.now (ip_dialed file.now to) ∷ []) }
+        // It watches its one socket, and standard input if it can be polled, and has not waited.
+        ensures watches { IfOk result (λ s. (gate : Option ℤ) × (s.station.poller.trace.items
+            ≡ map Watched (udp_fds s.station.host_socket.device.device.sockets.items)
+            ++ watched_if gate)) }
     {
         let mut station = RunningHost::open(rt, alloc, file, dialed_ip(file, to))?;
         let input = Intake::new(rt, alloc)?;
@@ -231,7 +238,7 @@ impl<'a, R: Net + Log + Clock + Eprint> SendingHost<'a, R> {
         // More may be waiting after a filtered datagram, so the host does not wait.
         ensures kept { drops_in self.old.station.host_socket.device.kept
             < drops_in self.new.station.host_socket.device.kept →
-            self.new.station.poller.asked ≡ self.old.station.poller.asked }
+            self.new.station.poller ≡ self.old.station.poller }
         ensures id { self.new.id ≡ self.old.id }
         // The host notes, judges and feeds by the state after the turn.
         // After a turn that did something it does not wait.
@@ -246,7 +253,10 @@ impl<'a, R: Net + Log + Clock + Eprint> SendingHost<'a, R> {
         // The host waits only while no link has anything to do. It waits at most a second if it
         // prints the progress, or if the peer's end was seen.
         ensures waits { MayWait self.new.shows self.new.left self.new.station.core
-            self.old.station.poller.asked self.new.station.poller.asked }
+            self.old.station.poller self.new.station.poller }
+        // It stops because it can't wait exactly if it waits in this step, and that fails.
+        ensures unwaited { (result ≡ Err Verdicts.Unwaited)
+            ↔ FailsToWait self.old.station.poller self.new.station.poller }
         ensures done { result ≡ Err Verdicts.Done
             → IsWholeAt self.new.station.core.endpoint self.new.id }
         // If the transfer is done, all of the input is read, and the end is queued.
@@ -279,6 +289,12 @@ impl<'a, R: Net + Log + Clock + Eprint> SendingHost<'a, R> {
         ensures done { result ≡ Verdicts.Done
             → IsWholeAt self.new.station.core.endpoint self.new.id }
         ensures unanswered { result ≡ Verdicts.Unanswered → self.new.joined ≡ false }
+        // It stops because it can't wait exactly if its last wait failed. No other wait fails, and
+        // it watches nothing more.
+        ensures unwaited { (result ≡ Verdicts.Unwaited)
+            ↔ FailedToWait self.old.station.poller self.new.station.poller }
+        ensures waits { result ≢ Verdicts.Unwaited → (count : ℕ)
+            × WaitsWell count self.old.station.poller self.new.station.poller }
         // Any outcome comes from a step after some rounds, or the rounds never end.
         ensures ends { EndsWith (sending_at self.old (I.remaining reader.old))
             (sending_at self.new (I.remaining reader.new))
@@ -325,6 +341,9 @@ impl<'a, R: Net + Log + Clock + Eprint> SendingHost<'a, R> {
         ensures fed { result ≡ 0 → Transfers (sending_at self.old (I.remaining reader.old))
             (sending_at self.new (I.remaining reader.new))
             NeverGoesBack (peers_of self.old.station.host_socket.peers.items) self.old.id }
+        // If the transfer is done, no wait failed.
+        ensures waits { result ≡ 0 → (count : ℕ)
+            × WaitsWell count self.old.station.poller self.new.station.poller }
         // If the transfer is done, the reader has nothing left.
         ensures all { result ≡ 0 → (self.old.input.read ≡ true → IsAtEnd (I.remaining reader.old))
             → IsAtEnd (I.remaining reader.new) }
@@ -340,5 +359,7 @@ fn tell_nobody<R: Eprint>(rt: &R, to: Address) {
     let network = to.network;
     let node = to.node;
     let socket = to.socket;
-    let _ = eprintln!(rt; "no answer from {network} {node} {socket}");
+    let _ = eprintln!(rt;
+        "no answer from {network} {node} {socket}; try ipx networks, then ipx ping"
+    );
 }

@@ -2,9 +2,9 @@
 
 ghost use Rattle.std.specs.Prelude.{◌≡◌, ◌<◌, ◌≤◌, [], ℕ, List, false, is_some, length, map, position, remove, slice_get, slice_set, vec_capacity, IfOk, IfSome, IsTrue, OnErr, OnOk, Err, Ok};
 ghost use Rattle.ipx_carrier.specs.Counting.{raised};
-ghost use Rattle.ipx_site.specs.Moments.{IsLoggedIfDue};
+ghost use Rattle.ipx_sockets.specs.Moments.{IsLoggedIfDue};
 ghost use Rattle.spx_messages.specs.EndpointView.{held_at};
-ghost use Rattle.ipx_host.specs.Sessions.{AdmitsRequest, Asks, AsksOrCounts, CountsRequest, CountsTurnedAway, OnlyEnded, KeepsHeard, KeepsOne, LetsLinkGo, MakesSpace, NotesHeard, session_of, heard_by, is_evicted_for, is_unanswered, is_own_evicted, is_silent_evicted, keeps_one_prop, place_of_own, raised_if, without};
+ghost use Rattle.ipx_host.specs.Sessions.{AdmitsRequest, Asks, AsksOrCounts, CountsRequest, CountsTurnedAway, CountsUnheard, OnlyEnded, KeepsHeard, KeepsOne, LetsLinkGo, MakesSpace, NotesHeard, session_of, heard_by, is_evicted_for, is_unanswered, is_own_evicted, is_own_unheard_evicted, is_silent_evicted, is_unheard_evicted_for, keeps_one_prop, place_of_own, raised_if, without};
 ghost use Rattle.ipx_host.specs.SessionActions.{is_unheard};
 ghost use Rattle.ipx_host.specs.Hosting.{MovesSome, MovesUntilFull};
 ghost use Rattle.ipx_host.specs.ListenOutcomes.{parted, stop_in};
@@ -28,7 +28,7 @@ use crate::readiness_gate::Gate;
 use crate::running_host::RunningHost;
 use crate::sessions::{Phase, Session, SessionAction};
 use crate::taking::take_each;
-use ipx_site::ThrottledLog;
+use ipx_sockets::ThrottledLog;
 use ipx_wire::Address;
 use log::{Log, warn};
 use spx_messages::Endpoint;
@@ -134,6 +134,7 @@ impl Sessions {
             self.old.held.items self.new.held.items) }
         ensures still { result ≡ Ok false
             → (id : ℕ) → held_at endpoint.new id ≡ held_at endpoint.old id }
+        ensures never_heard { self.new.never_heard ≡ self.old.never_heard }
         ensures evicted { self.new.evicted ≡ self.old.evicted }
         ensures turned_away { self.new.turned_away ≡ self.old.turned_away }
         ensures once { self.new.once ≡ self.old.once }
@@ -158,6 +159,7 @@ impl Sessions {
             self.old.held.items self.new.held.items
             (left_of self.old.output) (left_of self.new.output)
             (W.contents writer.old) (W.contents writer.new) takes) }
+        ensures never_heard { self.new.never_heard ≡ self.old.never_heard }
         ensures evicted { self.new.evicted ≡ self.old.evicted }
         ensures turned_away { self.new.turned_away ≡ self.old.turned_away }
         ensures once { self.new.once ≡ self.old.once }
@@ -177,6 +179,10 @@ impl Sessions {
         ensures counts { CountsTurnedAway self.old.once endpoint.old.network accepted.from
             (without (place_of_own self.old.once endpoint.old.network endpoint.old moment accepted.from
             self.old.held.items) self.old.held.items) self.old.turned_away self.new.turned_away }
+        // A connection that is evicted for it counts as never heard from if it was unanswered.
+        ensures never_heard { self.new.never_heard ≡ raised_if (is_own_unheard_evicted self.old.once
+            endpoint.old.network endpoint.old moment accepted.from self.old.held.items)
+            self.old.never_heard }
         ensures evicted { self.new.evicted ≡ raised_if (is_own_evicted self.old.once
             endpoint.old.network endpoint.old moment accepted.from self.old.held.items)
             self.old.evicted }
@@ -206,6 +212,7 @@ impl Sessions {
     fn hear_session(&mut self, endpoint: &mut Endpoint, id: u16, moment: u64)
         ensures heard { KeepsHeard self.old.once endpoint.old endpoint.new
             (map (heard_by id moment) self.old.held.items) self.new.held.items }
+        ensures never_heard { self.new.never_heard ≡ self.old.never_heard }
         ensures evicted { self.new.evicted ≡ self.old.evicted }
         ensures turned_away { self.new.turned_away ≡ self.old.turned_away }
         ensures output { self.new.output ≡ self.old.output }
@@ -246,6 +253,10 @@ impl Sessions {
         ensures evicted { self.new.evicted ≡ raised_if (is_evicted_for self.old.once core.old.came
             core.old.endpoint.network core.old.endpoint core.old.moment self.old.held.items)
             self.old.evicted }
+        // So is one that was never heard from, and it is counted as such.
+        ensures never_heard { self.new.never_heard ≡ raised_if (is_unheard_evicted_for self.old.once
+            core.old.came core.old.endpoint.network core.old.endpoint core.old.moment
+            self.old.held.items) self.old.never_heard }
         ensures turned_away { CountsRequest self.old.once core.old.came core.old.endpoint.network
             core.old.endpoint core.old.moment self.old.held.items
             self.old.turned_away self.new.turned_away }
@@ -285,6 +296,7 @@ impl Sessions {
         ensures clock { station.new.clock ≡ station.old.clock }
         ensures host_socket { station.new.host_socket ≡ station.old.host_socket }
         ensures poller { station.new.poller ≡ station.old.poller }
+        ensures never_heard { self.new.never_heard ≡ self.old.never_heard }
         ensures evicted { self.new.evicted ≡ self.old.evicted }
         ensures turned_away { self.new.turned_away ≡ self.old.turned_away }
         ensures output { self.new.output ≡ self.old.output }
@@ -433,6 +445,9 @@ impl Sessions {
         ensures clock { station.new.clock ≡ station.old.clock }
         ensures host_socket { station.new.host_socket ≡ station.old.host_socket }
         ensures poller { station.new.poller ≡ station.old.poller }
+        // A connection that goes and was never heard from is counted.
+        ensures counts { CountsUnheard self.old.held.items self.new.held.items
+            self.old.never_heard self.new.never_heard }
         ensures evicted { self.new.evicted ≡ self.old.evicted }
         ensures turned_away { self.new.turned_away ≡ self.old.turned_away }
         ensures output { self.new.output ≡ self.old.output }
@@ -466,6 +481,9 @@ impl Sessions {
         ensures clock { station.new.clock ≡ station.old.clock }
         ensures host_socket { station.new.host_socket ≡ station.old.host_socket }
         ensures poller { station.new.poller ≡ station.old.poller }
+        // The connections that go and were never heard from are counted.
+        ensures counts { CountsUnheard self.old.held.items self.new.held.items
+            self.old.never_heard self.new.never_heard }
         ensures evicted { self.new.evicted ≡ self.old.evicted }
         ensures turned_away { self.new.turned_away ≡ self.old.turned_away }
         ensures output { self.new.output ≡ self.old.output }

@@ -5,7 +5,7 @@ ghost use Rattle.spx_link.specs.declared.state.State.TheVariants as States;
 ghost use Rattle.ipx_host.specs.SessionActions.{IsSessionAction, IsOver, IsToAsk, is_unheard, phase_asked, phase_heard};
 ghost use Rattle.ipx_host.specs.Sessions.{heard_by, has_spoken, is_of_node, is_silent, is_unanswered, is_unheard_of};
 ghost use Rattle.ipx_host.specs.declared.sessions.SessionAction.TheVariants as ActionsOfSessions;
-ghost use Rattle.ipx_site.specs.AllowedPeers.{home_network};
+ghost use Rattle.ipx_config.specs.AllowedPeers.{home_network};
 
 use ipx_wire::{Address, Network};
 use spx_link::State;

@@ -2,7 +2,7 @@
 
 ghost use Rattle.std.specs.Prelude.{◌≡◌};
 
-use ipx_site::{BindError, BindFault, ClockFault, WaitFault};
+use ipx_sockets::{BindError, BindFault, ClockFault, WaitFault};
 use ipx_wire::OutOfMemory;
 use mio::Poll;
 use std::alloc::{AllocError, AllocFailed};

@@ -1,11 +1,10 @@
 //! Warnings about problems of a host that may happen again and again.
 
 ghost use Rattle.std.specs.Prelude.{◌≡◌, replicate};
-ghost use Rattle.ipx_site.specs.IdleTime.{counts_of};
-ghost use Rattle.ipx_site.specs.Moments.{AreLoggedIfDue, untold};
+ghost use Rattle.ipx_sockets.specs.Moments.{counts_of, AreLoggedIfDue, untold};
 ghost use Rattle.ipx_host.specs.HostLines.{counts_of_host};
 
-use ipx_site::{FilterDrops, ThrottledLog, Warning, tell_each};
+use ipx_sockets::{FilterDrops, ThrottledLog, Warning, tell_each};
 use log::Log;
 
 /// How often each problem happened.

@@ -9,7 +9,7 @@ use Rattle.std.specs.declared.net.socket_addr.SocketAddrV4.{SocketAddrV4}
 use Rattle.ipxnet_server.specs.declared.recipients.Recipients.{Recipients}
 use Rattle.ipxnet_server.specs.ServerHears.{ServerView, takers_join, takers_reach}
 use Rattle.ipx_carrier.specs.Counting.{raised}
-use Rattle.ipx_ipxnet_ports.specs.OnServers.{relayed_on, relayed_to}
+use Rattle.ipx_ipxnet_ports.specs.OnServers.{relayed_on}
 use Rattle.ipx_ipxnet_ports.specs.PlaceTraffic.{HandedDatagram, HandsOver, PlaceDatagram, PlaceTraffic, PlacesPass, failures_with, place_datagram, raised_by}
 
 -- ---- what passes, one after another
@@ -99,28 +99,32 @@ hands_after ds came s t u f g first h =
 abbrev pub reached_among : ServerView → Recipients → List Client → List Client
 reached_among l takers cs = filter (λ c. takers_reach l takers c.place) cs
 
-module _ (p : Client → Bool) (cs : List Client) (n : ℕ) (d : Client) (lt : n < length cs) where
+-- the same bytes for each of these
+abbrev sent_to : {X : Type 0} → (X → SocketAddrV4) → ℕ → List ℕ → List X → List PlaceDatagram
+sent_to place port bytes xs = map (λ x. place_datagram port bytes (place x)) xs
+
+module _ {X : Type 0} (place : X → SocketAddrV4) (p : X → Bool) (cs : List X) (n : ℕ) (d : X) (lt : n < length cs) where
   among_more : (b : Bool) → p (get_or cs n d) ≡ b → filter p (take (n + 1) cs) ≡ filter p (take n cs) ++ cond b (get_or cs n d ∷ []) []
   among_more b is =
       ap (filter p) (take_more cs n d lt) ∙ filter-append p (take n cs) (get_or cs n d ∷ [])
       ∙ ap (λ (t : Bool). filter p (take n cs) ++ cond t (get_or cs n d ∷ []) []) is
 
   pub reaches_past : (port : ℕ) (bytes : List ℕ) (s t : Option PlaceTraffic) (f g : ℕ) → p (get_or cs n d) ≡ false
-      → HandsOver (relayed_to port bytes (filter p (take n cs))) [] s t f g → HandsOver (relayed_to port bytes (filter p (take (n + 1) cs))) [] s t f g
+      → HandsOver (sent_to place port bytes (filter p (take n cs))) [] s t f g → HandsOver (sent_to place port bytes (filter p (take (n + 1) cs))) [] s t f g
   reaches_past port bytes s t f g is h =
       let same : filter p (take (n + 1) cs) ≡ filter p (take n cs) = among_more false is ∙ append-nil _ in
-      subst (λ (xs : List Client). HandsOver (relayed_to port bytes xs) [] s t f g) (sym same) h
+      subst (λ (xs : List X). HandsOver (sent_to place port bytes xs) [] s t f g) (sym same) h
 
   pub reaches_one : {T E : Type 0} (sent : Result T E) (port : ℕ) (bytes : List ℕ) (s t u : Option PlaceTraffic) (f g i : ℕ) → p (get_or cs n d) ≡ true
-      → HandsOver (relayed_to port bytes (filter p (take n cs))) [] s t f g
-      → OnOk sent (PlacesPass t u [] (place_datagram port bytes (get_or cs n d).place ∷ [])) → OnErr sent (u ≡ t) → i ≡ failures_with sent g
-      → HandsOver (relayed_to port bytes (filter p (take (n + 1) cs))) [] s u f i
+      → HandsOver (sent_to place port bytes (filter p (take n cs))) [] s t f g
+      → OnOk sent (PlacesPass t u [] (place_datagram port bytes (place (get_or cs n d)) ∷ [])) → OnErr sent (u ≡ t) → i ≡ failures_with sent g
+      → HandsOver (sent_to place port bytes (filter p (take (n + 1) cs))) [] s u f i
   reaches_one sent port bytes s t u f g i is h went none counted =
-      let before : List Client = filter p (take n cs) in
-      let one : PlaceDatagram = place_datagram port bytes (get_or cs n d).place in
-      let same : relayed_to port bytes (filter p (take (n + 1) cs)) ≡ relayed_to port bytes before ++ one ∷ [] =
-      ap (relayed_to port bytes) (among_more true is) ∙ map-append (λ (c : Client). place_datagram port bytes c.place) before (get_or cs n d ∷ []) in
-      subst (λ (ds : List PlaceDatagram). HandsOver ds [] s u f i) (sym same) (hands_both (relayed_to port bytes before) (one ∷ []) s t u f g i h (hands_one sent one t u g i went none counted))
+      let before : List X = filter p (take n cs) in
+      let one : PlaceDatagram = place_datagram port bytes (place (get_or cs n d)) in
+      let same : sent_to place port bytes (filter p (take (n + 1) cs)) ≡ sent_to place port bytes before ++ one ∷ [] =
+      ap (sent_to place port bytes) (among_more true is) ∙ map-append (λ (x : X). place_datagram port bytes (place x)) before (get_or cs n d ∷ []) in
+      subst (λ (ds : List PlaceDatagram). HandsOver ds [] s u f i) (sym same) (hands_both (sent_to place port bytes before) (one ∷ []) s t u f g i h (hands_one sent one t u g i went none counted))
 
 -- ---- joined routers, one after another
 

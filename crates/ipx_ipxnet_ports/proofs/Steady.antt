@@ -3,7 +3,7 @@ use Rattle.std.proofs.Common.{◌≡◌, ℕ, Bool, true, false, List, [], ◌�
 use Rattle.std.specs.Prelude.{◌&&◌, IfOk, is_some, if◌then◌else◌, nat_lt, slice_get, slice_set}
 use Rattle.std.specs.Str.{bytes_eq}
 use Rattle.std.proofs.Math.Seq.{map-set_same}
-use Rattle.std.proofs.lemmas.List.Elements.{All-append, All-cons, All-map, All-nil, All-weaker, filter_passes}
+use Rattle.std.proofs.lemmas.List.Elements.{All-map, All-weaker, filter_passes}
 use Rattle.std.proofs.lemmas.Option.{get_or_from_slice_get}
 use Rattle.ipx_wire.specs.Assigned.{broadcast_node}
 use Rattle.ipx_wire.specs.Ipx.{PacketView}
@@ -12,18 +12,17 @@ use Rattle.ipxnet_server.specs.declared.clients.Client.{Client}
 use Rattle.ipxnet_server.specs.declared.drops.ServerDrop.{ServerDrop}
 use Rattle.ipxnet_server.specs.declared.drops.ServerDrop.TheVariants.{TooLong}
 use Rattle.ipxnet_server.specs.declared.disposition.Disposition.{Disposition}
-use Rattle.ipxnet_server.specs.declared.disposition.Disposition.TheVariants.{Registered, Pinged, ToClient, ToOthers, ToOthersAndCore, ToCore, Heard, ToJoined, FromJoined, Dropped}
 use Rattle.std.specs.declared.net.socket_addr.SocketAddrV4.{SocketAddrV4}
 use Rattle.ipxnet_server.specs.declared.port.ServerPort.{ServerPort}
 use Rattle.ipxnet_server.specs.declared.recipients.Recipients.{Recipients}
-use Rattle.ipxnet_server.specs.declared.recipients.Recipients.TheVariants.{Joined, Nobody}
+use Rattle.ipxnet_server.specs.declared.recipients.Recipients.TheVariants.{Nobody}
 use Rattle.ipxnet_server.specs.ServerClients.{client_at, client_of_node}
-use Rattle.ipxnet_server.specs.ServerHears.{ServerView, all_get, answer_of, client_gets, is_dropped, is_from_server, is_joined_taker, is_taker, is_to_service, server_aged, server_gives, server_giving, max_client_bytes, notice_of, takers_join, takers_of, takers_reach}
+use Rattle.ipxnet_server.specs.ServerHears.{ServerView, all_get, client_gets, is_from_server, is_joined_taker, is_taker, is_to_service, server_aged, server_gives, server_giving, max_client_bytes, takers_join, takers_of, takers_reach}
 use Rattle.ipxnet_server.specs.PeerServers.{is_joined_place}
 use Rattle.ipx_carrier.specs.declared.port_driver.PacketSent.{PacketSent}
 use Rattle.ipx_carrier.specs.PortDrivers.{copies_count, count_in}
 use Rattle.ipx_carrier.specs.Turns.{Given}
-use Rattle.ipx_ipxnet_ports.specs.OnServers.{AreForClients, AreForRouters, HearsAtServer, ServersView, SendsThroughServer, answer_for, by_servers, clients_reached, joined_sends, servers_view, server_ports, server_sends, notice_for, packet_said, packet_sends, relayed_on, relayed_to, routers_reached, takers_given}
+use Rattle.ipx_ipxnet_ports.specs.OnServers.{AreForClients, AreForRouters, HearsAtServer, ServersView, SendsThroughServer, by_servers, clients_reached, joined_sends, servers_view, server_ports, server_sends, packet_said, packet_sends, relayed_on, relayed_to, routers_reached, takers_given}
 use Rattle.ipx_ipxnet_ports.specs.PlaceTraffic.{HandsOver, PlaceDatagram, PlaceTraffic, PlacesPass, place_datagram}
 use Rattle.ipx_ipxnet_ports.proofs.Handing.{hands_after}
 
@@ -59,18 +58,6 @@ said_of_packet sent p is = ap count_in is ∙ said_by (nat_lt max_client_bytes (
 
 -- ---- what is sent is for clients
 
-answered_kept : (heard : Disposition) → is_some (answer_of heard) ≡ true → is_dropped heard ≡ false
-answered_kept (Registered answer) e = refl
-answered_kept (Pinged giver answer) e = refl
-answered_kept (ToClient place) e = refl
-answered_kept (ToOthers giver) e = refl
-answered_kept (ToOthersAndCore giver) e = refl
-answered_kept ToCore e = refl
-answered_kept Heard e = refl
-answered_kept (ToJoined takers) e = refl
-answered_kept (FromJoined told takers) e = refl
-answered_kept (Dropped drop) e = cc
-
 both_true : (a b : Bool) → (a && b) ≡ true → a ≡ true
 both_true true b e = refl
 both_true false b e = cc
@@ -81,51 +68,12 @@ relays_known port bytes l takers =
     All-map (λ (d : PlaceDatagram). is_some (client_at d.place l.clients) ≡ true) (λ (c : Client). place_datagram port bytes c.place) (clients_reached l takers)
     (All-weaker (λ (c : Client). takers_reach l takers c.place ≡ true) known (λ c e. both_true (is_some (client_at c.place l.clients)) (is_taker takers c.place) e) (clients_reached l takers) (filter_passes (λ (c : Client). takers_reach l takers c.place) l.clients))
 
-answer_known : (port : ℕ) (place : SocketAddrV4) (l : ServerView) (answer : Option (List ℕ)) → (is_some answer ≡ true → is_some (client_at place l.clients) ≡ true) → AreForClients l (answer_for port place answer)
-answer_known port place l None h = All-nil (λ (d : PlaceDatagram). is_some (client_at d.place l.clients) ≡ true)
-answer_known port place l (Some answer) h =
-    All-cons (λ (d : PlaceDatagram). is_some (client_at d.place l.clients) ≡ true) (place_datagram port answer place) [] (h refl) (All-nil (λ (d : PlaceDatagram). is_some (client_at d.place l.clients) ≡ true))
-
-answered_separate : (joined : Bool) (heard : Disposition) → (joined ≡ true → answer_of heard ≡ None) → is_some (answer_of heard) ≡ true → joined ≡ false
-answered_separate true given unanswered e = cc (ap is_some (unanswered refl))
-answered_separate false given unanswered e = refl
-
--- a sender that is answered was heard and is no joined router, so it is a client
-pub sends_known : (joined : Bool) (l : ServerView) (heard : Disposition) (d : PlaceDatagram) (answer : Option (List ℕ)) (c : Client) → is_some answer ≡ is_some (answer_of heard) → (is_dropped heard ≡ false → joined ≡ false → client_at d.place l.clients ≡ Some c) → (joined ≡ true → answer_of heard ≡ None)
-    → AreForClients l (server_sends l heard d answer)
-sends_known joined l heard d answer c answered sender unanswered =
-    let one = λ (e : is_some answer ≡ true). sym answered ∙ e in
-    All-append (λ (s : PlaceDatagram). is_some (client_at s.place l.clients) ≡ true) (answer_for d.port d.place answer) (relayed_to d.port d.bytes (clients_reached l (takers_of heard)))
-    (answer_known d.port d.place l answer (λ e. ap (λ (o : Option Client). is_some o) (sender (answered_kept heard (one e)) (answered_separate joined heard unanswered (one e)))))
-    (relays_known d.port d.bytes l (takers_of heard))
-
 -- ---- what is sent on is for joined routers, and did not come from one
 
 pub relays_joined : (port : ℕ) (bytes : List ℕ) (l : ServerView) (takers : Recipients) → AreForRouters l (relayed_on port bytes (routers_reached l takers))
 relays_joined port bytes l takers =
     All-map (λ (d : PlaceDatagram). is_joined_place d.place l.routers ≡ true) (λ (r : SocketAddrV4). place_datagram port bytes r) (routers_reached l takers)
     (All-weaker (λ (r : SocketAddrV4). takers_join l takers r ≡ true) (λ (r : SocketAddrV4). is_joined_place r l.routers ≡ true) (λ r e. both_true (is_joined_place r l.routers) (is_joined_taker takers r) e) (routers_reached l takers) (filter_passes (λ (r : SocketAddrV4). takers_join l takers r) l.routers))
-
-notice_joined : (port : ℕ) (l : ServerView) (announcement : Option (List ℕ)) → AreForRouters l (notice_for port l announcement)
-notice_joined port l None = All-nil (λ (d : PlaceDatagram). is_joined_place d.place l.routers ≡ true)
-notice_joined port l (Some announcement) = relays_joined port announcement l Joined
-
-pub sends_joined : (l : ServerView) (heard : Disposition) (d : PlaceDatagram) (announcement : Option (List ℕ)) → AreForRouters l (joined_sends l heard d announcement)
-sends_joined l heard d announcement =
-    All-append (λ (s : PlaceDatagram). is_joined_place s.place l.routers ≡ true) (notice_for d.port l announcement) (relayed_on d.port d.bytes (routers_reached l (takers_of heard)))
-    (notice_joined d.port l announcement) (relays_joined d.port d.bytes l (takers_of heard))
-
-none_noticed : (heard : Disposition) → answer_of heard ≡ None → is_some (notice_of heard) ≡ false
-none_noticed (Registered answer) e = cc
-none_noticed (Pinged giver answer) e = refl
-none_noticed (ToClient place) e = refl
-none_noticed (ToOthers giver) e = refl
-none_noticed (ToOthersAndCore giver) e = refl
-none_noticed ToCore e = refl
-none_noticed Heard e = refl
-none_noticed (ToJoined takers) e = refl
-none_noticed (FromJoined told takers) e = refl
-none_noticed (Dropped drop) e = refl
 
 second_false : (a b : Bool) → b ≡ false → (a && b) ≡ false
 second_false true b e = e
@@ -182,23 +130,16 @@ pub kept_from_routers : (port : ℕ) (packet : List ℕ) (after : ServerView) (g
 kept_from_routers port packet after given stays =
     ap (relayed_on port packet) (none_joined after (takers_given given) after.routers (none_given given stays))
 
-nothing_noticed : (port : ℕ) (l : ServerView) (announcement : Option (List ℕ)) → is_some announcement ≡ false → notice_for port l announcement ≡ []
-nothing_noticed port l None e = refl
-nothing_noticed port l (Some announcement) e = cc
-
-pub nothing_goes_round : (l : ServerView) (heard : Disposition) (d : PlaceDatagram) (announcement : Option (List ℕ)) → is_some announcement ≡ is_some (notice_of heard) → answer_of heard ≡ None → ((place : SocketAddrV4) → is_joined_taker (takers_of heard) place ≡ false)
-    → joined_sends l heard d announcement ≡ []
-nothing_goes_round l heard d announcement noticed unanswered ring =
-    let first : notice_for d.port l announcement ≡ [] = nothing_noticed d.port l announcement (noticed ∙ none_noticed heard unanswered) in
-    let second : relayed_on d.port d.bytes (routers_reached l (takers_of heard)) ≡ [] = ap (relayed_on d.port d.bytes) (none_joined l (takers_of heard) l.routers ring) in
-    ap (λ (ds : List PlaceDatagram). ds ++ relayed_on d.port d.bytes (routers_reached l (takers_of heard))) first ∙ second
+pub nothing_goes_round : (l : ServerView) (heard : Disposition) (d : PlaceDatagram) → ((place : SocketAddrV4) → is_joined_taker (takers_of heard) place ≡ false) → joined_sends l heard d ≡ []
+nothing_goes_round l heard d ring =
+    ap (relayed_on d.port d.bytes) (none_joined l (takers_of heard) l.routers ring)
 
 -- ---- what is received after what the sockets returned
 
 pub hears_after : (now most : ℕ) (d : PlaceDatagram) (room : List ℕ) (up : Option ℕ) (servers : List ServerView) (kept : ℕ) (s t : Option PlaceTraffic) (f f' : ℕ) (new : ServersView) → f' ≡ f → PlacesPass s t (d ∷ []) []
     → HearsAtServer now most d [] room up (servers_view servers kept t f') new → HearsAtServer now most d (d ∷ []) room up (servers_view servers kept s f) new
 hears_after now most d room up servers kept s t f f' new as_often first r =
-    let sends : List PlaceDatagram = server_sends r.after r.heard d r.onward.answer ++ joined_sends r.after r.heard d r.onward.announcement in
+    let sends : List PlaceDatagram = server_sends r.after r.heard d r.onward.answer ++ joined_sends r.after r.heard d in
     let behind : HandsOver sends (d ∷ []) s new.traffic f' new.failed =
     hands_after sends (d ∷ []) s t new.traffic f' new.failed first r.onward.gone in
     record {
@@ -211,14 +152,12 @@ hears_after now most d room up servers kept s t f f' new as_often first r =
         answer = r.onward.answer;
         answered = r.onward.answered;
         is_it = r.onward.is_it;
-        announcement = r.onward.announcement;
-        noticed = r.onward.noticed;
-        is_notice = r.onward.is_notice;
         gone = subst (λ (k : ℕ). HandsOver sends (d ∷ []) s new.traffic k new.failed) as_often behind;
         once = r.onward.once;
         back = r.onward.back;
       };
       known = r.known;
+      answers = r.answers;
       joined = r.joined;
       ring = r.ring;
       no_longer = r.no_longer;

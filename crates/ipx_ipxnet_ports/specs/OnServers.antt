@@ -14,11 +14,12 @@ use Rattle.ipxnet_server.specs.declared.disposition.Disposition.TheVariants.{Dro
 use Rattle.std.specs.declared.net.socket_addr.SocketAddrV4.{SocketAddrV4}
 use Rattle.ipxnet_server.specs.declared.port.ServerPort.{ServerPort}
 use Rattle.ipxnet_server.specs.declared.recipients.Recipients.{Recipients}
-use Rattle.ipxnet_server.specs.declared.recipients.Recipients.TheVariants.{Nobody, Joined}
+use Rattle.ipxnet_server.specs.declared.recipients.Recipients.TheVariants.{Nobody}
 use Rattle.ipxnet_server.specs.ServerClients.{EachClientOnce, client_at}
-use Rattle.ipxnet_server.specs.ServerHears.{IsAnswer, IsNotice, ServerView, answer_of, goes_to_core, is_from_server, is_taker, is_to_service, router_ping, server_aged, server_dropping, server_gives, server_giving, server_hearing, server_hears, server_met, server_pinging, max_client_bytes, notice_of, takers_join, takers_of, takers_reach}
+use Rattle.ipxnet_server.specs.ServerHears.{IsAnswer, ServerView, answer_of, goes_to_core, is_from_server, is_of_client, is_ping_due, is_taker, is_to_service, router_ping, server_aged, server_dropping, server_gives, server_giving, server_hearing, server_hears, server_met, server_pinging, max_client_bytes, takers_join, takers_of, takers_reach}
 use Rattle.ipxnet_server.specs.PeerServers.{is_joined_place}
-use Rattle.ipxnet_server.specs.Pings.{is_one_pinged, is_pinged}
+use Rattle.ipxnet_server.specs.Pings.{is_asked, is_pinged}
+use Rattle.ipxnet_server.specs.declared.noted.Noted.{Noted}
 use Rattle.ipxnet_server.specs.declared.pings.PingTurn.{PingTurn}
 use Rattle.ipx_carrier.specs.declared.port_driver.PacketSent.{PacketSent}
 use Rattle.ipx_carrier.specs.declared.port_driver.PacketSent.TheVariants.{Unmapped, Transmitted}
@@ -62,15 +63,9 @@ abbrev pub server_sends : ServerView → Disposition → PlaceDatagram → Optio
 server_sends l heard d answer = answer_for d.port d.place answer
     ++ relayed_to d.port d.bytes (clients_reached l (takers_of heard))
 
--- what tells each joined router that a client registered, if one did
-abbrev pub notice_for : ℕ → ServerView → Option (List ℕ) → List PlaceDatagram
-notice_for port l None = []
-notice_for port l (Some announcement) = relayed_on port announcement (routers_reached l Joined)
-
--- what is sent to joined routers: that announcement, and the bytes, as they arrived, to each that gets them
-abbrev pub joined_sends : ServerView → Disposition → PlaceDatagram → Option (List ℕ) → List PlaceDatagram
-joined_sends l heard d announcement = notice_for d.port l announcement
-    ++ relayed_on d.port d.bytes (routers_reached l (takers_of heard))
+-- what is sent to joined routers: the bytes, as they arrived, to each that gets them
+abbrev pub joined_sends : ServerView → Disposition → PlaceDatagram → List PlaceDatagram
+joined_sends l heard d = relayed_on d.port d.bytes (routers_reached l (takers_of heard))
 
 -- each of these is for the address of a joined router
 abbrev pub AreForRouters : ServerView → List PlaceDatagram → Type 0
@@ -100,10 +95,7 @@ pub record GivesOn (l : ServerView) (heard : Disposition) (d : PlaceDatagram) (c
   pub answer : Option (List ℕ)
   pub answered : is_some answer ≡ is_some (answer_of heard)
   pub is_it : IfSome answer (λ bytes. IsAnswer heard bytes)
-  pub announcement : Option (List ℕ)
-  pub noticed : is_some announcement ≡ is_some (notice_of heard)
-  pub is_notice : IfSome announcement (λ bytes. IsNotice heard bytes)
-  pub gone : HandsOver (server_sends l heard d answer ++ joined_sends l heard d announcement) came
+  pub gone : HandsOver (server_sends l heard d answer ++ joined_sends l heard d) came
       old new failed failed_after
   pub once : EachClientOnce l.clients
   pub back : is_taker (takers_of heard) d.place ≡ false
@@ -132,8 +124,8 @@ servers_view servers kept traffic failed =
 
 -- bytes came from an address to the port of a server, and only these. They are answered and sent to clients
 -- and joined routers, as the server says, and the core gets them if they are for it. Nothing is sent to an
--- address where no client is known then and no router is joined. What came from a joined router is sent to no
--- joined router. An answer is no longer than what it answers
+-- address where no client is known then and no router is joined, except the answer to a registration. What came
+-- from a joined router is sent to no joined router. An answer is no longer than what it answers
 pub record HearsAtServer (now most : ℕ) (d : PlaceDatagram) (came : List PlaceDatagram) (room : List ℕ) (up : Option ℕ) (old new : ServersView) : Type 0 where
   pub server : ServerView
   pub after : ServerView
@@ -141,10 +133,10 @@ pub record HearsAtServer (now most : ℕ) (d : PlaceDatagram) (came : List Place
   pub at_port : slice_get old.servers d.port ≡ Some server
   pub hears : HearsBytes server d.place d.bytes now heard after
   pub onward : GivesOn after heard d came old.traffic new.traffic old.failed new.failed
-  pub known : AreForClients after (server_sends after heard d onward.answer)
-  pub joined : AreForRouters after (joined_sends after heard d onward.announcement)
-  pub ring : is_joined_place d.place server.routers ≡ true
-      → joined_sends after heard d onward.announcement ≡ []
+  pub known : AreForClients after (relayed_to d.port d.bytes (clients_reached after (takers_of heard)))
+  pub answers : is_of_client heard ≡ true → is_some (client_at d.place after.clients) ≡ true
+  pub joined : AreForRouters after (joined_sends after heard d)
+  pub ring : is_joined_place d.place server.routers ≡ true → joined_sends after heard d ≡ []
   pub no_longer : (answer : List ℕ) → IsAnswer heard answer → length answer ≤ length d.bytes
   pub core : TakesBytes (goes_to_core heard) d.bytes most room up
   pub servers : new.servers ≡ slice_set old.servers d.port after
@@ -208,8 +200,21 @@ pub record SendsThroughServer (now port : ℕ) (node : Node) (packet : List ℕ)
 abbrev pub clients_pinged : PingTurn → ServerView → List Client
 clients_pinged turn l = filter (is_pinged turn) l.clients
 
--- the server of a port pings its silent clients: the ping of its router is handed to the sockets for each of
--- them, and for nobody else
+-- the addresses that registered and that a turn pings, in the order in which they did, and the same bytes for
+-- each of these
+abbrev pub noted_asked : PingTurn → ServerView → List Noted
+noted_asked turn l = filter (is_asked turn) l.noted
+
+abbrev pub sent_to_noted : ℕ → List ℕ → List Noted → List PlaceDatagram
+sent_to_noted port bytes noted = map (λ n. place_datagram port bytes n.place) noted
+
+-- what a turn of pings sends
+abbrev pub pings_sent : ℕ → List ℕ → PingTurn → ServerView → List PlaceDatagram
+pings_sent port ping turn l = relayed_to port ping (clients_pinged turn l)
+    ++ sent_to_noted port ping (noted_asked turn l)
+
+-- the server of a port pings its silent clients, and who registered and has shown nothing: the ping of its router
+-- is handed to the sockets for each of them, and for nobody else
 pub record PingsAtServer (now port : ℕ) (old new : ServersView) : Type 0 where
   pub server : ServerView
   pub after : ServerView
@@ -217,8 +222,7 @@ pub record PingsAtServer (now port : ℕ) (old new : ServersView) : Type 0 where
   pub at_port : slice_get old.servers port ≡ Some server
   pub becomes : after ≡ server_pinging now server
   pub is_ping : IsIpx (packet_of (router_ping server.port) []) ping []
-  pub gone : HandsOver (relayed_to port ping
-      (clients_pinged (record { before = server.pinged; now = now }) after)) []
+  pub gone : HandsOver (pings_sent port ping (record { before = server.pinged; now = now }) after) []
       old.traffic new.traffic old.failed new.failed
   pub once : EachClientOnce after.clients
   pub servers : new.servers ≡ slice_set old.servers port after
@@ -230,6 +234,6 @@ PingsAtServers now zero old new = new ≡ old
 PingsAtServers now (suc n) old new =
     (mid : ServersView) × PingsAtServers now n old mid × PingsAtServer now n mid new
 
--- a turn at this time pings a client of one of these servers
+-- a turn at this time pings somebody at one of these servers
 abbrev pub is_any_pinged : List ServerView → ℕ → Bool
-is_any_pinged servers now = list_any (λ l. is_one_pinged l.pinged l.clients now) servers
+is_any_pinged servers now = list_any (λ l. is_ping_due l now) servers

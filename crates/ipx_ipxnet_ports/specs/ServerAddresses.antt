@@ -35,6 +35,11 @@ abbrev pub place_heard : ServerSocket → SocketAddr → Option SocketAddrV4
 place_heard s (V4 a) = if is_ip_heard (ips_heard s) (ipv4_octets (v4_ip a)) then Some a else None
 place_heard s (V6 a) = None
 
+-- the IP address of a sender, if it is of IPv4
+abbrev pub ipv4_of_place : SocketAddr → Option (List ℕ)
+ipv4_of_place (V4 a) = Some (ipv4_octets (v4_ip a))
+ipv4_of_place (V6 a) = None
+
 -- where each socket is bound
 abbrev pub bound_places : List ServerSocket → List SocketAddrV4
 bound_places sockets = map (λ s. s.socket.at) sockets
@@ -66,10 +71,16 @@ AsksForDatagram port got room answer old new faults faults_after = IfSome (slice
     × (new ≡ slice_set old port (record s { socket = after }))
     × (answer ≡ datagram_handed s got))
 
+-- the IP address of the last datagram that was not handed over
+abbrev pub last_refused : Got → Bool → Option (List ℕ) → Option (List ℕ)
+last_refused (Ok (Some came)) is_handed last = if is_handed then last else ipv4_of_place came.1
+last_refused (Ok None) is_handed last = last
+last_refused (Err _) is_handed last = last
+
 -- ---- definitions for the private functions
 
--- what a socket got, and the source address, if it accepts that
-abbrev pub with_place : ServerSocket → Got → Result (Option (ℕ × Option SocketAddrV4)) DeviceFault
-with_place s (Ok (Some came)) = Ok (Some (came.0, place_heard s came.1))
+-- what a socket got, its sender, and the same as an IPv4 address if it accepts that
+abbrev pub with_place : ServerSocket → Got → Result (Option (ℕ × SocketAddr × Option SocketAddrV4)) DeviceFault
+with_place s (Ok (Some came)) = Ok (Some (came.0, came.1, place_heard s came.1))
 with_place s (Ok None) = Ok None
 with_place s (Err fault) = Err fault

@@ -4,7 +4,7 @@ ghost use Rattle.std.specs.Prelude.{◌≡◌, ◌<◌, [], false};
 ghost use Rattle.ipx_carrier.specs.Readiness.{MarksStay};
 ghost use Rattle.ipxnet_server.specs.ServerClients.{EachClientOnce};
 ghost use Rattle.ipxnet_server.specs.ServerHears.{is_taker, takers_of};
-ghost use Rattle.ipx_ipxnet_ports.specs.OnServers.{GivesOn, answer_for, clients_pinged, clients_reached, notice_for, relayed_on, relayed_to, routers_reached};
+ghost use Rattle.ipx_ipxnet_ports.specs.OnServers.{GivesOn, answer_for, clients_pinged, clients_reached, noted_asked, relayed_on, relayed_to, routers_reached, sent_to_noted};
 ghost use Rattle.ipx_ipxnet_ports.specs.PlaceTraffic.{HandsOver, place_datagram};
 
 use crate::place_sockets::PlaceSockets;
@@ -64,6 +64,31 @@ pub fn send_pings<D: PlaceSockets>(
     }
 }
 
+/// Sends a ping by a port to each address that registered and that a turn pings, in order. If that
+/// fails for one, the others still get theirs.
+pub fn send_asks<D: PlaceSockets>(
+    sockets: &mut D,
+    port: usize,
+    server: &IpxnetServer,
+    turn: PingTurn,
+    ping: &[u8],
+)
+    requires { port < D.port_count sockets.old }
+    ensures gone { HandsOver (sent_to_noted port ping.now (noted_asked turn server.now)) []
+        (D.traffic sockets.old) (D.traffic sockets.new)
+        (D.failed sockets.old) (D.failed sockets.new) }
+    ensures ports { D.port_count sockets.new ≡ D.port_count sockets.old }
+    ensures filtered { D.filtered sockets.new ≡ D.filtered sockets.old }
+    ensures marks { MarksStay (D.marked sockets.old) (D.marked sockets.new) }
+{
+    let noted = server.noted();
+    for one in noted {
+        if turn.asks(one) {
+            let _ = sockets.send(port, one.place, ping);
+        }
+    }
+}
+
 /// Sends bytes by a port to each joined router that the takers have, in order. If that fails for
 /// one, the others still get them.
 pub fn send_to_routers<D: PlaceSockets>(
@@ -89,26 +114,6 @@ pub fn send_to_routers<D: PlaceSockets>(
     }
 }
 
-/// Tells each joined router that a client registered, if one did.
-fn send_notice<D: PlaceSockets>(
-    sockets: &mut D,
-    port: usize,
-    server: &IpxnetServer,
-    announcement: Option<[u8; IPX_HEADER_SIZE]>,
-)
-    requires { port < D.port_count sockets.old }
-    ensures gone { HandsOver (notice_for port server.now announcement) []
-        (D.traffic sockets.old) (D.traffic sockets.new)
-        (D.failed sockets.old) (D.failed sockets.new) }
-    ensures ports { D.port_count sockets.new ≡ D.port_count sockets.old }
-    ensures filtered { D.filtered sockets.new ≡ D.filtered sockets.old }
-    ensures marks { MarksStay (D.marked sockets.old) (D.marked sockets.new) }
-{
-    if let Some(announcement) = announcement {
-        send_to_routers(sockets, port, server, Recipients::Joined, &announcement);
-    }
-}
-
 /// Sends an answer by a port to an address, if there is one.
 fn send_answer<D: PlaceSockets>(
     sockets: &mut D,
@@ -131,7 +136,7 @@ fn send_answer<D: PlaceSockets>(
 
 /// Sends by a port what its server makes of bytes that came from an address. The answer is first,
 /// because a client takes its first datagram for the answer. Then the bytes, as they arrived, go to
-/// the clients that get them. After these comes what is for joined routers.
+/// the clients that get them, and then to the joined routers that do.
 ///
 /// None of the takers may be at that address.
 pub fn give_on<D: PlaceSockets>(
@@ -154,6 +159,5 @@ pub fn give_on<D: PlaceSockets>(
     send_answer(sockets, port, from, heard.answer());
     let takers = heard.takers();
     send_to_clients(sockets, port, server, takers, bytes);
-    send_notice(sockets, port, server, heard.announcement());
     send_to_routers(sockets, port, server, takers, bytes);
 }

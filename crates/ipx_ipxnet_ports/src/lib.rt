@@ -17,4 +17,4 @@ pub use allow::Allow;
 pub use memory::{MemoryDatagram, MemoryPlaces};
 pub use place_sockets::{DatagramCame, PlaceSockets};
 pub use server_ports::Servers;
-pub use sockets::{ServerSocket, ServerSockets};
+pub use sockets::{ServerSocket, ServerSockets, ip_of_sender};

@@ -5,15 +5,15 @@ ghost use Rattle.ipx_carrier.specs.PortDrivers.{copies_count, count_in};
 ghost use Rattle.ipx_carrier.specs.Readiness.{AsksPortWithMark, MarksStay};
 ghost use Rattle.ipx_ipxnet_ports.specs.OnServers.{HearsAtServer, PingsAtServer, PingsAtServers, ReceivesAtServer, SendsThroughServer, by_servers, is_any_pinged, servers_view, server_ports, packet_said};
 ghost use Rattle.ipx_ipxnet_ports.specs.PlaceTraffic.{PlaceDatagram, place_datagram};
-ghost use Rattle.ipxnet_server.specs.Pings.{IsNextPing, earlier};
+ghost use Rattle.ipxnet_server.specs.Pings.{IsNextPing};
 
 use crate::front::put_front;
-use crate::giving_on::{give_on, send_pings, send_to_clients, send_to_routers};
+use crate::giving_on::{give_on, send_asks, send_pings, send_to_clients, send_to_routers};
 use crate::place_sockets::PlaceSockets;
 use crate::sockets::ServerSockets;
 use ipx_carrier::{DeviceFault, PacketSent, PortDriver, PortDriverFilters, saturating_increment};
 use ipx_wire::Node;
-use ipxnet_server::{IpxnetServer, MAX_CLIENT_BYTES, Recipients};
+use ipxnet_server::{IpxnetServer, MAX_CLIENT_BYTES, Recipients, sooner};
 use std::net::SocketAddrV4;
 
 /// The size of the buffer that a datagram is received into: more than any that is sent on to
@@ -43,17 +43,6 @@ fn said_of(size: usize) -> PacketSent
         PacketSent::Unmapped
     } else {
         PacketSent::Transmitted(1)
-    }
-}
-
-/// The earlier of two times, if there is any.
-fn sooner(a: Option<u64>, b: Option<u64>) -> Option<u64>
-    ensures { result ≡ earlier a b }
-{
-    match (a, b) {
-        (Some(a), Some(b)) => Some(if a <= b { a } else { b }),
-        (Some(a), None) => Some(a),
-        (None, b) => b,
     }
 }
 
@@ -94,7 +83,8 @@ impl<D: PlaceSockets + Drop> Servers<D> {
         &self.servers
     }
 
-    /// Sends a ping to each silent client of a port that is due for one.
+    /// Sends a ping to each silent client of a port that is due for one, and to each address that
+    /// registered there and is.
     fn ping_port(&mut self, port: usize)
         requires server { port < length self.old.servers.items }
         requires there { port < D.port_count self.old.sockets }
@@ -112,12 +102,15 @@ impl<D: PlaceSockets + Drop> Servers<D> {
     {
         let server = &mut self.servers[port];
         let turn = server.begin_pings(self.moment);
-        send_pings(&mut self.sockets, port, server, turn, &server.ping());
+        let ping = server.ping();
+        send_pings(&mut self.sockets, port, server, turn, &ping);
+        send_asks(&mut self.sockets, port, server, turn, &ping);
     }
 
     /// Sends the pings that are due at the time that is set: at each port to each client that was
-    /// silent for 25 seconds, or for 25 more. A failure to send one counts as for other datagrams.
-    /// Call it after `set_time`.
+    /// silent for 25 seconds, or for 25 more, and to each address that registered 5.5 s or 8.5 s ago
+    /// and has shown nothing. A failure to send one counts as for other datagrams. Call it after
+    /// `set_time`.
     pub fn send_pings(&mut self)
         ensures pings { PingsAtServers self.old.moment
             (min (length self.old.servers.items) (D.port_count self.old.sockets))

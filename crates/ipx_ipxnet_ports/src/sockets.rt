@@ -8,7 +8,7 @@ ghost use Rattle.ipx_carrier.specs.Counting.{raised};
 ghost use Rattle.ipx_carrier.specs.Readiness.{AsksPortWithMark};
 ghost use Rattle.ipx_carrier.specs.ReadySet.{IsFilteredOrAnswer, is_come, is_port_marked, marks_after};
 ghost use Rattle.ipx_carrier.specs.Traces.{Got, TriesToReceive};
-ghost use Rattle.ipx_ipxnet_ports.specs.ServerAddresses.{AsksForDatagram, RefusesToPlace, SendsToPlace, bound_places, ips_heard, is_ip_heard, listed_ips, place_heard, server_fds, with_place};
+ghost use Rattle.ipx_ipxnet_ports.specs.ServerAddresses.{AsksForDatagram, RefusesToPlace, SendsToPlace, bound_places, ips_heard, ipv4_of_place, is_ip_heard, last_refused, listed_ips, place_heard, server_fds, with_place};
 ghost use Rattle.ipx_ipxnet_ports.specs.PlaceTraffic.{failures_with};
 
 use crate::allow::Allow;
@@ -45,6 +45,17 @@ pub struct ServerSockets {
     failures: u64,
     faults: u64,
     nowhere: u64,
+    last_unknown: Option<[u8; 4]>,
+}
+
+/// The IP address of a sender, if it is of IPv4.
+pub fn ip_of_sender(from: SocketAddr) -> Option<[u8; 4]>
+    ensures { result ≡ ipv4_of_place from }
+{
+    match from {
+        SocketAddr::V4(place) => Some(place.ip().octets()),
+        SocketAddr::V6(_) => None,
+    }
 }
 
 impl ServerSocket {
@@ -58,26 +69,26 @@ impl ServerSocket {
         }
     }
 
-    /// Receives a datagram, and says its size and its source address, if that is accepted. `None`
-    /// means that nothing waits. If the system fails it is asked again, eight times at most, and
-    /// each failure is counted. An error means that it failed each time.
+    /// Receives a datagram, and says its size, its sender, and the same as an IPv4 address if it is
+    /// accepted. `None` means that nothing waits. If the system fails it is asked again, eight times
+    /// at most, and each failure is counted. An error means that it failed each time.
     fn receive(
         &mut self,
         room: &mut [u8],
         faults: &mut u64,
-    ) -> Result<Option<(usize, Option<SocketAddrV4>)>, DeviceFault>
+    ) -> Result<Option<(usize, SocketAddr, Option<SocketAddrV4>)>, DeviceFault>
         ensures asks { (got : Got) × (after : PlacedSocket)
             × TriesToReceive got room.new self.old.socket after faults.old faults.new
             × (self.new ≡ record self.old { socket = after })
             × (result ≡ with_place self.old got) }
         ensures within { IfOk result (λ came. IfSome came (λ c. c.0 ≤ length room.old)) }
-        ensures heard { IfOk result (λ came. IfSome came (λ c. IfSome c.1 (λ from.
+        ensures heard { IfOk result (λ came. IfSome came (λ c. IfSome c.2 (λ from.
             is_ip_heard (ips_heard self.old) (ipv4_octets (v4_ip from)) ≡ true))) }
         ensures room { length room.new ≡ length room.old }
         ensures faults { faults.old ≤ faults.new }
     {
         match self.socket.receive_in_tries(room, faults) {
-            Ok(Some((size, from))) => Ok(Some((size, self.sender(from)))),
+            Ok(Some((size, from))) => Ok(Some((size, from, self.sender(from)))),
             Ok(None) => Ok(None),
             Err(fault) => Err(fault),
         }
@@ -89,7 +100,7 @@ impl ServerSockets {
     pub fn new(alloc: Global) -> ServerSockets
         ensures none { (result.sockets.items ≡ []) × (result.marks ≡ []) }
         ensures fresh { (result.sent ≡ 0) × (result.failures ≡ 0) × (result.faults ≡ 0)
-            × (result.nowhere ≡ 0) }
+            × (result.nowhere ≡ 0) × (result.last_unknown ≡ None) }
     {
         ServerSockets {
             sockets: Vec::new(alloc),
@@ -98,6 +109,7 @@ impl ServerSockets {
             failures: 0,
             faults: 0,
             nowhere: 0,
+            last_unknown: None,
         }
     }
 
@@ -137,6 +149,14 @@ impl ServerSockets {
         ensures { result ≡ self.now.faults }
     {
         self.faults
+    }
+
+    /// The IP address of the last datagram that was not handed over. None if there is none, or if it
+    /// came over IPv6.
+    pub fn last_unknown(&self) -> Option<[u8; 4]>
+        ensures { result ≡ self.now.last_unknown }
+    {
+        self.last_unknown
     }
 
     /// The descriptor of the socket of a port, to wait for. The first port is 0.
@@ -202,7 +222,7 @@ impl PlaceSockets for ServerSockets {
         ensures refused { OnErr result (self.new.sent ≡ self.old.sent) }
         ensures failures { self.new.failures ≡ failures_with result self.old.failures }
         ensures rest { (self.new.faults ≡ self.old.faults) × (self.new.nowhere ≡ self.old.nowhere)
-            × (self.new.marks ≡ self.old.marks) }
+            × (self.new.last_unknown ≡ self.old.last_unknown) × (self.new.marks ≡ self.old.marks) }
     {
         if self.sockets[port].socket.send_to(place, bytes).is_err() {
             saturating_increment(&mut self.failures);
@@ -219,11 +239,13 @@ impl PlaceSockets for ServerSockets {
             → (result ≡ Ok None) × (self.new ≡ self.old) × (room.new ≡ room.old) }
         // The socket of a marked port is asked until something comes or nothing waits, at most
         // eight times. Each failure is counted. The mark is cleared exactly if nothing waits. What
-        // came from an accepted address is returned, and what came from another is counted.
+        // came from an accepted address is returned. What came from another is counted, and its
+        // IP address is the last unknown one.
         ensures marked { is_port_marked self.old.marks port ≡ true → IfOk result (λ answer.
             (got : Got) × AsksForDatagram port got room.new answer self.old.sockets.items
             self.new.sockets.items self.old.faults self.new.faults
             × (self.new.marks ≡ marks_after port got self.old.marks)
+            × (self.new.last_unknown ≡ last_refused got (is_some answer) self.old.last_unknown)
             × IsFilteredOrAnswer (is_come got) (is_some answer) self.old.nowhere self.new.nowhere) }
         ensures marks { IfOk result (λ answer. AsksPortWithMark port (is_some answer)
             (is_port_marked self.old.marks) (is_port_marked self.new.marks)) }
@@ -243,9 +265,10 @@ impl PlaceSockets for ServerSockets {
             return Ok(None);
         }
         match self.sockets[port].receive(room, &mut self.faults) {
-            Ok(Some((size, Some(from)))) => Ok(Some(DatagramCame { from, size })),
-            Ok(Some((_, None))) => {
+            Ok(Some((size, _, Some(from)))) => Ok(Some(DatagramCame { from, size })),
+            Ok(Some((_, from, None))) => {
                 saturating_increment(&mut self.nowhere);
+                self.last_unknown = ip_of_sender(from);
                 Ok(None)
             }
             Ok(None) => {

@@ -12,13 +12,13 @@ use std::test::Fail;
 
 /// A ping of the first player, and the router's answer.
 const PING: [u8; 30] = [
-    0xff, 0xff, 0, 0x1e, 0, 0, 0, 0, 0, 0, 0xff, 0xff, 0xff, 0xff, 0xff, 0xff, 0, 2, 0, 0, 0, 0,
-    0x7f, 0, 0, 1, 0xbc, 0x47, 0, 2,
+    0xff, 0xff, 0, 0x1e, 0, 0, 0, 0, 0, 0, 0xff, 0xff, 0xff, 0xff, 0xff, 0xff, 0, 2, 0, 0, 0, 0, 2,
+    0x7c, 0x63, 0xc8, 0xd4, 0xdf, 0, 2,
 ];
 
 const PONG: [u8; 30] = [
-    0xff, 0xff, 0, 0x1e, 0, 0, 0, 0, 0, 0, 0x7f, 0, 0, 1, 0xbc, 0x47, 0, 2, 0, 0, 0, 0, 2, 0, 0, 0,
-    0xd0, 0x5b, 0, 2,
+    0xff, 0xff, 0, 0x1e, 0, 0, 0, 0, 0, 0, 2, 0x7c, 0x63, 0xc8, 0xd4, 0xdf, 0, 2, 0, 0, 0, 0, 2, 0,
+    0, 0, 0xd0, 0x5b, 0, 2,
 ];
 
 /// A registration is answered, byte by byte, and the core gets nothing of it.
@@ -34,9 +34,10 @@ fn a_registration(rt: HostRuntime) -> Result<(), Fail> {
     assert!(rt; went_after(servers.sockets(), 0, &[first_place()], &ANSWER));
     assert_eq!(rt; room, [0xaa; 1536]);
     assert_eq!(rt; servers.filtered(), 1);
-    let known = servers.servers()[0].clients();
-    assert_eq!(rt; known.len(), 1);
-    assert_eq!(rt; (known[0].place, known[0].since), (first_place(), 7));
+    let noted = servers.servers()[0].noted();
+    assert_eq!(rt; noted.len(), 1);
+    assert_eq!(rt; (noted[0].place, noted[0].since), (first_place(), 7));
+    assert!(rt; servers.servers()[0].clients().is_empty());
     // Now nothing waits.
     assert!(rt; matches!(servers.receive(0, &mut room), Ok(None)));
     assert_eq!(rt; servers.filtered(), 1);
@@ -59,7 +60,7 @@ fn to_all(rt: HostRuntime) -> Result<(), Fail> {
         )
     );
     assert_eq!(rt; room, [0xaa; 1536]);
-    assert_eq!(rt; servers.filtered(), 4);
+    assert_eq!(rt; servers.filtered(), 7);
     Ok(())
 }
 
@@ -91,7 +92,7 @@ fn a_ping(rt: HostRuntime) -> Result<(), Fail> {
             &PING
         )
     );
-    assert_eq!(rt; servers.filtered(), 4);
+    assert_eq!(rt; servers.filtered(), 7);
     Ok(())
 }
 
@@ -106,7 +107,7 @@ fn to_the_core(rt: HostRuntime) -> Result<(), Fail> {
     assert_eq!(rt; &room[..34], bytes.as_slice());
     assert_eq!(rt; room[34], 0xaa);
     assert_eq!(rt; servers.sockets().went().len(), 3);
-    assert_eq!(rt; servers.filtered(), 3);
+    assert_eq!(rt; servers.filtered(), 6);
     let mut servers = after_registrations(rt.alloc(), &bytes)?;
     let mut small = [0xaa; 12];
     assert!(rt; matches!(servers.receive(0, &mut small), Ok(Some(12))));
@@ -132,7 +133,7 @@ fn to_all_and_the_core(rt: HostRuntime) -> Result<(), Fail> {
             &bytes
         )
     );
-    assert_eq!(rt; servers.filtered(), 3);
+    assert_eq!(rt; servers.filtered(), 6);
     Ok(())
 }
 

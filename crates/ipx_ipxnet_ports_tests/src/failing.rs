@@ -1,12 +1,13 @@
 //! A player that can't be reached: the others get theirs, and so does the core.
 
 use crate::fixture::{
-    CAME, REGISTRATION, SECOND_NODE, first_place, packet, registrations, second_place, servers,
-    third_place, unknown_place, went_after,
+    CAME, ENTERED, PORT, SECOND_NODE, first_place, packet, put_player, registrations, second_place,
+    servers, third_place, unknown_place, went_after,
 };
 use ipx_carrier::{PacketSent, PortDriver};
 use ipx_ipxnet_ports::PlaceSockets;
 use ipx_wire::Node;
+use ipxnet_server::node_of;
 use std::test::Fail;
 
 /// Sending to one of the others fails. The third player gets the request for a route, and so does
@@ -22,10 +23,10 @@ fn a_player_that_fails(rt: HostRuntime) -> Result<(), Fail> {
     sockets.break_place(second_place());
     let mut servers = servers(alloc, sockets)?;
     let mut room = [0; 1536];
-    for _player in 0..3_u32 {
+    for _datagram in 0..ENTERED {
         assert!(rt; matches!(servers.receive(0, &mut room), Ok(None)));
     }
-    // The second one was not answered, and is a client all the same.
+    // The second one was not answered, and is a client by what it sent all the same.
     assert_eq!(rt; servers.sockets().failures(), 1);
     assert_eq!(rt; servers.servers()[0].clients().len(), 3);
     assert!(rt; matches!(servers.receive(0, &mut room), Ok(Some(34))));
@@ -50,12 +51,16 @@ fn a_player_in_the_middle_that_fails(rt: HostRuntime) -> Result<(), Fail> {
     let alloc = rt.alloc();
     let bytes = packet(Node::BROADCAST);
     let mut sockets = registrations(alloc)?;
-    sockets.put(0, unknown_place(), &REGISTRATION)?;
+    put_player(
+        &mut sockets,
+        unknown_place(),
+        node_of(PORT, unknown_place()),
+    )?;
     sockets.put(0, first_place(), &bytes)?;
     sockets.break_place(third_place());
     let mut servers = servers(alloc, sockets)?;
     let mut room = [0; 1536];
-    for _player in 0..4_u32 {
+    for _datagram in 0..ENTERED + 2 {
         assert!(rt; matches!(servers.receive(0, &mut room), Ok(None)));
     }
     // Three were answered.

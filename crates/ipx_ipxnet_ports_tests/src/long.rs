@@ -48,7 +48,7 @@ fn goes_to(
     Ok(
         up.is_none()
             && room == [0xaa; 1536]
-            && servers.filtered() == 4
+            && servers.filtered() == 7
             && (too_long == 1) == places.is_empty()
             && went_after(servers.sockets(), 3, places, &bytes[..size]),
     )
@@ -121,7 +121,7 @@ fn long_ones_to_the_core(rt: HostRuntime) -> Result<(), Fail> {
         assert_eq!(rt; &room[..got], &bytes[..got]);
         assert!(rt; room[got..].iter().all(|byte| *byte == 0xaa));
         assert_eq!(rt; servers.sockets().went().len(), 3);
-        assert_eq!(rt; servers.filtered(), 3);
+        assert_eq!(rt; servers.filtered(), 6);
     }
     Ok(())
 }
@@ -136,7 +136,7 @@ fn long_ones_of_no_packet(rt: HostRuntime) -> Result<(), Fail> {
         assert_eq!(rt; servers.receive(0, &mut room)?, None);
         assert_eq!(rt; servers.servers()[0].counts().malformed, 1);
         assert_eq!(rt; servers.sockets().went().len(), 3);
-        assert_eq!(rt; servers.filtered(), 4);
+        assert_eq!(rt; servers.filtered(), 7);
     }
     Ok(())
 }

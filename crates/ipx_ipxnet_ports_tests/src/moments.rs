@@ -1,13 +1,11 @@
-//! Players, by the times that are set: which are forgotten, which come back, which are pinged, and
-//! how many are new.
+//! Players, by the times that are set: which are forgotten, which come back, and which are pinged.
 
 use crate::fixture::{
-    ANSWER, CAME, REGISTRATION, SECOND_ANSWER, first_place, registrations, second_place, servers,
-    third_place, went_after,
+    ANSWER, CAME, ENTERED, REGISTRATION, SECOND_ANSWER, SECOND_NODE, first_place, registrations,
+    second_place, servers, shows, third_place, went_after,
 };
 use ipx_carrier::{PortDriver, PortDriverFilters};
 use ipx_ipxnet_ports::{MemoryPlaces, PlaceSockets, Servers};
-use std::net::{Ipv4Addr, SocketAddrV4};
 use std::test::Fail;
 
 /// Receives this many datagrams, of which the core gets nothing.
@@ -21,8 +19,7 @@ fn hear(servers: &mut Servers<MemoryPlaces>, count: u32) -> Result<bool, Fail> {
     Ok(room == [0xaa; 1536])
 }
 
-/// A player that was silent for five minutes is unknown to others, until it registers again, or
-/// sends a packet.
+/// A player that was silent for five minutes is unknown to others, until it sends a packet.
 #[test]
 fn forgotten_and_back(rt: HostRuntime) -> Result<(), Fail> {
     let alloc = rt.alloc();
@@ -31,10 +28,11 @@ fn forgotten_and_back(rt: HostRuntime) -> Result<(), Fail> {
     sockets.put(0, first_place(), &CAME)?;
     sockets.put(0, second_place(), &CAME)?;
     sockets.put(0, second_place(), &REGISTRATION)?;
+    sockets.put(0, second_place(), &shows(SECOND_NODE))?;
     sockets.put(0, first_place(), &CAME)?;
     let mut servers = servers(alloc, sockets)?;
     servers.set_time(5);
-    assert!(rt; hear(&mut servers, 3)?);
+    assert!(rt; hear(&mut servers, ENTERED)?);
     servers.set_time(300_004);
     assert!(rt; hear(&mut servers, 1)?);
     assert!(rt; went_after(servers.sockets(), 3, &[second_place()], &CAME));
@@ -46,16 +44,16 @@ fn forgotten_and_back(rt: HostRuntime) -> Result<(), Fail> {
     // The first player was just heard, and is the only one.
     assert_eq!(rt; servers.servers()[0].clients().len(), 1);
     assert_eq!(rt; servers.servers()[0].clients()[0].place, first_place());
-    assert!(rt; hear(&mut servers, 1)?);
+    assert!(rt; hear(&mut servers, 2)?);
     assert!(rt; went_after(servers.sockets(), 4, &[second_place()], &SECOND_ANSWER));
     assert!(rt; hear(&mut servers, 1)?);
     assert!(rt; went_after(servers.sockets(), 5, &[second_place()], &CAME));
-    assert_eq!(rt; servers.filtered(), 8);
+    assert_eq!(rt; servers.filtered(), 12);
     Ok(())
 }
 
-/// A player that registers again from its address is answered as before, and is known once, since
-/// its first registration.
+/// Who registers again from its address is answered as before, and is noted once, since the first
+/// time: no registration in its name puts off its pings.
 #[test]
 fn registered_again(rt: HostRuntime) -> Result<(), Fail> {
     let alloc = rt.alloc();
@@ -75,9 +73,11 @@ fn registered_again(rt: HostRuntime) -> Result<(), Fail> {
             &ANSWER
         )
     );
-    let known = servers.servers()[0].clients();
-    assert_eq!(rt; known.len(), 1);
-    assert_eq!(rt; (known[0].since, known[0].heard), (7, 9000));
+    let noted = servers.servers()[0].noted();
+    assert_eq!(rt; (noted.len(), noted[0].since), (1, 7));
+    assert!(rt; servers.servers()[0].clients().is_empty());
+    servers.send_pings();
+    assert!(rt; went_after(servers.sockets(), 2, &[first_place()], &PING));
     Ok(())
 }
 
@@ -89,7 +89,7 @@ fn a_moment_set_back(rt: HostRuntime) -> Result<(), Fail> {
     sockets.put(0, first_place(), &CAME)?;
     let mut servers = servers(alloc, sockets)?;
     servers.set_time(300_005);
-    assert!(rt; hear(&mut servers, 3)?);
+    assert!(rt; hear(&mut servers, ENTERED)?);
     servers.set_time(0);
     assert!(rt; hear(&mut servers, 1)?);
     assert!(rt; went_after(servers.sockets(), 3, &[second_place()], &CAME));
@@ -103,31 +103,38 @@ fn a_moment_set_back(rt: HostRuntime) -> Result<(), Fail> {
     Ok(())
 }
 
-/// While the time does not move ten can register, and the eleventh can a second later.
+/// Forged registrations: each of the addresses gets its answer, and two pings of as many bytes. They
+/// make no client.
 #[test]
-fn eleven_at_a_moment(rt: HostRuntime) -> Result<(), Fail> {
+fn who_never_shows_its_node(rt: HostRuntime) -> Result<(), Fail> {
     let alloc = rt.alloc();
     let mut sockets = MemoryPlaces::new(alloc, 1);
-    let ip = Ipv4Addr::new(192, 0, 2, 1);
-    for udp_port in [1, 2, 3, 4, 5, 6, 7, 8, 9, 10, 11, 11, 11] {
-        sockets.put(0, SocketAddrV4::new(ip, udp_port), &REGISTRATION)?;
+    for place in [first_place(), second_place()] {
+        sockets.put(0, place, &REGISTRATION)?;
     }
     let mut servers = servers(alloc, sockets)?;
-    assert!(rt; hear(&mut servers, 11)?);
-    assert_eq!(rt; servers.sockets().went().len(), 10);
-    assert_eq!(rt; servers.servers()[0].counts().too_many_new, 1);
-    servers.set_time(999);
-    assert!(rt; hear(&mut servers, 1)?);
-    assert_eq!(rt; servers.sockets().went().len(), 10);
-    assert_eq!(rt; servers.servers()[0].counts().too_many_new, 2);
-    servers.set_time(1000);
-    assert!(rt; hear(&mut servers, 1)?);
-    assert_eq!(rt; servers.sockets().went().len(), 11);
-    assert_eq!(rt;
-        servers.sockets().went()[10].place,
-        SocketAddrV4::new(ip, 11)
-    );
-    assert_eq!(rt; servers.filtered(), 13);
+    assert!(rt; hear(&mut servers, 2)?);
+    assert_eq!(rt; servers.next_pings(), Some(5500));
+    let mut went = 2;
+    for (now, pings) in [
+        (5499, 0),
+        (5500, 2),
+        (8499, 0),
+        (8500, 2),
+        (20_000, 0),
+        (60_000, 0),
+    ] {
+        servers.set_time(now);
+        servers.send_pings();
+        let to = [first_place(), second_place()];
+        assert!(rt; went_after(servers.sockets(), went, &to[..pings], &PING));
+        went += pings;
+    }
+    assert_eq!(rt; servers.next_pings(), None);
+    assert!(rt; servers.servers()[0].clients().is_empty());
+    for sent in servers.sockets().went() {
+        assert_eq!(rt; sent.bytes.len(), 30);
+    }
     Ok(())
 }
 
@@ -139,8 +146,8 @@ const PING: [u8; 30] = [
 
 /// The first player's answer to it.
 const PONG: [u8; 30] = [
-    0xff, 0xff, 0, 0x1e, 0, 0, 0, 0, 0, 0, 2, 0, 0, 0, 0xd0, 0x5b, 0, 2, 0, 0, 0, 0, 0x7f, 0, 0, 1,
-    0xbc, 0x47, 0, 2,
+    0xff, 0xff, 0, 0x1e, 0, 0, 0, 0, 0, 0, 2, 0, 0, 0, 0xd0, 0x5b, 0, 2, 0, 0, 0, 0, 2, 0x7c, 0x63,
+    0xc8, 0xd4, 0xdf, 0, 2,
 ];
 
 /// Silent players are pinged after 25 seconds, and again after 25 more. One that answers is not, and
@@ -154,7 +161,7 @@ fn pinged_and_forgotten(rt: HostRuntime) -> Result<(), Fail> {
     servers.set_time(5);
     servers.send_pings();
     assert_eq!(rt; servers.next_pings(), None);
-    assert!(rt; hear(&mut servers, 3)?);
+    assert!(rt; hear(&mut servers, ENTERED)?);
     assert_eq!(rt; servers.next_pings(), Some(25_005));
     servers.set_time(25_004);
     servers.send_pings();
@@ -175,7 +182,7 @@ fn pinged_and_forgotten(rt: HostRuntime) -> Result<(), Fail> {
     servers.send_pings();
     assert_eq!(rt; servers.servers()[0].clients().len(), 1);
     assert_eq!(rt; servers.servers()[0].clients()[0].place, first_place());
-    assert_eq!(rt; servers.filtered(), 4);
+    assert_eq!(rt; servers.filtered(), 7);
     Ok(())
 }
 
@@ -186,7 +193,7 @@ fn a_ping_that_fails(rt: HostRuntime) -> Result<(), Fail> {
     let mut sockets = registrations(alloc)?;
     sockets.break_place(second_place());
     let mut servers = servers(alloc, sockets)?;
-    assert!(rt; hear(&mut servers, 3)?);
+    assert!(rt; hear(&mut servers, ENTERED)?);
     let before = servers.sockets().failures();
     let went = servers.sockets().went().len();
     servers.set_time(25_000);

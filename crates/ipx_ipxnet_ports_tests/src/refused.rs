@@ -1,8 +1,8 @@
 //! Memory is refused as a datagram is put, received or sent.
 
 use crate::fixture::{
-    ANSWER, CAME, REGISTRATION, SECOND_ANSWER, THIRD_ANSWER, first_place, packet, second_place,
-    server, third_place, went_after,
+    ANSWER, CAME, ENTERED, FIRST_NODE, REGISTRATION, SECOND_ANSWER, SECOND_NODE, THIRD_ANSWER,
+    THIRD_NODE, first_place, packet, second_place, server, shows, third_place, went_after,
 };
 use ipx_carrier::{PacketSent, PortDriver, PortDriverFilters};
 use ipx_ipxnet_ports::{MemoryDatagram, MemoryPlaces, PlaceSockets, Servers};
@@ -54,7 +54,7 @@ fn refused_datagrams(rt: HostRuntime) -> Result<(), Fail> {
     let mut room = [0xaa; 1536];
     assert!(rt; matches!(servers.receive(0, &mut room), Ok(None)));
     assert_eq!(rt; room, [0xaa; 1536]);
-    let known = servers.servers()[0].clients().len();
+    let known = servers.servers()[0].noted().len();
     let failures = servers.sockets().failures();
     if known == 0 {
         assert_eq!(rt; failures, 1);
@@ -72,25 +72,31 @@ fn refused_datagrams(rt: HostRuntime) -> Result<(), Fail> {
     assert_eq!(rt; servers.failures(), 0);
     // Nothing waits, even if it was lost.
     assert!(rt; matches!(servers.receive(0, &mut room), Ok(None)));
-    assert_eq!(rt; servers.servers()[0].clients().len(), known);
+    assert_eq!(rt; servers.servers()[0].noted().len(), known);
     Ok(())
 }
 
-/// Three players register, and the first one sends to all. At most one datagram is lost, received
-/// or sent, and all others are sent in order. Then a packet of the core is sent to all except at
-/// most one.
+/// Three players register and show their nodes, and the first one sends to all. At most one datagram
+/// is lost, received or sent, and all others are sent in order. Then a packet of the core is sent to
+/// all except at most one.
 #[test]
 fn refused_relays(rt: HostRuntime) -> Result<(), Fail> {
     let alloc = rt.alloc();
     let bytes = packet(Node::BROADCAST);
     let mut sockets = MemoryPlaces::new(alloc, 1);
-    for place in [first_place(), second_place(), third_place()] {
+    let players = [
+        (first_place(), FIRST_NODE),
+        (second_place(), SECOND_NODE),
+        (third_place(), THIRD_NODE),
+    ];
+    for (place, node) in players {
         put(&mut sockets, place, &REGISTRATION)?;
+        put(&mut sockets, place, &shows(node))?;
     }
     put(&mut sockets, first_place(), &bytes)?;
     let mut servers = over(alloc, sockets)?;
     let mut room = [0xaa; 1536];
-    for _datagram in 0..4_u32 {
+    for _datagram in 0..ENTERED + 1 {
         assert!(rt; matches!(servers.receive(0, &mut room), Ok(None)));
     }
     assert_eq!(rt; room, [0xaa; 1536]);
@@ -105,16 +111,16 @@ fn refused_relays(rt: HostRuntime) -> Result<(), Fail> {
     let known = servers.servers()[0].clients().len();
     let failures = servers.sockets().failures();
     assert!(rt; are_of(servers.sockets().went(), &all));
-    if servers.filtered() == 4 {
+    if servers.filtered() == 7 {
         // All of them came, and one may not have been sent.
         assert_eq!(rt; (went as u64 + failures, known), (5, 3));
         assert!(rt; failures <= 1);
     } else {
-        // One did not come. Without its registration the first one is a client by its packet, which
-        // is sent to both others.
-        assert_eq!(rt; (servers.filtered(), failures), (3, 1));
-        let by_packet = servers.sockets().went()[0].place != first_place();
-        assert_eq!(rt; went, if by_packet { 4 } else { 3 });
+        // One did not come: a registration, which is then not answered, what makes its sender a
+        // client, or what is for the others. Without its answer the first one is a client by its
+        // packet to all.
+        assert_eq!(rt; (servers.filtered(), failures), (6, 1));
+        assert!(rt; (3..=5).contains(&went) && known >= 2);
     }
     let sent = servers.send(0, Node::BROADCAST, &CAME);
     assert!(rt; matches!(sent, Ok(PacketSent::Transmitted(1))));

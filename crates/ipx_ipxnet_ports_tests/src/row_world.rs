@@ -7,6 +7,7 @@
 //! are at that of 0000d05e, to which j and k are joined. h is a host of 00000081, and r the second
 //! router there: what it sends has one of its two hops.
 
+use crate::fixture::SECRET;
 use ipx_carrier::{Core, PortDriver, RouterCore};
 use ipx_ipxnet_ports::{MemoryPlaces, Servers};
 use ipx_router::{Port, Router};
@@ -23,11 +24,13 @@ const OWN: Node = Node([2, 0, 0, 0, 0, 0xd0]);
 const PORT: ServerPort = ServerPort {
     network: Network(0xd05b),
     own: OWN,
+    secret: SECRET,
 };
 
 const JOINED: ServerPort = ServerPort {
     network: Network(0xd05e),
     own: OWN,
+    secret: SECRET,
 };
 
 /// The port of the core after both, and who is there.

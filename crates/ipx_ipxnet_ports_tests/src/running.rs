@@ -1,7 +1,10 @@
 //! A router with two ipxnet servers: what a player asks it, and what is sent from one server to the
 //! other.
 
-use crate::fixture::{ANSWER, PORT, REGISTRATION, first_place, second_place, server};
+use crate::fixture::{
+    ANSWER, FIRST_NODE, PORT, REGISTRATION, SECOND_NODE, SECRET, first_place, put_player,
+    second_place, server,
+};
 use ipx_carrier::{
     Core, PortDriver, PortDriverFilters, PriorityRouterCore, SteppedClock, run_batch,
     run_once_over_ports,
@@ -18,40 +21,48 @@ use std::test::Fail;
 const OTHER: ServerPort = ServerPort {
     network: Network(0x99),
     own: Node([2, 0, 0, 0, 0, 0x99]),
+    secret: SECRET,
 };
 
 /// A request of the first player for the route to network 99, and its answer: 1 hop and 1 tick.
 const ASKS: [u8; 40] = [
     0xff, 0xff, 0, 0x28, 0, 1, 0, 0, 0, 0, 0xff, 0xff, 0xff, 0xff, 0xff, 0xff, 4, 0x53, 0, 0, 0xd0,
-    0x5b, 0x7f, 0, 0, 1, 0xbc, 0x47, 4, 0x53, 0, 1, 0, 0, 0, 0x99, 0xff, 0xff, 0xff, 0xff,
+    0x5b, 2, 0x7c, 0x63, 0xc8, 0xd4, 0xdf, 4, 0x53, 0, 1, 0, 0, 0, 0x99, 0xff, 0xff, 0xff, 0xff,
 ];
 
 const TOLD: [u8; 40] = [
-    0xff, 0xff, 0, 0x28, 0, 1, 0, 0, 0xd0, 0x5b, 0x7f, 0, 0, 1, 0xbc, 0x47, 4, 0x53, 0, 0, 0xd0,
-    0x5b, 2, 0, 0, 0, 0xd0, 0x5b, 4, 0x53, 0, 2, 0, 0, 0, 0x99, 0, 1, 0, 1,
+    0xff, 0xff, 0, 0x28, 0, 1, 0, 0, 0xd0, 0x5b, 2, 0x7c, 0x63, 0xc8, 0xd4, 0xdf, 4, 0x53, 0, 0,
+    0xd0, 0x5b, 2, 0, 0, 0, 0xd0, 0x5b, 4, 0x53, 0, 2, 0, 0, 0, 0x99, 0, 1, 0, 1,
 ];
 
 /// A packet of the first player to the second, on network 99; and the same one hop later.
 const ACROSS: [u8; 34] = [
-    0xff, 0xff, 0, 0x22, 0, 4, 0, 0, 0, 0x99, 0x7f, 0, 0, 1, 0xbc, 0x48, 0x40, 1, 0, 0, 0, 0, 0x7f,
-    0, 0, 1, 0xbc, 0x47, 0x40, 1, 1, 2, 3, 4,
+    0xff, 0xff, 0, 0x22, 0, 4, 0, 0, 0, 0x99, 2, 0xc0, 0xbb, 0x2b, 0x54, 0xde, 0x40, 1, 0, 0, 0, 0,
+    2, 0x7c, 0x63, 0xc8, 0xd4, 0xdf, 0x40, 1, 1, 2, 3, 4,
 ];
 
 const ARRIVES: [u8; 34] = [
-    0xff, 0xff, 0, 0x22, 1, 4, 0, 0, 0, 0x99, 0x7f, 0, 0, 1, 0xbc, 0x48, 0x40, 1, 0, 0, 0xd0, 0x5b,
-    0x7f, 0, 0, 1, 0xbc, 0x47, 0x40, 1, 1, 2, 3, 4,
+    0xff, 0xff, 0, 0x22, 1, 4, 0, 0, 0, 0x99, 2, 0xc0, 0xbb, 0x2b, 0x54, 0xde, 0x40, 1, 0, 0, 0xd0,
+    0x5b, 2, 0x7c, 0x63, 0xc8, 0xd4, 0xdf, 0x40, 1, 1, 2, 3, 4,
 ];
 
 /// The answer to the second player, at the other port.
 const OTHER_ANSWER: [u8; 30] = [
-    0xff, 0xff, 0, 0x1e, 0, 0, 0, 0, 0, 0x99, 0x7f, 0, 0, 1, 0xbc, 0x48, 0, 2, 0, 0, 0, 0x99, 2, 0,
-    0, 0, 0, 0x99, 0, 2,
+    0xff, 0xff, 0, 0x1e, 0, 0, 0, 0, 0, 0x99, 2, 0xc0, 0xbb, 0x2b, 0x54, 0xde, 0, 2, 0, 0, 0, 0x99,
+    2, 0, 0, 0, 0, 0x99, 0, 2,
+];
+
+/// What the second player answers to a ping of the router there. By that it is a client.
+const OTHER_SHOWS: [u8; 30] = [
+    0xff, 0xff, 0, 0x1e, 0, 0, 0, 0, 0, 0, 2, 0, 0, 0, 0, 0x99, 0, 2, 0, 0, 0, 0, 2, 0xc0, 0xbb,
+    0x2b, 0x54, 0xde, 0, 2,
 ];
 
 /// A request of the first player for all routes.
 const ASKS_ALL: [u8; 40] = [
     0xff, 0xff, 0, 0x28, 0, 1, 0, 0, 0, 0, 0xff, 0xff, 0xff, 0xff, 0xff, 0xff, 4, 0x53, 0, 0, 0xd0,
-    0x5b, 0x7f, 0, 0, 1, 0xbc, 0x47, 4, 0x53, 0, 1, 0xff, 0xff, 0xff, 0xff, 0xff, 0xff, 0xff, 0xff,
+    0x5b, 2, 0x7c, 0x63, 0xc8, 0xd4, 0xdf, 4, 0x53, 0, 1, 0xff, 0xff, 0xff, 0xff, 0xff, 0xff, 0xff,
+    0xff,
 ];
 
 /// The header of a neighbour's RIP response on network 99, before 50 routes of 8 bytes each.
@@ -79,6 +90,7 @@ fn both_servers(alloc: Global) -> Result<Servers<MemoryPlaces>, Fail> {
     let mut sockets = MemoryPlaces::new(alloc, 2);
     sockets.put(0, first_place(), &REGISTRATION)?;
     sockets.put(1, second_place(), &REGISTRATION)?;
+    sockets.put(1, second_place(), &OTHER_SHOWS)?;
     sockets.put(0, first_place(), &ASKS)?;
     sockets.put(0, first_place(), &ACROSS)?;
     let mut servers = Vec::new(alloc);
@@ -155,7 +167,7 @@ fn a_router_of_two_servers(rt: HostRuntime) -> Result<(), Fail> {
     assert_eq!(rt; (third.heard, third.sent, third.unmapped), (1, 1, 0));
     assert_eq!(rt; servers.sockets().went().len(), 4);
     assert!(rt; is_for(servers.sockets().went().last(), 1, second_place(), &ARRIVES));
-    assert_eq!(rt; servers.filtered(), 2);
+    assert_eq!(rt; servers.filtered(), 3);
     Ok(())
 }
 
@@ -181,8 +193,8 @@ fn a_full_table_is_told_to_nobody(rt: HostRuntime) -> Result<(), Fail> {
     let alloc = rt.alloc();
     let mut core = core(alloc)?;
     let mut sockets = MemoryPlaces::new(alloc, 2);
-    sockets.put(0, first_place(), &REGISTRATION)?;
-    sockets.put(0, second_place(), &REGISTRATION)?;
+    put_player(&mut sockets, first_place(), FIRST_NODE)?;
+    put_player(&mut sockets, second_place(), SECOND_NODE)?;
     let mut servers_of_both = server(alloc)?;
     servers_of_both.push(IpxnetServer::new(alloc, OTHER, 64)?)?;
     let mut servers = Servers::new(sockets, servers_of_both);

@@ -1,8 +1,8 @@
 //! Packets of the core, and the players that they are sent to.
 
 use crate::fixture::{
-    CAME, SECOND_NODE, first_place, packet, registrations, second_place, servers, third_place,
-    unknown_place, went_after,
+    CAME, ENTERED, PORT, SECOND_NODE, first_place, packet, registrations, second_place, servers,
+    third_place, unknown_place, went_after,
 };
 use ipx_carrier::{PacketSent, PortDriver, PortDriverFilters};
 use ipx_ipxnet_ports::{MemoryPlaces, Servers};
@@ -16,7 +16,7 @@ fn three_players(alloc: Global) -> Result<Servers<MemoryPlaces>, Fail> {
     let mut servers = servers(alloc, registrations(alloc)?)?;
     servers.set_time(5);
     let mut room = [0; 1536];
-    for _player in 0..3_u32 {
+    for _datagram in 0..ENTERED {
         servers.receive(0, &mut room)?;
     }
     Ok(servers)
@@ -47,7 +47,7 @@ fn packets_to_players(rt: HostRuntime) -> Result<(), Fail> {
     assert!(rt; matches!(sent, Ok(PacketSent::Transmitted(1))));
     assert_eq!(rt; servers.sockets().went().len(), 8);
     assert_eq!(rt; servers.servers()[0].counts().no_such_node, 1);
-    assert_eq!(rt; servers.filtered(), 3);
+    assert_eq!(rt; servers.filtered(), 6);
     Ok(())
 }
 
@@ -89,7 +89,7 @@ fn what_a_router_tells(rt: HostRuntime) -> Result<(), Fail> {
 #[test]
 fn packets_to_nobody(rt: HostRuntime) -> Result<(), Fail> {
     let mut servers = three_players(rt.alloc())?;
-    let sent = servers.send(0, node_of(unknown_place()), &CAME);
+    let sent = servers.send(0, node_of(PORT, unknown_place()), &CAME);
     assert!(rt; matches!(sent, Ok(PacketSent::Transmitted(1))));
     assert_eq!(rt; servers.sockets().went().len(), 3);
     assert_eq!(rt; servers.servers()[0].counts().no_such_node, 1);

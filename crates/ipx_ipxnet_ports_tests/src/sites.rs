@@ -1,7 +1,8 @@
 //! A server that is joined to those of two other sites, over sockets.
 
 use crate::fixture::{
-    ANSWER, CAME, PORT, REGISTRATION, SECOND_NODE, first_place, packet, unknown_place, went_after,
+    ANSWER, CAME, FIRST_NODE, PORT, REGISTRATION, SECOND_NODE, first_place, packet, put_player,
+    unknown_place, went_after,
 };
 use ipx_carrier::{PacketSent, PortDriver, PortDriverFilters};
 use ipx_ipxnet_ports::{MemoryPlaces, Servers};
@@ -19,12 +20,6 @@ fn south_place() -> SocketAddrV4 {
 fn west_place() -> SocketAddrV4 {
     SocketAddrV4::new(Ipv4Addr::new(203, 0, 113, 5), 2131)
 }
-
-/// What tells them that the first player registered.
-const NOTICE: [u8; 30] = [
-    0xff, 0xff, 0, 0x1e, 0, 0, 0, 0, 0xd0, 0x5b, 0x7f, 0, 0, 1, 0xbc, 0x47, 0, 2, 0, 0, 0xd0, 0x5b,
-    0x7f, 0, 0, 1, 0xbc, 0x47, 0, 2,
-];
 
 /// A packet between two nodes.
 fn between(to: Node, from: Node) -> [u8; 34] {
@@ -47,7 +42,7 @@ fn joined(alloc: Global, sockets: MemoryPlaces) -> Result<Servers<MemoryPlaces>,
 #[test]
 fn datagrams_of_sites(rt: HostRuntime) -> Result<(), Fail> {
     let all = packet(Node::BROADCAST);
-    let back = between(node_of(first_place()), SECOND_NODE);
+    let back = between(FIRST_NODE, SECOND_NODE);
     let told = between(Node::BROADCAST, SECOND_NODE);
     let mut sockets = MemoryPlaces::new(rt.alloc(), 1);
     sockets.put(0, first_place(), &REGISTRATION)?;
@@ -60,30 +55,21 @@ fn datagrams_of_sites(rt: HostRuntime) -> Result<(), Fail> {
     let mut servers = joined(rt.alloc(), sockets)?;
     let mut room = [0; 1536];
     servers.receive(0, &mut room)?;
-    let sent = servers.sockets().went();
-    assert_eq!(rt; sent[0].place, first_place());
-    assert_eq!(rt; sent[0].bytes.as_slice(), ANSWER.as_slice());
-    assert!(rt;
-        went_after(
-            servers.sockets(),
-            1,
-            &[south_place(), west_place()],
-            &NOTICE
-        )
-    );
+    assert!(rt; went_after(servers.sockets(), 0, &[first_place()], &ANSWER));
+    let sites = [south_place(), west_place()];
     servers.receive(0, &mut room)?;
-    assert!(rt; went_after(servers.sockets(), 3, &[south_place(), west_place()], &all));
+    assert!(rt; went_after(servers.sockets(), 1, &sites, &all));
     servers.receive(0, &mut room)?;
-    assert!(rt; went_after(servers.sockets(), 5, &[south_place(), west_place()], &CAME));
+    assert!(rt; went_after(servers.sockets(), 3, &sites, &CAME));
     servers.receive(0, &mut room)?;
-    assert!(rt; went_after(servers.sockets(), 7, &[first_place()], &back));
+    assert!(rt; went_after(servers.sockets(), 5, &[first_place()], &back));
     servers.receive(0, &mut room)?;
-    assert!(rt; went_after(servers.sockets(), 8, &[south_place()], &CAME));
+    assert!(rt; went_after(servers.sockets(), 6, &[south_place()], &CAME));
     servers.receive(0, &mut room)?;
-    assert!(rt; went_after(servers.sockets(), 9, &[first_place()], &told));
+    assert!(rt; went_after(servers.sockets(), 7, &[first_place()], &told));
     // What the player here sent to all comes back to nobody.
     servers.receive(0, &mut room)?;
-    assert_eq!(rt; servers.sockets().went().len(), 10);
+    assert_eq!(rt; servers.sockets().went().len(), 8);
     assert_eq!(rt; servers.servers()[0].counts().not_behind, 1);
     assert_eq!(rt; servers.servers()[0].clients().len(), 1);
     assert_eq!(rt; servers.filtered(), 7);
@@ -95,34 +81,31 @@ fn datagrams_of_sites(rt: HostRuntime) -> Result<(), Fail> {
 #[test]
 fn packets_of_the_core_by_sites(rt: HostRuntime) -> Result<(), Fail> {
     let mut sockets = MemoryPlaces::new(rt.alloc(), 1);
-    sockets.put(0, first_place(), &REGISTRATION)?;
-    sockets.put(
-        0,
-        west_place(),
-        &between(node_of(first_place()), SECOND_NODE),
-    )?;
+    put_player(&mut sockets, first_place(), FIRST_NODE)?;
+    sockets.put(0, west_place(), &between(FIRST_NODE, SECOND_NODE))?;
     let mut servers = joined(rt.alloc(), sockets)?;
     let mut room = [0; 1536];
-    servers.receive(0, &mut room)?;
-    servers.receive(0, &mut room)?;
+    for _datagram in 0..3_u32 {
+        servers.receive(0, &mut room)?;
+    }
     let mut forwarded = CAME;
     forwarded[18..22].copy_from_slice(&[0, 0, 0, 0x99]);
     let sent = servers.send(0, SECOND_NODE, &forwarded);
     assert!(rt; matches!(sent, Ok(PacketSent::Transmitted(1))));
-    assert!(rt; went_after(servers.sockets(), 4, &[west_place()], &forwarded));
-    servers.send(0, node_of(unknown_place()), &forwarded)?;
+    assert!(rt; went_after(servers.sockets(), 2, &[west_place()], &forwarded));
+    servers.send(0, node_of(PORT, unknown_place()), &forwarded)?;
     assert!(rt;
         went_after(
             servers.sockets(),
-            5,
+            3,
             &[south_place(), west_place()],
             &forwarded
         )
     );
     servers.send(0, Node::BROADCAST, &CAME)?;
-    assert!(rt; went_after(servers.sockets(), 7, &[first_place()], &CAME));
+    assert!(rt; went_after(servers.sockets(), 5, &[first_place()], &CAME));
     servers.send(0, SECOND_NODE, &CAME)?;
-    assert_eq!(rt; servers.sockets().went().len(), 8);
+    assert_eq!(rt; servers.sockets().went().len(), 6);
     assert_eq!(rt; servers.servers()[0].counts().no_such_node, 1);
     Ok(())
 }
@@ -131,11 +114,12 @@ fn packets_of_the_core_by_sites(rt: HostRuntime) -> Result<(), Fail> {
 #[test]
 fn a_site_that_fails(rt: HostRuntime) -> Result<(), Fail> {
     let mut sockets = MemoryPlaces::new(rt.alloc(), 1);
-    sockets.put(0, first_place(), &REGISTRATION)?;
+    let all = packet(Node::BROADCAST);
+    sockets.put(0, first_place(), &all)?;
     sockets.break_place(south_place());
     let mut servers = joined(rt.alloc(), sockets)?;
     let mut room = [0; 1536];
     servers.receive(0, &mut room)?;
-    assert!(rt; went_after(servers.sockets(), 1, &[west_place()], &NOTICE));
+    assert!(rt; went_after(servers.sockets(), 0, &[west_place()], &all));
     Ok(())
 }

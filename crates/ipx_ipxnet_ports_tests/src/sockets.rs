@@ -1,6 +1,6 @@
 //! Sockets of this machine: a port, two players, and an unregistered sender.
 
-use crate::fixture::{PORT, REGISTRATION, servers};
+use crate::fixture::{PORT, REGISTRATION, servers, shows};
 use ipx_carrier::{DeviceFault, PacketSent, PortDriver, PortDriverFilters};
 use ipx_ipxnet_ports::{Allow, DatagramCame, PlaceSockets, ServerSockets, Servers};
 use ipx_wire::Node;
@@ -32,16 +32,16 @@ fn place(udp_port: u16) -> SocketAddrV4 {
     SocketAddrV4::new(*port_place().ip(), udp_port)
 }
 
-/// The answer to the first player, whose node is 7f00002c51c3.
+/// The answer to the first player, whose node is 02bbe1b3e762.
 const ANSWER: [u8; 30] = [
-    0xff, 0xff, 0, 0x1e, 0, 0, 0, 0, 0xd0, 0x5b, 0x7f, 0, 0, 0x2c, 0x51, 0xc3, 0, 2, 0, 0, 0xd0,
+    0xff, 0xff, 0, 0x1e, 0, 0, 0, 0, 0xd0, 0x5b, 2, 0xbb, 0xe1, 0xb3, 0xe7, 0x62, 0, 2, 0, 0, 0xd0,
     0x5b, 2, 0, 0, 0, 0xd0, 0x5b, 0, 2,
 ];
 
 /// A packet of the first player to socket 4001 of all nodes.
 const TO_ALL: [u8; 34] = [
     0xff, 0xff, 0, 0x22, 0, 4, 0, 0, 0xd0, 0x5b, 0xff, 0xff, 0xff, 0xff, 0xff, 0xff, 0x40, 1, 0, 0,
-    0xd0, 0x5b, 0x7f, 0, 0, 0x2c, 0x51, 0xc3, 0x40, 1, 1, 2, 3, 4,
+    0xd0, 0x5b, 2, 0xbb, 0xe1, 0xb3, 0xe7, 0x62, 0x40, 1, 1, 2, 3, 4,
 ];
 
 /// Sockets of one port.
@@ -129,15 +129,20 @@ fn players_over_sockets(rt: HostRuntime) -> Result<(), Fail> {
                 size: 30
             })
     );
-    assert_eq!(rt; &room[10..16], [0x7f, 0, 0, 0x2c, 0x51, 0xc4].as_slice());
+    assert_eq!(rt; &room[10..16], [2, 0x5f, 0xee, 0x4e, 0xf2, 0xad].as_slice());
+    // The second one shows its node.
+    let second_node = Node([2, 0x5f, 0xee, 0x4e, 0xf2, 0xad]);
+    assert!(rt; second.send(0, port_place(), &shows(second_node)).is_ok());
+    assert!(rt; next_packet(&mut servers, &mut room)? == None);
+    assert_eq!(rt; servers.filtered(), 3);
     // What the first one sends to all arrives at the second, and what an unknown sender sends
     // arrives nowhere.
     assert!(rt; unknown.send(0, port_place(), &TO_ALL).is_ok());
     assert!(rt; next_packet(&mut servers, &mut room)? == None);
-    assert_eq!(rt; servers.filtered(), 3);
+    assert_eq!(rt; servers.filtered(), 4);
     assert!(rt; first.send(0, port_place(), &TO_ALL).is_ok());
     assert!(rt; next_packet(&mut servers, &mut room)? == None);
-    assert_eq!(rt; servers.filtered(), 4);
+    assert_eq!(rt; servers.filtered(), 5);
     let all = next_datagram(&mut second, &mut room)?;
     assert!(rt; came(all, &room, &TO_ALL));
     assert_eq!(rt; servers.servers()[0].counts().unregistered, 1);
@@ -148,7 +153,7 @@ fn players_over_sockets(rt: HostRuntime) -> Result<(), Fail> {
     assert!(rt; next_packet(&mut servers, &mut room)? == Some(34));
     assert_eq!(rt; &room[..34], bytes.as_slice());
     // A packet of the core is sent to the player of its node.
-    let sent = servers.send(0, Node([0x7f, 0, 0, 0x2c, 0x51, 0xc3]), &bytes);
+    let sent = servers.send(0, Node([2, 0xbb, 0xe1, 0xb3, 0xe7, 0x62]), &bytes);
     assert!(rt; matches!(sent, Ok(PacketSent::Transmitted(1))));
     let packet = next_datagram(&mut first, &mut room)?;
     assert!(rt; came(packet, &room, &bytes));
@@ -156,11 +161,12 @@ fn players_over_sockets(rt: HostRuntime) -> Result<(), Fail> {
     assert!(rt; first.receive(0, &mut room)? == None);
     assert!(rt; second.receive(0, &mut room)? == None);
     assert!(rt; unknown.receive(0, &mut room)? == None);
-    assert_eq!(rt; servers.filtered(), 4);
+    assert_eq!(rt; servers.filtered(), 5);
     assert_eq!(rt; servers.sockets().sent(), 4);
     assert_eq!(rt; servers.sockets().failures(), 0);
     assert_eq!(rt; servers.sockets().faults(), 0);
     assert_eq!(rt; servers.sockets().from_nowhere(), 0);
+    assert!(rt; servers.sockets().last_unknown() == None);
     Ok(())
 }
 
@@ -228,6 +234,7 @@ fn who_is_not_named_is_not_heard(rt: HostRuntime) -> Result<(), Fail> {
         }
     }
     assert_eq!(rt; sockets.from_nowhere(), 1);
+    assert!(rt; sockets.last_unknown() == Some([127, 0, 0, 44]));
     let mut came = None;
     for _ in 0..100_000_u32 {
         sockets.set_ready(1);
@@ -243,6 +250,7 @@ fn who_is_not_named_is_not_heard(rt: HostRuntime) -> Result<(), Fail> {
         })
     );
     assert_eq!(rt; sockets.from_nowhere(), 1);
+    assert!(rt; sockets.last_unknown() == Some([127, 0, 0, 44]));
     Ok(())
 }
 

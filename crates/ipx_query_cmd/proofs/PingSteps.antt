@@ -1,29 +1,42 @@
 -- What grows as a host pings: the turns, the events after them, and the times of answers. One turn of a core
 -- over a socket is here too.
-use Rattle.std.proofs.Common.{◌≡◌, ◌<◌, ℕ, ◌+◌, List, ◌++◌, [], ◌∷◌, length, take, get_or, min, max, sym, subst, ap, ◌∙◌, refl, arith, Option, true}
+use Rattle.std.proofs.Common.{◌≡◌, ◌<◌, ◌≤◌, ℕ, ◌+◌, List, ◌++◌, [], ◌∷◌, length, take, get_or, min, max, sym, subst, ap, ◌∙◌, refl, arith, Option, Result, Ok, Err, IfOk, true}
 use Rattle.std.specs.Io.KnownBytes.{Appends}
 use Rattle.std.proofs.KnownBytes.{Appends-nil, Appends-trans}
 use Rattle.std.proofs.lemmas.List.{append-nil, append_assoc, flat_map_more, length-take, take_more}
 use Rattle.ipx_wire.specs.declared.address.Address.{Address}
-use Rattle.ipx_carrier.specs.Device.{TellsMoments}
+use Rattle.ipx_carrier.specs.Counts.{report_of}
+use Rattle.ipx_carrier.specs.Device.{TellsMoments, Traffic}
 use Rattle.ipx_carrier.specs.Mapping.{node_at}
-use Rattle.ipx_carrier.specs.Turns.{Given, IsTurn, Turn, Turns, moments_of}
+use Rattle.ipx_carrier.specs.Runs.{Runs}
+use Rattle.ipx_carrier.specs.Turns.{Given, IsTurn, Peers, Turn, Turns, by_ip, moments_of}
+use Rattle.ipx_carrier.specs.declared.report.Report.{Report}
 use Rattle.ipx_query.specs.PingEnds.{is_ping_over, new_ping}
 use Rattle.ipx_query.specs.PingRequests.{PingGives}
 use Rattle.ipx_query.specs.declared.ping_core.PingCore.{PingCore}
-use Rattle.ipx_site.specs.declared.host.HostConfig.{HostConfig}
+use Rattle.ipx_config.specs.declared.host.HostConfig.{HostConfig}
 use Rattle.ipx_query_cmd.specs.PingLines.{least_time, most_time, news_text, news_times, ping_end_text, ping_news, whole_time}
 use Rattle.ipx_query_cmd.specs.PingRuns.{HasPinged, IsPingTurn, PingTurn, PingsOn, hears_reply, lines_printed, ping_id, pinged_lines, times_printed}
 use Rattle.ipx_query_cmd.specs.QueryTargets.{querier_address}
+use Rattle.ipx_query_cmd.specs.declared.ping_event.PingEvent.{PingEvent}
 
--- a course of exactly one turn
-pub one_turn : {C K : Type 0} (hears : C → ℕ → List ℕ → ℕ → C → Type 0) (gives : C → ℕ → Option Given → C → Type 0) (tells : K → ℕ → K → Type 0) (ports : ℕ)
-    (course : List Turn) (old new : C) (before after : K) → length course ≡ 1 → Turns hears gives ports course old new → TellsMoments tells before after (moments_of course)
-    → (turn : Turn) × IsTurn hears gives ports turn old new × tells before turn.moment after
-one_turn hears gives tells ports [] old new before after one turns told = absurd (omega (arith, one))
-one_turn {C} {K} hears gives tells ports (t ∷ []) old new before after one turns told =
-    (t, subst (λ (c : C). IsTurn hears gives ports t old c) (sym turns.2) turns.1, subst (λ (k : K). tells before t.moment k) (sym told.2) told.1)
-one_turn hears gives tells ports (t ∷ u ∷ ts) old new before after one turns told = absurd (omega (arith, one))
+-- a course of exactly one turn, and its report
+one_turn : {C K : Type 0} (hears : C → ℕ → List ℕ → ℕ → C → Type 0) (gives : C → ℕ → Option Given → C → Type 0) (tells : K → ℕ → K → Type 0) (ports : ℕ) (peers : Peers)
+    (course : List Turn) (old new : C) (before after : K) (report : Report) → length course ≡ 1 → Turns hears gives ports course old new → TellsMoments tells before after (moments_of course)
+    → report ≡ report_of (by_ip peers) course
+    → (turn : Turn) × IsTurn hears gives ports turn old new × tells before turn.moment after × (report ≡ report_of (by_ip peers) (turn ∷ []))
+one_turn hears gives tells ports peers [] old new before after report one turns told is = absurd (omega (arith, one))
+one_turn {C} {K} hears gives tells ports peers (t ∷ []) old new before after report one turns told is =
+    (t, subst (λ (c : C). IsTurn hears gives ports t old c) (sym turns.2) turns.1, subst (λ (k : K). tells before t.moment k) (sym told.2) told.1, is)
+one_turn hears gives tells ports peers (t ∷ u ∷ ts) old new before after report one turns told is = absurd (omega (arith, one))
+
+-- a run of one turn
+pub as_one_turn : {C K F : Type 0} (hears : C → ℕ → List ℕ → ℕ → C → Type 0) (gives : C → ℕ → Option Given → C → Type 0) (tells : K → ℕ → K → Type 0) (ports : ℕ) (peers : Peers)
+    (carried carried_after : Option Traffic) (before after : K) (old new : C) (ran : Result Report F) → IfOk ran (λ report. Runs hears gives tells ports peers 1 carried carried_after before after old new report)
+    → IfOk ran (λ report. (turn : Turn) × IsTurn hears gives ports turn old new × tells before turn.moment after × (report ≡ report_of (by_ip peers) (turn ∷ [])))
+as_one_turn hears gives tells ports peers carried carried_after before after old new (Ok report) r =
+    one_turn hears gives tells ports peers r.0 old new before after report r.1 r.2 r.4 r.5
+as_one_turn hears gives tells ports peers carried carried_after before after old new (Err fault) r = tt
 
 -- one more turn of a host that pings
 pings_more : (ts : List PingTurn) (t : PingTurn) (from mid to : ℕ) (a b c : PingCore) → PingsOn ts from mid a b → IsPingTurn t mid to b c → PingsOn (ts ++ t ∷ []) from to a c
@@ -40,6 +53,22 @@ pings_more [] t from mid to a b c h k = (
   (refl, omega arith),
 )
 pings_more (u ∷ us) t from mid to a b c h k = (h.0, h.1, h.2, pings_more us t h.1 mid to h.0 b c h.3 k)
+
+-- a turn, its line and its time, at a later time
+pub turn_told : (t : PingTurn) (news : Option PingEvent) (from mid now : ℕ) (a b : PingCore) (times kept more : List ℕ) (to at : Address) (w v : Option (List ℕ)) → news ≡ t.news
+    → IsPingTurn t from mid a b → mid ≤ now → kept ≡ times → more ≡ kept ++ news_times news → at ≡ to → Appends w v (news_text at news)
+    → IsPingTurn t from now a b × (more ≡ times ++ news_times t.news) × Appends w v (news_text to t.news)
+turn_told t news from mid now a b times kept more to at w v is turn later same grows there told = (
+  record {
+    turns = turn.turns;
+    after = turn.after;
+    before = omega (arith, turn.before, later);
+    tenths = turn.tenths;
+    news = turn.news;
+  },
+  grows ∙ ap (λ ts. ts ++ news_times news) same ∙ ap (λ (n : Option PingEvent). times ++ news_times n) is,
+  subst (λ (n : Option PingEvent). Appends w v (news_text to n)) is (subst (λ (it : Address). Appends w v (news_text it news)) there told),
+)
 
 -- from one state of such a host to another these turns were taken, their times recorded and their lines
 -- written

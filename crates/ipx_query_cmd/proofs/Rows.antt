@@ -11,9 +11,9 @@ use Rattle.ipx_inspect.specs.ShowLine.{name_text}
 use Rattle.ipx_query.specs.AskQueries.{AskGives}
 use Rattle.ipx_query.specs.QueryView.{AskView}
 use Rattle.ipx_query.specs.declared.queried_router.QueriedRouter.{QueriedRouter}
-use Rattle.ipx_site.specs.SourceFilter.{is_peer}
-use Rattle.ipx_site.specs.Steady.{NeverGoesBack}
-use Rattle.ipx_site.specs.declared.clock.SteadyClock.{SteadyClock}
+use Rattle.ipx_config.specs.Values.{is_peer}
+use Rattle.ipx_sockets.specs.Steady.{NeverGoesBack}
+use Rattle.ipx_sockets.specs.declared.clock.SteadyClock.{SteadyClock}
 use Rattle.ipx_query_cmd.specs.QueryRuns.{AsksOn, PassBetween, hears_answer}
 use Rattle.ipx_table_dump.specs.TableRead.{ServiceSpelled}
 use Rattle.ipx_query_cmd.specs.KnownLines.{known_name_width}

@@ -4,7 +4,7 @@ use Rattle.std.specs.Prelude.{ℕ, ◌+◌, ◌==◌, ◌||◌, List, [], ◌∷
 use Rattle.std.specs.List.{flat_map}
 use Rattle.std.specs.Str.{bytes_eq}
 use Rattle.ipx_router.specs.declared.port.Port.{Port}
-use Rattle.ipx_site.specs.Checked.{shown_text}
+use Rattle.ipx_config.specs.Checked.{shown_text}
 use Rattle.ipx_table_dump.specs.TableParts.{OwnSpelled, own_networks_read}
 use Rattle.ipx_table_dump.specs.TableRead.{NetworkSpelled, ServiceSpelled, networks_read, services_read}
 use Rattle.ipx_query_cmd.specs.OperatorLines.{AdvertisedNetwork, at_left, at_right, json_byte, network_digits, network_json, network_row, service_head, count_with_noun, type_digits}

@@ -5,10 +5,10 @@ use Rattle.ipx_query.specs.QueryEnds.{ask_status}
 use Rattle.ipx_query.specs.QueryView.{AskView}
 use Rattle.ipx_query.specs.declared.question.TableQuery.{TableQuery}
 use Rattle.ipx_table_dump.specs.TableParts.{has_all_titles}
-use Rattle.ipx_site.specs.Host.{IsHostText}
-use Rattle.ipx_site.specs.Site.{IsSiteText}
-use Rattle.ipx_site.specs.declared.host.HostConfig.{HostConfig}
-use Rattle.ipx_site.specs.declared.site.RouterConfig.{RouterConfig}
+use Rattle.ipx_config.specs.Host.{IsHostText}
+use Rattle.ipx_config.specs.Site.{IsSiteText}
+use Rattle.ipx_config.specs.declared.host.HostConfig.{HostConfig}
+use Rattle.ipx_config.specs.declared.site.RouterConfig.{RouterConfig}
 use Rattle.ipx_query_cmd.specs.QueryRuns.{HasAsked}
 use Rattle.ipx_query_cmd.specs.KnownLines.{known_networks_text, known_services_text}
 

@@ -7,3 +7,4 @@ pub mod QueryTargets
 pub mod PingTargets
 pub mod KnownLines
 pub mod KnownListed
+pub mod Pausing

@@ -8,7 +8,7 @@ use Rattle.ipx_query.specs.PingAnswers.{PingHears}
 use Rattle.ipx_query.specs.PingEnds.{is_ping_over, new_ping}
 use Rattle.ipx_query.specs.PingRequests.{PingGives}
 use Rattle.ipx_query.specs.declared.ping_core.PingCore.{PingCore}
-use Rattle.ipx_site.specs.declared.host.HostConfig.{HostConfig}
+use Rattle.ipx_config.specs.declared.host.HostConfig.{HostConfig}
 use Rattle.ipx_query_cmd.specs.PingLines.{news_text, news_times, ping_end_text, ping_news}
 use Rattle.ipx_query_cmd.specs.QueryTargets.{querier_address}
 use Rattle.ipx_query_cmd.specs.declared.ping_event.PingEvent.{PingEvent}

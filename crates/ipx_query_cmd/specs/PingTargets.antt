@@ -4,9 +4,9 @@ use Rattle.std.specs.Prelude.{ℕ, List, [], ◌∷◌, Option, Some, None, if�
 use Rattle.ipx_wire.specs.declared.address.Address.{Address}
 use Rattle.ipx_carrier.specs.Device.{Access}
 use Rattle.ipx_carrier.specs.Mapping.{ip_at}
-use Rattle.ipx_site.specs.declared.host.HostConfig.{HostConfig}
+use Rattle.ipx_config.specs.declared.host.HostConfig.{HostConfig}
 use Rattle.ipx_query_cmd.specs.QueryTargets.{asked_ips}
-use Rattle.ipx_host.specs.Access.{is_on_own_network}
+use Rattle.ipx_config.specs.Destinations.{is_on_own_network}
 
 -- the IP address of a node, if it has one
 abbrev pub ips_of_node : Option (List ℕ) → List (List ℕ)

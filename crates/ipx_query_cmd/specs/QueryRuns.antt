@@ -7,7 +7,7 @@ use Rattle.ipx_query.specs.QueryEnds.{is_ask_over}
 use Rattle.ipx_query.specs.AskQueries.{AskGives}
 use Rattle.ipx_query.specs.QueryView.{AskView, IsNewAsk}
 use Rattle.ipx_query.specs.declared.question.TableQuery.{TableQuery}
-use Rattle.ipx_site.specs.declared.host.HostConfig.{HostConfig}
+use Rattle.ipx_config.specs.declared.host.HostConfig.{HostConfig}
 use Rattle.ipx_query_cmd.specs.QueryTargets.{asked_nodes, querier_address}
 
 -- it hears what comes at its one port

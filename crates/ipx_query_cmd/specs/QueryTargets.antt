@@ -5,8 +5,8 @@ use Rattle.ipx_wire.specs.declared.address.Address.{Address}
 use Rattle.ipx_wire.specs.declared.address.Node.{Node}
 use Rattle.ipx_carrier.specs.Device.{Access}
 use Rattle.ipx_carrier.specs.Mapping.{node_at}
-use Rattle.ipx_site.specs.SourceFilter.{is_peer}
-use Rattle.ipx_site.specs.declared.host.HostConfig.{HostConfig}
+use Rattle.ipx_config.specs.Values.{is_peer}
+use Rattle.ipx_config.specs.declared.host.HostConfig.{HostConfig}
 
 -- IP addresses without those that repeat an earlier one
 abbrev pub new_ips : List (List ℕ) → List (List ℕ) → List (List ℕ)

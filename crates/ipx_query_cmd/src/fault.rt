@@ -2,7 +2,7 @@
 
 ghost use Rattle.std.specs.Prelude.{◌≡◌, ◌⊎◌};
 
-use ipx_site::{BindError, BindFault, ClockFault, WaitFault};
+use ipx_sockets::{BindError, BindFault, ClockFault, WaitFault};
 use ipx_wire::OutOfMemory;
 use std::alloc::{AllocError, AllocFailed};
 
@@ -21,18 +21,33 @@ pub enum AskFault {
 }
 
 impl From<OutOfMemory> for AskFault {
+    ghost use Rattle.std.specs.Prelude.{◌≡◌};
+    ghost use Rattle.ipx_query_cmd.specs.declared.fault.AskFault.TheVariants as Faults;
+
+    ghost from_gives = { λ _ e. e ≡ Faults.OutOfMemory };
+
     fn from(_error: OutOfMemory) -> AskFault {
         AskFault::OutOfMemory
     }
 }
 
 impl From<AllocError> for AskFault {
+    ghost use Rattle.std.specs.Prelude.{◌≡◌};
+    ghost use Rattle.ipx_query_cmd.specs.declared.fault.AskFault.TheVariants as Faults;
+
+    ghost from_gives = { λ _ e. e ≡ Faults.OutOfMemory };
+
     fn from(_error: AllocError) -> AskFault {
         AskFault::OutOfMemory
     }
 }
 
 impl<T: Drop> From<AllocFailed<T>> for AskFault {
+    ghost use Rattle.std.specs.Prelude.{◌≡◌};
+    ghost use Rattle.ipx_query_cmd.specs.declared.fault.AskFault.TheVariants as Faults;
+
+    ghost from_gives = { λ _ e. e ≡ Faults.OutOfMemory };
+
     fn from(_error: AllocFailed<T>) -> AskFault {
         AskFault::OutOfMemory
     }

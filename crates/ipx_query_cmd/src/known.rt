@@ -8,7 +8,7 @@ use crate::age::tell_old;
 use crate::fault::{KnownFault, tell_known_fault};
 use crate::known_lines::known_networks_to_text;
 use crate::known_service_lines::known_services_to_text;
-use ipx_site::{RouterConfig, load_tables, write_checked};
+use ipx_config::{RouterConfig, load_tables, write_checked};
 use std::alloc::Global;
 use std::io::Write;
 use std::rt::{Clock, Files};

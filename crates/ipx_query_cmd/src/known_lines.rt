@@ -2,7 +2,7 @@
 
 ghost use Rattle.std.specs.Prelude.{◌≡◌, ◌⊎◌, IfOk, map, string_bytes};
 ghost use Rattle.std.specs.List.{flat_map};
-ghost use Rattle.ipx_site.specs.Checked.{shown_text};
+ghost use Rattle.ipx_config.specs.Checked.{shown_text};
 ghost use Rattle.ipx_table_dump.specs.TableParts.{own_spelled};
 ghost use Rattle.ipx_table_dump.specs.TableRead.{network_spelled};
 ghost use Rattle.ipx_query_cmd.specs.KnownLines.{direct_network_json, direct_network_row, known_network_json, known_network_row, known_networks_table, known_networks_text, written_in};
@@ -10,7 +10,7 @@ ghost use Rattle.ipx_query_cmd.specs.KnownLines.{direct_network_json, direct_net
 use crate::columns::at_right;
 use crate::fault::KnownFault;
 use crate::last_line::count_to_text;
-use ipx_site::Escaped;
+use ipx_config::Escaped;
 use ipx_table_dump::{NetworkWords, OwnWords, networks_of_text, own_networks_of_text};
 use std::alloc::{AllocError, Global};
 use std::str;

@@ -8,13 +8,13 @@ ghost use Rattle.ipx_query.specs.declared.question.TableQuery.TheVariants.{Netwo
 ghost use Rattle.ipx_query_cmd.specs.QueryRuns.{HasAsked};
 ghost use Rattle.ipx_query_cmd.specs.KnownListed.{ListsAsked, ListsKnownNetworks, ListsWritten};
 ghost use Rattle.ipx_query_cmd.specs.Listed.{ListsNetworks};
-ghost use Rattle.ipx_site.specs.Loading.{IsFileText};
+ghost use Rattle.ipx_config.specs.Loading.{IsFileText};
 
 use crate::known::networks_by_router;
 use crate::network_lines::networks_to_text;
 use crate::query_options::{Asked, ask, status_of};
+use ipx_config::{ConfigFile, HostConfig, load_config, write_checked};
 use ipx_query::TableQuery;
-use ipx_site::{ConfigFile, HostConfig, load_config, write_checked};
 use std::alloc::{AllocError, Global};
 use std::io::Write;
 use std::net::Net;

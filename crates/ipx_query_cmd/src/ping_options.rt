@@ -2,13 +2,13 @@
 
 ghost use Rattle.std.specs.Prelude.{◌≡◌, IfOk};
 ghost use Rattle.ipx_carrier.specs.Mapping.{ip_at};
-ghost use Rattle.ipx_site.specs.SitePorts.{access_by};
+ghost use Rattle.ipx_sockets.specs.AccessLists.{access_by};
 ghost use Rattle.ipx_query_cmd.specs.PingTargets.{guarded_pinger, ips_of_node, ping_carriers, ping_way};
 
 use crate::query_target::asked_ips;
 use ipx_carrier::ip_of;
-use ipx_host::is_on_own_network;
-use ipx_site::{AccessList, HostConfig};
+use ipx_config::{HostConfig, is_on_own_network};
+use ipx_sockets::AccessList;
 use ipx_wire::{Address, Node};
 use std::alloc::{AllocError, Global};
 

@@ -1,11 +1,15 @@
 //! The host of a file that pings a listener over its socket.
 
-ghost use Rattle.std.specs.Prelude.{◌≡◌, ◌∷◌, ◌++◌, [], ℕ, IfOk, IfSome, List, OnOk, map, true};
+ghost use Rattle.std.specs.Prelude.{◌≡◌, ◌≢◌, ◌↔◌, ◌∷◌, ◌++◌, [], ℕ, Err, IfErr, IfOk, IfSome, IsTrue, List, OnOk, map, true};
 ghost use Rattle.std.specs.Io.KnownBytes.{Appends};
 ghost use Rattle.ipx_carrier.specs.Traces.{v4_at};
 ghost use Rattle.ipx_carrier.specs.Mapping.{node_at};
-ghost use Rattle.ipx_site.specs.SitePorts.{access_by};
+ghost use Rattle.ipx_sockets.specs.AccessLists.{access_by};
+ghost use Rattle.ipx_sockets.specs.PollEvents.{Watched};
+ghost use Rattle.ipx_sockets.specs.Polling.{FailedToWait, FailsToWait, WaitsWell};
+ghost use Rattle.ipx_sockets.specs.Senders.{udp_fds};
 ghost use Rattle.ipx_query.specs.PingEnds.{is_ping_over, new_ping};
+ghost use Rattle.ipx_query_cmd.specs.Pausing.{IsBusy, MayPause, PausesAfter};
 ghost use Rattle.ipx_query_cmd.specs.PingLines.{news_text, news_times, ping_end_text};
 ghost use Rattle.ipx_query_cmd.specs.PingRuns.{IsPingTurn, PingTurn, PingsOn, lines_printed, ping_id, times_printed};
 ghost use Rattle.ipx_query_cmd.specs.QueryTargets.{querier_address};
@@ -20,8 +24,9 @@ use crate::query_socket::QuerySocket;
 use crate::query_target::querier_address;
 use crate::stop_watch::StopWatch;
 use ipx_carrier::{Clock as Moments, node_of};
+use ipx_config::HostConfig;
 use ipx_query::PingCore;
-use ipx_site::{HostConfig, Poller, SteadyClock};
+use ipx_sockets::{Poller, SteadyClock};
 use ipx_wire::Address;
 use std::alloc::Global;
 use std::io::Write;
@@ -55,7 +60,8 @@ impl<'a, R: Clock> Drop for PingingHost<'a, R> {
 
 /// Writes a whole text and flushes it, so that readers get it at once.
 fn write_now<W: Write>(writer: &mut W, text: &str) -> Result<(), AskFault>
-    ensures { OnOk result (Appends (W.contents writer.old) (W.contents writer.new) text.now) }
+    ensures writes { OnOk result (Appends (W.contents writer.old) (W.contents writer.new) text.now) }
+    ensures fault { IfErr result (λ f. f ≡ AskFault.Unwritten) }
 {
     if writer.write_all(text.as_bytes()).is_err() {
         return Err(AskFault::Unwritten);
@@ -73,8 +79,9 @@ fn write_news<W: Write>(
     news: Option<PingEvent>,
     writer: &mut W,
 ) -> Result<(), AskFault>
-    ensures { OnOk result
+    ensures writes { OnOk result
         (Appends (W.contents writer.old) (W.contents writer.new) (news_text to news)) }
+    ensures fault { IfErr result (λ f. f ≢ AskFault.Wait) }
 {
     let text = news_to_text(alloc, to, news)?;
     write_now(writer, &text)
@@ -102,6 +109,9 @@ impl<'a, R: Net + Clock> PingingHost<'a, R> {
         // answer.
         ensures access_list { IfOk result (λ h.
             map access_by h.own_socket.device.access_lists.items ≡ guarded_pinger file.now to ∷ []) }
+        // It watches its one socket, and nothing else, and has not waited.
+        ensures watches { IfOk result (λ h. h.poller.trace.items
+            ≡ map Watched (udp_fds h.own_socket.device.device.sockets.items)) }
     {
         let clock = SteadyClock::new(rt)?;
         let access_list = access_list_of(alloc, file, to)?;
@@ -123,9 +133,12 @@ impl<'a, R: Net + Clock> PingingHost<'a, R> {
     /// turn.
     fn turn(&mut self, alloc: Global) -> Result<(bool, Option<PingEvent>), AskFault>
         ensures pings { IfOk result (λ r. (turn : PingTurn) × (r.1 ≡ turn.news)
-            × IsPingTurn turn self.old.clock.last self.new.clock.last self.old.core self.new.core) }
+            × IsPingTurn turn self.old.clock.last self.new.clock.last self.old.core self.new.core
+            × (IsTrue r.0 ↔ IsBusy self.old.own_socket self.new.own_socket turn.turn)) }
         ensures to { self.new.to ≡ self.old.to }
         ensures times { self.new.times ≡ self.old.times }
+        ensures poller { self.new.poller ≡ self.old.poller }
+        ensures fault { IfErr result (λ f. f ≡ AskFault.OutOfMemory) }
     {
         let before = self.core;
         let active = self
@@ -141,13 +154,21 @@ impl<'a, R: Net + Clock> PingingHost<'a, R> {
     /// Takes one turn, writes the line that is due, and waits if there is nothing to do. Once the
     /// ping is over, it returns the time in milliseconds.
     fn step<W: Write>(&mut self, alloc: Global, writer: &mut W) -> Result<Option<u64>, AskFault>
-        ensures pings { OnOk result ((turn : PingTurn)
+        // After a busy turn it does not wait, and after another only if the ping is not over.
+        ensures pings { IfOk result (λ moment. (turn : PingTurn)
             × IsPingTurn turn self.old.clock.last self.new.clock.last self.old.core self.new.core
             × (self.new.times.items ≡ self.old.times.items ++ news_times turn.news)
-            × Appends (W.contents writer.old) (W.contents writer.new) (news_text self.old.to turn.news)) }
+            × Appends (W.contents writer.old) (W.contents writer.new) (news_text self.old.to turn.news)
+            × PausesAfter (IsBusy self.old.own_socket self.new.own_socket turn.turn) moment
+            self.old.poller self.new.poller) }
         ensures over { IfOk result (λ moment. IfSome moment (λ now.
             (now ≡ self.new.clock.last) × (is_ping_over self.new.core now ≡ true))) }
         ensures to { self.new.to ≡ self.old.to }
+        // It waits at most once, whatever the result.
+        ensures waits { MayPause self.old.poller self.new.poller }
+        // It fails because it can't wait exactly if it waits, and that fails.
+        ensures unwaited { (result ≡ Err AskFault.Wait)
+            ↔ FailsToWait self.old.poller self.new.poller }
     {
         let (active, news) = self.turn(alloc)?;
         keep_time(&mut self.times, news)?;
@@ -156,14 +177,17 @@ impl<'a, R: Net + Clock> PingingHost<'a, R> {
         if self.core.is_done(now) {
             return Ok(Some(now));
         }
-        if !active {
-            self.poller.wait(POLL_INTERVAL)?;
+        if active {
+            return Ok(None);
         }
-        Ok(None)
+        match self.poller.wait(POLL_INTERVAL) {
+            Ok(_) => Ok(None),
+            Err(_) => Err(AskFault::Wait),
+        }
     }
 
     /// Pings, turn by turn, until it is over, and writes each line as it comes. It returns that
-    /// time in milliseconds.
+    /// time in milliseconds. It fails if the clock stands still.
     pub fn ping<W: Write>(&mut self, alloc: Global, writer: &mut W) -> Result<u64, AskFault>
         ensures pings { OnOk result ((turns : List PingTurn)
             × PingsOn turns self.old.clock.last self.new.clock.last self.old.core self.new.core
@@ -172,13 +196,19 @@ impl<'a, R: Net + Clock> PingingHost<'a, R> {
         ensures over { IfOk result (λ now.
             (now ≡ self.new.clock.last) × (is_ping_over self.new.core now ≡ true)) }
         ensures to { self.new.to ≡ self.old.to }
+        // It fails because it can't wait exactly if its last wait failed. No other wait fails, and
+        // it watches nothing more.
+        ensures unwaited { (result ≡ Err AskFault.Wait)
+            ↔ FailedToWait self.old.poller self.new.poller }
+        ensures waits { result ≢ Err AskFault.Wait → (count : ℕ)
+            × WaitsWell count self.old.poller self.new.poller }
     {
         for _ in 0..u64::MAX {
             if let Some(now) = self.step(alloc, writer)? {
                 return Ok(now);
             }
         }
-        Err(AskFault::Wait)
+        Err(AskFault::Clock)
     }
 
     /// Writes the last lines.

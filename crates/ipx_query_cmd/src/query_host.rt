@@ -1,28 +1,45 @@
 //! The host of a file that asks its routers over its socket.
 
-ghost use Rattle.std.specs.Prelude.{◌≡◌, ◌∷◌, [], IfOk, IfSome, List, OnOk, map, true};
+ghost use Rattle.std.specs.Prelude.{◌≡◌, ◌≢◌, ◌↔◌, ◌∷◌, [], ℕ, Err, IfErr, IfOk, IfSome, IsTrue, List, OnOk, map, true};
 ghost use Rattle.ipx_carrier.specs.Traces.{v4_at};
 ghost use Rattle.ipx_carrier.specs.Turns.{Turn};
-ghost use Rattle.ipx_site.specs.SitePorts.{access_by};
+ghost use Rattle.ipx_sockets.specs.AccessLists.{access_by};
+ghost use Rattle.ipx_sockets.specs.PollEvents.{Watched};
+ghost use Rattle.ipx_sockets.specs.Polling.{FailedToWait, FailsToWait, WaitsWell};
+ghost use Rattle.ipx_sockets.specs.Senders.{udp_fds};
 ghost use Rattle.ipx_query.specs.QueryEnds.{is_ask_over};
 ghost use Rattle.ipx_query.specs.QueryView.{IsNewAsk};
 ghost use Rattle.ipx_query_cmd.specs.QueryRuns.{AsksOn};
 ghost use Rattle.ipx_query_cmd.specs.OperatorLines.{answering_nodes};
+ghost use Rattle.ipx_query_cmd.specs.Pausing.{IsBusy, MayPause, PausesAfter};
 ghost use Rattle.ipx_query_cmd.specs.QueryTargets.{asked_ips, asked_nodes, querier_address, guarded_querier};
 
 use crate::answer_times::{AnswerTime, AnswerTimes};
 use crate::fault::AskFault;
 use crate::query_socket::QuerySocket;
 use crate::query_target::{access_list_of, asked_ips, nodes_of, querier_address};
-use ipx_carrier::Clock as Moments;
+use ipx_carrier::{Clock as Moments, ip_of};
+use ipx_config::HostConfig;
 use ipx_query::{QueryCore, TableQuery};
-use ipx_site::{HostConfig, Poller, SteadyClock};
+use ipx_sockets::{Poller, SteadyClock};
+use ipx_wire::Node;
 use std::alloc::{AllocError, Global};
 use std::net::Net;
 use std::rt::Clock;
 
 /// The longest wait in milliseconds before it checks again whether it is over.
 pub const POLL_INTERVAL: u64 = 20;
+
+/// Reports on standard error that a router did not answer, or knows nothing that was asked for. It is
+/// named by its IP address, if its node has one.
+fn tell_no_answer<P: Eprint>(rt: &P, node: Node, knows_nothing: &str) {
+    let Ok(ip) = ip_of(node) else {
+        let _ = eprintln!(rt; "no answer from {node}, or it knows {knows_nothing}");
+        return;
+    };
+    let [a, b, c, d] = ip;
+    let _ = eprintln!(rt; "no answer from {a}.{b}.{c}.{d}, or it knows {knows_nothing}");
+}
 
 /// A host that asks.
 pub struct QueryHost<'a, R: Clock> {
@@ -77,6 +94,9 @@ impl<'a, R: Net + Clock> QueryHost<'a, R> {
         // It sends only to those that it asks, and accepts only those.
         ensures access_list { IfOk result (λ h.
             map access_by h.own_socket.device.access_lists.items ≡ guarded_querier file.now ∷ []) }
+        // It watches its one socket, and nothing else, and has not waited.
+        ensures watches { IfOk result (λ h. h.poller.trace.items
+            ≡ map Watched (udp_fds h.own_socket.device.device.sockets.items)) }
     {
         let clock = SteadyClock::new(rt)?;
         let ips = asked_ips(alloc, file)?;
@@ -96,8 +116,11 @@ impl<'a, R: Net + Clock> QueryHost<'a, R> {
 
     /// Takes one turn. It returns whether there may be more to do at once.
     fn turn(&mut self, alloc: Global) -> Result<bool, AskFault>
-        ensures asks { OnOk result ((turns : List Turn)
-            × AsksOn turns self.old.clock.last self.new.clock.last self.old.core self.new.core) }
+        ensures asks { IfOk result (λ more. (turn : Turn)
+            × AsksOn (turn ∷ []) self.old.clock.last self.new.clock.last self.old.core self.new.core
+            × (IsTrue more ↔ IsBusy self.old.own_socket self.new.own_socket turn)) }
+        ensures poller { self.new.poller ≡ self.old.poller }
+        ensures fault { IfErr result (λ f. f ≡ AskFault.OutOfMemory) }
     {
         let active = self
             .own_socket
@@ -108,38 +131,55 @@ impl<'a, R: Net + Clock> QueryHost<'a, R> {
 
     /// Takes one turn, and waits if there is nothing to do. Once the query is over, it returns the
     /// time in milliseconds.
-    #[tactic(auto, using(crate::proofs::Rows::between_later, crate::proofs::Rows::turns_later))]
     fn step(&mut self, alloc: Global) -> Result<Option<u64>, AskFault>
-        ensures asks { OnOk result ((turns : List Turn)
-            × AsksOn turns self.old.clock.last self.new.clock.last self.old.core self.new.core) }
+        // After a busy turn it does not wait, and after another only if the query is not over.
+        ensures asks { IfOk result (λ moment. (turn : Turn)
+            × AsksOn (turn ∷ []) self.old.clock.last self.new.clock.last self.old.core self.new.core
+            × PausesAfter (IsBusy self.old.own_socket self.new.own_socket turn) moment
+            self.old.poller self.new.poller) }
         ensures over { IfOk result (λ moment.
             IfSome moment (λ now.
             (now ≡ self.new.clock.last) × (is_ask_over self.new.core now ≡ true))) }
+        // It waits at most once, whatever the result.
+        ensures waits { MayPause self.old.poller self.new.poller }
+        // It fails because it can't wait exactly if it waits, and that fails.
+        ensures unwaited { (result ≡ Err AskFault.Wait)
+            ↔ FailsToWait self.old.poller self.new.poller }
     {
         let active = self.turn(alloc)?;
         let now = self.clock.now();
         if self.core.is_done(now) {
             return Ok(Some(now));
         }
-        if !active {
-            self.poller.wait(POLL_INTERVAL)?;
+        if active {
+            return Ok(None);
         }
-        Ok(None)
+        match self.poller.wait(POLL_INTERVAL) {
+            Ok(_) => Ok(None),
+            Err(_) => Err(AskFault::Wait),
+        }
     }
 
-    /// Asks, turn by turn, until it is over. It returns that time in milliseconds.
+    /// Asks, turn by turn, until it is over. It returns that time in milliseconds. It fails if the
+    /// clock stands still.
     pub fn ask(&mut self, alloc: Global) -> Result<u64, AskFault>
         ensures asks { OnOk result ((turns : List Turn)
             × AsksOn turns self.old.clock.last self.new.clock.last self.old.core self.new.core) }
         ensures over { IfOk result (λ now.
             (now ≡ self.new.clock.last) × (is_ask_over self.new.core now ≡ true)) }
+        // It fails because it can't wait exactly if its last wait failed. No other wait fails, and
+        // it watches nothing more.
+        ensures unwaited { (result ≡ Err AskFault.Wait)
+            ↔ FailedToWait self.old.poller self.new.poller }
+        ensures waits { result ≢ Err AskFault.Wait → (count : ℕ)
+            × WaitsWell count self.old.poller self.new.poller }
     {
         for _ in 0..u64::MAX {
             if let Some(now) = self.step(alloc)? {
                 return Ok(now);
             }
         }
-        Err(AskFault::Wait)
+        Err(AskFault::Clock)
     }
 
     /// The routers that answered, and the time until then.
@@ -155,8 +195,7 @@ impl<'a, R: Net + Clock> QueryHost<'a, R> {
     pub fn tell<P: Eprint>(&self, rt: &P, knows_nothing: &str) {
         for router in self.core.routers() {
             if !router.answered {
-                let node = router.node;
-                let _ = eprintln!(rt; "no answer from {node}, or it knows {knows_nothing}");
+                tell_no_answer(rt, router.node, knows_nothing);
             }
         }
         if self.core.is_truncated() {

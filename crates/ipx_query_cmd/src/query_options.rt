@@ -6,8 +6,8 @@ ghost use Rattle.ipx_query_cmd.specs.Listed.{printed_status};
 
 use crate::fault::{AskFault, tell_fault};
 use crate::query_host::QueryHost;
+use ipx_config::HostConfig;
 use ipx_query::{QueryCore, TableQuery};
-use ipx_site::HostConfig;
 use std::alloc::Global;
 use std::net::Net;
 use std::rt::Clock;

@@ -2,11 +2,12 @@
 
 ghost use Rattle.std.specs.Prelude.{◌≡◌, ◌∷◌, [], IfOk, map};
 ghost use Rattle.ipx_carrier.specs.Mapping.{node_at};
-ghost use Rattle.ipx_site.specs.SitePorts.{access_by};
+ghost use Rattle.ipx_sockets.specs.AccessLists.{access_by};
 ghost use Rattle.ipx_query_cmd.specs.QueryTargets.{asked_ips, querier_address, guarded_querier, new_ips};
 
 use ipx_carrier::node_of;
-use ipx_site::{AccessList, HostConfig};
+use ipx_config::HostConfig;
+use ipx_sockets::AccessList;
 use ipx_wire::{Address, Node};
 use std::alloc::{AllocError, AllocFailed, Global};
 

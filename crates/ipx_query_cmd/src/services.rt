@@ -9,13 +9,13 @@ ghost use Rattle.ipx_query.specs.declared.question.TableQuery.TheVariants.{Servi
 ghost use Rattle.ipx_query_cmd.specs.QueryRuns.{HasAsked};
 ghost use Rattle.ipx_query_cmd.specs.KnownListed.{ListsAsked, ListsKnownServices, ListsWritten};
 ghost use Rattle.ipx_query_cmd.specs.Listed.{IsTypeWord, ListsServices};
-ghost use Rattle.ipx_site.specs.Loading.{IsFileText};
+ghost use Rattle.ipx_config.specs.Loading.{IsFileText};
 
 use crate::known::services_by_router;
 use crate::query_options::{Asked, ask, status_of};
 use crate::service_lines::services_to_text;
+use ipx_config::{ConfigFile, HostConfig, load_config, write_checked};
 use ipx_query::TableQuery;
-use ipx_site::{ConfigFile, HostConfig, load_config, write_checked};
 use ipx_wire::Socket;
 use std::alloc::{AllocError, Global};
 use std::io::Write;

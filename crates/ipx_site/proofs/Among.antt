@@ -3,7 +3,7 @@ use Rattle.std.proofs.Common.{◌≡◌, ◌<◌, zero, suc, ◌||◌, Bool, tru
 use Rattle.std.specs.Prelude.{position}
 use Rattle.std.specs.List.{AllZip, cons_option, filter_map, position_or_len}
 use Rattle.std.proofs.lemmas.List.Sums.{prefix_len_passes}
-use Rattle.ipx_site.proofs.Printed.{position_missing}
+use Rattle.ipx_config.proofs.Printed.{position_missing}
 
 pub first : {X : Type 0} (x : X) (xs : List X) → Contains (x ∷ xs) x
 first x xs = (0, omega arith, refl)

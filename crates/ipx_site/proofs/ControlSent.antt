@@ -1,19 +1,17 @@
 -- RIP and SAP that the access list of a port accepts are of the node that sent the datagram.
-use Rattle.std.proofs.Common.{◌≡◌, ℕ, Bool, true, false, not, ◌==◌, ◌&&◌, ◌||◌, if◌then◌else◌, Option, List, ap, refl, subst, sym, arith}
+use Rattle.std.proofs.Common.{◌≡◌, ℕ, Bool, true, false, not, ◌==◌, ◌&&◌, ◌||◌, if◌then◌else◌, Option, List, refl, subst, arith}
 use Rattle.std.proofs.lemmas.Bool.Decides.{nat_tests}
 use Rattle.ipx_wire.specs.Assigned.{netbios_propagation_type, rip_socket, sap_socket}
-use Rattle.ipx_wire.specs.Ipx.{PacketView}
 use Rattle.ipx_wire.specs.declared.ipx.packet.IpxHeader.{IpxHeader}
 use Rattle.ipx_wire.specs.declared.address.Network.{Network}
 use Rattle.ipx_router.specs.Classify.{concern_of, is_from_neighbour, is_node}
 use Rattle.ipx_router.specs.RouterPackets.{broadcast}
-use Rattle.ipx_router.specs.declared.classify.Concern.{Concern}
 use Rattle.ipx_router.specs.declared.classify.Concern.TheVariants.{Dropped, Rip, Sap, Forward}
 use Rattle.ipx_router.specs.declared.port.Port.{Port}
 use Rattle.ipx_router.specs.declared.reason.Reason.TheVariants.{Propagated, NotOurs}
 use Rattle.ipx_source_checks.specs.SourceChecks.{is_control}
 use Rattle.ipx_site.specs.ControlSenders.{ControlIsOfItsSender}
-use Rattle.ipx_site.specs.SourceFilter.{is_local_to, is_node_of, is_unrouted, source_matches_sender}
+use Rattle.ipx_sockets.specs.SourceFilter.{is_local_to, is_node_of, is_unrouted, source_matches_sender}
 
 -- what is control is for this network, from a neighbour, and to one of two sockets
 control_of : (propagated here near rip sap : Bool)

@@ -1,12 +1,12 @@
 -- The metrics of ports with access lists, one after the other.
 use Rattle.std.proofs.Common.{◌≡◌, ◌∙◌, ℕ, ◌+◌, ◌<◌, List, [], ◌++◌, Option, Result, Ok, Err, OnOk, get_or, length, option_map, take, append_assoc, ap, refl, arith}
 use Rattle.std.proofs.lemmas.List.{length-take-le}
-use Rattle.ipx_site.specs.Checked.{each_after}
+use Rattle.ipx_config.specs.Checked.{each_after}
 use Rattle.ipx_site.specs.AccessListMetrics.{metric_if, access_list_metric, drops_at_port_index, access_list_count}
 use Rattle.ipx_site.specs.declared.access_list_metrics.FilterDropKind.{FilterDropKind}
-use Rattle.ipx_site.specs.declared.port_filter_drops.PortFilterDrops.{PortFilterDrops}
+use Rattle.ipx_sockets.specs.declared.port_filter_drops.PortFilterDrops.{PortFilterDrops}
 use Rattle.ipx_site.specs.declared.router_ports.PortIndex.{PortIndex}
-use Rattle.ipx_site.proofs.Printed.{behind_more}
+use Rattle.ipx_config.proofs.Printed.{behind_more}
 
 -- one more metric, whose number follows those before
 pub one_more_figure : (name : List ℕ) (count : FilterDropKind) (kept : List PortFilterDrops) (port_indices : List PortIndex) (i : ℕ) (d : PortIndex)

@@ -7,9 +7,10 @@ use Rattle.std.specs.Prelude.{IfOk, IfSome, MatchResult, OnErr, count_by}
 use Rattle.ipx_carrier.specs.Readiness.{AsksPortWithMark, MarksStay, Readiness}
 use Rattle.ipx_site.specs.declared.router_ports.PortIndex.{PortIndex}
 use Rattle.ipx_site.specs.declared.router_ports.PortIndex.TheVariants.{Datagrams, Ethernet, IpxnetServer}
-use Rattle.ipx_site.specs.declared.site.PortConfig.{PortConfig}
-use Rattle.ipx_site.specs.declared.site.PortConfig.TheVariants.{Rfc1234, Frames, Ipxnet}
-use Rattle.ipx_site.specs.KindPorts.{datagram_ports, datagrams_in, ethernet_ports, ethernet_ports_in, ipxnet_in, ipxnet_ports, port_index_after, port_indices_after, port_indices_of}
+use Rattle.ipx_config.specs.declared.site.PortConfig.{PortConfig}
+use Rattle.ipx_config.specs.declared.site.PortConfig.TheVariants.{Rfc1234, Frames, Ipxnet}
+use Rattle.ipx_config.specs.PortLists.{datagram_ports, datagrams_in, ethernet_ports, ethernet_ports_in, ipxnet_in, ipxnet_ports}
+use Rattle.ipx_site.specs.KindPorts.{port_index_after, port_indices_after, port_indices_of}
 use Rattle.ipx_site.specs.RouterMarks.{AreIndicesDistinct, is_same_index, mark_at_index, mark_of_kind, marked_by_kind}
 use Rattle.ipx_site.specs.RouterPorts.{count_at, port_index_place}
 

@@ -7,13 +7,14 @@ use Rattle.std.specs.Prelude.{All}
 use Rattle.std.specs.List.{flat_map}
 use Rattle.ipx_site.specs.declared.router_ports.PortIndex.{PortIndex}
 use Rattle.ipx_site.specs.declared.router_ports.PortIndex.TheVariants.{Datagrams, Ethernet, IpxnetServer}
-use Rattle.ipx_site.specs.declared.site.EthernetPortConfig.{EthernetPortConfig}
-use Rattle.ipx_site.specs.declared.ipxnet_port.IpxnetPortConfig.{IpxnetPortConfig}
-use Rattle.ipx_site.specs.declared.site.PortConfig.{PortConfig}
-use Rattle.ipx_site.specs.declared.site.PortConfig.TheVariants.{Rfc1234, Frames, Ipxnet}
-use Rattle.ipx_site.specs.declared.site.Rfc1234PortConfig.{Rfc1234PortConfig}
+use Rattle.ipx_config.specs.declared.site.EthernetPortConfig.{EthernetPortConfig}
+use Rattle.ipx_config.specs.declared.ipxnet_port.IpxnetPortConfig.{IpxnetPortConfig}
+use Rattle.ipx_config.specs.declared.site.PortConfig.{PortConfig}
+use Rattle.ipx_config.specs.declared.site.PortConfig.TheVariants.{Rfc1234, Frames, Ipxnet}
+use Rattle.ipx_config.specs.declared.site.Rfc1234PortConfig.{Rfc1234PortConfig}
 use Rattle.ipx_site.specs.RouterPorts.{fits}
-use Rattle.ipx_site.specs.KindPorts.{datagram_ports, datagrams_in, ipxnet_in, ipxnet_ports, port_index_after, port_indices_after, port_indices_of, ethernet_ports, ethernet_ports_in}
+use Rattle.ipx_config.specs.PortLists.{datagram_ports, datagrams_in, ipxnet_in, ipxnet_ports, ethernet_ports, ethernet_ports_in}
+use Rattle.ipx_site.specs.KindPorts.{port_index_after, port_indices_after, port_indices_of}
 
 module _ {S C : Type 0} (kind : PortConfig → List S) (f : S → C) (ports : List PortConfig) (i : ℕ) (port : PortConfig)
     (there : i < length ports) (is : port ≡ get_or ports i port) where

@@ -3,8 +3,7 @@ use Rattle.std.proofs.Common.{◌≡◌, ◌⊎◌, ◌↔◌, ◌<◌, ◌≤�
 use Rattle.std.proofs.lemmas.Bool.{le-leb, leb-true}
 use Rattle.ipx_router.specs.Telling.{IsNextAdvertisement, is_due}
 use Rattle.ipxnet_server.specs.Pings.{IsNextPing}
-use Rattle.ipx_site.specs.IdleTime.{IsTimeUntilDue}
-use Rattle.ipx_site.specs.Moments.{IsReached}
+use Rattle.ipx_sockets.specs.Moments.{IsTimeUntilDue, IsReached}
 
 forth : {A B C D : Type 0} → (A → C) → (B → D) → A ⊎ B → C ⊎ D
 forth f g (inl a) = inl (f a)

@@ -10,13 +10,13 @@ use Rattle.ipx_ipxnet_ports.specs.declared.place_sockets.PlaceSockets as OfPlace
 use Rattle.ipx_ipxnet_ports.specs.declared.sockets.ServerSockets.{ServerSockets}
 use Rattle.ipx_ethernet_ports.specs.declared.end_sockets.EndSockets as OfSockets
 use Rattle.ipx_ethernet_ports.specs.declared.sockets.EthernetSockets.{EthernetSockets}
-use Rattle.ipx_site.specs.declared.source_filter.SourceFilter.{SourceFilter}
-use Rattle.ipx_site.specs.declared.sockets.UdpSockets.{UdpSockets}
+use Rattle.ipx_sockets.specs.declared.source_filter.SourceFilter.{SourceFilter}
+use Rattle.ipx_sockets.specs.declared.sockets.UdpSockets.{UdpSockets}
 use Rattle.ipx_site.specs.PortsView.{SitePortsRun, filtered_in_ports, ways_in}
 use Rattle.ipx_site.specs.RouterMarks.{marked_by_kind}
 use Rattle.ipx_site.specs.RouterPorts.{by_kind}
 use Rattle.ipx_site.specs.SiteMarks.{kind_marks, port_marks}
-use Rattle.ipx_site.specs.SourceFilter.{drops_in}
+use Rattle.ipx_sockets.specs.SourceFilter.{drops_in}
 
 module _ {gd : OfDevice.Ghosts (SourceFilter UdpSockets)} {ge : OfSockets.Ghosts EthernetSockets} {gl : OfPlaces.Ghosts ServerSockets} (r s : SitePortsRun gd ge gl) (moment : ℕ) (same : s.datagrams ≡ r.datagrams) (later : s.ethernet ≡ record r.ethernet { moment = moment })
     (too : s.servers ≡ record r.servers { moment = moment }) where

@@ -6,22 +6,26 @@ use Rattle.ipx_carrier.specs.Turns.{peers_of}
 use Rattle.ipx_carrier.specs.declared.report.Batch.{Batch}
 use Rattle.ipx_source_checks.specs.SourceChecks.{nothing_dropped_yet}
 use Rattle.ipx_site.specs.IdleTime.{IsDue, deadlines, happened}
-use Rattle.ipx_site.specs.KindPorts.{ArePortsBound}
-use Rattle.ipx_site.specs.Loading.{IsFileText}
-use Rattle.ipx_site.specs.PollEvents.{Waited, Watched}
-use Rattle.ipx_site.specs.PortLimits.{limits_of}
+use Rattle.ipxnet_server.specs.declared.port.Secret.{Secret}
+use Rattle.ipx_site.specs.KindPorts.{checked_ports, ArePortsBound}
+use Rattle.ipx_config.specs.Loading.{IsFileText}
+use Rattle.ipx_sockets.specs.PollEvents.{Waited, Watched}
+use Rattle.ipx_rate_limits.specs.PortLimits.{limits_of}
 use Rattle.ipx_site.specs.PortsView.{filtered_in_ports, ways_in}
+use Rattle.ipx_site.specs.RouterPings.{PingsFirst}
 use Rattle.ipx_site.specs.RouterRounds.{IsRound, SleepsAfter}
-use Rattle.ipx_site.specs.RoutingRuns.{Rounds, RoutesWell, RunsTo, StartsBy, StartsByFile, TakesRound}
-use Rattle.ipx_site.specs.Site.{IsSiteText}
+use Rattle.ipx_site.specs.RoutingRuns.{KnowsNothing, Rounds, RoutesWell, RunsTo, StartsBy, StartsByFile, TakesRound}
+use Rattle.ipx_config.specs.Site.{IsSiteText}
 use Rattle.ipx_site.specs.RouterMarks.{AreIndicesDistinct}
 use Rattle.ipx_site.specs.SiteMarks.{KindMarks, all_marks, kind_marks, marks_in, numbers_come, port_fds, port_marks}
-use Rattle.ipx_site.specs.SitePorts.{access_by, checked_ports, router_ports}
+use Rattle.ipx_sockets.specs.AccessLists.{access_by}
+use Rattle.ipx_config.specs.SitePorts.{router_ports}
 use Rattle.ipx_site.specs.StaticNeighbours.{IsToHear}
-use Rattle.ipx_site.specs.Steady.{NeverGoesBack, StopsThere}
-use Rattle.ipx_site.specs.declared.clock.SteadyClock.{SteadyClock}
+use Rattle.ipx_sockets.specs.Steady.{NeverGoesBack, StopsThere}
+use Rattle.ipx_rate_limits.specs.TokenBuckets.{fresh_buckets}
+use Rattle.ipx_sockets.specs.declared.clock.SteadyClock.{SteadyClock}
 use Rattle.ipx_site.specs.declared.running_router.RunningRouter.{RunningRouter}
-use Rattle.ipx_site.specs.declared.site.RouterConfig.{RouterConfig}
+use Rattle.ipx_config.specs.declared.site.RouterConfig.{RouterConfig}
 use Rattle.ipx_site.specs.declared.router_ports.PortIndex.{PortIndex}
 use Rattle.ipx_site.proofs.IndexMarks.{distinct}
 
@@ -36,10 +40,10 @@ pub took_round : {R T E : Type 0} (old new : RunningRouter R) (r : Result T E)
     × SleepsAfter (IsDue (deadlines new.asked new.looked new.responses new.written new.core new.warnings (happened new.totals new.core new.ports) new.ports.servers.servers.items)) (is_any_marked (all_marks marks)) between new.clock StopsThere time batch.fault batch.quiet
     × (new.ready.trace.items ≡ old.ready.trace.items ++ Waited time ∷ [])
     × OnOk r (AreMarked (numbers_come new.ready) (all_marks marks) (marks_in new.ports))
-    → is_err r ≡ new.ready.failed → new.ports.servers.moment ≡ new.ports.ethernet.moment → ways_in new.ports ≡ ways_in old.ports
+    → is_err r ≡ new.ready.failed → new.ports.servers.moment ≡ new.ports.ethernet.moment → PingsFirst new.ports.ethernet.moment old.ports new.ports → ways_in new.ports ≡ ways_in old.ports
     → peers_of new.ports.datagrams.peers.items ≡ peers_of old.ports.datagrams.peers.items → new.ports.port_indices.items ≡ old.ports.port_indices.items
     → map access_by new.ports.datagrams.device.access_lists.items ≡ map access_by old.ports.datagrams.device.access_lists.items → TakesRound old new
-took_round old new r core failed moments transmissions peers port_indices access = record {
+took_round old new r core failed moments pings transmissions peers port_indices access = record {
   between = core.0;
   batch = core.1;
   marks = core.2;
@@ -49,6 +53,7 @@ took_round old new r core failed moments transmissions peers port_indices access
   waits = core.6;
   marked = when_well r new.ready.failed (AreMarked (numbers_come new.ready) (all_marks core.2) (marks_in new.ports)) failed core.7;
   moments = moments;
+  pings = pings;
   transmissions = transmissions;
   peers = peers;
   port_indices = port_indices;
@@ -62,15 +67,16 @@ rounds_more n first before last run one well =
     subst (λ (k : ℕ). Rounds k first last) next (before, run, one, well)
 
 -- all that holds of a start, in one record
-pub started_by : {R E : Type 0} (site : RouterConfig) (started : Result (RunningRouter R) E)
-    → IfOk started (λ s. s.core.core.core.core.router.ports ≡ router_ports site.ports.items) → IfOk started (λ s. IsToHear site.statics.items s.core.core.core)
+pub started_by : {R E : Type 0} (secret : Secret) (site : RouterConfig) (started : Result (RunningRouter R) E)
+    → IfOk started (λ s. s.core.core.core.core.router.ports ≡ router_ports site.ports.items) → IfOk started (λ s. KnowsNothing s.core.core.core.core.router)
+    → IfOk started (λ s. IsToHear site.statics.items s.core.core.core)
     → IfOk started (λ s. (s.core.ports ≡ checked_ports site.ports.items) × (s.core.drops ≡ nothing_dropped_yet))
-    → IfOk started (λ s. (s.core.core.ports ≡ router_ports site.ports.items) × (s.core.core.buckets.queriers ≡ []) × (s.core.core.buckets.ports ≡ limits_of site.ports.items))
-    → IfOk started (λ s. ArePortsBound site.ports.items s.ports) → IfOk started (λ s. s.ready.trace.items ≡ map Watched (port_fds s.ports)) → IfOk started (λ s. s.clock.last ≡ 0) → IfOk started (λ s. s.asked ≡ 0)
+    → IfOk started (λ s. (s.core.core.ports ≡ router_ports site.ports.items) × (s.core.core.buckets ≡ fresh_buckets (limits_of site.ports.items)))
+    → IfOk started (λ s. ArePortsBound secret site.ports.items s.ports) → IfOk started (λ s. s.ready.trace.items ≡ map Watched (port_fds s.ports)) → IfOk started (λ s. s.clock.last ≡ 0) → IfOk started (λ s. s.asked ≡ 0)
     → IfOk started (λ s. StartsBy site s)
-started_by site (Ok s) ports statics checks queriers bound watched clock asked =
-    record { ports = ports; statics = statics; checks = checks; queriers = queriers; bound = bound; indices = subst (λ (it : List PortIndex). AreIndicesDistinct it) (sym bound.port_indices) (distinct site.ports.items); watched = watched; clock = clock; asked = asked }
-started_by site (Err e) ports statics checks queriers bound watched clock asked = tt
+started_by secret site (Ok s) ports nothing statics checks queriers bound watched clock asked =
+    record { ports = ports; nothing = nothing; statics = statics; checks = checks; queriers = queriers; secret = secret; bound = bound; indices = subst (λ (it : List PortIndex). AreIndicesDistinct it) (sym bound.port_indices) (distinct site.ports.items); watched = watched; clock = clock; asked = asked }
+started_by secret site (Err e) ports nothing statics checks queriers bound watched clock asked = tt
 
 -- a router that started as its file says started as some file says
 pub starts_by_file : {R : Type 0} (loaded : Result RouterConfig ℕ) (result : Result (RunningRouter R) ℕ) → IfOk loaded (λ s. (text : List ℕ) × IsFileText text × IsSiteText text s)

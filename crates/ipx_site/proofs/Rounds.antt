@@ -6,7 +6,8 @@ use Rattle.ipx_carrier.specs.declared.report.Batch.{Batch}
 use Rattle.ipx_carrier.specs.Driving.{BurstsBy}
 use Rattle.ipx_carrier.specs.Readiness.{Readiness}
 use Rattle.ipxnet_server.specs.ServerHears.{ServerView}
-use Rattle.ipx_site.specs.IdleTime.{Deadlines, EventCounts, IsTimeUntilDue, IsDue, deadlines}
+use Rattle.ipx_site.specs.IdleTime.{Deadlines, EventCounts, IsDue, deadlines}
+use Rattle.ipx_sockets.specs.Moments.{IsTimeUntilDue}
 use Rattle.ipx_site.specs.declared.warnings.Warnings.{Warnings}
 use Rattle.ipx_site.specs.SiteCore.{SiteCore, SiteGives, SiteHears, SiteHearOutOfMemory, SiteNextOutOfMemory}
 use Rattle.ipx_site.specs.RouterRounds.{AsksAgain, IsRound, SleepsAfter}

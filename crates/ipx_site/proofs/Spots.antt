@@ -1,6 +1,6 @@
 -- Ports of all kinds, by their indices among those of their kind.
 use Rattle.std.proofs.Common.{◌≡◌, ◌∙◌, ◌<◌, ℕ, List, [], ◌∷◌, Option, Some, None, Result, Ok, Err, length, map, get_or, refl, subst, sym, ap}
-use Rattle.std.specs.Prelude.{IfOk, OnErr, option_map, slice_get, unwrap_or}
+use Rattle.std.specs.Prelude.{IfOk, OnErr, option_map, unwrap_or}
 use Rattle.std.proofs.lemmas.List.{length-map, map-append}
 use Rattle.std.proofs.lemmas.Option.{slice_get_read}
 use Rattle.ipx_carrier.specs.declared.port_driver.PacketSent.{PacketSent}

@@ -23,26 +23,26 @@ use Rattle.ipx_router.specs.Ports.{IsPort}
 use Rattle.ipx_router.specs.Told.{key_of_service, route_key}
 use Rattle.ipx_static.specs.declared.neighbour.StaticNeighbour.{StaticNeighbour}
 use Rattle.ipx_static.specs.StaticOffers.{IsAnotherNode, static_source}
-use Rattle.ipx_site.specs.declared.statics.StaticEntry.{StaticEntry}
-use Rattle.ipx_site.specs.declared.statics.StaticKind.{StaticKind}
-use Rattle.ipx_site.specs.declared.statics.StaticKind.TheVariants as Of
-use Rattle.ipx_site.specs.declared.statics.StaticItem.{StaticItem}
-use Rattle.ipx_site.specs.declared.statics.StaticItem.TheVariants as Says
-use Rattle.ipx_site.specs.declared.static_fields.NextHop.{NextHop}
-use Rattle.ipx_site.specs.declared.key.Key.TheVariants as Key
-use Rattle.ipx_site.specs.declared.site.PortConfig.{PortConfig}
-use Rattle.ipx_site.specs.declared.site.PortConfig.TheVariants.{Rfc1234, Frames, Ipxnet}
-use Rattle.ipx_site.specs.Fields.{HoldsOr}
-use Rattle.ipx_site.specs.StaticFields.{IsNear, numbered_port, port_index_on}
-use Rattle.ipx_site.specs.StaticLists.{AreStatics, AreEntriesOf, AreStaticEntries, again_place, is_one_source, is_same_word, is_repeat_of}
+use Rattle.ipx_config.specs.declared.statics.StaticEntry.{StaticEntry}
+use Rattle.ipx_config.specs.declared.statics.StaticKind.{StaticKind}
+use Rattle.ipx_config.specs.declared.statics.StaticKind.TheVariants as Of
+use Rattle.ipx_config.specs.declared.statics.StaticItem.{StaticItem}
+use Rattle.ipx_config.specs.declared.statics.StaticItem.TheVariants as Says
+use Rattle.ipx_config.specs.declared.static_fields.NextHop.{NextHop}
+use Rattle.ipx_config.specs.declared.key.Key.TheVariants as Key
+use Rattle.ipx_config.specs.declared.site.PortConfig.{PortConfig}
+use Rattle.ipx_config.specs.declared.site.PortConfig.TheVariants.{Rfc1234, Frames, Ipxnet}
+use Rattle.ipx_config.specs.Fields.{HoldsOr}
+use Rattle.ipx_config.specs.StaticFields.{IsNear, numbered_port, port_index_on}
+use Rattle.ipx_config.specs.StaticLists.{AreStatics, AreEntriesOf, AreStaticEntries, again_place, is_one_source, is_same_word, is_repeat_of, named_sources, route_of_item, service_of_item, with_source}
 use Rattle.ipx_site.specs.StaticsHold.{FilesMeetPremises, NeighbourMayAdvertise, MayAdvertise}
-use Rattle.ipx_site.specs.StaticTables.{IsEntryTable, IsPath}
-use Rattle.ipx_site.specs.PortKinds.{network_of_kind}
-use Rattle.ipx_site.specs.StaticNeighbours.{AreSilent, IsSilent, named_sources, route_of_item, service_of_item, with_source}
-use Rattle.ipx_site.specs.SitePorts.{router_port_of_kind, router_ports}
-use Rattle.ipx_site.specs.Values.{IsCount}
+use Rattle.ipx_config.specs.StaticTables.{IsEntryTable, IsPath}
+use Rattle.ipx_config.specs.PortKinds.{network_of_kind}
+use Rattle.ipx_site.specs.StaticNeighbours.{AreSilent, IsSilent}
+use Rattle.ipx_config.specs.SitePorts.{router_port_of_kind, router_ports}
+use Rattle.ipx_config.specs.Values.{IsCount}
 use Rattle.ipx_site.proofs.Among.{each_fails, later, made_of, makes, none_among, of_left, of_right, one_or_later, or_parts}
-use Rattle.ipx_site.proofs.ByHand.{neighbours_have, sources_have}
+use Rattle.ipx_site.proofs.SilentNeighbours.{neighbours_have, sources_have}
 
 -- ---- the neighbour: another node, on the network of a port that exists
 

@@ -16,12 +16,12 @@ use Rattle.ipx_static.specs.WithStatics.{WithStaticsView}
 use Rattle.ipx_static.specs.StaticOffers.{Counts, IsAnotherNode}
 use Rattle.ipx_static.specs.StaticRuns.{Asked, AsksOnceMore, Comes, ComesAs, DependsOn, IsAskedEachMinute, OffersItself, StaticCall, StaticCallAt, StaticRoutesHold, RunsWithStatics, StaticServicesHold, TellsItself, asked_by}
 use Rattle.ipx_static.specs.StaticAdvertisements.{AreWordsOf}
-use Rattle.ipx_site.specs.declared.statics.StaticEntry.{StaticEntry}
-use Rattle.ipx_site.specs.declared.statics.StaticItem.{StaticItem}
-use Rattle.ipx_site.specs.declared.statics.StaticItem.TheVariants.{Route, Service}
-use Rattle.ipx_site.specs.declared.site.RouterConfig.{RouterConfig}
+use Rattle.ipx_config.specs.declared.statics.StaticEntry.{StaticEntry}
+use Rattle.ipx_config.specs.declared.statics.StaticItem.{StaticItem}
+use Rattle.ipx_config.specs.declared.statics.StaticItem.TheVariants.{Route, Service}
+use Rattle.ipx_config.specs.declared.site.RouterConfig.{RouterConfig}
 use Rattle.ipx_site.specs.StaticsHold.{DependsOnRoute, DependsOnService, NeighbourMayAdvertise, MayAdvertise, RoutesOfFilesHold, RunsByFile, ServicesOfFilesHold}
-use Rattle.ipx_site.specs.SitePorts.{router_ports}
+use Rattle.ipx_config.specs.SitePorts.{router_ports}
 use Rattle.ipx_site.proofs.StandingEntries.{files_stand, route_entry, service_entry}
 
 -- it is such a run of the silent neighbours

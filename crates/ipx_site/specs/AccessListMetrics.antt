@@ -4,10 +4,10 @@ use Rattle.std.specs.Fmt.{decimal}
 use Rattle.std.specs.List.{list_any}
 use Rattle.ipx_site.specs.declared.access_list_metrics.FilterDropKind.{FilterDropKind}
 use Rattle.ipx_site.specs.declared.access_list_metrics.FilterDropKind.TheVariants.{UnknownSenders, Refused}
-use Rattle.ipx_site.specs.declared.port_filter_drops.PortFilterDrops.{PortFilterDrops}
+use Rattle.ipx_sockets.specs.declared.port_filter_drops.PortFilterDrops.{PortFilterDrops}
 use Rattle.ipx_site.specs.declared.router_ports.PortIndex.{PortIndex}
 use Rattle.ipx_site.specs.declared.router_ports.PortIndex.TheVariants.{Datagrams, Ethernet, IpxnetServer}
-use Rattle.ipx_site.specs.Checked.{each_after}
+use Rattle.ipx_config.specs.Checked.{each_after}
 
 -- the HELP and TYPE lines of a metric family with this name, help text and type
 abbrev pub family_text : List ℕ → List ℕ → List ℕ → List ℕ

@@ -4,9 +4,9 @@ use Rattle.ipx_wire.specs.Ipx.{BeginsWith, PacketView}
 use Rattle.ipx_router.specs.Classify.{concern_of}
 use Rattle.ipx_router.specs.declared.port.Port.{Port}
 use Rattle.ipx_source_checks.specs.SourceChecks.{is_control}
-use Rattle.ipx_site.specs.SourceFilter.{IsVerdictOn, is_node_of}
-use Rattle.ipx_site.specs.declared.source_filter.AccessList.{AccessList}
-use Rattle.ipx_site.specs.declared.source_filter.Verdict.TheVariants.{Heard}
+use Rattle.ipx_sockets.specs.SourceFilter.{IsVerdictOn, is_node_of}
+use Rattle.ipx_sockets.specs.declared.source_filter.AccessList.{AccessList}
+use Rattle.ipx_sockets.specs.declared.source_filter.Verdict.TheVariants.{Heard}
 
 -- bytes from this IP address are RIP or SAP for the router at this port, and the port's access list accepts
 -- them

@@ -10,7 +10,7 @@ use Rattle.ipx_source_checks.specs.declared.drops.SourceDrops.{SourceDrops}
 use Rattle.ipx_site.specs.declared.drop_log.DropLog.{DropLog}
 use Rattle.ipx_site.specs.declared.drop_log.DropReason.{DropReason}
 use Rattle.ipx_site.specs.declared.drop_log.DropReason.TheVariants.{Bad, NotOurs, NoRoute, HopLimit, BadControl, ForwardedControl, GroupSource, LoopedSource}
-use Rattle.ipx_site.specs.Moments.{IsLoggedIfDue, untold}
+use Rattle.ipx_sockets.specs.Moments.{IsLoggedIfDue, untold}
 
 -- nothing has been logged
 abbrev pub no_drops_logged : DropLog

@@ -1,5 +1,5 @@
 -- What a running router does by itself, and how long it has nothing to do. Defined by this project.
-use Rattle.std.specs.Prelude.{◌≡◌, ◌≤◌, ◌<◌, ◌⊎◌, ◌==◌, ◌^◌, ℕ, ◌+◌, List, [], ◌∷◌, length, map, true, Option, if◌then◌else◌}
+use Rattle.std.specs.Prelude.{◌≡◌, ◌≤◌, ◌<◌, ◌⊎◌, ◌==◌, ℕ, ◌+◌, List, [], ◌∷◌, length, true, Option, if◌then◌else◌, Some, slice_get}
 use Rattle.ipx_router.specs.Telling.{is_due}
 use Rattle.ipx_site.specs.declared.metrics.Metrics.{Metrics}
 use Rattle.ipx_site.specs.declared.router_counts.RouterCounts.{RouterCounts}
@@ -10,16 +10,23 @@ use Rattle.ipx_ipxnet_ports.specs.declared.sockets.ServerSockets.{ServerSockets}
 use Rattle.ipx_ethernet_ports.specs.declared.end_sockets.EndSockets as OfSockets
 use Rattle.ipx_ethernet_ports.specs.declared.sockets.EthernetSockets.{EthernetSockets}
 use Rattle.ipxnet_server.specs.ServerHears.{ServerView}
-use Rattle.ipx_site.specs.declared.source_filter.SourceFilter.{SourceFilter}
-use Rattle.ipx_site.specs.declared.sockets.UdpSockets.{UdpSockets}
+use Rattle.ipx_sockets.specs.declared.source_filter.SourceFilter.{SourceFilter}
+use Rattle.ipx_sockets.specs.declared.sockets.UdpSockets.{UdpSockets}
 use Rattle.ipx_site.specs.PortsView.{SitePortsRun}
-use Rattle.ipx_site.specs.declared.warnings.Warning.{Warning}
 use Rattle.ipx_site.specs.declared.warnings.Warnings.{Warnings}
 use Rattle.ipx_carrier.specs.Counting.{counted}
 use Rattle.ipx_carrier.specs.PriorityRouterCore.{PriorityQueues}
-use Rattle.ipx_site.specs.Moments.{HasPassed, IsOneDue, IsToAskAgain}
+use Rattle.ipx_sockets.specs.Moments.{HasPassed, IsOneDue}
 use Rattle.ipx_site.specs.SiteCore.{SiteCore}
 use Rattle.ipx_site.specs.EthernetTotals.{encapsulated_otherwise_in, unframed_in}
+
+-- the times at which a router repeats its requests, in milliseconds since its start
+abbrev pub askings : List ℕ
+askings = 1000 ∷ 2000 ∷ 4000 ∷ 8000 ∷ 16000 ∷ 32000 ∷ []
+
+-- a router that repeated its requests `times` times is to repeat them once more
+abbrev pub IsToAskAgain : ℕ → ℕ → Type 0
+IsToAskAgain times now = (moment : ℕ) × (slice_get askings times ≡ Some moment) × (moment ≤ now)
 
 -- how often each cause of a log line occurred
 pub record EventCounts : Type 0 where
@@ -35,6 +42,7 @@ pub record EventCounts : Type 0 where
   pub memory : ℕ
   pub file : ℕ
   pub frame_unknown_senders : ℕ
+  pub ipxnet_unknown_senders : ℕ
   pub unframed : ℕ
   pub other_encapsulation : ℕ
 
@@ -53,6 +61,7 @@ happened_in f = record {
   memory = f.memory_faults;
   file = f.file_faults;
   frame_unknown_senders = f.frame_unknown_senders;
+  ipxnet_unknown_senders = f.ipxnet_unknown_senders.count;
   unframed = f.unframed;
   other_encapsulation = f.other_encapsulation;
 }
@@ -77,6 +86,7 @@ happened totals core ports = record {
   memory = totals.memory_faults;
   file = totals.file_faults;
   frame_unknown_senders = ports.ethernet.sockets.unknown_senders;
+  ipxnet_unknown_senders = ports.servers.sockets.nowhere;
   unframed = unframed_in ports.ethernet.switches.items;
   other_encapsulation = encapsulated_otherwise_in ports.ethernet.switches.items;
 }
@@ -85,7 +95,7 @@ happened totals core ports = record {
 abbrev pub counts_to_log : EventCounts → List ℕ
 counts_to_log n = n.unknown_senders ∷ n.spoofed ∷ n.not_a_router ∷ n.rate_limited ∷ n.refused ∷ n.table_full
     ∷ n.queue_full ∷ n.device ∷ n.memory ∷ n.file ∷ n.frame_unknown_senders ∷ n.unframed
-    ∷ n.other_encapsulation ∷ n.directed ∷ []
+    ∷ n.other_encapsulation ∷ n.directed ∷ n.ipxnet_unknown_senders ∷ []
 
 -- a line for one of a router's causes is due
 abbrev pub IsLineDue : Warnings → EventCounts → ℕ → Type 0
@@ -139,15 +149,4 @@ IsDue a now = IsToSend a.core.core.core.core.queues
     ⊎ HasPassed 10000 a.written now
     ⊎ IsLineDue a.warnings a.count now
 
--- for this long from now there is nothing to do, at any time that a clock can show. If it is less than ten
--- seconds, which is the most, there is something to do then
-pub record IsTimeUntilDue (todo : ℕ → Type 0) (now time : ℕ) : Type 0 where
-  pub most : time ≤ 10000
-  pub nothing : (t : ℕ) → now ≤ t → t < now + time → t < 2 ^ 64 → todo t → ⊥
-  pub something : time < 10000 → (now + time < 2 ^ 64) × todo (now + time)
-
 -- ---- definitions for private functions
-
--- how often each problem of a list occurred
-abbrev pub counts_of : List Warning → List ℕ
-counts_of warnings = map (λ t. t.kept.count) warnings

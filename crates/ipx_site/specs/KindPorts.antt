@@ -1,15 +1,13 @@
 -- The ports of a router's file by their kinds: RFC 1234, Ethernet and ipxnet, and their indices among those.
 -- Defined by this project.
-use Rattle.std.specs.Prelude.{◌≡◌, ℕ, List, [], ◌∷◌, ◌++◌, Option, length, map}
-use Rattle.std.specs.List.{flat_map}
+use Rattle.std.specs.Prelude.{◌≡◌, ℕ, List, [], ◌∷◌, ◌++◌, Option, length, map, Bool, true, false}
 use Rattle.std.specs.Net.Addr.{ipv4_octets}
 use Rattle.std.specs.Net.Socket.{v4_ip}
-use Rattle.std.specs.declared.net.socket_addr.SocketAddrV4.{SocketAddrV4}
 use Rattle.ipx_ethernet.specs.declared.ethernet_port.EthernetPort.{EthernetPort}
 use Rattle.ipx_ethernet.specs.Heard.{SwitchView, new_switch}
-use Rattle.ipx_carrier.specs.Traces.{v4_at}
 use Rattle.ipx_carrier.specs.Turns.{peers_of}
 use Rattle.ipxnet_server.specs.ServerHears.{ServerView, joined_server}
+use Rattle.ipxnet_server.specs.declared.port.Secret.{Secret}
 use Rattle.ipxnet_server.specs.declared.port.ServerPort.{ServerPort}
 use Rattle.ipx_ipxnet_ports.specs.ServerAddresses.{bound_places as bound_servers, ips_heard}
 use Rattle.ipx_ethernet_ports.specs.EthernetAddresses.{bound_places, remote_places}
@@ -18,43 +16,19 @@ use Rattle.ipx_ipxnet_ports.specs.declared.place_sockets.PlaceSockets as OfPlace
 use Rattle.ipx_ipxnet_ports.specs.declared.sockets.ServerSockets.{ServerSockets}
 use Rattle.ipx_ethernet_ports.specs.declared.end_sockets.EndSockets as OfSockets
 use Rattle.ipx_ethernet_ports.specs.declared.sockets.EthernetSockets.{EthernetSockets}
-use Rattle.ipx_site.specs.declared.source_filter.SourceFilter.{SourceFilter}
-use Rattle.ipx_site.specs.declared.sockets.UdpSockets.{UdpSockets}
+use Rattle.ipx_sockets.specs.declared.source_filter.SourceFilter.{SourceFilter}
+use Rattle.ipx_sockets.specs.declared.sockets.UdpSockets.{UdpSockets}
 use Rattle.ipx_site.specs.PortsView.{SitePortsRun}
 use Rattle.ipx_site.specs.declared.router_ports.PortIndex.{PortIndex}
 use Rattle.ipx_site.specs.declared.router_ports.PortIndex.TheVariants.{Datagrams, Ethernet, IpxnetServer}
-use Rattle.ipx_site.specs.declared.site.EthernetPortConfig.{EthernetPortConfig}
-use Rattle.ipx_site.specs.declared.ipxnet_port.IpxnetPortConfig.{IpxnetPortConfig}
-use Rattle.ipx_site.specs.declared.site.PortConfig.{PortConfig}
-use Rattle.ipx_site.specs.declared.site.PortConfig.TheVariants.{Rfc1234, Frames, Ipxnet}
-use Rattle.ipx_site.specs.declared.site.Rfc1234PortConfig.{Rfc1234PortConfig}
-use Rattle.ipx_site.specs.SitePorts.{AccessListPorts, heard_at_port, site_peers, udp_ports}
-
--- a port, if it is of that kind
-abbrev pub datagrams_in : PortConfig → List Rfc1234PortConfig
-datagrams_in (Rfc1234 p) = p ∷ []
-datagrams_in (Frames p) = []
-datagrams_in (Ipxnet p) = []
-
-abbrev pub ethernet_ports_in : PortConfig → List EthernetPortConfig
-ethernet_ports_in (Rfc1234 p) = []
-ethernet_ports_in (Frames p) = p ∷ []
-ethernet_ports_in (Ipxnet p) = []
-
-abbrev pub ipxnet_in : PortConfig → List IpxnetPortConfig
-ipxnet_in (Rfc1234 p) = []
-ipxnet_in (Frames p) = []
-ipxnet_in (Ipxnet p) = p ∷ []
-
--- those of each kind, in order
-abbrev pub datagram_ports : List PortConfig → List Rfc1234PortConfig
-datagram_ports ports = flat_map datagrams_in ports
-
-abbrev pub ethernet_ports : List PortConfig → List EthernetPortConfig
-ethernet_ports ports = flat_map ethernet_ports_in ports
-
-abbrev pub ipxnet_ports : List PortConfig → List IpxnetPortConfig
-ipxnet_ports ports = flat_map ipxnet_in ports
+use Rattle.ipx_config.specs.declared.site.EthernetPortConfig.{EthernetPortConfig}
+use Rattle.ipx_config.specs.declared.ipxnet_port.IpxnetPortConfig.{IpxnetPortConfig}
+use Rattle.ipx_config.specs.declared.site.PortConfig.{PortConfig}
+use Rattle.ipx_config.specs.declared.site.PortConfig.TheVariants.{Rfc1234, Frames, Ipxnet}
+use Rattle.ipx_sockets.specs.AccessLists.{AccessListPorts}
+use Rattle.ipx_config.specs.SitePorts.{heard_at_port, site_peers, udp_ports, router_port_of_kind}
+use Rattle.ipx_source_checks.specs.declared.failed_check.CheckedPort.{CheckedPort}
+use Rattle.ipx_config.specs.PortLists.{datagram_ports, ethernet_ports, ipxnet_ports, datagram_places, ethernet_places, ipxnet_places, end_places}
 
 -- the index of a port among those of its kind, starting at 0, after earlier ports
 abbrev pub port_index_after : List PortConfig → PortConfig → PortIndex
@@ -77,27 +51,13 @@ ethernet_port_of p = record { own = p.node; network = p.network; encapsulation =
 abbrev pub switch_of : EthernetPortConfig → SwitchView
 switch_of p = new_switch (ethernet_port_of p) p.joined
 
--- where the ports of each kind are bound
-abbrev pub datagram_places : List Rfc1234PortConfig → List SocketAddrV4
-datagram_places ports = map (λ p. v4_at p.address p.udp_port) ports
-
-abbrev pub ethernet_places : List EthernetPortConfig → List SocketAddrV4
-ethernet_places ports = map (λ p. v4_at p.address p.udp_port) ports
-
-abbrev pub ipxnet_places : List IpxnetPortConfig → List SocketAddrV4
-ipxnet_places ports = map (λ p. v4_at p.address p.udp_port) ports
-
--- the places of the remotes of each
-abbrev pub end_places : List EthernetPortConfig → List (List SocketAddrV4)
-end_places ports = map (λ p. p.ends.items) ports
-
 -- the server port of a file's ipxnet port, and its server before any client registered
-abbrev pub client_port_of : IpxnetPortConfig → ServerPort
-client_port_of p = record { network = p.network; own = p.node }
+abbrev pub client_port_of : Secret → IpxnetPortConfig → ServerPort
+client_port_of secret p = record { network = p.network; own = p.node; secret = secret }
 
 -- it is joined to the servers of the routers that the file names
-abbrev pub server_of_port : IpxnetPortConfig → ServerView
-server_of_port p = joined_server (client_port_of p) p.clients p.join.items
+abbrev pub server_of_port : Secret → IpxnetPortConfig → ServerView
+server_of_port secret p = joined_server (client_port_of secret p) p.clients p.join.items
 
 -- the IP addresses from which clients may register: the named ones and those of joined routers, or all
 abbrev pub registering_at : IpxnetPortConfig → Option (List (List ℕ))
@@ -105,9 +65,9 @@ registering_at p = heard_at_port p.accept (p.peers.items ++ map (λ r. ipv4_octe
 
 -- the ports of a file as those of a router. An RFC 1234 port has its peers, its access list, and a socket
 -- with the UDP port of its peers. An Ethernet port has its switch, and a socket with the places of its
--- remotes. An ipxnet port has its server, and a socket that accepts those that may register. Each socket is
--- bound where the file says
-pub record ArePortsBound {gd : OfDevice.Ghosts (SourceFilter UdpSockets)} {ge : OfSockets.Ghosts EthernetSockets} {gl : OfPlaces.Ghosts ServerSockets} (ports : List PortConfig) (r : SitePortsRun gd ge gl) : Type 0 where
+-- remotes. An ipxnet port has its server, with this secret, and a socket that accepts those that may register.
+-- Each socket is bound where the file says
+pub record ArePortsBound {gd : OfDevice.Ghosts (SourceFilter UdpSockets)} {ge : OfSockets.Ghosts EthernetSockets} {gl : OfPlaces.Ghosts ServerSockets} (secret : Secret) (ports : List PortConfig) (r : SitePortsRun gd ge gl) : Type 0 where
   pub port_indices : r.port_indices.items ≡ port_indices_of ports
   pub peers : peers_of r.datagrams.peers.items ≡ site_peers (datagram_ports ports)
   pub access_lists : AccessListPorts (datagram_ports ports) r.datagrams.device.access_lists.items
@@ -116,6 +76,18 @@ pub record ArePortsBound {gd : OfDevice.Ghosts (SourceFilter UdpSockets)} {ge : 
   pub switches : r.ethernet.switches.items ≡ map switch_of (ethernet_ports ports)
   pub ends : remote_places r.ethernet.sockets.ethernet.items ≡ end_places (ethernet_ports ports)
   pub ethernet_bound : bound_places r.ethernet.sockets.ethernet.items ≡ ethernet_places (ethernet_ports ports)
-  pub servers : r.servers.servers.items ≡ map server_of_port (ipxnet_ports ports)
+  pub servers : r.servers.servers.items ≡ map (server_of_port secret) (ipxnet_ports ports)
   pub ipxnet_bound : bound_servers r.servers.sockets.sockets.items ≡ ipxnet_places (ipxnet_ports ports)
   pub registering : map ips_heard r.servers.sockets.sockets.items ≡ map registering_at (ipxnet_ports ports)
+
+-- the ports for source checks: which of them are Ethernet ports
+abbrev pub is_ethernet : PortConfig → Bool
+is_ethernet (Rfc1234 p) = false
+is_ethernet (Frames p) = true
+is_ethernet (Ipxnet p) = false
+
+abbrev pub checked_port_of_kind : PortConfig → CheckedPort
+checked_port_of_kind p = record { port = router_port_of_kind p; ethernet = is_ethernet p }
+
+abbrev pub checked_ports : List PortConfig → List CheckedPort
+checked_ports ports = map checked_port_of_kind ports

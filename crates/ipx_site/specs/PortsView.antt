@@ -7,11 +7,11 @@ use Rattle.ipx_ipxnet_ports.specs.declared.place_sockets.PlaceSockets as OfPlace
 use Rattle.ipx_ipxnet_ports.specs.declared.sockets.ServerSockets.{ServerSockets}
 use Rattle.ipx_ethernet_ports.specs.declared.end_sockets.EndSockets as OfSockets
 use Rattle.ipx_ethernet_ports.specs.declared.sockets.EthernetSockets.{EthernetSockets}
-use Rattle.ipx_site.specs.declared.source_filter.SourceFilter.{SourceFilter}
+use Rattle.ipx_sockets.specs.declared.source_filter.SourceFilter.{SourceFilter}
 use Rattle.ipx_site.specs.declared.router_ports.RouterPorts.{RouterPorts}
-use Rattle.ipx_site.specs.declared.sockets.UdpSockets.{UdpSockets}
+use Rattle.ipx_sockets.specs.declared.sockets.UdpSockets.{UdpSockets}
 use Rattle.ipx_site.specs.RouterPorts.{PortCopy, by_kind}
-use Rattle.ipx_site.specs.SourceFilter.{drops_in}
+use Rattle.ipx_sockets.specs.SourceFilter.{drops_in}
 
 -- the ports of a site, over their sockets
 abbrev pub SitePortsRun : OfDevice.Ghosts (SourceFilter UdpSockets) → OfSockets.Ghosts EthernetSockets → OfPlaces.Ghosts ServerSockets → Type 0

@@ -12,8 +12,8 @@ use Rattle.ipx_ipxnet_ports.specs.declared.place_sockets.PlaceSockets as OfPlace
 use Rattle.ipx_ipxnet_ports.specs.declared.sockets.ServerSockets.{ServerSockets}
 use Rattle.ipx_ethernet_ports.specs.declared.end_sockets.EndSockets as OfSockets
 use Rattle.ipx_ethernet_ports.specs.declared.sockets.EthernetSockets.{EthernetSockets}
-use Rattle.ipx_site.specs.declared.source_filter.SourceFilter.{SourceFilter}
-use Rattle.ipx_site.specs.declared.sockets.UdpSockets.{UdpSockets}
+use Rattle.ipx_sockets.specs.declared.source_filter.SourceFilter.{SourceFilter}
+use Rattle.ipx_sockets.specs.declared.sockets.UdpSockets.{UdpSockets}
 use Rattle.ipx_site.specs.PortsView.{SitePortsRun}
 use Rattle.ipx_carrier.specs.declared.report.Batch.{Batch}
 use Rattle.ipx_site.specs.declared.route_change_log.RouteChangeLog.{RouteChangeLog}
@@ -48,6 +48,9 @@ pub record AreMetrics {gd : OfDevice.Ghosts (SourceFilter UdpSockets)} {ge : OfS
   pub directed : f.directed ≡ core.core.directed
   pub source_drops : f.source_drops ≡ core.drops
   pub filtered : f.kept ≡ ports.datagrams.device.kept
+  pub last_refused : f.last_refused ≡ ports.datagrams.device.last_refused
+  pub frame_unknown_last : f.frame_last_unknown ≡ ports.ethernet.sockets.last_unknown
+  pub ipxnet_unknown_last : f.ipxnet_unknown_senders.last ≡ ports.servers.sockets.last_unknown
   pub sent_out : f.sent ≡ ports.datagrams.device.device.sent
   pub unmapped : f.unmapped ≡ totals.unmapped
   pub queue : f.queue ≡ length core.core.core.core.queues.forwarded + length core.core.core.core.queues.own

@@ -6,8 +6,8 @@ use Rattle.ipx_carrier.specs.Turns.{Ways}
 use Rattle.ipx_carrier.specs.declared.report.Batch.{Batch}
 use Rattle.ipx_carrier.specs.Driving.{BurstsBy}
 use Rattle.ipx_carrier.specs.Readiness.{Readiness}
-use Rattle.ipx_site.specs.IdleTime.{IsTimeUntilDue}
-use Rattle.ipx_site.specs.Moments.{IsToAskAgain}
+use Rattle.ipx_sockets.specs.Moments.{IsTimeUntilDue}
+use Rattle.ipx_site.specs.IdleTime.{IsToAskAgain}
 use Rattle.ipx_site.specs.SiteCore.{SiteAsksAgain, SiteCore, SiteGives, SiteHears, SiteHearOutOfMemory, SiteNextOutOfMemory}
 
 -- its router gives the packets of its start once more if it is time to repeat them, and never otherwise

@@ -1,46 +1,57 @@
 -- What the router of a file does from its start until it ends: one round after another. The entry points are
 -- `StartsByFile`, `RunsTo` and, of both, `RoutesWell`. Defined by this project.
-use Rattle.std.specs.Prelude.{◌≡◌, ◌^◌, ◌-◌, ◌++◌, ◌∷◌, ℕ, zero, suc, Bool, true, false, List, [], map}
+use Rattle.std.specs.Prelude.{◌≡◌, ◌^◌, ◌-◌, ◌++◌, ◌∷◌, ℕ, zero, suc, Bool, true, false, List, [], map, None}
 use Rattle.ipx_carrier.specs.ReadySet.{AreMarked, is_any_marked}
 use Rattle.ipx_carrier.specs.Turns.{peers_of}
 use Rattle.ipx_carrier.specs.declared.report.Batch.{Batch}
+use Rattle.ipx_router.specs.RouterView.{RouterView}
 use Rattle.ipx_source_checks.specs.SourceChecks.{nothing_dropped_yet}
 use Rattle.ipx_site.specs.IdleTime.{IsDue, deadlines, happened}
-use Rattle.ipx_site.specs.KindPorts.{ArePortsBound}
-use Rattle.ipx_site.specs.Loading.{IsFileText}
-use Rattle.ipx_site.specs.PollEvents.{Waited, Watched}
-use Rattle.ipx_site.specs.PortLimits.{limits_of}
+use Rattle.ipx_site.specs.KindPorts.{checked_ports, ArePortsBound}
+use Rattle.ipxnet_server.specs.declared.port.Secret.{Secret}
+use Rattle.ipx_config.specs.Loading.{IsFileText}
+use Rattle.ipx_sockets.specs.PollEvents.{Waited, Watched}
+use Rattle.ipx_rate_limits.specs.PortLimits.{limits_of}
 use Rattle.ipx_site.specs.PortsView.{filtered_in_ports, ways_in}
+use Rattle.ipx_site.specs.RouterPings.{PingsFirst}
 use Rattle.ipx_site.specs.RouterRounds.{IsRound, SleepsAfter}
-use Rattle.ipx_site.specs.Site.{IsSiteText}
+use Rattle.ipx_config.specs.Site.{IsSiteText}
 use Rattle.ipx_site.specs.RouterMarks.{AreIndicesDistinct}
 use Rattle.ipx_site.specs.SiteMarks.{KindMarks, all_marks, kind_marks, marks_in, numbers_come, port_fds, port_marks}
-use Rattle.ipx_site.specs.SitePorts.{access_by, checked_ports, router_ports}
+use Rattle.ipx_sockets.specs.AccessLists.{access_by}
+use Rattle.ipx_config.specs.SitePorts.{router_ports}
 use Rattle.ipx_site.specs.StaticNeighbours.{IsToHear}
-use Rattle.ipx_site.specs.Steady.{NeverGoesBack, StopsThere}
-use Rattle.ipx_site.specs.declared.clock.SteadyClock.{SteadyClock}
+use Rattle.ipx_sockets.specs.Steady.{NeverGoesBack, StopsThere}
+use Rattle.ipx_rate_limits.specs.TokenBuckets.{fresh_buckets}
+use Rattle.ipx_sockets.specs.declared.clock.SteadyClock.{SteadyClock}
 use Rattle.ipx_site.specs.declared.running_router.RunningRouter.{RunningRouter}
-use Rattle.ipx_site.specs.declared.site.RouterConfig.{RouterConfig}
+use Rattle.ipx_config.specs.declared.site.RouterConfig.{RouterConfig}
+
+-- a router knows no route and no service of others, and has advertised nothing
+abbrev pub KnowsNothing : RouterView → Type 0
+KnowsNothing r = (r.routes.offers ≡ []) × (r.services.offers ≡ []) × (r.told ≡ None)
 
 -- a router has started as its file says. It has the ports of the file, each with its socket and an index of
--- its own, and is to hear its static entries. It checks sources at its ports, and has dropped nothing. The limits at its ports are
--- those of their kinds and of the file, and no general query has come. Its poller watches the descriptors of
+-- its own, and all ipxnet ports with one secret. It knows nothing of other routers, and is to hear its static entries. It checks sources at its ports, and has dropped nothing. The limits at its ports are
+-- those of their kinds and of the file, and no query has come. Its poller watches the descriptors of
 -- all its sockets, by kind, and has not waited. Its clock begins at 0, and it has not repeated its requests
 pub record StartsBy {R : Type 0} (site : RouterConfig) (first : RunningRouter R) : Type 0 where
   pub ports : first.core.core.core.core.router.ports ≡ router_ports site.ports.items
+  pub nothing : KnowsNothing first.core.core.core.core.router
   pub statics : IsToHear site.statics.items first.core.core.core
   pub checks : (first.core.ports ≡ checked_ports site.ports.items) × (first.core.drops ≡ nothing_dropped_yet)
   pub queriers : (first.core.core.ports ≡ router_ports site.ports.items)
-      × (first.core.core.buckets.queriers ≡ []) × (first.core.core.buckets.ports ≡ limits_of site.ports.items)
-  pub bound : ArePortsBound site.ports.items first.ports
+      × (first.core.core.buckets ≡ fresh_buckets (limits_of site.ports.items))
+  pub secret : Secret
+  pub bound : ArePortsBound secret site.ports.items first.ports
   pub indices : AreIndicesDistinct first.ports.port_indices.items
   pub watched : first.ready.trace.items ≡ map Watched (port_fds first.ports)
   pub clock : first.clock.last ≡ 0
   pub asked : first.asked ≡ 0
 
--- one round, followed by one wait, as long as there is nothing to do. If the wait does not fail, exactly the
--- ports are marked at which something came. The ways of packets, the port indices and the accepted senders
--- are unchanged
+-- one round, which begins with the pings that are due, followed by one wait, as long as there is nothing to do.
+-- If the wait does not fail, the ports at which something came are marked, and no others. Marks of before stay.
+-- The ways of packets, the port indices and the accepted senders are unchanged
 pub record TakesRound {R : Type 0} (old new : RunningRouter R) : Type 0 where
   pub between : SteadyClock R
   pub batch : Batch
@@ -58,6 +69,7 @@ pub record TakesRound {R : Type 0} (old new : RunningRouter R) : Type 0 where
   pub marked : new.ready.failed ≡ false
       → AreMarked (numbers_come new.ready) (all_marks marks) (marks_in new.ports)
   pub moments : new.ports.servers.moment ≡ new.ports.ethernet.moment
+  pub pings : PingsFirst new.ports.ethernet.moment old.ports new.ports
   pub transmissions : ways_in new.ports ≡ ways_in old.ports
   pub peers : peers_of new.ports.datagrams.peers.items ≡ peers_of old.ports.datagrams.peers.items
   pub port_indices : new.ports.port_indices.items ≡ old.ports.port_indices.items

@@ -5,7 +5,7 @@ use Rattle.ipx_carrier.specs.Turns.{Given}
 use Rattle.ipx_metrics.specs.MeteredRouter.{CountedView, CountsAsItGives, CountsHeard, CountsMissed, CountsWithheld}
 use Rattle.ipx_static.specs.WithStatics.{WithStaticsView, GivesWithStatics, HearsUnder, HearOutOfMemoryUnder, NextOutOfMemoryWithStatics}
 use Rattle.ipx_source_checks.specs.SourceChecked.{GivesBelowChecks, HearsChecked, HearOutOfMemoryChecked, SourceCheckedView, NextOutOfMemoryBelowChecks}
-use Rattle.ipx_site.specs.RateLimiter.{GivesBelow, HearsRateLimited, HearOutOfMemoryBelow, RateLimiterView, NextOutOfMemoryBelow}
+use Rattle.ipx_rate_limits.specs.RateLimiter.{GivesBelow, HearsRateLimited, HearOutOfMemoryBelow, RateLimiterView, NextOutOfMemoryBelow}
 
 abbrev pub SiteCore : Type 0
 SiteCore = SourceCheckedView (RateLimiterView (WithStaticsView CountedView))

@@ -8,16 +8,16 @@ use Rattle.ipx_ipxnet_ports.specs.declared.place_sockets.PlaceSockets as OfPlace
 use Rattle.ipx_ipxnet_ports.specs.declared.sockets.ServerSockets.{ServerSockets}
 use Rattle.ipx_ethernet_ports.specs.declared.end_sockets.EndSockets as OfSockets
 use Rattle.ipx_ethernet_ports.specs.declared.sockets.EthernetSockets.{EthernetSockets}
-use Rattle.ipx_site.specs.declared.source_filter.SourceFilter.{SourceFilter}
-use Rattle.ipx_site.specs.declared.poller.Poller.{Poller}
-use Rattle.ipx_site.specs.declared.sockets.UdpSockets.{UdpSockets}
+use Rattle.ipx_sockets.specs.declared.source_filter.SourceFilter.{SourceFilter}
+use Rattle.ipx_sockets.specs.declared.poller.Poller.{Poller}
+use Rattle.ipx_sockets.specs.declared.sockets.UdpSockets.{UdpSockets}
 use Rattle.ipx_carrier.specs.Readiness.{Readiness}
 use Rattle.ipx_carrier.specs.ReadySet.{is_port_marked}
 use Rattle.ipx_ethernet_ports.specs.EthernetAddresses.{ethernet_fds}
 use Rattle.ipx_ipxnet_ports.specs.ServerAddresses.{server_fds}
 use Rattle.ipx_site.specs.PortsView.{SitePortsRun}
 use Rattle.ipx_site.specs.RouterMarks.{marked_by_kind}
-use Rattle.ipx_site.specs.Senders.{udp_fds}
+use Rattle.ipx_sockets.specs.Senders.{udp_fds}
 use Rattle.ipx_site.specs.declared.router_ports.PortIndex.{PortIndex}
 
 -- the numbers of the descriptors at which something came at the last wait, starting at 0
@@ -61,3 +61,4 @@ pub record DifferInMarks {gd : OfDevice.Ghosts (SourceFilter UdpSockets)} {ge : 
   pub ethernet : new.ethernet ≡ record old.ethernet { sockets = record old.ethernet.sockets { marks = new.ethernet.sockets.marks } }
   pub servers : new.servers ≡ record old.servers { sockets = record old.servers.sockets { marks = new.servers.sockets.marks } }
   pub port_indices : new.port_indices ≡ old.port_indices
+  pub pinged : new.pinged ≡ old.pinged

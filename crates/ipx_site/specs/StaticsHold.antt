@@ -15,14 +15,14 @@ use Rattle.ipx_static.specs.declared.neighbour.StaticNeighbour.{StaticNeighbour}
 use Rattle.ipx_static.specs.WithStatics.{WithStaticsView}
 use Rattle.ipx_static.specs.StaticOffers.{Counts, FindsSpace, IsAnotherNode, IsAdvertisedAlone, static_source}
 use Rattle.ipx_static.specs.StaticRuns.{Asked, AsksOnceMore, Comes, DoStaticCalls, DependsOn, DoesStaticCall, StaticCall, StaticCallAt, IsAskedEachMinute, OffersItself, TellsItself, asked_in, uncounted}
-use Rattle.ipx_site.specs.declared.statics.StaticEntry.{StaticEntry}
-use Rattle.ipx_site.specs.declared.statics.StaticItem.{StaticItem}
-use Rattle.ipx_site.specs.declared.statics.StaticItem.TheVariants.{Route, Service}
-use Rattle.ipx_site.specs.declared.site.RouterConfig.{RouterConfig}
+use Rattle.ipx_config.specs.declared.statics.StaticEntry.{StaticEntry}
+use Rattle.ipx_config.specs.declared.statics.StaticItem.{StaticItem}
+use Rattle.ipx_config.specs.declared.statics.StaticItem.TheVariants.{Route, Service}
+use Rattle.ipx_config.specs.declared.site.RouterConfig.{RouterConfig}
 use Rattle.ipx_site.specs.StaticNeighbours.{AreSilent, IsToHear}
-use Rattle.ipx_site.specs.Site.{IsSiteText}
+use Rattle.ipx_config.specs.Site.{IsSiteText}
 use Rattle.ipx_site.specs.SiteCore.{SiteAsksAgain, SiteCore, SiteGives, SiteHears}
-use Rattle.ipx_site.specs.SitePorts.{router_ports}
+use Rattle.ipx_config.specs.SitePorts.{router_ports}
 
 -- a neighbour is to advertise an item and nothing else for its key, less than 16 hops away; the network of a
 -- route is one that the router hears

@@ -4,8 +4,8 @@ ghost use Rattle.std.specs.Prelude.{◌≡◌, ◌++◌, IfOk, OnErr, OnOk, is_s
 ghost use Rattle.ipx_site.specs.AccessListMetrics.{metric_if, access_list_metrics, access_list_text, is_any_guarded, drops_at_port_index, access_list_count, refused_text, unknown_senders_text};
 
 use crate::family::{Family, put_family, put_of_port};
-use crate::port_filter_drops::PortFilterDrops;
 use crate::router_ports::PortIndex;
+use ipx_sockets::PortFilterDrops;
 use std::alloc::{AllocError, Global};
 
 const UNKNOWN_SENDERS: Family = Family {

@@ -3,10 +3,10 @@
 ghost use Rattle.std.specs.Prelude.{◌≡◌, ◌≤◌, ◌+◌, ◌++◌, [], IfOk, None, OnErr, OnOk, Some, length};
 ghost use Rattle.ipx_site.specs.ClientLog.{all_clients, clients_come, clients_gone, clients_logged, clients_without};
 ghost use Rattle.ipx_site.specs.ClientLog.{client_key, has_client_key, is_listed_client, max_client_lines, port_clients, port_index_clients};
-ghost use Rattle.ipx_site.specs.Moments.{HasPassed};
+ghost use Rattle.ipx_sockets.specs.Moments.{HasPassed};
 
-use crate::moments::is_over;
 use crate::router_ports::{PortIndex, UdpRouterPorts};
+use ipx_sockets::is_over;
 use ipx_wire::Node;
 use ipxnet_server::{Client, IpxnetServer};
 use log::{Log, info};

@@ -1,7 +1,7 @@
 //! When a starting router repeats its requests to its neighbours.
 
 ghost use Rattle.std.specs.Prelude.{◌≡◌, ◌<◌, IfSome, slice_get};
-ghost use Rattle.ipx_site.specs.Moments.{askings};
+ghost use Rattle.ipx_site.specs.IdleTime.{askings};
 
 /// The times, in milliseconds since the start.
 const MOMENTS: [u64; 6] = [1000, 2000, 4000, 8000, 16_000, 32_000];

@@ -2,14 +2,14 @@
 
 ghost use Rattle.std.specs.Prelude.{◌≡◌};
 ghost use Rattle.ipx_site.specs.DropLog.{AreDropsLogged, AreRouterDropsLogged, AreSourceDropsLogged, is_for_all_nodes, is_of_all_nodes, no_drops_logged, warns_of};
-ghost use Rattle.ipx_site.specs.Moments.{IsLoggedIfDue};
+ghost use Rattle.ipx_sockets.specs.Moments.{IsLoggedIfDue};
 
-use crate::sameness::is_same_node;
-use crate::throttled_log::ThrottledLog;
 use ipx_carrier::OutcomeCounters;
+use ipx_config::is_same_node;
 use ipx_metrics::{LastDrop, LastDrops};
+use ipx_sockets::ThrottledLog;
 use ipx_source_checks::SourceDrops;
-use ipx_wire::{Address, Node, Socket};
+use ipx_wire::{Address, Network, Node, Socket};
 use log::{Log, info, warn};
 use std::fmt;
 
@@ -32,6 +32,8 @@ pub enum DropReason {
 pub struct DropSummary {
     pub reason: DropReason,
     pub last: Option<LastDrop>,
+    /// The network of the port that the last datagram came by. Only a looped source names it.
+    pub network: Option<Network>,
 }
 
 /// When a router last logged its drops, for each of eight reasons.
@@ -47,11 +49,30 @@ pub struct DropLog {
     looped_source: ThrottledLog,
 }
 
-fn write_reason<W: fmt::Write>(
+/// Writes that a packet claims to come from the network that it is for. Usually its sender has
+/// another number for the network of the port.
+fn write_looped<W: fmt::Write>(
     f: &mut fmt::Formatter<W>,
-    reason: DropReason,
     last: Option<LastDrop>,
+    network: Option<Network>,
 ) -> fmt::Result {
+    f.write_str("looped source")?;
+    match (last.and_then(|last| last.from), network) {
+        (Some(from), Some(network)) => write!(
+            f,
+            " (sender uses network {}, this port has {network})",
+            from.network
+        ),
+        _ => Ok(()),
+    }
+}
+
+fn write_reason<W: fmt::Write>(f: &mut fmt::Formatter<W>, summary: &DropSummary) -> fmt::Result {
+    let DropSummary {
+        reason,
+        last,
+        network,
+    } = *summary;
     match reason {
         DropReason::Bad => f.write_str("bad"),
         DropReason::NotOurs => f.write_str("not ours"),
@@ -59,7 +80,7 @@ fn write_reason<W: fmt::Write>(
         DropReason::BadControl => f.write_str("bad control"),
         DropReason::ForwardedControl => f.write_str("forwarded control"),
         DropReason::GroupSource => f.write_str("RIP or SAP with a group or zero source node"),
-        DropReason::LoopedSource => f.write_str("looped source"),
+        DropReason::LoopedSource => write_looped(f, last, network),
         DropReason::NoRoute => match last.and_then(|last| last.to) {
             Some(to) => write!(f, "no route {}", to.network),
             None => f.write_str("no route"),
@@ -123,7 +144,7 @@ impl DropSummary {
 
 impl fmt::Display for DropSummary {
     fn fmt<W: fmt::Write>(&self, f: &mut fmt::Formatter<W>) -> fmt::Result {
-        write_reason(f, self.reason, self.last)?;
+        write_reason(f, self)?;
         match self.last {
             Some(last) => write_last(f, last),
             None => Ok(()),
@@ -145,7 +166,11 @@ fn tell<R: Log>(rt: &R, cause: &mut ThrottledLog, count: u64, words: DropSummary
 
 /// What a line says of a reason.
 fn words(reason: DropReason, last: Option<LastDrop>) -> DropSummary {
-    DropSummary { reason, last }
+    DropSummary {
+        reason,
+        last,
+        network: None,
+    }
 }
 
 impl DropLog {
@@ -216,7 +241,10 @@ impl DropLog {
         let looped = source.looped_source;
         let control = words(DropReason::ForwardedControl, forwarded.last);
         let groups = words(DropReason::GroupSource, grouped.last);
-        let loops = words(DropReason::LoopedSource, looped.last);
+        let loops = DropSummary {
+            network: looped.network,
+            ..words(DropReason::LoopedSource, looped.last)
+        };
         tell(
             rt,
             &mut self.forwarded_control,

@@ -1,15 +1,16 @@
 //! The Ethernet ports of a router: their sockets and their switches.
 
 ghost use Rattle.std.specs.Prelude.{◌≡◌, ◌++◌, ◌∷◌, [], IfOk, OnOk, map};
-ghost use Rattle.ipx_site.specs.KindPorts.{end_places, ethernet_places, switch_of, ethernet_port_of, ethernet_ports};
+ghost use Rattle.ipx_config.specs.PortLists.{end_places, ethernet_places, ethernet_ports};
+ghost use Rattle.ipx_site.specs.KindPorts.{switch_of, ethernet_port_of};
 ghost use Rattle.ipx_carrier.specs.Traces.{v4_at};
 ghost use Rattle.ipx_ethernet_ports.specs.EthernetAddresses.{bound_places, remote_places};
 
-use crate::bind_fault::{BindFault, bind_error};
-use crate::site::{EthernetPortConfig, PortConfig};
 use ipx_carrier::socket_addr;
+use ipx_config::{EthernetPortConfig, PortConfig};
 use ipx_ethernet::{EthernetPort, Switch};
 use ipx_ethernet_ports::{EthernetPorts, EthernetSockets};
+use ipx_sockets::{BindFault, bind_error};
 use std::alloc::{AllocError, Global};
 use std::io::ErrorKind;
 use std::net::Net;

@@ -94,7 +94,7 @@ pub fn put_drops(text: &mut String, number: usize, counts: ServerCounts) -> Resu
     let metrics = [
         ("malformed", counts.malformed),
         ("node_taken", counts.node_taken),
-        ("too_many_new", counts.too_many_new),
+        ("full_of_address", counts.full_of_address),
         ("full", counts.full),
         ("unregistered", counts.unregistered),
         ("other_source", counts.other_source),

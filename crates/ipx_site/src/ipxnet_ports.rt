@@ -2,47 +2,57 @@
 
 ghost use Rattle.std.specs.Prelude.{◌≡◌, ◌++◌, ◌∷◌, [], IfOk, OnOk, map};
 ghost use Rattle.ipx_ipxnet_ports.specs.ServerAddresses.{bound_places, ips_heard, listed_ips};
-ghost use Rattle.ipx_site.specs.KindPorts.{client_port_of, ipxnet_places, ipxnet_ports, server_of_port, registering_at};
+ghost use Rattle.ipx_site.specs.KindPorts.{client_port_of, server_of_port, registering_at};
+ghost use Rattle.ipx_config.specs.PortLists.{ipxnet_places, ipxnet_ports};
 ghost use Rattle.ipx_carrier.specs.Traces.{v4_at};
 ghost use Rattle.std.specs.Net.Addr.{ipv4_octets};
 ghost use Rattle.std.specs.Net.Socket.{v4_ip};
 
-use crate::bind_fault::{BindFault, bind_error};
-use crate::ipxnet_port::IpxnetPortConfig;
-use crate::site::{Accept, PortConfig};
 use ipx_carrier::socket_addr;
+use ipx_config::{Accept, IpxnetPortConfig, PortConfig};
 use ipx_ipxnet_ports::{Allow, ServerSockets, Servers};
-use ipxnet_server::{IpxnetServer, ServerPort};
+use ipx_sockets::{BindFault, bind_error};
+use ipxnet_server::{IpxnetServer, Secret, ServerPort};
 use std::alloc::{AllocError, Global};
 use std::io::ErrorKind;
 use std::net::Net;
 
 /// Converts the configuration of an ipxnet port.
-fn client_port(port: &IpxnetPortConfig) -> ServerPort
-    ensures { result ≡ client_port_of port.now }
+fn client_port(secret: Secret, port: &IpxnetPortConfig) -> ServerPort
+    ensures { result ≡ client_port_of secret port.now }
 {
     ServerPort {
         network: port.network,
         own: port.node,
+        secret,
     }
 }
 
 /// The server of a port, before any client has registered.
-fn server_of(alloc: Global, port: &IpxnetPortConfig) -> Result<IpxnetServer, AllocError>
-    ensures { IfOk result (λ l. l ≡ server_of_port port.now) }
+fn server_of(
+    alloc: Global,
+    secret: Secret,
+    port: &IpxnetPortConfig,
+) -> Result<IpxnetServer, AllocError>
+    ensures { IfOk result (λ l. l ≡ server_of_port secret port.now) }
 {
     let routers = Vec::from_slice(alloc, &port.join)?;
-    IpxnetServer::joined_to(alloc, client_port(port), usize::from(port.clients), routers)
+    let most = usize::from(port.clients);
+    IpxnetServer::joined_to(alloc, client_port(secret, port), most, routers)
 }
 
 /// The server of each ipxnet port.
-fn servers_of_ports(alloc: Global, ports: &[PortConfig]) -> Result<Vec<IpxnetServer>, AllocError>
-    ensures { IfOk result (λ v. v.items ≡ map server_of_port (ipxnet_ports ports.now)) }
+fn servers_of_ports(
+    alloc: Global,
+    secret: Secret,
+    ports: &[PortConfig],
+) -> Result<Vec<IpxnetServer>, AllocError>
+    ensures { IfOk result (λ v. v.items ≡ map (server_of_port secret) (ipxnet_ports ports.now)) }
 {
     let mut servers = Vec::new(alloc);
     for port in ports {
         if let PortConfig::Ipxnet(port) = port {
-            let server = server_of(alloc, port)?;
+            let server = server_of(alloc, secret, port)?;
             servers.push(server)?;
         }
     }
@@ -118,20 +128,22 @@ fn bind_servers<R: Net>(
     Ok(sockets)
 }
 
-/// The ipxnet ports among these, with their sockets bound and their servers.
+/// The ipxnet ports among these, with their sockets bound and their servers, which make nodes of
+/// this secret.
 pub fn servers_of<R: Net>(
     rt: &R,
     alloc: Global,
+    secret: Secret,
     ports: &[PortConfig],
 ) -> Result<Servers<ServerSockets>, BindFault>
     ensures servers { IfOk result (λ l. l.servers.items
-        ≡ map server_of_port (ipxnet_ports ports.now)) }
+        ≡ map (server_of_port secret) (ipxnet_ports ports.now)) }
     ensures at { IfOk result (λ l.
         bound_places l.sockets.sockets.items ≡ ipxnet_places (ipxnet_ports ports.now)) }
     ensures registering { IfOk result (λ l. map ips_heard l.sockets.sockets.items
         ≡ map registering_at (ipxnet_ports ports.now)) }
 {
-    let Ok(servers) = servers_of_ports(alloc, ports) else {
+    let Ok(servers) = servers_of_ports(alloc, secret, ports) else {
         return Err(BindFault::OutOfMemory);
     };
     let sockets = bind_servers(rt, alloc, ports)?;

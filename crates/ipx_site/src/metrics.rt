@@ -1,11 +1,11 @@
 //! Prometheus metrics of a router.
-
-use crate::directed_broadcast::DirectedDrops;
 use crate::family::{Family, put_each, put_one};
-use crate::source_filter::{DropCount, FilterDrops};
 use ipx_carrier::OutcomeCounters;
+use ipx_rate_limits::DirectedDrops;
+use ipx_sockets::{DropCount, FilterDrops};
 use ipx_source_checks::SourceDrops;
 use std::alloc::{AllocError, Global};
+use std::net::SocketAddrV4;
 
 /// What a router counted since it started.
 #[derive(Clone, Copy, PartialEq, Eq)]
@@ -31,8 +31,14 @@ pub struct Metrics {
     pub source_drops: SourceDrops,
     /// The datagrams that were to go to no peer, and were not sent.
     pub refused: u64,
+    /// The IP address that the last of these was for.
+    pub last_refused: Option<[u8; 4]>,
     /// The datagrams at Ethernet ports that came from none of their remotes.
     pub frame_unknown_senders: u64,
+    /// The address that the last of these came from.
+    pub frame_last_unknown: Option<SocketAddrV4>,
+    /// The datagrams at ports for ipxnet that came from no address in their `peers`.
+    pub ipxnet_unknown_senders: DropCount,
     /// The packets that no frame could carry.
     pub unframed: u64,
     /// The frames with a packet in an encapsulation other than their port's.

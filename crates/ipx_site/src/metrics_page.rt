@@ -5,11 +5,11 @@ use crate::frame_metrics::{EthernetMetrics, put_frame_metrics};
 use crate::ipxnet_metrics::{IpxnetMetrics, put_ipxnet_metrics};
 use crate::metrics::Metrics;
 use crate::neighbour_metrics::put_neighbour_metrics;
-use crate::port_filter_drops::PortFilterDrops;
 use crate::port_metrics::put_port_metrics;
 use crate::router_ports::PortIndex;
 use ipx_metrics::PortCounts;
 use ipx_router::Router;
+use ipx_sockets::PortFilterDrops;
 use std::alloc::{AllocError, Global};
 
 /// All that a router counts and knows at a moment.

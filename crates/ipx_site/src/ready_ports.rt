@@ -4,14 +4,14 @@ ghost use Rattle.std.specs.Prelude.{◌≡◌, slice_set, true};
 ghost use Rattle.ipx_carrier.specs.ReadySet.{AreMarked, is_any_marked};
 ghost use Rattle.ipx_site.specs.SiteMarks.{DifferInMarks, marks_in, numbers_come};
 
-use crate::poller::Poller;
 use crate::router_ports::UdpRouterPorts;
+use ipx_sockets::Poller;
 
 /// Whether datagrams may wait at any port.
 pub fn is_any_marked(ports: &UdpRouterPorts) -> bool
     ensures { result ≡ is_any_marked (marks_in ports.now) }
 {
-    ports.datagrams.device.device.marks().is_any_marked()
+    ports.datagrams.device.device().marks().is_any_marked()
         || ports.ethernet.sockets().marks().is_any_marked()
         || ports.servers.sockets().marks().is_any_marked()
 }
@@ -22,9 +22,9 @@ fn mark_port(ports: &mut UdpRouterPorts, number: usize)
     ensures marks { marks_in ports.new ≡ slice_set (marks_in ports.old) number true }
     ensures rest { DifferInMarks ports.old ports.new }
 {
-    let datagrams = ports.datagrams.device.device.marks().ports();
+    let datagrams = ports.datagrams.device.device().marks().ports();
     let Some(behind) = number.checked_sub(datagrams) else {
-        ports.datagrams.device.device.set_ready(number);
+        ports.datagrams.device.set_ready(number);
         return;
     };
     let ethernet = ports.ethernet.sockets().marks().ports();

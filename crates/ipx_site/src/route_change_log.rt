@@ -2,7 +2,7 @@
 
 ghost use Rattle.std.specs.Prelude.{◌≡◌, length};
 
-use crate::escaped::Escaped;
+use ipx_config::Escaped;
 use ipx_router::Router;
 use ipx_tables::{Metric, Offers, RouteMetric, ServiceKey, ServiceMetric, Source};
 use ipx_wire::{Network, OutOfMemory};

@@ -8,13 +8,14 @@ ghost use Rattle.ipx_site.specs.RouterMetrics.{AreMetrics, no_counts, with_batch
 
 use crate::ethernet_totals::{in_other_encapsulations, unframed};
 use crate::metrics::Metrics;
-use crate::rate_limiter::RateLimiter;
 use crate::route_change_log::RouteChangeLog;
 use crate::router_ports::UdpRouterPorts;
 use ipx_carrier::{Batch, OutcomeCounters, RunFault, saturating_increment};
 use ipx_ethernet_ports::EndSockets;
 use ipx_ipxnet_ports::PlaceSockets;
 use ipx_metrics::MeteredRouter;
+use ipx_rate_limits::RateLimiter;
+use ipx_sockets::DropCount;
 use ipx_source_checks::SourceChecked;
 use ipx_static::WithStatics;
 
@@ -47,6 +48,18 @@ fn faults_of(ports: &UdpRouterPorts) -> u64
         .saturating_add(ethernet.faults())
         .saturating_add(servers.failures())
         .saturating_add(servers.faults())
+}
+
+/// What came to ports for ipxnet from unknown senders.
+fn ipxnet_unknown_senders(ports: &UdpRouterPorts) -> DropCount
+    ensures count { result.count ≡ ports.now.servers.sockets.nowhere }
+    ensures last { result.last ≡ ports.now.servers.sockets.last_unknown }
+{
+    let sockets = ports.servers().sockets();
+    DropCount {
+        count: sockets.from_nowhere(),
+        last: sockets.last_unknown(),
+    }
 }
 
 impl RouterCounts {
@@ -110,7 +123,10 @@ impl RouterCounts {
             directed: core.core().directed(),
             source_drops: core.drops(),
             refused: device.refused(),
+            last_refused: device.last_refused(),
             frame_unknown_senders: ports.ethernet().sockets().unknown_senders(),
+            frame_last_unknown: ports.ethernet().sockets().last_unknown(),
+            ipxnet_unknown_senders: ipxnet_unknown_senders(ports),
             unframed: unframed(switches),
             other_encapsulation: in_other_encapsulations(switches),
             device_faults: self.device_faults.saturating_add(faults_of(ports)),

@@ -1,6 +1,6 @@
 //! The ports of a running router, of all kinds.
 
-ghost use Rattle.std.specs.Prelude.{◌≡◌, ◌<◌, ◌≤◌, ◌+◌, ◌^◌, All, IfErr, IfOk, IfSome, None, OnErr, is_some, length, map, min, slice_get};
+ghost use Rattle.std.specs.Prelude.{◌≡◌, ◌<◌, ◌≤◌, ◌+◌, ◌^◌, All, IfErr, IfOk, IfSome, None, OnErr, false, is_some, length, map, min, slice_get, true};
 ghost use Rattle.ipx_carrier.specs.Readiness.{AsksPortWithMark, MarksStay};
 ghost use Rattle.ipx_carrier.specs.RunFaultNumbers.{device_failures};
 ghost use Rattle.ipx_carrier.specs.PortDrivers.{SendsFrontOf, copies_count, count_in};
@@ -10,14 +10,13 @@ ghost use Rattle.ipx_ethernet_ports.specs.OnEthernet.{ethernet_ports_view};
 ghost use Rattle.ipx_site.specs.RouterMarks.{marked_by_kind};
 ghost use Rattle.ipx_site.specs.RouterPorts.{ReceivesByKind, SendsByKind, by_kind, fits};
 
-use crate::sockets::UdpSockets;
-use crate::source_filter::SourceFilter;
 use ipx_carrier::{
     CountsFiltered, Datagrams, DeviceFault, OwnedRfc1234Ports, PacketSent, PortDriver,
     PortDriverFilters,
 };
 use ipx_ethernet_ports::{EndSockets, EthernetPorts, EthernetSockets};
 use ipx_ipxnet_ports::{PlaceSockets, ServerSockets, Servers};
+use ipx_sockets::{SourceFilter, UdpSockets};
 use ipx_wire::Node;
 
 /// The index of a port among those of its kind, starting at 0.
@@ -38,6 +37,8 @@ pub struct RouterPorts<D: Datagrams + Drop, E: EndSockets + Drop, L: PlaceSocket
     pub(crate) ethernet: EthernetPorts<E>,
     pub(crate) servers: Servers<L>,
     port_indices: Vec<PortIndex>,
+    /// Whether pings were sent since the time was set.
+    pinged: bool,
     // Each port index is valid.
     ghost fit: { All (fits (D.port_count datagrams.device)
         (min (length ethernet.switches.items) (length (E.ends_of ethernet.sockets)))
@@ -52,6 +53,7 @@ impl<D: Datagrams + Drop, E: EndSockets + Drop, L: PlaceSockets + Drop> Drop
             ethernet: _,
             servers: _,
             port_indices: _,
+            pinged: _,
         } = self;
     }
 }
@@ -80,6 +82,7 @@ impl<D: Datagrams + Drop, E: EndSockets + Drop, L: PlaceSockets + Drop> RouterPo
             ethernet,
             servers,
             port_indices,
+            pinged: false,
         }
     }
 
@@ -118,9 +121,11 @@ impl<D: Datagrams + Drop, E: EndSockets + Drop, L: PlaceSockets + Drop> RouterPo
         ensures servers { self.new.servers ≡ record self.old.servers { moment = moment } }
         ensures datagrams { self.new.datagrams ≡ self.old.datagrams }
         ensures port_indices { self.new.port_indices ≡ self.old.port_indices }
+        ensures pinged { self.new.pinged ≡ false }
     {
         self.ethernet.set_time(moment);
         self.servers.set_time(moment);
+        self.pinged = false;
     }
 
     /// Sends the pings that are due at ipxnet ports, at the time that is set.
@@ -138,28 +143,32 @@ impl<D: Datagrams + Drop, E: EndSockets + Drop, L: PlaceSockets + Drop> RouterPo
         ensures ethernet { self.new.ethernet ≡ self.old.ethernet }
         ensures datagrams { self.new.datagrams ≡ self.old.datagrams }
         ensures port_indices { self.new.port_indices ≡ self.old.port_indices }
+        ensures pinged { self.new.pinged ≡ true }
     {
         self.servers.send_pings();
+        self.pinged = true;
     }
 }
 
 impl<D: Datagrams + Drop, E: EndSockets + Drop, L: PlaceSockets + Drop> PortDriver
     for RouterPorts<D, E, L> {
-    ghost use Rattle.std.specs.Prelude.{List, ℕ};
+    ghost use Rattle.std.specs.Prelude.{Bool, List, ℕ};
     ghost use Rattle.ipx_carrier.specs.Turns.{Peers};
     ghost use Rattle.ipx_site.specs.RouterPorts.{PortCopy};
     ghost use Rattle.ipx_site.specs.declared.router_ports.PortIndex.{PortIndex};
 
     ghost Copy = { PortCopy };
 
-    // The peers, the port indices, and the times set at the Ethernet and ipxnet ports.
-    ghost Kept = { Peers × List PortIndex × ℕ × ℕ };
+    // The peers, the port indices, the times set at the Ethernet and ipxnet ports, and whether pings
+    // were sent since.
+    ghost Kept = { Peers × List PortIndex × ℕ × ℕ × Bool };
 
     ghost kept = { λ r. (
       peers_of r.datagrams.peers.items,
       r.port_indices.items,
       r.ethernet.moment,
       r.servers.moment,
+      r.pinged,
     ) };
 
     ghost port_count = { λ r. length r.port_indices.items };
@@ -233,6 +242,7 @@ impl<D: Datagrams + Drop, E: EndSockets + Drop, L: PlaceSockets + Drop> PortDriv
         ensures port_indices { self.new.port_indices ≡ self.old.port_indices }
         ensures moment { self.new.ethernet.moment ≡ self.old.ethernet.moment }
         ensures moments { self.new.servers.moment ≡ self.old.servers.moment }
+        ensures pinged { self.new.pinged ≡ self.old.pinged }
         ensures filtered { D.filtered self.old.datagrams.device
             + (self.old.ethernet.kept + E.filtered self.old.ethernet.sockets)
             + (self.old.servers.kept + L.filtered self.old.servers.sockets)
@@ -283,6 +293,7 @@ impl<D: Datagrams + Drop, E: EndSockets + Drop, L: PlaceSockets + Drop> PortDriv
         ensures port_indices { self.new.port_indices ≡ self.old.port_indices }
         ensures moment { self.new.ethernet.moment ≡ self.old.ethernet.moment }
         ensures moments { self.new.servers.moment ≡ self.old.servers.moment }
+        ensures pinged { self.new.pinged ≡ self.old.pinged }
         ensures filtered { D.filtered self.old.datagrams.device
             + (self.old.ethernet.kept + E.filtered self.old.ethernet.sockets)
             + (self.old.servers.kept + L.filtered self.old.servers.sockets)

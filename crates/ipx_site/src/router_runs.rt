@@ -3,9 +3,9 @@
 ghost use Rattle.std.specs.Prelude.{◌≤◌, ◌==◌, is_ok};
 ghost use Rattle.ipx_site.specs.RoutingRuns.{RunsTo};
 
-use crate::poller::WaitFault;
 use crate::routing::{RouteFault, tell_route_fault};
 use crate::running_router::RunningRouter;
+use ipx_sockets::WaitFault;
 use log::Log;
 use std::alloc::Global;
 use std::rt::{Clock as SystemClock, Files};

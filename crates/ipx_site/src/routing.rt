@@ -1,43 +1,43 @@
 //! The command `route`.
 
-ghost use Rattle.std.specs.Prelude.{◌≡◌, ◌≤◌, ◌⊎◌, ◌+◌, [], false, None, All, IfErr, IfOk, OnErr, OnOk, is_ok, if◌then◌else◌, length, map};
+ghost use Rattle.std.specs.Prelude.{◌≡◌, ◌≤◌, ◌⊎◌, ◌+◌, false, None, All, IfErr, IfOk, OnErr, OnOk, is_ok, if◌then◌else◌, length, map};
 ghost use Rattle.ipx_router.specs.NewRouter.{IsOwnNetwork};
 ghost use Rattle.ipx_router.specs.Ports.{IsPortNumber};
 ghost use Rattle.ipx_static.specs.StaticAdvertisements.{AreWordsOf};
 ghost use Rattle.ipx_carrier.specs.Turns.{peers_of};
 ghost use Rattle.ipx_carrier.specs.Counting.{counted};
 ghost use Rattle.ipx_source_checks.specs.SourceChecks.{nothing_dropped_yet};
-ghost use Rattle.ipx_site.specs.KindPorts.{ArePortsBound, datagram_places, datagram_ports, port_indices_of};
-ghost use Rattle.ipx_site.specs.PollEvents.{Watched};
-ghost use Rattle.ipx_site.specs.PortLimits.{limits_of};
-ghost use Rattle.ipx_site.specs.StaticLists.{HearsAtPorts};
+ghost use Rattle.ipx_site.specs.KindPorts.{checked_port_of_kind, checked_ports, is_ethernet, ArePortsBound, port_indices_of};
+ghost use Rattle.ipx_config.specs.PortLists.{datagram_places, datagram_ports};
+ghost use Rattle.ipx_sockets.specs.PollEvents.{Watched};
+ghost use Rattle.ipx_rate_limits.specs.PortLimits.{limits_of};
+ghost use Rattle.ipx_config.specs.StaticLists.{HearsAtPorts};
 ghost use Rattle.ipx_site.specs.StaticNeighbours.{IsToHear};
-ghost use Rattle.ipx_site.specs.RoutingRuns.{RoutesWell};
+ghost use Rattle.ipx_site.specs.RoutingRuns.{KnowsNothing, RoutesWell};
 ghost use Rattle.ipx_site.specs.SiteMarks.{port_fds};
-ghost use Rattle.ipx_site.specs.SitePorts.{AccessListPorts, access_by, access_of, checked_ports, heard_at_port, named, router_ports, site_peers, udp_ports};
+ghost use Rattle.ipx_sockets.specs.AccessLists.{AccessListPorts, access_by};
+ghost use Rattle.ipx_config.specs.SitePorts.{access_of, heard_at_port, named, router_ports, site_peers, udp_ports};
+ghost use Rattle.ipx_rate_limits.specs.TokenBuckets.{fresh_buckets};
 
-use crate::bind_fault::BindFault;
-use crate::clock::{ClockFault, SteadyClock};
 use crate::ethernet_ports::ethernet_ports_of;
 use crate::ipxnet_ports::servers_of;
-use crate::poller::{Poller, WaitFault};
-use crate::port_limits::limits_of;
-use crate::rate_limiter::RateLimiter;
-use crate::rcvbuf::{RCVBUF_SIZE, set_rcvbuf};
 use crate::router_ports::{PortIndex, RouterPorts, UdpRouterPorts};
 use crate::router_runs::run_router;
 use crate::running_router::{Parts, RunningRouter};
-use crate::site::{Accept, PortConfig, Rfc1234PortConfig, RouterConfig};
-use crate::sockets::UdpSockets;
-use crate::source_filter::{AccessList, SourceFilter};
-use crate::start_lines::ports_to_texts;
 use crate::starting::start_router;
 use crate::static_neighbours::silent_of;
 use ipx_carrier::OwnedRfc1234Ports;
+use ipx_config::{Accept, PortConfig, Rfc1234PortConfig, RouterConfig, ports_to_texts};
 use ipx_metrics::MeteredRouter;
+use ipx_rate_limits::{RateLimiter, limits_of};
 use ipx_router::{NewFault, Port, Router};
+use ipx_sockets::{
+    AccessList, BindFault, ClockFault, Poller, RCVBUF_SIZE, SourceFilter, SteadyClock, UdpSockets,
+    WaitFault, set_rcvbuf,
+};
 use ipx_source_checks::{CheckedPort, SourceChecked};
 use ipx_static::{StaticNeighbour, WithStatics};
+use ipxnet_server::Secret;
 use log::{Log, info, warn};
 use std::alloc::{AllocError, Global};
 use std::net::Net;
@@ -66,16 +66,37 @@ fn own_ports(alloc: Global, ports: &[PortConfig]) -> Result<Vec<Port>, AllocErro
     ports.iter().map(PortConfig::router_port).collect(alloc)
 }
 
+/// Whether it is an Ethernet port.
+fn is_ethernet(port: &PortConfig) -> bool
+    ensures { result ≡ is_ethernet port.now }
+{
+    match port {
+        PortConfig::Frames(_) => true,
+        PortConfig::Rfc1234(_) | PortConfig::Ipxnet(_) => false,
+    }
+}
+
+/// The port as one for source checks.
+fn checked_port(port: &PortConfig) -> CheckedPort
+    ensures { result ≡ checked_port_of_kind port.now }
+{
+    CheckedPort {
+        port: port.router_port(),
+        ethernet: is_ethernet(port),
+    }
+}
+
 /// The same ports, for source checks.
 fn checked_ports(alloc: Global, ports: &[PortConfig]) -> Result<Vec<CheckedPort>, AllocError>
     ensures { IfOk result (λ v. v.items ≡ checked_ports ports.now) }
 {
-    ports.iter().map(PortConfig::checked_port).collect(alloc)
+    ports.iter().map(checked_port).collect(alloc)
 }
 
 fn router_of(alloc: Global, ports: &[PortConfig]) -> Result<Router, RouteFault>
     requires { All IsOwnNetwork (router_ports ports.now) }
-    ensures { IfOk result (λ r. r.ports ≡ router_ports ports.now) }
+    ensures ports { IfOk result (λ r. r.ports ≡ router_ports ports.now) }
+    ensures nothing { IfOk result (λ r. KnowsNothing r) }
 {
     let ports = own_ports(alloc, ports)?;
     let router = Router::new(alloc, ports)?;
@@ -109,11 +130,11 @@ fn core_of(
     requires own { All IsOwnNetwork (router_ports ports.now) }
     requires there { All (λ n. IsPortNumber (length ports.now) n.port) silent.now }
     ensures router { IfOk result (λ c. c.core.core.router.ports ≡ router_ports ports.now) }
+    ensures nothing { IfOk result (λ c. KnowsNothing c.core.core.router) }
     ensures statics { IfOk result (λ c. AreWordsOf silent.now c.core.advertisements
         × (c.core.said ≡ None)) }
     ensures ports { IfOk result (λ c. c.ports ≡ router_ports ports.now) }
-    ensures fresh { IfOk result (λ c. (c.buckets.queriers ≡ [])
-        × (c.buckets.ports ≡ limits_of ports.now)) }
+    ensures fresh { IfOk result (λ c. c.buckets ≡ fresh_buckets (limits_of ports.now)) }
 {
     let own = own_ports(alloc, ports)?;
     let limits = limits_of(alloc, ports)?;
@@ -132,12 +153,13 @@ fn core_of_file(
     requires there { HearsAtPorts site.now }
     ensures router { IfOk result (λ c.
         c.core.core.core.router.ports ≡ router_ports site.now.ports.items) }
+    ensures nothing { IfOk result (λ c. KnowsNothing c.core.core.core.router) }
     ensures statics { IfOk result (λ c. IsToHear site.now.statics.items c.core.core) }
     ensures checks { IfOk result (λ c. (c.ports ≡ checked_ports site.now.ports.items)
         × (c.drops ≡ nothing_dropped_yet)) }
     ensures ports { IfOk result (λ c. c.core.ports ≡ router_ports site.now.ports.items) }
-    ensures fresh { IfOk result (λ c. (c.core.buckets.queriers ≡ [])
-        × (c.core.buckets.ports ≡ limits_of site.now.ports.items)) }
+    ensures fresh { IfOk result (λ c.
+        c.core.buckets ≡ fresh_buckets (limits_of site.now.ports.items)) }
 {
     let silent = silent_of(alloc, &site.statics)?;
     let checked = checked_ports(alloc, &site.ports)?;
@@ -304,14 +326,15 @@ fn datagrams_of<R: Net>(
 fn bound_ports<R: Net>(
     rt: &R,
     alloc: Global,
+    secret: Secret,
     ports: &[PortConfig],
 ) -> Result<UdpRouterPorts, RouteFault>
-    ensures { IfOk result (ArePortsBound ports.now) }
+    ensures { IfOk result (ArePortsBound secret ports.now) }
 {
     let port_indices = port_indices_of(alloc, ports)?;
     let datagrams = datagrams_of(rt, alloc, ports)?;
     let ethernet = ethernet_ports_of(rt, alloc, ports)?;
-    let servers = servers_of(rt, alloc, ports)?;
+    let servers = servers_of(rt, alloc, secret, ports)?;
     Ok(RouterPorts::new(datagrams, ethernet, servers, port_indices))
 }
 
@@ -329,30 +352,33 @@ fn ready_for<R: Net>(rt: &R, alloc: Global, ports: &UdpRouterPorts) -> Result<Po
     Ok(ready)
 }
 
-/// Starts the router that a file describes, with its sockets bound.
+/// Starts the router that a file describes, with its sockets bound. Its ipxnet ports make nodes of
+/// this secret.
 pub(crate) fn start<'a, R: Net + Log + SystemClock>(
     rt: &'a R,
     alloc: Global,
     site: RouterConfig,
+    secret: Secret,
 ) -> Result<RunningRouter<'a, R>, RouteFault>
     requires own { All IsOwnNetwork (router_ports site.ports.items) }
     requires there { HearsAtPorts site }
     // The router has the ports of the file.
     ensures ports { IfOk result (λ s.
         s.core.core.core.core.router.ports ≡ router_ports site.ports.items) }
+    // It knows nothing of other routers.
+    ensures nothing { IfOk result (λ s. KnowsNothing s.core.core.core.core.router) }
     // It is to hear the static entries of the file, and has not heard them yet.
     ensures statics { IfOk result (λ s. IsToHear site.statics.items s.core.core.core) }
     // It checks sources at these ports, and has dropped nothing yet.
     ensures checks { IfOk result (λ s. (s.core.ports ≡ checked_ports site.ports.items)
         × (s.core.drops ≡ nothing_dropped_yet)) }
-    // The limits of general queries and directed broadcasts at each port follow from its kind and
-    // its table. No query has come yet.
+    // The limits of queries and directed broadcasts at each port follow from its kind and its
+    // table. No query has come yet.
     ensures queriers { IfOk result (λ s. (s.core.core.ports ≡ router_ports site.ports.items)
-        × (s.core.core.buckets.queriers ≡ [])
-        × (s.core.core.buckets.ports ≡ limits_of site.ports.items)) }
+        × (s.core.core.buckets ≡ fresh_buckets (limits_of site.ports.items))) }
     // Each port has its socket. An RFC 1234 port has its peers and its access list, an Ethernet
-    // port its switch, and an ipxnet port its server.
-    ensures bound { IfOk result (λ s. ArePortsBound site.ports.items s.ports) }
+    // port its switch, and an ipxnet port its server with this secret.
+    ensures bound { IfOk result (λ s. ArePortsBound secret site.ports.items s.ports) }
     // Its poller watches the descriptors of all ports, by kind, and has not waited.
     ensures watched { IfOk result (λ s. s.ready.trace.items ≡ map Watched (port_fds s.ports)) }
     ensures clock { IfOk result (λ s. s.clock.last ≡ 0) }
@@ -363,7 +389,7 @@ pub(crate) fn start<'a, R: Net + Log + SystemClock>(
     // All lines are made before the first is logged, so that nothing is logged if out of memory
     // here.
     let lines = ports_to_texts(alloc, &site.ports)?;
-    let ports = bound_ports(rt, alloc, &site.ports)?;
+    let ports = bound_ports(rt, alloc, secret, &site.ports)?;
     let ready = ready_for(rt, alloc, &ports)?;
     tell_ports(rt, &lines, &ports);
     let parts = Parts {

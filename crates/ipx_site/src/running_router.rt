@@ -4,18 +4,19 @@ ghost use Rattle.std.specs.Prelude.{◌≡◌, ◌↔◌, ◌++◌, ◌∷◌, [
 ghost use Rattle.ipx_carrier.specs.ReadySet.{AreMarked, is_any_marked};
 ghost use Rattle.ipx_carrier.specs.Turns.{peers_of};
 ghost use Rattle.ipx_site.specs.DropLog.{AreDropsLogged};
-ghost use Rattle.ipx_site.specs.IdleTime.{IsTimeUntilDue, IsDue, IsToSend, deadlines, counts_to_log, happened, happened_in, look_after};
-ghost use Rattle.ipx_site.specs.Moments.{AreLoggedIfDue, IsReached};
+ghost use Rattle.ipx_sockets.specs.Moments.{IsTimeUntilDue, AreLoggedIfDue, IsReached};
+ghost use Rattle.ipx_site.specs.IdleTime.{IsDue, IsToSend, deadlines, counts_to_log, happened, happened_in, look_after};
 ghost use Rattle.ipx_site.specs.KnownFile.{TellsKnown};
-ghost use Rattle.ipx_site.specs.PollEvents.{Waited};
-ghost use Rattle.ipx_site.specs.SitePorts.{access_by};
+ghost use Rattle.ipx_sockets.specs.PollEvents.{Waited};
+ghost use Rattle.ipx_sockets.specs.AccessLists.{access_by};
 ghost use Rattle.ipx_site.specs.PortsView.{filtered_in_ports, ways_in};
+ghost use Rattle.ipx_site.specs.RouterMetrics.{AreMetrics};
+ghost use Rattle.ipx_site.specs.RouterPings.{PingsFirst};
 ghost use Rattle.ipx_site.specs.RouterRounds.{AsksAgain, IsRound, SleepsAfter};
 ghost use Rattle.ipx_site.specs.SiteMarks.{KindMarks, all_marks, kind_marks, marks_in, numbers_come, port_marks};
-ghost use Rattle.ipx_site.specs.Steady.{NeverGoesBack, StopsThere};
+ghost use Rattle.ipx_sockets.specs.Steady.{NeverGoesBack, StopsThere};
 
 use crate::client_log::ClientLog;
-use crate::clock::SteadyClock;
 use crate::discovery::discovery_retry;
 use crate::drop_log::DropLog;
 use crate::frame_metrics::{ethernet_metrics, tell_encapsulations};
@@ -23,17 +24,16 @@ use crate::ipxnet_metrics::ipxnet_metrics;
 use crate::known_text::known_to_text;
 use crate::metrics::Metrics;
 use crate::metrics_page::MetricsPage;
-use crate::moments::{LONGEST, end_of, is_over, sooner, time_to};
-use crate::poller::{Poller, WaitFault};
-use crate::rate_limiter::RateLimiter;
 use crate::ready_ports::{is_any_marked, mark_ready};
 use crate::route_change_log::RouteChangeLog;
 use crate::router_counts::RouterCounts;
 use crate::router_ports::UdpRouterPorts;
-use crate::status::write_whole;
 use crate::warnings::Warnings;
 use ipx_carrier::{Batch, Clock, run_batch};
+use ipx_config::write_whole;
 use ipx_metrics::MeteredRouter;
+use ipx_rate_limits::RateLimiter;
+use ipx_sockets::{LONGEST, Poller, SteadyClock, WaitFault, end_of, is_over, sooner, time_to};
 use ipx_source_checks::SourceChecked;
 use ipx_static::{RestartDiscovery, WithStatics};
 use log::Log;
@@ -139,7 +139,9 @@ impl<'a, R: SystemClock> RunningRouter<'a, R> {
     }
 
     fn metrics(&self, now: u64) -> Metrics
-        ensures { happened_in result ≡ happened self.now.totals self.now.core self.now.ports }
+        ensures happened { happened_in result ≡ happened self.now.totals self.now.core self.now.ports }
+        ensures metrics { AreMetrics self.now.totals self.now.core self.now.ports self.now.known now
+            result }
     {
         self.totals
             .metrics(&self.core, &self.ports, &self.known, now)
@@ -348,6 +350,8 @@ impl<'a, R: SystemClock> RunningRouter<'a, R> {
         ensures ready { self.new.ready ≡ self.old.ready }
         // Ipxnet servers send and receive at the same time as Ethernet ports.
         ensures moments { self.new.ports.servers.moment ≡ self.new.ports.ethernet.moment }
+        // Before its turns it sends the pings that are due at that time.
+        ensures pings { PingsFirst self.new.ports.ethernet.moment self.old.ports self.new.ports }
         // The ways packets are sent and the senders that are accepted are unchanged.
         ensures transmissions { ways_in self.new.ports ≡ ways_in self.old.ports }
         ensures peers { peers_of self.new.ports.datagrams.peers.items
@@ -429,6 +433,7 @@ impl<'a, R: SystemClock> RunningRouter<'a, R> {
         // It fails exactly if the wait did.
         ensures fault { is_err result ≡ self.new.ready.failed }
         ensures moments { self.new.ports.servers.moment ≡ self.new.ports.ethernet.moment }
+        ensures pings { PingsFirst self.new.ports.ethernet.moment self.old.ports self.new.ports }
         ensures transmissions { ways_in self.new.ports ≡ ways_in self.old.ports }
         ensures peers { peers_of self.new.ports.datagrams.peers.items
             ≡ peers_of self.old.ports.datagrams.peers.items }

@@ -3,13 +3,13 @@
 ghost use Rattle.std.specs.Prelude.{◌≡◌, ◌⊎◌, All, Err, IfErr, IfOk, OnOk};
 ghost use Rattle.ipx_router.specs.NewRouter.{IsOwnNetwork};
 ghost use Rattle.ipx_site.specs.RoutingRuns.{StartsBy, StartsByFile};
-ghost use Rattle.ipx_site.specs.SitePorts.{router_ports};
-ghost use Rattle.ipx_site.specs.StaticLists.{HearsAtPorts};
+ghost use Rattle.ipx_config.specs.SitePorts.{router_ports};
+ghost use Rattle.ipx_config.specs.StaticLists.{HearsAtPorts};
 
-use crate::files::load_site;
 use crate::routing::{start, tell_route_fault};
 use crate::running_router::RunningRouter;
-use crate::site::RouterConfig;
+use crate::secret::secret_of;
+use ipx_config::{RouterConfig, load_site};
 use log::Log;
 use std::alloc::Global;
 use std::net::Net;
@@ -17,7 +17,7 @@ use std::rt::{Clock as SystemClock, Files};
 
 /// Starts the router of a file that was loaded. If loading failed, it returns the exit status of
 /// that.
-fn start_loaded<'a, R: Net + Log + SystemClock + Eprint>(
+fn start_loaded<'a, R: Net + Log + Files + SystemClock + Eprint>(
     rt: &'a R,
     alloc: Global,
     path: &str,
@@ -30,10 +30,13 @@ fn start_loaded<'a, R: Net + Log + SystemClock + Eprint>(
     ensures refused { OnOk loaded (IfErr result (λ status. status ≡ 1)) }
 {
     match loaded {
-        Ok(site) => match start(rt, alloc, site) {
-            Ok(router) => Ok(router),
-            Err(fault) => Err(tell_route_fault(rt, path, fault)),
-        },
+        Ok(site) => {
+            let secret = secret_of(rt, alloc, path, &site)?;
+            match start(rt, alloc, site, secret) {
+                Ok(router) => Ok(router),
+                Err(fault) => Err(tell_route_fault(rt, path, fault)),
+            }
+        }
         Err(status) => Err(status),
     }
 }
@@ -42,8 +45,8 @@ fn start_loaded<'a, R: Net + Log + SystemClock + Eprint>(
 /// call [`run_router`](crate::run_router).
 ///
 /// The error is the exit status. 2: the file cannot be read or has a fault; nothing was bound. 1:
-/// out of memory, a socket cannot be bound, or the system does not tell the time. One line on
-/// standard error says which.
+/// out of memory, a socket cannot be bound, there is no secret for ipxnet ports, or the system does
+/// not tell the time. One line on standard error says which.
 pub fn start_router<'a, R: Net + Log + Files + SystemClock + Eprint>(
     rt: &'a R,
     alloc: Global,

@@ -3,10 +3,10 @@
 ghost use Rattle.std.specs.Prelude.{◌≡◌, ℕ, [], All, IfOk, OnOk};
 ghost use Rattle.std.specs.List.{AllZip, filter_map, list_any};
 ghost use Rattle.ipx_router.specs.Ports.{IsPortNumber};
-ghost use Rattle.ipx_site.specs.StaticLists.{is_one_source};
-ghost use Rattle.ipx_site.specs.StaticNeighbours.{AreSilent, IsSilent, named_sources, route_by, service_by, with_source};
+ghost use Rattle.ipx_config.specs.StaticLists.{is_one_source, named_sources, route_by, service_by, with_source};
+ghost use Rattle.ipx_site.specs.StaticNeighbours.{AreSilent, IsSilent};
 
-use crate::statics::{StaticEntry, is_one_source};
+use ipx_config::{StaticEntry, is_one_source};
 use ipx_control::{RipEntry, ServiceEntry};
 use ipx_static::StaticNeighbour;
 use ipx_tables::Source;

@@ -1,7 +1,8 @@
 //! The metrics text of access lists at RFC 1234 ports, in a router with ports of other kinds before
 //! and between them.
 
-use ipx_site::{PortFilterDrops, PortIndex, put_access_list_metrics};
+use ipx_site::{PortIndex, put_access_list_metrics};
+use ipx_sockets::PortFilterDrops;
 use std::alloc::{AllocError, Global};
 
 /// An Ethernet port, an RFC 1234 port, an ipxnet port, another RFC 1234 port, and another Ethernet

@@ -2,8 +2,8 @@
 
 use ipx_carrier::Core;
 use ipx_metrics::MeteredRouter;
+use ipx_rate_limits::{PortBuckets, RateLimit, RateLimiter, TokenBucket};
 use ipx_router::{Port, Router};
-use ipx_site::{PortBuckets, RateLimit, RateLimiter, TokenBucket};
 use ipx_static::{RestartDiscovery, WithStatics};
 use ipx_wire::{Network, Node, OutOfMemory};
 use std::alloc::{AllocError, Global};
@@ -29,7 +29,7 @@ fn limits(alloc: Global) -> Result<Vec<PortBuckets>, AllocError> {
     });
     let limits = PortBuckets {
         queries: bucket,
-        nearest: bucket,
+        narrow: bucket,
         directed: Some(bucket),
         groups: false,
     };

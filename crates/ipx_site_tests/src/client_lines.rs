@@ -3,10 +3,15 @@
 
 use ipx_site::{ClientLog, PortClient};
 use ipx_wire::Node;
-use ipxnet_server::node_of;
 use std::alloc::{AllocError, Global};
 use std::net::{Ipv4Addr, SocketAddrV4};
 use std::test::Fail;
+
+/// The node of the client at this UDP port.
+fn node_of(udp_port: u16) -> Node {
+    let [high, low] = udp_port.to_be_bytes();
+    Node([198, 51, 100, 7, high, low])
+}
 
 /// The client at this UDP port of 198.51.100.7.
 fn client(port: usize, udp_port: u16) -> PortClient {
@@ -14,7 +19,7 @@ fn client(port: usize, udp_port: u16) -> PortClient {
     PortClient {
         port,
         place,
-        node: node_of(place),
+        node: node_of(udp_port),
     }
 }
 

@@ -3,6 +3,10 @@
 use crate::fixture::{host_line, site_line};
 use std::alloc::{AllocError, Global};
 
+/// The fault of a file of the secret.
+const SECRET: &str =
+    "secret_file: expected a file name, different from metrics_file and tables_file with or without .new, such as \"/var/lib/ipx/hq/secret\"";
+
 /// A port, and the lines of one on the same network.
 const TWIN: &str = "\
 [[port]]
@@ -15,9 +19,36 @@ address = \"192.0.2.11\"
 peers = []
 ";
 
+/// The lines of a port at an address, and of one that binds every address.
+const SAME: &str = "\
+[[port]]
+network = \"00000001\"
+address = \"192.0.2.10\"
+udp_port = 2130
+peers = []
+[[port]]
+network = \"00000002\"
+address = \"192.0.2.10\"
+peers = []
+[[port]]
+kind = \"ipxnet\"
+network = \"00000003\"
+address = \"any\"
+udp_port = 2130
+accept = \"any\"
+";
+
 /// Files of routers with what is printed of them.
-const SITES: [(&str, &str); 20] = [
+const SITES: [(&str, &str); 26] = [
+    (
+        "[[port]]\nrouter = \"10.1.0.1\"",
+        "port 1: router is a key of a host's file, and this command reads a router's file",
+    ),
     (TWIN, "port 2: network 00000001 is already used by port 1"),
+    (
+        SAME,
+        "port 3: same address and udp_port as port 1; \"any\" includes each address",
+    ),
     ("", "port is missing: expected 1 to 16 tables [[port]]"),
     ("port = []", "port: expected 1 to 16 tables [[port]]"),
     (
@@ -26,7 +57,7 @@ const SITES: [(&str, &str); 20] = [
     ),
     (
         "Status = \"a\"",
-        "unknown key Status: the keys of a router are metrics_file, tables_file, port, route and service; those of a host are network, address, router, udp_port, socket, buffers, peers, routers, allow and accept",
+        "unknown key Status: the keys of a router are metrics_file, tables_file, secret_file, port, route and service; those of a host are network, address, router, udp_port, socket, buffers, peers, routers, allow and accept",
     ),
     (
         "metrics_file = 1",
@@ -74,6 +105,19 @@ const SITES: [(&str, &str); 20] = [
     ),
     (
         "metrics_file = \"/run/ipx/hq\"\ntables_file = \"/run/ipx/hq.\"\nport = 1",
+        "port: expected 1 to 16 tables [[port]]",
+    ),
+    ("secret_file = 1\nport = 1", SECRET),
+    (
+        "metrics_file = \"/run/ipx/hq\"\nsecret_file = \"/run/ipx/hq\"\nport = 1",
+        SECRET,
+    ),
+    (
+        "tables_file = \"/run/ipx/hq\"\nsecret_file = \"/run/ipx/hq.new\"\nport = 1",
+        SECRET,
+    ),
+    (
+        "metrics_file = \"/run/ipx/hq\"\ntables_file = \"/run/ipx/t\"\nsecret_file = \"/run/ipx/s\"\nport = 1",
         "port: expected 1 to 16 tables [[port]]",
     ),
     (
@@ -137,7 +181,11 @@ const PORTS: [(&str, &str); 13] = [
 ];
 
 /// Files of hosts with what is printed of them.
-const HOSTS: [(&str, &str); 3] = [
+const HOSTS: [(&str, &str); 4] = [
+    (
+        "cost = 6",
+        "cost is a key of a table [[port]] of a router's file",
+    ),
     (
         "network = 11",
         "network: expected eight hex digits, neither all 0 nor all f, such as \"00000011\"",

@@ -1,13 +1,14 @@
 //! Files without a fault: what is parsed from them.
 
 use crate::fixture::{host, site};
-use ipx_site::{Accept, AllowedPeer, Directed, PortConfig, Rfc1234PortConfig, RouterConfig};
+use ipx_config::{Accept, AllowedPeer, Directed, PortConfig, Rfc1234PortConfig, RouterConfig};
 use ipx_wire::{Address, Network, Node, Socket};
 
 const SITE: &str = "\
 # the router of one site
 metrics_file = \"/run/ipx/hq/hq.prom\"
 tables_file = \"/run/ipx/hq/hq.tables\"
+secret_file = \"/var/lib/ipx/hq/secret\"
 
 [[port]]
 network = \"00000001\"
@@ -128,6 +129,10 @@ fn reads_both_files(rt: HostRuntime) {
         panic!(rt; "it has no file of tables");
     };
     assert_eq!(rt; tables.as_str(), "/run/ipx/hq/hq.tables");
+    let Some(secret) = &site.secret_file else {
+        panic!(rt; "it has no file of the secret");
+    };
+    assert_eq!(rt; secret.as_str(), "/var/lib/ipx/hq/secret");
 }
 
 #[test]

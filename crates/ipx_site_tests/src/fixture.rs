@@ -1,6 +1,6 @@
 //! Helpers for several tests.
 
-use ipx_site::{ConfigError, HostConfig, RouterConfig, read_host, read_site};
+use ipx_config::{ConfigError, HostConfig, RouterConfig, read_host, read_site};
 use std::alloc::{AllocError, Global};
 
 /// The line of the fault of a router's file, or `none`.

@@ -6,7 +6,7 @@ use ipx_carrier::{
     Datagrams, DeviceFault, PriorityRouterCore, Rfc1234Ports, SteppedClock, node_of, run_batch,
 };
 use ipx_router::{Port, Router};
-use ipx_site::{AccessList, Senders, SourceFilter};
+use ipx_sockets::{AccessList, Senders, SourceFilter};
 use ipx_wire::{Address, IpxHeader, Network, Node, Packet, Socket, decode, encode_into};
 use std::alloc::Global;
 use std::collections::VecDeque;

@@ -6,7 +6,7 @@ use ipx_ipxnet_ports::{MemoryPlaces, Servers};
 use ipx_router::{Port, Router};
 use ipx_site::put_drops;
 use ipx_wire::{Network, Node};
-use ipxnet_server::{IpxnetServer, ServerCounts, ServerPort};
+use ipxnet_server::{IpxnetServer, Secret, ServerCounts, ServerPort, node_of};
 use std::alloc::Global;
 use std::net::{Ipv4Addr, SocketAddrV4};
 use std::test::Fail;
@@ -14,7 +14,14 @@ use std::test::Fail;
 const PORT: ServerPort = ServerPort {
     network: Network(0xd05b),
     own: Node([2, 0, 0, 0, 0xd0, 0x5b]),
+    secret: SECRET,
 };
+
+/// The secret of the router: the bytes 00 to 1f.
+const SECRET: Secret = Secret([
+    0, 1, 2, 3, 4, 5, 6, 7, 8, 9, 10, 11, 12, 13, 14, 15, 16, 17, 18, 19, 20, 21, 22, 23, 24, 25,
+    26, 27, 28, 29, 30, 31,
+]);
 
 /// What `ipxnet connect` sends.
 const REGISTRATION: [u8; 30] = [
@@ -39,14 +46,15 @@ fn south_place() -> SocketAddrV4 {
     SocketAddrV4::new(Ipv4Addr::new(192, 0, 2, 20), 2130)
 }
 
-/// The place whose node is the router's.
-fn own_place() -> SocketAddrV4 {
-    SocketAddrV4::new(Ipv4Addr::new(2, 0, 0, 0), 0xd05b)
+/// One more of the IP address of the two players.
+fn third_place() -> SocketAddrV4 {
+    SocketAddrV4::new(*first_place().ip(), 48201)
 }
 
-const FIRST_NODE: Node = Node([198, 51, 100, 7, 0xbc, 0x47]);
+/// The nodes of the two players, as another program computes them.
+const FIRST_NODE: Node = Node([2, 0xc3, 0x7e, 0xce, 0x67, 0xfc]);
 
-const SECOND_NODE: Node = Node([198, 51, 100, 7, 0xbc, 0x48]);
+const SECOND_NODE: Node = Node([2, 4, 0x8c, 0xef, 0xf4, 0x3a]);
 
 const NOBODY: Node = Node([0, 0, 0, 0, 0, 1]);
 
@@ -54,7 +62,7 @@ const NOBODY: Node = Node([0, 0, 0, 0, 0, 1]);
 const REASONS: [&str; 15] = [
     "malformed",
     "node_taken",
-    "too_many_new",
+    "full_of_address",
     "full",
     "unregistered",
     "other_source",
@@ -76,8 +84,10 @@ enum Sent {
     Three,
     /// A registration.
     Registration,
-    /// The same after those of eight more players at other places.
-    AfterTen,
+    /// The same after fourteen more players of the first one's IP address came.
+    AfterMore,
+    /// The same after a joined router showed that its node is there.
+    AfterJoined,
     /// A packet to a socket of a node, from another node, each with its network. Its body begins
     /// with 0002.
     Packet((u32, Node, u16), (u32, Node)),
@@ -121,8 +131,8 @@ fn of_place(reason: &'static str, joined: bool, from: SocketAddrV4, sent: Sent) 
 fn rows() -> [Row; 15] {
     [
         of_place("malformed", false, first_place(), Sent::Three),
-        of_place("node_taken", false, own_place(), Sent::Registration),
-        of_place("too_many_new", false, unknown_place(), Sent::AfterTen),
+        of_place("node_taken", true, unknown_place(), Sent::AfterJoined),
+        of_place("full_of_address", false, third_place(), Sent::AfterMore),
         Row {
             reason: "full",
             most: 2,
@@ -178,16 +188,28 @@ fn packet(size: u16, to: (u32, Node, u16), from: (u32, Node)) -> [u8; 1425] {
     bytes
 }
 
+/// Puts a registration, and a packet to the router with the node that it gives.
+fn enter(sockets: &mut MemoryPlaces, place: SocketAddrV4) -> Result<(), Fail> {
+    sockets.put(0, place, &REGISTRATION)?;
+    let shows = packet(34, (0, PORT.own, 2), (0, node_of(PORT, place)));
+    sockets.put(0, place, &shows[..34])?;
+    Ok(())
+}
+
 /// Puts what is sent.
 fn put(sockets: &mut MemoryPlaces, from: SocketAddrV4, sent: Sent) -> Result<(), Fail> {
     match sent {
         Sent::Three => sockets.put(0, from, b"abc")?,
         Sent::Registration => sockets.put(0, from, &REGISTRATION)?,
-        Sent::AfterTen => {
-            for udp_port in 1..9_u16 {
-                let place = SocketAddrV4::new(*second_place().ip(), udp_port);
-                sockets.put(0, place, &REGISTRATION)?;
+        Sent::AfterMore => {
+            for udp_port in 1..15_u16 {
+                enter(sockets, SocketAddrV4::new(*second_place().ip(), udp_port))?;
             }
+            sockets.put(0, from, &REGISTRATION)?;
+        }
+        Sent::AfterJoined => {
+            let shown = packet(34, (0, Node::BROADCAST, 2), (0, node_of(PORT, from)));
+            sockets.put(0, south_place(), &shown[..34])?;
             sockets.put(0, from, &REGISTRATION)?;
         }
         Sent::Packet(to, source) => sockets.put(0, from, &packet(34, to, source)[..34])?,
@@ -223,7 +245,7 @@ fn server(alloc: Global, most: usize, joined: bool) -> Result<IpxnetServer, Fail
 fn metrics(alloc: Global, row: Row) -> Result<String, Fail> {
     let mut sockets = MemoryPlaces::new(alloc, 1);
     for place in [first_place(), second_place()] {
-        sockets.put(0, place, &REGISTRATION)?;
+        enter(&mut sockets, place)?;
     }
     put(&mut sockets, row.from, row.sent)?;
     let mut all = Vec::new(alloc);
@@ -235,7 +257,7 @@ fn metrics(alloc: Global, row: Row) -> Result<String, Fail> {
         &mut core,
         &mut servers,
         &mut SteppedClock::new(0, 1),
-        50,
+        100,
     );
     let mut text = String::new(alloc);
     put_drops(&mut text, 2, servers.servers()[0].counts())?;

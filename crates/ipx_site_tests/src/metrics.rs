@@ -1,7 +1,9 @@
 //! The metrics in the Prometheus text format.
 
 use ipx_carrier::OutcomeCounters;
-use ipx_site::{DirectedDrops, DropCount, FilterDrops, Metrics};
+use ipx_rate_limits::DirectedDrops;
+use ipx_site::Metrics;
+use ipx_sockets::{DropCount, FilterDrops};
 use ipx_source_checks::{SourceDropCount, SourceDrops};
 use std::alloc::AllocError;
 
@@ -36,6 +38,7 @@ pub const METRICS: Metrics = Metrics {
             count: 24,
             last: None,
         },
+        mismatch: None,
     },
     rate_limited: DropCount {
         count: 25,
@@ -49,18 +52,27 @@ pub const METRICS: Metrics = Metrics {
         forwarded_control: SourceDropCount {
             count: 33,
             last: None,
+            network: None,
         },
         group_source: SourceDropCount {
             count: 35,
             last: None,
+            network: None,
         },
         looped_source: SourceDropCount {
             count: 34,
             last: None,
+            network: None,
         },
     },
     refused: 16,
+    last_refused: None,
     frame_unknown_senders: 26,
+    frame_last_unknown: None,
+    ipxnet_unknown_senders: DropCount {
+        count: 36,
+        last: None,
+    },
     unframed: 27,
     other_encapsulation: 28,
     device_faults: 17,

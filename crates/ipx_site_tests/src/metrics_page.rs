@@ -7,9 +7,9 @@ use ipx_ethernet::FrameCounters;
 use ipx_metrics::{MeteredRouter, PortCounts};
 use ipx_router::{Port, Router};
 use ipx_site::{
-    EthernetMetrics, EthernetPortMetrics, IpxnetMetrics, IpxnetPortMetrics, MetricsPage,
-    PortFilterDrops, PortIndex,
+    EthernetMetrics, EthernetPortMetrics, IpxnetMetrics, IpxnetPortMetrics, MetricsPage, PortIndex,
 };
+use ipx_sockets::PortFilterDrops;
 use ipx_wire::{Network, Node};
 use ipxnet_server::ServerCounts;
 use std::alloc::{AllocError, Global};
@@ -140,7 +140,7 @@ fn ipxnet(alloc: Global) -> Result<IpxnetMetrics, AllocError> {
         not_behind: 612,
         for_elsewhere: 613,
         node_taken: 614,
-        too_many_new: 615,
+        full_of_address: 615,
         full: 616,
     };
     let port = IpxnetPortMetrics {
@@ -304,7 +304,7 @@ reason.
 # TYPE ipx_ipxnet_dropped_total counter
 ipx_ipxnet_dropped_total{port=\"3\",reason=\"malformed\"} 602
 ipx_ipxnet_dropped_total{port=\"3\",reason=\"node_taken\"} 614
-ipx_ipxnet_dropped_total{port=\"3\",reason=\"too_many_new\"} 615
+ipx_ipxnet_dropped_total{port=\"3\",reason=\"full_of_address\"} 615
 ipx_ipxnet_dropped_total{port=\"3\",reason=\"full\"} 616
 ipx_ipxnet_dropped_total{port=\"3\",reason=\"unregistered\"} 603
 ipx_ipxnet_dropped_total{port=\"3\",reason=\"other_source\"} 604

@@ -1,6 +1,7 @@
 //! When a starting router repeats its requests, and when a cause is logged.
 
-use ipx_site::{ThrottledLog, discovery_retry};
+use ipx_site::discovery_retry;
+use ipx_sockets::ThrottledLog;
 
 #[test]
 fn asks_six_times(rt: HostRuntime) {

@@ -1,7 +1,9 @@
 //! Which senders are accepted, with which source, and to which addresses a port sends.
 
 use ipx_carrier::{Datagrams, DeviceFault};
-use ipx_site::{AccessList, PortFilterDrops, Senders, SourceFilter};
+use ipx_sockets::{
+    AccessList, FilterDrops, NetworkMismatch, PortFilterDrops, Senders, SourceFilter,
+};
 use ipx_wire::{Address, IpxHeader, Network, Node, Packet, Socket, encode_into};
 use std::alloc::{AllocError, Global};
 use std::process::Abort;
@@ -263,6 +265,7 @@ fn sends_to_peers_alone(rt: HostRuntime) -> Result<(), AllocError> {
     assert_eq!(rt; device.refused(), 0);
     assert!(rt; device.send(0, [10, 0, 0, 2], &[1]).is_ok());
     assert_eq!(rt; device.refused(), 1);
+    assert_eq!(rt; device.last_refused(), Some([10, 0, 0, 2]));
     let at_port = PortFilterDrops {
         unknown_senders: 0,
         refused: 1,
@@ -274,17 +277,14 @@ fn sends_to_peers_alone(rt: HostRuntime) -> Result<(), AllocError> {
 /// A packet of another node, and one of the peer itself, each with this body to this socket.
 const SOURCES: [(Network, Node); 2] = [(AWAY, OTHER), (HERE, PEER)];
 
-/// Whether the peer's packet with this source, body and socket is accepted if the peer is one of
-/// the routers, or if none is named. Otherwise it is counted as not from a router, and as nothing
-/// else.
-fn is_let(
-    rt: &impl Abort,
+/// Whether the peer's packet with this source, body and socket is accepted, and what is counted.
+fn filtered(
     alloc: Global,
     routers: Vec<[u8; 4]>,
     source: (Network, Node),
     socket: Socket,
     operation: u8,
-) -> Result<bool, AllocError> {
+) -> Result<(bool, FilterDrops), AllocError> {
     let header = IpxHeader {
         hops: 0,
         kind: 0,
@@ -311,20 +311,50 @@ fn is_let(
         hears: None,
         routers: Some(routers),
     };
-    let ip = [10, 0, 0, 1];
     let fountain = Fountain {
-        from: Some(ip),
+        from: Some([10, 0, 0, 1]),
         bytes,
         count: 32,
     };
     let mut device = SourceFilter::new(fountain, vec![in alloc; access_list]?);
     let mut room = [0; 64];
     let heard = matches!(device.receive(0, &mut room), Ok(Some(32)));
-    let kept = device.kept();
+    Ok((heard, device.kept()))
+}
+
+/// Whether that packet is accepted if the peer is one of the routers, or if none is named. Otherwise
+/// it is counted as not from a router, and as nothing else.
+fn is_let(
+    rt: &impl Abort,
+    alloc: Global,
+    routers: Vec<[u8; 4]>,
+    source: (Network, Node),
+    socket: Socket,
+    operation: u8,
+) -> Result<bool, AllocError> {
+    let (heard, kept) = filtered(alloc, routers, source, socket, operation)?;
     assert_eq!(rt; kept.not_a_router.count, u64::from(!heard));
-    assert!(rt; heard || kept.not_a_router.last == Some(ip));
+    assert!(rt; heard || kept.not_a_router.last == Some([10, 0, 0, 1]));
     assert_eq!(rt; kept.total(), u128::from(!heard));
     Ok(heard)
+}
+
+/// If the peer names itself on another network, both numbers are kept. They are not if it names
+/// another node, which a router would.
+#[test]
+fn names_both_networks(rt: HostRuntime) -> Result<(), AllocError> {
+    let both = NetworkMismatch {
+        sender: AWAY,
+        port: HERE,
+    };
+    let alloc = rt.alloc();
+    for (node, mismatch) in [(PEER, Some(both)), (OTHER, None)] {
+        let none = Vec::new(alloc);
+        let (heard, kept) = filtered(alloc, none, (AWAY, node), Socket::RIP, 1)?;
+        assert!(rt; !heard);
+        assert!(rt; kept.mismatch == mismatch);
+    }
+    Ok(())
 }
 
 #[test]

@@ -1,7 +1,7 @@
 //! Files with ipxnet ports: what is parsed from them, and each fault with its line.
 
 use crate::fixture::{site, site_line};
-use ipx_site::{Accept, Directed, IpxnetPortConfig, Kind, PortConfig, RouterConfig};
+use ipx_config::{Accept, Directed, IpxnetPortConfig, Kind, PortConfig, RouterConfig};
 use ipx_wire::{Network, Node};
 use std::alloc::AllocError;
 use std::net::{Ipv4Addr, SocketAddrV4};
@@ -188,6 +188,19 @@ fn lines_of_ports_for_clients(rt: HostRuntime) -> Result<(), AllocError> {
     Ok(())
 }
 
+/// Without `udp_port` players reach the port that `ipxnet connect` dials by itself.
+#[test]
+fn listens_at_port_213_by_default(rt: HostRuntime) -> Result<(), AllocError> {
+    let text = format!(in rt.alloc();
+        "[[port]]\nkind = \"ipxnet\"\nnetwork = \"0000d05b\"\naddress = \"any\"\naccept = \"any\""
+    )?;
+    let Some(site) = site(rt.alloc(), text.as_str()) else {
+        panic!(rt; "the file has a fault");
+    };
+    assert!(rt; players(&site, 0).is_some_and(|port| port.udp_port == 213));
+    Ok(())
+}
+
 /// Keys that only ipxnet ports have, and a required key.
 const KINDS: [(&str, &str); 4] = [
     (
@@ -203,8 +216,8 @@ const KINDS: [(&str, &str); 4] = [
         "port 1: clients is not a key of kind \"ethernet\": its keys are kind, network, encapsulation, address, udp_port, cost, remotes, node, switch, directed",
     ),
     (
-        "kind = \"ipxnet\"\nnetwork = \"0000d05b\"\naddress = \"192.0.2.10\"",
-        "port 1: udp_port is missing: expected a number from 1 to 65535, such as 213",
+        "kind = \"ethernet\"\nnetwork = \"0000d05b\"\nencapsulation = \"802.2\"\naddress = \"192.0.2.10\"",
+        "port 1: udp_port is missing: expected a number from 1 to 65535, such as 24002",
     ),
 ];
 

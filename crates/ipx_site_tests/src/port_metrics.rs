@@ -112,7 +112,12 @@ fn metrics_of_ports_in_text(rt: HostRuntime) -> Result<(), Fail> {
 }
 
 fn said(alloc: Global, reason: DropReason, last: Option<LastDrop>) -> Result<String, AllocError> {
-    let words = DropSummary { reason, last };
+    let network = Some(Network(0x11));
+    let words = DropSummary {
+        reason,
+        last,
+        network,
+    };
     format!(in alloc; "{words}")
 }
 
@@ -158,13 +163,22 @@ fn lines_of_what_was_dropped(rt: HostRuntime) -> Result<(), Fail> {
     let looped = said(alloc, DropReason::LoopedSource, last.no_route)?;
     assert_eq!(rt;
         looped.as_str(),
-        "looped source, the last from 00000022 00000a010014 4003 on port 2"
+        "looped source (sender uses network 00000022, this port has 00000011), the last from 00000022 \
+            00000a010014 4003 on port 2"
     );
+    let nowhere = said(alloc, DropReason::LoopedSource, None)?;
+    assert_eq!(rt; nowhere.as_str(), "looped source");
     Ok(())
 }
 
 fn warns(reason: DropReason, last: Option<LastDrop>) -> bool {
-    DropSummary { reason, last }.warns()
+    let network = None;
+    DropSummary {
+        reason,
+        last,
+        network,
+    }
+    .warns()
 }
 
 /// What is for all nodes of a network reaches its router too, and is no fault. Anything else is a

@@ -1,8 +1,9 @@
-//! General queries, how often those of each querier pass, nearest queries, and directed broadcasts.
+//! General queries, how often those of each querier pass, narrow queries, and directed broadcasts.
 
 use ipx_carrier::Core;
+use ipx_rate_limits::{PortBuckets, RateLimit, RateLimiter, TokenBucket};
 use ipx_router::Port;
-use ipx_site::{DropCount, PortBuckets, RateLimit, RateLimiter, TokenBucket};
+use ipx_sockets::DropCount;
 use ipx_wire::{
     Address, IpxHeader, Network, Node, OutOfMemory, Packet, Socket, encode_into, packet_type,
 };
@@ -92,12 +93,12 @@ const CLIENTS: RateLimit = RateLimit {
     per_second: 1,
 };
 
-const NEAREST: RateLimit = RateLimit {
+const NARROW: RateLimit = RateLimit {
     burst: 64,
     per_second: 32,
 };
 
-const CLIENTS_NEAREST: RateLimit = RateLimit {
+const CLIENTS_NARROW: RateLimit = RateLimit {
     burst: 8,
     per_second: 4,
 };
@@ -116,10 +117,10 @@ fn port(number: u8, network: Network) -> Port {
     }
 }
 
-fn limits(queries: RateLimit, nearest: RateLimit, directed: Option<RateLimit>) -> PortBuckets {
+fn limits(queries: RateLimit, narrow: RateLimit, directed: Option<RateLimit>) -> PortBuckets {
     PortBuckets {
         queries: TokenBucket::full(queries),
-        nearest: TokenBucket::full(nearest),
+        narrow: TokenBucket::full(narrow),
         directed: match directed {
             Some(limit) => Some(TokenBucket::full(limit)),
             None => None,
@@ -139,12 +140,12 @@ fn ears_by(
     let ears = Ears { heard: 0, refused };
     let ports = vec![in alloc; port(1, HERE), port(2, AWAY), port(3, PLAYERS)]?;
     let limits = vec![in alloc;
-        limits(USUAL, NEAREST, Some(USUAL)),
+        limits(USUAL, NARROW, Some(USUAL)),
         PortBuckets {
             groups: true,
-            ..limits(USUAL, NEAREST, Some(USUAL))
+            ..limits(USUAL, NARROW, Some(USUAL))
         },
-        limits(CLIENTS, CLIENTS_NEAREST, directed),
+        limits(CLIENTS, CLIENTS_NARROW, directed),
     ]?;
     RateLimiter::new(alloc, ears, ports, limits)
 }
@@ -279,34 +280,118 @@ fn each_port_has_its_tokens(rt: HostRuntime) -> Result<(), AllocError> {
     Ok(())
 }
 
-/// This many queries for the nearest file server at a port, from node 10.0.0.2 at one time.
+/// This many queries for the nearest file server at a port, from node 10.0.0.LAST at one time.
 fn ask_nearest(
     ears: &mut RateLimiter<Ears>,
     alloc: Global,
-    at: (usize, Network),
+    from: (usize, Network, u8),
     count: u32,
     now: u64,
 ) {
     for _query in 0..count {
-        let to = every_node(at.1, Socket::SAP);
-        let _had = hear_at(ears, alloc, (at.0, at.1, 2), to, &NEAREST_SERVER, now);
+        let to = every_node(from.1, Socket::SAP);
+        let _had = hear_at(ears, alloc, from, to, &NEAREST_SERVER, now);
     }
 }
 
 #[test]
-fn nearest_queries_have_their_own_tokens(rt: HostRuntime) -> Result<(), AllocError> {
+fn narrow_queries_have_their_own_tokens(rt: HostRuntime) -> Result<(), AllocError> {
     let mut ears = ears(rt.alloc(), 0)?;
-    ask_nearest(&mut ears, rt.alloc(), (0, HERE), 65, 0);
-    assert_eq!(rt; ears.core().heard, 64);
+    ask_nearest(&mut ears, rt.alloc(), (0, HERE, 2), 33, 0);
+    assert_eq!(rt; ears.core().heard, 32);
     assert_eq!(rt; ears.kept(), kept(1, Some([10, 0, 0, 2])));
     ask(&mut ears, rt.alloc(), 2, 9, 0);
-    assert_eq!(rt; ears.core().heard, 72);
-    ask_nearest(&mut ears, rt.alloc(), (0, HERE), 100, 1000);
-    assert_eq!(rt; ears.core().heard, 104);
-    ask_nearest(&mut ears, rt.alloc(), (2, PLAYERS), 100, 1000);
-    assert_eq!(rt; ears.core().heard, 112);
-    ask_nearest(&mut ears, rt.alloc(), (2, PLAYERS), 100, 2000);
-    assert_eq!(rt; ears.core().heard, 116);
+    assert_eq!(rt; ears.core().heard, 40);
+    ask_nearest(&mut ears, rt.alloc(), (0, HERE, 2), 100, 499);
+    assert_eq!(rt; ears.core().heard, 40);
+    ask_nearest(&mut ears, rt.alloc(), (0, HERE, 2), 100, 500);
+    assert_eq!(rt; ears.core().heard, 41);
+    ask_nearest(&mut ears, rt.alloc(), (0, HERE, 2), 100, 60_000);
+    assert_eq!(rt; ears.core().heard, 73);
+    Ok(())
+}
+
+#[test]
+fn requests_for_named_networks_take_the_same_tokens(rt: HostRuntime) -> Result<(), AllocError> {
+    let mut ears = ears(rt.alloc(), 0)?;
+    let rip = every_node(HERE, Socket::RIP);
+    for _request in 0..20 {
+        let _had = hear_at(&mut ears, rt.alloc(), (0, HERE, 2), rip, &ONE_ROUTE, 0);
+    }
+    assert_eq!(rt; ears.core().heard, 20);
+    ask_nearest(&mut ears, rt.alloc(), (0, HERE, 2), 20, 0);
+    assert_eq!(rt; ears.core().heard, 32);
+    for _request in 0..5 {
+        let _had = hear_at(&mut ears, rt.alloc(), (0, HERE, 2), rip, &ONE_ROUTE, 0);
+    }
+    assert_eq!(rt; ears.core().heard, 32);
+    assert_eq!(rt; ears.kept(), kept(13, Some([10, 0, 0, 2])));
+    // A request for all networks has tokens of its own, and a response takes none.
+    let _all = hear_at(&mut ears, rt.alloc(), (0, HERE, 2), rip, &ALL_ROUTES, 0);
+    let _told = hear_at(&mut ears, rt.alloc(), (0, HERE, 2), rip, &TOLD_ROUTES, 0);
+    assert_eq!(rt; ears.core().heard, 34);
+    Ok(())
+}
+
+#[test]
+fn nodes_share_the_narrow_tokens_of_their_port(rt: HostRuntime) -> Result<(), AllocError> {
+    let mut ears = ears(rt.alloc(), 0)?;
+    for last in 5..8 {
+        ask_nearest(&mut ears, rt.alloc(), (0, HERE, last), 32, 0);
+    }
+    assert_eq!(rt; ears.core().heard, 64);
+    // The third node lost none of its own tokens.
+    for last in 5..8 {
+        ask_nearest(&mut ears, rt.alloc(), (0, HERE, last), 100, 1000);
+    }
+    assert_eq!(rt; ears.core().heard, 64 + 2 + 2 + 28);
+    for last in 5..8 {
+        ask_nearest(&mut ears, rt.alloc(), (2, PLAYERS, last), 5, 1000);
+    }
+    assert_eq!(rt; ears.core().heard, 96 + 4 + 4);
+    for last in 5..8 {
+        ask_nearest(&mut ears, rt.alloc(), (2, PLAYERS, last), 5, 2000);
+    }
+    assert_eq!(rt; ears.core().heard, 104 + 2 + 2);
+    Ok(())
+}
+
+#[test]
+fn a_node_that_floods_takes_no_turn_of_another(rt: HostRuntime) -> Result<(), AllocError> {
+    let mut ears = ears(rt.alloc(), 0)?;
+    for at in [(0, HERE), (2, PLAYERS)] {
+        for moment in 0..100 {
+            let now = moment * 100;
+            ask_nearest(&mut ears, rt.alloc(), (at.0, at.1, 8), 200, now);
+            let before = ears.core().heard;
+            ask_nearest(
+                &mut ears,
+                rt.alloc(),
+                (at.0, at.1, 9),
+                u32::from(moment % 20 == 0),
+                now,
+            );
+            assert_eq!(rt; ears.core().heard, before + u32::from(moment % 20 == 0));
+        }
+    }
+    Ok(())
+}
+
+#[test]
+fn two_hundred_nodes_boot_together(rt: HostRuntime) -> Result<(), AllocError> {
+    let mut ears = ears(rt.alloc(), 0)?;
+    let mut answered = [false; 200];
+    // Each asks again after a second, until it is answered. One more floods.
+    for second in 0..7 {
+        ask_nearest(&mut ears, rt.alloc(), (0, HERE, 9), 2000, second * 1000);
+        for (last, answered) in (20..220).zip(&mut answered) {
+            let before = ears.core().heard;
+            let count = u32::from(!*answered);
+            ask_nearest(&mut ears, rt.alloc(), (0, HERE, last), count, second * 1000);
+            *answered = *answered || ears.core().heard > before;
+        }
+    }
+    assert!(rt; answered.iter().all(|answered| *answered));
     Ok(())
 }
 
@@ -358,7 +443,7 @@ fn what_is_no_directed_broadcast(rt: HostRuntime) -> Result<(), AllocError> {
         (game_of(AWAY, [1, 0, 0, 0, 0, 1]), true),
         (game_of(AWAY, [0xff, 0xff, 0xff, 0xff, 0xff, 0xfe]), true),
         (game_of(FAR, [1, 0, 0, 0, 0, 1]), false),
-        // A player's node is its IP address and its UDP port.
+        // Only an Ethernet has groups. At a port for ipxnet the router makes all nodes.
         (game_of(PLAYERS, [127, 0, 0, 1, 0xbc, 0x47]), false),
         (every_node(FAR, game), false),
         (every_node(HERE, game), false),

@@ -1,7 +1,9 @@
 //! Parsing the files of a site when out of memory: a file is parsed as it is, or memory runs out.
 //! Run these with each allocation refused.
 
-use ipx_site::{ConfigError, PortConfig, read_host, read_site, silent_of};
+use ipx_config::{ConfigError, PortConfig, ports_to_texts, read_host, read_site};
+use ipx_rate_limits::limits_of;
+use ipx_site::silent_of;
 
 /// A router with an RFC 1234 port, an Ethernet port, an ipxnet port, and static entries.
 const SITE: &str = "\
@@ -33,7 +35,7 @@ remotes = [\"127.0.0.1:24001\", \"127.0.0.1:24003\"]
 kind = \"ipxnet\"
 network = \"0000d05b\"
 address = \"192.0.2.10\"
-udp_port = 2130
+udp_port = 2131
 peers = [\"198.51.100.7\", \"203.0.113.9\"]
 
 [[route]]
@@ -84,6 +86,12 @@ fn refused_site(rt: HostRuntime) {
             assert!(rt; site.statics.len() == 2);
             if let Ok(silent) = silent_of(rt.alloc(), &site.statics) {
                 assert!(rt; silent.len() == 2 && silent[1].services.len() == 1);
+            }
+            if let Ok(limits) = limits_of(rt.alloc(), &site.ports) {
+                assert_eq!(rt; limits.len(), 4);
+            }
+            if let Ok(texts) = ports_to_texts(rt.alloc(), &site.ports) {
+                assert_eq!(rt; texts.len(), 4);
             }
         }
         Err(fault) => assert!(rt; matches!(fault, ConfigError::OutOfMemory)),

@@ -3,7 +3,9 @@
 
 use crate::metrics::METRICS;
 use ipx_carrier::{Batch, Core, Datagrams, Rfc1234Ports, RunFault, run_batch};
-use ipx_site::{AccessList, BindFault, Poller, SourceFilter, SteadyClock, UdpSockets, WaitFault};
+use ipx_sockets::{
+    AccessList, BindFault, Poller, SourceFilter, SteadyClock, UdpSockets, WaitFault,
+};
 use ipx_wire::{Network, Node, OutOfMemory};
 use std::alloc::Global;
 

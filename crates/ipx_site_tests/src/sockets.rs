@@ -2,7 +2,7 @@
 
 use crate::fixture::site;
 use ipx_carrier::{Datagrams, DeviceFault};
-use ipx_site::{BindFault, Senders, UdpSockets};
+use ipx_sockets::{BindFault, Senders, UdpSockets};
 use std::test::Fail;
 
 const HERE: &str = "\
@@ -21,10 +21,18 @@ udp_port = 21391
 peers = [\"127.0.91.1\"]
 ";
 
-const IN_USE: &str = "\
+const HOLDER: &str = "\
 [[port]]
 network = \"00000001\"
 address = \"127.0.91.3\"
+udp_port = 21391
+peers = []
+";
+
+const IN_USE: &str = "\
+[[port]]
+network = \"00000001\"
+address = \"127.0.91.6\"
 udp_port = 21391
 peers = []
 [[port]]
@@ -118,9 +126,11 @@ fn a_port_without_a_mark_is_not_asked(rt: HostRuntime) -> Result<(), Fail> {
 
 #[test]
 fn names_the_port_that_is_in_use(rt: HostRuntime) -> Result<(), Fail> {
+    let holder = bound(&rt, HOLDER)?;
     let Err(fault) = bound(&rt, IN_USE) else {
         panic!(rt; "both are bound");
     };
+    assert!(rt; holder.ports() == 1);
     let text = format!(in rt.alloc(); "{fault}")?;
     assert!(rt;
         text.as_str()

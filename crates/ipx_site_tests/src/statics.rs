@@ -1,8 +1,9 @@
 //! Static routes and services: what is parsed from them, their neighbours, and each fault.
 
 use crate::fixture::{site, site_line};
+use ipx_config::{StaticEntry, StaticItem};
 use ipx_control::{RipEntry, ServiceEntry};
-use ipx_site::{StaticEntry, StaticItem, silent_of};
+use ipx_site::silent_of;
 use ipx_tables::Source;
 use ipx_wire::{Address, Network, Node, Socket};
 use std::alloc::{AllocError, Global};

@@ -1,7 +1,9 @@
 //! Waiting for sockets of the loopback interface, and batches of turns over them.
 
 use ipx_carrier::{Clock, Core, Datagrams, DeviceFault, Rfc1234Ports, run_batch};
-use ipx_site::{AccessList, BindFault, ClockFault, Poller, SourceFilter, SteadyClock, UdpSockets};
+use ipx_sockets::{
+    AccessList, BindFault, ClockFault, Poller, SourceFilter, SteadyClock, UdpSockets,
+};
 use ipx_wire::{Network, Node, OutOfMemory};
 use std::alloc::{AllocError, Global};
 use std::io;

@@ -1,8 +1,8 @@
 //! Files with Ethernet ports: what is parsed from them, and each fault with its line.
 
 use crate::fixture::{site, site_line};
+use ipx_config::{EthernetPortConfig, Kind, PortConfig, RouterConfig};
 use ipx_ethernet::Encapsulation;
-use ipx_site::{EthernetPortConfig, Kind, PortConfig, RouterConfig};
 use ipx_wire::{Network, Node};
 use std::alloc::AllocError;
 use std::net::{Ipv4Addr, SocketAddrV4};
@@ -213,7 +213,7 @@ const KINDS: [(&str, &str); 7] = [
     ),
     (
         "kind = \"ethernet\"\nnetwork = \"00000022\"\nencapsulation = \"802.3\"\naddress = \"127.0.0.1\"",
-        "port 1: udp_port is missing: expected a number from 1 to 65535, such as 213",
+        "port 1: udp_port is missing: expected a number from 1 to 65535, such as 24002",
     ),
 ];
 

@@ -40,8 +40,9 @@ fails one r sent by ports port at there control =
     let f : FailedCheck = record {
       fault = ForwardedControl;
       packet = record { port = port; to = Some p.header.to; from = Some p.header.from };
+      network = at.port.network;
     } in
-    (f, (at, there, (p, begins, forwarded at.port p.header n hops is, refl)))
+    (f, (at, there, (p, begins, forwarded at.port p.header n hops is, refl, refl)))
 
 pub not_heard : OnePacket → {C : Type 0} (hears : C → ℕ → List ℕ → ℕ → C → Type 0) (r : RouterView) (sent : List ℕ) → IsForwardedBy r sent
     → (old new : SourceCheckedView C) (port now : ℕ) (at : CheckedPort) → slice_get old.ports port ≡ Some at

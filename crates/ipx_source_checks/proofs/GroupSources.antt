@@ -24,8 +24,9 @@ fails ports port at bytes there ether of =
     let f : FailedCheck = record {
       fault = fault;
       packet = record { port = port; to = Some p.header.to; from = Some p.header.from };
+      network = at.port.network;
     } in
-    (f, (at, there, (p, begins, is, refl)))
+    (f, (at, there, (p, begins, is, refl, refl)))
 
 pub not_heard : {C : Type 0} (hears : C → ℕ → List ℕ → ℕ → C → Type 0) (old new : SourceCheckedView C) (port now : ℕ) (bytes : List ℕ) (at : CheckedPort)
     → slice_get old.ports port ≡ Some at → at.ethernet ≡ true → IsControlOfGroup at bytes → HearsChecked hears old port bytes now new → new.core ≡ old.core

@@ -9,7 +9,6 @@ use Rattle.ipx_router.specs.declared.classify.Concern.TheVariants as concerns
 use Rattle.ipx_router.specs.declared.port.Port.{Port}
 use Rattle.ipx_router.specs.Classify.{concern_of, is_node}
 use Rattle.ipx_carrier.specs.Counting.{raised}
-use Rattle.ipx_metrics.specs.declared.last_drops.LastDrop.{LastDrop}
 use Rattle.ipx_source_checks.specs.declared.drops.SourceDropCount.{SourceDropCount}
 use Rattle.ipx_source_checks.specs.declared.drops.SourceDrops.{SourceDrops}
 use Rattle.ipx_source_checks.specs.declared.failed_check.CheckedPort.{CheckedPort}
@@ -51,10 +50,11 @@ FailsCheck at h ForwardedControl = is_forwarded_control at.port h ≡ true
 FailsCheck at h GroupSource = is_group_source at h ≡ true
 FailsCheck at h LoopedSource = is_looped_source at.port h ≡ true
 
--- bytes that came to this port, which has this number, are a packet that fails a check
+-- bytes that came to this port, which has this number, are a packet that fails a check; the network is the port's
 abbrev pub FailsCheckAt : CheckedPort → ℕ → List ℕ → FailedCheck → Type 0
 FailsCheckAt at port bytes f = (p : PacketView) × BeginsWith bytes p × FailsCheck at p.header f.fault
     × (f.packet ≡ record { port = port; to = Some p.header.to; from = Some p.header.from })
+    × (f.network ≡ at.port.network)
 
 -- the same for bytes that came to the port with this number, which exists
 abbrev pub FailsAt : List CheckedPort → ℕ → List ℕ → FailedCheck → Type 0
@@ -62,24 +62,22 @@ FailsAt ports port bytes f = (at : CheckedPort) × (slice_get ports port ≡ Som
 
 -- nothing was dropped, by one check and by all
 abbrev pub no_drops : SourceDropCount
-no_drops = record { count = 0; last = None }
+no_drops = record { count = 0; last = None; network = None }
 
 abbrev pub nothing_dropped_yet : SourceDrops
 nothing_dropped_yet =
     record { forwarded_control = no_drops; group_source = no_drops; looped_source = no_drops }
 
 -- one more was dropped, and it is the last
-abbrev pub with_one_more_drop : LastDrop → SourceDropCount → SourceDropCount
-with_one_more_drop packet d = record { count = raised d.count; last = Some packet }
+abbrev pub with_one_more_drop : FailedCheck → SourceDropCount → SourceDropCount
+with_one_more_drop f d = record { count = raised d.count; last = Some f.packet; network = Some f.network }
 
 -- it is counted by its check alone
-abbrev pub with_drop_by : SourceFault → LastDrop → SourceDrops → SourceDrops
-with_drop_by ForwardedControl packet d =
-    record d { forwarded_control = with_one_more_drop packet d.forwarded_control }
-with_drop_by GroupSource packet d =
-    record d { group_source = with_one_more_drop packet d.group_source }
-with_drop_by LoopedSource packet d =
-    record d { looped_source = with_one_more_drop packet d.looped_source }
+abbrev pub with_drop_by : SourceFault → FailedCheck → SourceDrops → SourceDrops
+with_drop_by ForwardedControl f d =
+    record d { forwarded_control = with_one_more_drop f d.forwarded_control }
+with_drop_by GroupSource f d = record d { group_source = with_one_more_drop f d.group_source }
+with_drop_by LoopedSource f d = record d { looped_source = with_one_more_drop f d.looped_source }
 
 abbrev pub one_more_failed : FailedCheck → SourceDrops → SourceDrops
-one_more_failed f = with_drop_by f.fault f.packet
+one_more_failed f = with_drop_by f.fault f

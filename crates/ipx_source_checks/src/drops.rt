@@ -6,6 +6,7 @@ ghost use Rattle.ipx_source_checks.specs.SourceChecks.{no_drops, nothing_dropped
 use crate::failed_check::{FailedCheck, SourceFault};
 use ipx_carrier::saturating_increment;
 use ipx_metrics::LastDrop;
+use ipx_wire::Network;
 
 /// The packets that failed one check.
 #[derive(Clone, Copy, PartialEq, Eq)]
@@ -13,6 +14,8 @@ pub struct SourceDropCount {
     /// Saturates at the greatest u64.
     pub count: u64,
     pub last: Option<LastDrop>,
+    /// The network of the port that the last came by.
+    pub network: Option<Network>,
 }
 
 /// The packets that failed a source check, by check.
@@ -33,14 +36,16 @@ impl SourceDropCount {
         SourceDropCount {
             count: 0,
             last: None,
+            network: None,
         }
     }
 
-    fn add(&mut self, packet: LastDrop)
-        ensures { self.new ≡ with_one_more_drop packet self.old }
+    fn add(&mut self, failed: FailedCheck)
+        ensures { self.new ≡ with_one_more_drop failed self.old }
     {
         saturating_increment(&mut self.count);
-        self.last = Some(packet);
+        self.last = Some(failed.packet);
+        self.network = Some(failed.network);
     }
 }
 
@@ -59,9 +64,9 @@ impl SourceDrops {
         ensures { self.new ≡ one_more_failed failed self.old }
     {
         match failed.fault {
-            SourceFault::ForwardedControl => self.forwarded_control.add(failed.packet),
-            SourceFault::GroupSource => self.group_source.add(failed.packet),
-            SourceFault::LoopedSource => self.looped_source.add(failed.packet),
+            SourceFault::ForwardedControl => self.forwarded_control.add(failed),
+            SourceFault::GroupSource => self.group_source.add(failed),
+            SourceFault::LoopedSource => self.looped_source.add(failed),
         }
     }
 }

@@ -8,9 +8,8 @@ use ipx_metrics::LastDrop;
 use ipx_router::Port;
 use ipx_wire::{IpxHeader, Network, Node, Socket, decode, packet_type};
 
-/// A port of a router, and whether it is an Ethernet port. There a source is never the address of a
-/// group. The node of a player of an ipxnet port can look like one, since it is an IP address and a
-/// UDP port.
+/// A port of a router, and whether it is an Ethernet port. Only there it is checked that no source is
+/// a group: at a port for ipxnet the router makes all nodes, and none is a group.
 #[derive(Clone, Copy, PartialEq, Eq)]
 pub struct CheckedPort {
     pub port: Port,
@@ -33,6 +32,8 @@ pub enum SourceFault {
 pub struct FailedCheck {
     pub fault: SourceFault,
     pub packet: LastDrop,
+    /// The network of the port that it came by.
+    pub network: Network,
 }
 
 /// Whether a packet is for the router with this port, and from a neighbour there.
@@ -130,7 +131,11 @@ fn failed_check_at(at: CheckedPort, port: usize, bytes: &[u8]) -> Option<FailedC
         to: Some(header.to),
         from: Some(header.from),
     };
-    Some(FailedCheck { fault, packet })
+    Some(FailedCheck {
+        fault,
+        packet,
+        network: at.port.network,
+    })
 }
 
 /// The check that bytes fail, if any. They came to the port with this number of a router with these

@@ -218,10 +218,10 @@ fn what_becomes_of_each(rt: HostRuntime) -> Result<(), Fail> {
     Ok(())
 }
 
-/// The node of a player of an ipxnet port is its IP address and its UDP port, as 127.0.0.1, port
-/// 48199. It may look like a group, and its queries are heard.
+/// Groups are checked at Ethernet ports alone: at other ports a query of one is heard. At a port for
+/// ipxnet the router makes all nodes, so that none comes from a group.
 #[test]
-fn players_are_heard(rt: HostRuntime) -> Result<(), Fail> {
+fn a_group_is_heard_elsewhere(rt: HostRuntime) -> Result<(), Fail> {
     let alloc = rt.alloc();
     let mut checked = ears_at(alloc, 0, false)?;
     let query = "ffff00220004 00000022ffffffffffff0452 000000227f000001bc474003 0001ffff";
@@ -242,6 +242,8 @@ fn the_last_sender_is_kept(rt: HostRuntime) -> Result<(), Fail> {
     let bytes = bytes_of(alloc, ROWS[12].1)?;
     assert_eq!(rt; last.and_then(|last| last.from), Some(sender(&bytes)));
     assert_eq!(rt; last.map(|last| last.port), Some(0));
+    let network = checked.drops().looped_source.network;
+    assert_eq!(rt; network, Some(Network(0x22)));
     let last = checked.drops().forwarded_control.last;
     let bytes = bytes_of(alloc, ROWS[20].1)?;
     assert_eq!(rt; last.and_then(|last| last.from), Some(sender(&bytes)));

@@ -1,7 +1,7 @@
 -- The words that ask for pings, with a number at any place among them.
 use Rattle.std.proofs.Common.{◌≡◌, ◌≢◌, ◌≤◌, ℕ, true, false, inl, inr, List, [], ◌∷◌, ◌++◌, length, drop, Option, Some, None, codes, arith, ap, sym, subst, refl, ◌∙◌}
 use Rattle.std.proofs.lemmas.List.{length-append}
-use Rattle.ipx_host.specs.declared.target.Target.{Target}
+use Rattle.ipx_config.specs.declared.target.Target.{Target}
 use Rattle.ipx_tool.specs.declared.words.Task.{Task}
 use Rattle.ipx_tool.specs.declared.words.Task.TheVariants.{Hop, Show, ShowFrames, Check, Sim, Udp, Route, CheckSite, Listen, CheckHost, Send, Networks, Services, ServicesOf, Ping, PingTimes}
 use Rattle.ipx_tool.specs.Words.{ArePlain, AsksFor, Finds, IsPingTimes, IsPlain, WritesNumber, IsOptionAmong, target_words}

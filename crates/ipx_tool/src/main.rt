@@ -7,12 +7,13 @@ mod texts;
 mod words;
 
 use clap::error::ErrorKind;
-use ipx_host::{Target, check_host, do_listen, do_send};
+use ipx_config::{Target, check_site};
+use ipx_host::{check_host, do_listen, do_send};
 use ipx_inspect::{do_check, do_hop, do_show, do_show_frames, tell_no_memory};
 use ipx_query_cmd::{do_networks, do_ping, do_services};
 use ipx_sim::do_sim;
 use ipx_sim_udp::do_udp;
-use ipx_site::{check_site, do_route};
+use ipx_site::do_route;
 use ipx_wire::Node;
 use std::io::IsTerminal;
 use std::process::ExitCode;

@@ -149,7 +149,7 @@ For an Ethernet port, with one Ethernet frame in each datagram:
 For DOSBox clients, which connect by ipxnet:
   kind      \"ipxnet\"
   network, address, cost, directed and node as above
-  udp_port  where clients register, no default
+  udp_port  where clients register, default 213
   clients   how many at once, 1 to 150, default 64
   peers     a list of IP addresses that may register
   accept    \"any\": everybody may register, and peers is optional
@@ -159,6 +159,8 @@ Optional, before the first port:
   metrics_file  a file to which the router writes its metrics every ten seconds
   tables_file   a file to which it writes its routing and service tables every ten seconds,
                 for ipx networks and ipx services
+  secret_file   a file of the secret for ipxnet ports, made if it is missing: with it players
+                stay through a restart of the router
 After the ports, up to 256 static routes, [[route]], for routers that do not speak RIP:
   port      the number of a port, starting at 1
   next_hop  the next router: one of the port's peers, or a MAC address on an Ethernet port
@@ -203,11 +205,11 @@ Up to 16 connections are open at once. If standard output is not read, senders h
 stay connected.";
 
 pub const LISTEN_STATUSES: &str = "\
-It runs until it is stopped, or with --once until three seconds after the end of the first
-connection from which anything arrives: nothing of others is written. Status 0: that end came, and
-everything before it is written. 1: that connection was lost, writing failed, the socket cannot be
-bound, or out of memory at startup. 2: the file has a fault, which one line on standard error
-reports, and nothing was bound.
+It runs until it is stopped, or with --once until the first connection from which anything arrives
+has ended, and its last packet came three seconds ago: nothing of others is written. Status 0: that
+end came, and everything before it is written. 1: that connection was lost, writing failed, the
+socket cannot be bound, or out of memory at startup. 2: the file has a fault, which one line on
+standard error reports, and nothing was bound.
 
 With --check, which excludes --once, it opens no socket, and prints a summary of the file as
 ipx route --check does.

@@ -12,7 +12,7 @@ use crate::help::whole_command;
 use clap::Error;
 use clap::error::ErrorKind;
 use ipx_carrier::UDP_PORT;
-use ipx_host::Target;
+use ipx_config::Target;
 use ipx_wire::Node;
 use std::alloc::Global;
 

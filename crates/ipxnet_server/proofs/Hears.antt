@@ -1,22 +1,22 @@
 -- What holds of each packet, whatever becomes of it.
 use Rattle.std.proofs.Common.{◌≡◌, ◌≤◌, ℕ, List, [], ◌∷◌, Bool, true, false, Option, Some, None, length, find, not, cond, arith, refl, sym, ap, subst, ◌∙◌}
-use Rattle.std.specs.Prelude.{is_some, replicate, ◌==◌, ◌&&◌, ◌||◌, nat_le, nat_lt, if◌then◌else◌}
+use Rattle.std.specs.Prelude.{is_some, replicate, ◌==◌, ◌&&◌, ◌||◌, nat_lt, if◌then◌else◌}
 use Rattle.std.specs.Str.{bytes_eq}
 use Rattle.ipx_wire.specs.Assigned.{ipx_header_size}
 use Rattle.ipx_wire.specs.Ipx.{PacketView}
 use Rattle.ipx_wire.specs.declared.ipx.packet.IpxHeader.{IpxHeader}
 use Rattle.ipxnet_server.specs.declared.clients.Client.{Client}
 use Rattle.ipxnet_server.specs.declared.drops.ServerDrop.{ServerDrop}
-use Rattle.ipxnet_server.specs.declared.drops.ServerDrop.TheVariants.{NodeTaken, TooManyNew, Full, Unregistered, OtherSource, TooLong, NoSuchNode, ToItself, PingElsewhere, BroadcastElsewhere, FromElsewhere, Response, NotBehind, ForElsewhere}
+use Rattle.ipxnet_server.specs.declared.drops.ServerDrop.TheVariants.{NodeTaken, FullOfAddress, Full, Unregistered, OtherSource, TooLong, NoSuchNode, ToItself, PingElsewhere, BroadcastElsewhere, FromElsewhere, Response, NotBehind, ForElsewhere}
 use Rattle.ipxnet_server.specs.declared.disposition.Disposition.{Disposition}
 use Rattle.ipxnet_server.specs.declared.disposition.Disposition.TheVariants.{Registered, Pinged, ToClient, ToOthers, ToOthersAndCore, ToCore, Heard, ToJoined, FromJoined, Dropped}
 use Rattle.std.specs.declared.net.socket_addr.SocketAddrV4.{SocketAddrV4}
 use Rattle.ipxnet_server.specs.declared.port.ServerPort.{ServerPort}
 use Rattle.ipxnet_server.specs.declared.peer_servers.RemoteClient.{RemoteClient}
 use Rattle.ipxnet_server.specs.declared.recipients.Recipients.{Recipients}
-use Rattle.ipxnet_server.specs.declared.recipients.Recipients.TheVariants.{Nobody, One, Here, Joined, JoinedAt}
-use Rattle.ipxnet_server.specs.ServerClients.{are_one_place, is_server_full, client_at, client_of_node, has_client_node, is_client_at, max_recent_registrations, recent_registrations}
-use Rattle.ipxnet_server.specs.ServerHears.{IsAnswer, ServerView, all_hear, all_hear_joined, client_hears, core_hears, hear_remote, remote_source, goes_to_core, is_dropped, is_for_server, is_from_server, is_joined_taker, is_node_here, is_node_taken, is_not_behind, is_of_client, is_registration, is_taker, is_to_all_nodes, is_to_service, joined_hears, joined_takers, server_hears, server_hears_elsewhere, server_hears_from, server_hears_here, server_socket, may_reach_core, max_client_bytes, registration_drop, new_client_hears, node_given, one_hears_joined, ping_answer, registration_answer, registration_hears, router_hears, stranger_drop, stranger_hears, takers_of, tells_node, tells_router, makes_client}
+use Rattle.ipxnet_server.specs.declared.recipients.Recipients.TheVariants.{One, Here, Joined, JoinedAt}
+use Rattle.ipxnet_server.specs.ServerClients.{are_one_place, is_address_full, is_server_full, client_at, client_of_node, has_client_node, is_client_at, node_of_place}
+use Rattle.ipxnet_server.specs.ServerHears.{IsAnswer, ServerView, all_hear, all_hear_joined, client_hears, core_hears, hear_remote, remote_source, goes_to_core, is_for_server, is_from_server, is_joined_taker, is_node_here, is_node_taken, is_not_behind, is_of_client, is_of_joined, is_registration, is_taker, is_to_all_nodes, is_to_service, joined_hears, joined_takers, server_hears, server_hears_elsewhere, server_hears_from, server_hears_here, server_socket, may_reach_core, max_client_bytes, registration_drop, new_client_hears, one_hears_joined, ping_answer, registration_answer, registration_hears, router_hears, stranger_drop, stranger_hears, takers_of, tells_router, makes_client}
 use Rattle.ipxnet_server.specs.PeerServers.{remote_client_of, is_joined_place}
 use Rattle.ipxnet_server.specs.ServerInside.{IsSoundHearing, StaysAmongClients}
 use Rattle.ipx_wire.specs.declared.address.Node.{Node}
@@ -84,20 +84,33 @@ dropped_hears l from size d = record {
   back = refl;
   as_many = λ header answer e a. cc;
   no_longer = λ answer a. absurd_none a.0 a.1;
-  free = λ e. cc;
-  sender = λ place e f. cc;
+  sender = λ e. cc;
   taker = λ place e. cc;
   joined = λ e. record { ring = λ place. refl; core = refl; answer = refl; client = refl };
   member = λ e. refl;
 }
 
--- a node that a registration gets is no client's
-free_node : (l : ServerView) (node : Node) (now : ℕ) → registration_drop l node now ≡ None → client_of_node node l.clients ≡ None
-free_node l node now e =
-    let rest : Option ServerDrop = if nat_le max_recent_registrations (recent_registrations now l.clients) then Some TooManyNew else if is_server_full l.most now l.clients then Some Full else None in
+-- a registration is not refused: its node is no client's, and there is room
+free_node : (l : ServerView) (from : SocketAddrV4) (now : ℕ) → registration_drop l from now ≡ None → client_of_node (node_of_place l.port from) l.clients ≡ None
+free_node l from now e =
+    let node : Node = node_of_place l.port from in
+    let rest : Option ServerDrop = if is_address_full now from l.clients then Some FullOfAddress else if is_server_full l.most now l.clients then Some Full else None in
     let taken : is_node_taken l node ≡ false = first_none (is_node_taken l node) (NodeTaken node) rest e in
     let here : is_node_here l.port l.clients node ≡ false = left_false (is_node_here l.port l.clients node) (is_some (remote_client_of node l.far)) taken in
     is_none (client_of_node node l.clients) (right_false (bytes_eq node.0 l.port.own.0 || bytes_eq node.0 broadcast_node) (is_some (client_of_node node l.clients)) here)
+
+rest_none : (b : Bool) (d : ServerDrop) (o : Option ServerDrop) → (if b then Some d else o) ≡ None → o ≡ None
+rest_none true d o e = cc
+rest_none false d o e = e
+
+room_at : (l : ServerView) (from : SocketAddrV4) (now : ℕ) → registration_drop l from now ≡ None → (is_address_full now from l.clients ≡ false) × (is_server_full l.most now l.clients ≡ false)
+room_at l from now e =
+    let last : Option ServerDrop = if is_server_full l.most now l.clients then Some Full else None in
+    let rest : Option ServerDrop = if is_address_full now from l.clients then Some FullOfAddress else last in
+    let free : rest ≡ None = rest_none (is_node_taken l (node_of_place l.port from)) (NodeTaken (node_of_place l.port from)) rest e in (
+      first_none (is_address_full now from l.clients) FullOfAddress last free,
+      first_none (is_server_full l.most now l.clients) Full None (rest_none (is_address_full now from l.clients) FullOfAddress last free),
+    )
 
 module _ (l : ServerView) (from : SocketAddrV4) (size : ℕ) (thirty : ipx_header_size ≤ size) where
   abbrev Sound : Disposition → Type 0
@@ -118,13 +131,12 @@ module _ (l : ServerView) (from : SocketAddrV4) (size : ℕ) (thirty : ipx_heade
     stays : {heard : Disposition} → is_joined_place from l.routers ≡ true → StaysAmongClients heard
     stays e = cc
 
-    registered : (answer : IpxHeader) → size ≡ ipx_header_size → (client_at from l.clients ≡ None → client_of_node (node_given l from) l.clients ≡ None) → Sound (Registered answer)
-    registered answer is free = record {
+    registered : (answer : IpxHeader) → size ≡ ipx_header_size → Sound (Registered answer)
+    registered answer is = record {
       back = refl;
       as_many = λ header bytes e a. size_of (Registered answer) bytes a ∙ sym is;
       no_longer = λ bytes a. short (Registered answer) bytes a;
-      free = λ e. free;
-      sender = λ place e f. cc;
+      sender = λ e. cc;
       taker = λ place e. cc;
       joined = stays;
       member = λ e. refl;
@@ -134,26 +146,22 @@ module _ (l : ServerView) (from : SocketAddrV4) (size : ℕ) (thirty : ipx_heade
     stranger None = dropped Unregistered
     stranger (Some d) = dropped d
 
-    newcomer : (o : Option ServerDrop) → size ≡ ipx_header_size → (o ≡ None → client_of_node (node_given l from) l.clients ≡ None) → Sound (new_client_hears l.port (node_given l from) o)
-    newcomer None is free = registered (registration_answer l.port (node_given l from)) is (λ e. free refl)
-    newcomer (Some d) is free = dropped d
+    newcomer : (node : Node) (o : Option ServerDrop) → size ≡ ipx_header_size → Sound (new_client_hears l.port node o)
+    newcomer node None is = registered (registration_answer l.port node) is
+    newcomer node (Some d) is = dropped d
 
-    registering : (now : ℕ) (o : Option Client) → client_at from l.clients ≡ o → size ≡ ipx_header_size → Sound (registration_hears l from now o)
-    registering now None known is = newcomer (registration_drop l (node_given l from) now) is (free_node l (node_given l from) now)
-    registering now (Some c) known is = registered (registration_answer l.port c.node) is (λ none. cc)
+    registering : (now : ℕ) (o : Option Client) → size ≡ ipx_header_size → Sound (registration_hears l from now o)
+    registering now None is = newcomer (node_of_place l.port from) (registration_drop l from now) is
+    registering now (Some c) is = registered (registration_answer l.port c.node) is
 
     module _ (c : Client) (known : client_at from l.clients ≡ Some c) where
-      no_newcomer : client_at from l.clients ≡ None → client_of_node (node_given l from) l.clients ≡ None
-      no_newcomer none = cc
-
       -- to nobody, or to others than the sender, and not to a single client
-      sent : (heard : Disposition) → is_taker (takers_of heard) from ≡ false → ((header : IpxHeader) → heard ≡ Registered header → ⊥) → ((place : SocketAddrV4) → takers_of heard ≡ One place → ⊥) → is_of_client heard ≡ not (is_dropped heard) → Sound heard
+      sent : (heard : Disposition) → is_taker (takers_of heard) from ≡ false → ((header : IpxHeader) → heard ≡ Registered header → ⊥) → ((place : SocketAddrV4) → takers_of heard ≡ One place → ⊥) → is_of_joined heard ≡ false → Sound heard
       sent heard back other none of = record {
         back = back;
         as_many = λ header answer e a. absurd (other header e);
         no_longer = λ answer a. short heard answer a;
-        free = λ e. no_newcomer;
-        sender = λ place e f. absurd (none place f);
+        sender = λ e. known_there from l.clients c known;
         taker = λ place e. absurd (none place e);
         joined = stays;
         member = λ e. of;
@@ -186,8 +194,7 @@ module _ (l : ServerView) (from : SocketAddrV4) (size : ℕ) (thirty : ipx_heade
         back = apart;
         as_many = λ header answer e a. cc;
         no_longer = λ answer a. short (ToClient k.place) answer a;
-        free = λ e. no_newcomer;
-        sender = λ place e f. known_there from l.clients c known;
+        sender = λ e. known_there from l.clients c known;
         taker = λ place e. taker_known node place l.clients k found (one_is k.place place e);
         joined = stays;
         member = λ e. refl;
@@ -239,7 +246,7 @@ module _ (l : ServerView) (from : SocketAddrV4) (size : ℕ) (thirty : ipx_heade
 
     from_client : (p : PacketView) (now : ℕ) → Sound (if is_registration p.header size then registration_hears l from now (client_at from l.clients) else server_hears_from l from p size now (client_at from l.clients))
     from_client p now =
-        either_by Sound (is_registration p.header size) _ _ (λ e. registering now (client_at from l.clients) refl (size_is p.header size e))
+        either_by Sound (is_registration p.header size) _ _ (λ e. registering now (client_at from l.clients) (size_is p.header size e))
         (λ e. from_place p now (client_at from l.clients) refl)
 
   -- ---- what a joined router sent
@@ -250,8 +257,7 @@ module _ (l : ServerView) (from : SocketAddrV4) (size : ℕ) (thirty : ipx_heade
       back = back;
       as_many = λ header answer e a. cc;
       no_longer = λ answer a. short (FromJoined told takers) answer a;
-      free = λ e. cc;
-      sender = λ place e. cc;
+      sender = λ e. cc;
       taker = taker;
       joined = λ e. record { ring = ring; core = refl; answer = refl; client = refl };
       member = λ e. cc;
@@ -276,8 +282,7 @@ module _ (l : ServerView) (from : SocketAddrV4) (size : ℕ) (thirty : ipx_heade
     enters h =
         either Sound (not (is_for_server l.port h)) _ _ (dropped (ForElsewhere h.to.network))
         (either Sound (is_from_server l.port h && is_not_behind l.port l.clients h.from.node) _ _ (dropped (NotBehind h.from.node))
-        (either Sound (tells_node l.port h) _ _ (entering (Some h.from.node) Nobody refl (λ place. refl) (λ place e. cc))
-        (either Sound (is_to_all_nodes h) _ _ (all_enter h) (one_enters h (client_of_node h.to.node l.clients) refl))))
+        (either Sound (is_to_all_nodes h) _ _ (all_enter h) (one_enters h (client_of_node h.to.node l.clients) refl)))
 
   pub sound_hearing : (p : PacketView) (now : ℕ) → Sound (server_hears l from p size now)
   sound_hearing p now =
@@ -318,16 +323,31 @@ module _ (l : ServerView) (from : SocketAddrV4) (h : IpxHeader) (size now : ℕ)
   pub makes_new : client_at from l.clients ≡ None
   makes_new = not_known (client_at from l.clients) parts.1
 
-  pub makes_free : client_of_node (node_given l from) l.clients ≡ None
-  makes_free =
-      free_node l (node_given l from) now
-      (accepted (bytes_eq h.from.node.0 (node_given l from).0) (registration_drop l (node_given l from) now) (not_some (stranger_drop l from h now) parts.2))
+  makes_none : registration_drop l from now ≡ None
+  makes_none =
+      accepted (bytes_eq h.from.node.0 (node_of_place l.port from).0) (registration_drop l from now) (not_some (stranger_drop l from h now) parts.2)
+
+  pub makes_free : client_of_node (node_of_place l.port from) l.clients ≡ None
+  makes_free = free_node l from now makes_none
+
+shown_by : (b : Bool) (o : Option ServerDrop) → (if b then o else Some Unregistered) ≡ None → b ≡ true
+shown_by true o e = refl
+shown_by false o e = cc
+
+pub shows_it : (l : ServerView) (from : SocketAddrV4) (h : IpxHeader) (size now : ℕ) → makes_client l from h size now ≡ true → bytes_eq h.from.node.0 (node_of_place l.port from).0 ≡ true
+shows_it l from h size now makes =
+    let parts = all_true (not (is_joined_place from l.routers)) (not (is_registration h size)) (not (is_some (client_at from l.clients))) (not (is_some (stranger_drop l from h now))) makes in
+    shown_by (bytes_eq h.from.node.0 (node_of_place l.port from).0) (registration_drop l from now) (not_some (stranger_drop l from h now) parts.2)
+
+pub stranger_room : (l : ServerView) (from : SocketAddrV4) (h : IpxHeader) (now : ℕ) → is_some (stranger_drop l from h now) ≡ false → (is_address_full now from l.clients ≡ false) × (is_server_full l.most now l.clients ≡ false)
+stranger_room l from h now e =
+    room_at l from now (accepted (bytes_eq h.from.node.0 (node_of_place l.port from).0) (registration_drop l from now) (not_some (stranger_drop l from h now) (ap not e)))
 
 -- what shows a remote client came from a joined router
-pub told_joined : (b : Bool) (heard : Disposition) (told : Option Node) (takers : Recipients) → (b ≡ false → is_of_client heard ≡ not (is_dropped heard)) → heard ≡ FromJoined told takers → b ≡ true
+pub told_joined : (b : Bool) (heard : Disposition) (told : Option Node) (takers : Recipients) → (b ≡ false → is_of_joined heard ≡ false) → heard ≡ FromJoined told takers → b ≡ true
 told_joined true heard told takers member e = refl
 told_joined false heard told takers member e =
-    let other : is_of_client (FromJoined told takers) ≡ not (is_dropped (FromJoined told takers)) = subst (λ (h : Disposition). is_of_client h ≡ not (is_dropped h)) e (member refl) in
+    let other : is_of_joined (FromJoined told takers) ≡ false = subst (λ (h : Disposition). is_of_joined h ≡ false) e (member refl) in
     cc
 
 -- ---- what goes to the core is from the port's network, and advertises nothing
@@ -391,7 +411,7 @@ reaches_newcomer port node p None = λ goes. cc
 reaches_newcomer port node p (Some d) = λ goes. cc
 
 reaches_registering : (l : ServerView) (from : SocketAddrV4) (p : PacketView) (now : ℕ) (o : Option Client) → ReachesCore l.port p (registration_hears l from now o)
-reaches_registering l from p now None = reaches_newcomer l.port (node_given l from) p (registration_drop l (node_given l from) now)
+reaches_registering l from p now None = reaches_newcomer l.port (node_of_place l.port from) p (registration_drop l from now)
 reaches_registering l from p now (Some c) = λ goes. cc
 
 reaches_joined_one : (l : ServerView) (from : SocketAddrV4) (p : PacketView) (size : ℕ) (o : Option Client) → ReachesCore l.port p (one_hears_joined l.port from p.header size o)
@@ -404,13 +424,52 @@ reaches_joined : (l : ServerView) (from : SocketAddrV4) (p : PacketView) (size :
 reaches_joined l from p size =
     either (ReachesCore l.port p) (not (is_for_server l.port p.header)) _ _ (λ goes. cc)
     (either (ReachesCore l.port p) (is_from_server l.port p.header && is_not_behind l.port l.clients p.header.from.node) _ _ (λ goes. cc)
-    (either (ReachesCore l.port p) (tells_node l.port p.header) _ _ (λ goes. cc)
     (either (ReachesCore l.port p) (is_to_all_nodes p.header) _ _
     (either (ReachesCore l.port p) (nat_lt max_client_bytes size) _ _ (λ goes. cc) (λ goes. cc))
-    (reaches_joined_one l from p size (client_of_node p.header.to.node l.clients)))))
+    (reaches_joined_one l from p size (client_of_node p.header.to.node l.clients))))
 
 pub core_law : (l : ServerView) (from : SocketAddrV4) (p : PacketView) (size now : ℕ) → goes_to_core (server_hears l from p size now) ≡ true → may_reach_core l.port p ≡ true
 core_law l from p size now =
     either (ReachesCore l.port p) (is_joined_place from l.routers) _ _ (reaches_joined l from p size)
     (either (ReachesCore l.port p) (is_registration p.header size) _ _ (reaches_registering l from p now (client_at from l.clients))
     (reaches_from l from p size now (client_at from l.clients)))
+
+-- ---- what a client sent is no registration
+
+abbrev IsNoClients : Disposition → Type 0
+IsNoClients heard = is_of_client heard ≡ false
+
+no_newcomer : (port : ServerPort) (node : Node) (o : Option ServerDrop) → IsNoClients (new_client_hears port node o)
+no_newcomer port node None = refl
+no_newcomer port node (Some d) = refl
+
+no_registering : (l : ServerView) (from : SocketAddrV4) (now : ℕ) (o : Option Client) → IsNoClients (registration_hears l from now o)
+no_registering l from now None = no_newcomer l.port (node_of_place l.port from) (registration_drop l from now)
+no_registering l from now (Some c) = refl
+
+no_joined_one : (port : ServerPort) (from : SocketAddrV4) (h : IpxHeader) (size : ℕ) (o : Option Client) → IsNoClients (one_hears_joined port from h size o)
+no_joined_one port from h size None = refl
+no_joined_one port from h size (Some c) =
+    either IsNoClients (are_one_place c.place from) _ _ refl (either IsNoClients (nat_lt max_client_bytes size) _ _ refl refl)
+
+no_joined : (l : ServerView) (from : SocketAddrV4) (h : IpxHeader) (size : ℕ) → IsNoClients (joined_hears l from h size)
+no_joined l from h size =
+    either IsNoClients (not (is_for_server l.port h)) _ _ refl
+    (either IsNoClients (is_from_server l.port h && is_not_behind l.port l.clients h.from.node) _ _ refl
+    (either IsNoClients (is_to_all_nodes h) _ _
+    (either IsNoClients (nat_lt max_client_bytes size) _ _ refl refl)
+    (no_joined_one l.port from h size (client_of_node h.to.node l.clients))))
+
+pub registers_no_client : (l : ServerView) (from : SocketAddrV4) (p : PacketView) (size now : ℕ) → is_registration p.header size ≡ true → is_of_client (server_hears l from p size now) ≡ false
+registers_no_client l from p size now is =
+    either IsNoClients (is_joined_place from l.routers) _ _ (no_joined l from p.header size)
+    (either_by IsNoClients (is_registration p.header size) _ _ (λ e. no_registering l from now (client_at from l.clients)) (λ e. cc (is, e)))
+
+no_meeting : (a b c d : Bool) → b ≡ true → (not a && not b && c && d) ≡ false
+no_meeting true true c d e = refl
+no_meeting false true c d e = refl
+no_meeting a false c d e = cc
+
+pub registers_nobody : (l : ServerView) (from : SocketAddrV4) (h : IpxHeader) (size now : ℕ) → is_registration h size ≡ true → makes_client l from h size now ≡ false
+registers_nobody l from h size now is =
+    no_meeting (is_joined_place from l.routers) (is_registration h size) (not (is_some (client_at from l.clients))) (not (is_some (stranger_drop l from h now))) is

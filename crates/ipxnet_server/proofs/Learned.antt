@@ -1,10 +1,8 @@
 -- What a joined server learns of a packet of the core.
 use Rattle.std.proofs.Common.{◌≡◌, ℕ, Bool, true, false, Option, Some, None, not, refl, ap, subst, ◌∙◌}
 use Rattle.std.specs.Prelude.{Ok, ◌==◌, ◌&&◌, ◌||◌, nat_lt, if◌then◌else◌}
-use Rattle.std.specs.Str.{bytes_eq}
 use Rattle.std.specs.declared.net.socket_addr.SocketAddrV4.{SocketAddrV4}
 use Rattle.ipx_wire.specs.Assigned.{local_network}
-use Rattle.ipx_wire.specs.Ipx.{PacketView}
 use Rattle.ipx_wire.specs.declared.address.Network.{Network}
 use Rattle.ipx_wire.specs.declared.address.Node.{Node}
 use Rattle.ipx_wire.specs.declared.ipx.packet.IpxHeader.{IpxHeader}
@@ -14,10 +12,10 @@ use Rattle.ipxnet_server.specs.declared.disposition.Disposition.TheVariants.{Fro
 use Rattle.ipxnet_server.specs.declared.recipients.Recipients.{Recipients}
 use Rattle.ipxnet_server.specs.declared.recipients.Recipients.TheVariants.{Here, One}
 use Rattle.ipxnet_server.specs.ServerClients.{are_one_place, client_of_node}
-use Rattle.ipxnet_server.specs.ServerHears.{ServerView, all_hear_joined, is_for_server, is_from_server, is_joined_taker, is_not_behind, is_to_all_nodes, joined_hears, max_client_bytes, one_hears_joined, remote_source, server_gives, server_hearing, server_learned, tells_node}
+use Rattle.ipxnet_server.specs.ServerHears.{ServerView, all_hear_joined, is_for_server, is_from_server, is_joined_taker, is_not_behind, is_to_all_nodes, joined_hears, max_client_bytes, one_hears_joined, remote_source, server_gives, server_hearing, server_learned}
 use Rattle.ipxnet_server.specs.PeerServers.{is_joined_place}
 use Rattle.ipxnet_server.specs.JoinedLearns.{NoGivenPacketShowsAClient}
-use Rattle.ipxnet_server.proofs.Hears.{either, either_by, left_true}
+use Rattle.ipxnet_server.proofs.Hears.{either, either_by}
 use Rattle.ipxnet_server.proofs.Still.{StaysHere, gives_stay}
 
 module _ (there : ServerView) (from : SocketAddrV4) (size now : ℕ) (h : IpxHeader) (apart : is_from_server there.port h ≡ false) where
@@ -43,9 +41,7 @@ module _ (there : ServerView) (from : SocketAddrV4) (size now : ℕ) (h : IpxHea
   apart_shows_nothing =
       either Unlearned (not (is_for_server there.port h)) _ _ refl
       (either Unlearned (is_from_server there.port h && is_not_behind there.port there.clients h.from.node) _ _ refl
-      (either_by Unlearned (tells_node there.port h) _ _
-      (λ told. cc (apart, left_true (is_from_server there.port h) (bytes_eq h.to.node.0 h.from.node.0) told))
-      (λ e. either Unlearned (is_to_all_nodes h) _ _ all_enter (one_enters (client_of_node h.to.node there.clients)))))
+      (either Unlearned (is_to_all_nodes h) _ _ all_enter (one_enters (client_of_node h.to.node there.clients))))
 
 given_apart : (b : Bool) (here : ServerView) (node : Node) (h : IpxHeader) (size : ℕ) (takers : Recipients) (to : SocketAddrV4) → is_from_server here.port h ≡ b → server_gives here node (Some h) size ≡ Ok takers → is_joined_taker takers to ≡ true → b ≡ false
 given_apart true here node h size takers to is gives taker =

@@ -1,6 +1,9 @@
-pub mod Nodes
 pub mod Hears
 pub mod Once
 pub mod Still
+pub mod Remains
+pub mod Showed
 pub mod Learned
 pub mod PingTimes
+pub mod Notes
+pub mod Asked

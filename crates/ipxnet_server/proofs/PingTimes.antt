@@ -1,5 +1,5 @@
 -- When clients are pinged.
-use Rattle.std.proofs.Common.{◌≡◌, ◌≤◌, ◌<◌, ◌+◌, ◌-◌, ◌*◌, ◌/◌, ◌^◌, ℕ, zero, suc, List, [], ◌∷◌, ◌++◌, Bool, true, false, Option, Some, None, length, take, get_or, arith, refl, sym, ap, subst, ◌∙◌, ltb-true}
+use Rattle.std.proofs.Common.{◌≡◌, ◌≤◌, ◌<◌, ◌+◌, ◌-◌, ◌*◌, ◌^◌, ℕ, zero, suc, List, [], ◌∷◌, ◌++◌, Bool, true, false, Option, Some, None, length, take, get_or, arith, refl, sym, ap, ◌∙◌, ltb-true}
 use Rattle.std.specs.Prelude.{◌||◌, nat_le, nat_lt, if◌then◌else◌}
 use Rattle.std.specs.List.{list_any}
 use Rattle.std.proofs.lemmas.Bool.{false_from_ne_true, leb-false, leb-true, le-leb, lt-ltb, or_left, or_right}
@@ -7,7 +7,8 @@ use Rattle.std.proofs.lemmas.List.{take_more}
 use Rattle.std.proofs.lemmas.List.Folds.{list_any-append}
 use Rattle.ipxnet_server.specs.declared.clients.Client.{Client}
 use Rattle.ipxnet_server.specs.declared.pings.PingTurn.{PingTurn}
-use Rattle.ipxnet_server.specs.Pings.{AreInOrder, IsNextPing, OnlySilentArePinged, PingsAreSeldom, earlier, is_one_pinged, is_pinged, ping_period, pings_by, turns_that_ping}
+use Rattle.ipxnet_server.specs.declared.noted.Noted.{Noted}
+use Rattle.ipxnet_server.specs.Pings.{AreInOrder, AsksAreLate, AsksAreTwo, IsNextPing, OnlySilentArePinged, PingsAreSeldom, asks_by, asks_in, earlier, first_ask, is_asked, is_one_asked, is_one_pinged, is_pinged, ping_period, pings_by, second_ask, turns_that_ask, turns_that_ping}
 
 -- ---- tests
 
@@ -123,3 +124,66 @@ few c before now (time ∷ times) order =
 
 pub few_pings : PingsAreSeldom
 few_pings c before now times order = few c before now times (in_order before times now order)
+
+-- ---- who registered and shows nothing
+
+pub next_ask_of_none : (before : ℕ) → IsNextPing (is_one_asked before []) None
+next_ask_of_none before now lt = refl
+
+pub next_ask_of_more : (before i : ℕ) (d : Noted) (ns : List Noted) (a b : Option ℕ) → i < length ns → IsNextPing (is_one_asked before (take i ns)) a
+    → IsNextPing (λ now. is_asked (record { before = before; now = now }) (get_or ns i d)) b → IsNextPing (is_one_asked before (take (i + 1) ns)) (earlier a b)
+next_ask_of_more before i d ns a b less first one = of_past (is_one_asked before (take (i + 1) ns)) (earlier a b) (λ now lt.
+    let p = is_asked (turn before now) in
+    ap (list_any p) (take_more ns i d less) ∙ list_any-append p (take i ns) (get_or ns i d ∷ [])
+    ∙ ap (λ (t : Bool). list_any p (take i ns) || t) (or_none (p (get_or ns i d)))
+    ∙ ap (λ (t : Bool). t || p (get_or ns i d)) (by_past (is_one_asked before (take i ns)) a first now lt)
+    ∙ ap (λ (t : Bool). is_past a now || t) (by_past (λ now. is_asked (record { before = before; now = now }) (get_or ns i d)) b one now lt) ∙ past_earlier a b now)
+
+pub next_of_both : (pings asks : ℕ → Bool) (a b : Option ℕ) → IsNextPing pings a → IsNextPing asks b → IsNextPing (λ now. pings now || asks now) (earlier a b)
+next_of_both pings asks a b first second = of_past (λ now. pings now || asks now) (earlier a b) (λ now lt.
+    ap (λ (t : Bool). t || asks now) (by_past pings a first now lt) ∙ ap (λ (t : Bool). is_past a now || t) (by_past asks b second now lt) ∙ past_earlier a b now)
+
+if_le : (b d : Bool) → (b ≡ true → d ≡ true) → (if b then 1 else 0) ≤ (if d then 1 else 0)
+if_le true true f = omega arith
+if_le true false f = cc (f refl)
+if_le false true f = omega arith
+if_le false false f = omega arith
+
+if_one : (b : Bool) → (if b then 1 else 0) ≤ 1
+if_one true = omega arith
+if_one false = omega arith
+
+later_still : (time before after : ℕ) → before ≤ after → nat_le time before ≡ true → nat_le time after ≡ true
+later_still time before after le e = le-leb time after (omega (arith, le, leb-true time before e))
+
+pub asked_later : (before after : ℕ) → before ≤ after → asks_in before ≤ asks_in after
+asked_later before after le =
+    omega (arith, if_le (nat_le first_ask before) (nat_le first_ask after) (later_still first_ask before after le), if_le (nat_le second_ask before) (nat_le second_ask after) (later_still second_ask before after le))
+
+pub two_at_most : (time : ℕ) → asks_in time ≤ 2
+two_at_most time = omega (arith, if_one (nat_le first_ask time), if_one (nat_le second_ask time))
+
+few_asks : (n : Noted) (before now : ℕ) (times : List ℕ) → InOrder before times now → turns_that_ask before times n + asks_by before n ≤ asks_by now n
+unfolding InOrder
+few_asks n before now [] order = omega (arith, asked_later (before - n.since) (now - n.since) (omega (arith, order)))
+few_asks n before now (time ∷ times) order =
+    let x = asks_by before n in
+    let y = asks_by time n in
+    let rest = few_asks n time now times order.1 in
+    let first = one_more (nat_lt x y) x y refl (asked_later (before - n.since) (time - n.since) (omega (arith, order.0))) in
+    omega (arith, first, rest)
+
+pub two_asks : AsksAreTwo
+two_asks n before now times order =
+    omega (arith, few_asks n before now times (in_order before times now order), two_at_most (now - n.since))
+
+none_yet : (a b : Bool) (x : ℕ) → (b ≡ true → a ≡ true) → x < (if a then 1 else 0) + (if b then 1 else 0) → a ≡ true
+none_yet true b x f lt = refl
+none_yet false true x f lt = f refl
+none_yet false false x f lt = absurd (omega (arith, lt))
+
+pub late_asks : AsksAreLate
+late_asks t n e =
+    let time = t.now - n.since in
+    leb-true first_ask time (none_yet (nat_le first_ask time) (nat_le second_ask time) (asks_by t.before n)
+    (λ s. le-leb first_ask time (omega (arith, leb-true second_ask time s))) (ltb-true (asks_by t.before n) (asks_in time) e))

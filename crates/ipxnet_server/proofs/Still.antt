@@ -1,5 +1,5 @@
 -- Which clients are known, once one was heard.
-use Rattle.std.proofs.Common.{◌≡◌, ◌≤◌, ◌+◌, ◌-◌, ℕ, List, [], ◌∷◌, ◌++◌, Bool, true, false, Option, Some, None, length, take, drop, filter, find, not, cond, arith, refl, sym, ap, subst, ◌∙◌, take-append-drop}
+use Rattle.std.proofs.Common.{◌≡◌, ◌+◌, ◌-◌, ℕ, List, [], ◌∷◌, ◌++◌, Bool, true, false, Option, Some, None, length, take, drop, filter, find, not, cond, refl, sym, ap, subst, ◌∙◌, take-append-drop}
 use Rattle.std.specs.Prelude.{is_some, IfOk, Ok, Err, Result, ◌==◌, ◌&&◌, ◌||◌, nat_lt, if◌then◌else◌}
 use Rattle.std.specs.Option.{option_or}
 use Rattle.std.specs.Net.Addr.{ipv4_octets}
@@ -21,12 +21,13 @@ use Rattle.ipxnet_server.specs.declared.recipients.Recipients.TheVariants.{One}
 use Rattle.ipx_wire.specs.Assigned.{broadcast_node}
 use Rattle.ipx_wire.specs.declared.address.Node.{Node}
 use Rattle.ipx_wire.specs.declared.ipx.packet.IpxHeader.{IpxHeader}
-use Rattle.ipxnet_server.specs.ServerClients.{are_one_place, client_at, client_heard, client_of_node, clients_heard, is_client_at}
-use Rattle.ipxnet_server.specs.ServerHears.{ServerView, all_get, client_gets, is_dropped, is_from_server, is_given_from_server, is_given_to_service, is_joined_taker, is_of_client, is_taker, is_to_service, joined_takers, server_gives, server_hearing, server_knowing, server_learned, max_client_bytes, node_given, takers_of}
+use Rattle.ipxnet_server.specs.ServerClients.{are_one_place, client_at, client_heard, client_of_node, client_that_goes, clients_but, clients_heard, clients_moved, clients_with, is_client_at, new_client, node_of_place}
+use Rattle.ipxnet_server.specs.NotedPlaces.{places_noted}
+use Rattle.ipxnet_server.specs.ServerHears.{ServerView, all_get, client_gets, is_from_server, is_given_from_server, is_given_to_service, is_joined_taker, is_of_client, is_of_joined, is_to_service, joined_takers, server_gives, server_hearing, server_learned, max_client_bytes}
 use Rattle.ipxnet_server.specs.PeerServers.{is_joined_place, remote_client_of}
 use Rattle.ipxnet_server.specs.ServerInside.{MayKnow, Known, Same}
 use Rattle.ipxnet_server.proofs.Hears.{taker_known}
-use Rattle.ipxnet_server.proofs.Once.{fewer, found_passes, same_place}
+use Rattle.ipxnet_server.proofs.Once.{found_passes, same_place}
 
 -- ---- addresses
 
@@ -37,7 +38,7 @@ both_true false b e = cc
 abbrev place_of : List ℕ → ℕ → SocketAddrV4
 place_of octets port = record { ip = record { octets = octets }; port = port }
 
-one_place : (a b : SocketAddrV4) → are_one_place a b ≡ true → a ≡ b
+pub one_place : (a b : SocketAddrV4) → are_one_place a b ≡ true → a ≡ b
 one_place a b e =
     let both = both_true (bytes_eq (ipv4_octets (v4_ip a)) (ipv4_octets (v4_ip b))) (v4_port a == v4_port b) e in
     let ip : ipv4_octets (v4_ip a) ≡ ipv4_octets (v4_ip b) = (bytes_eq-Decides (ipv4_octets (v4_ip a)) (ipv4_octets (v4_ip b))).0 both.0 in
@@ -71,67 +72,97 @@ elsewhere_by : (a b : SocketAddrV4) (d : Bool) → are_one_place a b ≡ d → a
 elsewhere_by a b false is apart = refl
 elsewhere_by a b true is apart = cc (ap (λ (p : SocketAddrV4). are_one_place b p) (one_place a b is) ∙ same_place b)
 
-elsewhere : (a b : SocketAddrV4) → are_one_place b a ≡ false → are_one_place a b ≡ false
+pub elsewhere : (a b : SocketAddrV4) → are_one_place b a ≡ false → are_one_place a b ≡ false
 elsewhere a b apart = elsewhere_by a b (are_one_place a b) refl apart
 
 is_elsewhere : (from place : SocketAddrV4) (x : Client) → are_one_place place from ≡ false → is_client_at from x ≡ true → is_client_at place x ≡ false
 is_elsewhere from place x apart is = ap (λ (p : SocketAddrV4). are_one_place p place) (one_place x.place from is) ∙ elsewhere from place apart
 
-stay : (from place : SocketAddrV4) (xs : List Client) → are_one_place place from ≡ false → find (is_client_at place) (filter (λ c. not (is_client_at from c)) xs) ≡ find (is_client_at place) xs
+pub stay : (from place : SocketAddrV4) (xs : List Client) → are_one_place place from ≡ false → find (is_client_at place) (filter (λ c. not (is_client_at from c)) xs) ≡ find (is_client_at place) xs
 stay from place [] apart = refl
 stay from place (x ∷ xs) apart =
     stays_by from place x (is_client_at from x) (filter (λ c. not (is_client_at from c)) xs) xs refl (is_elsewhere from place x apart) (stay from place xs apart)
 
-shorter_by : (from : SocketAddrV4) (x c : Client) (b : Bool) (kept rest : List Client) → is_client_at from x ≡ b → length kept ≤ length rest → (find (is_client_at from) rest ≡ Some c → length kept + 1 ≤ length rest) → cond b (Some x) (find (is_client_at from) rest) ≡ Some c
-    → length (cond (not b) (x ∷ kept) kept) + 1 ≤ length (x ∷ rest)
-shorter_by from x c true kept rest is few less found = omega (arith, few)
-shorter_by from x c false kept rest is few less found = omega (arith, less found)
+none_filtered_by : (test keep : Client → Bool) (x : Client) (rest : List Client) (b : Bool) → test x ≡ false → find test rest ≡ None → find test (cond b (x ∷ rest) rest) ≡ None
+none_filtered_by test keep x rest true isnt none = rw isnt none
+none_filtered_by test keep x rest false isnt none = none
 
-shorter : (from : SocketAddrV4) (c : Client) (xs : List Client) → client_at from xs ≡ Some c → length (filter (λ k. not (is_client_at from k)) xs) + 1 ≤ length xs
-shorter from c [] found = cc
-shorter from c (x ∷ xs) found =
-    shorter_by from x c (is_client_at from x) (filter (λ k. not (is_client_at from k)) xs) xs refl (fewer (λ k. not (is_client_at from k)) xs) (shorter from c xs) found
+first_fails : (x : Client) (b : Bool) (o : Option Client) → cond b (Some x) o ≡ None → (b ≡ false) × (o ≡ None)
+first_fails x true o none = cc
+first_fails x false o none = (refl, none)
+
+none_filtered : (test keep : Client → Bool) (xs : List Client) → find test xs ≡ None → find test (filter keep xs) ≡ None
+none_filtered test keep [] none = refl
+none_filtered test keep (x ∷ xs) none =
+    let fails = first_fails x (test x) (find test xs) none in
+    none_filtered_by test keep x (filter keep xs) (keep x) fails.0 (none_filtered test keep xs fails.1)
 
 -- ---- the one that was heard
-
-is_there : (node : Node) (from : SocketAddrV4) (now : ℕ) (xs : List Client) (o : Option Client) → client_at from xs ≡ o → is_client_at from (client_heard node from now o) ≡ true
-is_there node from now xs None is = same_place from
-is_there node from now xs (Some c) is = found_passes (is_client_at from) xs c is
 
 alone : (from : SocketAddrV4) (c : Client) → is_client_at from c ≡ true → find (is_client_at from) (c ∷ []) ≡ Some c
 alone from c is = rw is refl
 
-pub heard_found : (most now : ℕ) (node : Node) (from : SocketAddrV4) (xs : List Client) → client_at from (clients_heard most node from now xs) ≡ Some (client_heard node from now (client_at from xs))
-heard_found most now node from xs =
+last_found : (from : SocketAddrV4) (xs : List Client) (c : Client) → find (is_client_at from) xs ≡ None → is_client_at from c ≡ true → client_at from (xs ++ c ∷ []) ≡ Some c
+last_found from xs c none is =
     let test = is_client_at from in
-    let kept : List Client = filter (λ k. not (is_client_at from k)) xs in
+    find-append test xs (c ∷ []) ∙ ap (λ (o : Option Client). option_or o (find test (c ∷ []))) none ∙ alone from c is
+
+abbrev heard_now : ℕ → Client → Client
+heard_now now c = record c { heard = now }
+
+-- a client that is heard is then found as such
+pub heard_found : (now : ℕ) (from : SocketAddrV4) (xs : List Client) (c : Client) → client_at from xs ≡ Some c → client_at from (clients_heard from now xs) ≡ Some (record c { heard = now })
+heard_found now from xs c is =
+    ap (λ (o : Option Client). client_at from (clients_moved from now xs o)) is
+    ∙ last_found from (filter (λ k. not (is_client_at from k)) xs) (heard_now now c) (gone from xs) (found_passes (is_client_at from) xs c is)
+
+but_none : (from : SocketAddrV4) (o : Option Client) (xs : List Client) → client_at from xs ≡ None → client_at from (clients_but o xs) ≡ None
+but_none from None xs none = none
+but_none from (Some c) xs none = none_filtered (is_client_at from) (λ k. not (is_client_at c.place k)) xs none
+
+-- and so is a new one
+pub new_found : (most now : ℕ) (node : Node) (from : SocketAddrV4) (xs : List Client) → client_at from xs ≡ None → client_at from (clients_with most node from now xs) ≡ Some (new_client node from now)
+new_found most now node from xs none =
+    let kept : List Client = clients_but (client_that_goes from xs) xs in
     let n = length kept + 1 - most in
-    let c : Client = client_heard node from now (client_at from xs) in
-    let none : find test (drop n kept) ≡ None = none_behind test n kept (gone from xs) in
-    find-append test (drop n kept) (c ∷ []) ∙ ap (λ (o : Option Client). option_or o (find test (c ∷ []))) none ∙ alone from c (is_there node from now xs (client_at from xs) refl)
+    last_found from (drop n kept) (new_client node from now) (none_behind (is_client_at from) n kept (but_none from (client_that_goes from xs) xs none)) (same_place from)
+
+known_heard : (now : ℕ) (node : Node) (from : SocketAddrV4) (xs : List Client) (o : Option Client) → client_at from xs ≡ o → is_some o ≡ true → client_at from (clients_heard from now xs) ≡ Some (client_heard node from now o)
+known_heard now node from xs None is there = cc
+known_heard now node from xs (Some c) is there = heard_found now from xs c is
+
+heard_there : (now : ℕ) (node : Node) (from : SocketAddrV4) (xs : List Client) → is_some (client_at from xs) ≡ true → client_at from (clients_heard from now xs) ≡ Some (client_heard node from now (client_at from xs))
+heard_there now node from xs there = known_heard now node from xs (client_at from xs) refl there
 
 -- ---- the others
 
-first_is : (a b : Option Client) → is_some a ≡ true → is_some (option_or a b) ≡ true
+pub first_is : (a b : Option Client) → is_some a ≡ true → is_some (option_or a b) ≡ true
 first_is None b e = cc
 first_is (Some x) b e = refl
 
-pub still_there : (most now : ℕ) (node : Node) (from place : SocketAddrV4) (xs : List Client) (o : Option Client) → length xs ≤ most → client_at from xs ≡ o → is_some o ≡ true → are_one_place place from ≡ false → is_some (client_at place xs) ≡ true
-    → is_some (client_at place (clients_heard most node from now xs)) ≡ true
-still_there most now node from place xs None few is known apart there = cc
-still_there most now node from place xs (Some c) few is known apart there =
+moved_stays : (now : ℕ) (from place : SocketAddrV4) (xs : List Client) (o : Option Client) → are_one_place place from ≡ false → is_some (client_at place xs) ≡ true → is_some (client_at place (clients_moved from now xs o)) ≡ true
+moved_stays now from place xs None apart there = there
+moved_stays now from place xs (Some c) apart there =
     let test = is_client_at place in
     let kept : List Client = filter (λ k. not (is_client_at from k)) xs in
-    let last : Client = client_heard node from now (client_at from xs) in
-    let zero : length kept + 1 - most ≡ 0 = omega (arith, few, shorter from c xs is) in
     let stays : is_some (find test kept) ≡ true = ap is_some (stay from place xs apart) ∙ there in
-    let all : is_some (find test (kept ++ last ∷ [])) ≡ true = ap is_some (find-append test kept (last ∷ [])) ∙ first_is (find test kept) (find test (last ∷ [])) stays in
-    ap (λ (i : ℕ). is_some (find test (drop i kept ++ last ∷ []))) zero ∙ all
+    ap is_some (find-append test kept (heard_now now c ∷ [])) ∙ first_is (find test kept) (find test (heard_now now c ∷ [])) stays
+
+still_by : (now : ℕ) (from place : SocketAddrV4) (xs : List Client) (b : Bool) → are_one_place place from ≡ b → is_some (client_at place xs) ≡ true → is_some (client_at place (clients_heard from now xs)) ≡ true
+still_by now from place xs true is there =
+    let same : place ≡ from = one_place place from is in
+    let here : is_some (client_at from xs) ≡ true = subst (λ (p : SocketAddrV4). is_some (client_at p xs) ≡ true) same there in
+    subst (λ (p : SocketAddrV4). is_some (client_at p (clients_heard from now xs)) ≡ true) (sym same) (ap is_some (heard_there now (record { 0 = [] }) from xs here))
+still_by now from place xs false is there = moved_stays now from place xs (client_at from xs) is there
+
+-- nobody is lost as one is heard
+pub still_there : (now : ℕ) (from place : SocketAddrV4) (xs : List Client) → is_some (client_at place xs) ≡ true → is_some (client_at place (clients_heard from now xs)) ≡ true
+still_there now from place xs there = still_by now from place xs (are_one_place place from) refl there
 
 -- ---- a server after a datagram
 
-pub hearing_clients : (heard : Disposition) (from : SocketAddrV4) (now : ℕ) (l : ServerView) → is_of_client heard ≡ true → (server_hearing heard from now l).clients ≡ clients_heard l.most (node_given l from) from now l.clients
-hearing_clients (Registered answer) from now l e = refl
+pub hearing_clients : (heard : Disposition) (from : SocketAddrV4) (now : ℕ) (l : ServerView) → is_of_client heard ≡ true → (server_hearing heard from now l).clients ≡ clients_heard from now l.clients
+hearing_clients (Registered answer) from now l e = cc
 hearing_clients (Pinged giver answer) from now l e = refl
 hearing_clients (ToClient place) from now l e = refl
 hearing_clients (ToOthers giver) from now l e = refl
@@ -142,12 +173,16 @@ hearing_clients (ToJoined takers) from now l e = refl
 hearing_clients (FromJoined told takers) from now l e = cc
 hearing_clients (Dropped d) from now l e = cc
 
+noted_clients : (b : Bool) (l m : ServerView) → m.clients ≡ l.clients → (if b then l else m).clients ≡ l.clients
+noted_clients true l m same = refl
+noted_clients false l m same = same
+
 told_clients : (told : Option Node) (from : SocketAddrV4) (now : ℕ) (l : ServerView) → (server_learned told from now l).clients ≡ l.clients
 told_clients None from now l = refl
 told_clients (Some node) from now l = refl
 
 pub others_clients : (heard : Disposition) (from : SocketAddrV4) (now : ℕ) (l : ServerView) → is_of_client heard ≡ false → (server_hearing heard from now l).clients ≡ l.clients
-others_clients (Registered answer) from now l e = cc
+others_clients (Registered answer) from now l e = noted_clients (is_some (client_at from l.clients)) l (record l { noted = places_noted from now l.noted }) refl
 others_clients (Pinged giver answer) from now l e = cc
 others_clients (ToClient place) from now l e = cc
 others_clients (ToOthers giver) from now l e = cc
@@ -158,18 +193,24 @@ others_clients (ToJoined takers) from now l e = cc
 others_clients (FromJoined told takers) from now l e = told_clients told from now l
 others_clients (Dropped d) from now l e = refl
 
-pub taker_kept : (b : Bool) (heard : Disposition) (from place : SocketAddrV4) (now : ℕ) (l : ServerView) → is_of_client heard ≡ b → length l.clients ≤ l.most → is_taker (takers_of heard) from ≡ false → takers_of heard ≡ One place
-    → (is_of_client heard ≡ true → is_some (client_at from l.clients) ≡ true) → is_some (client_at place l.clients) ≡ true → is_some (client_at place (server_hearing heard from now l).clients) ≡ true
-taker_kept true heard from place now l of few back one sender there =
-    let apart : are_one_place place from ≡ false = subst (λ (t : Recipients). is_taker t from ≡ false) one back in
+clients_kept : (b : Bool) (heard : Disposition) (from place : SocketAddrV4) (now : ℕ) (l : ServerView) → is_of_client heard ≡ b → is_some (client_at place l.clients) ≡ true → is_some (client_at place (server_hearing heard from now l).clients) ≡ true
+clients_kept true heard from place now l of there =
     ap (λ (known : List Client). is_some (client_at place known)) (hearing_clients heard from now l of)
-    ∙ still_there l.most now (node_given l from) from place l.clients (client_at from l.clients) few refl (sender of) apart there
-taker_kept false heard from place now l of few back one sender there =
+    ∙ still_there now from place l.clients there
+clients_kept false heard from place now l of there =
     ap (λ (known : List Client). is_some (client_at place known)) (others_clients heard from now l of) ∙ there
 
+-- who is a client as a datagram is judged is one after that
+pub client_kept : (heard : Disposition) (from place : SocketAddrV4) (now : ℕ) (l : ServerView) → is_some (client_at place l.clients) ≡ true → is_some (client_at place (server_hearing heard from now l).clients) ≡ true
+client_kept heard from place now l there = clients_kept (is_of_client heard) heard from place now l refl there
+
+noted_far : (b : Bool) (l m : ServerView) → m.far ≡ l.far → (if b then l else m).far ≡ l.far
+noted_far true l m same = refl
+noted_far false l m same = same
+
 -- if no joined router sent it, no remote client changes
-pub hearing_far : (heard : Disposition) (from : SocketAddrV4) (now : ℕ) (l : ServerView) → is_of_client heard ≡ not (is_dropped heard) → (server_hearing heard from now l).far ≡ l.far
-hearing_far (Registered answer) from now l e = refl
+pub hearing_far : (heard : Disposition) (from : SocketAddrV4) (now : ℕ) (l : ServerView) → is_of_joined heard ≡ false → (server_hearing heard from now l).far ≡ l.far
+hearing_far (Registered answer) from now l e = noted_far (is_some (client_at from l.clients)) l (record l { noted = places_noted from now l.noted }) refl
 hearing_far (Pinged giver answer) from now l e = refl
 hearing_far (ToClient place) from now l e = refl
 hearing_far (ToOthers giver) from now l e = refl
@@ -182,27 +223,25 @@ hearing_far (Dropped d) from now l e = refl
 
 -- ---- a server whose sender became a client before its packet was judged
 
-heard_again : (now : ℕ) (node : Node) (from : SocketAddrV4) (o : Option Client) → o ≡ None → Some (client_heard node from now (Some (client_heard node from now o))) ≡ Some (client_heard node from now o)
-heard_again now node from None e = refl
-heard_again now node from (Some c) e = cc
-
-pub met_heard : (from : SocketAddrV4) (now : ℕ) (l m : ServerView) → MayKnow from now l m
-    → Some (client_heard (node_given m from) from now (client_at from m.clients)) ≡ Some (client_heard (node_given l from) from now (client_at from l.clients))
-met_heard from now l m (Same e) =
-    ap (λ (v : ServerView). Some (client_heard (node_given v from) from now (client_at from v.clients))) e
-met_heard from now l m (Known apart none e) =
-    ap (λ (v : ServerView). Some (client_heard (node_given v from) from now (client_at from v.clients))) e
-    ∙ ap (λ (o : Option Client). Some (client_heard (node_given l from) from now o)) (heard_found l.most now (node_given l from) from l.clients)
-    ∙ heard_again now (node_given l from) from (client_at from l.clients) none
+-- who is heard is found, by the node that it had or is given
+pub met_heard : (from : SocketAddrV4) (now : ℕ) (l m : ServerView) → MayKnow from now l m → is_some (client_at from m.clients) ≡ true
+    → client_at from (clients_heard from now m.clients) ≡ Some (client_heard (node_of_place l.port from) from now (client_at from l.clients))
+met_heard from now l m (Same e) there =
+    heard_there now (node_of_place l.port from) from m.clients there ∙ ap (λ (v : ServerView). Some (client_heard (node_of_place l.port from) from now (client_at from v.clients))) e
+met_heard from now l m (Known apart none few room e) there =
+    let node : Node = node_of_place l.port from in
+    ap (λ (v : ServerView). client_at from (clients_heard from now v.clients)) e
+    ∙ heard_found now from (clients_with l.most node from now l.clients) (new_client node from now) (new_found l.most now node from l.clients none)
+    ∙ sym (ap (λ (o : Option Client). Some (client_heard node from now o)) none)
 
 pub met_joined : (from : SocketAddrV4) (now : ℕ) (l m : ServerView) → MayKnow from now l m → is_joined_place from l.routers ≡ true → m ≡ l
 met_joined from now l m (Same e) is = e
-met_joined from now l m (Known apart none e) is = cc
+met_joined from now l m (Known apart none few room e) is = cc
 
--- only its clients can be others
-pub met_rest : (from : SocketAddrV4) (now : ℕ) (l m : ServerView) → MayKnow from now l m → record m { clients = l.clients } ≡ l
-met_rest from now l m (Same e) = ap (λ (v : ServerView). record v { clients = l.clients }) e
-met_rest from now l m (Known apart none e) = ap (λ (v : ServerView). record v { clients = l.clients }) e
+-- only its clients, and who is noted, can be others
+pub met_rest : (from : SocketAddrV4) (now : ℕ) (l m : ServerView) → MayKnow from now l m → record m { clients = l.clients; noted = l.noted } ≡ l
+met_rest from now l m (Same e) = ap (λ (v : ServerView). record v { clients = l.clients; noted = l.noted }) e
+met_rest from now l m (Known apart none few room e) = ap (λ (v : ServerView). record v { clients = l.clients; noted = l.noted }) e
 
 -- ---- what no datagram changes
 
@@ -213,8 +252,12 @@ told_rest : (told : Option Node) (from : SocketAddrV4) (now : ℕ) (l : ServerVi
 told_rest None from now l = refl
 told_rest (Some node) from now l = refl
 
+noted_rest : (b : Bool) (l m : ServerView) → rest_of m ≡ rest_of l → rest_of (if b then l else m) ≡ rest_of l
+noted_rest true l m same = refl
+noted_rest false l m same = same
+
 pub hearing_rest : (heard : Disposition) (from : SocketAddrV4) (now : ℕ) (l : ServerView) → rest_of (server_hearing heard from now l) ≡ rest_of l
-hearing_rest (Registered answer) from now l = refl
+hearing_rest (Registered answer) from now l = noted_rest (is_some (client_at from l.clients)) l (record l { noted = places_noted from now l.noted }) refl
 hearing_rest (Pinged giver answer) from now l = refl
 hearing_rest (ToClient place) from now l = refl
 hearing_rest (ToOthers giver) from now l = refl

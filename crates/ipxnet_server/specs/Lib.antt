@@ -1,7 +1,9 @@
 pub mod ServerClients
+pub mod NotedPlaces
 pub mod Pings
 pub mod PeerServers
 pub mod ServerHears
+pub mod ServerRuns
 pub mod JoinedLearns
 pub mod ServerCounted
 pub mod ServerInside

@@ -1,14 +1,12 @@
 -- Servers of several routers that are joined as one network: the addresses of the other routers, and the
 -- clients that these have. Defined by this project.
-use Rattle.std.specs.Prelude.{ℕ, ◌+◌, ◌-◌, List, [], ◌∷◌, ◌++◌, length, drop, filter, find, take, Bool, not, nat_lt, Option, is_some, if◌then◌else◌}
+use Rattle.std.specs.Prelude.{ℕ, ◌+◌, ◌-◌, List, [], ◌∷◌, ◌++◌, length, drop, filter, find, Bool, not, nat_lt, Option}
 use Rattle.std.specs.List.{list_any}
-use Rattle.std.specs.Net.Socket.{v4_port}
 use Rattle.std.specs.Str.{bytes_eq}
-use Rattle.byteorder.specs.Endian.{big_bytes}
 use Rattle.ipx_wire.specs.declared.address.Node.{Node}
 use Rattle.ipxnet_server.specs.declared.peer_servers.RemoteClient.{RemoteClient}
 use Rattle.std.specs.declared.net.socket_addr.SocketAddrV4.{SocketAddrV4}
-use Rattle.ipxnet_server.specs.ServerClients.{are_one_place, node_of_place}
+use Rattle.ipxnet_server.specs.ServerClients.{are_one_place}
 
 -- how many clients of joined routers are known at most
 abbrev pub max_remote_clients : ℕ
@@ -44,14 +42,3 @@ remote_clients_heard node router now far =
     drop (length (filter (λ f. not (has_remote_node node f)) far) + 1 - max_remote_clients)
     (filter (λ f. not (has_remote_node node f)) far)
     ++ record { node = node; router = router; heard = now } ∷ []
-
--- a node that a router makes for a client at an address: its own, with the client's UDP port at the end
-abbrev pub made_node : Node → SocketAddrV4 → Node
-made_node own place = record { 0 = take 4 own.0 ++ big_bytes 2 (v4_port place) }
-
--- the node that a new client at an address gets: that of the address, or one that the router makes if a
--- client of a joined router has that
-abbrev pub new_client_node : Node → List RemoteClient → SocketAddrV4 → Node
-new_client_node own far place =
-    if is_some (remote_client_of (node_of_place place) far) then made_node own place
-    else node_of_place place

@@ -2,6 +2,7 @@
 use Rattle.std.specs.Prelude.{◌≡◌, ◌≤◌, ◌<◌, ◌^◌, ℕ, ◌+◌, ◌-◌, ◌/◌, List, [], ◌∷◌, ◌++◌, AllPairs, Bool, true, false, nat_le, nat_lt, Option, Some, None, if◌then◌else◌}
 use Rattle.std.specs.List.{list_any}
 use Rattle.ipxnet_server.specs.declared.clients.Client.{Client}
+use Rattle.ipxnet_server.specs.declared.noted.Noted.{Noted}
 use Rattle.ipxnet_server.specs.declared.pings.PingTurn.{PingTurn}
 
 -- a silent client is pinged each time that so many more ms have passed
@@ -20,7 +21,37 @@ is_pinged turn c = nat_lt (pings_by turn.before c) (pings_by turn.now c)
 abbrev pub is_one_pinged : ℕ → List Client → ℕ → Bool
 is_one_pinged before clients now = list_any (is_pinged (record { before = before; now = now })) clients
 
--- from this time on that is so, at any time that a clock can show, while none of them is heard; or never
+-- who registered, and has shown nothing yet, is pinged at these two times in ms after the registration that it is
+-- noted by: not before DOSBox has given up to wait for the answer, which it does after 5 s. To register again before
+-- the second of them puts off neither
+abbrev pub first_ask : ℕ
+first_ask = 5500
+
+abbrev pub second_ask : ℕ
+second_ask = 8500
+
+abbrev pub asks_in : ℕ → ℕ
+asks_in time = (if nat_le first_ask time then 1 else 0) + (if nat_le second_ask time then 1 else 0)
+
+-- how many pings it is due; if the clock went back, no time has passed
+abbrev pub asks_by : ℕ → Noted → ℕ
+asks_by now n = asks_in (now - n.since)
+
+-- a turn pings it
+abbrev pub is_asked : PingTurn → Noted → Bool
+is_asked turn n = nat_lt (asks_by turn.before n) (asks_by turn.now n)
+
+-- a turn at this time, after one at `before`, pings one of them
+abbrev pub is_one_asked : ℕ → List Noted → ℕ → Bool
+is_one_asked before noted now = list_any (is_asked (record { before = before; now = now })) noted
+
+-- the earlier of two times, if there is any
+abbrev pub earlier : Option ℕ → Option ℕ → Option ℕ
+earlier None b = b
+earlier (Some a) None = Some a
+earlier (Some a) (Some b) = Some (if nat_le a b then a else b)
+
+-- from this time on somebody is pinged, at any time that a clock can show, while none of them is heard; or never
 abbrev pub IsNextPing : (ℕ → Bool) → Option ℕ → Type 0
 IsNextPing pings None = (now : ℕ) → now < 2 ^ 64 → pings now ≡ false
 IsNextPing pings (Some time) = (now : ℕ) → now < 2 ^ 64 → pings now ≡ nat_le time now
@@ -47,10 +78,17 @@ abbrev pub PingsAreSeldom : Type 0
 PingsAreSeldom = (c : Client) (before now : ℕ) (times : List ℕ) → AreInOrder (before ∷ times ++ now ∷ [])
     → turns_that_ping before times c + pings_by before c ≤ pings_by now c
 
--- ---- definitions for private functions
+-- how many turns at these times ping a place that registered and shows nothing
+abbrev pub turns_that_ask : ℕ → List ℕ → Noted → ℕ
+turns_that_ask before [] n = 0
+turns_that_ask before (time ∷ times) n =
+    (if is_asked (record { before = before; now = time }) n then 1 else 0) + turns_that_ask time times n
 
--- the earlier of two times, if there is any
-abbrev pub earlier : Option ℕ → Option ℕ → Option ℕ
-earlier None b = b
-earlier (Some a) None = Some a
-earlier (Some a) (Some b) = Some (if nat_le a b then a else b)
+-- however often there is a turn, it gets at most two pings for each time that it is noted, and none earlier than
+-- 5.5 s after the registration that it is noted by
+abbrev pub AsksAreTwo : Type 0
+AsksAreTwo = (n : Noted) (before now : ℕ) (times : List ℕ) → AreInOrder (before ∷ times ++ now ∷ [])
+    → turns_that_ask before times n ≤ 2
+
+abbrev pub AsksAreLate : Type 0
+AsksAreLate = (turn : PingTurn) (n : Noted) → is_asked turn n ≡ true → first_ask ≤ turn.now - n.since

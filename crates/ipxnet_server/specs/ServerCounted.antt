@@ -2,7 +2,7 @@
 use Rattle.std.specs.Prelude.{ℕ, ◌+◌, ◌-◌, ◌^◌, min}
 use Rattle.ipxnet_server.specs.declared.counts.ServerCounts.{ServerCounts}
 use Rattle.ipxnet_server.specs.declared.drops.ServerDrop.{ServerDrop}
-use Rattle.ipxnet_server.specs.declared.drops.ServerDrop.TheVariants.{Malformed, NodeTaken, TooManyNew, Full, Unregistered, OtherSource, TooLong, NoSuchNode, ToItself, PingElsewhere, BroadcastElsewhere, FromElsewhere, Response, NotBehind, ForElsewhere}
+use Rattle.ipxnet_server.specs.declared.drops.ServerDrop.TheVariants.{Malformed, NodeTaken, FullOfAddress, Full, Unregistered, OtherSource, TooLong, NoSuchNode, ToItself, PingElsewhere, BroadcastElsewhere, FromElsewhere, Response, NotBehind, ForElsewhere}
 
 -- a count of 64 bits goes up by one, and stays at the greatest
 abbrev pub drops_raised : ℕ → ℕ
@@ -12,7 +12,7 @@ drops_raised n = min (n + 1) (2 ^ 64 - 1)
 abbrev pub drop_counted : ServerDrop → ServerCounts → ServerCounts
 drop_counted (Malformed fault) c = record c { malformed = drops_raised c.malformed }
 drop_counted (NodeTaken node) c = record c { node_taken = drops_raised c.node_taken }
-drop_counted TooManyNew c = record c { too_many_new = drops_raised c.too_many_new }
+drop_counted FullOfAddress c = record c { full_of_address = drops_raised c.full_of_address }
 drop_counted Full c = record c { full = drops_raised c.full }
 drop_counted Unregistered c = record c { unregistered = drops_raised c.unregistered }
 drop_counted (OtherSource node) c = record c { other_source = drops_raised c.other_source }
@@ -33,7 +33,7 @@ abbrev pub no_drops : ServerCounts
 no_drops = record {
   malformed = 0;
   node_taken = 0;
-  too_many_new = 0;
+  full_of_address = 0;
   full = 0;
   unregistered = 0;
   other_source = 0;

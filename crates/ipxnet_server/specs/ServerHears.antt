@@ -12,20 +12,23 @@ use Rattle.std.specs.declared.net.socket_addr.SocketAddrV4.{SocketAddrV4}
 use Rattle.ipxnet_server.specs.declared.clients.Client.{Client}
 use Rattle.ipxnet_server.specs.declared.counts.ServerCounts.{ServerCounts}
 use Rattle.ipxnet_server.specs.declared.drops.ServerDrop.{ServerDrop}
-use Rattle.ipxnet_server.specs.declared.drops.ServerDrop.TheVariants.{NodeTaken, TooManyNew, Full, Unregistered, OtherSource, TooLong, NoSuchNode, ToItself, PingElsewhere, BroadcastElsewhere, FromElsewhere, Response, NotBehind, ForElsewhere}
+use Rattle.ipxnet_server.specs.declared.drops.ServerDrop.TheVariants.{NodeTaken, FullOfAddress, Full, Unregistered, OtherSource, TooLong, NoSuchNode, ToItself, PingElsewhere, BroadcastElsewhere, FromElsewhere, Response, NotBehind, ForElsewhere}
 use Rattle.ipxnet_server.specs.declared.disposition.Disposition.{Disposition}
 use Rattle.ipxnet_server.specs.declared.disposition.Disposition.TheVariants.{Registered, Pinged, ToClient, ToOthers, ToOthersAndCore, ToCore, Heard, ToJoined, FromJoined, Dropped}
 use Rattle.ipxnet_server.specs.declared.recipients.Recipients.{Recipients}
 use Rattle.ipxnet_server.specs.declared.recipients.Recipients.TheVariants.{Nobody, One, Others, All, Here, Joined, JoinedAt}
 use Rattle.ipxnet_server.specs.declared.peer_servers.RemoteClient.{RemoteClient}
+use Rattle.ipxnet_server.specs.declared.noted.Noted.{Noted}
 use Rattle.ipxnet_server.specs.declared.port.ServerPort.{ServerPort}
-use Rattle.ipxnet_server.specs.ServerClients.{are_one_place, is_server_full, client_at, client_of_node, clients_heard, clients_left, max_recent_registrations, recent_registrations}
+use Rattle.ipxnet_server.specs.ServerClients.{are_one_place, is_address_full, is_server_full, client_at, client_of_node, clients_heard, clients_left, clients_with, node_of_place}
 use Rattle.ipxnet_server.specs.ServerCounted.{drop_counted, no_drops}
-use Rattle.ipxnet_server.specs.PeerServers.{remote_client_of, remote_clients_heard, remote_clients_left, is_joined_place, new_client_node}
+use Rattle.ipxnet_server.specs.PeerServers.{remote_client_of, remote_clients_heard, remote_clients_left, is_joined_place}
+use Rattle.ipxnet_server.specs.Pings.{is_one_asked, is_one_pinged}
+use Rattle.ipxnet_server.specs.NotedPlaces.{noted_left, noted_without, places_noted}
 
 -- a server: its port, the most clients that it may have, its clients in the order in which they were last
--- heard, and its counts. Also the addresses of joined routers, and their clients, and when its clients were
--- pinged the last time
+-- heard, and its counts. Also the addresses of joined routers, and their clients, when its clients were pinged
+-- the last time, and who registered, has shown nothing yet, and is still to be pinged
 pub record ServerView : Type 0 where
   pub port : ServerPort
   pub most : ℕ
@@ -34,6 +37,7 @@ pub record ServerView : Type 0 where
   pub routers : List SocketAddrV4
   pub far : List RemoteClient
   pub pinged : ℕ
+  pub noted : List Noted
 
 -- the socket of registrations and pings, and the most bytes that a client accepts
 abbrev pub server_socket : ℕ
@@ -108,17 +112,16 @@ abbrev pub is_node_here : ServerPort → List Client → Node → Bool
 is_node_here port known node = bytes_eq node.0 port.own.0 || bytes_eq node.0 broadcast_node
     || is_some (client_of_node node known)
 
--- no new client can have this node: one of these, or that of a client of a joined router. It can't be a
--- client's here while each has the node of its address
+-- no new client can have this node: one of these, or that of a client of a joined router
 abbrev pub is_node_taken : ServerView → Node → Bool
 is_node_taken l node =
     is_node_here l.port l.clients node || is_some (remote_client_of node l.far)
 
--- why a registration that would get this node is refused
-abbrev pub registration_drop : ServerView → Node → ℕ → Option ServerDrop
-registration_drop l node now =
-    if is_node_taken l node then Some (NodeTaken node)
-    else if nat_le max_recent_registrations (recent_registrations now l.clients) then Some TooManyNew
+-- why a registration is refused, from an address where no client is known
+abbrev pub registration_drop : ServerView → SocketAddrV4 → ℕ → Option ServerDrop
+registration_drop l from now =
+    if is_node_taken l (node_of_place l.port from) then Some (NodeTaken (node_of_place l.port from))
+    else if is_address_full now from l.clients then Some FullOfAddress
     else if is_server_full l.most now l.clients then Some Full
     else None
 
@@ -126,14 +129,10 @@ abbrev pub new_client_hears : ServerPort → Node → Option ServerDrop → Disp
 new_client_hears port node None = Registered (registration_answer port node)
 new_client_hears port node (Some drop) = Dropped drop
 
--- the node that a new client of a server gets
-abbrev pub node_given : ServerView → SocketAddrV4 → Node
-node_given l from = new_client_node l.port.own l.far from
-
 -- a registration, from an address where this client is known
 abbrev pub registration_hears : ServerView → SocketAddrV4 → ℕ → Option Client → Disposition
 registration_hears l from now None =
-    new_client_hears l.port (node_given l from) (registration_drop l (node_given l from) now)
+    new_client_hears l.port (node_of_place l.port from) (registration_drop l from now)
 registration_hears l from now (Some c) = Registered (registration_answer l.port c.node)
 
 -- to all nodes here
@@ -190,10 +189,10 @@ server_hears_elsewhere port p =
     else core_hears port p
 
 -- from an address where no client is known: why the packet makes its sender none. It is from another node than
--- a registration from there would be given, or that would be refused
+-- a registration from there is given, or that would be refused
 abbrev pub stranger_drop : ServerView → SocketAddrV4 → IpxHeader → ℕ → Option ServerDrop
 stranger_drop l from h now =
-    if bytes_eq h.from.node.0 (node_given l from).0 then registration_drop l (node_given l from) now
+    if bytes_eq h.from.node.0 (node_of_place l.port from).0 then registration_drop l from now
     else Some Unregistered
 
 abbrev pub stranger_hears : Option ServerDrop → Disposition
@@ -217,10 +216,6 @@ is_not_behind port known node =
 abbrev pub remote_source : ServerPort → IpxHeader → Option Node
 remote_source port h = if is_from_server port h then Some h.from.node else None
 
--- from a remote client to its own node: it shows where that is, and is for nobody
-abbrev pub tells_node : ServerPort → IpxHeader → Bool
-tells_node port h = is_from_server port h && bytes_eq h.to.node.0 h.from.node.0
-
 -- from a joined router to one node, which this client has
 abbrev pub one_hears_joined : ServerPort → SocketAddrV4 → IpxHeader → ℕ → Option Client → Disposition
 one_hears_joined port from h size None = Dropped (NoSuchNode h.to.node)
@@ -241,7 +236,6 @@ joined_hears l from h size =
     if not (is_for_server l.port h) then Dropped (ForElsewhere h.to.network)
     else if is_from_server l.port h && is_not_behind l.port l.clients h.from.node
     then Dropped (NotBehind h.from.node)
-    else if tells_node l.port h then FromJoined (Some h.from.node) Nobody
     else if is_to_all_nodes h then all_hear_joined l.port from h size
     else one_hears_joined l.port from h size (client_of_node h.to.node l.clients)
 
@@ -321,22 +315,9 @@ answer_of (ToJoined takers) = None
 answer_of (FromJoined told takers) = None
 answer_of (Dropped drop) = None
 
--- nobody gets anything
-abbrev pub is_dropped : Disposition → Bool
-is_dropped (Registered answer) = false
-is_dropped (Pinged from answer) = false
-is_dropped (ToClient place) = false
-is_dropped (ToOthers from) = false
-is_dropped (ToOthersAndCore from) = false
-is_dropped ToCore = false
-is_dropped Heard = false
-is_dropped (ToJoined takers) = false
-is_dropped (FromJoined told takers) = false
-is_dropped (Dropped drop) = true
-
 -- a client sent the bytes
 abbrev pub is_of_client : Disposition → Bool
-is_of_client (Registered answer) = true
+is_of_client (Registered answer) = false
 is_of_client (Pinged from answer) = true
 is_of_client (ToClient place) = true
 is_of_client (ToOthers from) = true
@@ -347,26 +328,22 @@ is_of_client (ToJoined takers) = true
 is_of_client (FromJoined told takers) = false
 is_of_client (Dropped drop) = false
 
--- what tells joined routers that a client registered: a header from its node to the same node
-abbrev pub notice_of : Disposition → Option IpxHeader
-notice_of (Registered answer) = Some (record answer { from = answer.to })
-notice_of (Pinged from answer) = None
-notice_of (ToClient place) = None
-notice_of (ToOthers from) = None
-notice_of (ToOthersAndCore from) = None
-notice_of ToCore = None
-notice_of Heard = None
-notice_of (ToJoined takers) = None
-notice_of (FromJoined told takers) = None
-notice_of (Dropped drop) = None
+-- a joined router sent the bytes
+abbrev pub is_of_joined : Disposition → Bool
+is_of_joined (Registered answer) = false
+is_of_joined (Pinged from answer) = false
+is_of_joined (ToClient place) = false
+is_of_joined (ToOthers from) = false
+is_of_joined (ToOthersAndCore from) = false
+is_of_joined ToCore = false
+is_of_joined Heard = false
+is_of_joined (ToJoined takers) = false
+is_of_joined (FromJoined told takers) = true
+is_of_joined (Dropped drop) = false
 
 -- the bytes are that answer, and nothing else
 abbrev pub IsAnswer : Disposition → List ℕ → Type 0
 IsAnswer heard bytes = (h : IpxHeader) × (answer_of heard ≡ Some h) × IsIpx (packet_of h []) bytes []
-
--- the bytes are what joined routers are told, and nothing else
-abbrev pub IsNotice : Disposition → List ℕ → Type 0
-IsNotice heard bytes = (h : IpxHeader) × (notice_of heard ≡ Some h) × IsIpx (packet_of h []) bytes []
 
 -- who gets a packet of the core for all nodes: each client here, as for a broadcast from another network, and
 -- no joined router. If it is for a service of a router, nobody does, because no client listens to that
@@ -384,7 +361,7 @@ is_given_from_server port None = false
 is_given_from_server port (Some h) = is_from_server port h
 
 -- who gets a packet of the core for one node. One that comes from the network of the port goes to no joined
--- router: there it would be taken for a packet of a client here, or for what tells that one registered
+-- router: there it would be taken for a packet of a client here
 abbrev pub client_gets : ServerView → Node → Bool → Option Client → Result Recipients ServerDrop
 client_gets l node from_here None =
     if length l.routers == 0 || from_here then Err (NoSuchNode node)
@@ -400,10 +377,14 @@ server_gives l node header size =
 
 -- ---- the server after that
 
--- clients that were silent for five minutes are forgotten, and those of joined routers after a day
+-- clients that were silent for five minutes are forgotten, those of joined routers after a day, and who showed
+-- nothing once the turn of its second ping has been
 abbrev pub server_aged : ℕ → ServerView → ServerView
-server_aged now l =
-    record l { clients = clients_left now l.clients; far = remote_clients_left now l.far }
+server_aged now l = record l {
+  clients = clients_left now l.clients;
+  far = remote_clients_left now l.far;
+  noted = noted_left l.pinged l.noted;
+}
 
 -- one more was dropped, and nothing else changes
 abbrev pub server_dropping : ServerDrop → ServerView → ServerView
@@ -411,11 +392,23 @@ server_dropping drop l = record l { counts = drop_counted drop l.counts }
 
 -- the client at an address was heard
 abbrev pub server_knowing : SocketAddrV4 → ℕ → ServerView → ServerView
-server_knowing from now l =
-    record l { clients = clients_heard l.most (node_given l from) from now l.clients }
+server_knowing from now l = record l { clients = clients_heard from now l.clients }
 
--- a packet makes its sender a client, as a registration would. No client is known at its address, and no router is
--- joined there
+-- an address registered. It is noted if no client is known there and it is not noted yet, and nothing else changes
+abbrev pub server_noting : SocketAddrV4 → ℕ → ServerView → ServerView
+server_noting from now l =
+    if is_some (client_at from l.clients) then l
+    else record l { noted = places_noted from now l.noted }
+
+-- who sent from an address became a client, by the node of that
+abbrev pub server_admitting : SocketAddrV4 → ℕ → ServerView → ServerView
+server_admitting from now l = record l {
+  clients = clients_with l.most (node_of_place l.port from) from now l.clients;
+  noted = noted_without from l.noted;
+}
+
+-- a packet makes its sender a client: it is no registration, from an address where no client is known and no
+-- router is joined, and has the node that a registration from there is given, which would not be refused
 abbrev pub makes_client : ServerView → SocketAddrV4 → IpxHeader → ℕ → ℕ → Bool
 makes_client l from h size now = not (is_joined_place from l.routers) && not (is_registration h size)
     && not (is_some (client_at from l.clients)) && not (is_some (stranger_drop l from h now))
@@ -423,7 +416,7 @@ makes_client l from h size now = not (is_joined_place from l.routers) && not (is
 -- the server that a packet finds: with its sender among the clients, if it makes it one
 abbrev pub server_met : SocketAddrV4 → IpxHeader → ℕ → ℕ → ServerView → ServerView
 server_met from h size now l =
-    if makes_client l from h size now then server_knowing from now l else l
+    if makes_client l from h size now then server_admitting from now l else l
 
 -- the joined router at an address showed where a node is, or nothing
 abbrev pub server_learned : Option Node → SocketAddrV4 → ℕ → ServerView → ServerView
@@ -431,7 +424,7 @@ server_learned None from now l = l
 server_learned (Some node) from now l = record l { far = remote_clients_heard node from now l.far }
 
 abbrev pub server_hearing : Disposition → SocketAddrV4 → ℕ → ServerView → ServerView
-server_hearing (Registered answer) from now l = server_knowing from now l
+server_hearing (Registered answer) from now l = server_noting from now l
 server_hearing (Pinged giver answer) from now l = server_knowing from now l
 server_hearing (ToClient place) from now l = server_knowing from now l
 server_hearing (ToOthers giver) from now l = server_knowing from now l
@@ -451,6 +444,10 @@ server_giving (Err drop) l = server_dropping drop l
 abbrev pub server_pinging : ℕ → ServerView → ServerView
 server_pinging now l = record (server_aged now l) { pinged = now }
 
+-- a turn at this time pings somebody, after the one before
+abbrev pub is_ping_due : ServerView → ℕ → Bool
+is_ping_due l now = is_one_pinged l.pinged l.clients now || is_one_asked l.pinged l.noted now
+
 -- no client is known yet
 abbrev pub joined_server : ServerPort → ℕ → List SocketAddrV4 → ServerView
 joined_server port most routers = record {
@@ -461,6 +458,7 @@ joined_server port most routers = record {
   routers = routers;
   far = [];
   pinged = 0;
+  noted = [];
 }
 
 abbrev pub new_server : ServerPort → ℕ → ServerView

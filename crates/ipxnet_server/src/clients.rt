@@ -1,9 +1,9 @@
 //! The clients of an ipxnet server.
 
-ghost use Rattle.std.specs.Prelude.{◌≡◌, ◌≤◌, ◌<◌, ◌+◌, ◌-◌, [], None, IfOk, drop, filter, find, length, not, option_copied};
+ghost use Rattle.std.specs.Prelude.{◌≡◌, ◌≤◌, ◌<◌, ◌+◌, ◌-◌, ◌++◌, ◌∷◌, [], None, IfOk, drop, filter, find, is_some, length, not, option_copied, true};
 ghost use Rattle.std.specs.Vec.{vec_capacity, vec_len};
-ghost use Rattle.ipxnet_server.specs.ServerClients.{EachClientOnce, is_server_full, client_at, client_heard, client_of_node, clients_heard, clients_left};
-ghost use Rattle.ipxnet_server.specs.ServerClients.{has_client_node, is_client_at, is_recent_client, max_server_clients, recent_registrations};
+ghost use Rattle.ipxnet_server.specs.ServerClients.{AreFewOfEachIp, EachClientOnce, is_address_full, is_server_full, client_at, client_of_node, client_that_goes, clients_but, clients_heard, clients_left};
+ghost use Rattle.ipxnet_server.specs.ServerClients.{clients_of_ip, clients_with, has_client_node, is_client_at, is_client_of_ip, max_server_clients};
 
 use ipx_wire::Node;
 use std::alloc::{AllocError, Global};
@@ -20,20 +20,17 @@ pub const FORGOTTEN_AFTER_MS: u64 = 300_000;
 /// silence: a minute.
 pub const REPLACED_AFTER_MS: u64 = 60_000;
 
-/// How many new clients may register in less than a second.
-pub const MAX_RECENT_REGISTRATIONS: usize = 10;
+/// The most clients that may have one IP address.
+pub const MAX_ADDRESS_CLIENTS: usize = 16;
 
-/// For how many milliseconds a client is new.
-const RECENT_CLIENT_MS: u64 = 1000;
-
-/// A client that registered.
+/// A client: it registered, and has sent with the node that it was given.
 #[derive(Clone, Copy, Debug, PartialEq, Eq)]
 pub struct Client {
     /// The node that it was given.
     pub node: Node,
     /// Its address.
     pub place: SocketAddrV4,
-    /// When it registered first, in ms.
+    /// When it became a client, in ms.
     pub since: u64,
     /// When it was last heard, in ms.
     pub heard: u64,
@@ -64,6 +61,27 @@ fn leave_out(known: &mut Vec<Client>, place: SocketAddrV4)
     ensures capacity { vec_capacity known.new ≡ vec_capacity known.old }
 {
     known.retain(|client| client.place != place);
+}
+
+/// Removes the client at an address where one is known.
+fn leave_out_known(known: &mut Vec<Client>, place: SocketAddrV4)
+    requires { is_some (client_at place known.old.items) ≡ true }
+    ensures items { known.new.items ≡ filter (λ c. not (is_client_at place c)) known.old.items }
+    ensures room { vec_len known.new < vec_len known.old }
+    ensures capacity { vec_capacity known.new ≡ vec_capacity known.old }
+{
+    leave_out(known, place);
+}
+
+/// Removes a client, if there is one.
+fn leave_out_one(known: &mut Vec<Client>, client: Option<Client>)
+    ensures items { known.new.items ≡ clients_but client known.old.items }
+    ensures fewer { vec_len known.new ≤ vec_len known.old }
+    ensures capacity { vec_capacity known.new ≡ vec_capacity known.old }
+{
+    if let Some(client) = client {
+        leave_out(known, client.place);
+    }
 }
 
 /// Removes the clients that were silent for five minutes.
@@ -102,11 +120,38 @@ fn find_node(known: &[Client], node: Node) -> Option<&Client>
     known.iter().find(|client| client.node == node)
 }
 
-/// Whether a client registered less than a second ago.
-fn is_new(now: u64, client: &Client) -> bool
-    ensures { result ≡ is_recent_client now client.now }
+/// Whether a client has the IP address of a place.
+fn is_of_ip(client: &Client, place: SocketAddrV4) -> bool
+    ensures { result ≡ is_client_of_ip place client.now }
 {
-    now.saturating_sub(client.since) < RECENT_CLIENT_MS
+    client.place.ip().octets() == place.ip().octets()
+}
+
+/// How many clients have the IP address of a place.
+fn count_of_ip(known: &[Client], place: SocketAddrV4) -> usize
+    ensures { result ≡ length (clients_of_ip place known.now) }
+{
+    known
+        .iter()
+        .filter(|client| is_of_ip(client, place))
+        .count()
+}
+
+/// The first client that has the IP address of a place.
+fn find_of_ip(known: &[Client], place: SocketAddrV4) -> Option<&Client>
+    ensures { option_copied result ≡ find (is_client_of_ip place) known.now }
+{
+    known.iter().find(|client| is_of_ip(client, place))
+}
+
+/// The client that goes if one more of its IP address becomes one.
+fn one_that_goes(known: &[Client], place: SocketAddrV4) -> Option<Client>
+    ensures { result ≡ client_that_goes place known.now }
+{
+    if count_of_ip(known, place) < MAX_ADDRESS_CLIENTS {
+        return None;
+    }
+    find_of_ip(known, place).copied()
 }
 
 impl Clients {
@@ -124,6 +169,7 @@ impl Clients {
     pub fn all(&self) -> &[Client]
         ensures all { result.now ≡ self.now.known }
         ensures once { EachClientOnce self.now.known }
+        ensures each { AreFewOfEachIp self.now.known }
         ensures few { length self.now.known ≤ self.now.most }
         ensures most { self.now.most ≤ max_server_clients }
     {
@@ -134,6 +180,7 @@ impl Clients {
     pub fn age(&mut self, now: u64)
         ensures left { self.new ≡ record self.old { known = clients_left now self.old.known } }
         ensures few { length self.new.known ≤ self.new.most }
+        ensures once { EachClientOnce self.new.known }
     {
         leave_out_silent(&mut self.known, now);
     }
@@ -152,14 +199,15 @@ impl Clients {
         find_node(&self.known, node).copied()
     }
 
-    /// How many registered less than a second ago.
-    pub fn recent_registrations(&self, now: u64) -> usize
-        ensures { result ≡ recent_registrations now self.now.known }
+    /// Whether there is no room for one more of the IP address of a place: it has as many clients
+    /// as one may have, all heard within the last minute.
+    pub fn is_address_full(&self, place: SocketAddrV4, now: u64) -> bool
+        ensures { result ≡ is_address_full now place self.now.known }
     {
-        self.known
-            .iter()
-            .filter(|client| is_new(now, client))
-            .count()
+        match one_that_goes(&self.known, place) {
+            Some(first) => now.saturating_sub(first.heard) < REPLACED_AFTER_MS,
+            None => false,
+        }
     }
 
     /// Whether there is no room for one more: there are as many as allowed, all heard within the
@@ -176,39 +224,46 @@ impl Clients {
         }
     }
 
-    /// The client that is heard at an address. If none is known there, it is a new one with this
-    /// node.
-    fn heard_at(&self, node: Node, place: SocketAddrV4, now: u64) -> Client
-        ensures { result ≡ client_heard node place now (client_at place self.now.known) }
-    {
-        match self.at(place) {
-            Some(client) => Client {
-                heard: now,
-                ..client
-            },
-            None => Client {
-                node,
-                place,
-                since: now,
-                heard: now,
-            },
-        }
-    }
-
-    /// A client is heard at an address. A new one must have a node that no other client has. If
-    /// there are too many, the one heard before all others is removed.
+    /// A new client sent from an address where none is known, by a node that no other client has.
+    /// If its IP address has too many, or if there are too many, the one heard before the others is
+    /// removed.
     pub fn put(&mut self, node: Node, place: SocketAddrV4, now: u64)
-        requires { client_at place self.old.known ≡ None
-            → client_of_node node self.old.known ≡ None }
+        requires stranger { client_at place self.old.known ≡ None }
+        requires free { client_of_node node self.old.known ≡ None }
         ensures put { self.new ≡ record self.old {
-          known = clients_heard self.old.most node place now self.old.known;
+          known = clients_with self.old.most node place now self.old.known;
         } }
         ensures few { length self.new.known ≤ self.new.most }
     {
-        let client = self.heard_at(node, place, now);
-        leave_out(&mut self.known, place);
+        let goes = one_that_goes(&self.known, place);
+        leave_out_one(&mut self.known, goes);
         make_space(&mut self.known, self.most);
         let last = self.known.len();
+        let client = Client {
+            node,
+            place,
+            since: now,
+            heard: now,
+        };
+        self.known.insert(last, client).unwrap();
+    }
+
+    /// The client at an address is heard, if one is known there.
+    pub fn hear(&mut self, place: SocketAddrV4, now: u64)
+        ensures heard { self.new ≡ record self.old {
+          known = clients_heard place now self.old.known;
+        } }
+        ensures few { length self.new.known ≤ self.new.most }
+    {
+        let Some(client) = self.at(place) else {
+            return;
+        };
+        leave_out_known(&mut self.known, place);
+        let last = self.known.len();
+        let client = Client {
+            heard: now,
+            ..client
+        };
         self.known.insert(last, client).unwrap();
     }
 }

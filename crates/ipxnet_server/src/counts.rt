@@ -11,7 +11,7 @@ use crate::drops::ServerDrop;
 pub struct ServerCounts {
     pub malformed: u64,
     pub node_taken: u64,
-    pub too_many_new: u64,
+    pub full_of_address: u64,
     pub full: u64,
     pub unregistered: u64,
     pub other_source: u64,
@@ -41,7 +41,7 @@ impl ServerCounts {
         ServerCounts {
             malformed: 0,
             node_taken: 0,
-            too_many_new: 0,
+            full_of_address: 0,
             full: 0,
             unregistered: 0,
             other_source: 0,
@@ -64,7 +64,7 @@ impl ServerCounts {
         match drop {
             ServerDrop::Malformed(_) => saturating_increment(&mut self.malformed),
             ServerDrop::NodeTaken(_) => saturating_increment(&mut self.node_taken),
-            ServerDrop::TooManyNew => saturating_increment(&mut self.too_many_new),
+            ServerDrop::FullOfAddress => saturating_increment(&mut self.full_of_address),
             ServerDrop::Full => saturating_increment(&mut self.full),
             ServerDrop::Unregistered => saturating_increment(&mut self.unregistered),
             ServerDrop::OtherSource(_) => saturating_increment(&mut self.other_source),

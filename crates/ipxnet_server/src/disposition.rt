@@ -2,7 +2,7 @@
 
 ghost use Rattle.std.specs.Prelude.{◌≡◌, [], IfSome, is_some};
 ghost use Rattle.ipx_wire.specs.Ipx.{IsIpx, packet_of};
-ghost use Rattle.ipxnet_server.specs.ServerHears.{IsAnswer, IsNotice, answer_of, goes_to_core, notice_of, takers_of};
+ghost use Rattle.ipxnet_server.specs.ServerHears.{IsAnswer, answer_of, goes_to_core, takers_of};
 
 use crate::drops::ServerDrop;
 use crate::recipients::Recipients;
@@ -12,7 +12,7 @@ use std::net::SocketAddrV4;
 /// What becomes of a datagram.
 #[derive(Clone, Copy, Debug, PartialEq, Eq)]
 pub enum Disposition {
-    /// It is a registration. This is the answer.
+    /// It is a registration, which makes its sender no client. This is the answer.
     Registered(IpxHeader),
     /// It is a ping from a client at an address. This is the answer. It is also sent to the other
     /// clients, which answer it themselves.
@@ -81,30 +81,6 @@ impl Disposition {
                 header,
             )),
             Disposition::ToClient(_)
-            | Disposition::ToOthers(_)
-            | Disposition::ToOthersAndCore(_)
-            | Disposition::ToCore
-            | Disposition::Heard
-            | Disposition::ToJoined(_)
-            | Disposition::FromJoined(_, _)
-            | Disposition::Dropped(_) => None,
-        }
-    }
-
-    /// What tells each joined router that a client registered, if one did: a packet from the
-    /// client's node to the same node. A router that receives it gives that node to no client of
-    /// its own.
-    pub fn announcement(self) -> Option<[u8; IPX_HEADER_SIZE]>
-        ensures announcement { IfSome result (λ bytes. IsNotice self bytes) }
-        ensures noticed { is_some result ≡ is_some (notice_of self) }
-    {
-        match self {
-            Disposition::Registered(answer) => Some(bytes_of(IpxHeader {
-                from: answer.to,
-                ..answer
-            })),
-            Disposition::Pinged(_, _)
-            | Disposition::ToClient(_)
             | Disposition::ToOthers(_)
             | Disposition::ToOthersAndCore(_)
             | Disposition::ToCore

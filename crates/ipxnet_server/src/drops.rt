@@ -9,14 +9,14 @@ pub enum ServerDrop {
     /// It is not a packet, for this cause.
     #[error("{0}")]
     Malformed(IpxFault),
-    /// Its sender would be a new client whose node is taken. It is the router's or the broadcast
-    /// node, or, if servers are joined, that of another client here or at a joined router. The value
-    /// is the node.
+    /// Its sender would be a new client whose node is taken. It is the router's, another client's,
+    /// or, if servers are joined, that of a client at a joined router. The value is the node.
     #[error("the client's node is already in use: {0}")]
     NodeTaken(Node),
-    /// Its sender would be a new client, and ten became clients less than a second ago.
-    #[error("too many registrations in a second")]
-    TooManyNew,
+    /// Its sender would be a new client, and its IP address has as many clients as one may have,
+    /// all heard within the last minute.
+    #[error("too many clients of one IP address")]
+    FullOfAddress,
     /// Its sender would be a new client, and there are as many as allowed, all heard within the
     /// last minute.
     #[error("the server is full")]

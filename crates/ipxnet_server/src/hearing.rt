@@ -4,7 +4,7 @@ ghost use Rattle.std.specs.Prelude.{◌≡◌, None, Some, nat_lt};
 ghost use Rattle.ipx_wire.specs.declared.ipx.fault.IpxFault.{IpxFault};
 ghost use Rattle.ipx_wire.specs.Ipx.{BeginsWith, PacketView, ipx_fault, packet_view};
 ghost use Rattle.ipxnet_server.specs.ServerHears.{all_get, all_hear, core_hears, has_socket, is_for_server, is_from_server, is_given_from_server, is_given_to_service, is_registration, is_to_all_nodes, is_to_service, joined_takers};
-ghost use Rattle.ipxnet_server.specs.ServerHears.{all_hear_joined, remote_source, server_header, server_hears_elsewhere, may_reach_core, max_client_bytes, one_hears_joined, registration_answer, router_hears, router_ping, tells_node, tells_router};
+ghost use Rattle.ipxnet_server.specs.ServerHears.{all_hear_joined, remote_source, server_header, server_hears_elsewhere, may_reach_core, max_client_bytes, one_hears_joined, registration_answer, router_hears, router_ping, tells_router};
 
 use crate::clients::Client;
 use crate::disposition::Disposition;
@@ -254,13 +254,6 @@ fn remote_node(port: ServerPort, header: IpxHeader) -> Option<Node>
     } else {
         None
     }
-}
-
-/// Whether a packet of a joined router only shows where a node is.
-pub fn notes_node(port: ServerPort, header: IpxHeader) -> bool
-    ensures { result ≡ tells_node port header }
-{
-    is_from_here(port, header) && header.to.node == header.from.node
 }
 
 /// What becomes of a packet of a joined router for all nodes, in a datagram of `size` bytes.

@@ -3,18 +3,18 @@
 ghost use Rattle.std.specs.Prelude.{◌≡◌, [], None, false, true};
 ghost use Rattle.ipx_wire.specs.Ipx.{packet_view};
 ghost use Rattle.ipxnet_server.specs.PeerServers.{is_joined_place};
-ghost use Rattle.ipxnet_server.specs.ServerClients.{client_at, client_of_node, node_of_place};
+ghost use Rattle.ipxnet_server.specs.ServerClients.{client_at, client_of_node, is_address_full, is_server_full, node_of_place};
 ghost use Rattle.ipxnet_server.specs.ServerHears.{client_hears, hear_remote, is_node_here, is_node_taken, is_not_behind, joined_hears, server_hears};
-ghost use Rattle.ipxnet_server.specs.ServerHears.{server_hears_from, server_hears_here, registration_drop, node_given, registration_hears, makes_client, stranger_drop, stranger_hears};
+ghost use Rattle.ipxnet_server.specs.ServerHears.{server_hears_from, server_hears_here, registration_drop, registration_hears, makes_client, stranger_drop, stranger_hears};
 
-use crate::clients::{Client, MAX_RECENT_REGISTRATIONS};
+use crate::client_node::node_of;
+use crate::clients::Client;
 use crate::disposition::Disposition;
 use crate::drops::ServerDrop;
 use crate::hearing::{
     answer_with_node, elsewhere, is_for_all, is_from_here, is_too_long, joined_takers_of,
-    joined_to_all, joined_to_one, notes_node, registers, stays, to_all, to_router,
+    joined_to_all, joined_to_one, registers, stays, to_all, to_router,
 };
-use crate::recipients::Recipients;
 use crate::server::IpxnetServer;
 use ipx_wire::{IpxHeader, Node, Packet};
 use std::net::SocketAddrV4;
@@ -41,23 +41,16 @@ impl IpxnetServer {
         self.is_here(node) || self.joined.of_node(node).is_some()
     }
 
-    /// The node that a new client at an address gets.
-    pub(crate) fn node_for(&self, from: SocketAddrV4) -> Node
-        ensures node { result ≡ node_given self.now from }
-        ensures alone { self.now.routers ≡ [] → result ≡ node_of_place from }
+    /// Why a registration is refused, from an address where no client is known.
+    fn refuses(&self, from: SocketAddrV4, now: u64) -> Option<ServerDrop>
+        ensures { result ≡ registration_drop self.now from now }
     {
-        self.joined.node_for(self.port.own, from)
-    }
-
-    /// Why a registration that would get this node is refused.
-    fn refuses(&self, node: Node, now: u64) -> Option<ServerDrop>
-        ensures { result ≡ registration_drop self.now node now }
-    {
+        let node = node_of(self.port, from);
         if self.is_taken(node) {
             return Some(ServerDrop::NodeTaken(node));
         }
-        if self.clients.recent_registrations(now) >= MAX_RECENT_REGISTRATIONS {
-            return Some(ServerDrop::TooManyNew);
+        if self.clients.is_address_full(from, now) {
+            return Some(ServerDrop::FullOfAddress);
         }
         if self.clients.is_full(now) {
             return Some(ServerDrop::Full);
@@ -74,11 +67,10 @@ impl IpxnetServer {
     ) -> Option<ServerDrop>
         ensures { result ≡ stranger_drop self.now from header now }
     {
-        let node = self.node_for(from);
-        if header.from.node != node {
+        if header.from.node != node_of(self.port, from) {
             return Some(ServerDrop::Unregistered);
         }
-        self.refuses(node, now)
+        self.refuses(from, now)
     }
 
     /// Whether a packet, in a datagram of `size` bytes, makes its sender a client.
@@ -92,8 +84,11 @@ impl IpxnetServer {
         ensures admits { result ≡ makes_client self.now from header size now }
         ensures apart { result ≡ true → is_joined_place from self.now.routers ≡ false }
         ensures stranger { result ≡ true → client_at from self.now.clients ≡ None }
+        ensures room { result ≡ true
+            → (is_address_full now from self.now.clients ≡ false)
+            × (is_server_full self.now.most now self.now.clients ≡ false) }
         ensures free { result ≡ true
-            → client_of_node (node_given self.now from) self.now.clients ≡ None }
+            → client_of_node (node_of_place self.now.port from) self.now.clients ≡ None }
     {
         !self.joined.has(from)
             && !registers(header, size)
@@ -108,10 +103,12 @@ impl IpxnetServer {
         if let Some(client) = known {
             return Disposition::Registered(answer_with_node(self.port, client.node));
         }
-        let node = self.node_for(from);
-        match self.refuses(node, now) {
+        match self.refuses(from, now) {
             Some(drop) => Disposition::Dropped(drop),
-            None => Disposition::Registered(answer_with_node(self.port, node)),
+            None => {
+                let node = node_of(self.port, from);
+                Disposition::Registered(answer_with_node(self.port, node))
+            }
         }
     }
 
@@ -197,9 +194,6 @@ impl IpxnetServer {
         }
         if is_from_here(self.port, header) && self.is_not_behind(header.from.node) {
             return Disposition::Dropped(ServerDrop::NotBehind(header.from.node));
-        }
-        if notes_node(self.port, header) {
-            return Disposition::FromJoined(Some(header.from.node), Recipients::Nobody);
         }
         if is_for_all(header) {
             return joined_to_all(self.port, from, header, size);

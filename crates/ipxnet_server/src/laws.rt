@@ -1,10 +1,12 @@
-//! Laws on what joined servers learn, and on who is pinged how often. They do nothing.
+//! Laws on what joined servers learn, on who is noted, and on who is pinged how often. They do
+//! nothing.
 
 ghost use Rattle.ipxnet_server.specs.JoinedLearns.{NoGivenPacketShowsAClient};
-ghost use Rattle.ipxnet_server.specs.Pings.{OnlySilentArePinged, PingsAreSeldom};
+ghost use Rattle.ipxnet_server.specs.NotedPlaces.{RegistrationsKeepOtherNotes};
+ghost use Rattle.ipxnet_server.specs.Pings.{AsksAreLate, AsksAreTwo, OnlySilentArePinged, PingsAreSeldom};
+ghost use Rattle.ipxnet_server.specs.ServerRuns.{ClientsShowedTheirNodes, WhoStaysNotedIsAsked};
 
-/// A joined server takes no packet of the core of another router for an announcement, or for a
-/// packet of that router's clients.
+/// A joined server takes no packet of the core of another router for one of that router's clients.
 pub fn no_given_packet_shows_a_client()
     ensures { NoGivenPacketShowsAClient }
 {}
@@ -18,4 +20,33 @@ pub fn only_silent_clients_are_pinged()
 /// a turn.
 pub fn pings_are_seldom()
     ensures { PingsAreSeldom }
+{}
+
+/// An address that registered and shows nothing gets at most two pings each time that it is noted,
+/// however often there is a turn.
+pub fn asks_are_two()
+    ensures { AsksAreTwo }
+{}
+
+/// It gets none earlier than 5.5 s after the registration that it is noted by.
+pub fn asks_are_late()
+    ensures { AsksAreLate }
+{}
+
+/// Who registers and stays noted has been pinged by the first turn that is 5.5 s later, however often
+/// anybody registers in its name meanwhile.
+pub fn who_stays_noted_is_asked()
+    ensures { WhoStaysNotedIsAsked }
+{}
+
+/// Registrations from one IP address, however many, keep the notes of all others, while there are at
+/// most 48 of these.
+pub fn registrations_keep_other_notes()
+    ensures { RegistrationsKeepOtherNotes }
+{}
+
+/// Who is a client of a server has shown its node: after any calls of a new server, a datagram came
+/// from its address with that node as its source.
+pub fn clients_showed_their_nodes()
+    ensures { ClientsShowedTheirNodes }
 {}

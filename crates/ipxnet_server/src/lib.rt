@@ -15,10 +15,13 @@ mod clients;
 mod counts;
 mod disposition;
 mod drops;
+mod giving;
 mod hearing;
 mod judging;
 mod laws;
+mod noted;
 mod peer_servers;
+mod pinging;
 mod pings;
 mod port;
 mod recipients;
@@ -26,15 +29,20 @@ mod server;
 
 pub use client_node::node_of;
 pub use clients::{
-    Client, FORGOTTEN_AFTER_MS, MAX_CLIENTS, MAX_RECENT_REGISTRATIONS, REPLACED_AFTER_MS,
+    Client, FORGOTTEN_AFTER_MS, MAX_ADDRESS_CLIENTS, MAX_CLIENTS, REPLACED_AFTER_MS,
 };
 pub use counts::ServerCounts;
 pub use disposition::Disposition;
 pub use drops::ServerDrop;
 pub use hearing::{MAX_CLIENT_BYTES, SERVER_SOCKET};
-pub use laws::{no_given_packet_shows_a_client, only_silent_clients_are_pinged, pings_are_seldom};
+pub use laws::{
+    asks_are_late, asks_are_two, clients_showed_their_nodes, no_given_packet_shows_a_client,
+    only_silent_clients_are_pinged, pings_are_seldom, registrations_keep_other_notes,
+    who_stays_noted_is_asked,
+};
+pub use noted::{MAX_ADDRESS_NOTED, MAX_NOTED, Noted};
 pub use peer_servers::{MAX_REMOTE_CLIENTS, REMOTE_FORGOTTEN_AFTER_MS, RemoteClient};
-pub use pings::{PING_PERIOD_MS, PingTurn};
-pub use port::ServerPort;
+pub use pings::{FIRST_ASK_MS, PING_PERIOD_MS, PingTurn, SECOND_ASK_MS, sooner};
+pub use port::{Secret, ServerPort};
 pub use recipients::Recipients;
 pub use server::IpxnetServer;

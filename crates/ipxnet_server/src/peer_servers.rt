@@ -2,11 +2,8 @@
 
 ghost use Rattle.std.specs.Prelude.{◌≡◌, ◌≤◌, ◌<◌, ◌+◌, ◌-◌, [], IfOk, None, drop, filter, find, length, not, option_copied, true};
 ghost use Rattle.std.specs.Vec.{vec_capacity, vec_len};
-ghost use Rattle.ipxnet_server.specs.ServerClients.{node_of_place};
-ghost use Rattle.ipxnet_server.specs.PeerServers.{remote_client_of, remote_clients_heard, remote_clients_left, has_remote_node, is_joined_place, made_node, max_remote_clients, new_client_node};
+ghost use Rattle.ipxnet_server.specs.PeerServers.{remote_client_of, remote_clients_heard, remote_clients_left, has_remote_node, is_joined_place, max_remote_clients};
 
-use crate::client_node::node_of;
-use byteorder::{BigEndian, ByteOrder};
 use ipx_wire::Node;
 use std::alloc::{AllocError, Global};
 use std::marker::Model;
@@ -93,16 +90,6 @@ fn find_node(far: &[RemoteClient], node: Node) -> Option<&RemoteClient>
     far.iter().find(|client| client.node == node)
 }
 
-/// A node that a router makes for a client at an address: the router's node, with the client's UDP
-/// port as its last two bytes.
-fn make_node(own: Node, place: SocketAddrV4) -> Node
-    ensures { result ≡ made_node own place }
-{
-    let mut node = own.0;
-    BigEndian::write_u16(&mut node[4..], place.port());
-    Node(node)
-}
-
 impl Joined {
     /// These routers, and none of their clients yet. This takes the memory for all of those.
     pub fn new(alloc: Global, routers: Vec<SocketAddrV4>) -> Result<Joined, AllocError>
@@ -137,22 +124,9 @@ impl Joined {
 
     /// The client of a node.
     pub fn of_node(&self, node: Node) -> Option<RemoteClient>
-        ensures client { result ≡ remote_client_of node self.now.far }
-        ensures alone { self.now.routers ≡ [] → result ≡ None }
+        ensures { result ≡ remote_client_of node self.now.far }
     {
         find_node(&self.far, node).copied()
-    }
-
-    /// The node that a new client at an address gets from a router with this node.
-    pub fn node_for(&self, own: Node, place: SocketAddrV4) -> Node
-        ensures node { result ≡ new_client_node own self.now.far place }
-        ensures alone { self.now.routers ≡ [] → result ≡ node_of_place place }
-    {
-        let node = node_of(place);
-        if self.of_node(node).is_some() {
-            return make_node(own, place);
-        }
-        node
     }
 
     /// Forgets the clients that were silent for a day.

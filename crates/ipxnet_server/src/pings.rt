@@ -1,12 +1,20 @@
 //! Pings of silent clients.
 
 ghost use Rattle.std.specs.Prelude.{◌≡◌};
-ghost use Rattle.ipxnet_server.specs.Pings.{IsNextPing, earlier, is_one_pinged, is_pinged, pings_by};
+ghost use Rattle.ipxnet_server.specs.Pings.{IsNextPing, asks_by, earlier, is_asked, is_one_asked, is_one_pinged, is_pinged, pings_by};
 
 use crate::clients::Client;
+use crate::noted::Noted;
 
 /// A client is pinged each time that it was silent for so many more milliseconds.
 pub const PING_PERIOD_MS: u64 = 25_000;
+
+/// Who registered, and has shown nothing yet, is pinged this many milliseconds after the
+/// registration that it is noted by, and once more after the next. DOSBox waits 5 s for the answer,
+/// and takes any datagram for it.
+pub const FIRST_ASK_MS: u64 = 5500;
+
+pub const SECOND_ASK_MS: u64 = 8500;
 
 /// A turn in which silent clients are pinged.
 #[derive(Clone, Copy, Debug, PartialEq, Eq)]
@@ -24,6 +32,14 @@ fn silent_periods(now: u64, client: &Client) -> u64
     now.saturating_sub(client.heard) / PING_PERIOD_MS
 }
 
+/// How many pings a noted address is due.
+fn asks_due(now: u64, noted: &Noted) -> u64
+    ensures { result ≡ asks_by now noted.now }
+{
+    let time = now.saturating_sub(noted.since);
+    u64::from(FIRST_ASK_MS <= time) + u64::from(SECOND_ASK_MS <= time)
+}
+
 impl PingTurn {
     /// Whether a client is pinged: since the turn before, its silence has come to 25 seconds, or to
     /// a further 25.
@@ -32,10 +48,18 @@ impl PingTurn {
     {
         silent_periods(self.before, client) < silent_periods(self.now, client)
     }
+
+    /// Whether a noted address is pinged: since the turn before, 5.5 s or 8.5 s have passed after
+    /// the registration that it is noted by.
+    pub fn asks(self, noted: &Noted) -> bool
+        ensures { result ≡ is_asked self noted.now }
+    {
+        asks_due(self.before, noted) < asks_due(self.now, noted)
+    }
 }
 
 /// The earlier of two times, if there is any.
-fn sooner(a: Option<u64>, b: Option<u64>) -> Option<u64>
+pub fn sooner(a: Option<u64>, b: Option<u64>) -> Option<u64>
     ensures { result ≡ earlier a b }
 {
     match (a, b) {
@@ -62,6 +86,29 @@ pub fn next_ping(before: u64, clients: &[Client]) -> Option<u64>
     let mut next = None;
     for client in clients {
         next = sooner(next, next_ping_of(before, client));
+    }
+    next
+}
+
+/// When an address that registered is pinged next if it shows nothing, after a turn at `before`.
+/// None if it is pinged no more, or if no clock can show that time.
+fn next_ask_of(before: u64, noted: &Noted) -> Option<u64>
+    ensures { IsNextPing (λ now. is_asked (record { before = before; now = now }) noted.now) result }
+{
+    match asks_due(before, noted) {
+        0 => noted.since.checked_add(FIRST_ASK_MS),
+        1 => noted.since.checked_add(SECOND_ASK_MS),
+        _ => None,
+    }
+}
+
+/// When one of these is pinged next if all show nothing, after a turn at `before`.
+pub fn next_ask(before: u64, noted: &[Noted]) -> Option<u64>
+    ensures { IsNextPing (is_one_asked before noted.now) result }
+{
+    let mut next = None;
+    for one in noted {
+        next = sooner(next, next_ask_of(before, one));
     }
     next
 }

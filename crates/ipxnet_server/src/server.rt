@@ -10,27 +10,25 @@ ghost use Rattle.std.specs.declared.net.socket_addr.SocketAddrV4.{SocketAddrV4};
 ghost use Rattle.ipx_wire.specs.declared.address.Node.{Node};
 ghost use Rattle.ipxnet_server.specs.declared.recipients.Recipients.{Recipients};
 ghost use Rattle.ipxnet_server.specs.declared.recipients.Recipients.TheVariants.{One};
-ghost use Rattle.ipxnet_server.specs.ServerClients.{EachClientOnce, client_at, client_heard, client_of_node, clients_left, max_server_clients, node_of_place};
-ghost use Rattle.ipxnet_server.specs.ServerHears.{IsAnswer, answer_of, goes_to_core, is_dropped, is_from_server, is_joined_taker, is_of_client, is_taker};
-ghost use Rattle.ipxnet_server.specs.ServerHears.{joined_server, router_ping, server_aged, server_dropping, server_gives, server_giving, server_hearing, server_knowing, server_learned, server_met, server_pinging};
-ghost use Rattle.ipxnet_server.specs.ServerHears.{server_hears, may_reach_core, new_server, node_given, takers_join, takers_of, takers_reach};
+ghost use Rattle.ipxnet_server.specs.ServerClients.{AreFewOfEachIp, EachClientOnce, HasPlaceNode, client_at, client_heard, client_of_node, clients_left, max_server_clients, node_of_place, replaced_after, was_heard_within};
+ghost use Rattle.ipxnet_server.specs.ServerHears.{IsAnswer, answer_of, goes_to_core, is_joined_taker, is_of_client, is_registration, is_taker};
+ghost use Rattle.ipxnet_server.specs.ServerHears.{joined_server, server_admitting, server_aged, server_dropping, server_hearing, server_knowing, server_learned, server_met, server_noting};
+ghost use Rattle.ipxnet_server.specs.ServerHears.{server_hears, may_reach_core, new_server, takers_join, takers_of, takers_reach};
 ghost use Rattle.ipxnet_server.specs.ServerInside.{IsSoundHearing, MayKnow};
 ghost use Rattle.ipxnet_server.specs.PeerServers.{is_joined_place, max_remote_clients};
-ghost use Rattle.ipxnet_server.specs.Pings.{IsNextPing, is_one_pinged};
+ghost use Rattle.ipxnet_server.specs.NotedPlaces.{AreFewNotesOfEachIp, max_noted};
 
+use crate::client_node::node_of;
 use crate::clients::{Client, Clients, MAX_CLIENTS};
 use crate::counts::ServerCounts;
-use crate::disposition::{Disposition, bytes_of};
+use crate::disposition::Disposition;
 use crate::drops::ServerDrop;
-use crate::hearing::{
-    comes_from_here, header_of, is_for_service, is_too_long, joined_takers_of, ping_from,
-    takers_of_all,
-};
+use crate::hearing::header_of;
+use crate::noted::{Noted, NotedPlaces};
 use crate::peer_servers::{Joined, RemoteClient};
-use crate::pings::{PingTurn, next_ping};
 use crate::port::ServerPort;
 use crate::recipients::Recipients;
-use ipx_wire::{IPX_HEADER_SIZE, IpxHeader, Node, decode};
+use ipx_wire::{Node, decode};
 use std::alloc::{AllocError, Global};
 use std::marker::Model;
 use std::net::SocketAddrV4;
@@ -44,10 +42,11 @@ pub struct IpxnetServer {
     pub(crate) counts: ServerCounts,
     pub(crate) joined: Joined,
     pub(crate) pinged: u64,
+    pub(crate) noted: NotedPlaces,
 }
 
 impl Model for IpxnetServer {
-    ghost use Rattle.std.specs.Prelude.{◌≡◌, All, []};
+    ghost use Rattle.std.specs.Prelude.{All};
     ghost use Rattle.ipxnet_server.specs.ServerClients.{HasPlaceNode};
     ghost use Rattle.ipxnet_server.specs.ServerHears.{ServerView};
 
@@ -61,9 +60,10 @@ impl Model for IpxnetServer {
       routers = l.joined.routers;
       far = l.joined.far;
       pinged = l.pinged;
+      noted = l.noted;
     } };
 
-    ghost invariant = { λ l. l.joined.routers ≡ [] → All HasPlaceNode l.clients.known };
+    ghost invariant = { λ l. All (HasPlaceNode l.port) l.clients.known };
 }
 
 impl IpxnetServer {
@@ -99,12 +99,14 @@ impl IpxnetServer {
     {
         let clients = Clients::new(alloc, most)?;
         let joined = Joined::new(alloc, routers)?;
+        let noted = NotedPlaces::new(alloc)?;
         Ok(IpxnetServer {
             port,
             clients,
             counts: ServerCounts::new(),
             joined,
             pinged: 0,
+            noted,
         })
     }
 
@@ -123,12 +125,12 @@ impl IpxnetServer {
     }
 
     /// The clients, in the order in which they were last heard. No two have one address, and no two
-    /// have one node. If no router is joined, each has the node of its address.
+    /// have one node. Each has the node of its address. At most 16 have one IP address.
     pub fn clients(&self) -> &[Client]
         ensures all { result.now ≡ self.now.clients }
         ensures once { EachClientOnce self.now.clients }
-        ensures nodes { self.now.routers ≡ []
-            → All (λ c. c.node ≡ node_of_place c.place) self.now.clients }
+        ensures each { AreFewOfEachIp self.now.clients }
+        ensures nodes { All (HasPlaceNode self.now.port) self.now.clients }
         ensures few { length self.now.clients ≤ self.now.most }
         ensures most { self.now.most ≤ max_server_clients }
     {
@@ -149,6 +151,16 @@ impl IpxnetServer {
         ensures none { self.now.routers ≡ [] → self.now.far ≡ [] }
     {
         self.joined.remote_clients()
+    }
+
+    /// The addresses that registered, have shown nothing, and are still to be pinged, in the order in
+    /// which they were noted. At most 16 have one IP address.
+    pub fn noted(&self) -> &[Noted]
+        ensures all { result.now ≡ self.now.noted }
+        ensures few { length self.now.noted ≤ max_noted }
+        ensures each { AreFewNotesOfEachIp self.now.noted }
+    {
+        self.noted.all()
     }
 
     /// Whether bytes with these takers are sent to the joined router at an address.
@@ -180,15 +192,32 @@ impl IpxnetServer {
         }
     }
 
-    /// The client at an address was heard, or becomes one.
-    fn know(&mut self, from: SocketAddrV4, now: u64)
-        requires { client_at from self.old.clients ≡ None
-            → client_of_node (node_given self.old from) self.old.clients ≡ None }
-        ensures knows { self.new ≡ server_knowing from now self.old }
+    /// Who sent from an address becomes a client.
+    fn admit(&mut self, from: SocketAddrV4, now: u64)
+        requires stranger { client_at from self.old.clients ≡ None }
+        requires free { client_of_node (node_of_place self.old.port from) self.old.clients
+            ≡ None }
+        ensures admits { self.new ≡ server_admitting from now self.old }
         ensures few { length self.new.clients ≤ self.new.most }
     {
-        let node = self.node_for(from);
-        self.clients.put(node, from, now);
+        self.noted.forget(from);
+        self.clients.put(node_of(self.port, from), from, now);
+    }
+
+    /// The client at an address was heard.
+    fn know(&mut self, from: SocketAddrV4, now: u64)
+        ensures { self.new ≡ server_knowing from now self.old }
+    {
+        self.clients.hear(from, now);
+    }
+
+    /// An address registered.
+    fn note(&mut self, from: SocketAddrV4, now: u64)
+        ensures { self.new ≡ server_noting from now self.old }
+    {
+        if self.clients.at(from).is_none() {
+            self.noted.put(from, now);
+        }
     }
 
     /// Makes the sender of a datagram a client, if its packet does that.
@@ -204,7 +233,7 @@ impl IpxnetServer {
             return;
         };
         if self.admits(from, header, bytes.len(), now) {
-            self.know(from, now);
+            self.admit(from, now);
         }
     }
 
@@ -219,10 +248,8 @@ impl IpxnetServer {
     }
 
     /// Records what became of a datagram: its cause if it was dropped, otherwise that its sender
-    /// was heard.
+    /// registered or was heard.
     fn keep(&mut self, heard: Disposition, from: SocketAddrV4, now: u64)
-        requires free { is_of_client heard ≡ true → client_at from self.old.clients ≡ None
-            → client_of_node (node_given self.old from) self.old.clients ≡ None }
         requires joined { (told : Option Node) (takers : Recipients) → heard ≡ FromJoined told takers
             → is_joined_place from self.old.routers ≡ true }
         ensures { self.new ≡ server_hearing heard from now self.old }
@@ -230,8 +257,8 @@ impl IpxnetServer {
         match heard {
             Disposition::Dropped(drop) => self.counts.count(drop),
             Disposition::FromJoined(told, _) => self.learn_remote(told, from, now),
-            Disposition::Registered(_)
-            | Disposition::Pinged(_, _)
+            Disposition::Registered(_) => self.note(from, now),
+            Disposition::Pinged(_, _)
             | Disposition::ToClient(_)
             | Disposition::ToOthers(_)
             | Disposition::ToOthersAndCore(_)
@@ -241,14 +268,16 @@ impl IpxnetServer {
         }
     }
 
-    /// Forgets the clients that were silent for five minutes, and those of joined routers that were
-    /// silent for a day.
-    fn age(&mut self, now: u64)
+    /// Forgets the clients that were silent for five minutes, those of joined routers that were
+    /// silent for a day, and the noted addresses whose second ping was due at the last turn.
+    pub(crate) fn age(&mut self, now: u64)
         ensures aged { self.new ≡ server_aged now self.old }
         ensures few { length self.new.clients ≤ self.new.most }
+        ensures once { EachClientOnce self.new.clients }
     {
         self.clients.age(now);
         self.joined.age(now);
+        self.noted.age(self.pinged);
     }
 
     /// What becomes of a datagram that came from an address at time `now`, in ms: what is answered,
@@ -256,9 +285,9 @@ impl IpxnetServer {
     /// allocates no memory.
     ///
     /// Call it with each datagram. First send the answer to that address. Then send the bytes, as
-    /// they arrived, to each client and joined router among the takers, and the announcement to
-    /// each joined router. A dropped datagram changes only the count of its cause, unless it makes
-    /// its sender a client. Each call forgets the clients that were silent for five minutes.
+    /// they arrived, to each client and joined router among the takers. A registration changes no
+    /// client. A dropped datagram changes only the count of its cause, unless it makes its sender a
+    /// client. Each call forgets the clients that were silent for five minutes.
     pub fn hear(&mut self, from: SocketAddrV4, bytes: &[u8], now: u64) -> Disposition
         // What becomes of it, if the bytes are no packet, and if they begin with one.
         ensures malformed { (f : IpxFault) → ipx_fault bytes.now ≡ Some f
@@ -281,12 +310,20 @@ impl IpxnetServer {
             → IsAnswer result answer → length answer ≡ length bytes.now }
         ensures no_longer { (answer : List ℕ) → IsAnswer result answer
             → length answer ≤ length bytes.now }
-        // The sender of a datagram that is not dropped is then a client, or it is a joined router.
-        // The one client that it is sent to is known.
-        ensures sender { is_dropped result ≡ false → is_joined_place from self.old.routers ≡ false
-            → client_at from self.new.clients ≡ Some (client_heard
-            (node_given (server_aged now self.old) from) from now
+        // A registration changes no client. Who sent a datagram that is no registration and is not
+        // dropped is then a client, or it is a joined router. The one client that it is sent to is
+        // known.
+        ensures registration { (p : PacketView) → BeginsWith bytes.now p
+            → is_registration p.header (length bytes.now) ≡ true
+            → self.new.clients ≡ clients_left now self.old.clients }
+        ensures sender { is_of_client result ≡ true → client_at from self.new.clients
+            ≡ Some (client_heard (node_of_place self.old.port from) from now
             (client_at from (clients_left now self.old.clients))) }
+        // Who was heard less than a minute ago stays a client, whatever came.
+        ensures remains { (place : SocketAddrV4) (c : Client)
+            → client_at place self.old.clients ≡ Some c
+            → was_heard_within replaced_after now c ≡ true
+            → is_some (client_at place self.new.clients) ≡ true }
         ensures taker { (place : SocketAddrV4) → takers_of result ≡ One place
             → is_some (client_at place self.new.clients) ≡ true }
         // The core gets nothing that comes from another network, and no response of RIP or SAP.
@@ -309,90 +346,5 @@ impl IpxnetServer {
         let heard = self.judge(from, bytes, now);
         self.keep(heard, from, now);
         heard
-    }
-
-    /// Which clients and joined routers a packet of the core for a node is sent to, or why it is
-    /// dropped. The time `now` is in ms. A packet for all nodes that is for the socket of RIP or
-    /// SAP is sent to nobody. One that comes from the network of the port is sent to no joined
-    /// router. It allocates no memory.
-    pub fn give(&mut self, node: Node, packet: &[u8], now: u64) -> Result<Recipients, ServerDrop>
-        // Who gets it, if the bytes begin with a packet, and if they are none.
-        ensures packet { (p : PacketView) → BeginsWith packet.now p → result ≡ server_gives
-            (server_aged now self.old) node (Some p.header) (length packet.now) }
-        ensures malformed { (f : IpxFault) → ipx_fault packet.now ≡ Some f
-            → result ≡ server_gives (server_aged now self.old) node None (length packet.now) }
-        ensures server { self.new ≡ server_giving result (server_aged now self.old) }
-        // The one client that it goes to is known.
-        ensures taker { (place : SocketAddrV4) → result ≡ Ok (One place)
-            → is_some (client_at place self.new.clients) ≡ true }
-        // No joined router gets what comes from the network of the port: there it would be taken
-        // for a packet of a client here.
-        ensures own { (p : PacketView) → BeginsWith packet.now p
-            → is_from_server self.old.port p.header ≡ true → IfOk result (λ takers.
-            (place : SocketAddrV4) → is_joined_taker takers place ≡ false) }
-    {
-        self.age(now);
-        let takers = self.takers(node, header_of(packet), packet.len());
-        match takers {
-            Ok(_) => {}
-            Err(drop) => self.counts.count(drop),
-        }
-        takers
-    }
-
-    /// Begins a turn of pings at time `now`, in ms, and forgets the clients that were silent for
-    /// five minutes. Send `ping` to each of `clients` that the turn pings. What answers it is heard
-    /// like any packet, so a client that answers is not forgotten. It allocates no memory.
-    pub fn begin_pings(&mut self, now: u64) -> PingTurn
-        ensures turn { result ≡ record { before = self.old.pinged; now = now } }
-        ensures server { self.new ≡ server_pinging now self.old }
-    {
-        self.age(now);
-        let turn = PingTurn {
-            before: self.pinged,
-            now,
-        };
-        self.pinged = now;
-        turn
-    }
-
-    /// When the next turn of pings is due, in ms, if no datagram comes before. None if no clock can
-    /// show that time.
-    pub fn next_pings(&self) -> Option<u64>
-        ensures { IsNextPing (is_one_pinged self.now.pinged self.now.clients) result }
-    {
-        next_ping(self.pinged, self.clients.all())
-    }
-
-    /// The ping of the router, as it is sent to silent clients.
-    pub fn ping(&self) -> [u8; IPX_HEADER_SIZE]
-        ensures { IsIpx (packet_of (router_ping self.now.port) []) result [] }
-    {
-        bytes_of(ping_from(self.port))
-    }
-
-    /// Which clients and joined routers a packet of the core, with this header and of `size` bytes,
-    /// is sent to.
-    fn takers(
-        &self,
-        node: Node,
-        header: Option<IpxHeader>,
-        size: usize,
-    ) -> Result<Recipients, ServerDrop>
-        ensures { result ≡ server_gives self.now node header size }
-    {
-        if is_too_long(size) {
-            return Err(ServerDrop::TooLong(size));
-        }
-        if node == Node::BROADCAST {
-            return Ok(takers_of_all(is_for_service(header)));
-        }
-        match self.clients.of_node(node) {
-            Some(client) => Ok(Recipients::One(client.place)),
-            None if self.routers().is_empty() || comes_from_here(self.port, header) => {
-                Err(ServerDrop::NoSuchNode(node))
-            }
-            None => Ok(joined_takers_of(self.joined.of_node(node))),
-        }
     }
 }

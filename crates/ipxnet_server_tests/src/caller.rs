@@ -37,14 +37,16 @@ pub fn give(
 #[test]
 fn datagrams_of_three_players(rt: HostRuntime) -> Result<(), Fail> {
     let mut server = IpxnetServer::new(rt.alloc(), PORT, 64)?;
-    // Its first packet makes the first player a client, and the second is none yet.
-    assert_eq!(rt;
-        give(&mut server, first_place(), &CAME),
-        (false, [false; 3], false)
-    );
+    // A registration is answered, and makes no client. The first packet does, and the second player
+    // is none yet.
     assert_eq!(rt;
         give(&mut server, first_place(), &REGISTRATION),
         (true, [false; 3], false)
+    );
+    assert!(rt; server.clients().is_empty());
+    assert_eq!(rt;
+        give(&mut server, first_place(), &CAME),
+        (false, [false; 3], false)
     );
     register_all(&mut server);
     assert_eq!(rt;
@@ -58,7 +60,7 @@ fn datagrams_of_three_players(rt: HostRuntime) -> Result<(), Fail> {
     );
     assert_eq!(rt; server.clients().len(), 3);
     for client in server.clients() {
-        assert_eq!(rt; client.node, node_of(client.place));
+        assert_eq!(rt; client.node, node_of(PORT, client.place));
     }
     assert_eq!(rt;
         server.hear(first_place(), &all, 0),

@@ -105,14 +105,17 @@ fn texts(rt: HostRuntime) -> Result<(), Fail> {
         ),
         (
             ServerDrop::NodeTaken(FIRST_NODE),
-            "the client's node is already in use: 7f000001bc47",
+            "the client's node is already in use: 027c63c8d4df",
         ),
-        (ServerDrop::TooManyNew, "too many registrations in a second"),
+        (
+            ServerDrop::FullOfAddress,
+            "too many clients of one IP address",
+        ),
         (ServerDrop::Full, "the server is full"),
         (ServerDrop::Unregistered, "from an unregistered sender"),
         (
             ServerDrop::OtherSource(FIRST_NODE),
-            "a client sent from a node that is not its own: 7f000001bc47",
+            "a client sent from a node that is not its own: 027c63c8d4df",
         ),
         (
             ServerDrop::TooLong(1425),
@@ -120,7 +123,7 @@ fn texts(rt: HostRuntime) -> Result<(), Fail> {
         ),
         (
             ServerDrop::NoSuchNode(FIRST_NODE),
-            "no client has the node 7f000001bc47",
+            "no client has the node 027c63c8d4df",
         ),
         (ServerDrop::ToItself, "a client sent to itself"),
         (

@@ -2,7 +2,7 @@
 
 use crate::caller::reached;
 use crate::fixture::{
-    FIRST_NODE, PORT, REGISTRATION, SECOND_NODE, first_place, packet, register_all, second_place,
+    FIRST_NODE, PORT, SECOND_NODE, enter, first_place, packet, register_all, second_place,
 };
 use ipx_wire::Node;
 use ipxnet_server::{IpxnetServer, Recipients, ServerCounts, ServerDrop};
@@ -30,7 +30,7 @@ fn packets_of_the_core(rt: HostRuntime) -> Result<(), Fail> {
         reached(&server, Recipients::One(first_place())),
         [false; 3]
     );
-    server.hear(first_place(), &REGISTRATION, 0);
+    enter(&mut server, first_place(), 0);
     assert_eq!(rt; reached(&server, Recipients::All), [true, false, false]);
     register_all(&mut server);
     let one = server.give(SECOND_NODE, &[0; 40], 0)?;
@@ -100,7 +100,7 @@ fn long_packets_of_the_core(rt: HostRuntime) -> Result<(), Fail> {
 #[test]
 fn to_one_who_is_forgotten(rt: HostRuntime) -> Result<(), Fail> {
     let mut server = IpxnetServer::new(rt.alloc(), PORT, 64)?;
-    server.hear(first_place(), &REGISTRATION, 5);
+    enter(&mut server, first_place(), 5);
     assert_eq!(rt;
         server.give(FIRST_NODE, &[0; 40], 300_004),
         Ok(Recipients::One(first_place()))

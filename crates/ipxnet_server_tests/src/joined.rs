@@ -2,13 +2,14 @@
 
 use crate::caller::reached;
 use crate::fixture::{
-    CAME, FIRST_NODE, PORT, REGISTRATION, SECOND_NODE, THIRD_NODE, first_place, long_packet,
-    packet, packet_for, register_all, second_place, third_place,
+    CAME, FIRST_NODE, PORT, REGISTRATION, THIRD_NODE, enter, first_place, long_packet, packet,
+    packet_for, register_all, second_place, third_place,
 };
-use crate::sites::{north, north_place, south, south_place, west_place};
+use crate::sites::{north, north_place, sites, south, south_place, west_place};
 use ipx_wire::{Network, Node};
 use ipxnet_server::{
-    Disposition, IpxnetServer, Recipients, RemoteClient, ServerCounts, ServerDrop,
+    Disposition, IpxnetServer, Recipients, RemoteClient, Secret, ServerCounts, ServerDrop,
+    ServerPort, node_of,
 };
 use std::net::SocketAddrV4;
 use std::test::Fail;
@@ -29,9 +30,9 @@ fn passed(server: &IpxnetServer, takers: Recipients) -> [bool; 2] {
 fn to_all_at_each_site(rt: HostRuntime) -> Result<(), Fail> {
     let mut here = north(rt.alloc())?;
     let mut there = south(rt.alloc())?;
-    here.hear(first_place(), &REGISTRATION, 0);
-    here.hear(second_place(), &REGISTRATION, 0);
-    there.hear(third_place(), &REGISTRATION, 0);
+    enter(&mut here, first_place(), 0);
+    enter(&mut here, second_place(), 0);
+    enter(&mut there, third_place(), 0);
     for socket in [0x4001, 0x452, 0x453, 2] {
         let all = packet(Node::BROADCAST, socket, FIRST_NODE);
         let heard = here.hear(first_place(), &all, 0);
@@ -59,8 +60,8 @@ fn to_all_at_each_site(rt: HostRuntime) -> Result<(), Fail> {
 #[test]
 fn to_one_at_a_site(rt: HostRuntime) -> Result<(), Fail> {
     let mut here = north(rt.alloc())?;
-    here.hear(first_place(), &REGISTRATION, 0);
-    here.hear(second_place(), &REGISTRATION, 0);
+    enter(&mut here, first_place(), 0);
+    enter(&mut here, second_place(), 0);
     assert_eq!(rt;
         here.hear(first_place(), &CAME, 0),
         Disposition::ToClient(second_place())
@@ -101,60 +102,38 @@ fn to_one_at_a_site(rt: HostRuntime) -> Result<(), Fail> {
     Ok(())
 }
 
-/// A registration tells each site, by 30 bytes from its node to its node. There the same address
-/// gets another node, which that router makes: the first four bytes of its own, and the UDP port.
+/// A registration tells no site anything. At each the same address has the node that the secret
+/// there makes. One that is known at another site is given to nobody.
 #[test]
 fn one_place_at_two_sites(rt: HostRuntime) -> Result<(), Fail> {
     let mut here = north(rt.alloc())?;
     let mut there = south(rt.alloc())?;
-    let announcement = [
-        0xff, 0xff, 0, 0x1e, 0, 0, 0, 0, 0xd0, 0x5b, 0x7f, 0, 0, 1, 0xbc, 0x47, 0, 2, 0, 0, 0xd0,
-        0x5b, 0x7f, 0, 0, 1, 0xbc, 0x47, 0, 2,
-    ];
     let heard = here.hear(first_place(), &REGISTRATION, 0);
-    assert_eq!(rt; heard.announcement(), Some(announcement));
     assert_eq!(rt; passed(&here, heard.takers()), [false, false]);
-    let heard = there.hear(north_place(), &announcement, 0);
+    let all = packet(Node::BROADCAST, 0x4001, FIRST_NODE);
+    here.hear(first_place(), &all, 0);
+    there.hear(north_place(), &all, 0);
+    // The two have one secret, by which the node would be the same.
     assert_eq!(rt;
-        heard,
-        Disposition::FromJoined(Some(FIRST_NODE), Recipients::Nobody)
+        there.hear(first_place(), &REGISTRATION, 5),
+        Disposition::Dropped(ServerDrop::NodeTaken(FIRST_NODE))
     );
-    assert_eq!(rt; heard.announcement(), None);
-    let answer = [
-        0xff, 0xff, 0, 0x1e, 0, 0, 0, 0, 0xd0, 0x5b, 0xc6, 0x33, 0x64, 7, 0xbc, 0x47, 0, 2, 0, 0,
-        0xd0, 0x5b, 0xc6, 0x33, 0x64, 7, 8, 0x52, 0, 2,
-    ];
-    let made = Node([0xc6, 0x33, 0x64, 7, 0xbc, 0x47]);
     assert_eq!(rt;
-        there.hear(first_place(), &REGISTRATION, 5).answer(),
-        Some(answer)
+        there.hear(first_place(), &all, 5),
+        Disposition::Dropped(ServerDrop::NodeTaken(FIRST_NODE))
     );
-    assert_eq!(rt; there.clients()[0].node, made);
-    // The client keeps that node, and sends from it.
+    let port = ServerPort {
+        secret: Secret([9; 32]),
+        ..PORT
+    };
+    let node = node_of(port, first_place());
+    let mut third = IpxnetServer::joined_to(rt.alloc(), port, 64, sites(rt.alloc())?)?;
+    third.hear(north_place(), &all, 0);
+    enter(&mut third, first_place(), 5);
+    assert_eq!(rt; third.clients()[0].node, node);
     assert_eq!(rt;
-        there.hear(first_place(), &REGISTRATION, 9).answer(),
-        Some(answer)
-    );
-    let all = packet(Node::BROADCAST, 0x4001, made);
-    assert_eq!(rt;
-        there.hear(first_place(), &all, 9),
-        Disposition::ToOthers(first_place())
-    );
-    let other = packet(Node::BROADCAST, 0x4001, FIRST_NODE);
-    assert_eq!(rt;
-        there.hear(first_place(), &other, 9),
+        third.hear(first_place(), &all, 5),
         Disposition::Dropped(ServerDrop::OtherSource(FIRST_NODE))
-    );
-    // Another address has its own node. A made node that is taken too is given to nobody.
-    there.hear(second_place(), &REGISTRATION, 5);
-    assert_eq!(rt; there.clients()[1].node, SECOND_NODE);
-    let mut third = north(rt.alloc())?;
-    let made = Node([2, 0, 0, 0, 0, 0xd5]);
-    third.hear(south_place(), &packet(Node::BROADCAST, 2, THIRD_NODE), 0);
-    third.hear(south_place(), &packet(Node::BROADCAST, 2, made), 0);
-    assert_eq!(rt;
-        third.hear(third_place(), &REGISTRATION, 0),
-        Disposition::Dropped(ServerDrop::NodeTaken(made))
     );
     Ok(())
 }
@@ -164,8 +143,8 @@ fn one_place_at_two_sites(rt: HostRuntime) -> Result<(), Fail> {
 #[test]
 fn what_a_site_may_not_send(rt: HostRuntime) -> Result<(), Fail> {
     let mut here = north(rt.alloc())?;
-    here.hear(first_place(), &REGISTRATION, 0);
-    here.hear(second_place(), &REGISTRATION, 0);
+    enter(&mut here, first_place(), 0);
+    enter(&mut here, second_place(), 0);
     let rows = [
         (
             packet(Node::BROADCAST, 0x4001, FIRST_NODE),
@@ -244,7 +223,7 @@ fn who_is_no_site(rt: HostRuntime) -> Result<(), Fail> {
 #[test]
 fn packets_of_the_core(rt: HostRuntime) -> Result<(), Fail> {
     let mut here = north(rt.alloc())?;
-    here.hear(first_place(), &REGISTRATION, 0);
+    enter(&mut here, first_place(), 0);
     assert_eq!(rt;
         here.give(FIRST_NODE, &[0; 40], 0),
         Ok(Recipients::One(first_place()))
@@ -282,18 +261,18 @@ fn packets_of_the_core(rt: HostRuntime) -> Result<(), Fail> {
 }
 
 /// A packet of the core that comes from this network: to a client here, and to no site. There it
-/// would show that its source node is here, and as an announcement too. From another network it is
+/// would show that its source node is here, also if it is for that node itself. From another network it is
 /// sent to a site, and shows no node there.
 #[test]
 fn packets_of_the_core_from_this_network(rt: HostRuntime) -> Result<(), Fail> {
     let mut here = north(rt.alloc())?;
     let mut there = south(rt.alloc())?;
-    here.hear(first_place(), &REGISTRATION, 0);
-    there.hear(third_place(), &REGISTRATION, 0);
+    enter(&mut here, first_place(), 0);
+    enter(&mut there, third_place(), 0);
     let to_client = packet(THIRD_NODE, 0x4001, NOBODY);
-    let announces = packet(NOBODY, 2, NOBODY);
+    let to_itself = packet(NOBODY, 2, NOBODY);
     for network in [[0, 0, 0, 0], [0, 0, 0xd0, 0x5b]] {
-        for (node, packet) in [(THIRD_NODE, to_client), (NOBODY, announces)] {
+        for (node, packet) in [(THIRD_NODE, to_client), (NOBODY, to_itself)] {
             let mut bytes = packet;
             bytes[18..22].copy_from_slice(&network);
             assert_eq!(rt;
@@ -323,7 +302,7 @@ fn packets_of_the_core_from_this_network(rt: HostRuntime) -> Result<(), Fail> {
 #[test]
 fn long_packets(rt: HostRuntime) -> Result<(), Fail> {
     let mut here = north(rt.alloc())?;
-    here.hear(first_place(), &REGISTRATION, 0);
+    enter(&mut here, first_place(), 0);
     let far = long_packet(THIRD_NODE, 1424);
     assert_eq!(rt;
         here.hear(first_place(), &far[..1424], 0),
@@ -332,7 +311,7 @@ fn long_packets(rt: HostRuntime) -> Result<(), Fail> {
     let long = Disposition::Dropped(ServerDrop::TooLong(1425));
     assert_eq!(rt; here.hear(first_place(), &far[..1425], 0), long);
     let mut there = south(rt.alloc())?;
-    there.hear(third_place(), &REGISTRATION, 0);
+    enter(&mut there, third_place(), 0);
     let all = long_packet(Node::BROADCAST, 1424);
     assert_eq!(rt;
         there.hear(north_place(), &all[..1424], 0),
@@ -383,7 +362,7 @@ fn texts_of_sites(rt: HostRuntime) -> Result<(), Fail> {
     let rows = [
         (
             ServerDrop::NotBehind(FIRST_NODE),
-            "a joined server sent from a node that is none of its clients: 7f000001bc47",
+            "a joined server sent from a node that is none of its clients: 027c63c8d4df",
         ),
         (
             ServerDrop::ForElsewhere(Network(0x99)),

@@ -15,6 +15,8 @@ mod giving;
 #[cfg(test)]
 mod joined;
 #[cfg(test)]
+mod notes;
+#[cfg(test)]
 mod pinging;
 #[cfg(test)]
 mod pings;

@@ -2,27 +2,27 @@
 
 use crate::caller::give;
 use crate::fixture::{
-    CAME, PORT, REGISTRATION, first_place, register_all, second_place, third_place,
+    CAME, PORT, enter, first_place, packet, register_all, second_place, third_place,
 };
 use ipxnet_server::{Disposition, IpxnetServer, ServerDrop};
 use std::test::Fail;
 
 /// A ping of the first player.
 const PING: [u8; 30] = [
-    0xff, 0xff, 0, 0x1e, 0, 0, 0, 0, 0, 0, 0xff, 0xff, 0xff, 0xff, 0xff, 0xff, 0, 2, 0, 0, 0, 0,
-    0x7f, 0, 0, 1, 0xbc, 0x47, 0, 2,
+    0xff, 0xff, 0, 0x1e, 0, 0, 0, 0, 0, 0, 0xff, 0xff, 0xff, 0xff, 0xff, 0xff, 0, 2, 0, 0, 0, 0, 2,
+    0x7c, 0x63, 0xc8, 0xd4, 0xdf, 0, 2,
 ];
 
 /// The router's answer to it.
 const ANSWER: [u8; 30] = [
-    0xff, 0xff, 0, 0x1e, 0, 0, 0, 0, 0, 0, 0x7f, 0, 0, 1, 0xbc, 0x47, 0, 2, 0, 0, 0, 0, 2, 0, 0, 0,
-    0xd0, 0x5b, 0, 2,
+    0xff, 0xff, 0, 0x1e, 0, 0, 0, 0, 0, 0, 2, 0x7c, 0x63, 0xc8, 0xd4, 0xdf, 0, 2, 0, 0, 0, 0, 2, 0,
+    0, 0, 0xd0, 0x5b, 0, 2,
 ];
 
 /// The second player's answer to it.
 const OF_SECOND: [u8; 30] = [
-    0xff, 0xff, 0, 0x1e, 0, 0, 0, 0, 0, 0, 0x7f, 0, 0, 1, 0xbc, 0x47, 0, 2, 0, 0, 0, 0, 0x7f, 0, 0,
-    1, 0xbc, 0x48, 0, 2,
+    0xff, 0xff, 0, 0x1e, 0, 0, 0, 0, 0, 0, 2, 0x7c, 0x63, 0xc8, 0xd4, 0xdf, 0, 2, 0, 0, 0, 0, 2,
+    0x3d, 0x99, 0x6d, 0xb9, 0xd7, 0, 2,
 ];
 
 /// The router answers with its node, and the others get the ping; the core does not.
@@ -64,7 +64,7 @@ fn pings_that_the_router_leaves(rt: HostRuntime) -> Result<(), Fail> {
     let mut server = IpxnetServer::new(rt.alloc(), PORT, 64)?;
     register_all(&mut server);
     let mut bytes = PING;
-    bytes[10..16].copy_from_slice(&[10, 0, 0, 9, 0, 0xd5]);
+    bytes[10..16].copy_from_slice(&[2, 0x64, 0x6a, 0xa8, 0xbe, 0x2d]);
     assert_eq!(rt;
         server.hear(first_place(), &bytes, 0),
         Disposition::ToClient(third_place())
@@ -85,7 +85,7 @@ fn pings_that_the_router_leaves(rt: HostRuntime) -> Result<(), Fail> {
 #[test]
 fn a_ping_of_an_unknown_sender(rt: HostRuntime) -> Result<(), Fail> {
     let mut server = IpxnetServer::new(rt.alloc(), PORT, 64)?;
-    server.hear(second_place(), &REGISTRATION, 0);
+    enter(&mut server, second_place(), 0);
     assert_eq!(rt;
         give(&mut server, third_place(), &PING),
         (false, [false; 3], false)

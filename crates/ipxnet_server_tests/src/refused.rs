@@ -1,6 +1,6 @@
 //! A server is made while memory is refused.
 
-use crate::fixture::{FIRST_NODE, PORT, REGISTRATION, first_place};
+use crate::fixture::{FIRST_NODE, PORT, enter, first_place};
 use ipxnet_server::{IpxnetServer, Recipients};
 use std::test::Fail;
 
@@ -11,7 +11,7 @@ fn refused_server(rt: HostRuntime) -> Result<(), Fail> {
         Ok(server) => server,
         Err(_) => IpxnetServer::new(rt.alloc(), PORT, 64)?,
     };
-    server.hear(first_place(), &REGISTRATION, 0);
+    enter(&mut server, first_place(), 0);
     assert_eq!(rt;
         server.give(FIRST_NODE, &[0; 40], 0),
         Ok(Recipients::One(first_place()))

@@ -2,23 +2,20 @@
 
 use crate::caller::give;
 use crate::fixture::{
-    CAME, FIRST_NODE, PORT, REGISTRATION, SECOND_NODE, THIRD_NODE, first_place, packet,
-    second_place, third_place,
+    CAME, FIRST_NODE, PORT, SECOND_NODE, THIRD_NODE, enter, first_place, packet, second_place,
+    third_place,
 };
 use crate::sites::{north, south_place};
 use ipx_wire::Node;
-use ipxnet_server::{Disposition, IpxnetServer, ServerCounts, ServerDrop, ServerPort, node_of};
-use std::net::{Ipv4Addr, SocketAddrV4};
+use ipxnet_server::{
+    Disposition, IpxnetServer, Secret, ServerCounts, ServerDrop, ServerPort, node_of,
+};
+use std::net::SocketAddrV4;
 use std::test::Fail;
-
-/// The address with this number.
-fn place(number: u16) -> SocketAddrV4 {
-    SocketAddrV4::new(Ipv4Addr::new(192, 0, 2, 1), number)
-}
 
 /// What the player at an address sends to all.
 fn to_all(place: SocketAddrV4) -> [u8; 34] {
-    packet(Node::BROADCAST, 0x4001, node_of(place))
+    packet(Node::BROADCAST, 0x4001, node_of(PORT, place))
 }
 
 /// Each is a client again by what it sends, without an answer, also by what is dropped for itself.
@@ -70,44 +67,30 @@ fn a_first_packet_to_another_network(rt: HostRuntime) -> Result<(), Fail> {
     Ok(())
 }
 
-/// From any other node than the one of its address it is dropped, and makes no client.
+/// From a node of another secret, or any other than the one of its address, it is dropped, and makes
+/// no client.
 #[test]
 fn from_another_node(rt: HostRuntime) -> Result<(), Fail> {
     let mut server = IpxnetServer::new(rt.alloc(), PORT, 64)?;
-    for node in [SECOND_NODE, PORT.own, Node::BROADCAST, Node([0; 6])] {
+    let before = ServerPort {
+        secret: Secret([9; 32]),
+        ..PORT
+    };
+    let nodes = [
+        SECOND_NODE,
+        PORT.own,
+        Node::BROADCAST,
+        Node([0; 6]),
+        node_of(before, first_place()),
+    ];
+    for node in nodes {
         assert_eq!(rt;
             server.hear(first_place(), &packet(Node::BROADCAST, 0x4001, node), 0),
             Disposition::Dropped(ServerDrop::Unregistered)
         );
     }
     assert!(rt; server.clients().is_empty());
-    assert_eq!(rt; server.counts().unregistered, 4);
-    Ok(())
-}
-
-/// Ten in a second, as registrations, and together with these.
-#[test]
-fn ten_in_a_second(rt: HostRuntime) -> Result<(), Fail> {
-    let mut server = IpxnetServer::new(rt.alloc(), PORT, 150)?;
-    for number in 1..=9 {
-        server.hear(place(number), &to_all(place(number)), 0);
-    }
-    server.hear(place(10), &REGISTRATION, 0);
-    assert_eq!(rt; server.clients().len(), 10);
-    assert_eq!(rt;
-        server.hear(place(11), &to_all(place(11)), 999),
-        Disposition::Dropped(ServerDrop::TooManyNew)
-    );
-    assert_eq!(rt;
-        server.hear(place(12), &REGISTRATION, 999),
-        Disposition::Dropped(ServerDrop::TooManyNew)
-    );
-    assert_eq!(rt;
-        server.hear(place(11), &to_all(place(11)), 1000),
-        Disposition::ToOthers(place(11))
-    );
-    assert_eq!(rt; server.clients().len(), 11);
-    assert_eq!(rt; server.counts().too_many_new, 2);
+    assert_eq!(rt; server.counts().unregistered, 5);
     Ok(())
 }
 
@@ -115,8 +98,8 @@ fn ten_in_a_second(rt: HostRuntime) -> Result<(), Fail> {
 #[test]
 fn in_a_full_server(rt: HostRuntime) -> Result<(), Fail> {
     let mut server = IpxnetServer::new(rt.alloc(), PORT, 2)?;
-    server.hear(first_place(), &REGISTRATION, 0);
-    server.hear(second_place(), &REGISTRATION, 10);
+    enter(&mut server, first_place(), 0);
+    enter(&mut server, second_place(), 10);
     assert_eq!(rt;
         server.hear(third_place(), &to_all(third_place()), 59_999),
         Disposition::Dropped(ServerDrop::Full)
@@ -136,27 +119,15 @@ fn in_a_full_server(rt: HostRuntime) -> Result<(), Fail> {
     Ok(())
 }
 
-/// Nobody becomes a client by a node that is taken.
-#[test]
-fn a_node_that_is_taken(rt: HostRuntime) -> Result<(), Fail> {
-    let port = ServerPort {
-        own: FIRST_NODE,
-        ..PORT
-    };
-    let mut server = IpxnetServer::new(rt.alloc(), port, 64)?;
-    assert_eq!(rt;
-        server.hear(first_place(), &to_all(first_place()), 0),
-        Disposition::Dropped(ServerDrop::NodeTaken(FIRST_NODE))
-    );
-    assert!(rt; server.clients().is_empty());
-    Ok(())
-}
-
-/// At a joined server the node is the one that a registration would be given now: a made one, if the
-/// node of the address is known at another site.
+/// At a joined server the node is the same, and one that is known at another site is given to
+/// nobody.
 #[test]
 fn at_a_joined_server(rt: HostRuntime) -> Result<(), Fail> {
     let mut here = north(rt.alloc())?;
+    assert_eq!(rt;
+        here.hear(second_place(), &to_all(second_place()), 0),
+        Disposition::ToOthers(second_place())
+    );
     here.hear(
         south_place(),
         &packet(Node::BROADCAST, 0x4001, FIRST_NODE),
@@ -164,20 +135,9 @@ fn at_a_joined_server(rt: HostRuntime) -> Result<(), Fail> {
     );
     assert_eq!(rt;
         here.hear(first_place(), &to_all(first_place()), 1),
-        Disposition::Dropped(ServerDrop::Unregistered)
+        Disposition::Dropped(ServerDrop::NodeTaken(FIRST_NODE))
     );
-    let mut made = PORT.own;
-    made.0[4..].copy_from_slice(&first_place().port().to_be_bytes());
-    assert_eq!(rt;
-        here.hear(first_place(), &packet(Node::BROADCAST, 0x4001, made), 2),
-        Disposition::ToOthers(first_place())
-    );
-    assert_eq!(rt; here.clients()[0].node, made);
-    assert_eq!(rt;
-        here.hear(second_place(), &to_all(second_place()), 3),
-        Disposition::ToOthers(second_place())
-    );
-    assert_eq!(rt; here.clients().len(), 2);
+    assert_eq!(rt; here.clients().len(), 1);
     Ok(())
 }
 
@@ -185,7 +145,7 @@ fn at_a_joined_server(rt: HostRuntime) -> Result<(), Fail> {
 #[test]
 fn after_five_minutes(rt: HostRuntime) -> Result<(), Fail> {
     let mut server = IpxnetServer::new(rt.alloc(), PORT, 64)?;
-    server.hear(first_place(), &REGISTRATION, 0);
+    enter(&mut server, first_place(), 0);
     assert_eq!(rt;
         server.hear(first_place(), &to_all(first_place()), 300_000),
         Disposition::ToOthers(first_place())

@@ -25,6 +25,11 @@ pub const SOUTH_PORT: ServerPort = ServerPort {
     ..PORT
 };
 
+/// The addresses of the north and the west.
+pub fn sites(alloc: Global) -> Result<Vec<SocketAddrV4>, AllocError> {
+    Vec::from_slice(alloc, &[north_place(), west_place()])
+}
+
 /// The server of the north, joined to the south and the west.
 pub fn north(alloc: Global) -> Result<IpxnetServer, AllocError> {
     let routers = Vec::from_slice(alloc, &[south_place(), west_place()])?;
@@ -33,6 +38,5 @@ pub fn north(alloc: Global) -> Result<IpxnetServer, AllocError> {
 
 /// The server of the south, joined to the north and the west.
 pub fn south(alloc: Global) -> Result<IpxnetServer, AllocError> {
-    let routers = Vec::from_slice(alloc, &[north_place(), west_place()])?;
-    IpxnetServer::joined_to(alloc, SOUTH_PORT, 64, routers)
+    IpxnetServer::joined_to(alloc, SOUTH_PORT, 64, sites(alloc)?)
 }

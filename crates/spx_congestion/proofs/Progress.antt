@@ -1,19 +1,73 @@
 -- A pacer whose credit has grown for a quarter of a second lets a unit go.
-use Rattle.std.proofs.Common.{◌≡◌, ◌+◌, ◌-◌, ◌*◌, ◌/◌, ◌^◌, ◌<◌, ◌≤◌, ℕ, Bool, true, false, Some, None, arith, max, min, refl, subst, sym}
+use Rattle.std.proofs.Common.{◌≡◌, ◌+◌, ◌-◌, ◌*◌, ◌/◌, ◌^◌, ◌∙◌, ◌<◌, ◌≤◌, ℕ, Bool, true, false, Some, None, arith, max, min, refl, subst, sym}
 use Rattle.std.proofs.Math.Nat.{mul-le-mul_right}
-use Rattle.std.proofs.lemmas.Bool.{lt-ltb}
+use Rattle.std.proofs.lemmas.Bool.{lt-ltb, ltb-false, ltb-true}
 use Rattle.std.specs.Prelude.{◌&&◌, if◌then◌else◌, nat_lt}
-use Rattle.spx_congestion.specs.Pacing.{PacerView, Tends, behind, grown_credit, has_credit, is_over, missing_at, open_to, place_again, plan_of, spare, with_outstanding}
+use Rattle.spx_congestion.specs.Pacing.{GrowsCredit, PacerView, Tends, behind, credit_after, given_by, grown_credit, has_credit, is_over, missing_at, open_to, place_again, plan_of, rate_of, spare, with_outstanding}
+use Rattle.spx_congestion.specs.Saving.{HasSaved, PlansGoOn, begins, plans, hears, gives}
+use Rattle.spx_congestion.specs.declared.sent_kind.SentKind.{SentKind}
+use Rattle.spx_congestion.specs.declared.sent_kind.SentKind.TheVariants as Gaves
 
--- the credit of a quarter of a second is enough for a unit, at any rate
-enough : (rate credit gone : ℕ) → 1 ≤ rate → 256 ≤ gone → 256 ≤ min (credit + rate * gone) (max (rate * 4) 2560)
-enough rate credit gone some long =
+-- the credit grows by a 256th of a unit each millisecond at least, up to ten units
+one_at_least : (n : ℕ) → 1 ≤ max n 1
+one_at_least n = omega arith
+
+grown_by : (rate credit tick since gone : ℕ) → 1 ≤ rate → min (tick - since) 2560 ≤ credit
+    → min ((tick + gone) - since) 2560 ≤ min (credit + rate * gone) (max (rate * 4) 2560)
+grown_by rate credit tick since gone some had =
     let more : 1 * gone ≤ rate * gone = mul-le-mul_right gone some in
-    omega (arith, more, long)
+    omega (arith, more, had)
 
-grown : (rate : ℕ) (p : PacerView) (now : ℕ) → 1 ≤ rate → p.tick + 256 ≤ now → 256 ≤ grown_credit rate p now
-grown rate p now some long =
-    rw (lt-ltb p.tick now (omega (arith, long))) (enough rate p.credit (now - p.tick) some (omega (arith, long)))
+grown_if : (b : Bool) (rate credit tick now since : ℕ) → nat_lt tick now ≡ b → 1 ≤ rate → min (tick - since) 2560 ≤ credit
+    → min (max tick now - since) 2560 ≤ (if b then min (credit + rate * (now - tick)) (max (rate * 4) 2560) else credit)
+grown_if true rate credit tick now since is some had =
+    let later : tick < now = ltb-true tick now is in
+    let all : tick + (now - tick) ≡ max tick now = omega (arith, later) in
+    subst (λ (n : ℕ). min (n - since) 2560 ≤ min (credit + rate * (now - tick)) (max (rate * 4) 2560)) all
+    (grown_by rate credit tick since (now - tick) some had)
+grown_if false rate credit tick now since is some had =
+    let same : max tick now ≡ tick = (let before = ltb-false tick now is in omega (arith, before)) in
+    subst (λ (n : ℕ). min (n - since) 2560 ≤ credit) (sym same) had
+
+grows : (old new : PacerView) (now since : ℕ) → GrowsCredit old now new → min (old.tick - since) 2560 ≤ old.credit
+    → min (new.tick - since) 2560 ≤ new.credit
+grows old new now since g had =
+    let trip = new.trip.smoothed in
+    let rate = rate_of g.starting new.window trip in
+    let some : 1 ≤ rate = one_at_least ((if g.starting then new.window * 2 else new.window * 5 / 4) / max trip 1) in
+    let all = grown_if (nat_lt old.tick now) rate old.credit old.tick now since refl some had in
+    subst (λ (n : ℕ). min (new.tick - since) 2560 ≤ n) (sym g.credit)
+    (subst (λ (n : ℕ). min (n - since) 2560 ≤ grown_credit rate old now) (sym g.tick) all)
+
+given_credit : (p : PacerView) (what : SentKind) (now : ℕ) → (given_by p what now).credit ≡ credit_after p.credit what
+given_credit p Gaves.Request now = refl
+given_credit p Gaves.Unit now = refl
+given_credit p Gaves.End now = refl
+given_credit p Gaves.Again now = refl
+given_credit p Gaves.Other now = refl
+
+given_tick : (p : PacerView) (what : SentKind) (now : ℕ) → (given_by p what now).tick ≡ p.tick
+given_tick p Gaves.Request now = refl
+given_tick p Gaves.Unit now = refl
+given_tick p Gaves.End now = refl
+given_tick p Gaves.Again now = refl
+given_tick p Gaves.Other now = refl
+
+-- so a pacer that gave no unit has the credit of all the time
+saved : (p : PacerView) (since : ℕ) → HasSaved p since → min (p.tick - since) 2560 ≤ p.credit
+saved p since (begins q s before) = omega (arith, before)
+saved p since (plans old new s out now before t) = grows old new now s t.grows (saved old s before)
+saved p since (hears old new s b a joined now before heard) =
+    let had = saved old s before in
+    let credit = heard.credit.0 in
+    let tick = heard.credit.1 in
+    omega (arith, had, credit, tick)
+saved p since (gives old s what out now before free) =
+    let had = saved old s before in
+    let w = with_outstanding old out now in
+    let credit : (given_by w what now).credit ≡ old.credit = given_credit w what now ∙ free in
+    let tick : (given_by w what now).tick ≡ old.tick = given_tick w what now in
+    omega (arith, had, credit, tick)
 
 -- no unit is outstanding, or was sent again, whatever is due
 idle_if : (b : Bool) (x y : PacerView) → (x.out ≡ 0) × (x.in_flight ≡ 0) → (y.out ≡ 0) × (y.in_flight ≡ 0)
@@ -63,13 +117,18 @@ spares old new out now tends none =
 opens : (p : PacerView) → has_credit p ≡ true → place_again p ≡ None → (plan_of p).window ≡ open_to p
 opens p has none = rw has (rw none refl)
 
--- of two plans 256 ms apart the second lets a unit go
-pub goes_on : (first second between third : PacerView) (now later : ℕ) → first.tick ≤ now → now + 256 ≤ later
-    → Tends first 0 now second → between.tick ≡ second.tick → Tends between 0 later third → 0 < (plan_of third).window
-goes_on first second between third now later before long planned same plans =
-    let tick : between.tick + 256 ≤ later = omega (arith, same, planned.grows.tick, before, long) in
-    let credit : 256 ≤ third.credit =
-    subst (λ (n : ℕ). 256 ≤ n) (sym plans.grows.credit) (grown plans.grows.rate between later plans.grows.some tick) in
-    let idle = idle_of between third later plans in
-    let open_window = some_open third.out third.left third.in_flight third.window third.credit idle.0 idle.1 credit plans.wide.0 in
-    subst (λ (n : ℕ). 0 < n) (sym (opens third (lt-ltb 255 third.credit (omega (arith, credit))) (none_again third idle.0))) open_window
+-- a plan 256 ms later lets a unit go
+pub goes_on : PlansGoOn
+goes_on p new since out now before t =
+    let all = saved new since (plans p new since out now before t) in
+    let tick = t.grows.tick in
+    let credit : min (now - since) 2560 ≤ new.credit = omega (arith, all, tick) in (
+      credit,
+      λ (long : since + 256 ≤ now). lt-ltb 255 new.credit (omega (arith, credit, long)),
+      λ (long : since + 256 ≤ now) (none : out ≡ 0).
+          let tends : Tends p 0 now new = subst (λ n. Tends p n now new) none t in
+          let idle = idle_of p new now tends in
+          let has : 256 ≤ new.credit = omega (arith, credit, long) in
+          let open_window = some_open new.out new.left new.in_flight new.window new.credit idle.0 idle.1 has t.wide.0 in
+          subst (λ (n : ℕ). 0 < n) (sym (opens new (lt-ltb 255 new.credit (omega (arith, has))) (none_again new idle.0))) open_window,
+    )

@@ -9,10 +9,10 @@ same_if f false x y n p q = q
 
 -- a number of a pacer that is the same whatever is due
 kept : (f : PacerView → ℕ) (p : PacerView) (now : ℕ)
-    → f (record p { left = p.out; in_flight = 0; from = p.base; to = behind p.base 1; trip = record p.trip { doubled = min (p.trip.doubled + 1) (2 ^ 32 - 1) }; timer = Some now; mends = false; fixed_at = now; tries = 0 }) ≡ f p
+    → f (record p { left = p.out; in_flight = 0; from = p.base; to = behind p.base 1; trip = record p.trip { doubled = min (p.trip.doubled + 1) (2 ^ 32 - 1) }; timer = Some now; recover = Some (behind p.base p.out); run = 1; fixed = behind p.base 1; mends = false; fixed_at = now; tries = 0 }) ≡ f p
     → f (record p { from = p.base; to = behind p.base 1; tries = min (p.tries + 1) (2 ^ 32 - 1) }) ≡ f p → f (tended p now) ≡ f p
 kept f p now timed again =
-    let x = record p { left = p.out; in_flight = 0; from = p.base; to = behind p.base 1; trip = record p.trip { doubled = min (p.trip.doubled + 1) (2 ^ 32 - 1) }; timer = Some now; mends = false; fixed_at = now; tries = 0 } in
+    let x = record p { left = p.out; in_flight = 0; from = p.base; to = behind p.base 1; trip = record p.trip { doubled = min (p.trip.doubled + 1) (2 ^ 32 - 1) }; timer = Some now; recover = Some (behind p.base p.out); run = 1; fixed = behind p.base 1; mends = false; fixed_at = now; tries = 0 } in
     let y = record p { from = p.base; to = behind p.base 1; tries = min (p.tries + 1) (2 ^ 32 - 1) } in
     same_if f (is_over (waits_till p) now) x (if is_over (missing_at p) now then y else p) (f p) timed
     (same_if f (is_over (missing_at p) now) y p (f p) again refl)

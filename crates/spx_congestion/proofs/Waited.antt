@@ -24,7 +24,7 @@ same_timer_if false x p same = refl
 -- a timeout begins the next wait, and otherwise the wait goes on
 tended_timer : (p : PacerView) (now : ℕ) (b : Bool) → is_over (waits_till p) now ≡ b → (tended p now).timer ≡ (if b then Some now else p.timer)
 tended_timer p now b is =
-    let x = record p { left = p.out; in_flight = 0; from = p.base; to = behind p.base 1; trip = record p.trip { doubled = min (p.trip.doubled + 1) (2 ^ 32 - 1) }; timer = Some now; mends = false; fixed_at = now; tries = 0 } in
+    let x = record p { left = p.out; in_flight = 0; from = p.base; to = behind p.base 1; trip = record p.trip { doubled = min (p.trip.doubled + 1) (2 ^ 32 - 1) }; timer = Some now; recover = Some (behind p.base p.out); run = 1; fixed = behind p.base 1; mends = false; fixed_at = now; tries = 0 } in
     let y = record p { from = p.base; to = behind p.base 1; tries = min (p.tries + 1) (2 ^ 32 - 1) } in
     timed_if b (is_over (waits_till p) now) x (if is_over (missing_at p) now then y else p) p (Some now) is
     (same_timer_if (is_over (missing_at p) now) y p refl) refl
@@ -76,7 +76,7 @@ first_again base out some fits =
 pub postpones : NothingElsePostpones
 postpones p new since out now none some t past fits =
     let w = with_outstanding p out now in
-    let x = record w { left = w.out; in_flight = 0; from = w.base; to = behind w.base 1; trip = record w.trip { doubled = min (w.trip.doubled + 1) (2 ^ 32 - 1) }; timer = Some now; mends = false; fixed_at = now; tries = 0 } in
+    let x = record w { left = w.out; in_flight = 0; from = w.base; to = behind w.base 1; trip = record w.trip { doubled = min (w.trip.doubled + 1) (2 ^ 32 - 1) }; timer = Some now; recover = Some (behind w.base w.out); run = 1; fixed = behind w.base 1; mends = false; fixed_at = now; tries = 0 } in
     let y = record w { from = w.base; to = behind w.base 1; tries = min (w.tries + 1) (2 ^ 32 - 1) } in
     let timed : TimesOut p out now = over w.timer since (wait_of w) now (waited_same p.timer out now since (waits_since p since none) some) past in
     let tended_is : tended w now ≡ x = if_true (is_over (waits_till w) now) x (if is_over (missing_at w) now then y else w) timed in

@@ -6,14 +6,17 @@ use Rattle.spx_link.specs.declared.numbers.Numbers.{Numbers}
 use Rattle.spx_congestion.specs.declared.plan.Plan.{Plan}
 use Rattle.spx_congestion.specs.declared.sent_kind.SentKind.{SentKind}
 use Rattle.spx_congestion.specs.declared.sent_kind.SentKind.TheVariants as Gaves
+use Rattle.spx_congestion.specs.Asking.{is_idle}
 use Rattle.spx_congestion.specs.Measured.{IsBounded, TripView, doubled_wait, end_wait, slack}
 
 -- positions count units from 0. `out` units from `base` on are outstanding. `left` of them were received or
 -- are given up, and `in_flight` were sent again. Those from `from` up to `to` are to be sent again. The
 -- window and the credit are in 256ths of a unit, and the credit has grown until `tick`. `timer` is since when
 -- the pacer waits for an acknowledgement, if it does. `ended` is whether the end of the connection was sent.
--- While `mends` holds, units that duplicates report as missing are repaired. The first outstanding unit was
--- sent again at `fixed_at`, and was missing again `tries` times
+-- While missing units are repaired, `recover` is the position at which that ends, `run` is how many of the
+-- outstanding units may be sent again, and those up to `fixed` already were, or are to be. While `mends` holds
+-- too, those that duplicates report as missing are repaired. The first outstanding unit was sent again at
+-- `fixed_at`, and was missing again `tries` times
 pub record PacerView : Type 0 where
   pub base : ℕ
   pub out : ℕ
@@ -27,6 +30,9 @@ pub record PacerView : Type 0 where
   pub trip : TripView
   pub timer : Option ℕ
   pub ended : Bool
+  pub recover : Option ℕ
+  pub run : ℕ
+  pub fixed : ℕ
   pub mends : Bool
   pub fixed_at : ℕ
   pub tries : ℕ
@@ -51,6 +57,9 @@ made_pacer =
       trip = record { wait = 500; doubled = 0; smoothed = 500 };
       timer = None;
       ended = false;
+      recover = None;
+      run = 1;
+      fixed = 0;
       mends = false;
       fixed_at = 0;
       tries = 0;
@@ -79,17 +88,22 @@ flight p = (p.out - p.left) + p.in_flight
 abbrev pub spare : PacerView → ℕ
 spare p = p.window / 256 - flight p
 
+-- how much the credit grows in a millisecond, with this window and this round trip: twice the window a round
+-- trip in slow start, otherwise 5/4 of it, and a 256th of a unit at least
+abbrev pub rate_of : Bool → ℕ → ℕ → ℕ
+rate_of starting window trip = max ((if starting then window * 2 else window * 5 / 4) / max trip 1) 1
+
 -- the credit after it has grown until now, at a rate per millisecond: at most four milliseconds' worth, or
 -- ten units
 abbrev pub grown_credit : ℕ → PacerView → ℕ → ℕ
 grown_credit rate p now =
     if nat_lt p.tick now then min (p.credit + rate * (now - p.tick)) (max (rate * 4) 2560) else p.credit
 
--- the credit grew until now, at a rate of at least 1
+-- the credit grew until now, at the rate of the window and the round trip that the pacer has then. It may be in
+-- slow start
 pub record GrowsCredit (old : PacerView) (now : ℕ) (new : PacerView) : Type 0 where
-  pub rate : ℕ
-  pub some : 1 ≤ rate
-  pub credit : new.credit ≡ grown_credit rate old now
+  pub starting : Bool
+  pub credit : new.credit ≡ grown_credit (rate_of starting new.window new.trip.smoothed) old now
   pub tick : new.tick ≡ max old.tick now
 
 -- whether there is credit for a unit
@@ -139,7 +153,7 @@ waits_till p = option_map (λ since. behind since (wait_of p)) p.timer
 -- first. If the peer is asked often, it is missing half a second to a second after it was last sent
 abbrev pub missing_at : PacerView → Option ℕ
 missing_at p =
-    if nat_le p.to (max p.from p.base)
+    if is_idle p.base p.from p.to
     then (if asks_often p
     then Some (behind (max p.fixed_at (unwrap_or p.timer 0)) (end_wait p.trip))
     else (if p.mends then Some (behind p.fixed_at (slack p.trip * 2 ^ min p.tries 6)) else None))
@@ -183,6 +197,9 @@ tended p now =
       to = behind p.base 1;
       trip = record p.trip { doubled = min (p.trip.doubled + 1) (2 ^ 32 - 1) };
       timer = Some now;
+      recover = Some (behind p.base p.out);
+      run = 1;
+      fixed = behind p.base 1;
       mends = false;
       fixed_at = now;
       tries = 0;

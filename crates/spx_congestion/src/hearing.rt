@@ -1,11 +1,11 @@
 //! What the pacer learns from a packet that the link read.
 
-ghost use Rattle.std.specs.Prelude.{◌≡◌, ◌+◌, ◌-◌, ◌<◌, ◌≤◌, ◌⊎◌, ◌&&◌, ◌==◌, IsTrue, None, Some};
-ghost use Rattle.std.specs.Prelude.{false, true};
+ghost use Rattle.std.specs.Prelude.{◌≡◌, ◌+◌, ◌<◌, ◌⊎◌, ◌&&◌, ◌==◌, IsTrue, None, Some};
+ghost use Rattle.std.specs.Prelude.{true};
+ghost use Rattle.spx_congestion.specs.Hearing.{Acknowledges, Hears, Repairs, Repeats};
 ghost use Rattle.spx_congestion.specs.Measured.{IsBounded};
-ghost use Rattle.spx_congestion.specs.Pacing.{MendsOn, WaitsOn, behind, flight, is_double};
+ghost use Rattle.spx_congestion.specs.Pacing.{MendsOn, behind, flight};
 ghost use Rattle.spx_congestion.specs.Pacing.{waited_since};
-ghost use Rattle.spx_congestion.specs.Pacing.{with_outstanding};
 
 use crate::loss_recovery::LossRecovery;
 use crate::pacer::Pacer;
@@ -23,27 +23,7 @@ impl Pacer {
     /// after a missing one was received. Three of them mean that a unit is missing, fewer if fewer
     /// are outstanding (RFC 5681, RFC 5827).
     pub fn heard(&mut self, before: Numbers, after: Numbers, joined: bool, now: u64)
-        ensures counts { self.new.out ≡ after.out }
-        ensures acknowledged { after.out < before.out
-            → (self.new.timer ≡ waited_since None after.out now) × (self.new.trip.doubled ≡ 0) }
-        ensures waits { before.out ≤ after.out → WaitsOn self.old after.out now self.new
-            × (self.new.trip.doubled ≡ self.old.trip.doubled) }
-        // If nothing is acknowledged and nothing taken out of flight, the wait is as it was.
-        ensures still { before.out ≤ after.out
-            → flight (with_outstanding self.old after.out now) ≤ flight self.new
-            → self.new.timer ≡ waited_since self.old.timer after.out now }
-        ensures timed { IsBounded self.new.trip }
-        // Only an acknowledgement, or the reply to the request, changes how long it waits.
-        ensures trip { joined ≡ false → before.out ≤ after.out → self.new.trip ≡ self.old.trip }
-        ensures counted { before.out ≤ after.out → is_double before after ≡ false
-            → self.new ≡ record (with_outstanding self.old after.out now) { trip = self.new.trip } }
-        ensures mends { MendsOn self.old now self.new }
-        ensures ended { self.new.ended ≡ self.old.ended }
-        // `base` moves past what is acknowledged, and otherwise stays.
-        ensures base { after.out < before.out
-            → self.new.base ≡ behind self.old.base (before.out - after.out) }
-        ensures stays { before.out ≤ after.out → self.new.base ≡ self.old.base }
-        ensures credit { (self.new.credit ≡ self.old.credit) × (self.new.tick ≡ self.old.tick) }
+        ensures { Hears self.old before after joined now self.new }
     {
         if joined {
             self.answered(now);
@@ -81,6 +61,7 @@ impl Pacer {
         ensures mends { MendsOn self.old now self.new }
         ensures ended { self.new.ended ≡ self.old.ended }
         ensures timed { IsBounded self.new.trip }
+        ensures moves { Acknowledges self.old units out now self.new }
     {
         if self.dup_acks == 0 && !self.repair.is_on() {
             self.measure(units, now);
@@ -133,6 +114,8 @@ impl Pacer {
         ensures trip { self.new.trip ≡ self.old.trip }
         ensures ended { self.new.ended ≡ self.old.ended }
         ensures mends { MendsOn self.old now self.new }
+        ensures repairs { self.old.recover ≡ Some recover
+            → Repairs recover self.old now self.new }
     {
         self.in_flight = self.in_flight.saturating_sub(1);
         if self.base >= recover {
@@ -159,6 +142,7 @@ impl Pacer {
         ensures ended { self.new.ended ≡ self.old.ended }
         ensures mends { MendsOn self.old now self.new }
         ensures timed { IsBounded self.new.trip }
+        ensures repeats { Repeats self.old now self.new }
     {
         if self.ignore > 0 {
             self.ignore -= 1;
@@ -214,6 +198,9 @@ impl Pacer {
           from = self.old.base;
           to = behind self.old.base 1;
           window = self.new.window;
+          recover = Some (behind self.old.base self.old.out);
+          run = 1;
+          fixed = behind self.old.base 1;
           mends = true;
           fixed_at = now;
           tries = 0;

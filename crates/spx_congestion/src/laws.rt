@@ -1,18 +1,15 @@
 //! Theorems about pacers, from their contracts alone.
 
-ghost use Rattle.std.specs.Prelude.{ℕ, ◌≡◌, ◌+◌, ◌<◌, ◌≤◌};
-ghost use Rattle.spx_congestion.specs.Pacing.{PacerView, Tends, plan_of};
+ghost use Rattle.spx_congestion.specs.Saving.{PlansGoOn};
 ghost use Rattle.spx_congestion.specs.Timeouts.{GivesUpAfterTen};
 ghost use Rattle.spx_congestion.specs.Waiting.{NothingElsePostpones, TimeoutsLast};
 ghost use Rattle.spx_congestion.specs.Waiting.{WaitsAreBounded};
 
-/// A unit that is held back only for lack of credit is sent a quarter of a second later. If nothing
-/// is outstanding, then of two plans 256 ms apart the second allows a unit, whatever is received or
-/// sent between them.
+/// A unit that is held back only for lack of credit is sent a quarter of a second later. However
+/// often the pacer plans, 256 ms after a plan it has credit for a unit, if none was given since. If
+/// nothing is outstanding, it allows one.
 pub fn plans_go_on()
-    ensures { (first second between third : PacerView) (now later : ℕ) → first.tick ≤ now
-        → now + 256 ≤ later → Tends first 0 now second → between.tick ≡ second.tick
-        → Tends between 0 later third → 0 < (plan_of third).window }
+    ensures { PlansGoOn }
 {}
 
 /// A connection is given up exactly after ten timeouts in a row, since anything new was

@@ -1,6 +1,7 @@
 //! The end of a repair.
 
-ghost use Rattle.std.specs.Prelude.{◌≡◌};
+ghost use Rattle.std.specs.Prelude.{ℕ, ◌≡◌, ◌≤◌, ◌⊎◌, IsTrue, Some};
+ghost use Rattle.spx_congestion.specs.Hearing.{BeginsRepair, EndsRepair};
 ghost use Rattle.spx_congestion.specs.Pacing.{MendsOn};
 
 use crate::loss_recovery::LossRecovery;
@@ -22,6 +23,9 @@ impl Pacer {
         ensures trip { self.new.trip ≡ self.old.trip }
         ensures ended { self.new.ended ≡ self.old.ended }
         ensures mends { MendsOn self.old now self.new }
+        // The repair ends, or the next one begins.
+        ensures ends { (end : ℕ) → self.old.recover ≡ Some end → EndsRepair self.old self.new
+            ⊎ (IsTrue self.old.mends × (3 ≤ self.old.left) × BeginsRepair self.old now self.new) }
     {
         let blind = self.repair.messy || self.repair.timed;
         self.repair = LossRecovery::new();

@@ -1,7 +1,8 @@
 //! Retransmission: which units are to be sent again, and which were.
 
-ghost use Rattle.std.specs.Prelude.{◌≡◌, ◌+◌, ◌-◌, ◌*◌, ◌^◌, ◌&&◌, Some, None, if◌then◌else◌, is_some, max, min, nat_le};
+ghost use Rattle.std.specs.Prelude.{◌≡◌, ◌+◌, ◌-◌, ◌*◌, ◌^◌, ◌&&◌, Some, None, if◌then◌else◌, is_some, min};
 ghost use Rattle.std.specs.Prelude.{◌⊎◌, false, not};
+ghost use Rattle.spx_congestion.specs.Asking.{AsksUpTo, RunsAhead, RunsOn, asked_by, is_idle};
 ghost use Rattle.spx_congestion.specs.Pacing.{behind};
 
 /// The state of a repair. Positions count units from 0.
@@ -40,8 +41,10 @@ impl LossRecovery {
     /// Nothing is being repaired.
     pub fn new() -> LossRecovery
         ensures off { result.recover ≡ None }
+        ensures run { result.run ≡ 1 }
         ensures from { result.from ≡ 0 }
         ensures to { result.to ≡ 0 }
+        ensures fixed { result.fixed ≡ 0 }
         ensures fixed_at { result.fixed_at ≡ 0 }
         ensures tries { result.tries ≡ 0 }
     {
@@ -63,8 +66,10 @@ impl LossRecovery {
     /// A repair that begins with the unit at `base`, and ends at `next`.
     pub fn begin(base: u64, next: u64, now: u64) -> LossRecovery
         ensures on { result.recover ≡ Some next }
+        ensures run { result.run ≡ 1 }
         ensures from { result.from ≡ base }
         ensures to { result.to ≡ behind base 1 }
+        ensures fixed { result.fixed ≡ behind base 1 }
         ensures fixed_at { result.fixed_at ≡ now }
         ensures tries { result.tries ≡ 0 }
         ensures timed { result.timed ≡ false }
@@ -93,7 +98,7 @@ impl LossRecovery {
 
     /// Whether nothing that is outstanding from `base` on is to be sent again.
     pub fn is_idle(&self, base: u64) -> bool
-        ensures { result ≡ nat_le self.now.to (max self.now.from base) }
+        ensures { result ≡ is_idle base self.now.from self.now.to }
     {
         self.to <= self.from.max(base)
     }
@@ -110,6 +115,10 @@ impl LossRecovery {
         ensures timed { self.new.timed ≡ self.old.timed }
         ensures tries { self.new.tries ≡ 0 }
         ensures fixed_at { (self.new.fixed_at ≡ now) ⊎ (self.new.fixed_at ≡ self.old.fixed_at) }
+        ensures runs { RunsOn (not self.old.timed) (recover - base) (recover - base - left)
+            self.old.run self.new.run }
+        ensures asks { AsksUpTo base (min (behind base self.new.run) recover) now
+            (asked_by self.old) (asked_by self.new) }
     {
         self.tries = 0;
         let wanted = recover.saturating_sub(base);
@@ -126,7 +135,8 @@ impl LossRecovery {
     /// sixth of `wanted`, if many are. If there was a queue, twice as many as are missing, if that
     /// is more, since every second unit beyond a line's capacity is lost.
     fn choose_run(&mut self, wanted: u64, missing: u64)
-        ensures { self.new ≡ record self.old { run = self.new.run; messy = self.new.messy } }
+        ensures value { self.new ≡ record self.old { run = self.new.run; messy = self.new.messy } }
+        ensures runs { (self.new.run ≡ 1) ⊎ RunsAhead wanted missing self.new.run }
     {
         let many = self.crowded || missing.saturating_mul(6) > wanted;
         if missing > 6 && many {
@@ -147,7 +157,10 @@ impl LossRecovery {
         ensures recover { self.new.recover ≡ self.old.recover }
         ensures timed { self.new.timed ≡ self.old.timed }
         ensures tries { self.new.tries ≡ self.old.tries }
+        ensures run { self.new.run ≡ self.old.run }
         ensures fixed_at { (self.new.fixed_at ≡ now) ⊎ (self.new.fixed_at ≡ self.old.fixed_at) }
+        ensures asks { AsksUpTo base (min (behind base self.old.run) recover) now
+            (asked_by self.old) (asked_by self.new) }
     {
         let was_idle = self.is_idle(base);
         let first = self.fixed.max(base);
@@ -170,7 +183,7 @@ impl LossRecovery {
     /// round trip and its tolerance, which doubles each time. None if others are to be sent first.
     pub fn missing_at(&self, base: u64, slack: u64) -> Option<u64>
         ensures { result ≡ (if is_some self.now.recover && not self.now.timed
-            && nat_le self.now.to (max self.now.from base)
+            && is_idle base self.now.from self.now.to
             then Some (behind self.now.fixed_at (slack * 2 ^ min self.now.tries 6)) else None) }
     {
         if !self.is_on() || self.timed || !self.is_idle(base) {

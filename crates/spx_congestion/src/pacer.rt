@@ -2,7 +2,7 @@
 
 ghost use Rattle.std.specs.Prelude.{◌≡◌, ◌&&◌, IfOk, is_some, not};
 ghost use Rattle.spx_congestion.specs.Measured.{IsBounded, trip_of};
-ghost use Rattle.spx_congestion.specs.Pacing.{PacerView, flight, made_pacer, place_again};
+ghost use Rattle.spx_congestion.specs.Pacing.{PacerView, behind, flight, made_pacer, place_again};
 ghost use Rattle.spx_congestion.specs.Pacing.{with_outstanding};
 
 use crate::loss_recovery::LossRecovery;
@@ -72,6 +72,9 @@ impl Model for Pacer {
       trip = trip_of p.trip;
       timer = p.timer;
       ended = p.ended;
+      recover = p.repair.recover;
+      run = p.repair.run;
+      fixed = p.repair.fixed;
       mends = is_some p.repair.recover && not p.repair.timed;
       fixed_at = p.repair.fixed_at;
       tries = p.repair.tries;
@@ -111,7 +114,9 @@ impl Pacer {
     }
 
     /// The position of the next new unit.
-    pub(crate) fn next(&self) -> u64 {
+    pub(crate) fn next(&self) -> u64
+        ensures { result ≡ behind self.now.base self.now.out }
+    {
         self.base.saturating_add(u64::from(self.out))
     }
 

@@ -1,6 +1,7 @@
 //! The window: how many units may be in flight, in 256ths of a unit.
 
-ghost use Rattle.std.specs.Prelude.{◌≡◌, ◌<◌, ◌≤◌, ◌^◌};
+ghost use Rattle.std.specs.Prelude.{◌≡◌, ◌<◌, ◌≤◌, ◌^◌, nat_lt};
+ghost use Rattle.spx_congestion.specs.Pacing.{rate_of};
 
 use crate::cubic::{grows_in, window_at};
 use crate::round_trip::RoundTrip;
@@ -67,7 +68,9 @@ impl Window {
     }
 
     /// Whether it is in slow start.
-    pub fn is_starting(&self) -> bool {
+    pub fn is_starting(&self) -> bool
+        ensures { result ≡ nat_lt self.now.size self.now.threshold }
+    {
         self.size < self.threshold
     }
 
@@ -218,7 +221,8 @@ impl Window {
     /// By how much credit grows in a millisecond, in 256ths of a unit. In slow start it is twice
     /// what a round trip carries, otherwise five quarters of it.
     pub fn rate(&self, trip: u64) -> u64
-        ensures some { 1 ≤ result }
+        ensures value { result
+            ≡ rate_of (nat_lt self.now.size self.now.threshold) self.now.size trip }
         ensures bound { result < 2 ^ 62 }
     {
         let ahead = if self.is_starting() {

@@ -20,8 +20,8 @@
 //! `step_laws` is the way from a network in memory to scenes. `specs/` says what a network of hosts
 //! holds (`World`) and, in the words of the contracts of `spx_messages`, what each event does to it
 //! (`HostSteps`, `EndCalls`, `Routers`, `WorldStep`). Each step is a list of deeds, so the theorems hold
-//! of every world that steps come to. What routers hold, faults and want of memory are no part of a
-//! world.
+//! of every world that steps come to. What routers hold, faults, and memory that runs out are no
+//! part of a world.
 //!
 //! `round_laws` says that no state that two ends of a network reach is one that they cannot get out of.
 //! `specs/` has rounds (`LosslessRounds`), a network that loses nothing for a moment; what they do to

@@ -1,6 +1,7 @@
 """Stations at the ends of wires, for `wires`: what a router answers and hands on, byte by byte in each encapsulation,
 what it keeps back and counts, and what goes on from one end of a wire to others."""
 import random
+import re
 import signal
 import struct
 import time
@@ -275,9 +276,13 @@ def check_told(it, strangers):
     wrong = {name: (found.get(name), value) for name, value in wanted.items() if found.get(name) != value}
     it.wires.check("all that came is counted, each by what became of it", not wrong,
                    f"(found, wanted): {wrong}" if wrong else f"{len(wanted)} figures")
-    words = "RIP or SAP with a group or zero source node, the last from "
-    told = until(lambda: any(words in line for line in it.router.process.said()), 15)
-    it.wires.check("the router tells who has a group for its source", told, "" if told else str(it.router.process.said()[-3:]))
+    groups = re.compile("RIP or SAP with a group or zero source node, the last from ")
+    ip, udp_port = it.stranger.socket.getsockname()
+    unknown = re.compile(r"\d datagrams to an Ethernet port from unknown senders \(\d+ since the start\), the last from "
+                         + f"({re.escape(ip)}|{re.escape(HOST)}):{udp_port}$")
+    for what, words in (("who has a group for its source", groups), ("from where strangers send", unknown)):
+        told = until(lambda words=words: any(words.search(line) for line in it.router.process.said()), 15)
+        it.wires.check(f"the router tells {what}", told, "" if told else str(it.router.process.said()[-3:]))
     ends = [end for ends in it.ends.values() for end in ends]
 
     def taken():

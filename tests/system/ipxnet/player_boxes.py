@@ -7,7 +7,7 @@ import signal
 import subprocess
 import time
 
-from player_world import EVERYBODY, NETWORKS, Client, two_routers
+from player_world import EVERYBODY, NETWORKS, Client, place_of, two_routers
 from site_packets import ipx
 from site_world import TOP, free_port, until
 from wire_deploy import blocks
@@ -19,6 +19,8 @@ ROUTERS, LOBBIES, CLOSED = ["127.0.6.21", "127.0.6.22"], ["127.0.6.23", "127.0.6
 SOCKET = "4001"
 # An emulator that is slow, or a machine that is loaded, gets so long; and what comes twice would come so soon.
 SECONDS, QUIET = 30, 0.4
+# Who registered, and has shown nothing, gets a ping after 5.5 seconds. By its answer DOSBox is a client.
+ASK_SECONDS = 6.5
 # A folder is the disk, STEP what is done next, and then PLAY until it is told to end.
 SETTINGS = """[sdl]
 output=surface
@@ -140,7 +142,7 @@ def shown(node):
 def told_port():
     """The port for players of docs/PLAYERS.md, which the file of examples/ has too."""
     text, = blocks("Let in only your friends", "toml", os.path.join(TOP, "docs/PLAYERS.md"))
-    return text
+    return text[text.index("[[port]]"):]
 
 
 def table(text, network, place, peers, **more):
@@ -185,9 +187,15 @@ class Boxes:
     def connected(self, box, network):
         """Whether a box has connected to a port of this network."""
         good = (box.listens() and f"connected to server at {box.place[0]}" in box.said("CONNECT")
-                and (box.network, box.node[:8]) == (network, "7f000001"))
+                and box.network == network and place_of(box.node, network))
         return self.run.check(f"DOSBox {box.name} connects, and its program has the network and node that it was told", good,
                               "" if good else f"{box.said('CONNECT')} {box.read('OWN').hex()} {box.process.said()[-1:]}")
+
+    def all_connected(self, boxes):
+        """Whether boxes have connected, each to a port of a network, and had the time to answer the ping that follows."""
+        good = [self.connected(*it) for it in boxes]
+        time.sleep(ASK_SECONDS)
+        return all(good)
 
     def end(self, boxes):
         """The boxes and the routers end."""
@@ -200,8 +208,8 @@ class Boxes:
 
     def old_place(self, box):
         """A client at the place that a box had."""
-        ip, port = shown(box.node)
-        return lambda: Client((ip, port), box.place)
+        old, server = place_of(box.node, box.network), box.place
+        return lambda: Client(old, server)
 
 
 def check_programs(it):
@@ -241,7 +249,7 @@ def check_again(it):
         old = it.old_place(box)
         begin(it, box, other)
         box = getattr(it, name)
-        it.connected(box, other.network)
+        it.all_connected([(box, other.network)])
         places.append(old())
         it.run.check(f"{name} has another node then", box.node != node, box.node)
         packet = other.send((other.network, EVERYBODY), b"to all, again", [box, other])
@@ -294,8 +302,7 @@ def check_boxes(run):
     if run.lacks("DOSBox", "dosbox", "nasm"):
         return
     it = Boxes(run)
-    good = [it.connected(box, network) for box, network in zip(it.boxes, NETWORKS[:1] * 2 + NETWORKS[1:] * 2)]
-    if not all(good):
+    if not it.all_connected(zip(it.boxes, NETWORKS[:1] * 2 + NETWORKS[1:] * 2)):
         for one in [*it.boxes, it.closed, *it.routers]:
             one.process.end()
         return

@@ -9,9 +9,9 @@ import sys
 import time
 
 from player_world import (EVERYBODY, NETWORKS, REGISTRATION, ROUTER_NODE, STATUS_SECONDS, Client, Router, answer_to, join_line,
-                          lobby_table)
+                          lobby_table, shows)
 from site_packets import ipx
-from site_world import Watch, die_with_the_parent, free_port, until
+from site_world import Watch, die_with_the_parent, free_port, listed, until
 
 FORGED_AT, FLOODED_AT = "127.0.6.41", "127.0.6.42"
 PLAYERS, FORGER, STRANGER, MANY = ["127.0.6.43", "127.0.6.44"], "127.0.6.45", "127.0.6.46", "127.0.6.47"
@@ -19,9 +19,16 @@ FLOODERS, PACE = ["127.0.6.48", "127.0.6.49", "127.0.6.50", "127.0.6.51"], "127.
 JOINED_FLOODER = "127.0.6.53"
 NETWORK = NETWORKS[0]
 FORGERIES = 500
-# Of so many places that register, so many find room beside those that are there, ten in a second.
-PLACES, ROOM_FOR, IN_A_SECOND = 1_000, 20, 10
+# Of so many places of one IP address that register, so many can be clients. One of another IP address can be too.
+PLACES, OF_ADDRESS, OTHER = 1_000, 16, "127.0.6.54"
+ROOM_FOR = OF_ADDRESS + 1
 PER_TURN, REGISTER_SECONDS = 20, 3.5
+# The last ping of who registered and shows nothing comes 8.5 seconds after that.
+ASK_SECONDS = 9.5
+# One host that registers so often from so many places, while another waits for its first ping. Every few seconds somebody
+# registers in the name of the second one too: to the router a forged datagram is one from its socket.
+NOTED_AT, SILENT, TALKER, REGISTERS = "127.0.6.55", "127.0.6.56", "127.0.6.57", "127.0.6.58"
+REGISTERS_FROM, REGISTERS_EACH_SECOND, REGISTERS_SECONDS, IN_ITS_NAME_SECONDS = 70, 15, 10, 4
 PER_SECOND, SECONDS, PLAYED, AT_ONCE = 10_000, 10, 400, 64
 # So many datagrams are a flood, at this share of the rate or more, without the time for which the machine denied a processor
 # to the router or to who sends.
@@ -46,10 +53,11 @@ def wait_for(client, seconds=2):
 
 
 def registered(place, server, router=ROUTER_NODE):
-    """A client that is answered by a router of this node."""
+    """A client that is answered by a router of this node, and has shown its own."""
     client = Client(place, server, [router])
     client.send(REGISTRATION)
     client.is_answered = wait_for(client) == [answer_to(NETWORK, client.node, router)]
+    client.send(shows(client.node, router))
     client.got = []
     return client
 
@@ -105,19 +113,13 @@ class Forged:
     def __init__(self, run):
         self.run = run
         self.place = (FORGED_AT, free_port([FORGED_AT, FLOODED_AT]))
-        more = f'accept = "any"\nclients = {ROOM_FOR + 3}\n'
+        more = f'accept = "any"\nclients = {ROOM_FOR + 4}\n'
         self.router = Router(run, "spoofed_source", [lobby_table(NETWORK, self.place, more)])
         self.pair = Pair([registered((ip, 0), self.place) for ip in PLAYERS])
         self.forger, self.stranger = registered((FORGER, 0), self.place), Client((STRANGER, 0), self.place)
         run.check("two players and a third one are answered", all(it.is_answered for it in [*self.pair.clients, self.forger]))
-        # Behind it they are none of those who registered within a second.
-        self.quiet_until = time.monotonic() + 1.1
         self.forged = 0
 
-    def refused(self):
-        """How many registrations were refused, by the figures."""
-        figures = self.run.world.figures(f"{self.router.name}.prom")
-        return sum(figures.get(dropped_for(reason), 0) for reason in ("full", "too_many_new"))
 
 
 def in_name_of(name, to):
@@ -161,7 +163,7 @@ class Many:
         _, most = resource.getrlimit(resource.RLIMIT_NOFILE)
         resource.setrlimit(resource.RLIMIT_NOFILE, (most, most))
         self.it, self.sent, self.answers = it, 0, collections.Counter()
-        self.wrong, self.quick, self.began = [], 0, None
+        self.wrong, self.began = [], None
         self.clients = [Client((MANY, 0), it.place) for _ in range(PLACES)]
         self.by_file = {client.socket.fileno(): client for client in self.clients}
         self.poll = select.epoll()
@@ -177,17 +179,14 @@ class Many:
         self.take()
 
     def take(self):
-        played = set(self.it.pair.sent[0][-20:] + self.it.pair.sent[1][-20:])
         for number, _ in self.poll.poll(0):
             client = self.by_file[number]
             for packet in client.take():
                 if packet == answer_to(NETWORK, client.node):
                     self.answers[client.node] += 1
-                elif client.node not in self.answers or packet not in played:
+                else:
                     self.wrong.append(packet)
             client.got = []
-        if time.monotonic() < self.began + 0.95:
-            self.quick = len(self.answers)
 
     def end(self):
         for client in self.clients:
@@ -196,8 +195,8 @@ class Many:
 
 
 def check_many(it):
-    """The players go on, and of those that register ten in a second are answered, until there is no more room."""
-    until(lambda: time.monotonic() > it.quiet_until, 2)
+    """Registrations make no client: each is answered, and nothing else comes but two pings. Of those that then show their nodes
+    as many are clients as one IP address may have, and one of another is too."""
     many, turns = Many(it), 0
     while turns < 10 or time.monotonic() < many.began + REGISTER_SECONDS:
         many.turn()
@@ -207,25 +206,83 @@ def check_many(it):
             break
     it.run.check(f"while {PLACES} places register, {many.sent} times, each packet of the players comes",
                  it.pair.is_whole(), f"{turns} packets, {it.pair.missing()} missing")
-    until(lambda: many.take() or len(many.answers) > ROOM_FOR, 0.3)
-    known = len(many.answers)
-    it.run.check(f"{IN_A_SECOND} are answered in the first second, and {ROOM_FOR} in all, as many as there is room for",
-                 many.quick <= IN_A_SECOND and known == ROOM_FOR, f"{many.quick} and {known}")
-    it.run.check("nothing else comes to any of them", not many.wrong, str(many.wrong[:1] or ""))
+    until(lambda: many.take() or sum(many.answers.values()) >= many.sent, 2)
+    answered = sum(many.answers.values())
+    it.run.check("each registration is answered", answered == many.sent and len(many.answers) == PLACES,
+                 f"{answered} of {many.sent}")
+    until(lambda: many.take() or time.monotonic() > many.began + REGISTER_SECONDS + ASK_SECONDS, 30)
+    pings = sum(len(client.pinged) for client in many.clients)
+    most = max(len(client.pinged) for client in many.clients)
+    it.run.check("to who shows nothing come two pings after the last registration at most, and nothing else",
+                 0 < pings and most <= 2 and not many.wrong, f"{pings} pings, at most {most}, {many.wrong[:1]}")
+    for client in many.clients:
+        client.send(shows(client.node))
+    other = registered((OTHER, 0), it.place)
+    it.run.check("after that one of another IP address is answered", other.is_answered)
+    it.pair.send(1)
+    it.pair.send(0)
+    packet = ipx(4, (NETWORK, other.node, "4001"), (NETWORK, it.pair.clients[0].node, "4001"), b"to the other")
+    it.pair.clients[0].send(packet)
+    it.run.check("and is a client", until(lambda: packet in other.take(), 5) and it.pair.all_came())
+    many.other = other
     many.end()
     return many
 
 
+def answers_pings(client):
+    """What came to a client, which answers each ping of its router as DOSBox does."""
+    before = len(client.pinged)
+    got = client.take()
+    for _ in client.pinged[before:]:
+        client.send(shows(client.node))
+    return got
+
+
+def check_notes(run):
+    """A host that registers all the time, from many places and in its name, keeps nobody out who only listens."""
+    place = (NOTED_AT, free_port([NOTED_AT]))
+    router = Router(run, "noted", [lobby_table(NETWORK, place, listed("peers", [SILENT, TALKER, REGISTERS]))])
+    talker, silent = registered((TALKER, 0), place), Client((SILENT, 0), place)
+    hosts = [Client((REGISTERS, 0), place) for _ in range(REGISTERS_FROM)]
+    silent.send(REGISTRATION)
+    is_answered = wait_for(silent) == [answer_to(NETWORK, silent.node)]
+    run.check("a player who only listens and one who talks are answered", talker.is_answered and is_answered)
+    silent.got, sent, in_its_name, start = [], 0, 0, time.monotonic()
+    while (passed := time.monotonic() - start) < REGISTERS_SECONDS:
+        if passed > (in_its_name + 1) * IN_ITS_NAME_SECONDS:
+            silent.send(REGISTRATION)
+            in_its_name += 1
+        while sent < passed * REGISTERS_EACH_SECOND:
+            hosts[sent % REGISTERS_FROM].send(REGISTRATION)
+            sent += 1
+        select.select([silent.socket], [], [], 0.02)
+        answers_pings(silent)
+        for client in hosts:
+            client.take()
+    answered = sum(client.got.count(answer_to(NETWORK, client.node)) for client in hosts)
+    answers = silent.got.count(answer_to(NETWORK, silent.node))
+    run.check(f"another host registers {sent} times from {REGISTERS_FROM} places, and {in_its_name} times in the name of who only "
+              "listens, and is answered", answered == sent and answers == in_its_name, f"{answered} of {sent}, {answers}")
+    packet = ipx(4, (NETWORK, EVERYBODY, "4001"), (NETWORK, talker.node, "4001"), b"who only listens?")
+    talker.send(packet)
+    run.check("who only listens was pinged meanwhile, and what the other sends to all comes to it",
+              until(lambda: packet in answers_pings(silent), 2) and silent.pinged, f"{len(silent.pinged)} pings")
+    wanted = {'ipx_ipxnet_clients{port="1"}': 2}
+    found = router.figures(wanted)
+    run.check("these two are players, and nobody of that host is", found == wanted, "" if found == wanted else str(found))
+    said = f"client {silent.place[0]}:{silent.place[1]} connected as {silent.node}"
+    run.check("the log says that it connected", said in "\n".join(router.process.said()), "\n".join(router.process.said()))
+    end_all(run, router, [talker, silent, *hosts])
+
+
 def check_counts(it, many):
     """What was forged and who found no room is counted."""
-    answered = sum(many.answers.values())
-    until(lambda: answered + it.refused() == many.sent, STATUS_SECONDS)
-    it.run.check("each one that is not answered is counted", answered + it.refused() == many.sent,
-                 f"{answered} answers, {it.refused()} refused, of {many.sent}")
     found = it.router.figures(wanted := {
         dropped_for("other_source"): it.forged, dropped_for("unregistered"): it.forged,
+        dropped_for("full_of_address"): PLACES - OF_ADDRESS, dropped_for("full"): 0,
         'ipx_ipxnet_clients{port="1"}': ROOM_FOR + 3})
-    it.run.check("what was forged is counted", found == wanted, "" if found == wanted else str(found))
+    it.run.check("what was forged, and who found no room, is counted", found == wanted, "" if found == wanted else str(found))
+    many.other.end()
 
 
 def some_datagram(rng, nodes):
@@ -389,3 +446,4 @@ def check_hostile(run):
     check_flood(run, Flooded(run, forged.place[1]), "", REASONS)
     check_counts(forged, many)
     end_all(run, forged.router, [*forged.pair.clients, forged.forger, forged.stranger])
+    check_notes(run)

@@ -10,7 +10,7 @@ from player_boxes import Box, Boxes, shown, table
 from player_hostile import (FLOODED_AT, JOINED_FLOODER, Flooded, Pair, check_flood, dropped_for, end_all, forgeries, in_name_of,
                             registered)
 from player_world import (EVERYBODY, NETWORKS, REGISTRATION, STATUS_SECONDS, Client, Router, answer_to, join_line, lobby_table,
-                          notice_of)
+                          shows, to_itself)
 from site_packets import ipx
 from site_world import TOP, free_port, listed, until
 from wire_world import node_of_place, text_of
@@ -88,10 +88,11 @@ class Sites:
         return [self.sites[it] for name, some in self.sites.items() if some is site for it in self.names[name]]
 
     def register(self, client):
-        """A client registers, which the routers that its router names are told."""
+        """A client registers, and shows its node, of which joined routers are told nothing."""
         client.send(REGISTRATION)
+        client.send(shows(client.node, client.site.own))
         client.wanted.append(answer_to(NETWORK, client.node, client.site.own))
-        client.site.sent += 1 + len(list(self.others(client.site)))
+        client.site.sent += 1
 
     def to_all(self, giver, packet, answer=None):
         """A client sends to all nodes, or pings."""
@@ -137,6 +138,8 @@ class Sites:
         for client in self.clients:
             self.to_all(client, ipx(4, (NETWORK, EVERYBODY, "4001"), (NETWORK, client.node, "4001"), b"to all"))
             self.settle()
+        # Each router that hears another knows of its clients by now.
+        for client in self.clients:
             for other in self.clients:
                 if other is not client:
                     self.to_one(client, other)
@@ -242,7 +245,7 @@ def check_left(it, box, begin):
     node, old_place, name = box.node, it.old_place(box), box.name
     begin(it, box)
     box = getattr(it, name)
-    it.connected(box, NETWORK)
+    it.all_connected([(box, NETWORK)])
     it.run.check(f"{name} has another node then", box.node != node, box.node)
     old = old_place()
     giver = it.a if box.place == it.places[1] else it.c
@@ -277,7 +280,7 @@ def check_joined_boxes(run):
     if run.lacks("DOSBox at joined routers", "dosbox", "nasm"):
         return
     it = JoinedBoxes(run)
-    if not all([it.connected(box, NETWORK) for box in it.boxes]):
+    if not it.all_connected([(box, NETWORK) for box in it.boxes]):
         for one in [*it.boxes, *it.routers]:
             one.process.end()
         return
@@ -342,7 +345,7 @@ class Guarded:
 
 def check_strangers(it):
     """Who is at no place that is joined reaches nobody, in whatever name."""
-    forged = forgeries(it.pair, *it.owns, "0a0000000001") + [notice_of(NETWORK, client.node) for client in it.pair.clients]
+    forged = forgeries(it.pair, *it.owns, "0a0000000001") + [to_itself(NETWORK, client.node) for client in it.pair.clients]
     for number in range(TURNS):
         it.turn(number, [(stranger, [forged, forged]) for stranger in it.strangers])
     it.forged = TURNS * len(forged)
@@ -354,7 +357,7 @@ def check_strangers(it):
 
 def check_own_names(it):
     """A joined router that sends in the name of a router and of its client is not heard; these get what is for them."""
-    forged = [[*in_name_of(client.node, client.node), *in_name_of(own, client.node), notice_of(NETWORK, client.node)]
+    forged = [[*in_name_of(client.node, client.node), *in_name_of(own, client.node), to_itself(NETWORK, client.node)]
               for client, own in zip(it.pair.clients, it.owns)]
     it.third.take()
     it.third.got = []
@@ -370,11 +373,14 @@ def check_own_names(it):
 
 
 def check_far_name(it):
-    """A joined router that tells the node of a client of another one gets what is for it, until that one is heard again."""
+    """A joined router that sends in the name of a client of another one gets what is for it, until that one is heard again."""
     near, far = it.pair.clients
     packets = [ipx(4, (NETWORK, far.node, "4001"), (NETWORK, near.node, "4001"), body) for body in (b"claimed", b"back")]
     it.third.got = []
-    it.third.send(notice_of(NETWORK, far.node))
+    claim = ipx(4, (NETWORK, near.node, "4001"), (NETWORK, far.node, "4001"), b"claim")
+    it.pair.sent[1].append(claim)
+    it.third.send(claim)
+    until(lambda: it.pair.take() or it.pair.missing() == 0, 5)
     near.send(packets[0])
     until(it.third.take, 5)
     it.turn(1, [])
@@ -383,7 +389,7 @@ def check_far_name(it):
     good = it.pair.all_came() and it.is_whole()
     came = [packet for packet in it.third.take() if packet[10:16].hex() != EVERYBODY]
     good = good and came == packets[:1]
-    it.run.check("where it tells the node of a client at another router, what is for that comes to it alone, and goes back to the "
+    it.run.check("where it sends in the name of a client at another router, what is for that comes to it alone, and goes back to the "
                  "client as that one sends", good, "" if good else f"{it.pair.missing()} missing, {came}")
 
 

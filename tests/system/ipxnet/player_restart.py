@@ -1,10 +1,11 @@
 """A router that is killed and started again under two who play, and pings to silent clients, for `players`."""
+import os
 import signal
 import time
 
 from player_boxes import Box
 from player_hostile import Pair, dropped_for, registered, wait_for
-from player_world import EVERYBODY, NETWORKS, ROUTER_NODE, Client, Router, lobby_table
+from player_world import EVERYBODY, NETWORKS, REGISTRATION, ROUTER_NODE, Client, Router, lobby_table
 from site_packets import ipx
 from site_world import free_port, until
 
@@ -116,8 +117,42 @@ def check_box(it):
     other.end()
 
 
+def given_nodes(run, name, file, place):
+    """The nodes that a place is given by a router of a file, and by the same after it was killed."""
+    client, nodes = Client((PLAYERS[0], 0), place), []
+    for _ in range(2):
+        process = run.world.start(name, "route", file)
+        until(process.said, 10)
+        client.send(REGISTRATION)
+        nodes += [packet[10:16].hex() for packet in wait_for(client)]
+        client.got = []
+        process.end(signal.SIGKILL)
+    client.end()
+    return nodes
+
+
+def check_secret(run):
+    """The file of the secret is made at the first start, for its owner alone, and read at the next one."""
+    place, secret = (LOBBY, free_port([LOBBY])), run.world.path("made.secret")
+    table = lobby_table(NETWORK, place, 'accept = "any"\n')
+    made, fresh = run.world.write("made.toml", f'secret_file = "{secret}"\n{table}'), run.world.write("fresh.toml", table)
+    nodes = given_nodes(run, "made", made, place)
+    run.check("with a file of the secret a place has the same node after a restart", len(nodes) == 2 and len(set(nodes)) == 1,
+              str(nodes))
+    mode = os.stat(secret).st_mode & 0o777 if os.path.exists(secret) else 0
+    run.check("the first start made the file, which its owner alone may read", mode == 0o600, oct(mode))
+    nodes = given_nodes(run, "fresh", fresh, place)
+    run.check("without one it has another node", len(set(nodes)) == 2, str(nodes))
+    run.world.write("made.secret", "no secret\n")
+    process = run.world.start("made", "route", made)
+    status, said = process.status(10), process.said()
+    run.check("a file that holds something else is a fault of the start, in one line",
+              status == 1 and len(said) == 1 and "secret_file" in said[0], f"{status}: {said}")
+
+
 def check_restart(run):
     """All of it."""
+    check_secret(run)
     it = Restarted(run)
     pair = check_players(it)
     check_pings(it, pair)

@@ -44,7 +44,7 @@ def check_from(sites, ends):
     for name, (listener, sender, data) in ends.items():
         sites.check_transfer(f"a sender that may connect {name.replace('-', ' ')}", listener, sender, data)
     status, said = turned_away.status(20), turned_away.said()
-    line = f"no answer from {NETWORK} {node(FROM['by-nobody'][0])} 4002"
+    line = f"no answer from {NETWORK} {node(FROM['by-nobody'][0])} 4002; try ipx networks, then ipx ping"
     sites.check("a sender that may not connect gets no answer", status == 1 and said == [line], f"{status}, {said}")
     told = [line for line in barred.said() if re.fullmatch(BARRED, line)]
     sites.check("and is counted", len(told) == 1 and not barred.out, str(barred.said()[-2:]))

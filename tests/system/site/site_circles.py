@@ -75,7 +75,7 @@ def check_circles(sites, ends):
                 str(listener.said()[:1]))
     listener, sender, _ = ends["nobody"]
     status, said = sender.status(20), sender.said()
-    line = f"no answer from {NETWORK} {node(NOBODY)} 4002"
+    line = f"no answer from {NETWORK} {node(NOBODY)} 4002; try ipx networks, then ipx ping"
     sites.check("a sender that a listener does not name gets no answer", status == 1 and said == [line], f"{status}, {said}")
     sites.check("and the listener tells who it was", bool(told(listener, STRANGERS, SENDERS[1])), str(listener.said()))
     listener.end()

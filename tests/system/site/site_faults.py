@@ -32,7 +32,7 @@ router = "127.0.1.1"
 udp_port = 20999
 socket = "4002"
 """
-KEYS = ("the keys of a router are metrics_file, tables_file, port, route and service; those of a host are network, address, router, udp_port, "
+KEYS = ("the keys of a router are metrics_file, tables_file, secret_file, port, route and service; those of a host are network, address, router, udp_port, "
         "socket, buffers, peers, routers, allow and accept")
 PORT_KEYS = ('the keys are kind, network, address, udp_port, cost, directed, for kind = "rfc1234" also peers, routers and accept, '
              'for kind = "ethernet" encapsulation, remotes, node and switch, for kind = "ipxnet" node, clients, accept, peers and join')
@@ -43,15 +43,19 @@ NETWORK = 'eight hex digits, neither all 0 nor all f, such as "00000011"'
 ADDRESS = 'an IP address of this machine, such as "192.0.2.10", or for kind "ipxnet" also "any"'
 HOST_ADDRESS = 'an IP address of this machine, such as "192.0.2.10"'
 NUMBER = "a number from 1 to 65535, such as 213"
+REQUIRED = "a number from 1 to 65535, such as 24002"
 COST = "a number of ticks from 1 to 65535, such as 6"
 PEERS = 'a list of IP addresses, such as ["198.51.100.7", "203.0.113.9"]'
 PORTS = "1 to 16 tables [[port]]"
+SECRET = 'a file name, different from metrics_file and tables_file with or without .new, such as "/var/lib/ipx/hq/secret"'
 SOCKET = 'four hex digits, not all 0, such as "4002"'
 ROUTER = 'the IP address of a router, such as "10.1.0.1"'
 BUFFERS = "a number from 1 to 8192, such as 64"
 FROM = ('a list of at most 256 networks, each with or without a node after it, such as '
         '["00000022 00000a02001e", "00000033"]')
 INSTEAD = '; a port of kind "ipxnet" may have accept = "any" instead'
+UNQUOTED = ('invalid value, expected a string, number, boolean, date-time, array or inline table; if it is text, it needs double quotes, '
+            'such as "10.1.0.1"')
 OF_PORT = "a table [[port]] or of a host's file, and not of a router's file itself"
 FEW_PEERS = 'a list of at most 256 IP addresses, such as ["198.51.100.7", "203.0.113.9"]'
 ROUTERS = "a list of at most 256 IP addresses that are also in peers"
@@ -72,6 +76,7 @@ HOPS = "a number from 1 to 14, such as 1"
 TYPE = 'four hex digits, neither all 0 nor all f, such as "0640"'
 NAME = '1 to 47 printable ASCII characters without spaces, such as "BACKUP"'
 AT = 'a network, a node and a socket, such as "00000011 00000a010014 4002"'
+SAME = 'same address and udp_port as port 1; "any" includes each address'
 STATUS = 'a file name, such as "/run/ipx/hq/hq.prom"'
 TABLES = 'a file name, different from metrics_file with or without .new, such as "/run/ipx/hq/hq.tables"'
 
@@ -130,17 +135,27 @@ ROUTER_FILES = [
     ('metrics_file = "hq"\ntables_file = "hq.new"\n' + PORT, f"tables_file: expected {TABLES}"),
     ('metrics_file = "hq.new"\ntables_file = "hq"\n' + PORT, f"tables_file: expected {TABLES}"),
     ("peers = []\n" + PORT, f"peers is a key of {OF_PORT}"),
+    ('router = "10.1.0.1"\n' + PORT, "router is a key of a host's file, and this command reads a router's file"),
     ("peer = []\n" + PORT, f"unknown key peer: {KEYS}"),
     ('status = "a"\n' + PORT, "`status` is now `metrics_file`"),
+    ("secret_file = 1\nport = 1", f"secret_file: expected {SECRET}"),
+    ('metrics_file = "hq"\nsecret_file = "hq"\n' + PORT, f"secret_file: expected {SECRET}"),
+    ('tables_file = "hq"\nsecret_file = "hq.new"\n' + PORT, f"secret_file: expected {SECRET}"),
     ('tables = "a"\n' + PORT, "`tables` is now `tables_file`"),
     (PORT + "ends = []\n", "port 1: `ends` is now `remotes`"),
     (PORT + 'frame = "802.3"\n', "port 1: `frame` is now `encapsulation`"),
     (WIRE + "hub = true\n", "port 1: `hub` is now `switch`"),
     (PORT + "peer = []\n", f"port 1: unknown key peer: {PORT_KEYS}"),
+    (PORT + 'router = "10.1.0.1"\n', "port 1: router is a key of a host's file, and this command reads a router's file"),
+    (PORT + "hops = 1\n", "port 1: hops is a key of a table [[route]] or [[service]] of a router's file"),
+    (PORT + "ticks = 1\n", "port 1: ticks is a key of a table [[route]] of a router's file"),
+    (PORT + 'name = "BACKUP"\n', "port 1: name is a key of a table [[service]] of a router's file"),
+    ("cost = 1\n" + PORT, "cost is a key of a table [[port]] of a router's file"),
     (PORT + "metrics_file = \"x\"\n", "port 1: metrics_file must come before the first [[port]]"),
     (PORT + SECOND + "tables_file = \"x\"\n", "port 2: tables_file must come before the first [[port]]"),
     (PORT + SECOND + "Accept = \"any\"\n", f"port 2: unknown key Accept: {PORT_KEYS}"),
     (PORT + '"a\\nb\\u001b" = 1\n', f"port 1: unknown key a.b.: {PORT_KEYS}"),
+    (changed(PORT, "address", "127.0.1.1"), f"line {1 + len(without(PORT, 'address').splitlines())}: {UNQUOTED}"),
     (without(PORT, "network"), f"port 1: network is missing: expected {NETWORK}"),
     (without(PORT, "address"), f"port 1: address is missing: expected {ADDRESS}"),
     (without(PORT, "peers"), f"port 1: peers is missing: expected {PEERS}{INSTEAD}"),
@@ -167,6 +182,11 @@ ROUTER_FILES = [
     (PORT + "accept = \"all\"\n", 'port 1: accept: expected "peers" or "any"'),
     (PORT + SECOND.replace("00000022", "00000011"), "port 2: network 00000011 is already used by port 1"),
     (PORT + WIRE.replace("00000022", "00000011"), "port 2: network 00000011 is already used by port 1"),
+    (PORT + SECOND.replace("127.0.1.2", "127.0.1.1"), f"port 2: {SAME}"),
+    (PORT + WIRE, f"port 2: {SAME}"),
+    (PORT + changed(PLAYERS, "address", '"any"') + 'accept = "any"\n', f"port 2: {SAME}"),
+    (changed(PLAYERS, "address", '"any"') + 'accept = "any"\n' + WIRE.replace("127.0.1.1", "127.0.1.2"), f"port 2: {SAME}"),
+    (PORT + WIRE.replace("20999", "20997") + PLAYERS + 'accept = "any"\n', f"port 3: {SAME}"),
     (PORT + "kind = \"dosbox\"\npeer = []\n", f"port 1: kind: expected {KIND}"),
     (PORT + "kind = 1\n", f"port 1: kind: expected {KIND}"),
     (PORT + "switch = true\n", f'port 1: switch is not a key of kind "rfc1234": {RFC1234_KEYS}'),
@@ -180,7 +200,7 @@ ROUTER_FILES = [
     (without(WIRE, "network"), f"port 1: network is missing: expected {NETWORK}"),
     (without(WIRE, "encapsulation"), f"port 1: encapsulation is missing: expected {FRAME}"),
     (without(WIRE, "address"), f"port 1: address is missing: expected {ADDRESS}"),
-    (without(WIRE, "udp_port"), f"port 1: udp_port is missing: expected {NUMBER}"),
+    (without(WIRE, "udp_port"), f"port 1: udp_port is missing: expected {REQUIRED}"),
     (without(WIRE, "remotes"), f"port 1: remotes is missing: expected {ENDS}"),
     (changed(WIRE, "encapsulation", '"raw"'), f"port 1: encapsulation: expected {FRAME}"),
     (changed(WIRE, "encapsulation", "802.2"), f"port 1: encapsulation: expected {FRAME}"),
@@ -296,6 +316,8 @@ HOST_FILES = [
     (HOST + "routers = 1\nallow = 1\n", f"routers: expected {ROUTERS}"),
     (HOST + "allow = 1\naccept = 1\n", f"allow: expected {FROM}"),
     (HOST + "from = []\n", "`from` is now `allow`"),
+    (HOST + "cost = 1\n", "cost is a key of a table [[port]] of a router's file"),
+    (HOST + "next_hop = 1\n", "next_hop is a key of a table [[route]] or [[service]] of a router's file"),
     (HOST + "metrics_file = \"a\"\n", "metrics_file is a key of a router's file, and this command reads a host's file"),
 ]
 
@@ -369,7 +391,7 @@ def check_faults(sites):
 
 
 # Files without a fault, and what --check says of them: two ports with a status file; one port of which
-# all is to be remarked; two ports that are reached at one place, and so on wires; a host, and one that is its own router.
+# all is to be remarked; two ports with one address; two on wires; a host, and one that is its own router.
 OWN = """metrics_file = "/run/ipx/h q\\u001b.prom"
 tables_file = "/run/ipx/hq.tables"
 
@@ -391,7 +413,7 @@ network = "00000011"
 address = "10.1.0.1"
 peers = ["10.1.0.20", "10.1.0.1", "10.1.0.20", "10.1.0.21"]
 """
-SHARED = ODD + ODD.replace("00000011", "00000022").replace('"10.1.0.20", "10.1.0.1", ', "")
+SHARED = ODD + ODD.replace("00000011", "00000022").replace('"10.1.0.20", "10.1.0.1", ', "") + "udp_port = 2130\n"
 WIRES = """[[port]]
 kind = "ethernet"
 network = "00000022"
@@ -406,7 +428,7 @@ kind = "ethernet"
 network = "00000033"
 encapsulation = "ethernet-ii"
 address = "127.0.0.1"
-udp_port = 24002
+udp_port = 24003
 cost = 6
 remotes = ["192.0.2.10:258"]
 switch = false
@@ -434,6 +456,7 @@ HANDED = OWN + "".join((ROUTE.replace("127.0.1.20", "198.51.100.7"),
                         SERVICE.replace("127.0.1.20", "198.51.100.7"),
                         SERVICE.replace("127.0.1.20", "203.0.113.9").replace("BACKUP", "!A~").replace("0640", "000A") + "hops = 3\n"))
 WIRED = WIRES + changed(ROUTE.replace("= 1", "= 2"), "next_hop", '"02:00:00:00:00:33"')
+ANYWHERE = PLAYERS.replace("127.0.1.1", "any") + 'accept = "any"\njoin = ["198.51.100.7:2130"]\n'
 JOINED = OPEN.replace("203.0.113.5:2131", "127.0.0.1:24002")
 PORT_11 = "port 1 network 00000011 node 00000a010001 udp 10.1.0.1:213 cost 1 peers 4"
 REMARKS = ["port 1: peer 10.1.0.1 is the local address", "port 1: peer 10.1.0.20 is listed twice"]
@@ -451,19 +474,18 @@ CHECKED = [
     ("route", WIRED, ["port 1 network 00000022 node 020000000022 ethernet 802.2 udp 127.0.0.1:24002 cost 1"
                       " remotes 127.0.0.1:24001 127.0.0.1:24002 127.0.0.1:24001",
                       "port 1: remote 127.0.0.1:24002 is the port's own address", "port 1: remote 127.0.0.1:24001 is listed twice",
-                      "port 2 network 00000033 node 7e0000015dc2 ethernet ethernet-ii udp 127.0.0.1:24002 cost 6"
+                      "port 2 network 00000033 node 7e0000015dc3 ethernet ethernet-ii udp 127.0.0.1:24003 cost 6"
                       " remotes 192.0.2.10:258 switch false",
-                      "port 2: same address and udp_port as port 1",
                       "route 000000aa port 2 next 020000000033 hops 1 ticks 6", "it.toml: 2 ports, no metrics_file"]),
     ("route", ODD, [PORT_11, *REMARKS, "it.toml: 1 port, no metrics_file"]),
-    ("route", SHARED, [PORT_11, *REMARKS, "port 2 network 00000022 node 00000a010001 udp 10.1.0.1:213 cost 1 peers 2",
-                       "port 2: same address and udp_port as port 1", "it.toml: 2 ports, no metrics_file"]),
+    ("route", SHARED, [PORT_11, *REMARKS, "port 2 network 00000022 node 00000a010001 udp 10.1.0.1:2130 cost 1 peers 2",
+                       "it.toml: 2 ports, no metrics_file"]),
     ("route", WIRES, ["port 1 network 00000022 node 020000000022 ethernet 802.2 udp 127.0.0.1:24002 cost 1"
                       " remotes 127.0.0.1:24001 127.0.0.1:24002 127.0.0.1:24001",
                       "port 1: remote 127.0.0.1:24002 is the port's own address", "port 1: remote 127.0.0.1:24001 is listed twice",
-                      "port 2 network 00000033 node 7e0000015dc2 ethernet ethernet-ii udp 127.0.0.1:24002 cost 6"
+                      "port 2 network 00000033 node 7e0000015dc3 ethernet ethernet-ii udp 127.0.0.1:24003 cost 6"
                       " remotes 192.0.2.10:258 switch false",
-                      "port 2: same address and udp_port as port 1", "it.toml: 2 ports, no metrics_file"]),
+                      "it.toml: 2 ports, no metrics_file"]),
     ("route", OPEN, ["port 1 network 0000d05b node c200020a0852 ipxnet udp 192.0.2.10:2130 cost 1 clients 64 peers 2",
                      "port 2 network 0000d05c node 020000000022 ipxnet udp 127.0.0.1:24002 cost 6 clients 8 peers 0"
                      " accept any joined 198.51.100.7:2130 203.0.113.5:2131", "it.toml: 2 ports, no metrics_file"]),
@@ -471,6 +493,15 @@ CHECKED = [
                        "port 2 network 0000d05c node 020000000022 ipxnet udp 127.0.0.1:24002 cost 6 clients 8 peers 0"
                        " accept any joined 198.51.100.7:2130 127.0.0.1:24002",
                        "port 2: joined 127.0.0.1:24002 is the port's own address", "it.toml: 2 ports, no metrics_file"]),
+    ("route", without(ANYWHERE, "udp_port") + 'node = "02:00:00:00:00:01"\n',
+     ["port 1 network 0000d05b node 020000000001 ipxnet udp 0.0.0.0:213 cost 1 clients 64 peers 0 accept any joined 198.51.100.7:2130",
+      "it.toml: 1 port, no metrics_file"]),
+    ("route", ANYWHERE, ["port 1 network 0000d05b node 020000005207 ipxnet udp 0.0.0.0:20999 cost 1 clients 64 peers 0 accept any"
+                         " joined 198.51.100.7:2130",
+                         'port 1: join with address "any" needs node: it must differ at each router', "it.toml: 1 port, no metrics_file"]),
+    ("route", ANYWHERE + 'node = "02:00:00:00:00:01"\n',
+     ["port 1 network 0000d05b node 020000000001 ipxnet udp 0.0.0.0:20999 cost 1 clients 64 peers 0 accept any joined 198.51.100.7:2130",
+      "it.toml: 1 port, no metrics_file"]),
     ("listen", HOST, ["socket 4002 network 00000011 node 00007f000114 udp 127.0.1.20:20999",
                       "it.toml: router 127.0.1.1, buffers 1024"]),
     ("listen", changed(HOST, "router", '"127.0.1.20"') + "buffers = 512\n",

@@ -1,5 +1,6 @@
 """Hosts that forge RIP and SAP in a router's name and have another router forward it, for `sites`."""
 import itertools
+import re
 import struct
 import time
 
@@ -192,6 +193,8 @@ def check_forwarded_figures(sites, figures, it):
               ("g1", "forwarded_control"): 0, ("g2", "forwarded_control"): 0, ("g2", "looped_source"): 0, ("g3", "spoofed_source"): 0}
     got = {(name, reason): figures[name].get(f'ipx_filtered_total{{reason="{reason}"}}') for name, reason in wanted}
     sites.check("what was forged and forwarded is counted, each once", got == wanted, f"{got} of {wanted}")
-    for name, words in (("g1", "looped source, the last from"), ("g3", f"forwarded control, the last from {WIRED} {STATION}")):
-        said = [line for line in sites.routers[name].said() if words in line]
+    lines = {"g1": r"looped source \(sender uses network 000000(57|58|5a), this port has 00000056\), the last from",
+             "g3": f"forwarded control, the last from {WIRED} {STATION}"}
+    for name, words in lines.items():
+        said = [line for line in sites.routers[name].said() if re.search(words, line)]
         sites.check(f"{name} tells of {words.split(',', maxsplit=1)[0]}", said and said[0].startswith("[WARN  ipx] dropped"), str(said[:1]))

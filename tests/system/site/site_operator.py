@@ -175,7 +175,7 @@ def check_bad(sites, over, ends, asking):
         if address == HALF:
             wanted, lines = re.escape(f"{TABLE[command](told[command], by)}{len(told[command])} {command}, {by}") + ANSWERED, []
         else:
-            wanted, lines = re.escape(f"{TABLE[command]([], by)}0 {command}\n"), [f"no answer from {by}, or it {NONE[command]}"]
+            wanted, lines = re.escape(f"{TABLE[command]([], by)}0 {command}\n"), [f"no answer from {address}, or it {NONE[command]}"]
         good = status == (0 if address == HALF else 1) and said == lines and bool(re.fullmatch(wanted, out)) and took < 5
         sites.check(f"ipx {command} of a router that {does[address]}: status, lines and time", good,
                     f"status {status}, {took:.1f} s" if good else f"{status}, {took:.1f} s, {said}, {out[-200:]}")
@@ -245,7 +245,7 @@ def check_operator(sites, ends, has_room):
     check_json(sites, "far-asker", "services", [], service_values(FAR_SERVICES, far))
     status, process = ask(sites, "far-asker", "services", "0ff0")
     sites.check("a type that no service has: nobody answers", status == 1
-                and process.said() == [f"no answer from {far}, or it knows no such service"],
+                and process.said() == [f"no answer from {FAR}, or it knows no such service"],
                 f"{status}, {process.said()}")
     status, process = ask(sites, "far-asker", "services", "004")
     sites.check("a type that is not four hex digits", (status, process.said(), process.out)
@@ -254,7 +254,7 @@ def check_operator(sites, ends, has_room):
     status, process = ask(sites, "two-asker", "networks", "--json")
     sites.check("of two routers one does not answer: what the other tells, and status 1",
                 status == 1 and len(process.out.splitlines()) == 3
-                and process.said() == [f"no answer from {node(SILENT)}, or it knows nothing besides this network"],
+                and process.said() == [f"no answer from {SILENT}, or it knows nothing besides this network"],
                 f"{status}, {process.said()}")
     check_much(sites, has_room)
     check_tables(sites, has_room)

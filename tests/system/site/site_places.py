@@ -108,7 +108,7 @@ def check_once_taken(sites, listener, first, ending, data):
     """The second sender gets no answer, and the first one is not disturbed."""
     ending.thread.join(40)
     status, took, said = ending.process.status(0), ending.seconds or 99, ending.process.said()
-    line = f"no answer from {NETWORK} {node(ONCE)} 4002"
+    line = f"no answer from {NETWORK} {node(ONCE)} 4002; try ipx networks, then ipx ping"
     sites.check(f"a second sender to a listener with --once ends within {ENDS} seconds, and says why",
                 status == 1 and said == [line] and took < ENDS, f"{status}, after {took:.2f} s, {said}")
     sites.check_transfer("and the first one goes on", listener, first, data)
@@ -343,7 +343,7 @@ class Patient:
         self.listener = sites.start_listener(name="patient-listener")
         until(self.listener.said, 5)
         self.holder = Answerer(sites, QUIET, PATIENT, OF_A_NODE)
-        self.accepted = self.heard = None
+        self.accepted = self.heard = self.lost = None
         self.thread = threading.Thread(target=self.run, daemon=True)
         self.thread.start()
 
@@ -359,13 +359,14 @@ class Patient:
         self.holder.speak()
         time.sleep(0.5)
         self.heard = len(self.holder.heard())
+        # (nobody answers for them from now on, so they are lost before long)
+        self.lost = [line for line in self.listener.said() if "lost" in line or "evicted" in line]
 
     def check(self, sites):
         self.thread.join(20)
-        lost = [line for line in self.listener.said() if "lost" in line or "evicted" in line]
         sites.check(f"{OF_A_NODE} connections of one node that send nothing for seconds, but answer, are all kept",
-                    self.accepted == self.heard == OF_A_NODE and not lost,
-                    f"{self.accepted} accepted, {self.heard} acknowledged, {lost}")
+                    self.accepted == self.heard == OF_A_NODE and not self.lost,
+                    f"{self.accepted} accepted, {self.heard} acknowledged, {self.lost}")
 
     def end(self):
         self.holder.socket.close()
@@ -651,7 +652,7 @@ def check_held(sites, held):
     check_own(sites, held["own"])
     busy = held["busy"]
     status, took, said, _ = busy.ended()
-    line = f"no answer from {NETWORK} {node(HELD['busy'][0])} 4002"
+    line = f"no answer from {NETWORK} {node(HELD['busy'][0])} 4002; try ipx networks, then ipx ping"
     sites.check(f"a sender to one whose connections are all taken, and speak, ends within {ENDS} seconds, and says why",
                 status == 1 and said == [line] and took < ENDS, f"{status}, after {took:.2f} s, {said}")
     sites.check("and all of them stay", busy.accepted == busy.heard == [OF_A_NODE] * 2,
@@ -692,7 +693,7 @@ def check_ended(sites, it):
     status, took, said = it.ended()
     sites.check(f"{MOST} connections end well although nothing that they sent can be written",
                 it.well == list(range(1, MOST + 1)), f"{len(it.well)} of them")
-    line = f"no answer from {NETWORK} {node(HELD['ended'][0])} 4002"
+    line = f"no answer from {NETWORK} {node(HELD['ended'][0])} 4002; try ipx networks, then ipx ping"
     sites.check(f"a sender that asks 10 s later ends within {ENDS} seconds, and says why",
                 status == 1 and said == [line] and took < ENDS, f"{status}, after {took:.2f} s, {said}")
     check_line(sites, "and its requests are counted there", it, AWAY)

@@ -1,4 +1,5 @@
 """Ports for clients of DOSBox's ipxnet, for `sites`: clients that send what DOSBox does."""
+import re
 import socket
 import time
 
@@ -25,7 +26,8 @@ def ipxnet_table(network, address, udp_port, more):
 
 
 class Client:
-    """A client at an IP address, whose port of UDP the system chooses where none is given."""
+    """A client at an IP address, whose port of UDP the system chooses where none is given. Its node is the one that the answer to
+    its registration gives, and it shows at once that it has that."""
 
     def __init__(self, ip, server, port=0):
         self.ip, self.server = ip, server
@@ -44,9 +46,13 @@ class Client:
         found = []
         while True:
             try:
-                found.append(self.socket.recv(2000))
+                packet = self.socket.recv(2000)
             except BlockingIOError:
                 return found
+            found.append(packet)
+            if packet[18:22] != bytes(4) and packet[22:] == bytes.fromhex(ROUTER_NODE + "0002"):
+                self.node = packet[10:16].hex()
+                self.send(ipx(0, ("00000000", ROUTER_NODE, "0002"), ("00000000", self.node, "0002"), b""))
 
     def answer(self):
         """What an answer to its registration is."""
@@ -96,7 +102,8 @@ def check_registering(sites, first, second, third, unnamed):
         got = all_came(client, wanted=0 if client is unnamed else 1)
         want = [] if client is unnamed else [client.answer()]
         sites.check(f"{client.node} gets its answer, once" if want else "who is not named gets no answer",
-                    got == [want], "" if got == [want] else str([it.hex() for it in got[0]]))
+                    got == [want] and (not want or client.node[:2] == "02"),
+                    "" if got == [want] else str([it.hex() for it in got[0]]))
 
 
 def check_ping(sites, first, second, third, unnamed):
@@ -171,6 +178,10 @@ def check_players(sites, clients):
     sites.check("what speaks in another's name goes nowhere, nor what is of nobody", got == [[], [], [], []], str(got))
     check_again(sites, second)
     check_lines(sites, {"p1": [first, second], "p2": [third]})
+    line = re.compile(r"\[WARN  ipx\] \d+ datagrams to a port for ipxnet from unknown senders \(\d+ since the start\), the last from "
+                      + re.escape(unnamed.ip))
+    told = until(lambda: any(line.fullmatch(it) for it in sites.routers["p1"].said()), 12)
+    sites.check("p1 tells which address is not in peers", told, "" if told else str(sites.routers["p1"].said()[-3:]))
     for client in (first, third, unnamed):
         client.socket.close()
 

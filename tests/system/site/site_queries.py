@@ -1,10 +1,11 @@
-"""Peers and players that ask a router for everything again and again, or send directed broadcasts, for `sites`."""
+"""Peers and players that ask a router for everything or for the nearest server again and again, or send directed broadcasts,
+for `sites`."""
 import re
 import struct
 import threading
 import time
 
-from site_packets import ipx
+from site_packets import ipx, sap_response
 from site_players import REGISTRATION, Client, ipxnet_table
 from site_world import bound, node, port_table, until
 
@@ -16,11 +17,13 @@ ASKED_ADDRESSES = [address for ports in ASKED.values() for _, address, _ in port
 # broadcasts come.
 LIMITED = "q2"
 PLAYERS_PORT, NEIGHBOUR_PORT, PLAYER, NEIGHBOUR = "127.0.1.107", "127.0.1.108", "127.0.1.109", "127.0.1.126"
-AFAR_PORT, AFAR = "127.0.1.127", "127.0.1.128"
-LIMITED_ADDRESSES = [PLAYERS_PORT, NEIGHBOUR_PORT, PLAYER, NEIGHBOUR, AFAR_PORT, AFAR]
+AFAR_PORT, AFAR, BOOTING = "127.0.1.127", "127.0.1.128", "127.0.1.129"
+LIMITED_ADDRESSES = [PLAYERS_PORT, NEIGHBOUR_PORT, PLAYER, NEIGHBOUR, AFAR_PORT, AFAR, BOOTING]
 PLAYERS_NETWORK, NEIGHBOUR_NETWORK, AFAR_NETWORK = "0000d058", "00000058", "00000059"
 # So many sockets of the player ask, and the neighbour asks so often meanwhile.
 ASKING_SOCKETS, NEIGHBOUR_ASKS = 16, 5
+# One node of a port asks for the nearest server so often each second, and another one so often in all, two seconds apart.
+NEAREST_RATE, NEAREST_ASKS, NEAREST_PERIOD = 2000, 4, 2
 # In each round so many directed broadcasts, and then one packet, which is waited for.
 BROADCAST_ROUNDS, BROADCASTS = 100, 20
 EVERY_NODE = "f" * 12
@@ -127,7 +130,6 @@ def registered(sites):
             time.sleep(0.1)
             return client.came()
 
-        # (ten new ones in a second have an answer)
         until(answered, 5)
     return clients
 
@@ -156,6 +158,63 @@ def check_asked_by_players(sites, clients, neighbour):
     asking.join()
     sites.check(f"a router that starts has its answers, while {ASKING_SOCKETS} sockets of one player ask",
                 answers == NEIGHBOUR_ASKS, f"{answers} of {NEIGHBOUR_ASKS}")
+
+
+def nearest_query(network, source_node):
+    """A query for the nearest file server."""
+    return ipx(4, (network, EVERY_NODE, "0452"), (network, source_node, "4003"), struct.pack(">HH", 3, 4))
+
+
+def named_request(network, source_node, names):
+    """A request for the routes of these networks."""
+    body = struct.pack(">H", 1) + b"".join(bytes.fromhex(name) + b"\xff" * 4 for name in names)
+    return ipx(1, (network, EVERY_NODE, "0453"), (network, source_node, "4003"), body)
+
+
+def flood_until(floods, over):
+    """Sends what these send, each so often a second, until it is over."""
+    start, sent = time.monotonic(), 0
+    while not over.is_set():
+        while sent < (time.monotonic() - start) * NEAREST_RATE:
+            sent += 1
+            for send in floods:
+                send()
+        time.sleep(0.002)
+
+
+def check_nearest(sites, clients, neighbour, booting, afar):
+    """One node of each port floods it with nearest queries, and one with requests for named networks too. Another one there
+    has each of its answers."""
+    afar.sendto(sap_response(AFAR_NETWORK, node(AFAR), [(4, b"SERVER", int(AFAR_NETWORK, 16), 1)]), (AFAR_PORT, sites.port))
+    router = (NEIGHBOUR_PORT, sites.port)
+    flooding, asking = clients[:2]
+    floods = [lambda: neighbour.sendto(nearest_query(NEIGHBOUR_NETWORK, node(NEIGHBOUR)), router),
+              lambda: neighbour.sendto(named_request(NEIGHBOUR_NETWORK, node(NEIGHBOUR), 50 * [AFAR_NETWORK]), router),
+              lambda: flooding.send(nearest_query(PLAYERS_NETWORK, flooding.node))]
+    nodes = {"peer": (lambda: booting.sendto(nearest_query(NEIGHBOUR_NETWORK, node(BOOTING)), router), lambda: drained(booting), b"\0\4"),
+             "peer that asks for a route": (
+                 lambda: booting.sendto(named_request(NEIGHBOUR_NETWORK, node(BOOTING), [AFAR_NETWORK]), router),
+                 lambda: drained(booting), b"\0\2"),
+             "player": (lambda: asking.send(nearest_query(PLAYERS_NETWORK, asking.node)), asking.came, b"\0\4")}
+    over, start = threading.Event(), time.monotonic()
+    drained(neighbour)
+    flood = threading.Thread(target=flood_until, args=(floods, over))
+    flood.start()
+    answers = {name: 0 for name in nodes}
+    for _ in range(NEAREST_ASKS):
+        time.sleep(NEAREST_PERIOD)
+        for name, (ask, came, kind) in nodes.items():
+            came()
+            ask()
+            answers[name] += until(lambda came=came, kind=kind: any(packet[30:32] == kind for packet in came()), 0.5)
+    over.set()
+    flood.join()
+    routes = sum(packet[30:32] == b"\0\2" for packet in drained(neighbour))
+    most = 32 + 2 * (time.monotonic() - start) + 1
+    sites.check("one node gets answers for routes within its limit", routes <= most, f"{routes}, at most {most:.0f}")
+    for name, count in answers.items():
+        sites.check(f"a {name} has each answer, while another one asks {NEAREST_RATE} times a second",
+                    count == NEAREST_ASKS, f"{count} of {NEAREST_ASKS}")
 
 
 def check_broadcasts(sites, afar, neighbour):
@@ -190,14 +249,15 @@ def check_limits(sites):
     """A router with limits at its ports, from its start to its end."""
     metrics = f"{LIMITED}.prom"
     sites.world.write(f"{LIMITED}.toml", f'metrics_file = "{sites.world.path(metrics)}"\n'
-                      + port_table(NEIGHBOUR_NETWORK, NEIGHBOUR_PORT, sites.port, [NEIGHBOUR])
+                      + port_table(NEIGHBOUR_NETWORK, NEIGHBOUR_PORT, sites.port, [NEIGHBOUR, BOOTING])
                       + port_table(AFAR_NETWORK, AFAR_PORT, sites.port, [AFAR])
                       + ipxnet_table(PLAYERS_NETWORK, PLAYERS_PORT, sites.port, 'accept = "any"\n'))
     sites.start_router(LIMITED)
-    neighbour, afar = bound(NEIGHBOUR, sites.port), bound(AFAR, sites.port)
+    neighbour, afar, booting = (bound(ip, sites.port) for ip in (NEIGHBOUR, AFAR, BOOTING))
     until(lambda: len(sites.routers[LIMITED].said()) >= 3, 10)
     clients = registered(sites)
     check_asked_by_players(sites, clients, neighbour)
+    check_nearest(sites, clients, neighbour, booting, afar)
     broadcasts = check_broadcasts(sites, afar, neighbour)
     dropped = BROADCAST_ROUNDS * BROADCASTS - broadcasts
     reason = 'ipx_filtered_total{reason="directed_broadcast"}'
@@ -209,5 +269,5 @@ def check_limits(sites):
     told = any(line.fullmatch(it) for it in said)
     sites.check("and it is told who sends them", told, "" if told else str(said[-3:]))
     sites.world.forget(sites.routers[LIMITED])
-    for one in [neighbour, afar, *(client.socket for client in clients)]:
+    for one in [neighbour, afar, booting, *(client.socket for client in clients)]:
         one.close()

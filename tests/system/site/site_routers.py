@@ -12,8 +12,13 @@ NAMED, HOST, AWAY = "127.0.1.171", "127.0.1.172", "127.0.1.174"
 NAMING = [NEAR, FAR, NAMED, HOST, AWAY]
 NAME = "n1"
 EVERY_NODE = "f" * 12
-# Two routes, two services, a packet of another network and two that are handed on along this one.
-KEPT = 6
+# A query of a host with another number for this network, two routes, two services, a packet of another network and two that
+# are handed on along this one.
+KEPT = 7
+WRONG = "00000068"
+# The line of the first of these.
+TOLD = re.compile(r"\[WARN  ipx\] 1 datagrams routed or RIP/SAP from a host not listed in routers \(1 since the start\), the last from "
+                  + re.escape(f"{HOST} (sender uses network {WRONG}, this port has 00000061)"))
 
 
 def start_routers(sites):
@@ -53,8 +58,11 @@ def sap_response(source, operation):
 
 
 def tell(sites, ends):
-    """Routes that the host tells are not taken, those of the router that is named are."""
+    """A query by another number of the network is named as that. Routes that the host tells are not taken, those of the router
+    that is named are."""
     port = (NEAR, sites.port)
+    ends[HOST].sendto(ipx(1, (WRONG, EVERY_NODE, "0453"), (WRONG, node(HOST), "0453"), struct.pack(">HIHH", 1, 0xffffffff, 0xffff, 0xffff)), port)
+    until(lambda: any(TOLD.fullmatch(it) for it in sites.routers[NAME].said()), 12)
     ends[HOST].sendto(rip_response("00000061", node(HOST), [(0x63, 1, 1)]), port)
     ends[HOST].sendto(rip_response("00000000", node(HOST), [(0x63, 1, 1)]), port)
     ends[NAMED].sendto(rip_response("00000061", node(NAMED), [(0x64, 1, 1)]), port)
@@ -99,8 +107,6 @@ def check_routers_figures(sites, figures):
     count = 'ipx_filtered_total{reason="not_a_router"}'
     got = figures[NAME].get(count)
     sites.check("what was no router's to send is counted", got == KEPT, str(got))
-    line = re.compile(r"\[WARN  ipx\] \d+ datagrams routed or RIP/SAP from a host not listed in routers \(\d+ since the start\), the last from "
-                      + re.escape(HOST))
     said = sites.routers[NAME].said()
-    told = any(line.fullmatch(it) for it in said)
-    sites.check("and it is told", told, "" if told else str(said[-3:]))
+    told = any(TOLD.fullmatch(it) for it in said)
+    sites.check("and it is told, with both numbers of the network", told, "" if told else str(said[-3:]))

@@ -1,6 +1,6 @@
 use Rattle.std.proofs.Common.{◌≡◌, refl}
 use Rattle.ipx_carrier.specs.Turns.{peers_of}
-use Rattle.ipx_site.specs.Steady.{NeverGoesBack}
+use Rattle.ipx_sockets.specs.Steady.{NeverGoesBack}
 use Rattle.ipx_host.specs.Midway.{listening_at}
 use Rattle.ipx_host.proofs.Hosted.{begun}
 use Rattle.ipx_host.proofs.Rounded.{on_ok}

@@ -1,13 +1,13 @@
 use Rattle.std.proofs.Common.{◌≡◌, ◌<◌, ◌≤◌, ◌⊎◌, ℕ, Bool, true, false, List, Option, Result, Ok, Err, inl, inr, refl, arith}
 use Rattle.std.specs.Prelude.{IfErr, IfOk}
-use Rattle.ipx_site.specs.Host.{IsHostText}
-use Rattle.ipx_site.specs.Loading.{IsFileText}
-use Rattle.ipx_site.specs.declared.host.HostConfig.{HostConfig}
+use Rattle.ipx_config.specs.Host.{IsHostText}
+use Rattle.ipx_config.specs.Loading.{IsFileText}
+use Rattle.ipx_config.specs.declared.host.HostConfig.{HostConfig}
 use Rattle.ipx_wire.specs.declared.address.Address.{Address}
-use Rattle.ipx_host.specs.Access.{peer_address_of, is_nowhere}
+use Rattle.ipx_config.specs.Destinations.{peer_address_of, is_nowhere}
 use Rattle.ipx_host.specs.Sent.{HasBuffers, SendsInput, SendsWholeInput}
-use Rattle.ipx_host.specs.Target.{NamesAddress}
-use Rattle.ipx_host.specs.declared.target.Target.{Target}
+use Rattle.ipx_config.specs.Target.{NamesAddress}
+use Rattle.ipx_config.specs.declared.target.Target.{Target}
 use Rattle.ipx_host.proofs.send.do_send.Goals as goal
 
 -- arguments that were read name an address

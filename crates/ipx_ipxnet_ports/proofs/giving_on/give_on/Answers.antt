@@ -1,4 +1,4 @@
-use Rattle.ipx_ipxnet_ports.specs.OnServers.{answer_for, clients_reached, notice_for, relayed_on, relayed_to, routers_reached}
+use Rattle.ipx_ipxnet_ports.specs.OnServers.{answer_for, clients_reached, relayed_on, relayed_to, routers_reached}
 use Rattle.ipx_ipxnet_ports.proofs.Handing.{hands_both}
 use Rattle.ipx_ipxnet_ports.proofs.giving_on.give_on.Goals as goal
 
@@ -12,13 +12,10 @@ returns-clause-gone g c =
       answer = c.answer.result;
       answered = c.answer.ensures.answered;
       is_it = c.answer.ensures.answer;
-      announcement = c.announcement.result;
-      noticed = c.announcement.ensures.noticed;
-      is_notice = c.announcement.ensures.announcement;
       gone = rw (← c.takers-takers.ensures)
           (hands_both _ _ _ _ _ _ _ _
           (hands_both (answer_for port c.args.from c.answer.result) (relayed_to port bytes (clients_reached l takers)) _ _ _ _ _ _ c.send_answer.ensures.gone c.send_to_clients.ensures.gone)
-          (hands_both (notice_for port l c.announcement.result) (relayed_on port bytes (routers_reached l takers)) _ _ _ _ _ _ c.send_notice.ensures.gone c.send_to_routers.ensures.gone));
+          c.send_to_routers.ensures.gone);
       once = c.send_to_clients.ensures.once;
       back = c.requires.back;
     }

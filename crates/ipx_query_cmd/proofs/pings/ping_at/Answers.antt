@@ -1,7 +1,7 @@
 use Rattle.std.proofs.Common.{◌≡◌, ◌∙◌, false, subst, sym}
 use Rattle.std.specs.Io.KnownBytes.{Appends}
 use Rattle.ipx_wire.specs.declared.address.Address.{Address}
-use Rattle.ipx_host.specs.Access.{is_nowhere}
+use Rattle.ipx_config.specs.Destinations.{is_nowhere}
 use Rattle.ipx_query_cmd.specs.PingRuns.{HasPinged, pinged_lines}
 use Rattle.ipx_query_cmd.proofs.pings.ping_at.Goals as goal
 

@@ -1,7 +1,7 @@
 use Rattle.std.proofs.Common.{◌≡◌, ◌∙◌, ◌++◌, ◌∷◌, [], true, false, ap, rules, sym, take, if◌then◌else◌}
 use Rattle.std.specs.Prelude.{slice_index_or}
 use Rattle.std.proofs.lemmas.List.{append-nil}
-use Rattle.ipx_site.specs.SourceFilter.{is_peer}
+use Rattle.ipx_config.specs.Values.{is_peer}
 use Rattle.ipx_query_cmd.proofs.Rows.{ips_more}
 use Rattle.ipx_query_cmd.proofs.query_target.new_ips.Goals.{then-not-contains+in_ok-push, else-not-contains}
 use Rattle.ipx_query_cmd.proofs.query_target.new_ips.Goals as goal

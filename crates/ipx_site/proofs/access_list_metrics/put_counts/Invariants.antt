@@ -1,5 +1,5 @@
 use Rattle.std.proofs.Common.{◌≡◌, ◌++◌, [], string_bytes, take}
-use Rattle.ipx_site.specs.Checked.{each_after}
+use Rattle.ipx_config.specs.Checked.{each_after}
 use Rattle.ipx_site.specs.AccessListMetrics.{access_list_metric}
 use Rattle.ipx_site.proofs.access_list_metrics.put_counts.Given as goal
 

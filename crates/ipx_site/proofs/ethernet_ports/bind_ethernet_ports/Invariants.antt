@@ -1,6 +1,6 @@
 use Rattle.std.proofs.Common.{◌≡◌, take}
 use Rattle.ipx_ethernet_ports.specs.EthernetAddresses.{bound_places, remote_places}
-use Rattle.ipx_site.specs.KindPorts.{end_places, ethernet_places, ethernet_ports}
+use Rattle.ipx_config.specs.PortLists.{end_places, ethernet_places, ethernet_ports}
 use Rattle.ipx_site.proofs.ethernet_ports.bind_ethernet_ports.Given as goal
 
 abbrev pub invariant-loop-place : goal.invariant-loop-place

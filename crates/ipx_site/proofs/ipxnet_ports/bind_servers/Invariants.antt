@@ -1,6 +1,7 @@
 use Rattle.std.proofs.Common.{◌≡◌, map, take}
 use Rattle.ipx_ipxnet_ports.specs.ServerAddresses.{bound_places, ips_heard}
-use Rattle.ipx_site.specs.KindPorts.{ipxnet_places, ipxnet_ports, registering_at}
+use Rattle.ipx_config.specs.PortLists.{ipxnet_places, ipxnet_ports}
+use Rattle.ipx_site.specs.KindPorts.{registering_at}
 use Rattle.ipx_site.proofs.ipxnet_ports.bind_servers.Given as goal
 
 abbrev pub invariant-loop-place : goal.invariant-loop-place

@@ -16,7 +16,7 @@ invariant_of-ports-in-None c =
 pub returns-in_default-clause-marks : goal.returns-in_default-clause-marks
 returns-in_default-clause-marks c =
     let p = c.args.ports.now in
-    ap (λ d. d.marks ++ (p.ethernet.sockets.marks ++ p.servers.sockets.marks)) c.set_ready.ensures
+    ap (λ d. d.device.marks ++ (p.ethernet.sockets.marks ++ p.servers.sockets.marks)) c.set_ready.ensures
     ∙ set_first p.datagrams.device.device.marks p.ethernet.sockets.marks p.servers.sockets.marks c.args.number true (grind arith)
 
 pub returns-in-Some-checked_sub-clause-marks : goal.returns-in-Some-checked_sub-clause-marks

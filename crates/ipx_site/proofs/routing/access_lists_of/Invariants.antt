@@ -1,6 +1,6 @@
 use Rattle.std.proofs.Common.{take}
-use Rattle.ipx_site.specs.KindPorts.{datagram_ports}
-use Rattle.ipx_site.specs.SitePorts.{AccessListPorts}
+use Rattle.ipx_config.specs.PortLists.{datagram_ports}
+use Rattle.ipx_sockets.specs.AccessLists.{AccessListPorts}
 use Rattle.ipx_site.proofs.routing.access_lists_of.Given as goal
 
 abbrev pub invariant-loop-port : goal.invariant-loop-port

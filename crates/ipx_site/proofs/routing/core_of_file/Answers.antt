@@ -1,7 +1,7 @@
-use Rattle.std.proofs.Common.{ℕ, All, List, ap, length, subst, sym}
+use Rattle.std.proofs.Common.{ℕ, All, ap, length, subst, sym}
 use Rattle.ipx_router.specs.Ports.{IsPortNumber}
 use Rattle.ipx_static.specs.declared.neighbour.StaticNeighbour.{StaticNeighbour}
-use Rattle.ipx_site.specs.declared.statics.StaticEntry.{StaticEntry}
+use Rattle.ipx_config.specs.declared.statics.StaticEntry.{StaticEntry}
 use Rattle.ipx_site.proofs.routing.core_of_file.Goals as goal
 
 pub core_of-requires-clause-there : goal.core_of-requires-clause-there

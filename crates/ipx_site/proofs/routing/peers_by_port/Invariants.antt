@@ -1,7 +1,7 @@
 use Rattle.std.proofs.Common.{◌≡◌, take}
 use Rattle.ipx_carrier.specs.Turns.{peers_of}
-use Rattle.ipx_site.specs.KindPorts.{datagram_ports}
-use Rattle.ipx_site.specs.SitePorts.{site_peers}
+use Rattle.ipx_config.specs.PortLists.{datagram_ports}
+use Rattle.ipx_config.specs.SitePorts.{site_peers}
 use Rattle.ipx_site.proofs.routing.peers_by_port.Given as goal
 
 abbrev pub invariant-loop-port : goal.invariant-loop-port

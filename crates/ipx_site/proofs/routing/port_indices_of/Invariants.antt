@@ -1,5 +1,6 @@
 use Rattle.std.proofs.Common.{◌≡◌, ◌≤◌, length, take}
-use Rattle.ipx_site.specs.KindPorts.{datagram_ports, ipxnet_ports, port_indices_of, ethernet_ports}
+use Rattle.ipx_config.specs.PortLists.{datagram_ports, ipxnet_ports, ethernet_ports}
+use Rattle.ipx_site.specs.KindPorts.{port_indices_of}
 use Rattle.ipx_site.proofs.routing.port_indices_of.Given as goal
 
 abbrev pub invariant-loop-port : goal.invariant-loop-port

@@ -1,7 +1,7 @@
 use Rattle.std.proofs.Common.{◌∙◌, [], ap, length, sym}
 use Rattle.std.proofs.lemmas.List.{length-map}
 use Rattle.ipx_site.specs.KindPorts.{port_indices_of}
-use Rattle.ipx_site.specs.SitePorts.{router_port_of_kind}
+use Rattle.ipx_config.specs.SitePorts.{router_port_of_kind}
 use Rattle.ipx_site.proofs.KindLists.{as_many_port_indices}
 use Rattle.ipx_site.proofs.routing.start.Goals as goal
 

@@ -1,10 +1,9 @@
-use Rattle.std.proofs.Common.{List, subst, take}
+use Rattle.std.proofs.Common.{List, subst}
 use Rattle.std.proofs.lemmas.List.{take_all}
 use Rattle.std.specs.List.{AllZip}
 use Rattle.ipx_tables.specs.declared.source.Source.{Source}
-use Rattle.ipx_static.specs.declared.neighbour.StaticNeighbour.{StaticNeighbour}
 use Rattle.ipx_site.specs.StaticNeighbours.{IsSilent}
-use Rattle.ipx_site.proofs.ByHand.{one_more_silent}
+use Rattle.ipx_site.proofs.SilentNeighbours.{one_more_silent}
 use Rattle.ipx_site.proofs.static_neighbours.silent_by_each.Goals as goal
 
 pub loop-by-preserved : goal.loop-by-preserved

@@ -1,10 +1,10 @@
-use Rattle.std.proofs.Common.{◌∙◌, ℕ, [], List, All, subst, sym}
+use Rattle.std.proofs.Common.{◌∙◌, [], List, All, subst, sym}
 use Rattle.std.proofs.lemmas.List.Elements.{All-nil}
 use Rattle.std.specs.List.{AllZip}
 use Rattle.ipx_router.specs.Ports.{IsPortNumber}
 use Rattle.ipx_tables.specs.declared.source.Source.{Source}
-use Rattle.ipx_site.specs.StaticNeighbours.{IsSilent, named_sources}
-use Rattle.ipx_site.proofs.ByHand.{neighbours_have, sources_have}
+use Rattle.ipx_site.specs.StaticNeighbours.{IsSilent}
+use Rattle.ipx_site.proofs.SilentNeighbours.{neighbours_have, sources_have}
 use Rattle.ipx_site.proofs.static_neighbours.silent_of.Goals as goal
 
 pub returns-clause-silent : goal.returns-clause-silent

@@ -1,5 +1,5 @@
 use Rattle.std.proofs.Common.{◌≡◌, [], drop}
-use Rattle.ipx_site.specs.StaticNeighbours.{named_sources}
+use Rattle.ipx_config.specs.StaticLists.{named_sources}
 use Rattle.ipx_site.proofs.static_neighbours.sources_of.Given as goal
 
 -- the sources so far, with those of the remaining entries

@@ -1,8 +1,9 @@
-use Rattle.std.proofs.Common.{◌∙◌, None, Some, ap, refl, sym}
+use Rattle.std.proofs.Common.{◌∙◌, Err, None, Some, ap, refl, sym}
 use Rattle.std.proofs.lemmas.Bool.{or_left}
 use Rattle.std.proofs.lemmas.Result.{err_from_is_err_and}
 use Rattle.ipx_host.specs.Midway.{listening_at}
 use Rattle.ipx_host.proofs.Hosted.{broken_off, stepped, tidied_to}
+use Rattle.ipx_host.proofs.Polled.{stopped}
 use Rattle.ipx_host.proofs.listening.ListeningHost.step.Goals as goal
 
 pub returns-in_err-reap-clause-steps : goal.returns-in_err-reap-clause-steps
@@ -53,3 +54,8 @@ returns-clause-steps g c =
       stepped old.station.clock heard.station.clock heard.station.clock station.clock old.station.core heard.station.core core station.core old.sessions.held.items heard.sessions.held.items passed.held.items new.held.items old.sessions.output heard.sessions.output passed.output new.output old.sessions.once passed.once (held c.args.writer.now) (held c.pass.new.writer) None _ _ moves.0 _ c.hear-turn.ensures.hears.0 refl c.hear-turn.ensures.output refl (c.pass.ensures.once ∙ c.hear-turn.ensures.once) moves.1 c.reap.ensures.clock c.reap.ensures.output c.in_ok-reap.ensures.tidies,
       λ active. or_left c.hear-turn.result.active c.in_ok-moved.moved (sym (ap (λ t. t.active) c.hear-turn.ensures.hears.1) ∙ active),
     )
+
+pub returns-in_err-reap-clause-unwaited : goal.returns-in_err-reap-clause-unwaited
+returns-in_err-reap-clause-unwaited g c =
+    let p = err_from_is_err_and c.from_residual-in_err-reap.result c.from_residual-in_err-reap.ensures.1 in
+    λ is. stopped _ _ _ _ _ _ c.from_residual-in_err-reap.result c.in_err-reap.ensures.tidies (p.1 ∙ ap Err p.2) is

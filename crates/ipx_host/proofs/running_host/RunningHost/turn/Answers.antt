@@ -1,7 +1,7 @@
 use Rattle.std.proofs.Common.{◌∙◌, ap, arith, length}
 use Rattle.ipx_carrier.specs.Driving.{CanBegin}
 use Rattle.ipx_carrier.specs.Turns.{peers_of}
-use Rattle.ipx_site.specs.Steady.{NeverGoesBack}
+use Rattle.ipx_sockets.specs.Steady.{NeverGoesBack}
 use Rattle.ipx_host.proofs.Turning.{took}
 use Rattle.ipx_host.proofs.running_host.RunningHost.turn.Goals as goal
 

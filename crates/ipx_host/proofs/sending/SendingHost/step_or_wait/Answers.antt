@@ -1,7 +1,11 @@
-use Rattle.std.proofs.Common.{ap, inl, false, true, Bool, ◌≡◌}
+use Rattle.std.proofs.Common.{inl, false, true, Bool, ◌≡◌, Err, refl, subst, sym}
 use Rattle.std.proofs.lemmas.Result.{err_from_is_err_and}
 use Rattle.ipx_host.specs.Midway.{sending_at}
 use Rattle.ipx_host.proofs.Fed.{step_err, step_ok, step_unwaited, step_waited}
+use Rattle.ipx_sockets.specs.declared.poller.Poller.{Poller}
+use Rattle.ipx_sockets.specs.Polling.{WaitsOnce}
+use Rattle.ipx_sockets.proofs.Waits.{err_is, not_err, not_waited, unwaited, waited}
+use Rattle.ipx_host.proofs.Polled.{send_fault}
 use Rattle.ipx_host.proofs.Slept.{may_wait}
 use Rattle.ipx_host.proofs.sending.SendingHost.step_or_wait.Goals as goal
 
@@ -47,13 +51,34 @@ returns-in_err-step-clause-steps g c =
     rw (p.1, p.2) (step_err before after _ _ _ old.id _ _ (λ turn w active. c.step.ensures.poller) c.in_err-step.ensures.steps)
 
 pub returns-then-branch-clause-waits : goal.returns-then-branch-clause-waits
-returns-then-branch-clause-waits g c = inl (ap (λ r. r.asked) c.step.ensures.poller)
+returns-then-branch-clause-waits g c = inl c.step.ensures.poller
 
 pub returns-in_err-step-clause-waits : goal.returns-in_err-step-clause-waits
-returns-in_err-step-clause-waits g c = inl (ap (λ r. r.asked) c.step.ensures.poller)
+returns-in_err-step-clause-waits g c = inl c.step.ensures.poller
 
 pub returns-in-Ok-clause-waits : goal.returns-in-Ok-clause-waits
-returns-in-Ok-clause-waits g c = may_wait c.step.new.self.shows c.step.new.self.left c.step.new.self.station.core c.wait.new.self.core _ _ c.longest-longest.result c.longest-longest.ensures c.wait.ensures.core c.wait.ensures.sleeps
+returns-in-Ok-clause-waits g c = may_wait c.step.new.self.shows c.step.new.self.left c.step.new.self.station.core c.wait.new.self.core c.args.self.now.station.poller c.step.new.self.station.poller c.wait.new.self.poller c.longest-longest.result c.longest-longest.ensures c.wait.ensures.core c.step.ensures.poller c.wait.ensures.sleeps
 
 pub returns-in-Err-clause-waits : goal.returns-in-Err-clause-waits
-returns-in-Err-clause-waits g c = may_wait c.step.new.self.shows c.step.new.self.left c.step.new.self.station.core c.wait.new.self.core _ _ c.longest-longest.result c.longest-longest.ensures c.wait.ensures.core c.wait.ensures.sleeps
+returns-in-Err-clause-waits g c = may_wait c.step.new.self.shows c.step.new.self.left c.step.new.self.station.core c.wait.new.self.core c.args.self.now.station.poller c.step.new.self.station.poller c.wait.new.self.poller c.longest-longest.result c.longest-longest.ensures c.wait.ensures.core c.step.ensures.poller c.wait.ensures.sleeps
+
+pub returns-then-branch-clause-unwaited : goal.returns-then-branch-clause-unwaited
+returns-then-branch-clause-unwaited g c = not_waited _ _ _ _ (not_err _ _) c.step.ensures.poller
+
+pub returns-in_err-step-clause-unwaited : goal.returns-in_err-step-clause-unwaited
+returns-in_err-step-clause-unwaited g c =
+    let old = c.args.self.now in
+    let new = c.step.new.self in
+    let before = sending_at old (g.I.Read.remaining c.args.reader.now) in
+    let after = sending_at new (g.I.Read.remaining c.step.new.reader) in
+    let p = err_from_is_err_and c.from_residual.result c.from_residual.ensures.1 in
+    rw (p.1, p.2) (not_waited _ _ _ _ (λ is. send_fault before after _ _ _ old.id _ c.in_err-step.ensures.steps (err_is _ _ (Err _) refl is)) c.step.ensures.poller)
+
+pub returns-in-Ok-clause-unwaited : goal.returns-in-Ok-clause-unwaited
+returns-in-Ok-clause-unwaited g c = waited _ _ c.args.self.now.station.poller c.wait.new.self.poller (not_err _ _) (sym c.in-Ok.ensures.failed)
+
+pub returns-in-Err-clause-unwaited : goal.returns-in-Err-clause-unwaited
+returns-in-Err-clause-unwaited g c =
+    let slept = c.wait.ensures.sleeps in
+    let once = subst (λ (p : Poller). WaitsOnce slept.0 p c.wait.new.self.poller) c.step.ensures.poller slept.2 in
+    unwaited _ _ slept.0 c.args.self.now.station.poller c.wait.new.self.poller refl once (sym c.in-Err.ensures.failed)

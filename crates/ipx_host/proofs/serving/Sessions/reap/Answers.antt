@@ -9,6 +9,7 @@ use Rattle.ipx_host.specs.declared.listening.ListenOutcome.{ListenOutcome}
 use Rattle.ipx_host.specs.declared.listening.ListenOutcome.TheVariants as Stops
 use Rattle.ipx_host.proofs.Holding.{stop_is, tended_ends, tended_on}
 use Rattle.ipx_host.proofs.Hosted.{tended_first, tends_more}
+use Rattle.ipx_host.proofs.Unheard.{more_went}
 use Rattle.ipx_host.proofs.serving.Sessions.reap.Goals as goal
 
 pub returns-in_err-tend-clause-tidies : goal.returns-in_err-tend-clause-tidies
@@ -69,8 +70,16 @@ loop-tended-preserved g c =
       evicted = c.tend.ensures.evicted ∙ i.evicted;
       turned_away = c.tend.ensures.turned_away ∙ i.turned_away;
       output = c.tend.ensures.output ∙ i.output;
+      unheard = more_went old.held.items l.held.items new.held.items old.never_heard l.never_heard new.never_heard i.unheard c.tend.ensures.counts;
       before = λ is alone.
           let same : IsTrue l.once = subst IsTrue c.tend.ensures.once is in
           i.before same (tended_on l.once now.core after.core.endpoint l.held.items new.held.items (left_of l.output) place same there l.one c.in_ok-tend.ensures.tends alone);
       once = c.tend.ensures.once ∙ i.once;
     }
+
+pub returns-in_err-tend-clause-counts : goal.returns-in_err-tend-clause-counts
+returns-in_err-tend-clause-counts g c =
+    let old = c.args.self.now in
+    let l = c.loop-tended.self in
+    let new = c.tend.new.self in
+    more_went old.held.items l.held.items new.held.items old.never_heard l.never_heard new.never_heard c.loop-tended.invariant.unheard c.tend.ensures.counts

@@ -1,6 +1,6 @@
 use Rattle.std.proofs.Common.{◌≡◌}
 use Rattle.std.specs.Prelude.{IsTrue}
-use Rattle.ipx_host.specs.Sessions.{OnlyEnded}
+use Rattle.ipx_host.specs.Sessions.{CountsUnheard, OnlyEnded}
 use Rattle.ipx_host.specs.Tending.{TendsOn}
 use Rattle.ipx_host.proofs.serving.Sessions.reap.Given as goal
 
@@ -16,6 +16,7 @@ invariant-loop-tended g l = record {
   evicted : l.self.evicted ≡ l.fn.self.evicted;
   turned_away : l.self.turned_away ≡ l.fn.self.turned_away;
   output : l.self.output ≡ l.fn.self.output;
+  unheard : CountsUnheard l.fn.self.held.items l.self.held.items l.fn.self.never_heard l.self.never_heard;
   before : IsTrue l.self.once → OnlyEnded l.self.held.items → OnlyEnded l.fn.self.held.items;
   once : l.self.once ≡ l.fn.self.once;
 }

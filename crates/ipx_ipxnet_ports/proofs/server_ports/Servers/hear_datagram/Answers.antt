@@ -1,9 +1,9 @@
-use Rattle.std.proofs.Common.{length, refl, sym, ◌∙◌}
-use Rattle.std.specs.Prelude.{slice_set}
+use Rattle.std.proofs.Common.{ap, length, refl, sym, ◌∙◌}
+use Rattle.std.specs.Prelude.{is_some, slice_set}
 use Rattle.std.proofs.lemmas.Option.{slice_get_read}
 use Rattle.ipx_ipxnet_ports.specs.PlaceTraffic.{place_datagram}
-use Rattle.ipxnet_server.specs.PeerServers.{is_joined_place}
-use Rattle.ipx_ipxnet_ports.proofs.Steady.{nothing_goes_round, sends_joined, sends_known}
+use Rattle.ipxnet_server.specs.ServerHears.{takers_of}
+use Rattle.ipx_ipxnet_ports.proofs.Steady.{nothing_goes_round, relays_joined, relays_known}
 use Rattle.ipx_ipxnet_ports.proofs.server_ports.Servers.hear_datagram.Goals as goal
 
 pub returns-then-not-is_for_core-clause-heard : goal.returns-then-not-is_for_core-clause-heard
@@ -27,9 +27,10 @@ returns-then-not-is_for_core-clause-heard g c =
         stays = c.hear-heard.ensures.stays;
       };
       onward = onward;
-      known = sends_known (is_joined_place c.args.from server.routers) after heard d onward.answer _ onward.answered c.hear-heard.ensures.sender c.hear-heard.ensures.unanswered;
-      joined = sends_joined after heard d onward.announcement;
-      ring = λ is. nothing_goes_round after heard d onward.announcement onward.noticed (c.hear-heard.ensures.unanswered is) (c.hear-heard.ensures.ring is);
+      known = relays_known c.args.port c.args.bytes.now after (takers_of heard);
+      answers = λ of. ap is_some (c.hear-heard.ensures.sender of);
+      joined = relays_joined c.args.port c.args.bytes.now after (takers_of heard);
+      ring = λ is. nothing_goes_round after heard d (c.hear-heard.ensures.ring is);
       no_longer = c.hear-heard.ensures.no_longer;
       core = sym c.is_for_core.ensures ∙ c.if-not-is_for_core.true;
       servers = refl {a = slice_set servers c.args.port after};
@@ -57,9 +58,10 @@ returns-clause-heard g c =
         stays = c.hear-heard.ensures.stays;
       };
       onward = onward;
-      known = sends_known (is_joined_place c.args.from server.routers) after heard d onward.answer _ onward.answered c.hear-heard.ensures.sender c.hear-heard.ensures.unanswered;
-      joined = sends_joined after heard d onward.announcement;
-      ring = λ is. nothing_goes_round after heard d onward.announcement onward.noticed (c.hear-heard.ensures.unanswered is) (c.hear-heard.ensures.ring is);
+      known = relays_known c.args.port c.args.bytes.now after (takers_of heard);
+      answers = λ of. ap is_some (c.hear-heard.ensures.sender of);
+      joined = relays_joined c.args.port c.args.bytes.now after (takers_of heard);
+      ring = λ is. nothing_goes_round after heard d (c.hear-heard.ensures.ring is);
       no_longer = c.hear-heard.ensures.no_longer;
       core = (sym c.is_for_core.ensures ∙ c.if-not-is_for_core.false, c.put_front.ensures.put);
       servers = refl {a = slice_set servers c.args.port after};

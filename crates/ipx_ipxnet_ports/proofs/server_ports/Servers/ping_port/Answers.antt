@@ -4,14 +4,14 @@ use Rattle.std.proofs.lemmas.Option.{slice_get_read}
 use Rattle.ipx_wire.specs.Ipx.{IsIpx, packet_of}
 use Rattle.ipxnet_server.specs.declared.pings.PingTurn.{PingTurn}
 use Rattle.ipxnet_server.specs.ServerHears.{ServerView, router_ping}
-use Rattle.ipx_ipxnet_ports.specs.OnServers.{clients_pinged, relayed_to}
+use Rattle.ipx_ipxnet_ports.specs.OnServers.{pings_sent}
+use Rattle.ipx_ipxnet_ports.proofs.Handing.{hands_both}
 use Rattle.ipx_ipxnet_ports.specs.PlaceTraffic.{HandsOver, PlaceTraffic}
 use Rattle.ipx_ipxnet_ports.proofs.server_ports.Servers.ping_port.Goals as goal
 
 -- the same for an equal turn
-by_turn : (port : ℕ) (ping : List ℕ) (l : ServerView) (a b : PingTurn) (s t : Option PlaceTraffic) (f g : ℕ) → a ≡ b → HandsOver (relayed_to port ping (clients_pinged a l)) [] s t f g
-    → HandsOver (relayed_to port ping (clients_pinged b l)) [] s t f g
-by_turn port ping l a b s t f g same h = subst (λ (turn : PingTurn). HandsOver (relayed_to port ping (clients_pinged turn l)) [] s t f g) same h
+by_turn : (port : ℕ) (ping : List ℕ) (l : ServerView) (a b : PingTurn) (s t : Option PlaceTraffic) (f g : ℕ) → a ≡ b → HandsOver (pings_sent port ping a l) [] s t f g → HandsOver (pings_sent port ping b l) [] s t f g
+by_turn port ping l a b s t f g same h = subst (λ (turn : PingTurn). HandsOver (pings_sent port ping turn l) [] s t f g) same h
 
 pub returns-clause-pings : goal.returns-clause-pings
 returns-clause-pings g c =
@@ -21,11 +21,12 @@ returns-clause-pings g c =
     record {
       server = server;
       after = after;
-      ping = c.ping.result;
+      ping = c.ping-ping.result;
       at_port = slice_get_read servers (length servers) c.args.port server (refl {a = length servers}) c.requires.server c.index_mut-server.ensures.value;
       becomes = c.begin_pings-turn.ensures.server;
-      is_ping = subst (λ (v : ServerView). IsIpx (packet_of (router_ping v.port) []) c.ping.result []) c.begin_pings-turn.ensures.server c.ping.ensures;
-      gone = by_turn c.args.port c.ping.result after _ _ _ _ _ _ c.begin_pings-turn.ensures.turn c.send_pings.ensures.gone;
+      is_ping = subst (λ (v : ServerView). IsIpx (packet_of (router_ping v.port) []) c.ping-ping.result []) c.begin_pings-turn.ensures.server c.ping-ping.ensures;
+      gone = by_turn c.args.port c.ping-ping.result after _ _ _ _ _ _ c.begin_pings-turn.ensures.turn
+          (hands_both _ _ _ _ _ _ _ _ c.send_pings.ensures.gone c.send_asks.ensures.gone);
       once = c.send_pings.ensures.once;
       servers = refl {a = slice_set servers c.args.port after};
       counted = refl {a = c.args.self.now.kept};

@@ -1,4 +1,5 @@
 use Rattle.std.proofs.Common.{arith, refl}
+use Rattle.std.proofs.lemmas.Result.{err_from_is_err_and}
 use Rattle.ipx_query_cmd.proofs.pinging_host.PingingHost.turn.Goals as goal
 
 pub returns-then-sent-clause-pings : goal.returns-then-sent-clause-pings
@@ -13,6 +14,7 @@ returns-then-sent-clause-pings g c =
         tenths = c.tenths.result;
         news = c.news_of-news.ensures;
       },
+      r.3,
     )
 
 pub returns-else-sent-clause-pings : goal.returns-else-sent-clause-pings
@@ -27,4 +29,10 @@ returns-else-sent-clause-pings g c =
         tenths = c.tenths.result;
         news = c.news_of-news.ensures;
       },
+      r.3,
     )
+
+pub returns-in_err-active-clause-fault : goal.returns-in_err-active-clause-fault
+returns-in_err-active-clause-fault g c =
+    let p = err_from_is_err_and c.from_residual.result c.from_residual.ensures.1 in
+    rw (p.1, p.2) c.in_err-active.ensures.fault

@@ -1,15 +1,67 @@
-use Rattle.std.proofs.Common.{◌++◌}
+use Rattle.std.proofs.Common.{[], ◌∷◌, ◌++◌, Err, ap, arith, refl, zero}
+use Rattle.std.proofs.lemmas.Result.{err_from_is_err_and}
+use Rattle.ipx_sockets.proofs.Waits.{err_is, not_err, not_failed, run_ends, waits_on}
+use Rattle.ipx_query_cmd.proofs.Pauses.{as_wait, clock_waits}
 use Rattle.ipx_query_cmd.proofs.Rows.{turns_on}
 use Rattle.ipx_query_cmd.proofs.query_host.QueryHost.ask.Goals as goal
 
+pub loop-init : goal.loop-init
+loop-init g c = record { asks = ([], (refl, omega arith)); waits = (zero, refl) }
+
 pub returns-in-Some-clause-asks : goal.returns-in-Some-clause-asks
 returns-in-Some-clause-asks g c =
-    let was = c.loop.invariant in
+    let was = c.loop.invariant.asks in
     let more = c.in_ok-now.ensures.asks in
-    (was.0 ++ more.0, turns_on was.0 more.0 c.args.self.now.clock.last c.loop.self.clock.last c.step.new.self.clock.last c.args.self.now.core c.loop.self.core c.step.new.self.core was.1 more.1)
+    (was.0 ++ more.0 ∷ [], turns_on was.0 (more.0 ∷ []) c.args.self.now.clock.last c.loop.self.clock.last c.step.new.self.clock.last c.args.self.now.core c.loop.self.core c.step.new.self.core was.1 more.1)
 
 pub loop-preserved : goal.loop-preserved
 loop-preserved g c =
-    let was = c.loop.invariant in
+    let i = c.loop.invariant in
+    let was = i.asks in
     let more = c.in_ok-now.ensures.asks in
-    (was.0 ++ more.0, turns_on was.0 more.0 c.args.self.now.clock.last c.loop.self.clock.last c.step.new.self.clock.last c.args.self.now.core c.loop.self.core c.step.new.self.core was.1 more.1)
+    let now = c.loop.self.poller in
+    let new = c.step.new.self.poller in
+    record {
+      asks = (was.0 ++ more.0 ∷ [], turns_on was.0 (more.0 ∷ []) c.args.self.now.clock.last c.loop.self.clock.last c.step.new.self.clock.last c.args.self.now.core c.loop.self.core c.step.new.self.core was.1 more.1);
+      waits = waits_on i.waits.0 c.args.self.now.poller now new i.waits.1 (as_wait now new c.step.ensures.waits) (λ fails. not_err _ _ (c.in_ok-now.ensures.unwaited.1 fails));
+    }
+
+pub returns-in-Some-clause-waits : goal.returns-in-Some-clause-waits
+returns-in-Some-clause-waits g c = λ other.
+    let i = c.loop.invariant.waits in
+    let now = c.loop.self.poller in
+    let new = c.step.new.self.poller in
+    waits_on i.0 c.args.self.now.poller now new i.1 (as_wait now new c.step.ensures.waits) (λ fails. not_err _ _ (c.in_ok-now.ensures.unwaited.1 fails))
+
+pub returns-in-Some-clause-unwaited : goal.returns-in-Some-clause-unwaited
+returns-in-Some-clause-unwaited g c =
+    let i = c.loop.invariant.waits in
+    let now = c.loop.self.poller in
+    let new = c.step.new.self.poller in
+    let well = waits_on i.0 c.args.self.now.poller now new i.1 (as_wait now new c.step.ensures.waits) (λ fails. not_err _ _ (c.in_ok-now.ensures.unwaited.1 fails)) in
+    not_failed _ _ well.0 c.args.self.now.poller new (not_err _ _) well.1
+
+pub returns-in_err-now-clause-waits : goal.returns-in_err-now-clause-waits
+returns-in_err-now-clause-waits g c =
+    let i = c.loop.invariant.waits in
+    let now = c.loop.self.poller in
+    let new = c.step.new.self.poller in
+    let p = err_from_is_err_and c.from_residual.result c.from_residual.ensures.1 in
+    rw (p.1, p.2) (λ other. waits_on i.0 c.args.self.now.poller now new i.1 (as_wait now new c.step.ensures.waits) (λ fails. other (ap Err (err_is _ _ (Err _) refl (c.in_err-now.ensures.unwaited.1 fails)))))
+
+pub returns-in_err-now-clause-unwaited : goal.returns-in_err-now-clause-unwaited
+returns-in_err-now-clause-unwaited g c =
+    let i = c.loop.invariant.waits in
+    let now = c.loop.self.poller in
+    let new = c.step.new.self.poller in
+    let p = err_from_is_err_and c.from_residual.result c.from_residual.ensures.1 in
+    rw (p.1, p.2) (run_ends _ _ i.0 c.args.self.now.poller now new i.1 (as_wait now new c.step.ensures.waits) (λ is. c.in_err-now.ensures.unwaited.0 (ap Err (err_is _ _ (Err _) refl is)))
+    (λ fails. ap Err (err_is _ _ (Err _) refl (c.in_err-now.ensures.unwaited.1 fails))))
+
+pub returns-clause-waits : goal.returns-clause-waits
+returns-clause-waits g c = λ other. c.loop.invariant.waits
+
+pub returns-clause-unwaited : goal.returns-clause-unwaited
+returns-clause-unwaited g c =
+    let i = c.loop.invariant.waits in
+    not_failed _ _ i.0 c.args.self.now.poller c.loop.self.poller (λ is. clock_waits (err_is _ _ (Err _) refl is)) i.1

@@ -1,7 +1,7 @@
 use Rattle.std.proofs.Common.{ap, subst, sym}
-use Rattle.ipx_site.specs.Moments.{IsLoggedIfDue}
+use Rattle.ipx_sockets.specs.Moments.{IsLoggedIfDue}
 use Rattle.ipx_site.specs.declared.drop_log.DropLog.{DropLog}
-use Rattle.ipx_site.specs.declared.throttled_log.ThrottledLog.{ThrottledLog}
+use Rattle.ipx_sockets.specs.declared.throttled_log.ThrottledLog.{ThrottledLog}
 use Rattle.ipx_site.proofs.drop_log.DropLog.tell.Goals as goal
 
 pub returns : goal.returns

@@ -1,6 +1,6 @@
 use Rattle.std.proofs.Common.{◌∙◌, ℕ, subst, sym}
 use Rattle.ipx_site.specs.IdleTime.{EventCounts, counts_to_log, happened}
-use Rattle.ipx_site.specs.Moments.{AreLoggedIfDue}
+use Rattle.ipx_sockets.specs.Moments.{AreLoggedIfDue}
 use Rattle.ipx_site.specs.RouterRounds.{AsksAgain}
 use Rattle.ipx_site.specs.SiteCore.{SiteCore}
 use Rattle.ipx_site.specs.declared.warnings.Warnings.{Warnings}
@@ -9,7 +9,7 @@ use Rattle.ipx_site.proofs.running_router.RunningRouter.keep.Goals as goal
 pub returns-clause-told : goal.returns-clause-told
 returns-clause-told g c =
     let s = c.write_metrics.new.self in
-    let told = subst (λ (n : EventCounts). AreLoggedIfDue (counts_to_log n) c.args.now s.warnings.causes c.tell.new.self.causes) c.metrics-metrics.ensures c.tell.ensures in
+    let told = subst (λ (n : EventCounts). AreLoggedIfDue (counts_to_log n) c.args.now s.warnings.causes c.tell.new.self.causes) c.metrics-metrics.ensures.happened c.tell.ensures in
     subst (λ (t : Warnings). AreLoggedIfDue (counts_to_log (happened s.totals s.core s.ports)) c.args.now t.causes c.tell.new.self.causes)
     (c.write_metrics.ensures.warnings ∙ c.look.ensures.warnings ∙ c.ask.ensures.warnings) told
 

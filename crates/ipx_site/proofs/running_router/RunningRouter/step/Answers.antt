@@ -1,12 +1,13 @@
 use Rattle.std.proofs.Common.{◌≡◌, ◌∙◌, ◌++◌, ◌∷◌, [], ap, rules, subst, sym}
 use Rattle.ipx_carrier.specs.ReadySet.{is_any_marked}
 use Rattle.ipx_site.specs.IdleTime.{IsDue, deadlines, happened}
-use Rattle.ipx_site.specs.PollEvents.{Waited}
+use Rattle.ipx_sockets.specs.PollEvents.{Waited}
 use Rattle.ipx_site.specs.PortsView.{filtered_in_ports, ways_in}
+use Rattle.ipx_site.specs.RouterPings.{PingsFirst}
 use Rattle.ipx_site.specs.RouterRounds.{IsRound, SleepsAfter}
 use Rattle.ipx_site.specs.SiteMarks.{kind_marks, marks_in, port_marks}
-use Rattle.ipx_site.specs.Steady.{NeverGoesBack, StopsThere}
-use Rattle.ipx_site.proofs.MarksSeparate.{happened_separate, kept_separate}
+use Rattle.ipx_sockets.specs.Steady.{NeverGoesBack, StopsThere}
+use Rattle.ipx_site.proofs.MarksSeparate.{happened_separate, kept_separate, pings_separate}
 use Rattle.ipx_site.proofs.Rounds.{round_then, same_deadlines, sleeps_then}
 use Rattle.ipx_site.proofs.running_router.RunningRouter.step.Goals as goal
 
@@ -67,3 +68,15 @@ returns-clause-core g c =
       waits_once,
       c.mark_ready.ensures.marks,
     )
+
+pub returns-in_err-wait-clause-pings : goal.returns-in_err-wait-clause-pings
+returns-in_err-wait-clause-pings g c =
+    let old = c.args.self.now in
+    subst (λ it. PingsFirst it.ethernet.moment old.ports it) (sym c.rest-time.ensures.ports) c.round-batch.ensures.pings
+
+pub returns-clause-pings : goal.returns-clause-pings
+returns-clause-pings g c =
+    let old = c.args.self.now in
+    let t = c.rest-time.new.self in
+    pings_separate t.ports c.mark_ready.new.ports c.mark_ready.ensures.rest old.ports
+    (subst (λ it. PingsFirst it.ethernet.moment old.ports it) (sym c.rest-time.ensures.ports) c.round-batch.ensures.pings)

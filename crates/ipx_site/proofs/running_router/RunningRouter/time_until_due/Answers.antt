@@ -1,7 +1,7 @@
 use Rattle.std.proofs.Common.{◌≡◌, ◌∙◌, ◌≤◌, ◌<◌, ◌^◌, ◌↔◌, ℕ, List, Option, Some, ap, slice_get, subst}
 use Rattle.ipx_router.specs.Telling.{IsNextAdvertisement}
-use Rattle.ipx_site.specs.IdleTime.{IsLineDue, IsDue, deadlines, happened}
-use Rattle.ipx_site.specs.Moments.{HasPassed, IsReached, askings}
+use Rattle.ipx_site.specs.IdleTime.{IsLineDue, IsDue, deadlines, happened, askings}
+use Rattle.ipx_sockets.specs.Moments.{HasPassed, IsReached}
 use Rattle.ipxnet_server.specs.Pings.{IsNextPing}
 use Rattle.ipxnet_server.specs.ServerHears.{ServerView}
 use Rattle.ipx_ipxnet_ports.specs.OnServers.{is_any_pinged}
@@ -17,7 +17,7 @@ returns g c =
     let told = subst (λ (l : Option ℕ). IsNextAdvertisement l c.next_advertisement-telling.result) (ap (λ r. r.told) (c.router.ensures ∙ ap (λ k. k.router) (c.core-3.ensures ∙ ap (λ k. k.core) (c.core-2.ensures ∙ ap (λ k. k.core) c.core.ensures)))) c.next_advertisement-telling.ensures in
     let said = subst (λ (l : Option ℕ). IsNextAdvertisement l c.next_refresh-words.result) (ap (λ k. k.said) (c.core-5.ensures ∙ ap (λ k. k.core) c.core-4.ensures)) c.next_refresh-words.ensures in
     let looks = subst (λ period. (t : ℕ) → t < 2 ^ 64 → IsReached c.end_of-look.result t ↔ HasPassed period self.looked t) c.look_period.ensures c.end_of-look.ensures in
-    let lines = subst (λ n. (t : ℕ) → t < 2 ^ 64 → IsReached c.next.result t ↔ IsLineDue self.warnings n t) {y = count} c.metrics.ensures c.next.ensures in
+    let lines = subst (λ n. (t : ℕ) → t < 2 ^ 64 → IsReached c.next.result t ↔ IsLineDue self.warnings n t) {y = count} c.metrics.ensures.happened c.next.ensures in
     let servers = self.ports.servers.servers.items in
     let next = subst (λ (ls : List ServerView). IsNextPing (is_any_pinged ls) c.next_pings-pings.result) (ap (λ s. s.servers.items) c.servers.ensures) c.next_pings-pings.ensures in
     as_long (IsReached c.sooner-4.result) (IsDue (deadlines self.asked self.looked self.responses self.written self.core self.warnings count servers))

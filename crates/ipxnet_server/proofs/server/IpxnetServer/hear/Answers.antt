@@ -1,22 +1,24 @@
-use Rattle.std.proofs.Common.{◌≡◌, true, Some, length, not, ap, refl, subst, ◌∙◌}
-use Rattle.std.specs.Prelude.{is_some}
+use Rattle.std.proofs.Common.{◌≡◌, Bool, true, Some, length, ap, subst, ◌∙◌}
+use Rattle.std.specs.Prelude.{if◌then◌else◌, is_some}
 use Rattle.ipxnet_server.specs.declared.disposition.Disposition.{Disposition}
 use Rattle.ipx_wire.specs.Ipx.{BeginsWith, PacketView}
-use Rattle.ipxnet_server.specs.ServerClients.{client_at, client_heard}
+use Rattle.ipxnet_server.specs.ServerClients.{client_at, client_heard, node_of_place}
 use Rattle.ipxnet_server.specs.declared.drops.ServerDrop.TheVariants.{Malformed}
-use Rattle.ipxnet_server.specs.ServerHears.{ServerView, goes_to_core, is_of_client, may_reach_core, node_given, server_aged, server_dropping, server_hearing, server_hears, server_met}
+use Rattle.ipxnet_server.specs.ServerHears.{ServerView, goes_to_core, is_of_client, may_reach_core, server_admitting, server_aged, server_dropping, server_hearing, server_hears, server_met}
 use Rattle.ipxnet_server.specs.ServerInside.{StaysAmongClients}
 use Rattle.ipxnet_server.specs.PeerServers.{is_joined_place}
-use Rattle.ipxnet_server.proofs.Hears.{core_law, told_joined}
-use Rattle.ipxnet_server.proofs.Still.{hearing_clients, hearing_far, hearing_rest, heard_found, met_heard, met_joined, met_rest, others_clients, taker_kept}
+use Rattle.ipxnet_server.proofs.Hears.{core_law, registers_nobody, registers_no_client, told_joined}
+use Rattle.ipxnet_server.proofs.Remains.{met_remains, recent_left}
+use Rattle.ipxnet_server.proofs.Still.{client_kept, hearing_clients, hearing_far, hearing_rest, met_heard, met_joined, met_rest, others_clients}
 use Rattle.ipxnet_server.proofs.server.IpxnetServer.hear.Goals as goal
 
-pub keep-requires-clause-joined : goal.keep-requires-clause-joined
-keep-requires-clause-joined c =
-    λ told takers e. told_joined (is_joined_place c.args.from c.meet.new.self.routers) c.judge-heard.result told takers c.judge-heard.ensures.sound.member e
+pub keep-requires : goal.keep-requires
+keep-requires c = record {
+  joined = λ told takers e. told_joined (is_joined_place c.args.from c.meet.new.self.routers) c.judge-heard.result told takers c.judge-heard.ensures.sound.member e;
+}
 
--- only its clients changed before the packet was judged
-rest : (c : goal.After-keep) → record c.meet.new.self { clients = c.age.new.self.clients } ≡ server_aged c.args.now c.args.self.now
+-- only its clients, and who is noted, changed before the packet was judged
+rest : (c : goal.After-keep) → record c.meet.new.self { clients = c.age.new.self.clients; noted = c.age.new.self.noted } ≡ server_aged c.args.now c.args.self.now
 rest c = met_rest c.args.from c.args.now c.age.new.self c.meet.new.self c.meet.ensures.known ∙ c.age.ensures.aged
 
 -- the server has the routers that it had
@@ -59,26 +61,46 @@ returns-clause-stays c =
 stays : (c : goal.After-keep) → is_joined_place c.args.from c.args.self.now.routers ≡ true → StaysAmongClients c.judge-heard.result
 stays c is = c.judge-heard.ensures.sound.joined (routers c ∙ is)
 
+pub returns-clause-registration : goal.returns-clause-registration
+returns-clause-registration c =
+    let from = c.args.from in
+    let now = c.args.now in
+    let size = length c.args.bytes.now in
+    let heard = c.judge-heard.result in
+    let l = c.meet.new.self in
+    let aged : ServerView = server_aged now c.args.self.now in
+    λ p begins is.
+    let nobody : l ≡ aged = met c p begins ∙ ap (λ (b : Bool). if b then server_admitting from now aged else aged) (registers_nobody aged from p.header size now is) in
+    let of = ap is_of_client (c.judge-heard.ensures.packet p begins) ∙ registers_no_client l from p size now is in
+    ap (λ (v : ServerView). v.clients) c.keep.ensures ∙ others_clients heard from now l of ∙ ap (λ (v : ServerView). v.clients) nobody
+
 pub returns-clause-sender : goal.returns-clause-sender
 returns-clause-sender c =
     let from = c.args.from in
     let now = c.args.now in
     let heard = c.judge-heard.result in
     let l = c.meet.new.self in
-    λ e apart.
-    let sent : is_of_client heard ≡ true = c.judge-heard.ensures.sound.member (routers c ∙ apart) ∙ ap not e in
-    ap (λ (v : ServerView). client_at from v.clients) c.keep.ensures ∙ ap (client_at from) (hearing_clients heard from now l sent) ∙ heard_found l.most now (node_given l from) from l.clients
-    ∙ met_heard from now c.age.new.self l c.meet.ensures.known
-    ∙ ap (λ (v : ServerView). Some (client_heard (node_given v from) from now (client_at from v.clients))) c.age.ensures.aged
+    λ sent.
+    ap (λ (v : ServerView). client_at from v.clients) c.keep.ensures ∙ ap (client_at from) (hearing_clients heard from now l sent)
+    ∙ met_heard from now c.age.new.self l c.meet.ensures.known (c.judge-heard.ensures.sound.sender sent)
+    ∙ ap (λ (v : ServerView). Some (client_heard (node_of_place v.port from) from now (client_at from v.clients))) c.age.ensures.aged
+
+pub returns-clause-remains : goal.returns-clause-remains
+returns-clause-remains c =
+    let from = c.args.from in
+    let now = c.args.now in
+    let heard = c.judge-heard.result in
+    let l = c.meet.new.self in
+    λ place k found late.
+    let left : client_at place c.age.new.self.clients ≡ Some k = ap (λ (v : ServerView). client_at place v.clients) c.age.ensures.aged ∙ recent_left now place c.args.self.now.clients k found late in
+    let met_too = met_remains from place now c.age.new.self l k c.meet.ensures.known c.age.ensures.few c.age.ensures.once left late in
+    ap (λ (v : ServerView). is_some (client_at place v.clients)) c.keep.ensures ∙ client_kept heard from place now l met_too
 
 pub returns-clause-taker : goal.returns-clause-taker
 returns-clause-taker c =
-    let heard = c.judge-heard.result in
-    let l = c.meet.new.self in
-    let sound = c.judge-heard.ensures.sound in
     λ place e.
     ap (λ (v : ServerView). is_some (client_at place v.clients)) c.keep.ensures
-    ∙ taker_kept (is_of_client heard) heard c.args.from place c.args.now l refl c.meet.ensures.few sound.back e (λ sent. sound.sender place sent e) (sound.taker place e)
+    ∙ client_kept c.judge-heard.result c.args.from place c.args.now c.meet.new.self (c.judge-heard.ensures.sound.taker place e)
 
 pub returns-clause-core : goal.returns-clause-core
 returns-clause-core c =

@@ -1,7 +1,8 @@
-use Rattle.std.proofs.Common.{◌≡◌, ◌∙◌, ◌+◌, ◌-◌, ◌*◌, ◌<◌, ◌≤◌, ℕ, ap, arith, max, min, rules}
+use Rattle.std.proofs.Common.{◌≡◌, ◌∙◌, ◌+◌, ◌-◌, ◌*◌, ℕ, ap, arith, max, min, rules}
 use Rattle.std.proofs.lemmas.Grind.{common_steps}
 use Rattle.std.specs.Prelude.{if◌then◌else◌, nat_lt}
-use Rattle.spx_congestion.specs.Pacing.{PacerView}
+use Rattle.spx_congestion.specs.Measured.{trip_of}
+use Rattle.spx_congestion.specs.Pacing.{PacerView, grown_credit, rate_of}
 use Rattle.spx_congestion.proofs.Progress.{spares}
 use Rattle.spx_congestion.proofs.Tended.{tended_credit, tended_tick}
 use Rattle.spx_congestion.proofs.pacer.Pacer.plan.Goals as goal
@@ -24,12 +25,16 @@ returns-clause-tends c =
     let kept = tended_credit counted now in
     let same = ap (λ (p : PacerView). p.credit) c.count.ensures.value in cc) in
     let grown : ℕ → ℕ → ℕ = λ t n. if nat_lt t now then min (n + rate * (now - t)) (max (rate * 4) 2560) else n in
+    let window = c.self.inside.window in
+    let starting = nat_lt window.size window.threshold in
+    let rate_is : rate ≡ rate_of starting window.size (trip_of c.self.inside.trip).smoothed =
+    c.rate-rate.ensures.value ∙ ap (λ t. rate_of starting window.size t) c.smoothed.ensures in
     record {
       due = first_of (search rules, grind (arith, common_steps));
       grows = record {
-        rate = rate;
-        some = c.rate-rate.ensures.some;
-        credit = c.grow.ensures.amount ∙ ap (λ t. grown t held.amount) tick ∙ ap (λ n. grown old.tick n) credit;
+        starting = starting;
+        credit = c.grow.ensures.amount ∙ ap (λ t. grown t held.amount) tick ∙ ap (λ n. grown old.tick n) credit
+            ∙ ap (λ (r : ℕ). grown_credit r old now) rate_is;
         tick = c.grow.ensures.tick ∙ ap (λ t. max t now) tick;
       };
       wide = first_of (search rules, grind (arith, common_steps));

@@ -1,0 +1,15 @@
+pub mod Each
+pub mod Faults
+pub mod Found
+pub mod Naming
+pub mod Circles
+pub mod Own
+pub mod StaticEntries
+pub mod Numbered
+pub mod Addresses
+pub mod Access
+pub mod Printed
+pub mod WireEnds
+pub mod WrittenStations
+pub mod StationFaults
+pub mod TemporaryNames

@@ -1,0 +1,58 @@
+use Rattle.std.proofs.Common.{inl, inr}
+use Rattle.std.proofs.lemmas.Result.{err_from_is_err_and}
+use Rattle.toml.specs.View.{table_view}
+use Rattle.ipx_config.specs.declared.key.Key.TheVariants as Key
+use Rattle.ipx_config.specs.IpxnetTable.{IsIpxnetFault}
+use Rattle.ipx_config.specs.Values.{IsCount}
+use Rattle.ipx_config.specs.EthernetValues.{IsStation}
+use Rattle.ipx_config.proofs.Faults.{or_memory, right_or}
+use Rattle.ipx_config.proofs.ipxnet_fields.ipxnet_port_in.Goals as goal
+
+pub returns-in_err-cost-clause-fault : goal.returns-in_err-cost-clause-fault
+returns-in_err-cost-clause-fault c =
+    let p = err_from_is_err_and c.from_residual-in_err-cost.result c.from_residual-in_err-cost.ensures.1 in
+    rw (p.1, p.2)
+    (or_memory {B = IsIpxnetFault c.args.number (table_view c.args.table.now) c.in_err-cost.field-0.0} _ (λ fault. inr (c.in_ok-refuse_stray.ensures.known, inr ((c.in_ok-network.network, c.in_ok-network.ensures), inr ((c.in_ok-address.address, c.in_ok-address.ensures), inr (right_or (IsCount 65535) Key.UdpPort (table_view c.args.table.now) 213 c.in_ok-udp_port.udp_port c.in_ok-udp_port.ensures, inl fault)))))
+    c.in_err-cost.ensures)
+
+pub returns-in_err-node-clause-fault : goal.returns-in_err-node-clause-fault
+returns-in_err-node-clause-fault c =
+    let p = err_from_is_err_and c.from_residual-in_err-node.result c.from_residual-in_err-node.ensures.1 in
+    rw (p.1, p.2)
+    (or_memory {B = IsIpxnetFault c.args.number (table_view c.args.table.now) c.in_err-node.field-0.0} _ (λ fault. inr (c.in_ok-refuse_stray.ensures.known, inr ((c.in_ok-network.network, c.in_ok-network.ensures), inr ((c.in_ok-address.address, c.in_ok-address.ensures), inr (right_or (IsCount 65535) Key.UdpPort (table_view c.args.table.now) 213 c.in_ok-udp_port.udp_port c.in_ok-udp_port.ensures, inr (right_or (IsCount 65535) Key.Cost (table_view c.args.table.now) 1 c.in_ok-cost.cost c.in_ok-cost.ensures, inl fault))))))
+    c.in_err-node.ensures)
+
+pub returns-in_err-clients-clause-fault : goal.returns-in_err-clients-clause-fault
+returns-in_err-clients-clause-fault c =
+    let p = err_from_is_err_and c.from_residual-in_err-clients.result c.from_residual-in_err-clients.ensures.1 in
+    rw (p.1, p.2)
+    (or_memory {B = IsIpxnetFault c.args.number (table_view c.args.table.now) c.in_err-clients.field-0.0} _ (λ fault. inr (c.in_ok-refuse_stray.ensures.known, inr ((c.in_ok-network.network, c.in_ok-network.ensures), inr ((c.in_ok-address.address, c.in_ok-address.ensures), inr (right_or (IsCount 65535) Key.UdpPort (table_view c.args.table.now) 213 c.in_ok-udp_port.udp_port c.in_ok-udp_port.ensures, inr (right_or (IsCount 65535) Key.Cost (table_view c.args.table.now) 1 c.in_ok-cost.cost c.in_ok-cost.ensures, inr (right_or IsStation Key.Node (table_view c.args.table.now) _ c.in_ok-node.node c.in_ok-node.ensures, inl fault)))))))
+    c.in_err-clients.ensures)
+
+pub returns-in_err-accept-clause-fault : goal.returns-in_err-accept-clause-fault
+returns-in_err-accept-clause-fault c =
+    let p = err_from_is_err_and c.from_residual-in_err-accept.result c.from_residual-in_err-accept.ensures.1 in
+    rw (p.1, p.2)
+    (or_memory {B = IsIpxnetFault c.args.number (table_view c.args.table.now) c.in_err-accept.field-0.0} _ (λ fault. inr (c.in_ok-refuse_stray.ensures.known, inr ((c.in_ok-network.network, c.in_ok-network.ensures), inr ((c.in_ok-address.address, c.in_ok-address.ensures), inr (right_or (IsCount 65535) Key.UdpPort (table_view c.args.table.now) 213 c.in_ok-udp_port.udp_port c.in_ok-udp_port.ensures, inr (right_or (IsCount 65535) Key.Cost (table_view c.args.table.now) 1 c.in_ok-cost.cost c.in_ok-cost.ensures, inr (right_or IsStation Key.Node (table_view c.args.table.now) _ c.in_ok-node.node c.in_ok-node.ensures, inr (right_or (IsCount 150) Key.Clients (table_view c.args.table.now) 64 c.in_ok-clients.clients c.in_ok-clients.ensures, inl fault))))))))
+    c.in_err-accept.ensures)
+
+pub returns-in_err-peers-clause-fault : goal.returns-in_err-peers-clause-fault
+returns-in_err-peers-clause-fault c =
+    let p = err_from_is_err_and c.from_residual-in_err-peers.result c.from_residual-in_err-peers.ensures.1 in
+    rw (p.1, p.2)
+    (or_memory {B = IsIpxnetFault c.args.number (table_view c.args.table.now) c.in_err-peers.field-0.0} _ (λ fault. inr (c.in_ok-refuse_stray.ensures.known, inr ((c.in_ok-network.network, c.in_ok-network.ensures), inr ((c.in_ok-address.address, c.in_ok-address.ensures), inr (right_or (IsCount 65535) Key.UdpPort (table_view c.args.table.now) 213 c.in_ok-udp_port.udp_port c.in_ok-udp_port.ensures, inr (right_or (IsCount 65535) Key.Cost (table_view c.args.table.now) 1 c.in_ok-cost.cost c.in_ok-cost.ensures, inr (right_or IsStation Key.Node (table_view c.args.table.now) _ c.in_ok-node.node c.in_ok-node.ensures, inr (right_or (IsCount 150) Key.Clients (table_view c.args.table.now) 64 c.in_ok-clients.clients c.in_ok-clients.ensures, inr (c.in_ok-accept.accept, c.in_ok-accept.ensures, inl fault)))))))))
+    c.in_err-peers.ensures.fault)
+
+pub returns-in_err-join-clause-fault : goal.returns-in_err-join-clause-fault
+returns-in_err-join-clause-fault c =
+    let p = err_from_is_err_and c.from_residual-in_err-join.result c.from_residual-in_err-join.ensures.1 in
+    rw (p.1, p.2)
+    (or_memory {B = IsIpxnetFault c.args.number (table_view c.args.table.now) c.in_err-join.field-0.0} _ (λ fault. inr (c.in_ok-refuse_stray.ensures.known, inr ((c.in_ok-network.network, c.in_ok-network.ensures), inr ((c.in_ok-address.address, c.in_ok-address.ensures), inr (right_or (IsCount 65535) Key.UdpPort (table_view c.args.table.now) 213 c.in_ok-udp_port.udp_port c.in_ok-udp_port.ensures, inr (right_or (IsCount 65535) Key.Cost (table_view c.args.table.now) 1 c.in_ok-cost.cost c.in_ok-cost.ensures, inr (right_or IsStation Key.Node (table_view c.args.table.now) _ c.in_ok-node.node c.in_ok-node.ensures, inr (right_or (IsCount 150) Key.Clients (table_view c.args.table.now) 64 c.in_ok-clients.clients c.in_ok-clients.ensures, inr (c.in_ok-accept.accept, c.in_ok-accept.ensures, inr (c.in_ok-peers.peers, c.in_ok-peers.ensures.peers, inl fault))))))))))
+    c.in_err-join.ensures.fault)
+
+pub returns-in_err-directed-clause-fault : goal.returns-in_err-directed-clause-fault
+returns-in_err-directed-clause-fault c =
+    let p = err_from_is_err_and c.from_residual-in_err-directed.result c.from_residual-in_err-directed.ensures.1 in
+    rw (p.1, p.2)
+    (or_memory {B = IsIpxnetFault c.args.number (table_view c.args.table.now) c.in_err-directed.field-0.0} _ (λ fault. inr (c.in_ok-refuse_stray.ensures.known, inr ((c.in_ok-network.network, c.in_ok-network.ensures), inr ((c.in_ok-address.address, c.in_ok-address.ensures), inr (right_or (IsCount 65535) Key.UdpPort (table_view c.args.table.now) 213 c.in_ok-udp_port.udp_port c.in_ok-udp_port.ensures, inr (right_or (IsCount 65535) Key.Cost (table_view c.args.table.now) 1 c.in_ok-cost.cost c.in_ok-cost.ensures, inr (right_or IsStation Key.Node (table_view c.args.table.now) _ c.in_ok-node.node c.in_ok-node.ensures, inr (right_or (IsCount 150) Key.Clients (table_view c.args.table.now) 64 c.in_ok-clients.clients c.in_ok-clients.ensures, inr (c.in_ok-accept.accept, c.in_ok-accept.ensures, inr (c.in_ok-peers.peers, c.in_ok-peers.ensures.peers, inr (c.in_ok-join.join, c.in_ok-join.ensures.join, fault)))))))))))
+    c.in_err-directed.ensures)

@@ -1,0 +1,155 @@
+//! Reading configuration files.
+
+ghost use Rattle.std.specs.Prelude.{◌≡◌, ◌⊎◌, ℕ, List, All, Err, IfErr, IfOk};
+ghost use Rattle.ipx_router.specs.NewRouter.{IsOwnNetwork};
+ghost use Rattle.ipx_config.specs.StaticLists.{HearsAtPorts};
+ghost use Rattle.ipx_config.specs.Host.{IsHostText, IsHostTextFault};
+ghost use Rattle.ipx_config.specs.Loading.{IsFileText, IsStatus, fault_status};
+ghost use Rattle.ipx_config.specs.SitePorts.{router_ports};
+ghost use Rattle.ipx_config.specs.Site.{IsSiteText, IsSiteTextFault};
+
+use crate::fault::ConfigError;
+use crate::host::{HostConfig, read_host};
+use crate::reading::read_site;
+use crate::site::RouterConfig;
+use ipx_inspect::{InputFault, read_up_to};
+use std::alloc::Global;
+use std::fs::File;
+use std::rt::Files;
+use std::{io, str};
+
+/// The longest file, in bytes.
+pub(crate) const MAX: usize = 65_536;
+
+/// Reports what is wrong with a file, and returns the exit status for it.
+pub(crate) fn tell<R: Eprint>(rt: &R, path: &str, what: &str) -> u8
+    ensures { result ≡ 2 }
+{
+    let _ = eprintln!(rt; "{path}: {what}");
+    2
+}
+
+pub fn tell_no_memory<R: Eprint>(rt: &R, path: &str) -> u8
+    ensures { result ≡ 1 }
+{
+    let _ = eprintln!(rt; "{path}: out of memory");
+    1
+}
+
+/// Reports a fault of a file's text, and returns the exit status.
+fn tell_fault<R: Eprint>(rt: &R, path: &str, fault: &ConfigError) -> u8
+    ensures { result ≡ fault_status fault.now }
+{
+    if let ConfigError::OutOfMemory = fault {
+        return tell_no_memory(rt, path);
+    }
+    let _ = eprintln!(rt; "{path}: {fault}");
+    2
+}
+
+/// Reports why a file could not be read, and returns the exit status.
+fn tell_unread<R: Eprint>(rt: &R, path: &str, error: &io::Error) -> u8
+    ensures { (result ≡ 1) ⊎ (result ≡ 2) }
+{
+    match error.kind() {
+        io::ErrorKind::OutOfMemory => tell_no_memory(rt, path),
+        _ => {
+            let _ = eprintln!(rt; "{path}: {error}");
+            2
+        }
+    }
+}
+
+/// The bytes of a file, at most `most` of them.
+pub(crate) fn read_bytes<R: Files + Eprint>(
+    rt: &R,
+    alloc: Global,
+    path: &str,
+    most: usize,
+) -> Result<Vec<u8>, u8>
+    ensures { IfErr result (λ status. (status ≡ 1) ⊎ (status ≡ 2)) }
+{
+    let mut file = match File::open(rt, path) {
+        Ok(file) => file,
+        Err(error) => return Err(tell_unread(rt, path, &error)),
+    };
+    match read_up_to(alloc, &mut file, most) {
+        Ok(bytes) => Ok(bytes),
+        Err(InputFault::Memory) => Err(tell_no_memory(rt, path)),
+        Err(InputFault::Read) => Err(tell(rt, path, "the file cannot be read")),
+    }
+}
+
+/// The text of a file's bytes, if they are UTF-8 and not too many.
+fn text_of<'a, R: Eprint>(rt: &R, path: &str, bytes: &'a [u8]) -> Result<&'a str, u8>
+    ensures text { IfOk result (λ s. (s.now ≡ bytes.now) × IsFileText bytes.now) }
+    ensures fault { IfErr result (λ status. (status ≡ 2) × (IsFileText bytes.now → ⊥)) }
+{
+    if bytes.len() > MAX {
+        return Err(tell(rt, path, "the file has more than 65536 bytes"));
+    }
+    match str::from_utf8(bytes) {
+        Ok(text) => Ok(text),
+        Err(_) => Err(tell(rt, path, "the file is not UTF-8 text")),
+    }
+}
+
+/// The configuration that the bytes of a router's file describe.
+pub(crate) fn site_in<R: Eprint>(
+    rt: &R,
+    alloc: Global,
+    path: &str,
+    bytes: &[u8],
+) -> Result<RouterConfig, u8>
+    ensures site { IfOk result (λ s. IsFileText bytes.now × IsSiteText bytes.now s) }
+    ensures own { IfOk result (λ s. All IsOwnNetwork (router_ports s.ports.items)) }
+    ensures there { IfOk result HearsAtPorts }
+    ensures no_text { (IsFileText bytes.now → ⊥) → result ≡ Err 2 }
+    ensures fault { IfErr result (IsStatus (IsSiteTextFault bytes.now) bytes.now) }
+{
+    let text = text_of(rt, path, bytes)?;
+    match read_site(alloc, text) {
+        Ok(site) => Ok(site),
+        Err(fault) => Err(tell_fault(rt, path, &fault)),
+    }
+}
+
+/// The configuration that the bytes of a host's file describe.
+pub(crate) fn host_in<R: Eprint>(
+    rt: &R,
+    alloc: Global,
+    path: &str,
+    bytes: &[u8],
+) -> Result<HostConfig, u8>
+    ensures host { IfOk result (λ h. IsFileText bytes.now × IsHostText bytes.now h) }
+    ensures no_text { (IsFileText bytes.now → ⊥) → result ≡ Err 2 }
+    ensures fault { IfErr result (IsStatus (IsHostTextFault bytes.now) bytes.now) }
+{
+    let text = text_of(rt, path, bytes)?;
+    match read_host(alloc, text) {
+        Ok(host) => Ok(host),
+        Err(fault) => Err(tell_fault(rt, path, &fault)),
+    }
+}
+
+/// Reads the file of a router. A fault is reported in one line on standard error that begins with
+/// the path. The error is the exit status: 2, or 1 if out of memory.
+pub fn load_site<R: Files + Eprint>(rt: &R, alloc: Global, path: &str) -> Result<RouterConfig, u8>
+    // The result is a configuration that some file text describes.
+    ensures site { IfOk result (λ s. (text : List ℕ) × IsFileText text × IsSiteText text s) }
+    ensures own { IfOk result (λ s. All IsOwnNetwork (router_ports s.ports.items)) }
+    ensures there { IfOk result HearsAtPorts }
+    ensures fault { IfErr result (λ status. (status ≡ 1) ⊎ (status ≡ 2)) }
+{
+    let bytes = read_bytes(rt, alloc, path, MAX + 1)?;
+    site_in(rt, alloc, path, &bytes)
+}
+
+/// Reads the file of a host, as `load_site` does that of a router.
+pub fn load_host<R: Files + Eprint>(rt: &R, alloc: Global, path: &str) -> Result<HostConfig, u8>
+    ensures host { IfOk result (λ h. (text : List ℕ) × IsFileText text × IsHostText text h) }
+    ensures fault { IfErr result (λ status. (status ≡ 1) ⊎ (status ≡ 2)) }
+{
+    let bytes = read_bytes(rt, alloc, path, MAX + 1)?;
+    host_in(rt, alloc, path, &bytes)
+}

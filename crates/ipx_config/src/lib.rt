@@ -1,0 +1,57 @@
+//! The configuration files of routers and hosts.
+//!
+//! [`read_site`] parses the file of a router, and [`read_host`] that of a host. [`load_site`] and
+//! [`load_host`] read them from disk. [`check_site`] prints what a file says.
+#![tactic(auto)]
+
+mod allowed_peer;
+mod checking;
+mod config_file;
+mod destination;
+mod escaped;
+mod ethernet_fields;
+mod ethernet_values;
+mod fault;
+mod fields;
+mod files;
+mod host;
+mod ipxnet_fields;
+mod ipxnet_port;
+mod key;
+mod neighbours;
+mod port;
+mod reading;
+mod sameness;
+mod site;
+mod start_lines;
+mod static_fields;
+mod static_lines;
+mod static_lists;
+mod static_tables;
+mod static_values;
+mod statics;
+mod status;
+mod target;
+mod text;
+mod toml_text;
+mod values;
+
+pub use allowed_peer::AllowedPeer;
+pub use checking::{check_site, peers_to_remarks, write_checked};
+pub use config_file::{ConfigFile, load_config, load_tables};
+pub use destination::{dialed_ip, is_nowhere, is_on_own_network, peer_address_of, tell_nowhere};
+pub use escaped::Escaped;
+pub use fault::ConfigError;
+pub use files::{load_host, load_site, tell_no_memory};
+pub use host::{HostConfig, read_host};
+pub use ipxnet_port::IpxnetPortConfig;
+pub use key::Key;
+pub use reading::read_site;
+pub use sameness::{is_same_ip, is_same_node};
+pub use site::{
+    Accept, Directed, EthernetPortConfig, Kind, PortConfig, Rfc1234PortConfig, RouterConfig,
+};
+pub use start_lines::{dotted, others, ports_to_texts, reached_to_text};
+pub use statics::{StaticEntry, StaticItem, is_one_source};
+pub use status::{TEMPORARY, write_whole};
+pub use target::{Target, TargetFault};

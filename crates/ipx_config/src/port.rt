@@ -1,0 +1,100 @@
+//! The table of a port.
+
+ghost use Rattle.std.specs.Prelude.{◌≡◌, ◌⊎◌, IfErr, IfOk};
+ghost use Rattle.toml.specs.View.{table_view};
+ghost use Rattle.ipx_config.specs.EthernetTable.{IsFramesFault, IsFramesTable, IsKindFault, IsPortOfKind};
+ghost use Rattle.ipx_config.specs.Port.{IsPortTable, IsPortFault};
+
+use crate::ethernet_fields::{
+    encapsulation_in, remotes_in, required_count_in, station_in, switch_in,
+};
+use crate::ethernet_values::station_at;
+use crate::fault::ConfigError;
+use crate::fields::{
+    accept_in, address_in, count_in, directed_in, kind_in, network_in, peers_in, port_routers_in,
+    refuse_stray,
+};
+use crate::ipxnet_fields::ipxnet_port_in;
+use crate::key::Key;
+use crate::site::{EthernetPortConfig, Kind, PortConfig, Rfc1234PortConfig};
+use ipx_carrier::UDP_PORT;
+use std::alloc::Global;
+use toml::Table;
+
+/// The RFC 1234 port that the table with this number describes.
+fn rfc1234_port(
+    alloc: Global,
+    table: &Table,
+    number: usize,
+) -> Result<Rfc1234PortConfig, ConfigError>
+    ensures port { IfOk result (IsPortTable (table_view table.now)) }
+    ensures fault { IfErr result (λ f.
+        (f ≡ ConfigError.OutOfMemory) ⊎ IsPortFault number (table_view table.now) f) }
+{
+    refuse_stray(alloc, table, number, Kind::Rfc1234)?;
+    let network = network_in(table, number)?;
+    let address = address_in(table, number, Key::Address)?;
+    let udp_port = count_in(table, number, Key::UdpPort, 65535, UDP_PORT)?;
+    let cost = count_in(table, number, Key::Cost, 65535, 1)?;
+    let peers = peers_in(alloc, table, number)?;
+    let routers = port_routers_in(alloc, table, number, &peers)?;
+    let accept = accept_in(table, number)?;
+    let directed = directed_in(table, number)?;
+    Ok(Rfc1234PortConfig {
+        network,
+        address,
+        udp_port,
+        cost,
+        peers,
+        routers,
+        accept,
+        directed,
+    })
+}
+
+/// The Ethernet port that the table with this number describes.
+fn frames_port(
+    alloc: Global,
+    table: &Table,
+    number: usize,
+) -> Result<EthernetPortConfig, ConfigError>
+    ensures port { IfOk result (IsFramesTable (table_view table.now)) }
+    ensures fault { IfErr result (λ f.
+        (f ≡ ConfigError.OutOfMemory) ⊎ IsFramesFault number (table_view table.now) f) }
+{
+    refuse_stray(alloc, table, number, Kind::Frames)?;
+    let network = network_in(table, number)?;
+    let encapsulation = encapsulation_in(table, number)?;
+    let address = address_in(table, number, Key::Address)?;
+    let udp_port = required_count_in(table, number, Key::UdpPort, 65535)?;
+    let cost = count_in(table, number, Key::Cost, 65535, 1)?;
+    let ends = remotes_in(alloc, table, number)?;
+    let made = station_at(address, udp_port);
+    let node = station_in(table, number, made)?;
+    let joined = switch_in(table, number)?;
+    let directed = directed_in(table, number)?;
+    Ok(EthernetPortConfig {
+        network,
+        encapsulation,
+        address,
+        udp_port,
+        cost,
+        ends,
+        node,
+        joined,
+        directed,
+    })
+}
+
+/// The port that the table with this number describes.
+pub fn port_of(alloc: Global, table: &Table, number: usize) -> Result<PortConfig, ConfigError>
+    ensures port { IfOk result (IsPortOfKind (table_view table.now)) }
+    ensures fault { IfErr result (λ f.
+        (f ≡ ConfigError.OutOfMemory) ⊎ IsKindFault number (table_view table.now) f) }
+{
+    match kind_in(table, number)? {
+        Kind::Rfc1234 => Ok(PortConfig::Rfc1234(rfc1234_port(alloc, table, number)?)),
+        Kind::Frames => Ok(PortConfig::Frames(frames_port(alloc, table, number)?)),
+        Kind::Ipxnet => Ok(PortConfig::Ipxnet(ipxnet_port_in(alloc, table, number)?)),
+    }
+}

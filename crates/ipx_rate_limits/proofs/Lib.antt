@@ -1,0 +1,5 @@
+pub mod Taken
+pub mod Hearings
+pub mod PortRates
+pub mod PortTokens
+pub mod NarrowHearings

@@ -1,0 +1,5 @@
+use Rattle.ipx_rate_limits.proofs.Hearings.{seldom}
+use Rattle.ipx_rate_limits.proofs.query_rate.query_rate_is_bounded.Goals as goal
+
+pub returns : goal.returns
+returns g c = seldom g.C.Core.hears

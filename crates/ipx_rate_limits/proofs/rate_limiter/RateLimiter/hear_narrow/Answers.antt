@@ -1,0 +1,14 @@
+use Rattle.std.proofs.Common.{ap, inl, rules, subst, sym}
+use Rattle.ipx_rate_limits.specs.TokenBuckets.{TokenBucketsView, HasNarrowToken}
+use Rattle.ipx_rate_limits.specs.RateLimiter.{HearsNarrow, IsNarrowQuery, RateLimiterView}
+use Rattle.ipx_rate_limits.proofs.rate_limiter.RateLimiter.hear_narrow.Goals as goal
+
+pub returns-clause-heard : goal.returns-clause-heard
+returns-clause-heard g c =
+    let inside = c.self.inside in
+    let who = c.args.querier in
+    let by : TokenBucketsView → RateLimiterView g.row.C.Denot = λ a. record { core = c.hear.new.self; ports = inside.ports.items; buckets = a; kept = inside.kept; directed = inside.directed } in
+    let query = subst (λ (v : RateLimiterView g.row.C.Denot). IsNarrowQuery v.ports c.args.port c.args.bytes.now who) (sym c.self.view_is) c.requires.asks in
+    let has : HasNarrowToken inside.buckets who c.args.now = search rules in
+    subst (λ (v : RateLimiterView g.row.C.Denot). HearsNarrow g.C.Core.hears v c.args.port c.args.bytes.now c.args.now (by c.take_narrow_token.new.self)) c.self.view_is
+    (inl (who, (query, has, c.in_ok-hear.ensures.heard, ap by c.take_narrow_token.ensures)))

@@ -1,0 +1,7 @@
+pub mod TokenBucket
+pub mod PortBuckets
+pub mod TokenBuckets
+pub mod DirectedBroadcasts
+pub mod PortLimits
+pub mod RateLimiter
+pub mod QueryRate

@@ -1,9 +1,0 @@
-use Rattle.std.proofs.Common.{◌∙◌, rules, sym}
-use Rattle.ipx_ethernet_ports.specs.EthernetAddresses.{ethernet_fds}
-use Rattle.ipx_site.proofs.Watching.{watched_more}
-use Rattle.ipx_site.proofs.poller.Poller.watch_ethernet.Goals as goal
-
-pub loop-wire-preserved : goal.loop-wire-preserved
-loop-wire-preserved c =
-    let (fd, is, more) = c.in_ok-watch_socket.ensures.trace in
-    (search rules, watched_more (ethernet_fds c.args.sockets.now.ethernet.items) c.loop-wire.wire fd c.args.self.now.trace.items c.loop-wire.self.trace.items c.watch_socket.new.self.trace.items c.loop-wire.invariant.1 (sym c.descriptor.ensures ∙ is) more, search rules)

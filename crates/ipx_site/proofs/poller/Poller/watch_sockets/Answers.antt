@@ -1,9 +1,0 @@
-use Rattle.std.proofs.Common.{◌∙◌, rules, sym}
-use Rattle.ipx_site.specs.Senders.{udp_fds}
-use Rattle.ipx_site.proofs.Watching.{watched_more}
-use Rattle.ipx_site.proofs.poller.Poller.watch_sockets.Goals as goal
-
-pub loop-port-preserved : goal.loop-port-preserved
-loop-port-preserved c =
-    let (fd, is, more) = c.in_ok-watch_socket.ensures.trace in
-    (search rules, watched_more (udp_fds c.args.sockets.now.sockets.items) c.loop-port.port fd c.args.self.now.trace.items c.loop-port.self.trace.items c.watch_socket.new.self.trace.items c.loop-port.invariant.1 (sym c.descriptor.ensures ∙ is) more, search rules)

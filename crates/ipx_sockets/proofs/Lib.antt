@@ -1,0 +1,4 @@
+pub mod Watching
+pub mod KeptSums
+pub mod OneDue
+pub mod Waits
