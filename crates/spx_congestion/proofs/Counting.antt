@@ -2,7 +2,7 @@
 use Rattle.std.proofs.Common.{◌≡◌, ◌+◌, ◌-◌, ◌^◌, ◌∙◌, ◌≤◌, ℕ, Bool, true, false, Some, ap, arith, min, refl}
 use Rattle.std.proofs.lemmas.Bool.{leb-true, le-leb}
 use Rattle.std.specs.Prelude.{if◌then◌else◌}
-use Rattle.spx_congestion.specs.Pacing.{PacerView, Tends, behind, given_by, is_over, missing_at, tended, waits_till, with_outstanding}
+use Rattle.spx_congestion.specs.Pacing.{PacerView, Tends, saturating_sum, given_by, is_over, missing_at, tended, waits_till, with_outstanding}
 use Rattle.spx_congestion.specs.Timeouts.{GivesUpAfterTen, HasTimedOut, begins, times_out, plans, hears_new, hears, gives}
 use Rattle.spx_congestion.specs.declared.sent_kind.SentKind.{SentKind}
 use Rattle.spx_congestion.specs.declared.sent_kind.SentKind.TheVariants as Gaves
@@ -19,8 +19,8 @@ after_tending false false x y p n one same same' = same'
 
 tended_count : (p : PacerView) (now : ℕ) → (tended p now).trip.doubled ≡ (if is_over (waits_till p) now then min (p.trip.doubled + 1) most else p.trip.doubled)
 tended_count p now =
-    let x = record p { left = p.out; in_flight = 0; from = p.base; to = behind p.base 1; trip = record p.trip { doubled = min (p.trip.doubled + 1) (2 ^ 32 - 1) }; timer = Some now; recover = Some (behind p.base p.out); run = 1; fixed = behind p.base 1; mends = false; fixed_at = now; tries = 0 } in
-    let y = record p { from = p.base; to = behind p.base 1; tries = min (p.tries + 1) (2 ^ 32 - 1) } in
+    let x = record p { left = p.out; in_flight = 0; from = p.base; to = saturating_sum p.base 1; trip = record p.trip { doubled = min (p.trip.doubled + 1) (2 ^ 32 - 1) }; timer = Some now; recover = Some (saturating_sum p.base p.out); run = 1; fixed = saturating_sum p.base 1; mends = false; fixed_at = now; tries = 0 } in
+    let y = record p { from = p.base; to = saturating_sum p.base 1; tries = min (p.tries + 1) (2 ^ 32 - 1) } in
     after_tending (is_over (waits_till p) now) (is_over (missing_at p) now) x y p p.trip.doubled refl refl refl
 
 tends_count : (old new : PacerView) (out now : ℕ) → Tends old out now new

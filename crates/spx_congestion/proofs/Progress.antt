@@ -3,7 +3,7 @@ use Rattle.std.proofs.Common.{◌≡◌, ◌+◌, ◌-◌, ◌*◌, ◌/◌, ◌
 use Rattle.std.proofs.Math.Nat.{mul-le-mul_right}
 use Rattle.std.proofs.lemmas.Bool.{lt-ltb, ltb-false, ltb-true}
 use Rattle.std.specs.Prelude.{◌&&◌, if◌then◌else◌, nat_lt}
-use Rattle.spx_congestion.specs.Pacing.{GrowsCredit, PacerView, Tends, behind, credit_after, given_by, grown_credit, has_credit, is_over, missing_at, open_to, place_again, plan_of, rate_of, spare, with_outstanding}
+use Rattle.spx_congestion.specs.Pacing.{GrowsCredit, PacerView, Tends, saturating_sum, credit_after, given_by, grown_credit, has_credit, is_over, missing_at, open_to, place_again, plan_of, rate_of, spare, with_outstanding}
 use Rattle.spx_congestion.specs.Saving.{HasSaved, PlansGoOn, begins, plans, hears, gives}
 use Rattle.spx_congestion.specs.declared.sent_kind.SentKind.{SentKind}
 use Rattle.spx_congestion.specs.declared.sent_kind.SentKind.TheVariants as Gaves
@@ -78,7 +78,7 @@ idle_if false x y p q = q
 idle_of : (old new : PacerView) (now : ℕ) → Tends old 0 now new → (new.out ≡ 0) × (new.in_flight ≡ 0)
 idle_of old new now tends =
     let w = with_outstanding old 0 now in
-    let x = record w { from = w.base; to = behind w.base 1; tries = min (w.tries + 1) (2 ^ 32 - 1) } in
+    let x = record w { from = w.base; to = saturating_sum w.base 1; tries = min (w.tries + 1) (2 ^ 32 - 1) } in
     let P : PacerView → Type 0 = λ p. (p.out ≡ 0) × (p.in_flight ≡ 0) in
     subst P (sym tends.due) (idle_if (is_over (missing_at w) now) x w (refl, refl) (refl, refl))
 

@@ -1,7 +1,7 @@
 -- What is due by itself changes no credit.
 use Rattle.std.proofs.Common.{◌≡◌, ◌+◌, ◌^◌, ◌-◌, ℕ, Bool, true, false, Some, min, refl}
 use Rattle.std.specs.Prelude.{if◌then◌else◌}
-use Rattle.spx_congestion.specs.Pacing.{PacerView, behind, is_over, missing_at, tended, waits_till}
+use Rattle.spx_congestion.specs.Pacing.{PacerView, saturating_sum, is_over, missing_at, tended, waits_till}
 
 same_if : (f : PacerView → ℕ) (b : Bool) (x y : PacerView) (n : ℕ) → f x ≡ n → f y ≡ n → f (if b then x else y) ≡ n
 same_if f true x y n p q = p
@@ -9,11 +9,11 @@ same_if f false x y n p q = q
 
 -- a number of a pacer that is the same whatever is due
 kept : (f : PacerView → ℕ) (p : PacerView) (now : ℕ)
-    → f (record p { left = p.out; in_flight = 0; from = p.base; to = behind p.base 1; trip = record p.trip { doubled = min (p.trip.doubled + 1) (2 ^ 32 - 1) }; timer = Some now; recover = Some (behind p.base p.out); run = 1; fixed = behind p.base 1; mends = false; fixed_at = now; tries = 0 }) ≡ f p
-    → f (record p { from = p.base; to = behind p.base 1; tries = min (p.tries + 1) (2 ^ 32 - 1) }) ≡ f p → f (tended p now) ≡ f p
+    → f (record p { left = p.out; in_flight = 0; from = p.base; to = saturating_sum p.base 1; trip = record p.trip { doubled = min (p.trip.doubled + 1) (2 ^ 32 - 1) }; timer = Some now; recover = Some (saturating_sum p.base p.out); run = 1; fixed = saturating_sum p.base 1; mends = false; fixed_at = now; tries = 0 }) ≡ f p
+    → f (record p { from = p.base; to = saturating_sum p.base 1; tries = min (p.tries + 1) (2 ^ 32 - 1) }) ≡ f p → f (tended p now) ≡ f p
 kept f p now timed again =
-    let x = record p { left = p.out; in_flight = 0; from = p.base; to = behind p.base 1; trip = record p.trip { doubled = min (p.trip.doubled + 1) (2 ^ 32 - 1) }; timer = Some now; recover = Some (behind p.base p.out); run = 1; fixed = behind p.base 1; mends = false; fixed_at = now; tries = 0 } in
-    let y = record p { from = p.base; to = behind p.base 1; tries = min (p.tries + 1) (2 ^ 32 - 1) } in
+    let x = record p { left = p.out; in_flight = 0; from = p.base; to = saturating_sum p.base 1; trip = record p.trip { doubled = min (p.trip.doubled + 1) (2 ^ 32 - 1) }; timer = Some now; recover = Some (saturating_sum p.base p.out); run = 1; fixed = saturating_sum p.base 1; mends = false; fixed_at = now; tries = 0 } in
+    let y = record p { from = p.base; to = saturating_sum p.base 1; tries = min (p.tries + 1) (2 ^ 32 - 1) } in
     same_if f (is_over (waits_till p) now) x (if is_over (missing_at p) now then y else p) (f p) timed
     (same_if f (is_over (missing_at p) now) y p (f p) again refl)
 

@@ -2,7 +2,7 @@
 use Rattle.std.proofs.Common.{◌≡◌, ◌+◌, ◌-◌, ◌*◌, ◌^◌, ◌∙◌, ◌≤◌, ◌<◌, ◌⊎◌, ℕ, Bool, true, false, Option, None, Some, ap, arith, max, min, refl, sym, subst, ⊎_elim}
 use Rattle.std.proofs.lemmas.Bool.{leb-true, le-leb, lt-ltb}
 use Rattle.std.specs.Prelude.{◌&&◌, if◌then◌else◌, nat_lt, option_map, unwrap_or}
-use Rattle.spx_congestion.specs.Pacing.{PacerView, TakesOut, Tends, WaitsOn, asks_often, behind, flight, given_by, is_over, missing_at, place_again, tended, wait_of, waited_since, waits_till, with_outstanding}
+use Rattle.spx_congestion.specs.Pacing.{PacerView, TakesOut, Tends, WaitsOn, asks_often, saturating_sum, flight, given_by, is_over, missing_at, place_again, tended, wait_of, waited_since, waits_till, with_outstanding}
 use Rattle.spx_congestion.specs.Waiting.{HasNoNews, HasWaited, NothingElsePostpones, TimeoutsLast, TimesOut, WaitsAreBounded, begins, plans, hears, gives, begins_to, times_out, tends, reads, sends}
 use Rattle.spx_congestion.specs.declared.sent_kind.SentKind.{SentKind}
 use Rattle.spx_congestion.specs.declared.sent_kind.SentKind.TheVariants as Gaves
@@ -24,8 +24,8 @@ same_timer_if false x p same = refl
 -- a timeout begins the next wait, and otherwise the wait goes on
 tended_timer : (p : PacerView) (now : ℕ) (b : Bool) → is_over (waits_till p) now ≡ b → (tended p now).timer ≡ (if b then Some now else p.timer)
 tended_timer p now b is =
-    let x = record p { left = p.out; in_flight = 0; from = p.base; to = behind p.base 1; trip = record p.trip { doubled = min (p.trip.doubled + 1) (2 ^ 32 - 1) }; timer = Some now; recover = Some (behind p.base p.out); run = 1; fixed = behind p.base 1; mends = false; fixed_at = now; tries = 0 } in
-    let y = record p { from = p.base; to = behind p.base 1; tries = min (p.tries + 1) (2 ^ 32 - 1) } in
+    let x = record p { left = p.out; in_flight = 0; from = p.base; to = saturating_sum p.base 1; trip = record p.trip { doubled = min (p.trip.doubled + 1) (2 ^ 32 - 1) }; timer = Some now; recover = Some (saturating_sum p.base p.out); run = 1; fixed = saturating_sum p.base 1; mends = false; fixed_at = now; tries = 0 } in
+    let y = record p { from = p.base; to = saturating_sum p.base 1; tries = min (p.tries + 1) (2 ^ 32 - 1) } in
     timed_if b (is_over (waits_till p) now) x (if is_over (missing_at p) now then y else p) p (Some now) is
     (same_timer_if (is_over (missing_at p) now) y p refl) refl
 
@@ -61,23 +61,23 @@ waits_since p since (gives old s what out now before some) =
     given_timer (with_outstanding old out now) what now ∙ waited_same old.timer out now s (waits_since old s before) some
 
 -- what is over
-over : (timer : Option ℕ) (since wait now : ℕ) → timer ≡ Some since → since + wait ≤ now → is_over (option_map (λ s. behind s wait) timer) now ≡ true
-over timer since wait now is past = rw is (le-leb (behind since wait) now (omega (arith, past)))
+over : (timer : Option ℕ) (since wait now : ℕ) → timer ≡ Some since → since + wait ≤ now → is_over (option_map (λ s. saturating_sum s wait) timer) now ≡ true
+over timer since wait now is past = rw is (le-leb (saturating_sum since wait) now (omega (arith, past)))
 
 if_true : (b : Bool) (x y : PacerView) → b ≡ true → (if b then x else y) ≡ x
 if_true b x y is = rw is refl
 
 first_again : (base out : ℕ) → 0 < out → base + 1 < 2 ^ 64
-    → (if nat_lt base (behind base 1) && nat_lt base (behind base 1) && nat_lt (base - base) out then Some (base - base) else None) ≡ Some 0
+    → (if nat_lt base (saturating_sum base 1) && nat_lt base (saturating_sum base 1) && nat_lt (base - base) out then Some (base - base) else None) ≡ Some 0
 first_again base out some fits =
     let zero_is : base - base ≡ 0 = omega (arith) in
-    rw (lt-ltb base (behind base 1) (omega (arith, fits))) (rw (lt-ltb (base - base) out (omega (arith, zero_is, some))) (ap (λ n. Some n) zero_is))
+    rw (lt-ltb base (saturating_sum base 1) (omega (arith, fits))) (rw (lt-ltb (base - base) out (omega (arith, zero_is, some))) (ap (λ n. Some n) zero_is))
 
 pub postpones : NothingElsePostpones
 postpones p new since out now none some t past fits =
     let w = with_outstanding p out now in
-    let x = record w { left = w.out; in_flight = 0; from = w.base; to = behind w.base 1; trip = record w.trip { doubled = min (w.trip.doubled + 1) (2 ^ 32 - 1) }; timer = Some now; recover = Some (behind w.base w.out); run = 1; fixed = behind w.base 1; mends = false; fixed_at = now; tries = 0 } in
-    let y = record w { from = w.base; to = behind w.base 1; tries = min (w.tries + 1) (2 ^ 32 - 1) } in
+    let x = record w { left = w.out; in_flight = 0; from = w.base; to = saturating_sum w.base 1; trip = record w.trip { doubled = min (w.trip.doubled + 1) (2 ^ 32 - 1) }; timer = Some now; recover = Some (saturating_sum w.base w.out); run = 1; fixed = saturating_sum w.base 1; mends = false; fixed_at = now; tries = 0 } in
+    let y = record w { from = w.base; to = saturating_sum w.base 1; tries = min (w.tries + 1) (2 ^ 32 - 1) } in
     let timed : TimesOut p out now = over w.timer since (wait_of w) now (waited_same p.timer out now since (waits_since p since none) some) past in
     let tended_is : tended w now ≡ x = if_true (is_over (waits_till w) now) x (if is_over (missing_at w) now then y else w) timed in
     let again : place_again (tended w now) ≡ Some 0 = ap (λ q. place_again q) tended_is ∙ first_again p.base out some fits in
@@ -117,12 +117,12 @@ counted_at_least : (timer : Option ℕ) (out now lo : ℕ) → SinceAtLeast time
 counted_at_least timer out now lo since late = counted_if (nat_lt 0 out) timer now lo since late
 
 -- a wait that is over lasted so long
-lasted : (timer : Option ℕ) (wait now lo : ℕ) → SinceAtLeast timer lo → is_over (option_map (λ s. behind s wait) timer) now ≡ true
+lasted : (timer : Option ℕ) (wait now lo : ℕ) → SinceAtLeast timer lo → is_over (option_map (λ s. saturating_sum s wait) timer) now ≡ true
     → 200 ≤ wait → now < 2 ^ 64 - 1 → lo + 200 ≤ now
 lasted None wait now lo since is long fits = absurd (cc)
 lasted (Some s) wait now lo since is long fits =
     let late = since s refl in
-    let past : behind s wait ≤ now = leb-true (behind s wait) now is in
+    let past : saturating_sum s wait ≤ now = leb-true (saturating_sum s wait) now is in
     omega (arith, late, past, long, fits)
 
 at_least : (x y : Option ℕ) (lo : ℕ) → x ≡ y → SinceAtLeast y lo → SinceAtLeast x lo

@@ -3,25 +3,25 @@ use Rattle.std.specs.Prelude.{ℕ, ◌+◌, ◌-◌, ◌≡◌, ◌<◌, ◌≤�
 use Rattle.spx_link.specs.declared.numbers.Numbers.{Numbers}
 use Rattle.spx_congestion.specs.Asking.{Asked, AsksUpTo, RunsOn}
 use Rattle.spx_congestion.specs.Measured.{IsBounded}
-use Rattle.spx_congestion.specs.Pacing.{MendsOn, PacerView, WaitsOn, behind, flight, is_double, waited_since, with_outstanding}
+use Rattle.spx_congestion.specs.Pacing.{MendsOn, PacerView, WaitsOn, saturating_sum, flight, is_double, waited_since, with_outstanding}
 
 -- so many units were acknowledged, and so many are outstanding after that. The first of them was missing, and
 -- the others were received. The timeout begins anew
 abbrev pub moved_on : PacerView → ℕ → ℕ → ℕ → PacerView
 moved_on p units out now =
-    with_outstanding (record p { base = behind p.base units; left = p.left - (units - 1); timer = None }) out now
+    with_outstanding (record p { base = saturating_sum p.base units; left = p.left - (units - 1); timer = None }) out now
 
 -- a repair begins: the first outstanding unit is to be sent again, and none that was sent again is in flight
 pub record BeginsRepair (old : PacerView) (now : ℕ) (new : PacerView) : Type 0 where
   pub is : new ≡ record old {
     in_flight = 0;
     from = old.base;
-    to = behind old.base 1;
+    to = saturating_sum old.base 1;
     window = new.window;
     trip = new.trip;
-    recover = Some (behind old.base old.out);
+    recover = Some (saturating_sum old.base old.out);
     run = 1;
-    fixed = behind old.base 1;
+    fixed = saturating_sum old.base 1;
     mends = true;
     fixed_at = now;
     tries = 0;
@@ -50,7 +50,7 @@ wanted end p = end - p.base
 
 -- up to where a repair may send units again, if it may send so many
 abbrev pub stop_of : ℕ → ℕ → PacerView → ℕ
-stop_of end run p = min (behind p.base run) end
+stop_of end run p = min (saturating_sum p.base run) end
 
 -- what a repair is to send again
 abbrev pub asked_of : PacerView → Asked
@@ -142,6 +142,6 @@ pub record Hears (old : PacerView) (before after : Numbers) (joined : Bool) (now
       → new ≡ record (with_outstanding old after.out now) { trip = new.trip }
   pub mends : MendsOn old now new
   pub ended : new.ended ≡ old.ended
-  pub base : after.out < before.out → new.base ≡ behind old.base (before.out - after.out)
+  pub base : after.out < before.out → new.base ≡ saturating_sum old.base (before.out - after.out)
   pub unmoved : before.out ≤ after.out → new.base ≡ old.base
   pub credit : (new.credit ≡ old.credit) × (new.tick ≡ old.tick)

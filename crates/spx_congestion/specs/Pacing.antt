@@ -37,9 +37,9 @@ pub record PacerView : Type 0 where
   pub fixed_at : ℕ
   pub tries : ℕ
 
--- the time `time` after `now`, or the last that a clock can show
-abbrev pub behind : ℕ → ℕ → ℕ
-behind now time = min (now + time) (2 ^ 64 - 1)
+-- the sum of two numbers, or the largest one of 64 bits
+abbrev pub saturating_sum : ℕ → ℕ → ℕ
+saturating_sum a b = min (a + b) (2 ^ 64 - 1)
 
 -- a new pacer: a window of 27 units, and credit for 10
 abbrev pub made_pacer : PacerView
@@ -146,7 +146,7 @@ wait_of p = if asks_often p then max (doubled_wait p.trip) (end_wait p.trip) els
 
 -- until when it waits for one
 abbrev pub waits_till : PacerView → Option ℕ
-waits_till p = option_map (λ since. behind since (wait_of p)) p.timer
+waits_till p = option_map (λ since. saturating_sum since (wait_of p)) p.timer
 
 -- when the first outstanding unit, which was sent again, counts as missing again: after a round trip and its
 -- tolerance, which doubles each time, up to 64 times. None if nothing is repaired, or others are to be sent
@@ -155,8 +155,8 @@ abbrev pub missing_at : PacerView → Option ℕ
 missing_at p =
     if is_idle p.base p.from p.to
     then (if asks_often p
-    then Some (behind (max p.fixed_at (unwrap_or p.timer 0)) (end_wait p.trip))
-    else (if p.mends then Some (behind p.fixed_at (slack p.trip * 2 ^ min p.tries 6)) else None))
+    then Some (saturating_sum (max p.fixed_at (unwrap_or p.timer 0)) (end_wait p.trip))
+    else (if p.mends then Some (saturating_sum p.fixed_at (slack p.trip * 2 ^ min p.tries 6)) else None))
     else None
 
 -- when the wait for an acknowledgement, or for a unit that was sent again, is over
@@ -169,8 +169,8 @@ wakes p = option_map (λ till. min till (unwrap_or (missing_at p) till)) (waits_
 abbrev pub wakes_at : PacerView → ℕ → Option ℕ
 wakes_at p now =
     if holds_back p
-    then Some (min (behind now 1) (unwrap_or (wakes p) (behind now 1)))
-    else (if nat_lt 0 p.out then Some (min (unwrap_or (wakes p) now) (behind now 60000)) else None)
+    then Some (min (saturating_sum now 1) (unwrap_or (wakes p) (saturating_sum now 1)))
+    else (if nat_lt 0 p.out then Some (min (unwrap_or (wakes p) now) (saturating_sum now 60000)) else None)
 
 -- the connection is given up after ten timeouts in a row, with no acknowledgement of anything new since the
 -- first wait began
@@ -194,18 +194,18 @@ tended p now =
       left = p.out;
       in_flight = 0;
       from = p.base;
-      to = behind p.base 1;
+      to = saturating_sum p.base 1;
       trip = record p.trip { doubled = min (p.trip.doubled + 1) (2 ^ 32 - 1) };
       timer = Some now;
-      recover = Some (behind p.base p.out);
+      recover = Some (saturating_sum p.base p.out);
       run = 1;
-      fixed = behind p.base 1;
+      fixed = saturating_sum p.base 1;
       mends = false;
       fixed_at = now;
       tries = 0;
     }
     else (if is_over (missing_at p) now
-    then record p { from = p.base; to = behind p.base 1; tries = min (p.tries + 1) (2 ^ 32 - 1) }
+    then record p { from = p.base; to = saturating_sum p.base 1; tries = min (p.tries + 1) (2 ^ 32 - 1) }
     else p)
 
 -- a duplicate: it acknowledges nothing, brings nothing, and allows no more, while units are outstanding
@@ -251,7 +251,7 @@ given_by p Gaves.Again now =
     record p {
       credit = p.credit - 256;
       in_flight = min (p.in_flight + 1) (2 ^ 16 - 1);
-      from = behind (max p.from p.base) 1;
+      from = saturating_sum (max p.from p.base) 1;
       fixed_at = if nat_le p.from p.base then now else p.fixed_at;
     }
 given_by p Gaves.Other now = p

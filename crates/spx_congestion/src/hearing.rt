@@ -4,7 +4,7 @@ ghost use Rattle.std.specs.Prelude.{◌≡◌, ◌+◌, ◌<◌, ◌⊎◌, ◌&
 ghost use Rattle.std.specs.Prelude.{true};
 ghost use Rattle.spx_congestion.specs.Hearing.{Acknowledges, Hears, Repairs, Repeats};
 ghost use Rattle.spx_congestion.specs.Measured.{IsBounded};
-ghost use Rattle.spx_congestion.specs.Pacing.{MendsOn, behind, flight};
+ghost use Rattle.spx_congestion.specs.Pacing.{MendsOn, saturating_sum, flight};
 ghost use Rattle.spx_congestion.specs.Pacing.{waited_since};
 
 use crate::loss_recovery::LossRecovery;
@@ -56,7 +56,7 @@ impl Pacer {
         ensures counts { self.new.out ≡ out }
         ensures timer { self.new.timer ≡ waited_since None out now }
         ensures doubled { self.new.trip.doubled ≡ 0 }
-        ensures base { self.new.base ≡ behind self.old.base units }
+        ensures base { self.new.base ≡ saturating_sum self.old.base units }
         ensures credit { (self.new.credit ≡ self.old.credit) × (self.new.tick ≡ self.old.tick) }
         ensures mends { MendsOn self.old now self.new }
         ensures ended { self.new.ended ≡ self.old.ended }
@@ -196,11 +196,11 @@ impl Pacer {
         ensures { self.new ≡ record self.old {
           in_flight = 0;
           from = self.old.base;
-          to = behind self.old.base 1;
+          to = saturating_sum self.old.base 1;
           window = self.new.window;
-          recover = Some (behind self.old.base self.old.out);
+          recover = Some (saturating_sum self.old.base self.old.out);
           run = 1;
-          fixed = behind self.old.base 1;
+          fixed = saturating_sum self.old.base 1;
           mends = true;
           fixed_at = now;
           tries = 0;

@@ -3,7 +3,7 @@
 ghost use Rattle.std.specs.Prelude.{◌≡◌, ◌+◌, ◌-◌, ◌*◌, ◌^◌, ◌&&◌, Some, None, if◌then◌else◌, is_some, min};
 ghost use Rattle.std.specs.Prelude.{◌⊎◌, false, not};
 ghost use Rattle.spx_congestion.specs.Asking.{AsksUpTo, RunsAhead, RunsOn, asked_by, is_idle};
-ghost use Rattle.spx_congestion.specs.Pacing.{behind};
+ghost use Rattle.spx_congestion.specs.Pacing.{saturating_sum};
 
 /// The state of a repair. Positions count units from 0.
 ///
@@ -68,8 +68,8 @@ impl LossRecovery {
         ensures on { result.recover ≡ Some next }
         ensures run { result.run ≡ 1 }
         ensures from { result.from ≡ base }
-        ensures to { result.to ≡ behind base 1 }
-        ensures fixed { result.fixed ≡ behind base 1 }
+        ensures to { result.to ≡ saturating_sum base 1 }
+        ensures fixed { result.fixed ≡ saturating_sum base 1 }
         ensures fixed_at { result.fixed_at ≡ now }
         ensures tries { result.tries ≡ 0 }
         ensures timed { result.timed ≡ false }
@@ -117,7 +117,7 @@ impl LossRecovery {
         ensures fixed_at { (self.new.fixed_at ≡ now) ⊎ (self.new.fixed_at ≡ self.old.fixed_at) }
         ensures runs { RunsOn (not self.old.timed) (recover - base) (recover - base - left)
             self.old.run self.new.run }
-        ensures asks { AsksUpTo base (min (behind base self.new.run) recover) now
+        ensures asks { AsksUpTo base (min (saturating_sum base self.new.run) recover) now
             (asked_by self.old) (asked_by self.new) }
     {
         self.tries = 0;
@@ -159,7 +159,7 @@ impl LossRecovery {
         ensures tries { self.new.tries ≡ self.old.tries }
         ensures run { self.new.run ≡ self.old.run }
         ensures fixed_at { (self.new.fixed_at ≡ now) ⊎ (self.new.fixed_at ≡ self.old.fixed_at) }
-        ensures asks { AsksUpTo base (min (behind base self.old.run) recover) now
+        ensures asks { AsksUpTo base (min (saturating_sum base self.old.run) recover) now
             (asked_by self.old) (asked_by self.new) }
     {
         let was_idle = self.is_idle(base);
@@ -184,7 +184,7 @@ impl LossRecovery {
     pub fn missing_at(&self, base: u64, slack: u64) -> Option<u64>
         ensures { result ≡ (if is_some self.now.recover && not self.now.timed
             && is_idle base self.now.from self.now.to
-            then Some (behind self.now.fixed_at (slack * 2 ^ min self.now.tries 6)) else None) }
+            then Some (saturating_sum self.now.fixed_at (slack * 2 ^ min self.now.tries 6)) else None) }
     {
         if !self.is_on() || self.timed || !self.is_idle(base) {
             return None;
@@ -197,7 +197,7 @@ impl LossRecovery {
     pub fn repeat(&mut self, base: u64)
         ensures { self.new ≡ record self.old {
           from = base;
-          to = behind base 1;
+          to = saturating_sum base 1;
           tries = min (self.old.tries + 1) (2 ^ 32 - 1);
         } }
     {

@@ -2,7 +2,7 @@
 
 ghost use Rattle.std.specs.Prelude.{◌≡◌, ◌&&◌, IfOk, is_some, not};
 ghost use Rattle.spx_congestion.specs.Measured.{IsBounded, trip_of};
-ghost use Rattle.spx_congestion.specs.Pacing.{PacerView, behind, flight, made_pacer, place_again};
+ghost use Rattle.spx_congestion.specs.Pacing.{PacerView, saturating_sum, flight, made_pacer, place_again};
 ghost use Rattle.spx_congestion.specs.Pacing.{with_outstanding};
 
 use crate::loss_recovery::LossRecovery;
@@ -115,7 +115,7 @@ impl Pacer {
 
     /// The position of the next new unit.
     pub(crate) fn next(&self) -> u64
-        ensures { result ≡ behind self.now.base self.now.out }
+        ensures { result ≡ saturating_sum self.now.base self.now.out }
     {
         self.base.saturating_add(u64::from(self.out))
     }
