@@ -224,16 +224,17 @@ abbrev pub status_text : Option (String Global) → List ℕ
 status_text None = codes "no metrics_file"
 status_text (Some text) = codes "metrics_file " ++ shown_text (string_bytes text)
 
--- the path of the table file, if the file gives one
-abbrev pub tables_place_text : Option (String Global) → List ℕ
-tables_place_text None = []
-tables_place_text (Some text) = codes ", tables_file " ++ shown_text (string_bytes text)
+-- the name of another file, after the words that say which one it is, if it is given
+abbrev pub file_name_text : List ℕ → Option (String Global) → List ℕ
+file_name_text which None = []
+file_name_text which (Some name) = which ++ shown_text (string_bytes name)
 
--- the line of the file itself
+-- the line of the file itself: how many ports it has, and the other files that it names
 abbrev pub file_line : List ℕ → RouterConfig → List ℕ
 file_line path s =
     path ++ (codes ": " ++ (count_text (length s.ports.items)
-    ++ (codes ", " ++ (status_text s.status ++ (tables_place_text s.tables ++ 10 ∷ [])))))
+    ++ (codes ", " ++ (status_text s.status ++ (file_name_text (codes ", tables_file ") s.tables
+    ++ (file_name_text (codes ", secret_file ") s.secret_file ++ 10 ∷ []))))))
 
 -- ---- static routes and services, in the form of the table file
 

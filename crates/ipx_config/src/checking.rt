@@ -3,7 +3,7 @@
 ghost use Rattle.std.specs.Prelude.{◌≡◌, ◌<◌, ◌≤◌, ◌++◌, ℕ, List, [], IfOk, IsOkAnd, length, string_bytes};
 ghost use Rattle.std.specs.Io.KnownBytes.{Appends};
 ghost use Rattle.std.specs.List.{flat_map};
-ghost use Rattle.ipx_config.specs.Checked.{count_text, each_after, file_line, ignored_remark, is_of_no_machine, joined_remark, node_remark, peer_remark, port_lines, reached_remarks, site_lines, status_text, tables_place_text, ethernet_end_remark};
+ghost use Rattle.ipx_config.specs.Checked.{count_text, each_after, file_line, file_name_text, ignored_remark, is_of_no_machine, joined_remark, node_remark, peer_remark, port_lines, reached_remarks, site_lines, status_text, ethernet_end_remark};
 ghost use Rattle.ipx_config.specs.Loading.{IsFileText};
 ghost use Rattle.ipx_config.specs.Site.{IsSiteText};
 ghost use Rattle.ipx_config.specs.declared.site.RouterConfig.{RouterConfig as ASiteFile};
@@ -254,13 +254,18 @@ fn status_to_text(alloc: Global, status: &Option<String>) -> Result<String, Allo
     }
 }
 
-fn tables_to_text(alloc: Global, tables: &Option<String>) -> Result<String, AllocError>
-    ensures { IfOk result (λ t. string_bytes t ≡ tables_place_text tables.now) }
+/// The name of another file, after the words that say which one it is; empty if there is none.
+fn file_name_to_text(
+    alloc: Global,
+    which: &str,
+    name: &Option<String>,
+) -> Result<String, AllocError>
+    ensures { IfOk result (λ t. string_bytes t ≡ file_name_text which.now name.now) }
 {
-    match tables {
-        Some(path) => {
-            let path = Escaped(path.as_bytes());
-            format!(in alloc; ", tables_file {path}")
+    match name {
+        Some(name) => {
+            let name = Escaped(name.as_bytes());
+            format!(in alloc; "{which}{name}")
         }
         None => Ok(String::new(alloc)),
     }
@@ -272,8 +277,9 @@ fn file_to_line(alloc: Global, path: &str, site: &RouterConfig) -> Result<String
 {
     let count = count_to_text(alloc, site.ports.len())?;
     let status = status_to_text(alloc, &site.status)?;
-    let tables = tables_to_text(alloc, &site.tables)?;
-    format!(in alloc; "{path}: {count}, {status}{tables}\n")
+    let tables = file_name_to_text(alloc, ", tables_file ", &site.tables)?;
+    let secret = file_name_to_text(alloc, ", secret_file ", &site.secret_file)?;
+    format!(in alloc; "{path}: {count}, {status}{tables}{secret}\n")
 }
 
 fn site_to_lines(alloc: Global, path: &str, site: &RouterConfig) -> Result<String, AllocError>
