@@ -1,6 +1,6 @@
 -- What the program prints of a port when a router starts, and of a file that it checks. Defined by this
 -- project.
-use Rattle.std.specs.Prelude.{Vec, ℕ, ◌+◌, List, [], ◌∷◌, ◌++◌, Bool, false, ◌&&◌, ◌||◌, ◌==◌, Option, Some, None, codes, not, if◌then◌else◌, length, nat_eq, nat_le, slice_index, string_bytes, String}
+use Rattle.std.specs.Prelude.{Vec, ℕ, ◌+◌, List, [], ◌∷◌, ◌++◌, Bool, false, ◌&&◌, ◌||◌, ◌==◌, Option, Some, None, codes, drop, not, if◌then◌else◌, length, nat_eq, nat_le, slice_index, string_bytes, String}
 use Rattle.std.specs.Global.{Global}
 use Rattle.std.specs.Cmp.Lexicographic.{pointwise}
 use Rattle.std.specs.Fmt.{decimal}
@@ -32,6 +32,7 @@ use Rattle.ipx_config.specs.declared.site.RouterConfig.{RouterConfig}
 use Rattle.ipx_config.specs.declared.site.Rfc1234PortConfig.{Rfc1234PortConfig}
 use Rattle.ipx_config.specs.PortKinds.{place_of_kind}
 use Rattle.ipx_config.specs.Site.{is_any}
+use Rattle.ipx_config.specs.StaticFields.{numbered_port}
 use Rattle.ipx_config.specs.Values.{is_peer}
 use Rattle.ipx_config.specs.EthernetValues.{frame_word, is_same_place, made_station}
 use Rattle.ipx_wire.specs.declared.address.Network.{Network}
@@ -258,8 +259,47 @@ word_line by (Service s) = static_service_line by s
 abbrev pub static_line : StaticEntry → List ℕ
 static_line e = word_line e.by e.word
 
+-- ---- remarks on static routes and services
+
+-- a list is given, and an IP address is not in it
+abbrev pub is_left_out : Option (Vec (List ℕ) Global) → List ℕ → Bool
+is_left_out None ip = false
+is_left_out (Some ips) ip = not (is_peer ips.items ip)
+
+-- a port names its routers, and an IP address is none of them
+abbrev pub is_no_router : PortConfig → List ℕ → Bool
+is_no_router (Rfc1234 p) ip = is_left_out p.routers ip
+is_no_router (Frames p) ip = false
+is_no_router (Ipxnet p) ip = false
+
+abbrev pub is_no_router_at : Option PortConfig → List ℕ → Bool
+is_no_router_at None ip = false
+is_no_router_at (Some p) ip = is_no_router p ip
+
+-- the IP address of a next hop on an RFC 1234 port: the last four bytes of its node
+abbrev pub next_hop_ip : Source → List ℕ
+next_hop_ip by = drop 2 by.neighbour.0
+
+-- the remark about a static route whose next hop is none of the routers that its port names; empty for any
+-- other. The port drops what such a next hop forwards
+abbrev pub route_remark : List PortConfig → Source → RipEntry → List ℕ
+route_remark ports by r =
+    if is_no_router_at (numbered_port ports by.port) (next_hop_ip by)
+    then codes "route " ++ (network_word r.network ++ (codes ": next_hop " ++ (dotted_text (next_hop_ip by)
+    ++ (codes " is not in routers of port " ++ (decimal by.port
+    ++ codes ": what it forwards is dropped\n")))))
+    else []
+
+abbrev pub item_remark : List PortConfig → Source → StaticItem → List ℕ
+item_remark ports by (Route r) = route_remark ports by r
+item_remark ports by (Service s) = []
+
+-- the line of a static entry, and the remark about it
+abbrev pub static_lines : List PortConfig → StaticEntry → List ℕ
+static_lines ports e = static_line e ++ item_remark ports e.by e.word
+
 -- all that is printed of a router's file: its ports, its static entries, and the file itself
 abbrev pub site_lines : List ℕ → RouterConfig → List ℕ
 site_lines path s =
     each_after port_lines [] s.ports.items
-    ++ (flat_map static_line s.statics.items ++ file_line path s)
+    ++ (flat_map (static_lines s.ports.items) s.statics.items ++ file_line path s)

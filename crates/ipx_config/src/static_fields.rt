@@ -44,7 +44,7 @@ fn port_number_in(table: &Table, number: usize) -> Result<u8, ConfigError>
 }
 
 /// The port with this number, starting at 1.
-fn numbered_port(ports: &[PortConfig], number: u8) -> Option<&PortConfig>
+pub fn numbered_port(ports: &[PortConfig], number: u8) -> Option<&PortConfig>
     ensures { option_copied result ≡ numbered_port ports.now number }
 {
     let place = usize::from(number).checked_sub(1)?;

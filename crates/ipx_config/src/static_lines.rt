@@ -1,12 +1,16 @@
-//! The lines about static routes and services when a file is checked.
+//! The lines about static routes and services when a file is checked, and the remarks about them.
 
-ghost use Rattle.std.specs.Prelude.{◌≡◌, IfOk, string_bytes};
+ghost use Rattle.std.specs.Prelude.{◌≡◌, IfOk, option_copied, string_bytes};
 ghost use Rattle.std.specs.List.{flat_map};
 ghost use Rattle.ipx_inspect.specs.ShowLine.{address_text};
 ghost use Rattle.ipx_table_dump.specs.TableText.{by_text};
-ghost use Rattle.ipx_config.specs.Checked.{static_line, static_route_line, static_service_line, service_words, shown_text};
+ghost use Rattle.ipx_config.specs.StaticFields.{numbered_port};
+ghost use Rattle.ipx_config.specs.Checked.{is_no_router, is_no_router_at, item_remark, next_hop_ip, route_remark, static_line, static_lines, static_route_line, static_service_line, service_words, shown_text};
 
 use crate::escaped::Escaped;
+use crate::site::PortConfig;
+use crate::start_lines::dotted;
+use crate::static_fields::numbered_port;
 use crate::statics::{StaticEntry, StaticItem};
 use ipx_control::{RipEntry, ServiceEntry};
 use ipx_tables::Source;
@@ -78,14 +82,100 @@ fn entry_to_line(alloc: Global, entry: &StaticEntry) -> Result<String, AllocErro
     }
 }
 
-/// The lines of static entries, in order.
-pub fn entries_to_lines(alloc: Global, entries: &[StaticEntry]) -> Result<String, AllocError>
-    ensures { IfOk result (λ t. string_bytes t ≡ flat_map static_line entries.now) }
+/// Whether a port names its routers, and an IP address is none of them.
+fn is_no_router(port: &PortConfig, ip: [u8; 4]) -> bool
+    ensures { result ≡ is_no_router port.now ip }
+{
+    match port {
+        PortConfig::Rfc1234(port) => match &port.routers {
+            Some(routers) => !routers.contains(&ip),
+            None => false,
+        },
+        PortConfig::Frames(_) | PortConfig::Ipxnet(_) => false,
+    }
+}
+
+/// The same of the port with this number.
+fn is_no_router_at(ports: &[PortConfig], number: u8, ip: [u8; 4]) -> bool
+    ensures { result ≡ is_no_router_at (numbered_port ports.now number) ip }
+{
+    match numbered_port(ports, number) {
+        Some(port) => is_no_router(port, ip),
+        None => false,
+    }
+}
+
+/// The IP address of a next hop on an RFC 1234 port.
+fn next_hop_ip(by: Source) -> [u8; 4]
+    ensures { result ≡ next_hop_ip by }
+{
+    let [_, _, a, b, c, d] = by.neighbour.0;
+    [a, b, c, d]
+}
+
+/// The remark about a static route whose next hop is not in `routers` of its port; empty for any
+/// other.
+fn route_to_remark(
+    alloc: Global,
+    ports: &[PortConfig],
+    by: Source,
+    route: &RipEntry,
+) -> Result<String, AllocError>
+    ensures { IfOk result (λ t. string_bytes t ≡ route_remark ports.now by route.now) }
+{
+    let ip = next_hop_ip(by);
+    let number = by.port;
+    if !is_no_router_at(ports, number, ip) {
+        return Ok(String::new(alloc));
+    }
+    let network = hex::encode(alloc, route.network.0.to_be_bytes())?;
+    let ip = dotted(alloc, ip)?;
+    format!(in alloc;
+        "route {network}: next_hop {ip} is not in routers of port {number}: \
+            what it forwards is dropped\n"
+    )
+}
+
+/// The remark about an entry; empty if there is none.
+fn entry_to_remark(
+    alloc: Global,
+    ports: &[PortConfig],
+    entry: &StaticEntry,
+) -> Result<String, AllocError>
+    ensures { IfOk result (λ t. string_bytes t
+        ≡ item_remark ports.now entry.now.by entry.now.word) }
+{
+    match &entry.word {
+        StaticItem::Route(route) => route_to_remark(alloc, ports, entry.by, route),
+        StaticItem::Service(_) => Ok(String::new(alloc)),
+    }
+}
+
+/// The line of an entry, and the remark about it.
+fn entry_to_lines(
+    alloc: Global,
+    ports: &[PortConfig],
+    entry: &StaticEntry,
+) -> Result<String, AllocError>
+    ensures { IfOk result (λ t. string_bytes t ≡ static_lines ports.now entry.now) }
+{
+    let line = entry_to_line(alloc, entry)?;
+    let remark = entry_to_remark(alloc, ports, entry)?;
+    format!(in alloc; "{line}{remark}")
+}
+
+/// The lines of static entries, in order, each with the remark about it.
+pub fn entries_to_lines(
+    alloc: Global,
+    ports: &[PortConfig],
+    entries: &[StaticEntry],
+) -> Result<String, AllocError>
+    ensures { IfOk result (λ t. string_bytes t ≡ flat_map (static_lines ports.now) entries.now) }
 {
     let mut lines = String::new(alloc);
     for entry in entries {
-        let line = entry_to_line(alloc, entry)?;
-        lines.push_str(&line)?;
+        let of_entry = entry_to_lines(alloc, ports, entry)?;
+        lines.push_str(&of_entry)?;
     }
     Ok(lines)
 }

@@ -455,6 +455,51 @@ HANDED = OWN + "".join((ROUTE.replace("127.0.1.20", "198.51.100.7"),
                         ROUTE.replace("127.0.1.20", "203.0.113.9").replace("aa", "AA") + "hops = 14\nticks = 65535\n",
                         SERVICE.replace("127.0.1.20", "198.51.100.7"),
                         SERVICE.replace("127.0.1.20", "203.0.113.9").replace("BACKUP", "!A~").replace("0640", "000A") + "hops = 3\n"))
+# Ports that name their routers, and one that does not, with a route by each neighbour, and a service.
+ROUTERS_NAMED = """[[port]]
+network = "00000011"
+address = "10.1.0.1"
+peers = ["10.1.0.2", "10.1.0.3"]
+routers = ["10.1.0.3"]
+
+[[port]]
+network = "00000022"
+address = "10.2.0.1"
+peers = ["10.2.0.2"]
+
+[[port]]
+network = "00000033"
+address = "10.3.0.1"
+peers = ["10.3.0.2"]
+routers = []
+
+[[route]]
+port = 1
+next_hop = "10.1.0.2"
+network = "000000aa"
+
+[[route]]
+port = 1
+next_hop = "10.1.0.3"
+network = "000000aa"
+
+[[route]]
+port = 2
+next_hop = "10.2.0.2"
+network = "000000aa"
+
+[[route]]
+port = 3
+next_hop = "10.3.0.2"
+network = "000000bb"
+
+[[service]]
+port = 1
+next_hop = "10.1.0.2"
+type = "0640"
+name = "BACKUP"
+ipx_address = "00000011 00000a010002 4002"
+"""
 WIRED = WIRES + changed(ROUTE.replace("= 1", "= 2"), "next_hop", '"02:00:00:00:00:33"')
 ANYWHERE = PLAYERS.replace("127.0.1.1", "any") + 'accept = "any"\njoin = ["198.51.100.7:2130"]\n'
 JOINED = OPEN.replace("203.0.113.5:2131", "127.0.0.1:24002")
@@ -478,6 +523,17 @@ CHECKED = [
                        "service 0640 BACKUP at 00000011 00000a010014 4002 port 1 next 0000c6336407 hops 1",
                        "service 000a !A~ at 00000011 00000a010014 4002 port 1 next 0000cb007109 hops 3",
                        "it.toml: 2 ports, metrics_file /run/ipx/h q..prom, tables_file /run/ipx/hq.tables"]),
+    ("route", ROUTERS_NAMED, ["port 1 network 00000011 node 00000a010001 udp 10.1.0.1:213 cost 1 peers 2 routers 1",
+                              "port 2 network 00000022 node 00000a020001 udp 10.2.0.1:213 cost 1 peers 1",
+                              "port 3 network 00000033 node 00000a030001 udp 10.3.0.1:213 cost 1 peers 1 routers 0",
+                              "route 000000aa port 1 next 00000a010002 hops 1 ticks 1",
+                              "route 000000aa: next_hop 10.1.0.2 is not in routers of port 1: what it forwards is dropped",
+                              "route 000000aa port 1 next 00000a010003 hops 1 ticks 1",
+                              "route 000000aa port 2 next 00000a020002 hops 1 ticks 1",
+                              "route 000000bb port 3 next 00000a030002 hops 1 ticks 1",
+                              "route 000000bb: next_hop 10.3.0.2 is not in routers of port 3: what it forwards is dropped",
+                              "service 0640 BACKUP at 00000011 00000a010002 4002 port 1 next 00000a010002 hops 1",
+                              "it.toml: 3 ports, no metrics_file"]),
     ("route", WIRED, ["port 1 network 00000022 node 020000000022 ethernet 802.2 udp 127.0.0.1:24002 cost 1"
                       " remotes 127.0.0.1:24001 127.0.0.1:24002 127.0.0.1:24001",
                       "port 1: remote 127.0.0.1:24002 is the port's own address", "port 1: remote 127.0.0.1:24001 is listed twice",
