@@ -30,7 +30,7 @@ use Rattle.ipx_config.specs.declared.site.PortConfig.{PortConfig}
 use Rattle.ipx_config.specs.declared.site.PortConfig.TheVariants.{Rfc1234, Frames, Ipxnet}
 use Rattle.ipx_config.specs.declared.site.RouterConfig.{RouterConfig}
 use Rattle.ipx_config.specs.declared.site.Rfc1234PortConfig.{Rfc1234PortConfig}
-use Rattle.ipx_config.specs.PortKinds.{place_of_kind}
+use Rattle.ipx_config.specs.PortKinds.{network_of_kind, place_of_kind}
 use Rattle.ipx_config.specs.Site.{is_any}
 use Rattle.ipx_config.specs.StaticFields.{numbered_port}
 use Rattle.ipx_config.specs.Values.{is_peer}
@@ -290,16 +290,34 @@ route_remark ports by r =
     ++ codes ": what it forwards is dropped\n")))))
     else []
 
-abbrev pub item_remark : List PortConfig → Source → StaticItem → List ℕ
-item_remark ports by (Route r) = route_remark ports by r
-item_remark ports by (Service s) = []
+-- an entry is a static route to a network
+abbrev pub is_item_to : Network → StaticItem → Bool
+is_item_to network (Route r) = r.network.0 == network.0
+is_item_to network (Service s) = false
+
+-- a network is that of a port of the file, or of a static route in it
+abbrev pub is_in_file : RouterConfig → Network → Bool
+is_in_file s network = list_any (λ p. (network_of_kind p).0 == network.0) s.ports.items
+    || list_any (λ e. is_item_to network e.word) s.statics.items
+
+-- the remark about a static service on a network of which the file says no more; empty for any other. The
+-- service is advertised, but packets for it are dropped while RIP has given no route
+abbrev pub service_remark : RouterConfig → ServiceEntry → List ℕ
+service_remark file s =
+    if is_in_file file s.at.network then []
+    else codes "service " ++ (service_words s ++ (codes ": no port and no static route leads to network "
+    ++ (network_word s.at.network ++ codes ": it must be learned by RIP\n")))
+
+abbrev pub item_remark : RouterConfig → Source → StaticItem → List ℕ
+item_remark s by (Route r) = route_remark s.ports.items by r
+item_remark s by (Service v) = service_remark s v
 
 -- the line of a static entry, and the remark about it
-abbrev pub static_lines : List PortConfig → StaticEntry → List ℕ
-static_lines ports e = static_line e ++ item_remark ports e.by e.word
+abbrev pub static_lines : RouterConfig → StaticEntry → List ℕ
+static_lines s e = static_line e ++ item_remark s e.by e.word
 
 -- all that is printed of a router's file: its ports, its static entries, and the file itself
 abbrev pub site_lines : List ℕ → RouterConfig → List ℕ
 site_lines path s =
     each_after port_lines [] s.ports.items
-    ++ (flat_map (static_lines s.ports.items) s.statics.items ++ file_line path s)
+    ++ (flat_map (static_lines s) s.statics.items ++ file_line path s)

@@ -5,16 +5,16 @@ ghost use Rattle.std.specs.List.{flat_map};
 ghost use Rattle.ipx_inspect.specs.ShowLine.{address_text};
 ghost use Rattle.ipx_table_dump.specs.TableText.{by_text};
 ghost use Rattle.ipx_config.specs.StaticFields.{numbered_port};
-ghost use Rattle.ipx_config.specs.Checked.{is_no_router, is_no_router_at, item_remark, next_hop_ip, route_remark, static_line, static_lines, static_route_line, static_service_line, service_words, shown_text};
+ghost use Rattle.ipx_config.specs.Checked.{is_in_file, is_item_to, is_no_router, is_no_router_at, item_remark, next_hop_ip, route_remark, service_remark, static_line, static_lines, static_route_line, static_service_line, service_words, shown_text};
 
 use crate::escaped::Escaped;
-use crate::site::PortConfig;
+use crate::site::{PortConfig, RouterConfig};
 use crate::start_lines::dotted;
 use crate::static_fields::numbered_port;
 use crate::statics::{StaticEntry, StaticItem};
 use ipx_control::{RipEntry, ServiceEntry};
 use ipx_tables::Source;
-use ipx_wire::Address;
+use ipx_wire::{Address, Network};
 use std::alloc::{AllocError, Global};
 
 fn address_to_words(alloc: Global, at: Address) -> Result<String, AllocError>
@@ -136,45 +136,83 @@ fn route_to_remark(
     )
 }
 
+/// Whether an item is a static route to a network.
+fn is_item_to(item: &StaticItem, network: Network) -> bool
+    ensures { result ≡ is_item_to network item.now }
+{
+    match item {
+        StaticItem::Route(route) => route.network == network,
+        StaticItem::Service(_) => false,
+    }
+}
+
+/// Whether a network is that of a port of the file, or of a static route in it.
+fn is_in_file(site: &RouterConfig, network: Network) -> bool
+    ensures { result ≡ is_in_file site.now network }
+{
+    let mut ports = site.ports.iter();
+    let mut entries = site.statics.iter();
+    ports.any(|port| port.network() == network)
+        || entries.any(|entry| is_item_to(&entry.word, network))
+}
+
+/// The remark about a static service on a network of which the file says no more; empty for any
+/// other.
+fn service_to_remark(
+    alloc: Global,
+    site: &RouterConfig,
+    service: &ServiceEntry,
+) -> Result<String, AllocError>
+    ensures { IfOk result (λ t. string_bytes t ≡ service_remark site.now service.now) }
+{
+    let network = service.at.network;
+    if is_in_file(site, network) {
+        return Ok(String::new(alloc));
+    }
+    let words = service_to_words(alloc, service)?;
+    let network = hex::encode(alloc, network.0.to_be_bytes())?;
+    format!(in alloc;
+        "service {words}: no port and no static route leads to network {network}: \
+            it must be learned by RIP\n"
+    )
+}
+
 /// The remark about an entry; empty if there is none.
 fn entry_to_remark(
     alloc: Global,
-    ports: &[PortConfig],
+    site: &RouterConfig,
     entry: &StaticEntry,
 ) -> Result<String, AllocError>
     ensures { IfOk result (λ t. string_bytes t
-        ≡ item_remark ports.now entry.now.by entry.now.word) }
+        ≡ item_remark site.now entry.now.by entry.now.word) }
 {
     match &entry.word {
-        StaticItem::Route(route) => route_to_remark(alloc, ports, entry.by, route),
-        StaticItem::Service(_) => Ok(String::new(alloc)),
+        StaticItem::Route(route) => route_to_remark(alloc, &site.ports, entry.by, route),
+        StaticItem::Service(service) => service_to_remark(alloc, site, service),
     }
 }
 
 /// The line of an entry, and the remark about it.
 fn entry_to_lines(
     alloc: Global,
-    ports: &[PortConfig],
+    site: &RouterConfig,
     entry: &StaticEntry,
 ) -> Result<String, AllocError>
-    ensures { IfOk result (λ t. string_bytes t ≡ static_lines ports.now entry.now) }
+    ensures { IfOk result (λ t. string_bytes t ≡ static_lines site.now entry.now) }
 {
     let line = entry_to_line(alloc, entry)?;
-    let remark = entry_to_remark(alloc, ports, entry)?;
+    let remark = entry_to_remark(alloc, site, entry)?;
     format!(in alloc; "{line}{remark}")
 }
 
 /// The lines of static entries, in order, each with the remark about it.
-pub fn entries_to_lines(
-    alloc: Global,
-    ports: &[PortConfig],
-    entries: &[StaticEntry],
-) -> Result<String, AllocError>
-    ensures { IfOk result (λ t. string_bytes t ≡ flat_map (static_lines ports.now) entries.now) }
+pub fn entries_to_lines(alloc: Global, site: &RouterConfig) -> Result<String, AllocError>
+    ensures { IfOk result (λ t. string_bytes t
+        ≡ flat_map (static_lines site.now) site.now.statics.items) }
 {
     let mut lines = String::new(alloc);
-    for entry in entries {
-        let of_entry = entry_to_lines(alloc, ports, entry)?;
+    for entry in &site.statics {
+        let of_entry = entry_to_lines(alloc, site, entry)?;
         lines.push_str(&of_entry)?;
     }
     Ok(lines)

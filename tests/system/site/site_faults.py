@@ -500,6 +500,33 @@ type = "0640"
 name = "BACKUP"
 ipx_address = "00000011 00000a010002 4002"
 """
+# Services on the network of each port, on that of a static route, and two on one of which the file says no more.
+SERVED = """[[port]]
+network = "00000011"
+address = "10.1.0.1"
+peers = ["10.1.0.2"]
+
+[[port]]
+kind = "ethernet"
+network = "00000022"
+encapsulation = "802.3"
+address = "127.0.0.1"
+udp_port = 24002
+remotes = ["127.0.0.1:24001"]
+node = "02:00:00:00:00:22"
+
+[[route]]
+port = 1
+next_hop = "10.1.0.2"
+network = "00000099"
+""" + "".join(f"""
+[[service]]
+port = 1
+next_hop = "10.1.0.2"
+type = "{kind}"
+name = "BACKUP"
+ipx_address = "{network} 000000000001 4002"
+""" for kind, network in (("0004", "00000011"), ("0640", "00000022"), ("0641", "00000099"), ("0642", "000000AA"), ("0643", "000000aa")))
 WIRED = WIRES + changed(ROUTE.replace("= 1", "= 2"), "next_hop", '"02:00:00:00:00:33"')
 ANYWHERE = PLAYERS.replace("127.0.1.1", "any") + 'accept = "any"\njoin = ["198.51.100.7:2130"]\n'
 JOINED = OPEN.replace("203.0.113.5:2131", "127.0.0.1:24002")
@@ -521,7 +548,9 @@ CHECKED = [
                        "route 000000aa port 1 next 0000c6336407 hops 1 ticks 6",
                        "route 000000aa port 1 next 0000cb007109 hops 14 ticks 65535",
                        "service 0640 BACKUP at 00000011 00000a010014 4002 port 1 next 0000c6336407 hops 1",
+                       "service 0640 BACKUP: no port and no static route leads to network 00000011: it must be learned by RIP",
                        "service 000a !A~ at 00000011 00000a010014 4002 port 1 next 0000cb007109 hops 3",
+                       "service 000a !A~: no port and no static route leads to network 00000011: it must be learned by RIP",
                        "it.toml: 2 ports, metrics_file /run/ipx/h q..prom, tables_file /run/ipx/hq.tables"]),
     ("route", ROUTERS_NAMED, ["port 1 network 00000011 node 00000a010001 udp 10.1.0.1:213 cost 1 peers 2 routers 1",
                               "port 2 network 00000022 node 00000a020001 udp 10.2.0.1:213 cost 1 peers 1",
@@ -534,6 +563,17 @@ CHECKED = [
                               "route 000000bb: next_hop 10.3.0.2 is not in routers of port 3: what it forwards is dropped",
                               "service 0640 BACKUP at 00000011 00000a010002 4002 port 1 next 00000a010002 hops 1",
                               "it.toml: 3 ports, no metrics_file"]),
+    ("route", SERVED, ["port 1 network 00000011 node 00000a010001 udp 10.1.0.1:213 cost 1 peers 1",
+                       "port 2 network 00000022 node 020000000022 ethernet 802.3 udp 127.0.0.1:24002 cost 1 remotes 127.0.0.1:24001",
+                       "route 00000099 port 1 next 00000a010002 hops 1 ticks 1",
+                       "service 0004 BACKUP at 00000011 000000000001 4002 port 1 next 00000a010002 hops 1",
+                       "service 0640 BACKUP at 00000022 000000000001 4002 port 1 next 00000a010002 hops 1",
+                       "service 0641 BACKUP at 00000099 000000000001 4002 port 1 next 00000a010002 hops 1",
+                       "service 0642 BACKUP at 000000aa 000000000001 4002 port 1 next 00000a010002 hops 1",
+                       "service 0642 BACKUP: no port and no static route leads to network 000000aa: it must be learned by RIP",
+                       "service 0643 BACKUP at 000000aa 000000000001 4002 port 1 next 00000a010002 hops 1",
+                       "service 0643 BACKUP: no port and no static route leads to network 000000aa: it must be learned by RIP",
+                       "it.toml: 2 ports, no metrics_file"]),
     ("route", WIRED, ["port 1 network 00000022 node 020000000022 ethernet 802.2 udp 127.0.0.1:24002 cost 1"
                       " remotes 127.0.0.1:24001 127.0.0.1:24002 127.0.0.1:24001",
                       "port 1: remote 127.0.0.1:24002 is the port's own address", "port 1: remote 127.0.0.1:24001 is listed twice",
