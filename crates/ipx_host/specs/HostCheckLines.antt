@@ -1,12 +1,14 @@
 -- The lines that the program prints when a host starts to listen, and when the file of a host is checked.
 -- Nothing here is from a public standard.
-use Rattle.std.specs.Prelude.{ℕ, List, [], ◌∷◌, ◌++◌, codes, if◌then◌else◌, nat_eq}
+use Rattle.std.specs.Prelude.{Vec, ℕ, ◌==◌, List, [], ◌∷◌, ◌++◌, Option, Some, None, codes, if◌then◌else◌, length, nat_eq}
+use Rattle.std.specs.Global.{Global}
 use Rattle.std.specs.Cmp.Lexicographic.{pointwise}
 use Rattle.std.specs.Fmt.{decimal}
 use Rattle.std.specs.Int.{w16, w32, to_be_bytes}
 use Rattle.hex.specs.Hex.{encode_lower}
 use Rattle.ipx_carrier.specs.Mapping.{node_at}
 use Rattle.ipx_config.specs.Checked.{dotted_text, each_after, others_text, peer_remark, reached_text}
+use Rattle.ipx_config.specs.declared.allowed_peer.AllowedPeer.{AllowedPeer}
 use Rattle.ipx_config.specs.declared.host.HostConfig.{HostConfig}
 
 -- where a host listens: its socket in 4 hex digits, its network in 8 and its node in 12
@@ -30,11 +32,21 @@ router_remark h =
 abbrev pub peers_remarks : HostConfig → List ℕ
 peers_remarks h = each_after (peer_remark [] h.address) [] h.peers.items
 
+-- how many IP addresses a list has, after the words that say which list it is; empty for an empty list
+abbrev pub list_count_text : List ℕ → List (List ℕ) → List ℕ
+list_count_text which ips = if length ips == 0 then [] else which ++ decimal (length ips)
+
+-- how many entries the list of those who may connect has, if the file has that list; otherwise everybody may
+abbrev pub allow_text : Option (Vec AllowedPeer Global) → List ℕ
+allow_text None = []
+allow_text (Some allowed) = codes ", allow " ++ decimal (length allowed.items)
+
 -- the line about the file itself
 abbrev pub host_line : List ℕ → HostConfig → List ℕ
 host_line path h =
     path ++ (codes ": router " ++ (dotted_text h.router ++ (codes ", buffers "
-    ++ (decimal h.buffers ++ 10 ∷ []))))
+    ++ (decimal h.buffers ++ (list_count_text (codes ", peers ") h.peers.items
+    ++ (list_count_text (codes ", routers ") h.routers.items ++ (allow_text h.from ++ 10 ∷ [])))))))
 
 -- everything that is printed about the file of a host
 abbrev pub host_lines : List ℕ → HostConfig → List ℕ

@@ -5,7 +5,7 @@ ghost use Rattle.std.specs.Io.KnownBytes.{Appends};
 ghost use Rattle.ipx_config.specs.Host.{IsHostText};
 ghost use Rattle.ipx_config.specs.Loading.{IsFileText};
 ghost use Rattle.ipx_config.specs.declared.host.HostConfig.{HostConfig as AHostFile};
-ghost use Rattle.ipx_host.specs.HostCheckLines.{host_line, host_lines, listener_text, listen_address_text, peers_remarks, router_remark};
+ghost use Rattle.ipx_host.specs.HostCheckLines.{allow_text, host_line, host_lines, list_count_text, listener_text, listen_address_text, peers_remarks, router_remark};
 
 use ipx_carrier::node_of;
 use ipx_config::{
@@ -53,13 +53,41 @@ fn remarks_on_peers(alloc: Global, file: &HostConfig) -> Result<String, AllocErr
     peers_to_remarks(alloc, "", file.address, &file.peers)
 }
 
+/// Returns how many IP addresses a list has, after the words that say which list it is. The text is
+/// empty for an empty list.
+fn list_count_to_text(alloc: Global, which: &str, ips: &[[u8; 4]]) -> Result<String, AllocError>
+    ensures { IfOk result (λ t. string_bytes t ≡ list_count_text which.now ips.now) }
+{
+    if ips.is_empty() {
+        return Ok(String::new(alloc));
+    }
+    let count = ips.len();
+    format!(in alloc; "{which}{count}")
+}
+
+/// Returns how many entries `allow` has; the text is empty if the file has no such list.
+fn allow_to_text(alloc: Global, file: &HostConfig) -> Result<String, AllocError>
+    ensures { IfOk result (λ t. string_bytes t ≡ allow_text file.now.from) }
+{
+    match &file.from {
+        Some(allowed) => {
+            let count = allowed.len();
+            format!(in alloc; ", allow {count}")
+        }
+        None => Ok(String::new(alloc)),
+    }
+}
+
 /// Returns the line about the file itself.
 fn file_to_line(alloc: Global, path: &str, file: &HostConfig) -> Result<String, AllocError>
     ensures { IfOk result (λ t. string_bytes t ≡ host_line path.now file.now) }
 {
     let router = dotted(alloc, file.router)?;
     let buffers = file.buffers;
-    format!(in alloc; "{path}: router {router}, buffers {buffers}\n")
+    let peers = list_count_to_text(alloc, ", peers ", &file.peers)?;
+    let routers = list_count_to_text(alloc, ", routers ", &file.routers)?;
+    let allow = allow_to_text(alloc, file)?;
+    format!(in alloc; "{path}: router {router}, buffers {buffers}{peers}{routers}{allow}\n")
 }
 
 fn host_to_lines(alloc: Global, path: &str, file: &HostConfig) -> Result<String, AllocError>
