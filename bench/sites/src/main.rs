@@ -2,22 +2,26 @@
 //! beside a plain loop of `recv_from` and `send_to`; a transfer, from host to host and over two
 //! routers; and of routers of up to sixteen ports how long a packet is on its way, idle and while
 //! tables change, what they take that have nothing to do, their memory, and how long one that
-//! starts knows less than its neighbour.
+//! starts knows less than its neighbour; and broadcasts of players, beside DOSBox's own server.
 //!
 //! Its first argument is the program. Behind it, words narrow what is measured: `packets`,
-//! `transfers`, `tables`, `ports`; and `old` adds to `tables` a last row, three minutes later, as
-//! what fills them grows old. It takes some four minutes, and leaves no process behind.
+//! `transfers`, `tables`, `ports`, `players`, which needs the program dosbox; and `old` adds to
+//! `tables` a last row, three minutes later, as what fills them grows old. It takes some seven
+//! minutes, and leaves no process behind.
 
 mod alone;
 mod area;
 mod asker;
 mod busy;
+mod client;
 mod floor;
 mod idle;
 mod ipx;
 mod load;
+mod lobby;
 mod memory;
 mod packets;
+mod players;
 mod ports;
 mod restart;
 mod sixteen;
@@ -35,7 +39,7 @@ use std::path::PathBuf;
 use world::{Host, Port, World};
 
 /// The words that narrow what is measured, and the one that adds to it.
-const PARTS: [&str; 4] = ["packets", "transfers", "tables", "ports"];
+const PARTS: [&str; 5] = ["packets", "transfers", "tables", "ports", "players"];
 const OLD: &str = "old";
 
 /// Runs a row's measurement, or says why there is none.
@@ -86,6 +90,10 @@ fn print(world: &World, parts: &[String]) {
     let quiet = quiet.filter(|_| is_old);
     if has("ports") {
         ports::print(world);
+        println!();
+    }
+    if has("players") {
+        players::print(world);
         println!();
     }
     if let Some((quiet, told)) = quiet {

@@ -109,7 +109,7 @@ impl Drop for Process {
 pub struct World {
     pub program: PathBuf,
     pub port: u16,
-    folder: PathBuf,
+    pub folder: PathBuf,
 }
 
 impl Drop for World {
@@ -118,28 +118,38 @@ impl Drop for World {
     }
 }
 
-/// Whether no socket of this machine has the port, at any address.
-fn is_free(port: u16) -> bool {
-    UdpSocket::bind((Ipv4Addr::UNSPECIFIED, port)).is_ok()
+/// The first port of a hundred that no socket of this machine has, at any address.
+fn free_port(first: u16) -> io::Result<u16> {
+    let is_free = |port: &u16| UdpSocket::bind((Ipv4Addr::UNSPECIFIED, *port)).is_ok();
+    let port = (first..first + 100).find(is_free);
+    port.ok_or_else(|| io::ErrorKind::AddrInUse.into())
 }
 
 impl World {
     pub fn new(program: PathBuf) -> io::Result<World> {
-        let first = 20_000 + (std::process::id() % 9_000) as u16;
-        let port = (first..first + 100).find(|port| is_free(*port));
+        let port = free_port(20_000 + (std::process::id() % 9_000) as u16)?;
         let folder = std::env::temp_dir().join(format!("ipx-bench-{}", std::process::id()));
         fs::create_dir(&folder)?;
         Ok(World {
             program,
-            port: port.ok_or(io::ErrorKind::AddrInUse)?,
+            port,
             folder,
         })
     }
 
-    /// Starts a program of these words. What it says on standard error is let go.
+    /// Another free port.
+    pub fn other_port(&self) -> io::Result<u16> {
+        free_port(self.port + 1)
+    }
+
+    /// Starts a program of these words.
     pub fn start(&self, program: &PathBuf, words: &[&str]) -> io::Result<Process> {
-        Command::new(program)
-            .args(words)
+        self.spawn(Command::new(program).args(words))
+    }
+
+    /// Starts a command. What it says on standard error is let go.
+    pub fn spawn(&self, command: &mut Command) -> io::Result<Process> {
+        command
             .stdin(Stdio::piped())
             .stdout(Stdio::piped())
             .stderr(Stdio::null())
@@ -147,7 +157,8 @@ impl World {
             .map(Process)
     }
 
-    fn write(&self, name: &str, text: &str) -> io::Result<String> {
+    /// Writes a file of settings, and answers its path.
+    pub fn write(&self, name: &str, text: &str) -> io::Result<String> {
         let path = self.folder.join(format!("{name}.toml"));
         fs::write(&path, text)?;
         Ok(path.to_string_lossy().into_owned())
