@@ -2,7 +2,7 @@
 //! DOSBox: how long one is on its way, and how many come of so many a second.
 
 use crate::client::{Client, SIZE};
-use crate::lobby::Lobby;
+use crate::game::Game;
 use crate::or_say;
 use crate::times::{HEADS, Spread};
 use crate::world::World;
@@ -34,25 +34,25 @@ fn pause(number: u32) -> Duration {
 }
 
 /// How long the broadcast of a number is on its way, or nothing where it is lost.
-fn time(lobby: &Lobby, number: u32) -> io::Result<Option<Duration>> {
+fn time(game: &Game, number: u32) -> io::Result<Option<Duration>> {
     thread::sleep(pause(number));
     let start = Instant::now();
-    lobby.sender.send(number)?;
-    Ok(lobby.taker.get(number)?.then(|| start.elapsed()))
+    game.sender.send(number)?;
+    Ok(game.taker.get(number)?.then(|| start.elapsed()))
 }
 
 /// Prints a row for each server, by which broadcasts pass in turn. It answers the last number.
-fn print_times(lobbies: &[Lobby; 2]) -> io::Result<u32> {
+fn print_times(games: &[Game; 2]) -> io::Result<u32> {
     let mut times = [Vec::new(), Vec::new()];
     for number in 1..=PACKETS {
-        for (lobby, times) in lobbies.iter().zip(&mut times) {
-            times.extend(time(lobby, number)?);
+        for (game, times) in games.iter().zip(&mut times) {
+            times.extend(time(game, number)?);
         }
     }
     println!("{:<36}{HEADS} {:>9}", "one broadcast at a time", "lost");
-    for (lobby, times) in lobbies.iter().zip(times) {
+    for (game, times) in games.iter().zip(times) {
         let lost = PACKETS as usize - times.len();
-        println!("{:<36}{} {lost:>9}", lobby.name, Spread::new(times));
+        println!("{:<36}{} {lost:>9}", game.name, Spread::new(times));
     }
     Ok(PACKETS)
 }
@@ -103,13 +103,13 @@ fn count(mut numbers: Vec<u32>, first: u32) -> u64 {
 }
 
 /// Sends broadcasts at a rate for a turn, from a number on. It answers how many, and which came.
-fn pass(lobby: &Lobby, rate: u32, first: u32) -> io::Result<(u32, Vec<u32>)> {
+fn pass(game: &Game, rate: u32, first: u32) -> io::Result<(u32, Vec<u32>)> {
     let is_over = AtomicBool::new(false);
     thread::scope(|scope| {
-        let taken = scope.spawn(|| take(&lobby.taker, &is_over));
-        let listener = lobby.listener.as_ref();
+        let taken = scope.spawn(|| take(&game.taker, &is_over));
+        let listener = game.listener.as_ref();
         let heard = listener.map(|client| scope.spawn(|| take(client, &is_over)));
-        let sent = send(&lobby.sender, rate, first);
+        let sent = send(&game.sender, rate, first);
         is_over.store(true, Ordering::Release);
         let came = taken.join().expect("the taking thread ends")?;
         if let Some(heard) = heard {
@@ -120,21 +120,21 @@ fn pass(lobby: &Lobby, rate: u32, first: u32) -> io::Result<(u32, Vec<u32>)> {
 }
 
 /// One turn of a rate at a server, with the numbers from one on. It answers the next number.
-fn turn(lobby: &Lobby, rate: u32, first: u32, counts: &mut Counts) -> io::Result<u32> {
-    lobby.hello()?;
-    let (lost, taken) = (lobby.taker.lost()?, lobby.server.taken()?);
+fn turn(game: &Game, rate: u32, first: u32, counts: &mut Counts) -> io::Result<u32> {
+    game.hello()?;
+    let (lost, taken) = (game.taker.lost()?, game.server.taken()?);
     let start = Instant::now();
-    let (sent, came) = pass(lobby, rate, first)?;
+    let (sent, came) = pass(game, rate, first)?;
     counts.sent += u64::from(sent);
     counts.came += count(came, first);
-    counts.lost_by_taker += lobby.taker.lost()? - lost;
-    counts.ran += lobby.server.taken()?.ran - taken.ran;
+    counts.lost_by_taker += game.taker.lost()? - lost;
+    counts.ran += game.server.taken()?.ran - taken.ran;
     counts.nanos += start.elapsed().as_nanos();
     Ok(first + sent)
 }
 
 /// Prints a row for each rate and server, which have their turns one after another.
-fn print_rates(lobbies: &[Lobby; 2], last: u32) -> io::Result<()> {
+fn print_rates(games: &[Game; 2], last: u32) -> io::Result<()> {
     println!(
         "{:<36} {:>9} {:>9} {:>9} {:>9} {:>9}",
         format!("broadcasts of {SIZE} bytes"),
@@ -148,14 +148,14 @@ fn print_rates(lobbies: &[Lobby; 2], last: u32) -> io::Result<()> {
     for rate in RATES {
         let mut counts = [Counts::default(), Counts::default()];
         for _ in 0..TURNS {
-            for (lobby, counts) in lobbies.iter().zip(&mut counts) {
-                next = turn(lobby, rate, next, counts)?;
+            for (game, counts) in games.iter().zip(&mut counts) {
+                next = turn(game, rate, next, counts)?;
             }
         }
-        for (lobby, counts) in lobbies.iter().zip(counts) {
+        for (game, counts) in games.iter().zip(counts) {
             println!(
                 "{:<36} {:>9.4} {:>9} {:>9} {:>9} {:>9.1}",
-                format!("{rate} a second, {}", lobby.name),
+                format!("{rate} a second, {}", game.name),
                 counts.came as f64 / counts.sent as f64,
                 counts.sent,
                 counts.came,
@@ -169,10 +169,10 @@ fn print_rates(lobbies: &[Lobby; 2], last: u32) -> io::Result<()> {
 
 /// Both servers, when broadcasts pass by each.
 fn print_rows(world: &World) -> io::Result<()> {
-    let lobbies = [Lobby::ours(world)?, Lobby::dosbox(world)?];
-    let last = print_times(&lobbies)?;
+    let games = [Game::ours(world)?, Game::dosbox(world)?];
+    let last = print_times(&games)?;
     println!();
-    print_rates(&lobbies, last)
+    print_rates(&games, last)
 }
 
 /// Prints two rows of times, and two for each rate.

@@ -19,7 +19,7 @@ const SETTINGS: &str = "[sdl]\noutput=surface\n[mixer]\nnosound=true\n\
     [speaker]\npcspeaker=false\ntandy=off\ndisney=false\n[ipx]\nipx=true\n[autoexec]\n";
 
 /// A server, who sends, who takes what comes, and who only listens.
-pub struct Lobby {
+pub struct Game {
     pub name: &'static str,
     pub server: Process,
     pub sender: Client,
@@ -28,9 +28,9 @@ pub struct Lobby {
     pub listener: Option<Client>,
 }
 
-impl Lobby {
+impl Game {
     /// A port of `ipx route`.
-    pub fn ours(world: &World) -> io::Result<Lobby> {
+    pub fn ours(world: &World) -> io::Result<Game> {
         let port = world.port;
         let text = format!(
             "[[port]]\nkind = \"ipxnet\"\nnetwork = \"0000d05b\"\naddress = \"127.0.0.1\"\n\
@@ -38,13 +38,13 @@ impl Lobby {
         );
         let file = world.write("players", &text)?;
         let server = world.start(&world.program, &["route", &file])?;
-        let mut lobby = Lobby::at("ipx route", server, port)?;
-        lobby.listener = Some(Client::connect(place(port))?);
-        Ok(lobby)
+        let mut game = Game::at("ipx route", server, port)?;
+        game.listener = Some(Client::connect(place(port))?);
+        Ok(game)
     }
 
     /// DOSBox at its prompt, where `ipxnet startserver` was typed.
-    pub fn dosbox(world: &World) -> io::Result<Lobby> {
+    pub fn dosbox(world: &World) -> io::Result<Game> {
         let port = world.other_port()?;
         let text = format!("{SETTINGS}ipxnet startserver {port}\n");
         let file = world.write("dosbox", &text)?;
@@ -57,10 +57,10 @@ impl Lobby {
         let server = world.spawn(&mut command);
         let server =
             server.map_err(|error| io::Error::new(error.kind(), format!("dosbox: {error}")))?;
-        Lobby::at("DOSBox", server, port)
+        Game::at("DOSBox", server, port)
     }
 
-    fn at(name: &'static str, server: Process, port: u16) -> io::Result<Lobby> {
+    fn at(name: &'static str, server: Process, port: u16) -> io::Result<Game> {
         let end = Instant::now() + PATIENCE;
         while !is_bound(port)? {
             if Instant::now() > end {
@@ -69,7 +69,7 @@ impl Lobby {
             }
             thread::sleep(LOOK);
         }
-        Ok(Lobby {
+        Ok(Game {
             name,
             server,
             sender: Client::connect(place(port))?,
