@@ -4,7 +4,7 @@
 //! tables change, what they take that have nothing to do, their memory, and how long one that
 //! starts knows less than its neighbour; and broadcasts of players, beside DOSBox's own server.
 //!
-//! Its first argument is the program. Behind it, words narrow what is measured: `packets`,
+//! Its first argument is the program. After it, words narrow what is measured: `packets`,
 //! `transfers`, `tables`, `ports`, `players`, which needs the program dosbox; and `old` adds to
 //! `tables` a last row, three minutes later, as what fills them grows old. It takes some seven
 //! minutes, and leaves no process behind.
