@@ -1,6 +1,6 @@
 -- What the program prints of a port when a router starts, and of a file that it checks. Defined by this
 -- project.
-use Rattle.std.specs.Prelude.{Vec, ℕ, ◌+◌, List, [], ◌∷◌, ◌++◌, Bool, false, ◌&&◌, ◌||◌, ◌==◌, Option, Some, None, codes, drop, not, if◌then◌else◌, length, nat_eq, nat_le, slice_index, string_bytes, String}
+use Rattle.std.specs.Prelude.{Vec, ℕ, ◌+◌, List, [], ◌∷◌, ◌++◌, Bool, true, false, ◌&&◌, ◌||◌, ◌==◌, Option, Some, None, codes, drop, not, if◌then◌else◌, length, nat_eq, nat_le, slice_index, string_bytes, String}
 use Rattle.std.specs.Global.{Global}
 use Rattle.std.specs.Cmp.Lexicographic.{pointwise}
 use Rattle.std.specs.Fmt.{decimal}
@@ -295,22 +295,28 @@ abbrev pub is_item_to : Network → StaticItem → Bool
 is_item_to network (Route r) = r.network.0 == network.0
 is_item_to network (Service s) = false
 
--- a network is that of a port of the file, or of a static route in it
-abbrev pub is_in_file : RouterConfig → Network → Bool
-is_in_file s network = list_any (λ p. (network_of_kind p).0 == network.0) s.ports.items
-    || list_any (λ e. is_item_to network e.word) s.statics.items
+-- a network is that of some port, and that of some static route
+abbrev pub is_of_port : List PortConfig → Network → Bool
+is_of_port ports network = list_any (λ p. (network_of_kind p).0 == network.0) ports
 
--- the remark about a static service on a network of which the file says no more; empty for any other. The
+abbrev pub is_of_route : List StaticEntry → Network → Bool
+is_of_route entries network = list_any (λ e. is_item_to network e.word) entries
+
+-- a port of the file or a static route in it leads to a network
+abbrev pub is_led_to : RouterConfig → Network → Bool
+is_led_to s network = is_of_port s.ports.items network || is_of_route s.statics.items network
+
+-- the remark about a static service, by whether the file leads to its network; empty if it does. Otherwise the
 -- service is advertised, but packets for it are dropped while RIP has given no route
-abbrev pub service_remark : RouterConfig → ServiceEntry → List ℕ
-service_remark file s =
-    if is_in_file file s.at.network then []
-    else codes "service " ++ (service_words s ++ (codes ": no port and no static route leads to network "
+abbrev pub service_remark : Bool → ServiceEntry → List ℕ
+service_remark true s = []
+service_remark false s =
+    codes "service " ++ (service_words s ++ (codes ": no port and no static route leads to network "
     ++ (network_word s.at.network ++ codes ": it must be learned by RIP\n")))
 
 abbrev pub item_remark : RouterConfig → Source → StaticItem → List ℕ
 item_remark s by (Route r) = route_remark s.ports.items by r
-item_remark s by (Service v) = service_remark s v
+item_remark s by (Service v) = service_remark (is_led_to s v.at.network) v
 
 -- the line of a static entry, and the remark about it
 abbrev pub static_lines : RouterConfig → StaticEntry → List ℕ

@@ -286,7 +286,7 @@ fn site_to_lines(alloc: Global, path: &str, site: &RouterConfig) -> Result<Strin
     ensures { IfOk result (λ t. string_bytes t ≡ site_lines path.now site.now) }
 {
     let ports = ports_to_lines(alloc, &site.ports)?;
-    let statics = entries_to_lines(alloc, site)?;
+    let statics = entries_to_lines(alloc, site, &site.statics)?;
     let file = file_to_line(alloc, path, site)?;
     format!(in alloc; "{ports}{statics}{file}")
 }

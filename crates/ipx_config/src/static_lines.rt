@@ -5,7 +5,7 @@ ghost use Rattle.std.specs.List.{flat_map};
 ghost use Rattle.ipx_inspect.specs.ShowLine.{address_text};
 ghost use Rattle.ipx_table_dump.specs.TableText.{by_text};
 ghost use Rattle.ipx_config.specs.StaticFields.{numbered_port};
-ghost use Rattle.ipx_config.specs.Checked.{is_in_file, is_item_to, is_no_router, is_no_router_at, item_remark, next_hop_ip, route_remark, service_remark, static_line, static_lines, static_route_line, static_service_line, service_words, shown_text};
+ghost use Rattle.ipx_config.specs.Checked.{is_item_to, is_led_to, is_no_router, is_no_router_at, is_of_port, is_of_route, item_remark, next_hop_ip, route_remark, service_remark, static_line, static_lines, static_route_line, static_service_line, service_words, shown_text};
 
 use crate::escaped::Escaped;
 use crate::site::{PortConfig, RouterConfig};
@@ -146,31 +146,40 @@ fn is_item_to(item: &StaticItem, network: Network) -> bool
     }
 }
 
-/// Whether a network is that of a port of the file, or of a static route in it.
-fn is_in_file(site: &RouterConfig, network: Network) -> bool
-    ensures { result ≡ is_in_file site.now network }
+/// Whether a network is that of some port.
+fn is_of_port(ports: &[PortConfig], network: Network) -> bool
+    ensures { result ≡ is_of_port ports.now network }
 {
-    let mut ports = site.ports.iter();
-    let mut entries = site.statics.iter();
-    ports.any(|port| port.network() == network)
-        || entries.any(|entry| is_item_to(&entry.word, network))
+    ports.iter().any(|port| port.network() == network)
 }
 
-/// The remark about a static service on a network of which the file says no more; empty for any
-/// other.
+/// Whether a network is that of some static route.
+fn is_of_route(entries: &[StaticEntry], network: Network) -> bool
+    ensures { result ≡ is_of_route entries.now network }
+{
+    entries.iter().any(|entry| is_item_to(&entry.word, network))
+}
+
+/// Whether a port of the file or a static route in it leads to a network.
+fn is_led_to(site: &RouterConfig, network: Network) -> bool
+    ensures { result ≡ is_led_to site.now network }
+{
+    is_of_port(&site.ports, network) || is_of_route(&site.statics, network)
+}
+
+/// The remark about a static service, by whether the file leads to its network; empty if it does.
 fn service_to_remark(
     alloc: Global,
-    site: &RouterConfig,
+    has_way: bool,
     service: &ServiceEntry,
 ) -> Result<String, AllocError>
-    ensures { IfOk result (λ t. string_bytes t ≡ service_remark site.now service.now) }
+    ensures { IfOk result (λ t. string_bytes t ≡ service_remark has_way service.now) }
 {
-    let network = service.at.network;
-    if is_in_file(site, network) {
+    if has_way {
         return Ok(String::new(alloc));
     }
     let words = service_to_words(alloc, service)?;
-    let network = hex::encode(alloc, network.0.to_be_bytes())?;
+    let network = hex::encode(alloc, service.at.network.0.to_be_bytes())?;
     format!(in alloc;
         "service {words}: no port and no static route leads to network {network}: \
             it must be learned by RIP\n"
@@ -188,7 +197,10 @@ fn entry_to_remark(
 {
     match &entry.word {
         StaticItem::Route(route) => route_to_remark(alloc, &site.ports, entry.by, route),
-        StaticItem::Service(service) => service_to_remark(alloc, site, service),
+        StaticItem::Service(service) => {
+            let has_way = is_led_to(site, service.at.network);
+            service_to_remark(alloc, has_way, service)
+        }
     }
 }
 
@@ -205,13 +217,16 @@ fn entry_to_lines(
     format!(in alloc; "{line}{remark}")
 }
 
-/// The lines of static entries, in order, each with the remark about it.
-pub fn entries_to_lines(alloc: Global, site: &RouterConfig) -> Result<String, AllocError>
-    ensures { IfOk result (λ t. string_bytes t
-        ≡ flat_map (static_lines site.now) site.now.statics.items) }
+/// The lines of static entries of a file, in order, each with the remark about it.
+pub fn entries_to_lines(
+    alloc: Global,
+    site: &RouterConfig,
+    entries: &[StaticEntry],
+) -> Result<String, AllocError>
+    ensures { IfOk result (λ t. string_bytes t ≡ flat_map (static_lines site.now) entries.now) }
 {
     let mut lines = String::new(alloc);
-    for entry in &site.statics {
+    for entry in entries {
         let of_entry = entry_to_lines(alloc, site, entry)?;
         lines.push_str(&of_entry)?;
     }

@@ -6,4 +6,4 @@ use Rattle.ipx_config.proofs.static_lines.entries_to_lines.Goals as goal
 pub loop-entry-preserved : goal.loop-entry-preserved
 loop-entry-preserved c =
     c.in_ok-push_str.ensures.bytes
-    ∙ texts_more (static_lines c.args.site.now) c.args.site.now.statics.items c.loop-entry.entry-index _ _ _ c.loop-entry-test.true c.loop-entry.invariant (c.deref.ensures ∙ c.in_ok-of_entry.ensures)
+    ∙ texts_more (static_lines c.args.site.now) c.args.entries.now c.loop-entry.entry-index _ _ _ c.loop-entry-test.true c.loop-entry.invariant (c.deref.ensures ∙ c.in_ok-of_entry.ensures)
