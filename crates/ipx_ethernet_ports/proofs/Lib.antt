@@ -1,3 +1,4 @@
+mod Asked
 pub mod Ends
 pub mod Hubs
 pub mod Staying

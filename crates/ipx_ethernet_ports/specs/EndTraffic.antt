@@ -1,6 +1,7 @@
 -- What passes through the sockets of Ethernet ports: which frame came from which remote of a port, and which
 -- was sent to which. Defined by this project.
 use Rattle.std.specs.Prelude.{◌≡◌, ℕ, zero, suc, List, [], ◌∷◌, ◌++◌, Option, Some, None, Result, Ok, Err, IfSome, take}
+use Rattle.ipx_carrier.specs.declared.fault.DeviceFault.{DeviceFault}
 use Rattle.ipx_carrier.specs.Counting.{raised}
 use Rattle.ipx_ethernet_ports.specs.declared.end_sockets.FrameCame.{FrameCame}
 
@@ -23,6 +24,11 @@ frame_at port bytes end = record { port = port; end = end; bytes = bytes }
 abbrev pub came_in : ℕ → List ℕ → Option FrameCame → Option EndFrame
 came_in port room None = None
 came_in port room (Some c) = Some (frame_at port (take c.size room) c.end)
+
+-- the frame that sockets answered at a port, if one came
+abbrev pub frame_answered : ℕ → List ℕ → Result (Option FrameCame) DeviceFault → Option EndFrame
+frame_answered port room (Ok came) = came_in port room came
+frame_answered port room (Err _) = None
 
 -- one frame or none, as a list
 abbrev pub frames_in : Option EndFrame → List EndFrame

@@ -1,6 +1,6 @@
 -- To which remote a UDP datagram goes, and from which one it comes. Defined by this project: a datagram over
 -- IPv6 comes from none.
-use Rattle.std.specs.Prelude.{◌≡◌, ℕ, ℤ, List, Bool, true, false, ◌==◌, ◌&&◌, Option, Some, None, Result, Ok, Err, IfSome, if◌then◌else◌, length, map, position, slice_get, slice_set}
+use Rattle.std.specs.Prelude.{◌≡◌, ℕ, ℤ, List, Bool, true, false, ◌==◌, ◌&&◌, Option, Some, None, Result, Ok, Err, IfSome, is_some, if◌then◌else◌, length, map, position, slice_get, slice_set}
 use Rattle.std.specs.Option.{option_map}
 use Rattle.std.specs.Str.{bytes_eq}
 use Rattle.std.specs.Net.Addr.{ipv4_octets}
@@ -10,9 +10,11 @@ use Rattle.std.specs.declared.net.socket_addr.SocketAddr.TheVariants.{V4, V6}
 use Rattle.std.specs.declared.net.socket_addr.SocketAddrV4.{SocketAddrV4}
 use Rattle.ipx_carrier.specs.declared.fault.DeviceFault.{DeviceFault}
 use Rattle.ipx_carrier.specs.declared.placed_socket.PlacedSocket.{PlacedSocket}
+use Rattle.ipx_carrier.specs.ReadySet.{IsFilteredOrAnswer, is_come, is_port_marked, marks_after}
 use Rattle.ipx_carrier.specs.Traces.{Got, TriesToReceive, raw_fd_of, refused_to, sent_to}
 use Rattle.ipx_ethernet_ports.specs.declared.end_sockets.FrameCame.{FrameCame}
 use Rattle.ipx_ethernet_ports.specs.declared.sockets.EthernetSocket.{EthernetSocket}
+use Rattle.ipx_ethernet_ports.specs.declared.sockets.EthernetSockets.{EthernetSockets}
 
 -- a remote has this address
 abbrev pub is_place : SocketAddr → SocketAddrV4 → Bool
@@ -73,6 +75,23 @@ abbrev pub last_refused : Got → Bool → Option SocketAddrV4 → Option Socket
 last_refused (Ok (Some came)) is_handed last = if is_handed then last else place_of_sender came.1
 last_refused (Ok None) is_handed last = last
 last_refused (Err _) is_handed last = last
+
+-- a marked port was asked, and gave this answer: its socket was. The mark is cleared exactly if nothing waits.
+-- What came from an unknown sender is counted, and its address is the last unknown one
+abbrev pub AsksMarkedPort : ℕ → Option FrameCame → List ℕ → EthernetSockets → EthernetSockets → Type 0
+AsksMarkedPort port answer room old new = (got : Got)
+    × AsksForFrame port got room answer old.ethernet.items new.ethernet.items old.faults new.faults
+    × (new.marks ≡ marks_after port got old.marks)
+    × (new.last_unknown ≡ last_refused got (is_some answer) old.last_unknown)
+    × IsFilteredOrAnswer (is_come got) (is_some answer) old.unknown_senders new.unknown_senders
+
+-- a port was asked, and gave this answer. Without a mark the system is not asked, the answer is None, and
+-- nothing changes. It never fails
+abbrev pub AsksEthernetSockets : ℕ → Result (Option FrameCame) DeviceFault → List ℕ → EthernetSockets → EthernetSockets → Type 0
+AsksEthernetSockets port (Ok answer) room old new = (is_port_marked old.marks port ≡ false → (answer ≡ None) × (new ≡ old))
+    × (is_port_marked old.marks port ≡ true → AsksMarkedPort port answer room old new)
+    × (new.sent ≡ old.sent) × (new.failures ≡ old.failures)
+AsksEthernetSockets port (Err _) room old new = ⊥
 
 -- ---- definitions for the private functions
 

@@ -1,5 +1,5 @@
 -- What Ethernet ports do with the frames there, and with packets of their core. Defined by this project.
-use Rattle.std.specs.Prelude.{◌≡◌, ◌⊎◌, ℕ, List, [], ◌∷◌, Bool, false, not, ◌&&◌, Option, Some, None, filter, length, map, slice_get, slice_set, take}
+use Rattle.std.specs.Prelude.{◌≡◌, ◌<◌, ◌⊎◌, ℕ, List, [], ◌∷◌, Bool, false, not, ◌&&◌, Option, Some, None, Result, filter, length, map, slice_get, slice_set, take}
 use Rattle.std.specs.List.{range_with_len}
 use Rattle.ipx_wire.specs.declared.address.Node.{Node}
 use Rattle.ipx_ethernet.specs.declared.encapsulation.Encapsulation.{Encapsulation}
@@ -12,11 +12,13 @@ use Rattle.ipx_ethernet.specs.PortFrames.{IsForCore, KeepsFrame}
 use Rattle.ipx_ethernet.specs.declared.egress.Egress.{Egress}
 use Rattle.ipx_ethernet.specs.Heard.{SwitchView, switch_handing, switch_keeping, switch_passing, switch_refusing, way_after, way_of_own}
 use Rattle.ipx_ethernet.specs.SwitchEnds.{is_way_to}
+use Rattle.ipx_carrier.specs.declared.fault.DeviceFault.{DeviceFault}
 use Rattle.ipx_carrier.specs.declared.port_driver.PacketSent.{PacketSent}
 use Rattle.ipx_carrier.specs.declared.port_driver.PacketSent.TheVariants.{Unmapped, Transmitted}
 use Rattle.ipx_carrier.specs.Counting.{raised}
 use Rattle.ipx_carrier.specs.Turns.{Given, Ways}
-use Rattle.ipx_ethernet_ports.specs.EndTraffic.{EndFrame, EndTraffic, EndsPass, frame_at, raised_times}
+use Rattle.ipx_ethernet_ports.specs.declared.end_sockets.FrameCame.{FrameCame}
+use Rattle.ipx_ethernet_ports.specs.EndTraffic.{EndFrame, EndTraffic, EndsPass, frame_answered, frame_at, raised_times}
 
 -- a frame that is sent by a port: `IsSentFrame` says which bytes it has
 pub record SentFrameCopy : Type 0 where
@@ -83,6 +85,17 @@ abbrev pub ethernet_ports_view : List SwitchView → ℕ → Option EndTraffic �
 ethernet_ports_view switches kept traffic failed =
     record { switches = switches; kept = kept; traffic = traffic; failed = failed }
 
+-- sockets were asked at a port, into a buffer longer than any frame, and `asks` says what came of that. This
+-- frame is what they answered, or none came. If none came, nothing else was done with them
+pub record AreAskedForFrame {S : Type 0} (asks : ℕ → Result (Option FrameCame) DeviceFault → List ℕ → S → S → Type 0) (port : ℕ) (before : S) (came : Option EndFrame) (after : S) : Type 0 where
+  pub answer : Result (Option FrameCame) DeviceFault
+  pub buffer : List ℕ
+  pub asked : S
+  pub asking : asks port answer buffer before asked
+  pub whole : frame_buffer < length buffer
+  pub answered : came ≡ frame_answered port buffer answer
+  pub nothing : came ≡ None → after ≡ asked
+
 -- a frame came to a port of n remotes, and only this one. It is forwarded, as it came, to the remotes that
 -- the switch says, never to its own. The core gets its packet if that is for it
 pub record HearsAtEthernet (n now most : ℕ) (frame : EndFrame) (came : List EndFrame) (room : List ℕ) (up : Option ℕ) (old new : EthernetPortsView) : Type 0 where
@@ -95,7 +108,7 @@ pub record HearsAtEthernet (n now most : ℕ) (frame : EndFrame) (came : List En
   pub switches : new.switches ≡ slice_set old.switches frame.port after
   pub counted : new.kept ≡ filtered_by up old.kept
 
--- the same for what the sockets return: a frame; or that nothing came, or that they failed, which they count
+-- the same for what the sockets answered: a frame; or that nothing came, or that they failed, which they count
 abbrev pub HearsAnswerOf : ℕ → ℕ → ℕ → Option EndFrame → List ℕ → Option ℕ → EthernetPortsView → EthernetPortsView → Type 0
 HearsAnswerOf n now most None room up old new = (up ≡ None) × (new.switches ≡ old.switches)
     × (new.kept ≡ old.kept) × EndsPass old.traffic new.traffic [] []

@@ -1,7 +1,9 @@
 //! The sockets of Ethernet ports.
 
-ghost use Rattle.std.specs.Prelude.{◌≡◌, ◌<◌, ◌≤◌, ℕ, Bool, List, [], ◌∷◌, Option, IfOk, IfSome, OnErr, OnOk, is_some, length, slice_index, true};
+ghost use Rattle.std.specs.Prelude.{◌≡◌, ◌<◌, ◌≤◌, ℕ, Bool, List, [], ◌∷◌, Option, Result, IfOk, IfSome, OnErr, OnOk, is_some, length, slice_index, true};
+ghost use Rattle.ipx_carrier.specs.declared.fault.DeviceFault.{DeviceFault};
 ghost use Rattle.ipx_carrier.specs.Readiness.{AsksPortWithMark, MarksStay};
+ghost use Rattle.ipx_ethernet_ports.specs.declared.end_sockets.FrameCame.{FrameCame};
 ghost use Rattle.ipx_ethernet_ports.specs.EndTraffic.{EndTraffic, EndsPass, came_in, failures_counted, frame_at, frames_in};
 
 use ipx_carrier::DeviceFault;
@@ -34,6 +36,10 @@ pub trait EndSockets {
 
     /// Whether something may wait at each port. Sockets that keep no marks say so of each.
     ghost marked: { Self → ℕ → Bool } = { λ s port. true };
+
+    /// What `receive` does: at this port it gives this answer, with this buffer then, and the
+    /// sockets before become those after.
+    ghost asks: { ℕ → Result (Option FrameCame) DeviceFault → List ℕ → Self → Self → Type 0 };
 
     /// How many ports there are.
     fn ports(&self) -> usize
@@ -72,6 +78,7 @@ pub trait EndSockets {
     /// The port must exist.
     fn receive(&mut self, port: usize, room: &mut [u8]) -> Result<Option<FrameCame>, DeviceFault>
         requires { port < length (ends_of self.old) }
+        ensures asked { asks port result room.new self.old self.new }
         ensures received { IfOk result (λ came. EndsPass (traffic self.old) (traffic self.new)
             (frames_in (came_in port room.new came)) []) }
         ensures end { IfOk result (λ came. IfSome came (λ c.

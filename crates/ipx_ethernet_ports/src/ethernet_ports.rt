@@ -4,7 +4,7 @@ ghost use Rattle.std.specs.Prelude.{◌≡◌, ◌<◌, ◌≤◌, ◌+◌, ◌^
 ghost use Rattle.ipx_carrier.specs.PortDrivers.{copies_count, count_in};
 ghost use Rattle.ipx_carrier.specs.Readiness.{AsksPortWithMark, MarksStay};
 ghost use Rattle.ipx_ethernet_ports.specs.EndTraffic.{EndFrame, frame_at};
-ghost use Rattle.ipx_ethernet_ports.specs.OnEthernet.{HearsAnswerOf, HearsAtEthernet, SendsPacket, by_frames, ethernet_ports_view};
+ghost use Rattle.ipx_ethernet_ports.specs.OnEthernet.{AreAskedForFrame, HearsAnswerOf, HearsAtEthernet, SendsPacket, by_frames, ethernet_ports_view};
 
 use crate::end_sockets::EndSockets;
 use crate::reaching::send_to_ends;
@@ -212,6 +212,15 @@ impl<D: EndSockets + Drop> PortDriver for EthernetPorts<D> {
     fn receive(&mut self, port: usize, room: &mut [u8]) -> Result<Option<usize>, DeviceFault>
         requires there { port < min (length self.old.switches.items)
             (length (D.ends_of self.old.sockets)) }
+        // The sockets were asked at the port, and what they answered is heard.
+        ensures asked { IfOk result (λ up. (came : Option EndFrame)
+            × AreAskedForFrame D.asks port self.old.sockets came self.new.sockets
+            × HearsAnswerOf (slice_index (D.ends_of self.old.sockets) port) self.old.moment
+            (length room.old) came room.new up
+            (ethernet_ports_view self.old.switches.items self.old.kept
+            (D.traffic self.old.sockets) (D.failed self.old.sockets))
+            (ethernet_ports_view self.new.switches.items self.new.kept
+            (D.traffic self.new.sockets) (D.failed self.new.sockets))) }
         // A frame came from a remote and was forwarded, or none came, or the sockets failed.
         ensures received { IfOk result (λ up. (came : Option EndFrame)
             × IfSome came (λ frame. frame.port ≡ port)

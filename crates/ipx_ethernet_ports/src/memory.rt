@@ -116,6 +116,9 @@ impl EndSockets for MemoryEnds {
 
     ghost filtered = { λ m. m.unknown_senders };
 
+    // What they were asked is tested.
+    ghost asks = { λ port answer room m n. Unit {0} };
+
     fn ports(&self) -> usize {
         self.ends.len()
     }

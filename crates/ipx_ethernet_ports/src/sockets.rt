@@ -4,10 +4,10 @@ ghost use Rattle.std.specs.Prelude.{◌≡◌, ◌<◌, ◌≤◌, ◌++◌, ◌
 ghost use Rattle.ipx_carrier.specs.declared.placed_socket.PlacedSocket.{PlacedSocket};
 ghost use Rattle.ipx_carrier.specs.Counting.{raised};
 ghost use Rattle.ipx_carrier.specs.Readiness.{AsksPortWithMark};
-ghost use Rattle.ipx_carrier.specs.ReadySet.{IsFilteredOrAnswer, is_come, is_port_marked, marks_after};
+ghost use Rattle.ipx_carrier.specs.ReadySet.{is_port_marked};
 ghost use Rattle.ipx_carrier.specs.Traces.{Got, TriesToReceive, refused_to, sent_to};
 ghost use Rattle.ipx_ethernet_ports.specs.EndTraffic.{failures_counted};
-ghost use Rattle.ipx_ethernet_ports.specs.EthernetAddresses.{AsksForFrame, RefusesFrame, SendsFrame, bound_places, end_at_place, ethernet_fds, is_place, last_refused, place_of_sender, remote_counts, remote_places, with_remote};
+ghost use Rattle.ipx_ethernet_ports.specs.EthernetAddresses.{AsksMarkedPort, RefusesFrame, SendsFrame, bound_places, end_at_place, ethernet_fds, is_place, place_of_sender, remote_counts, remote_places, with_remote};
 
 use crate::end_sockets::{EndSockets, FrameCame};
 use ipx_carrier::{DeviceFault, PlacedSocket, ReadySet, saturating_increment};
@@ -211,6 +211,7 @@ impl EthernetSockets {
 
 impl EndSockets for EthernetSockets {
     ghost use Rattle.std.specs.Prelude.{None};
+    ghost use Rattle.ipx_ethernet_ports.specs.EthernetAddresses.{AsksEthernetSockets};
 
     ghost ends_of = { λ s. remote_counts s.ethernet.items };
 
@@ -222,6 +223,8 @@ impl EndSockets for EthernetSockets {
     ghost filtered = { λ s. s.unknown_senders };
 
     ghost marked = { λ s. is_port_marked s.marks };
+
+    ghost asks = { AsksEthernetSockets };
 
     fn ports(&self) -> usize {
         self.ethernet.len()
@@ -275,12 +278,7 @@ impl EndSockets for EthernetSockets {
         // came from a remote is returned. What came from an unknown sender is counted, and its
         // address is the last unknown one.
         ensures marked { is_port_marked self.old.marks port ≡ true → IfOk result (λ answer.
-            (got : Got) × AsksForFrame port got room.new answer self.old.ethernet.items
-            self.new.ethernet.items self.old.faults self.new.faults
-            × (self.new.marks ≡ marks_after port got self.old.marks)
-            × (self.new.last_unknown ≡ last_refused got (is_some answer) self.old.last_unknown)
-            × IsFilteredOrAnswer (is_come got) (is_some answer)
-            self.old.unknown_senders self.new.unknown_senders) }
+            AsksMarkedPort port answer room.new self.old self.new) }
         ensures marks { IfOk result (λ answer. AsksPortWithMark port (is_some answer)
             (is_port_marked self.old.marks) (is_port_marked self.new.marks)) }
         ensures end { IfOk result (λ came. IfSome came (λ c.

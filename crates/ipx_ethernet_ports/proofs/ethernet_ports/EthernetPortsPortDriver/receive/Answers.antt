@@ -1,8 +1,19 @@
-use Rattle.std.proofs.Common.{[], ℕ, List, Option, Some, ap, refl, slice_index, subst}
+use Rattle.std.proofs.Common.{◌∙◌, [], ℕ, List, Ok, Option, Some, ap, refl, rules, slice_index, subst}
 use Rattle.ipx_ethernet_ports.specs.declared.end_sockets.FrameCame.{FrameCame}
 use Rattle.ipx_ethernet_ports.specs.EndTraffic.{EndsPass, came_in, frames_in}
+use Rattle.ipx_ethernet_ports.proofs.Asked.{asked_frame}
 use Rattle.ipx_ethernet_ports.proofs.Hubs.{hearing_leaves_ports, hears_answer}
 use Rattle.ipx_ethernet_ports.proofs.ethernet_ports.EthernetPortsPortDriver.receive.Goals as goal
+
+pub returns-clause-asked : goal.returns-clause-asked
+returns-clause-asked g c =
+    let before = g.D.EndSockets.traffic c.args.self.now.sockets in
+    let behind = g.D.EndSockets.traffic c.receive.new.self in
+    let first = subst (λ (o : Option FrameCame). EndsPass before behind (frames_in (came_in c.args.port c.receive.new.room o)) []) c.in-Some.is c.in-Ok.ensures.received in (
+      came_in c.args.port c.receive.new.room (Some c.in-Some.came),
+      asked_frame g.D.EndSockets.asks c.args.port c.args.self.now.sockets c.receive.new.self c.hear_frame.new.self.sockets c.receive.new.room c.receive.result c.receive.ensures.asked (search rules) c.in-Some.came (c.in-Ok.is ∙ ap Ok c.in-Some.is),
+      hears_answer _ _ _ _ _ _ _ _ _ _ _ _ _ _ (ap (λ (ends : List ℕ). slice_index ends c.args.port) c.in-Ok.ensures.ends) c.in-Ok.ensures.failures first c.hear_frame.ensures.heard,
+    )
 
 pub returns-clause-received : goal.returns-clause-received
 returns-clause-received g c =
