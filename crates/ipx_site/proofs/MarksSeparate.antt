@@ -24,10 +24,12 @@ use Rattle.ipx_site.specs.SiteMarks.{DifferInMarks}
 use Rattle.ipx_sockets.specs.SourceFilter.{drops_in}
 use Rattle.ipx_site.specs.SiteCore.{SiteCore}
 use Rattle.ipx_site.specs.EthernetTotals.{encapsulated_otherwise_in, unframed_in}
+use Rattle.ipx_site.specs.IpxnetTotals.{full_in, full_of_address_in}
+use Rattle.ipxnet_server.specs.ServerHears.{ServerView}
 
 -- how often each cause occurred, by what the three kinds of ports say of it
-abbrev of_parts : RouterCounts → SiteCore → FilterDrops → ℕ → ℕ → List SwitchView → ℕ → ℕ → ℕ → ℕ → EventCounts
-of_parts totals core kept refused faults switches unknown_senders ethernet_faults server_faults nowhere = record {
+abbrev of_parts : RouterCounts → SiteCore → FilterDrops → ℕ → ℕ → List SwitchView → ℕ → ℕ → ℕ → ℕ → List ServerView → EventCounts
+of_parts totals core kept refused faults switches unknown_senders ethernet_faults server_faults nowhere servers = record {
   unknown_senders = kept.unknown_senders.count;
   spoofed = kept.spoofed.count;
   not_a_router = kept.not_a_router.count;
@@ -43,6 +45,8 @@ of_parts totals core kept refused faults switches unknown_senders ethernet_fault
   ipxnet_unknown_senders = nowhere;
   unframed = unframed_in switches;
   other_encapsulation = encapsulated_otherwise_in switches;
+  ipxnet_full = full_in servers;
+  ipxnet_full_of_address = full_of_address_in servers;
 }
 
 module _ {gd : OfDevice.Ghosts (SourceFilter UdpSockets)} {ge : OfSockets.Ghosts EthernetSockets} {gl : OfPlaces.Ghosts ServerSockets} (r : SitePortsRun gd ge gl) where
@@ -75,11 +79,11 @@ module _ {gd : OfDevice.Ghosts (SourceFilter UdpSockets)} {ge : OfSockets.Ghosts
   pub happened_separate : (totals : RouterCounts) (core : SiteCore) → happened totals core s ≡ happened totals core r
   happened_separate totals core =
       ap (λ d. of_parts totals core d.device.kept d.device.refused d.device.device.faults s.ethernet.switches.items s.ethernet.sockets.unknown_senders
-      (s.ethernet.sockets.failures + s.ethernet.sockets.faults) (s.servers.sockets.failures + s.servers.sockets.faults) s.servers.sockets.nowhere) m.datagrams
+      (s.ethernet.sockets.failures + s.ethernet.sockets.faults) (s.servers.sockets.failures + s.servers.sockets.faults) s.servers.sockets.nowhere s.servers.servers.items) m.datagrams
       ∙ ap (λ w. of_parts totals core r.datagrams.device.kept r.datagrams.device.refused r.datagrams.device.device.faults w.switches.items w.sockets.unknown_senders
-      (w.sockets.failures + w.sockets.faults) (s.servers.sockets.failures + s.servers.sockets.faults) s.servers.sockets.nowhere) m.ethernet
+      (w.sockets.failures + w.sockets.faults) (s.servers.sockets.failures + s.servers.sockets.faults) s.servers.sockets.nowhere s.servers.servers.items) m.ethernet
       ∙ ap (λ l. of_parts totals core r.datagrams.device.kept r.datagrams.device.refused r.datagrams.device.device.faults r.ethernet.switches.items r.ethernet.sockets.unknown_senders
-      (r.ethernet.sockets.failures + r.ethernet.sockets.faults) (l.sockets.failures + l.sockets.faults) l.sockets.nowhere) m.servers
+      (r.ethernet.sockets.failures + r.ethernet.sockets.faults) (l.sockets.failures + l.sockets.faults) l.sockets.nowhere l.servers.items) m.servers
 
   -- nor do the pings that were sent before
   pub pings_separate : (old : SitePortsRun gd ge gl) → PingsFirst r.ethernet.moment old r → PingsFirst s.ethernet.moment old s

@@ -19,6 +19,7 @@ use Rattle.ipx_carrier.specs.PriorityRouterCore.{PriorityQueues}
 use Rattle.ipx_sockets.specs.Moments.{HasPassed, IsOneDue}
 use Rattle.ipx_site.specs.SiteCore.{SiteCore}
 use Rattle.ipx_site.specs.EthernetTotals.{encapsulated_otherwise_in, unframed_in}
+use Rattle.ipx_site.specs.IpxnetTotals.{full_in, full_of_address_in}
 
 -- the times at which a router repeats its requests, in milliseconds since its start
 abbrev pub askings : List ℕ
@@ -45,6 +46,8 @@ pub record EventCounts : Type 0 where
   pub ipxnet_unknown_senders : ℕ
   pub unframed : ℕ
   pub other_encapsulation : ℕ
+  pub ipxnet_full : ℕ
+  pub ipxnet_full_of_address : ℕ
 
 -- as its metrics say
 abbrev pub happened_in : Metrics → EventCounts
@@ -64,6 +67,8 @@ happened_in f = record {
   ipxnet_unknown_senders = f.ipxnet_unknown_senders.count;
   unframed = f.unframed;
   other_encapsulation = f.other_encapsulation;
+  ipxnet_full = f.ipxnet_full;
+  ipxnet_full_of_address = f.ipxnet_full_of_address;
 }
 
 -- how many datagrams and frames the system refused
@@ -89,13 +94,16 @@ happened totals core ports = record {
   ipxnet_unknown_senders = ports.servers.sockets.nowhere;
   unframed = unframed_in ports.ethernet.switches.items;
   other_encapsulation = encapsulated_otherwise_in ports.ethernet.switches.items;
+  ipxnet_full = full_in ports.servers.servers.items;
+  ipxnet_full_of_address = full_of_address_in ports.servers.servers.items;
 }
 
 -- in the order of the log lines
 abbrev pub counts_to_log : EventCounts → List ℕ
 counts_to_log n = n.unknown_senders ∷ n.spoofed ∷ n.not_a_router ∷ n.rate_limited ∷ n.refused ∷ n.table_full
     ∷ n.queue_full ∷ n.device ∷ n.memory ∷ n.file ∷ n.frame_unknown_senders ∷ n.unframed
-    ∷ n.other_encapsulation ∷ n.directed ∷ n.ipxnet_unknown_senders ∷ []
+    ∷ n.other_encapsulation ∷ n.directed ∷ n.ipxnet_unknown_senders ∷ n.ipxnet_full
+    ∷ n.ipxnet_full_of_address ∷ []
 
 -- a line for one of a router's causes is due
 abbrev pub IsLineDue : Warnings → EventCounts → ℕ → Type 0

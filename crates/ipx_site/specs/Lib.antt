@@ -11,6 +11,7 @@ pub mod RouterMetrics
 pub mod KindPorts
 pub mod RouterPorts
 pub mod EthernetTotals
+pub mod IpxnetTotals
 pub mod PortsView
 pub mod SiteMarks
 pub mod ClientLog

@@ -13,6 +13,7 @@ mod family;
 mod frame_metrics;
 mod ipxnet_metrics;
 mod ipxnet_ports;
+mod ipxnet_totals;
 mod known_text;
 mod metrics;
 mod metrics_page;

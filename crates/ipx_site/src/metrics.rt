@@ -39,6 +39,10 @@ pub struct Metrics {
     pub frame_last_unknown: Option<SocketAddrV4>,
     /// The datagrams at ports for ipxnet that came from no address in their `peers`.
     pub ipxnet_unknown_senders: DropCount,
+    /// The datagrams of new players that were dropped because all places of their port were taken.
+    pub ipxnet_full: u64,
+    /// Those that were dropped because all places of their IP address were taken.
+    pub ipxnet_full_of_address: u64,
     /// The packets that no frame could carry.
     pub unframed: u64,
     /// The frames with a packet in an encapsulation other than their port's.

@@ -7,6 +7,7 @@ ghost use Rattle.ipx_site.specs.IdleTime.{happened, happened_in, lost_in};
 ghost use Rattle.ipx_site.specs.RouterMetrics.{AreMetrics, no_counts, with_batch, with_memory_fault};
 
 use crate::ethernet_totals::{in_other_encapsulations, unframed};
+use crate::ipxnet_totals::{full, full_of_address};
 use crate::metrics::Metrics;
 use crate::route_change_log::RouteChangeLog;
 use crate::router_ports::UdpRouterPorts;
@@ -112,6 +113,7 @@ impl RouterCounts {
         let outcomes = core.core().core().core().outcomes();
         let device = ports.device();
         let switches = ports.ethernet().switches();
+        let servers = ports.servers().servers();
         Metrics {
             heard: heard_in(&outcomes),
             sent: device.device().sent(),
@@ -127,6 +129,8 @@ impl RouterCounts {
             frame_unknown_senders: ports.ethernet().sockets().unknown_senders(),
             frame_last_unknown: ports.ethernet().sockets().last_unknown(),
             ipxnet_unknown_senders: ipxnet_unknown_senders(ports),
+            ipxnet_full: full(servers),
+            ipxnet_full_of_address: full_of_address(servers),
             unframed: unframed(switches),
             other_encapsulation: in_other_encapsulations(switches),
             device_faults: self.device_faults.saturating_add(faults_of(ports)),

@@ -11,7 +11,7 @@ use ipx_wire::Address;
 use log::Log;
 
 /// The number of warnings of a router.
-const CAUSES: usize = 15;
+const CAUSES: usize = 17;
 
 /// The index of the warning about other encapsulations.
 const ENCAPSULATIONS: usize = 12;
@@ -89,13 +89,21 @@ fn warnings_in(f: &Metrics) -> [Warning; CAUSES]
             f.ipxnet_unknown_senders,
             "datagrams to a port for ipxnet from unknown senders",
         ),
+        Warning::of_nobody(
+            f.ipxnet_full,
+            "datagrams of new players dropped: all places of their port are taken",
+        ),
+        Warning::of_nobody(
+            f.ipxnet_full_of_address,
+            "datagrams of new players dropped: all places of their IP address are taken",
+        ),
     ]
 }
 
 impl Warnings {
     /// Nothing has been logged yet.
     pub fn new() -> Warnings
-        ensures { result.causes ≡ replicate 15 untold }
+        ensures { result.causes ≡ replicate 17 untold }
     {
         Warnings {
             causes: [ThrottledLog::new(); CAUSES],

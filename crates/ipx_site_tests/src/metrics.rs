@@ -73,6 +73,8 @@ pub const METRICS: Metrics = Metrics {
         count: 36,
         last: None,
     },
+    ipxnet_full: 37,
+    ipxnet_full_of_address: 38,
     unframed: 27,
     other_encapsulation: 28,
     device_faults: 17,

@@ -1,0 +1,12 @@
+-- Totals over the servers of a router's ports for ipxnet. Defined by this project.
+use Rattle.std.specs.Prelude.{ℕ, List, sum_by}
+use Rattle.ipx_carrier.specs.Counting.{counted}
+use Rattle.ipxnet_server.specs.ServerHears.{ServerView}
+
+-- the datagrams of new players that were dropped because all places of their port were taken
+abbrev pub full_in : List ServerView → ℕ
+full_in servers = counted (sum_by (λ s. s.counts.full) servers)
+
+-- those that were dropped because all places of their IP address were taken
+abbrev pub full_of_address_in : List ServerView → ℕ
+full_of_address_in servers = counted (sum_by (λ s. s.counts.full_of_address) servers)
