@@ -1,13 +1,13 @@
 # Bash completion for `ipx`: commands, their options, and TOML files. ./install puts it where bash-completion looks for it.
 # Without installing, load it by `. contrib/ipx.bash`.
 
-_ipx_commands='hop show check sim udp route listen send networks services ping help'
+_ipx_commands='hop show check sim udp route ipxnet listen send networks services ping help'
 
 # _ipx_options COMMAND: its options, the same as in `ipx COMMAND --help`, which a test checks.
 _ipx_options() {
   case $1 in
     show) echo '--frame --help' ;;
-    udp) echo '--port --help' ;;
+    udp | ipxnet) echo '--port --help' ;;
     route) echo '--check --help' ;;
     listen) echo '--once --check --help' ;;
     networks | services) echo '--json --help' ;;

@@ -1,6 +1,6 @@
 //! Checks a router's file without opening a socket: `ipx route --check`.
 
-ghost use Rattle.std.specs.Prelude.{◌≡◌, ◌<◌, ◌≤◌, ◌++◌, ℕ, List, [], IfOk, IsOkAnd, length, string_bytes};
+ghost use Rattle.std.specs.Prelude.{◌≡◌, ◌<◌, ◌≤◌, ◌++◌, ℕ, List, [], IfErr, IfOk, IsOkAnd, OnOk, length, string_bytes};
 ghost use Rattle.std.specs.Io.KnownBytes.{Appends};
 ghost use Rattle.std.specs.List.{flat_map};
 ghost use Rattle.ipx_config.specs.Checked.{count_text, each_after, file_line, file_name_text, ignored_remark, is_of_no_machine, joined_remark, node_remark, peer_remark, port_lines, reached_remarks, site_lines, status_text, ethernet_end_remark};
@@ -10,7 +10,7 @@ ghost use Rattle.ipx_config.specs.declared.site.RouterConfig.{RouterConfig as AS
 
 use crate::escaped::Escaped;
 use crate::ethernet_values::station_at;
-use crate::files::load_site;
+use crate::files::{load_site, tell_no_memory};
 use crate::ipxnet_port::IpxnetPortConfig;
 use crate::sameness::{is_same_ip, is_same_node};
 use crate::site::{Accept, PortConfig, RouterConfig};
@@ -291,6 +291,22 @@ fn site_to_lines(alloc: Global, path: &str, site: &RouterConfig) -> Result<Strin
     format!(in alloc; "{ports}{statics}{file}")
 }
 
+/// Writes a text. If the writer fails, a line on standard error says so, and the error is the exit
+/// status.
+pub fn write_text<R: Eprint, W: Write>(rt: &R, text: &str, writer: &mut W) -> Result<(), u8>
+    ensures written { OnOk result
+        (Appends (W.contents writer.old) (W.contents writer.new) text.now) }
+    ensures fault { IfErr result (λ status. status ≡ 1) }
+{
+    match writer.write_all(text.as_bytes()) {
+        Ok(()) => Ok(()),
+        Err(_) => {
+            let _ = eprintln!(rt; "cannot write standard output");
+            Err(1)
+        }
+    }
+}
+
 /// Writes the result of a check, and returns the exit status. It is 0 if everything is written.
 /// Otherwise it is 1, and a line on standard error says why.
 pub fn write_checked<R: Eprint, W: Write>(
@@ -304,15 +320,11 @@ pub fn write_checked<R: Eprint, W: Write>(
     ensures few { result ≤ 1 }
 {
     let Ok(lines) = lines else {
-        let _ = eprintln!(rt; "{path}: out of memory");
-        return 1;
+        return tell_no_memory(rt, path);
     };
-    match writer.write_all(lines.as_bytes()) {
+    match write_text(rt, &lines, writer) {
         Ok(()) => 0,
-        Err(_) => {
-            let _ = eprintln!(rt; "cannot write standard output");
-            1
-        }
+        Err(unwritten) => unwritten,
     }
 }
 

@@ -94,8 +94,10 @@ fn text_of<'a, R: Eprint>(rt: &R, path: &str, bytes: &'a [u8]) -> Result<&'a str
     }
 }
 
-/// The configuration that the bytes of a router's file describe.
-pub(crate) fn site_in<R: Eprint>(
+/// The configuration that the bytes of a router's file describe. A fault is reported in one line on
+/// standard error that begins with the path. The error is the exit status: 2, or 1 if out of
+/// memory.
+pub fn site_in<R: Eprint>(
     rt: &R,
     alloc: Global,
     path: &str,

@@ -37,12 +37,12 @@ mod toml_text;
 mod values;
 
 pub use allowed_peer::AllowedPeer;
-pub use checking::{check_site, peers_to_remarks, write_checked};
+pub use checking::{check_site, peers_to_remarks, write_checked, write_text};
 pub use config_file::{ConfigFile, load_config, load_tables};
 pub use destination::{dialed_ip, is_nowhere, is_on_own_network, peer_address_of, tell_nowhere};
 pub use escaped::Escaped;
 pub use fault::ConfigError;
-pub use files::{load_host, load_site, tell_no_memory};
+pub use files::{load_host, load_site, site_in, tell_no_memory};
 pub use host::{HostConfig, read_host};
 pub use ipxnet_port::IpxnetPortConfig;
 pub use key::Key;

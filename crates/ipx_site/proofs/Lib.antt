@@ -16,4 +16,5 @@ pub mod MarksSeparate
 pub mod Present
 pub mod ListedClients
 pub mod RanRounds
+pub mod TextRuns
 pub mod IndexMarks

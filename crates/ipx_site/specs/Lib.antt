@@ -17,5 +17,6 @@ pub mod SiteMarks
 pub mod ClientLog
 pub mod KnownFile
 pub mod RoutingRuns
+pub mod IpxnetFile
 pub mod RouterMarks
 pub mod RouterPings

@@ -1,5 +1,6 @@
 -- What the router of a file does from its start until it ends: one round after another. The entry points are
--- `StartsByFile`, `RunsTo` and, of both, `RoutesWell`. Defined by this project.
+-- `StartsByFile`, `RunsTo` and, of both, `RoutesWell`; of a given text `StartsByText` and `RoutesByText`. Defined by
+-- this project.
 use Rattle.std.specs.Prelude.{◌≡◌, ◌^◌, ◌-◌, ◌++◌, ◌∷◌, ℕ, zero, suc, Bool, true, false, List, [], map, None}
 use Rattle.ipx_carrier.specs.ReadySet.{AreMarked, is_any_marked}
 use Rattle.ipx_carrier.specs.Turns.{peers_of}
@@ -88,11 +89,18 @@ RunsTo {R} first last false = (count : ℕ) × (before : RunningRouter R) × Rou
     × TakesRound before last × (last.ready.failed ≡ true)
 RunsTo first last true = (count : ℕ) × (count ≡ 2 ^ 64 - 1) × Rounds count first last
 
+-- a router has started as this text of a file describes
+abbrev pub StartsByText : {R : Type 0} → List ℕ → RunningRouter R → Type 0
+StartsByText text first = (site : RouterConfig) × IsFileText text × IsSiteText text site × StartsBy site first
+
 -- a router has started as a file says that some text describes
 abbrev pub StartsByFile : {R : Type 0} → RunningRouter R → Type 0
-StartsByFile first = (text : List ℕ) × (site : RouterConfig) × IsFileText text × IsSiteText text site
-    × StartsBy site first
+StartsByFile first = (text : List ℕ) × StartsByText text first
 
 -- a router started as a file says, and its run from there succeeded
 abbrev pub RoutesWell : Type 0 → Type 0
 RoutesWell R = (first last : RunningRouter R) × StartsByFile first × RunsTo first last true
+
+-- a router started as this text describes, and its run from there succeeded
+abbrev pub RoutesByText : Type 0 → List ℕ → Type 0
+RoutesByText R text = (first last : RunningRouter R) × StartsByText text first × RunsTo first last true

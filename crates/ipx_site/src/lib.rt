@@ -1,6 +1,7 @@
 //! A router at a site, configured by a short file.
 //!
 //! [`do_route`] is the command of a router: [`start_router`], followed by [`run_router`].
+//! [`do_ipxnet`] is that of a server for players, without a file.
 #![tactic(auto)]
 
 mod access_list_metrics;
@@ -18,6 +19,7 @@ mod known_text;
 mod metrics;
 mod metrics_page;
 mod neighbour_metrics;
+mod players;
 mod port_metrics;
 mod ready_ports;
 mod route_change_log;
@@ -42,6 +44,7 @@ pub use ipxnet_metrics::{IpxnetMetrics, IpxnetPortMetrics, put_drops};
 pub use metrics::Metrics;
 pub use metrics_page::MetricsPage;
 pub use neighbour_metrics::put_neighbour_metrics;
+pub use players::{do_ipxnet, ipxnet_file, start_ipxnet};
 pub use port_metrics::put_port_metrics;
 pub use router_ports::PortIndex;
 pub use router_runs::run_router;

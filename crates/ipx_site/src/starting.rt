@@ -17,7 +17,7 @@ use std::rt::{Clock as SystemClock, Files};
 
 /// Starts the router of a file that was loaded. If loading failed, it returns the exit status of
 /// that.
-fn start_loaded<'a, R: Net + Log + Files + SystemClock + Eprint>(
+pub(crate) fn start_loaded<'a, R: Net + Log + Files + SystemClock + Eprint>(
     rt: &'a R,
     alloc: Global,
     path: &str,

@@ -17,6 +17,8 @@ mod fixture;
 #[cfg(test)]
 mod internetworks;
 #[cfg(test)]
+mod ipxnet_files;
+#[cfg(test)]
 mod ipxnet_metrics;
 #[cfg(test)]
 mod metrics;

@@ -1,7 +1,7 @@
 -- `--port` with a number, and `--frame` with a node, in one word and in two.
 use Rattle.std.proofs.Common.{◌≡◌, ℕ, true, false, inl, inr, List, [], ◌∷◌, ◌++◌, get_or, Option, Some, None, codes, arith, ap, sym, subst}
 use Rattle.ipx_tool.specs.declared.words.Task.{Task}
-use Rattle.ipx_tool.specs.declared.words.Task.TheVariants.{Show, ShowFrames, Udp, Route, CheckSite, Listen, CheckHost, Networks, Services, ServicesOf}
+use Rattle.ipx_tool.specs.declared.words.Task.TheVariants.{Show, ShowFrames, Udp, Ipxnet, Route, CheckSite, Listen, CheckHost, Networks, Services, ServicesOf}
 use Rattle.ipx_tool.specs.Words.{AsksFor, Finds}
 use Rattle.ipx_tool.proofs.WordsSeparate.{check_or_frame, frame_or_json, not_plain, once_or_frame, port_or_check, port_or_frame, port_or_json, port_or_once, second}
 
@@ -11,6 +11,9 @@ pub joined : (command text : List ℕ) (task : Task) → AsksFor (command ∷ co
 joined command text (Udp port) (inl asks) = absurd (cc)
 joined command text (Udp port) (inr (other, is, inl e)) = inr (other, is, inr (cc))
 joined command text (Udp port) (inr (other, is, inr e)) = absurd (cc)
+joined command text (Ipxnet port) (inl asks) = absurd (cc)
+joined command text (Ipxnet port) (inr (other, is, inl e)) = inr (other, is, inr (cc))
+joined command text (Ipxnet port) (inr (other, is, inr e)) = absurd (cc)
 joined command text (Listen file true) (inl e, plain) = absurd (port_or_once (ap (λ (ws : List (List ℕ)). get_or ws 1 []) e))
 joined command text (Listen file true) (inr e, plain) =
     let option : file.now ≡ codes "--port" = cc in absurd (not_plain file.now _ option plain)
@@ -46,6 +49,9 @@ parted command text (ShowFrames node) (other, is, inr e) =
 parted command text (Udp port) (inl asks) = absurd (cc)
 parted command text (Udp port) (inr (other, is, inl e)) = absurd (cc)
 parted command text (Udp port) (inr (other, is, inr e)) = inr (other, is, inl (cc))
+parted command text (Ipxnet port) (inl asks) = absurd (cc)
+parted command text (Ipxnet port) (inr (other, is, inl e)) = absurd (cc)
+parted command text (Ipxnet port) (inr (other, is, inr e)) = inr (other, is, inl (cc))
 parted command text (Route file) (e, plain) =
     let option : file.now ≡ codes "--port=" ++ text = cc in absurd (not_plain file.now _ option plain)
 parted command text (Listen file false) (e, plain) =
@@ -86,6 +92,9 @@ frame_joined command text (ShowFrames node) (other, is, inr e) = absurd (cc)
 frame_joined command text (Udp port) (inl asks) = absurd (cc)
 frame_joined command text (Udp port) (inr (other, is, inl e)) = absurd (port_or_frame (sym (second e)))
 frame_joined command text (Udp port) (inr (other, is, inr e)) = absurd (cc)
+frame_joined command text (Ipxnet port) (inl asks) = absurd (cc)
+frame_joined command text (Ipxnet port) (inr (other, is, inl e)) = absurd (port_or_frame (sym (second e)))
+frame_joined command text (Ipxnet port) (inr (other, is, inr e)) = absurd (cc)
 frame_joined command text (Listen file true) (inl e, plain) = absurd (once_or_frame (sym (second e)))
 frame_joined command text (Listen file true) (inr e, plain) =
     let option : file.now ≡ codes "--frame" = cc in absurd (not_plain file.now _ option plain)
@@ -117,6 +126,11 @@ frame_parted command text (ShowFrames node) (other, is, inr e) = (other, is, inl
 frame_parted command text (Udp port) (inl asks) = absurd (cc)
 frame_parted command text (Udp port) (inr (other, is, inl e)) = absurd (cc)
 frame_parted command text (Udp port) (inr (other, is, inr e)) =
+    let words : codes "--frame=" ++ text ≡ codes "--port=" ++ other = second e in
+    absurd (omega (arith, ap (λ (word : List ℕ). get_or word 2 0) words))
+frame_parted command text (Ipxnet port) (inl asks) = absurd (cc)
+frame_parted command text (Ipxnet port) (inr (other, is, inl e)) = absurd (cc)
+frame_parted command text (Ipxnet port) (inr (other, is, inr e)) =
     let words : codes "--frame=" ++ text ≡ codes "--port=" ++ other = second e in
     absurd (omega (arith, ap (λ (word : List ℕ). get_or word 2 0) words))
 frame_parted command text (Route file) (e, plain) =

@@ -4,8 +4,8 @@ use Rattle.std.specs.Str.Parse.{digits_value, without_leading_plus}
 use Rattle.ipx_wire.specs.AddressText.{spelled_node}
 use Rattle.ipx_wire.specs.declared.address.Node.{Node}
 use Rattle.ipx_tool.specs.declared.words.Task.{Task}
-use Rattle.ipx_tool.specs.declared.words.Task.TheVariants.{Hop, Show, ShowFrames, Check, Sim, Udp, Route, CheckSite, Listen, CheckHost, Send, Networks, Services, ServicesOf, Ping, PingTimes}
-use Rattle.ipx_tool.specs.Words.{AskForOne, AsksFor, WritesNumber, IsSame, target_words}
+use Rattle.ipx_tool.specs.declared.words.Task.TheVariants.{Hop, Show, ShowFrames, Check, Sim, Udp, Ipxnet, Route, CheckSite, Listen, CheckHost, Send, Networks, Services, ServicesOf, Ping, PingTimes}
+use Rattle.ipx_tool.specs.Words.{ArePortWords, AskForOne, AsksFor, WritesNumber, IsSame, target_words}
 use Rattle.ipx_tool.proofs.WordsSeparate.{first, not_plain, once_or_check, second, third}
 use Rattle.ipx_tool.proofs.PingWords.{same_others}
 
@@ -16,6 +16,7 @@ name (ShowFrames node) = codes "show"
 name Check = codes "check"
 name Sim = codes "sim"
 name (Udp port) = codes "udp"
+name (Ipxnet port) = codes "ipxnet"
 name (Route file) = codes "route"
 name (CheckSite file) = codes "route"
 name (Listen file once) = codes "listen"
@@ -41,6 +42,9 @@ named words Sim asks = ap (λ ws. get_or ws 0 []) asks
 named words (Udp port) (inl (e, is)) = ap (λ ws. get_or ws 0 []) e
 named words (Udp port) (inr (text, is, inl e)) = ap (λ ws. get_or ws 0 []) e
 named words (Udp port) (inr (text, is, inr e)) = ap (λ ws. get_or ws 0 []) e
+named words (Ipxnet port) (inl (e, is)) = ap (λ ws. get_or ws 0 []) e
+named words (Ipxnet port) (inr (text, is, inl e)) = ap (λ ws. get_or ws 0 []) e
+named words (Ipxnet port) (inr (text, is, inr e)) = ap (λ ws. get_or ws 0 []) e
 named words (Route file) (e, plain) = ap (λ ws. get_or ws 0 []) e
 named words (Listen file false) (e, plain) = ap (λ ws. get_or ws 0 []) e
 named words (Listen file true) (inl e, plain) = ap (λ ws. get_or ws 0 []) e
@@ -67,16 +71,16 @@ one_value : (text next : List ℕ) (port other : ℕ) → text ≡ next → Writ
 one_value text next port other same is too =
     sym is.1 ∙ ap (λ t. digits_value 10 (without_leading_plus t)) same ∙ too.1
 
-one_port : (words : List (List ℕ)) (port other : ℕ) → AsksFor words (Udp port) → AsksFor words (Udp other) → port ≡ other
-one_port words port other (inl (e, is)) (inl (f, too)) = is ∙ sym too
-one_port words port other (inl (e, is)) (inr (next, too, inl f)) = absurd (cc)
-one_port words port other (inl (e, is)) (inr (next, too, inr f)) = absurd (cc)
-one_port words port other (inr (text, is, inl e)) (inl (f, too)) = absurd (cc)
-one_port words port other (inr (text, is, inr e)) (inl (f, too)) = absurd (cc)
-one_port words port other (inr (text, is, inl e)) (inr (next, too, inl f)) = one_value text next port other (cc) is too
-one_port words port other (inr (text, is, inl e)) (inr (next, too, inr f)) = absurd (cc)
-one_port words port other (inr (text, is, inr e)) (inr (next, too, inl f)) = absurd (cc)
-one_port words port other (inr (text, is, inr e)) (inr (next, too, inr f)) = one_value text next port other (cc) is too
+one_port : (words : List (List ℕ)) (command : List ℕ) (port other : ℕ) → ArePortWords words command port → ArePortWords words command other → port ≡ other
+one_port words command port other (inl (e, is)) (inl (f, too)) = is ∙ sym too
+one_port words command port other (inl (e, is)) (inr (next, too, inl f)) = absurd (cc)
+one_port words command port other (inl (e, is)) (inr (next, too, inr f)) = absurd (cc)
+one_port words command port other (inr (text, is, inl e)) (inl (f, too)) = absurd (cc)
+one_port words command port other (inr (text, is, inr e)) (inl (f, too)) = absurd (cc)
+one_port words command port other (inr (text, is, inl e)) (inr (next, too, inl f)) = one_value text next port other (cc) is too
+one_port words command port other (inr (text, is, inl e)) (inr (next, too, inr f)) = absurd (cc)
+one_port words command port other (inr (text, is, inr e)) (inr (next, too, inl f)) = absurd (cc)
+one_port words command port other (inr (text, is, inr e)) (inr (next, too, inr f)) = one_value text next port other (cc) is too
 
 same_node : (text next : List ℕ) (node other : Node) → text ≡ next → spelled_node text ≡ Some node → spelled_node next ≡ Some other → node ≡ other
 same_node text next node other same is too =
@@ -100,7 +104,8 @@ one_of_a_name words (ShowFrames node) (Show packet) same (text, is, inr f) (e, p
 one_of_a_name words (ShowFrames node) (ShowFrames other) same asks too = one_node words node other asks too
 one_of_a_name words Check Check same asks too = tt
 one_of_a_name words Sim Sim same asks too = tt
-one_of_a_name words (Udp port) (Udp other) same asks too = one_port words port other asks too
+one_of_a_name words (Udp port) (Udp other) same asks too = one_port words (codes "udp") port other asks too
+one_of_a_name words (Ipxnet port) (Ipxnet other) same asks too = one_port words (codes "ipxnet") port other asks too
 one_of_a_name words (Route file) (Route other) same (e, plain) (f, also) = cc
 one_of_a_name words (Listen file false) (Listen other false) same (e, plain) (f, also) = (cc, refl)
 one_of_a_name words (Listen file false) (Listen other true) same (e, plain) (inl f, also) = absurd (cc)

@@ -1,7 +1,7 @@
 -- Options before or after the word of a file.
 use Rattle.std.proofs.Common.{◌≡◌, ℕ, true, false, inl, inr, List, [], ◌∷◌, get_or, Option, Some, None, codes, ap, sym, subst}
 use Rattle.ipx_tool.specs.declared.words.Task.{Task}
-use Rattle.ipx_tool.specs.declared.words.Task.TheVariants.{ShowFrames, Udp, CheckSite, Listen, CheckHost, Networks, Services, ServicesOf}
+use Rattle.ipx_tool.specs.declared.words.Task.TheVariants.{ShowFrames, Udp, Ipxnet, CheckSite, Listen, CheckHost, Networks, Services, ServicesOf}
 use Rattle.ipx_tool.specs.Words.{AsksFor, Finds, WritesNumber}
 use Rattle.ipx_tool.proofs.WordsSeparate.{check_or_frame, check_or_json, frame_or_json, not_check, not_check_node, not_json, not_json_node, not_once, not_once_node, not_plain, once_or_check, once_or_frame, once_or_json, port_or_check, port_or_json, port_or_once, second, third}
 
@@ -11,6 +11,9 @@ pub behind : (command file : List ℕ) (task : Task) → AsksFor (command ∷ co
 behind command file (Udp port) (inl asks) = absurd (cc)
 behind command file (Udp port) (inr (text, is, inl e)) = absurd (port_or_once (sym (ap (λ (ws : List (List ℕ)). get_or ws 1 []) e)))
 behind command file (Udp port) (inr (text, is, inr e)) = absurd (cc)
+behind command file (Ipxnet port) (inl asks) = absurd (cc)
+behind command file (Ipxnet port) (inr (text, is, inl e)) = absurd (port_or_once (sym (ap (λ (ws : List (List ℕ)). get_or ws 1 []) e)))
+behind command file (Ipxnet port) (inr (text, is, inr e)) = absurd (cc)
 behind command file (Listen other true) (inl e, plain) = (inr (cc), plain)
 behind command file (Listen other true) (inr e, plain) =
     let option : other.now ≡ codes "--once" = cc in absurd (not_plain other.now _ option plain)
@@ -41,6 +44,10 @@ before command file (Udp port) (inl asks) = absurd (cc)
 before command file (Udp port) (inr (text, is, inl e)) =
     let once : text ≡ codes "--once" = cc in absurd (not_once port (subst (λ t. WritesNumber t port) once is))
 before command file (Udp port) (inr (text, is, inr e)) = absurd (cc)
+before command file (Ipxnet port) (inl asks) = absurd (cc)
+before command file (Ipxnet port) (inr (text, is, inl e)) =
+    let once : text ≡ codes "--once" = cc in absurd (not_once port (subst (λ t. WritesNumber t port) once is))
+before command file (Ipxnet port) (inr (text, is, inr e)) = absurd (cc)
 before command file (Listen other true) (inl e, plain) =
     let option : other.now ≡ codes "--once" = cc in absurd (not_plain other.now _ option plain)
 before command file (Listen other true) (inr e, plain) = (inl (cc), plain)
@@ -76,6 +83,9 @@ check_after : (command file : List ℕ) (task : Task) → AsksFor (command ∷ c
 check_after command file (Udp port) (inl asks) = absurd (cc)
 check_after command file (Udp port) (inr (text, is, inl e)) = absurd (port_or_check (sym (second e)))
 check_after command file (Udp port) (inr (text, is, inr e)) = absurd (cc)
+check_after command file (Ipxnet port) (inl asks) = absurd (cc)
+check_after command file (Ipxnet port) (inr (text, is, inl e)) = absurd (port_or_check (sym (second e)))
+check_after command file (Ipxnet port) (inr (text, is, inr e)) = absurd (cc)
 check_after command file (Listen other true) (inl e, plain) = absurd (once_or_check (sym (second e)))
 check_after command file (Listen other true) (inr e, plain) =
     let option : other.now ≡ codes "--check" = cc in absurd (not_plain other.now _ option plain)
@@ -106,6 +116,10 @@ check_before command file (Udp port) (inl asks) = absurd (cc)
 check_before command file (Udp port) (inr (text, is, inl e)) =
     let check : text ≡ codes "--check" = cc in absurd (not_check port (subst (λ t. WritesNumber t port) check is))
 check_before command file (Udp port) (inr (text, is, inr e)) = absurd (cc)
+check_before command file (Ipxnet port) (inl asks) = absurd (cc)
+check_before command file (Ipxnet port) (inr (text, is, inl e)) =
+    let check : text ≡ codes "--check" = cc in absurd (not_check port (subst (λ t. WritesNumber t port) check is))
+check_before command file (Ipxnet port) (inr (text, is, inr e)) = absurd (cc)
 check_before command file (Listen other true) (inl e, plain) =
     let option : other.now ≡ codes "--check" = cc in absurd (not_plain other.now _ option plain)
 check_before command file (Listen other true) (inr e, plain) = absurd (once_or_check (sym (third e)))
@@ -141,6 +155,9 @@ json_after : (command file : List ℕ) (task : Task) → AsksFor (command ∷ co
 json_after command file (Udp port) (inl asks) = absurd (cc)
 json_after command file (Udp port) (inr (text, is, inl e)) = absurd (port_or_json (sym (second e)))
 json_after command file (Udp port) (inr (text, is, inr e)) = absurd (cc)
+json_after command file (Ipxnet port) (inl asks) = absurd (cc)
+json_after command file (Ipxnet port) (inr (text, is, inl e)) = absurd (port_or_json (sym (second e)))
+json_after command file (Ipxnet port) (inr (text, is, inr e)) = absurd (cc)
 json_after command file (Listen other true) (inl e, plain) = absurd (once_or_json (sym (second e)))
 json_after command file (Listen other true) (inr e, plain) =
     let option : other.now ≡ codes "--json" = cc in absurd (not_plain other.now _ option plain)
@@ -171,6 +188,10 @@ json_before command file (Udp port) (inl asks) = absurd (cc)
 json_before command file (Udp port) (inr (text, is, inl e)) =
     let json : text ≡ codes "--json" = cc in absurd (not_json port (subst (λ t. WritesNumber t port) json is))
 json_before command file (Udp port) (inr (text, is, inr e)) = absurd (cc)
+json_before command file (Ipxnet port) (inl asks) = absurd (cc)
+json_before command file (Ipxnet port) (inr (text, is, inl e)) =
+    let json : text ≡ codes "--json" = cc in absurd (not_json port (subst (λ t. WritesNumber t port) json is))
+json_before command file (Ipxnet port) (inr (text, is, inr e)) = absurd (cc)
 json_before command file (Listen other true) (inl e, plain) =
     let option : other.now ≡ codes "--json" = cc in absurd (not_plain other.now _ option plain)
 json_before command file (Listen other true) (inr e, plain) = absurd (once_or_json (sym (third e)))

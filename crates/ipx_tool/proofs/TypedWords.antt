@@ -1,7 +1,7 @@
 -- The words that ask for services of a type, with `--json` at any place among them.
 use Rattle.std.proofs.Common.{◌≢◌, ℕ, true, false, true≢false, inl, inr, List, [], ◌∷◌, Option, Some, None, codes, sym, subst, refl}
 use Rattle.ipx_tool.specs.declared.words.Task.{Task}
-use Rattle.ipx_tool.specs.declared.words.Task.TheVariants.{ShowFrames, Udp, CheckSite, Listen, CheckHost, Networks, Services, ServicesOf}
+use Rattle.ipx_tool.specs.declared.words.Task.TheVariants.{ShowFrames, Udp, Ipxnet, CheckSite, Listen, CheckHost, Networks, Services, ServicesOf}
 use Rattle.ipx_tool.specs.Words.{AreTypeWords, AsksFor, Finds, IsOfType, IsPlain}
 use Rattle.ipx_tool.proofs.WordsSeparate.{first, fourth, not_plain, second, third}
 
@@ -21,6 +21,9 @@ typed : (command file kind : List ℕ) (task : Task) → NoOptions file kind
 typed command file kind (Udp port) none (inl asks) = absurd (cc)
 typed command file kind (Udp port) none (inr (text, is, inl e)) = absurd (none.port (second e))
 typed command file kind (Udp port) none (inr (text, is, inr e)) = absurd (cc)
+typed command file kind (Ipxnet port) none (inl asks) = absurd (cc)
+typed command file kind (Ipxnet port) none (inr (text, is, inl e)) = absurd (none.port (second e))
+typed command file kind (Ipxnet port) none (inr (text, is, inr e)) = absurd (cc)
 typed command file kind (Listen other true) none (inl e, plain) = absurd (none.once (second e))
 typed command file kind (Listen other true) none (inr e, plain) = absurd (none.once_after (third e))
 typed command file kind (CheckSite other) none (inl e, plain) = absurd (none.check (second e))
@@ -63,6 +66,9 @@ of_four a b c d (ShowFrames node) (text, is, inr e) = absurd (cc)
 of_four a b c d (Udp port) (inl asks) = absurd (cc)
 of_four a b c d (Udp port) (inr (text, is, inl e)) = absurd (cc)
 of_four a b c d (Udp port) (inr (text, is, inr e)) = absurd (cc)
+of_four a b c d (Ipxnet port) (inl asks) = absurd (cc)
+of_four a b c d (Ipxnet port) (inr (text, is, inl e)) = absurd (cc)
+of_four a b c d (Ipxnet port) (inr (text, is, inr e)) = absurd (cc)
 of_four a b c d (Listen file true) (inl e, plain) = absurd (cc)
 of_four a b c d (Listen file true) (inr e, plain) = absurd (cc)
 of_four a b c d (CheckSite file) (inl e, plain) = absurd (cc)

@@ -6,7 +6,7 @@ use Rattle.ipx_wire.specs.AddressText.{spelled_node}
 use Rattle.ipx_carrier.specs.Mapping.{usual_port}
 use Rattle.ipx_config.specs.declared.target.Target.{Target}
 use Rattle.ipx_tool.specs.declared.words.Task.{Task}
-use Rattle.ipx_tool.specs.declared.words.Task.TheVariants.{Hop, Show, ShowFrames, Check, Sim, Udp, Route, CheckSite, Listen, CheckHost, Send, Networks, Services, ServicesOf, Ping, PingTimes}
+use Rattle.ipx_tool.specs.declared.words.Task.TheVariants.{Hop, Show, ShowFrames, Check, Sim, Udp, Ipxnet, Route, CheckSite, Listen, CheckHost, Send, Networks, Services, ServicesOf, Ping, PingTimes}
 
 -- a word that is no option: it does not begin with `-`
 abbrev pub IsPlain : List ℕ → Type 0
@@ -37,11 +37,18 @@ AreTypeWords words command file kind true = (words ≡ command ∷ codes "--json
     ⊎ ((words ≡ command ∷ file ∷ codes "--json" ∷ kind ∷ [])
     ⊎ (words ≡ command ∷ file ∷ kind ∷ codes "--json" ∷ []))
 
--- the words after the program's own name ask for this command. `udp` alone means the default port. Otherwise
--- `--port` and the port follow it, in two words or joined by `=`. In the same way `--frame` and a node follow
--- `show`. `listen` may have `--once` before or after its file. With `--check` there, `route` and `listen`
--- only check the file. `networks` and `services` may have `--json` anywhere after them, and `ping` may have
--- `-c` and the number of requests. A packet, a file, a type and the three words of a target are no options
+-- a command alone, which means the default port, or with `--port` and this port after it, in two words or
+-- joined by `=`
+abbrev pub ArePortWords : List (List ℕ) → List ℕ → ℕ → Type 0
+ArePortWords words command port = ((words ≡ command ∷ []) × (port ≡ usual_port))
+    ⊎ ((text : List ℕ) × WritesNumber text port
+    × ((words ≡ command ∷ codes "--port" ∷ text ∷ []) ⊎ (words ≡ command ∷ (codes "--port=" ++ text) ∷ [])))
+
+-- the words after the program's own name ask for this command. `udp` and `ipxnet` may have a port. `show` may
+-- have `--frame` and a node, in two words or joined by `=`. `listen` may have `--once` before or after its file.
+-- With `--check` there, `route` and `listen` only check the file. `networks` and `services` may have `--json`
+-- anywhere after them, and `ping` may have `-c` and the number of requests. A packet, a file, a type and the three
+-- words of a target are no options
 abbrev pub AsksFor : List (List ℕ) → Task → Type 0
 AsksFor words Hop = words ≡ codes "hop" ∷ []
 AsksFor words (Show packet) = (words ≡ codes "show" ∷ packet.now ∷ []) × IsPlain packet.now
@@ -49,9 +56,8 @@ AsksFor words (ShowFrames node) = (text : List ℕ) × (spelled_node text ≡ So
     × ((words ≡ codes "show" ∷ codes "--frame" ∷ text ∷ []) ⊎ (words ≡ codes "show" ∷ (codes "--frame=" ++ text) ∷ []))
 AsksFor words Check = words ≡ codes "check" ∷ []
 AsksFor words Sim = words ≡ codes "sim" ∷ []
-AsksFor words (Udp port) = ((words ≡ codes "udp" ∷ []) × (port ≡ usual_port))
-    ⊎ ((text : List ℕ) × WritesNumber text port
-    × ((words ≡ codes "udp" ∷ codes "--port" ∷ text ∷ []) ⊎ (words ≡ codes "udp" ∷ (codes "--port=" ++ text) ∷ [])))
+AsksFor words (Udp port) = ArePortWords words (codes "udp") port
+AsksFor words (Ipxnet port) = ArePortWords words (codes "ipxnet") port
 AsksFor words (Route file) = (words ≡ codes "route" ∷ file.now ∷ []) × IsPlain file.now
 AsksFor words (CheckSite file) = ((words ≡ codes "route" ∷ codes "--check" ∷ file.now ∷ [])
     ⊎ (words ≡ codes "route" ∷ file.now ∷ codes "--check" ∷ [])) × IsPlain file.now
@@ -93,6 +99,7 @@ IsSame (ShowFrames node) (ShowFrames other) = node ≡ other
 IsSame Check Check = Unit {0}
 IsSame Sim Sim = Unit {0}
 IsSame (Udp port) (Udp other) = port ≡ other
+IsSame (Ipxnet port) (Ipxnet other) = port ≡ other
 IsSame (Route file) (Route other) = file.now ≡ other.now
 IsSame (CheckSite file) (CheckSite other) = file.now ≡ other.now
 IsSame (Listen file once) (Listen other again) = (file.now ≡ other.now) × (once ≡ again)

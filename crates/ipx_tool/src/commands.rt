@@ -54,6 +54,8 @@ pub const UDP: &str = "udp";
 
 pub const ROUTE: &str = "route";
 
+pub const IPXNET: &str = "ipxnet";
+
 pub const LISTEN: &str = "listen";
 
 pub const SEND: &str = "send";
@@ -200,6 +202,19 @@ const ROUTE_SHAPE: &CommandShape = &CommandShape {
     options: &[CHECKS_FILE],
 };
 
+const IPXNET_SHAPE: &CommandShape = &CommandShape {
+    name: IPXNET,
+    about: "A server for players with DOSBox, without a file",
+    long_about: texts::IPXNET,
+    statuses: texts::IPXNET_STATUSES,
+    words: &[],
+    options: &[OptionShape {
+        name: "port",
+        value: OptionValue::Port,
+        help: "The UDP port to which players connect, 1 to 65535; default 213",
+    }],
+};
+
 const LISTEN_SHAPE: &CommandShape = &CommandShape {
     name: LISTEN,
     about: "Accepts SPX connections, and writes the messages that it receives",
@@ -265,7 +280,7 @@ const PING_SHAPE: &CommandShape = &CommandShape {
 };
 
 /// All commands, in the order of the help.
-pub fn shapes() -> [&'static CommandShape; 11] {
+pub fn shapes() -> [&'static CommandShape; 12] {
     [
         HOP_SHAPE,
         SHOW_SHAPE,
@@ -273,6 +288,7 @@ pub fn shapes() -> [&'static CommandShape; 11] {
         SIM_SHAPE,
         UDP_SHAPE,
         ROUTE_SHAPE,
+        IPXNET_SHAPE,
         LISTEN_SHAPE,
         SEND_SHAPE,
         NETWORKS_SHAPE,

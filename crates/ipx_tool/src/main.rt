@@ -13,7 +13,7 @@ use ipx_inspect::{do_check, do_hop, do_show, do_show_frames, tell_no_memory};
 use ipx_query_cmd::{do_networks, do_ping, do_services};
 use ipx_sim::do_sim;
 use ipx_sim_udp::do_udp;
-use ipx_site::do_route;
+use ipx_site::{do_ipxnet, do_route};
 use ipx_wire::Node;
 use std::io::IsTerminal;
 use std::process::ExitCode;
@@ -59,6 +59,11 @@ fn udp(rt: &HostRuntime, port: u16) -> Result<u8, u8> {
     do_udp(rt, rt.alloc(), &mut rt.stdin(), &mut io::writer(rt), port)
 }
 
+/// A server for players. The file that it stands for is written to standard output.
+fn ipxnet(rt: &HostRuntime, port: u16) -> u8 {
+    do_ipxnet(rt, rt.alloc(), port, &mut io::writer(rt))
+}
+
 /// A host that sends shows its progress if standard error is a terminal.
 fn send(rt: &HostRuntime, file: &str, target: Target<'_>) -> u8 {
     let shows = rt.stderr().is_terminal();
@@ -85,6 +90,7 @@ fn do_task(rt: &HostRuntime, task: Task<'_>) -> Result<u8, u8> {
         Task::Check => check(rt),
         Task::Sim => sim(rt),
         Task::Udp(port) => udp(rt, port),
+        Task::Ipxnet(port) => Ok(ipxnet(rt, port)),
         Task::Route(file) => Ok(do_route(rt, rt.alloc(), file)),
         Task::CheckSite(file) => Ok(check_site(rt, rt.alloc(), file, &mut io::writer(rt))),
         Task::CheckHost(file) => Ok(check_host(rt, rt.alloc(), file, &mut io::writer(rt))),

@@ -186,6 +186,26 @@ what is allowed but odd. Status 0: the file has no fault. 2: it has one, reporte
 Example:
   $ ipx route /etc/ipx/site.toml";
 
+pub const IPXNET: &str = "\
+A server for players with DOSBox, without a file
+
+It first prints the configuration file of a router with one port of kind \"ipxnet\", at which
+everybody may register. Then it does what ipx route does with that file, but makes no file.
+Players type in DOSBox, with the address of this machine:
+  ipxnet connect ADDRESS P
+Whoever reaches the UDP port may join, so end the server after the game. After a restart players
+must type ipxnet disconnect, and connect again. To change that, or who may join, keep the printed
+lines in a file, change them, and run ipx route with that file.";
+
+pub const IPXNET_STATUSES: &str = "\
+It runs until it is stopped, and logs to standard error as ipx route does. It exits by itself only
+at startup. Status 1: the socket cannot be bound, writing failed, or out of memory.
+Binding port 213 needs a privilege (CAP_NET_BIND_SERVICE). A port from 1024 on needs none.
+
+Examples:
+  $ ipx ipxnet --port 2130
+  $ ipx ipxnet --port 2130 > game.toml";
+
 pub const LISTEN: &str = "\
 Accepts SPX connections, and writes the messages that it receives
 

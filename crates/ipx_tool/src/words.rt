@@ -5,8 +5,8 @@ ghost use Rattle.std.specs.List.{starts_with};
 ghost use Rattle.ipx_tool.specs.Words.{ArePlain, AskForOne, AsksFor, Finds, IsOfType, IsPingTimes, IsPlain, WritesNumber, target_words};
 
 use crate::commands::{
-    CHECK, CHECK_OPTION, COUNT_OPTION, FRAME_IS, FRAME_OPTION, HOP, JSON_OPTION, LISTEN, NETWORKS,
-    ONCE_OPTION, PING, PORT_IS, PORT_OPTION, ROUTE, SEND, SERVICES, SHOW, SIM, UDP,
+    CHECK, CHECK_OPTION, COUNT_OPTION, FRAME_IS, FRAME_OPTION, HOP, IPXNET, JSON_OPTION, LISTEN,
+    NETWORKS, ONCE_OPTION, PING, PORT_IS, PORT_OPTION, ROUTE, SEND, SERVICES, SHOW, SIM, UDP,
 };
 use crate::help::whole_command;
 use clap::Error;
@@ -26,6 +26,8 @@ pub enum Task<'a> {
     Sim,
     /// The UDP port of every socket.
     Udp(u16),
+    /// The UDP port to which players connect.
+    Ipxnet(u16),
     /// The file of the site.
     Route(&'a str),
     /// The file of a site, which is only checked.
@@ -51,7 +53,7 @@ pub enum Task<'a> {
 /// The command that the words ask for. The first word is the program's own name. These words ask
 /// for a command, and no others do:
 ///
-/// - `hop`, `check`, `sim` or `udp` alone;
+/// - `hop`, `check`, `sim`, `udp` or `ipxnet` alone;
 /// - `show`, `route` or `listen`, and one word that is no option;
 /// - `listen` and such a word, with `--once` before or after it;
 /// - `route` or `listen` and such a word, with `--check` before or after it;
@@ -59,7 +61,7 @@ pub enum Task<'a> {
 ///   it anywhere among these;
 /// - `networks` or `services` and such a word, or `services` and two, with `--json` anywhere after
 ///   the command, or without it;
-/// - `udp` and a port, as `--port P` or `--port=P`;
+/// - `udp` or `ipxnet` and a port, as `--port P` or `--port=P`;
 /// - `show` and a station, as `--frame NODE` or `--frame=NODE`.
 pub fn task_of(words: &[String]) -> Option<Task<'_>>
     ensures { Finds (AsksFor (drop 1 (map string_bytes words.now))) result }
@@ -105,6 +107,7 @@ fn plain_task(command: &str) -> Option<Task<'_>>
         CHECK => Some(Task::Check),
         SIM => Some(Task::Sim),
         UDP => Some(Task::Udp(UDP_PORT)),
+        IPXNET => Some(Task::Ipxnet(UDP_PORT)),
         _ => None,
     }
 }
@@ -283,14 +286,15 @@ fn number_of(text: &str) -> Option<u16>
     if number == 0 { None } else { Some(number) }
 }
 
-/// A script over UDP, at the port that a text gives.
-fn udp_task<'a>(command: &str, text: &str) -> Option<Task<'a>>
+/// A script over UDP, or a server for players, at the port that a text gives.
+fn port_task<'a>(command: &str, text: &str) -> Option<Task<'a>>
     ensures { Finds (AsksFor (command.now ∷ codes "--port" ∷ text.now ∷ [])) result }
 {
-    if command != UDP {
-        return None;
+    match command {
+        UDP => Some(Task::Udp(number_of(text)?)),
+        IPXNET => Some(Task::Ipxnet(number_of(text)?)),
+        _ => None,
     }
-    Some(Task::Udp(number_of(text)?))
 }
 
 /// Frames to show, as the station with this address hears them.
@@ -303,13 +307,13 @@ fn frames_task<'a>(command: &str, text: &str) -> Option<Task<'a>>
     Some(Task::ShowFrames(Node::from_hex(text.as_bytes())?))
 }
 
-/// A command with one more word: one that is no option, or an option with the port of `udp` or the
-/// station of `show`.
+/// A command with one more word: one that is no option, or an option with the port of `udp` or
+/// `ipxnet`, or the station of `show`.
 fn one_word_task<'a>(command: &str, word: &'a str) -> Option<Task<'a>>
     ensures { Finds (AsksFor (command.now ∷ word.now ∷ [])) result }
 {
     if let Some(port) = word.strip_prefix(PORT_IS) {
-        return udp_task(command, port);
+        return port_task(command, port);
     }
     if let Some(node) = word.strip_prefix(FRAME_IS) {
         return frames_task(command, node);
@@ -317,13 +321,13 @@ fn one_word_task<'a>(command: &str, word: &'a str) -> Option<Task<'a>>
     word_task(command, word)
 }
 
-/// A command with two more words: the port of `udp`, the station of `show`, a file and `--once`,
-/// `--check` or `--json`, or a file and a type.
+/// A command with two more words: the port of `udp` or `ipxnet`, the station of `show`, a file and
+/// `--once`, `--check` or `--json`, or a file and a type.
 fn option_task<'a>(command: &str, first: &'a str, second: &'a str) -> Option<Task<'a>>
     ensures { Finds (AsksFor (command.now ∷ first.now ∷ second.now ∷ [])) result }
 {
     if first == PORT_OPTION {
-        return udp_task(command, second);
+        return port_task(command, second);
     }
     if first == ONCE_OPTION {
         return once_task(command, second);

@@ -5,8 +5,8 @@ use Rattle.ipx_tool.proofs.words.one_word_task.Goals as goal
 
 pub returns-in-Some : goal.returns-in-Some
 returns-in-Some c =
-    found_joined c.args.command.now c.in-Some.port.now c.args.word.now c.udp_task.result
-    (stripped (codes "--port=") c.args.word.now c.in-Some.port.now c.in-Some.ensures.cases) c.udp_task.ensures
+    found_joined c.args.command.now c.in-Some.port.now c.args.word.now c.port_task.result
+    (stripped (codes "--port=") c.args.word.now c.in-Some.port.now c.in-Some.ensures.cases) c.port_task.ensures
 
 pub returns-in-Some-strip_prefix : goal.returns-in-Some-strip_prefix
 returns-in-Some-strip_prefix c =

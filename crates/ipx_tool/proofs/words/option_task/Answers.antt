@@ -7,7 +7,7 @@ use Rattle.ipx_tool.proofs.words.option_task.Goals as goal
 pub returns-then-eq : goal.returns-then-eq
 returns-then-eq c =
     let port : c.args.first.now ≡ codes "--port" = search rules in
-    subst (λ (w : List ℕ). Finds (AsksFor (c.args.command.now ∷ w ∷ c.args.second.now ∷ [])) c.udp_task.result) (sym port) c.udp_task.ensures
+    subst (λ (w : List ℕ). Finds (AsksFor (c.args.command.now ∷ w ∷ c.args.second.now ∷ [])) c.port_task.result) (sym port) c.port_task.ensures
 
 pub returns-then-eq-2 : goal.returns-then-eq-2
 returns-then-eq-2 c =
