@@ -7,6 +7,7 @@ use Rattle.ipx_wire.specs.declared.address.Address.{Address}
 use Rattle.ipx_wire.specs.declared.spx.packet.SpxHeader.{SpxHeader}
 use Rattle.spx_messages.specs.WrittenPackets.{IsRequestFor}
 use Rattle.ipx_carrier.specs.Counting.{raised}
+use Rattle.ipx_carrier.specs.HostCore.{HearOutOfMemory}
 use Rattle.ipx_config.specs.AllowedPeers.{may_ask, named_in}
 use Rattle.ipx_host.specs.Noting.{HearsAndNotes}
 use Rattle.ipx_host.specs.Paced.{NotesAnswer}
@@ -35,3 +36,10 @@ HearsAllowed old bytes now new =
     × (new ≡ record old { endpoint = new.endpoint; came = new.came; paced = new.paced; moment = now }))
     ⊎ (IsBarred old bytes
     × (new ≡ record old { came = None; rejected = raised old.rejected; moment = now }))
+
+-- how the core of a host loses a datagram as it runs out of memory: as its endpoint does. It is no request from
+-- one who may not connect, since none of those needs memory
+abbrev pub HearAllowedOutOfMemory : PacedHostCore → List ℕ → ℕ → PacedHostCore → Type 0
+HearAllowedOutOfMemory old bytes now new =
+    (IsBarred old bytes → ⊥) × HearOutOfMemory old.endpoint bytes new.endpoint
+    × (new ≡ record old { endpoint = new.endpoint; moment = now })

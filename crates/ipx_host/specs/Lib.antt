@@ -1,6 +1,7 @@
 pub mod Books
 pub mod Barring
 pub mod Sessions
+pub mod SessionLogs
 pub mod Dropping
 pub mod SessionActions
 pub mod Feeding

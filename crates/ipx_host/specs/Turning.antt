@@ -1,11 +1,12 @@
 -- What one turn of a running host does to its core and its clock. Nothing here is from a public standard.
+use mathlib.Core.Logic.{inl, inr}
 use Rattle.std.specs.Prelude.{◌≡◌, ◌<◌, ◌↔◌, ◌⊎◌, ℕ, IsTrue, false, true, List, Option, None, Ok, Err}
 use Rattle.ipx_carrier.specs.declared.fault.RunFault.TheVariants.{OutOfMemory}
 use Rattle.ipx_carrier.specs.declared.report.Report.{Report}
 use Rattle.ipx_carrier.specs.Driving.{TakesTurn}
-use Rattle.ipx_carrier.specs.HostCore.{HearOutOfMemory}
+use Rattle.ipx_carrier.specs.Counting.{raised}
 use Rattle.ipx_carrier.specs.Turns.{Given, Peers}
-use Rattle.ipx_host.specs.Barring.{HearsAllowed}
+use Rattle.ipx_host.specs.Barring.{HearAllowedOutOfMemory, HearsAllowed}
 use Rattle.ipx_host.specs.Paced.{GivesOnceTold}
 use Rattle.ipx_host.specs.declared.paced_host_core.PacedHostCore.{PacedHostCore}
 use Rattle.ipx_host.specs.declared.running_host.Activity.{Activity}
@@ -20,8 +21,7 @@ abbrev pub gives : PacedHostCore → ℕ → Option Given → PacedHostCore → 
 gives old now given new = GivesOnceTold old now given new
 
 abbrev pub hear_out_of_memory : PacedHostCore → ℕ → List ℕ → ℕ → PacedHostCore → Type 0
-hear_out_of_memory old port bytes now new = HearOutOfMemory old.endpoint bytes new.endpoint
-    × (new ≡ record old { endpoint = new.endpoint; moment = now })
+hear_out_of_memory old port bytes now new = HearAllowedOutOfMemory old bytes now new
 
 abbrev pub next_out_of_memory : PacedHostCore → ℕ → PacedHostCore → Type 0
 next_out_of_memory old now new = ⊥
@@ -41,3 +41,9 @@ TakesHostTurn {K} clock clock_after tells peers old new turn =
     × TellsOf report turn)
     ⊎ (TakesTurn hears hear_out_of_memory gives next_out_of_memory tells 1 peers None None clock clock_after old new (Err OutOfMemory)
     × (turn.heard ≡ false) × (turn.active ≡ true))
+
+-- how often a host ran out of memory, after a turn before which it was so often: once more if it was only a part
+-- of a turn
+abbrev pub refused_after : {Whole Part : Type 0} → Whole ⊎ Part → ℕ → ℕ
+refused_after (inl whole) count = count
+refused_after (inr part) count = raised count

@@ -15,8 +15,10 @@ ghost use Rattle.ipx_host.specs.Access.{guarded_host};
 ghost use Rattle.ipx_host.specs.Hosting.{HearsAndNotesAll, Serves, StepView, StepsTo, bytes_of};
 ghost use Rattle.ipx_host.specs.HostOutput.{Writes, left_of};
 ghost use Rattle.ipx_sockets.specs.Polling.{FailedToWait, FailsToWait, WaitsWell, watched_if};
+ghost use Rattle.ipx_host.specs.SessionLogs.{LogsCounts};
 ghost use Rattle.ipx_host.specs.Sleeping.{MayRest};
 ghost use Rattle.ipx_host.specs.ListenOutcomes.{stop_in, stop_status};
+ghost use Rattle.ipx_host.specs.Turning.{refused_after};
 ghost use Rattle.ipx_host.specs.declared.listening.ListenOutcome.{ListenOutcome as AStop};
 ghost use Rattle.ipx_host.specs.declared.listening.ListenOutcome.TheVariants as Stops;
 
@@ -153,10 +155,14 @@ impl<'a, R: Net + Log + Clock> ListeningHost<'a, R> {
             self.old.station.core self.new.station.core
             self.old.sessions.held.items self.new.sessions.held.items self.old.sessions.once
             NeverGoesBack (peers_of self.old.station.host_socket.peers.items))
-            × (hears.turn ≡ result) }
+            × (hears.turn ≡ result)
+            × (self.new.station.refused ≡ refused_after hears.turned self.old.station.refused) }
         ensures peers { self.new.station.host_socket.peers ≡ self.old.station.host_socket.peers }
         ensures access { map access_by self.new.station.host_socket.device.access_lists.items
             ≡ map access_by self.old.station.host_socket.device.access_lists.items }
+        // The counts of connections that are due after the turn are logged, before the datagram is
+        // noted.
+        ensures told { LogsCounts self.old.sessions self.new.sessions self.new.station.core.moment }
         ensures poller { self.new.station.poller ≡ self.old.station.poller }
         ensures output { self.new.sessions.output ≡ self.old.sessions.output }
         ensures once { self.new.sessions.once ≡ self.old.sessions.once }

@@ -254,9 +254,7 @@ impl PacedHostCore {
 }
 
 impl Core for PacedHostCore {
-    ghost use Rattle.std.specs.Prelude.{◌≡◌};
-    ghost use Rattle.ipx_carrier.specs.HostCore.{HearOutOfMemory};
-    ghost use Rattle.ipx_host.specs.Barring.{HearsAllowed};
+    ghost use Rattle.ipx_host.specs.Barring.{HearAllowedOutOfMemory, HearsAllowed};
     ghost use Rattle.ipx_host.specs.Paced.{GivesOnceTold};
 
     ghost port_count = { λ c. 1 };
@@ -265,8 +263,7 @@ impl Core for PacedHostCore {
 
     ghost gives = { λ old now given new. GivesOnceTold old now given new };
 
-    ghost hear_out_of_memory = { λ old port bytes now new. HearOutOfMemory old.endpoint bytes new.endpoint
-        × (new ≡ record old { endpoint = new.endpoint; moment = now }) };
+    ghost hear_out_of_memory = { λ old port bytes now new. HearAllowedOutOfMemory old bytes now new };
 
     ghost next_out_of_memory = { λ old now new. ⊥ };
 

@@ -19,7 +19,7 @@ ghost use Rattle.ipx_host.specs.Access.{guarded_host};
 ghost use Rattle.ipx_host.specs.HostLines.{counts_of_host, host_counts};
 ghost use Rattle.ipx_sockets.specs.Polling.{WaitsOnce, watched_if};
 ghost use Rattle.ipx_host.specs.Sleeping.{IsSleep};
-ghost use Rattle.ipx_host.specs.Turning.{TakesHostTurn, TellsOf};
+ghost use Rattle.ipx_host.specs.Turning.{TakesHostTurn, TellsOf, refused_after};
 
 use crate::access::access_list_of;
 use crate::eviction::count_if;
@@ -269,8 +269,10 @@ impl<'a, R: Net + Log + Clock> RunningHost<'a, R> {
     /// Takes one turn. Failures of the system and lack of memory are counted and reported, and the
     /// host continues. If a turn runs out of memory, its datagram is lost.
     pub fn turn(&mut self, rt: &R, alloc: Global) -> Activity
-        ensures core { TakesHostTurn self.old.clock self.new.clock
-            NeverGoesBack (peers_of self.old.host_socket.peers.items) self.old.core self.new.core result }
+        // If it runs out of memory, that is counted.
+        ensures core { (taken : TakesHostTurn self.old.clock self.new.clock
+            NeverGoesBack (peers_of self.old.host_socket.peers.items) self.old.core self.new.core result)
+            × (self.new.refused ≡ refused_after taken self.old.refused) }
         // A filtered datagram counts as activity, since more may be waiting after it.
         ensures kept { IsTrue result.kept
             ↔ drops_in self.old.host_socket.device.kept < drops_in self.new.host_socket.device.kept }

@@ -186,6 +186,9 @@ impl Sessions {
         ensures evicted { self.new.evicted ≡ raised_if (is_own_evicted self.old.once
             endpoint.old.network endpoint.old moment accepted.from self.old.held.items)
             self.old.evicted }
+        ensures logs { (self.new.of_never_heard ≡ self.old.of_never_heard)
+            × (self.new.of_evicted ≡ self.old.of_evicted)
+            × (self.new.of_turned_away ≡ self.old.of_turned_away) }
         ensures output { self.new.output ≡ self.old.output }
         ensures once { self.new.once ≡ self.old.once }
     {
@@ -215,6 +218,9 @@ impl Sessions {
         ensures never_heard { self.new.never_heard ≡ self.old.never_heard }
         ensures evicted { self.new.evicted ≡ self.old.evicted }
         ensures turned_away { self.new.turned_away ≡ self.old.turned_away }
+        ensures logs { (self.new.of_never_heard ≡ self.old.of_never_heard)
+            × (self.new.of_evicted ≡ self.old.of_evicted)
+            × (self.new.of_turned_away ≡ self.old.of_turned_away) }
         ensures output { self.new.output ≡ self.old.output }
         ensures once { self.new.once ≡ self.old.once }
     {
@@ -233,6 +239,9 @@ impl Sessions {
             endpoint.old.network endpoint.old moment asker.now self.old.held.items)
             self.old.evicted }
         ensures turned_away { self.new.turned_away ≡ raised self.old.turned_away }
+        ensures logs { (self.new.of_never_heard ≡ self.old.of_never_heard)
+            × (self.new.of_evicted ≡ self.old.of_evicted)
+            × (self.new.of_turned_away ≡ self.old.of_turned_away) }
         ensures output { self.new.output ≡ self.old.output }
         ensures once { self.new.once ≡ self.old.once }
     {
@@ -260,6 +269,9 @@ impl Sessions {
         ensures turned_away { CountsRequest self.old.once core.old.came core.old.endpoint.network
             core.old.endpoint core.old.moment self.old.held.items
             self.old.turned_away self.new.turned_away }
+        ensures logs { (self.new.of_never_heard ≡ self.old.of_never_heard)
+            × (self.new.of_evicted ≡ self.old.of_evicted)
+            × (self.new.of_turned_away ≡ self.old.of_turned_away) }
         ensures output { self.new.output ≡ self.old.output }
         ensures once { self.new.once ≡ self.old.once }
     {

@@ -19,10 +19,11 @@ returns-then-turn-clause-hears g c = (
   record {
     seen = c.turn-turn.new.self.core;
     turn = c.turn-turn.result;
-    turned = c.turn-turn.ensures.core;
+    turned = c.turn-turn.ensures.core.0;
     noted = noted_if c.turn-turn.result.heard _ _ _ _ _ _ _ c.if-turn.true c.tell.ensures.once (ap (λ s. s.items) c.tell.ensures.held) c.note.ensures.notes;
   },
   refl,
+  c.turn-turn.ensures.core.1,
 )
 
 pub returns-else-turn-clause-hears : goal.returns-else-turn-clause-hears
@@ -30,8 +31,9 @@ returns-else-turn-clause-hears g c = (
   record {
     seen = c.turn-turn.new.self.core;
     turn = c.turn-turn.result;
-    turned = c.turn-turn.ensures.core;
+    turned = c.turn-turn.ensures.core.0;
     noted = noted_none c.turn-turn.result.heard _ _ _ _ c.if-turn.false (ap (λ s. s.items) c.tell.ensures.held);
   },
   refl,
+  c.turn-turn.ensures.core.1,
 )
