@@ -1,6 +1,6 @@
 -- What the program prints of a port when a router starts, and of a file that it checks. Defined by this
 -- project.
-use Rattle.std.specs.Prelude.{Vec, ℕ, ◌+◌, List, [], ◌∷◌, ◌++◌, Bool, true, false, ◌&&◌, ◌||◌, ◌==◌, Option, Some, None, codes, drop, not, if◌then◌else◌, length, nat_eq, nat_le, slice_index, string_bytes, String}
+use Rattle.std.specs.Prelude.{Vec, ℕ, ◌+◌, List, [], ◌∷◌, ◌++◌, Bool, false, ◌&&◌, ◌||◌, ◌==◌, Option, Some, None, codes, drop, not, if◌then◌else◌, length, nat_eq, nat_le, slice_index, string_bytes, String}
 use Rattle.std.specs.Global.{Global}
 use Rattle.std.specs.Cmp.Lexicographic.{pointwise}
 use Rattle.std.specs.Fmt.{decimal}
@@ -306,13 +306,16 @@ is_of_route entries network = list_any (λ e. is_item_to network e.word) entries
 abbrev pub is_led_to : RouterConfig → Network → Bool
 is_led_to s network = is_of_port s.ports.items network || is_of_route s.statics.items network
 
--- the remark about a static service, by whether the file leads to its network; empty if it does. Otherwise the
--- service is advertised, but packets for it are dropped while RIP has given no route
-abbrev pub service_remark : Bool → ServiceEntry → List ℕ
-service_remark true s = []
-service_remark false s =
+-- the remark about a static service to whose network the file has no way: the service is advertised, but packets
+-- for it are dropped while RIP has given no route
+abbrev pub no_way_remark : ServiceEntry → List ℕ
+no_way_remark s =
     codes "service " ++ (service_words s ++ (codes ": no port and no static route leads to network "
     ++ (network_word s.at.network ++ codes ": it must be learned by RIP\n")))
+
+-- the remark about a static service, by whether the file has a way to its network; empty if it has
+abbrev pub service_remark : Bool → ServiceEntry → List ℕ
+service_remark has_way s = if has_way then [] else no_way_remark s
 
 abbrev pub item_remark : RouterConfig → Source → StaticItem → List ℕ
 item_remark s by (Route r) = route_remark s.ports.items by r

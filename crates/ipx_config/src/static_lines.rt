@@ -5,7 +5,7 @@ ghost use Rattle.std.specs.List.{flat_map};
 ghost use Rattle.ipx_inspect.specs.ShowLine.{address_text};
 ghost use Rattle.ipx_table_dump.specs.TableText.{by_text};
 ghost use Rattle.ipx_config.specs.StaticFields.{numbered_port};
-ghost use Rattle.ipx_config.specs.Checked.{is_item_to, is_led_to, is_no_router, is_no_router_at, is_of_port, is_of_route, item_remark, next_hop_ip, route_remark, service_remark, static_line, static_lines, static_route_line, static_service_line, service_words, shown_text};
+ghost use Rattle.ipx_config.specs.Checked.{is_item_to, is_led_to, is_no_router, is_no_router_at, is_of_port, is_of_route, item_remark, next_hop_ip, no_way_remark, route_remark, service_remark, static_line, static_lines, static_route_line, static_service_line, service_words, shown_text};
 
 use crate::escaped::Escaped;
 use crate::site::{PortConfig, RouterConfig};
@@ -167,7 +167,19 @@ fn is_led_to(site: &RouterConfig, network: Network) -> bool
     is_of_port(&site.ports, network) || is_of_route(&site.statics, network)
 }
 
-/// The remark about a static service, by whether the file leads to its network; empty if it does.
+/// The remark about a static service to whose network the file has no way.
+fn no_way_to_remark(alloc: Global, service: &ServiceEntry) -> Result<String, AllocError>
+    ensures { IfOk result (λ t. string_bytes t ≡ no_way_remark service.now) }
+{
+    let words = service_to_words(alloc, service)?;
+    let network = hex::encode(alloc, service.at.network.0.to_be_bytes())?;
+    format!(in alloc;
+        "service {words}: no port and no static route leads to network {network}: \
+            it must be learned by RIP\n"
+    )
+}
+
+/// The remark about a static service, by whether the file has a way to its network; empty if it has.
 fn service_to_remark(
     alloc: Global,
     has_way: bool,
@@ -176,14 +188,10 @@ fn service_to_remark(
     ensures { IfOk result (λ t. string_bytes t ≡ service_remark has_way service.now) }
 {
     if has_way {
-        return Ok(String::new(alloc));
+        Ok(String::new(alloc))
+    } else {
+        no_way_to_remark(alloc, service)
     }
-    let words = service_to_words(alloc, service)?;
-    let network = hex::encode(alloc, service.at.network.0.to_be_bytes())?;
-    format!(in alloc;
-        "service {words}: no port and no static route leads to network {network}: \
-            it must be learned by RIP\n"
-    )
 }
 
 /// The remark about an entry; empty if there is none.
