@@ -3,7 +3,7 @@
 ghost use Rattle.std.specs.Prelude.{◌≡◌, IfOk, option_copied, string_bytes};
 ghost use Rattle.std.specs.List.{flat_map};
 ghost use Rattle.ipx_inspect.specs.ShowLine.{address_text};
-ghost use Rattle.ipx_table_dump.specs.TableText.{by_text};
+ghost use Rattle.ipx_table_dump.specs.TableText.{by_text, network_word};
 ghost use Rattle.ipx_config.specs.StaticFields.{numbered_port};
 ghost use Rattle.ipx_config.specs.Checked.{is_item_to, is_led_to, is_no_router, is_no_router_at, is_of_port, is_of_route, item_remark, next_hop_ip, no_way_remark, route_remark, service_remark, static_line, static_lines, static_route_line, static_service_line, service_words, shown_text};
 
@@ -167,12 +167,19 @@ fn is_led_to(site: &RouterConfig, network: Network) -> bool
     is_of_port(&site.ports, network) || is_of_route(&site.statics, network)
 }
 
+/// The number of a network, in 8 hex digits.
+fn network_to_word(alloc: Global, network: Network) -> Result<String, AllocError>
+    ensures { IfOk result (λ t. string_bytes t ≡ network_word network) }
+{
+    hex::encode(alloc, network.0.to_be_bytes())
+}
+
 /// The remark about a static service to whose network the file has no way.
 fn no_way_to_remark(alloc: Global, service: &ServiceEntry) -> Result<String, AllocError>
     ensures { IfOk result (λ t. string_bytes t ≡ no_way_remark service.now) }
 {
     let words = service_to_words(alloc, service)?;
-    let network = hex::encode(alloc, service.at.network.0.to_be_bytes())?;
+    let network = network_to_word(alloc, service.at.network)?;
     format!(in alloc;
         "service {words}: no port and no static route leads to network {network}: \
             it must be learned by RIP\n"
