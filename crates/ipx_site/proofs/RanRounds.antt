@@ -81,7 +81,7 @@ started_by secret site (Err e) ports nothing statics checks queriers bound watch
 -- a router that started as its file says started as some file says
 pub starts_by_file : {R : Type 0} (loaded : Result RouterConfig ℕ) (result : Result (RunningRouter R) ℕ) → IfOk loaded (λ s. (text : List ℕ) × IsFileText text × IsSiteText text s)
     → IfErr loaded (λ s. result ≡ Err s) → IfOk loaded (λ site. IfOk result (λ s. StartsBy site s)) → IfOk result (λ s. StartsByFile s)
-starts_by_file (Ok site) (Ok s) text unread starts = (text.0, site, text.1, text.2, starts)
+starts_by_file (Ok site) (Ok s) text unread starts = (text.0, (site, text.1, text.2, starts))
 starts_by_file loaded (Err e) text unread starts = tt
 starts_by_file (Err e) (Ok s) text unread starts = absurd (cc)
 

@@ -1,6 +1,6 @@
 -- A router that starts as a given text describes, and runs.
 use Rattle.std.proofs.Common.{◌≡◌, ◌⊎◌, ℕ, true, List, Result, Ok, Err, inl, inr, subst}
-use Rattle.std.specs.Prelude.{◌==◌, IfErr, IfOk}
+use Rattle.std.specs.Prelude.{◌==◌, IfErr, IfOk, OnOk}
 use Rattle.ipx_config.specs.Loading.{IsFileText, IsStatus}
 use Rattle.ipx_config.specs.Site.{IsSiteText}
 use Rattle.ipx_config.specs.declared.fault.ConfigError.{ConfigError}
@@ -15,6 +15,11 @@ pub starts_by_text : {R : Type 0} (text : List ℕ) (loaded : Result RouterConfi
 starts_by_text text (Ok site) (Ok s) is unread starts = (site, is.0, is.1, starts)
 starts_by_text text loaded (Err e) is unread starts = tt
 starts_by_text text (Err e) (Ok s) is unread starts = absurd (cc)
+
+-- what holds in any case holds of a good result
+pub on_ok : {T E P : Type 0} (result : Result T E) → P → OnOk result P
+on_ok (Ok x) holds = holds
+on_ok (Err e) holds = tt
 
 -- the status of a fault is 1 or 2
 pub fault_is_one_or_two : (IsFault : ConfigError → Type 0) (text : List ℕ) (loaded : Result RouterConfig ℕ)
