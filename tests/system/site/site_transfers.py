@@ -16,7 +16,8 @@ LIMIT, THREE_SECONDS = 20, 5
 # each number of buffers, of 20 MB in the first round. The quickest at a number has at least this share of the rate of the
 # quickest piece of plain ones.
 # On a machine with twice as much else to do as it has processors it had 0.28 to 0.32.
-# A virtual machine runs at several speeds: transfers that had no round at the best one get up to so many more rounds.
+# A virtual machine runs at several speeds, and one of the two may not have had the best one: if a share is too small, there are
+# so many more rounds, and the quickest of all decide, once.
 UNIT, DATAGRAM, PLAIN_COUNT, PLAIN_PIECE = 534, 576, 16_000, 2_000
 ROUNDS, MORE_ROUNDS, SHARE = 8, 24, 0.2
 
@@ -69,7 +70,7 @@ def check_rates(sites):
         on_one(listeners[buffers])
         until(listeners[buffers].said, 5)
     for number in range(ROUNDS + MORE_ROUNDS):
-        if number >= ROUNDS and not (plain and any(max(some) < SHARE * max(plain) for some in rates.values())):
+        if number == ROUNDS and not (plain and any(max(some) < SHARE * max(plain) for some in rates.values())):
             break
         plain += [plain_rate(sites, program)] if program else []
         for buffers, some in rates.items():
