@@ -1,6 +1,6 @@
 //! The datagrams that both routers are given, made by a fixed rule.
 
-/// How many bytes stand before a datagram in a record. The first is the port that it comes in on.
+/// How many bytes come before a datagram in a record. The first is the port that it comes in on.
 pub const LEAD: usize = 16;
 
 /// The network of port N, 11 (hexadecimal) times N. The node of port N ends in N.
@@ -52,7 +52,7 @@ impl Records {
         self.bytes.len() / self.size
     }
 
-    /// The datagrams without what stands before them.
+    /// The datagrams without what comes before them.
     pub fn datagrams(&self) -> Vec<u8> {
         let records = self.bytes.chunks_exact(self.size);
         records

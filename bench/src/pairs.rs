@@ -175,7 +175,7 @@ pub fn pass(bytes: &[u8], offered: usize, buffers: u16, rounds: u32) -> u64 {
 
 // ---- playing
 
-/// How many bytes stand before the bytes of an event.
+/// How many bytes come before the bytes of an event.
 pub const LEAD: usize = 16;
 
 /// The last stream that is a user's own.

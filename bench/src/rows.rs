@@ -332,7 +332,7 @@ fn known() -> Row {
     }
 }
 
-/// Bytes that pass over a pair of links that stands, at least as many as one call offers. A call is
+/// Bytes that pass over a pair of links that exists, at least as many as one call offers. A call is
 /// a unit. Neither side's compiler knows how many are offered and how many buffers there are.
 pub fn pass((offered, buffers): (usize, u16)) -> Row {
     let part = offered * MOST_DATA;

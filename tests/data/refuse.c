@@ -5,7 +5,7 @@
    more. The file REFUSE_TOLD is made where the first of the two comes, and the file REFUSE_ASKED
    where a request between them was refused.
 
-   With REFUSE_DAY the day's clock stands still, so many milliseconds after the start of 1970.
+   With REFUSE_DAY the day's clock does not go on, so many milliseconds after the start of 1970.
 
    Compiled with WRAPPED it is linked into a program in place of being preloaded (a program with
    AddressSanitizer has an allocator of its own, before which nothing can be preloaded). The clock is

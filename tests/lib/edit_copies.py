@@ -1,8 +1,8 @@
-"""Copies of functions, each with one wrong body: so the edits of a crate stand in one text, and each function beside its own.
+"""Copies of functions, each with one wrong body: so the edits of a crate are in one text, and each function beside its own.
 
-A copy stands behind its function under another name, with its contract and attributes, and so do copies of the proof files
+A copy comes after its function under another name, with its contract and attributes, and so do copies of the proof files
 that are the function's, with the new name for the old. Nothing calls it, and it calls what the function calls. An edit that
-is made in place stands in the same text, in a function that nothing calls which is proved there.
+is made in place is in the same text, in a function that nothing calls which is proved there.
 """
 import collections
 import os
@@ -22,7 +22,7 @@ def extent(text, start):
 
 
 class Copies:
-    """What of a crate's functions can be copied, and how its edits stand in copies."""
+    """What of a crate's functions can be copied, and how its edits are put into copies."""
 
     def __init__(self, folder, graph, blanked):
         self.graph, self.blanked, self.files, self.can = graph, blanked, {}, {}
@@ -38,7 +38,7 @@ class Copies:
         return [it for it in self.files if it.startswith(folder)]
 
     def may_be_copied(self, name):
-        """Whether a function stands for no trait's and does not call itself, and no file but its own names its proof."""
+        """Whether a function implements no trait's and does not call itself, and no file but its own names its proof."""
         if name not in self.can:
             self.can[name] = self.stands_alone(self.graph.functions[name], name.split("::")[1:])
         return self.can[name]
@@ -102,8 +102,8 @@ class Copies:
         return text[function.start : extent(text, function.start)[1]]
 
     def beside(self, edits, in_place, unchanged):
-        """The texts in which edits stand, by their paths, in copies but for those that are made in place; each edit, as it
-        stands there; and where it is asked for, copies with no change of the functions that are copied and have proof files,
+        """The texts in which edits are, by their paths, in copies but for those that are made in place; each edit, as it
+        is there; and where it is asked for, copies with no change of the functions that are copied and have proof files,
         each with the name of its function."""
         made, tried, number = Made(self), [], collections.Counter()
         for edit in edits:
@@ -120,7 +120,7 @@ class Copies:
 
 
 def lacks_its_proof(line, texts):
-    """Whether a refusal of a copy wants what its proof files have, so that they were not read."""
+    """Whether a refusal of a copy lacks what its proof files have, so that they were not read."""
     wanted = re.search(r"expected (.*?) in \./(\S+?\.antt)(.*)", line)
     if not wanted or wanted[2] not in texts:
         return False

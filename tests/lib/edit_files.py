@@ -2,7 +2,7 @@
 
 Those that the gate tries are files of must-fail/, each with its name. Those that it does not try stand in one
 file, wrong-bodies.txt: an edit a paragraph, with its name on top. An edit has lines `file: PATH`, `old: TEXT` and
-`new: TEXT`, one line each: TEXT stands once in that file, as the pairs before it leave it. A line `# clause: NAME ..` says which
+`new: TEXT`, one line each: TEXT occurs once in that file, as the pairs before it leave it. A line `# clause: NAME ..` says which
 clauses of the function's contract must refuse it, and other lines that begin with `#` are comments.
 """
 import collections
@@ -65,6 +65,6 @@ def misfit(edit, folder):
                 texts[file] = it.read()
         times = texts[file].count(old)
         if times != 1:
-            return f"an old text stands {times} times in {file}"
+            return f"an old text occurs {times} times in {file}"
         texts[file] = texts[file].replace(old, new)
     return "" if edit.pairs else "it changes nothing"

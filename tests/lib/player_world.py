@@ -1,4 +1,4 @@
-"""What tests/system/ipxnet/players stands on: routers with ports for clients of ipxnet, and clients that send what DOSBox
+"""What tests/system/ipxnet/players uses: routers with ports for clients of ipxnet, and clients that send what DOSBox
 does."""
 import hashlib
 import os
@@ -103,7 +103,7 @@ def two_routers(run, names, addresses, udp_port, lobbies, hosts=()):
 
 class Client:
     """Who is at a place, and what comes there but for pings of routers to silent clients, and what routers of these nodes tell
-    and ask all by RIP and SAP: none do a client of ipxnet. A packet stands behind so many bytes. It keeps when pings came."""
+    and ask all by RIP and SAP: none do a client of ipxnet. A packet comes after so many bytes. It keeps when pings came."""
 
     def __init__(self, place, server, routers=(), behind=0):
         self.server, self.routers, self.behind, self.got, self.pinged = server, routers, behind, [], []

@@ -1,4 +1,4 @@
-"""What the scripts of tests/system stand on that start routers and hosts: a folder, a free port of UDP, processes that
+"""What the scripts of tests/system use that start routers and hosts: a folder, a free port of UDP, processes that
 cannot be left behind, and files of routers and hosts.
 """
 import atexit

@@ -1,4 +1,4 @@
-"""What tests/system/system stands on: networks of their own joined by a pair of virtual cards, waiting without threads, and
+"""What tests/system/system uses: networks of their own joined by a pair of virtual cards, waiting without threads, and
 sends that the system refuses by their length.
 """
 import atexit
@@ -150,7 +150,7 @@ class System:
 
 
 def without(*programs):
-    """Why a part can't be done here, where it wants root and these programs; else nothing."""
+    """Why a part can't be done here, where it needs root and these programs; else nothing."""
     if os.geteuid() != 0:
         return "it needs root"
     gone = [one for one in programs if not shutil.which(one)]

@@ -5,6 +5,7 @@ import importlib.util
 import os
 import re
 import shutil
+import subprocess
 import sys
 
 sys.dont_write_bytecode = True
@@ -12,6 +13,8 @@ TOP = os.path.dirname(os.path.dirname(os.path.dirname(os.path.abspath(__file__))
 # The crates of tests, which are compiled and run and not proved: lines as in crates.txt. Their sources end in
 # .rs, since `rt` refuses any .rt file that no crate of crates.txt names.
 TESTS = f"{TOP}/tests/data/tests.txt"
+# What the program prints of how it was built.
+BUILD = "crates/ipx_tool/src/build.rt"
 # What one check, or the compilation of a crate's tests, is likely to need of memory, in bytes.
 ONE_CHECK = 4_000_000_000
 
@@ -29,7 +32,7 @@ def kit():
 
 def make_kit(at, others):
     """Makes a toolchain of links to the files of the real one, and answers its `rt`, which works with these. Some files are
-    others: what stands there instead, by their paths. And `rattle`, which `rt try` runs beside the compilation only for a
+    others: what is there instead, by their paths. And `rattle`, which `rt try` runs beside the compilation only for a
     hint on names, does nothing."""
     own = {"bin/rt", "bin/rtlib.py", "bin/rattle", *others}
     folders = {above for path in own for above in parents(path)}
@@ -135,8 +138,40 @@ def without_static(text):
     return re.sub(r"(?m)^\w+ staticlib:.*\n", "", text)
 
 
+def git(*words):
+    """What git prints of this repository, or nothing if there is none."""
+    ran = subprocess.run(["git", "-c", "safe.directory=*", "-C", TOP, *words], stdin=subprocess.DEVNULL, stdout=subprocess.PIPE,
+                         stderr=subprocess.DEVNULL, text=True, check=False)
+    return ran.stdout.strip() if ran.returncode == 0 else ""
+
+
+def commit_of_sources():
+    """The commit in which what the program is made from was changed last, and whether it was changed since."""
+    with open(f"{TOP}/crates.txt", encoding="utf-8") as it:
+        names = re.findall(r"(?m)^(\w+)[ :]", without_static(it.read()))
+    made_from = ["crates.txt", "HANDLES", *(f"crates/{name}/{part}" for name in names for part in ("src", "specs", "proofs"))]
+    commit = git("log", "-1", "--format=%H", "--", *made_from)
+    if commit and git("status", "--porcelain", "--", *made_from):
+        return f"{commit}, and changes"
+    return commit or "not recorded"
+
+
+def record_build(top):
+    """Records in a copy, for `ipx --version --verbose`, which sources and toolchain its program is built with."""
+    ran = subprocess.run(["rt", "version"], stdout=subprocess.PIPE, text=True, check=True)
+    with open(f"{top}/{BUILD}", encoding="utf-8") as it:
+        text = it.read()
+    for name, value in (("COMMIT", commit_of_sources()), ("TOOLCHAIN", ran.stdout.strip())):
+        text, count = re.subn(rf'(pub const {name}: &str = )"[^"]*"', lambda it, value=value: f'{it[1]}"{value}"', text)
+        if count != 1:
+            sys.exit(f"{BUILD} has {count} constants {name}, and not one")
+    with open(f"{top}/{BUILD}", "w", encoding="utf-8") as it:
+        it.write(text)
+
+
 def copy_crates(to):
-    """Copies the crates that `rt ci` proves, without what was built of them and without their wrong bodies."""
+    """Copies the crates that `rt ci` proves, without what was built of them and without their wrong bodies. The copy has a record
+    of its sources and toolchain."""
     leave = shutil.ignore_patterns("out", "must-fail", "wrong-bodies.txt")
     with open(f"{TOP}/crates.txt", encoding="utf-8") as it:
         text = without_static(it.read())
@@ -146,6 +181,7 @@ def copy_crates(to):
     for name in listed(f"{to}/crates.txt"):
         shutil.copytree(f"{TOP}/crates/{name}", f"{to}/crates/{name}", ignore=leave)
     shutil.copy(f"{TOP}/HANDLES", to)
+    record_build(to)
 
 
 def free():

@@ -11,7 +11,7 @@ PAGE, UNIT = os.path.join(TOP, "docs/INSTALL.md"), os.path.join(TOP, "contrib/ip
 
 
 def blocks(heading, language, path=PAGE):
-    """The blocks of code in a language that stand below a heading of a page, up to the next one."""
+    """The blocks of code in a language that are below a heading of a page, up to the next one."""
     with open(path, encoding="utf-8") as page:
         parts = re.split(r"^#+ (.*)\n", page.read(), flags=re.M)
     text = dict(zip(parts[1::2], parts[2::2]))[heading]

@@ -4,7 +4,7 @@ import struct
 from site_packets import ipx
 
 EVERYBODY = "ffffffffffff"
-# How an IPX packet stands in a frame, and how many bytes it may have there.
+# How an IPX packet lies in a frame, and how many bytes it may have there.
 LINKS = {"802.3": b"", "802.2": b"\xe0\xe0\x03", "snap": b"\xaa\xaa\x03\0\0\0\x81\x37", "ethernet-ii": b""}
 MOST = {"802.3": 1500, "802.2": 1497, "snap": 1492, "ethernet-ii": 1500}
 KINDS = list(LINKS)

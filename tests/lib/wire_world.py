@@ -1,4 +1,4 @@
-"""What tests/system/ethernet/wires and tests/system/ipxnet/players stand on: ports of a router and who is at their ends, with
+"""What tests/system/ethernet/wires and tests/system/ipxnet/players use: ports of a router and who is at their ends, with
 what each of them is to get, and the count of what was found."""
 import collections
 import os

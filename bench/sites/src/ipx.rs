@@ -4,7 +4,7 @@ use std::net::Ipv4Addr;
 
 /// The node of all stations of a network.
 pub const EVERYBODY: [u8; 6] = [0xff; 6];
-/// The bytes before a packet's body, and where its destination's socket stands.
+/// The bytes before a packet's body, and where its destination's socket is.
 pub const HEADER: usize = 30;
 const SOCKET_AT: usize = 16;
 /// The packet type of what is not RIP.

@@ -59,7 +59,7 @@ fn row(name: &str, most: io::Result<f64>) {
     }
 }
 
-/// The memory of a router as it stands.
+/// The memory of a router as it is now.
 pub fn print_head() {
     println!(
         "{:<36} {:>11}",
@@ -67,7 +67,7 @@ pub fn print_head() {
     );
 }
 
-/// Prints a row of a router as it stands.
+/// Prints a row of a router as it is now.
 pub fn print_row(name: &str, router: &Process) {
     row(name, most(router));
 }

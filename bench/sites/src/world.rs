@@ -105,7 +105,7 @@ impl Drop for Process {
     }
 }
 
-/// Where files and processes of a run stand.
+/// Where the files and processes of a run are.
 pub struct World {
     pub program: PathBuf,
     pub port: u16,

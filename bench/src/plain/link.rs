@@ -103,7 +103,7 @@ fn due(at: u64, now: u64) -> bool {
 }
 
 /// One end of a connection. The first `out` units of the queue are sent and not acknowledged. The
-/// first `held` places of the ring are the units in order, behind them stand those ahead.
+/// first `held` places of the ring are the units in order, after them are those ahead.
 #[derive(Debug)]
 pub struct Link {
     state: State,

@@ -1,4 +1,4 @@
-//! The file that `ipx ipxnet` stands for: its text, and what is read from it.
+//! The file that does what `ipx ipxnet` does: its text, and what is read from it.
 
 use crate::fixture::site;
 use ipx_config::{Accept, Directed, IpxnetPortConfig, PortConfig, RouterConfig};

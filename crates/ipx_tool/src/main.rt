@@ -1,11 +1,13 @@
 //! The program `ipx`: routers and endpoints of a Novell internetwork, from the command line.
 #![tactic(auto)]
 
+mod build;
 mod commands;
 mod help;
 mod texts;
 mod words;
 
+use build::{COMMIT, TOOLCHAIN};
 use clap::error::ErrorKind;
 use ipx_config::{Target, check_site};
 use ipx_host::{check_host, do_listen, do_send};
@@ -59,7 +61,7 @@ fn udp(rt: &HostRuntime, port: u16) -> Result<u8, u8> {
     do_udp(rt, rt.alloc(), &mut rt.stdin(), &mut io::writer(rt), port)
 }
 
-/// A server for players. The file that it stands for is written to standard output.
+/// A server for players. The file that does the same is written to standard output.
 fn ipxnet(rt: &HostRuntime, port: u16) -> u8 {
     do_ipxnet(rt, rt.alloc(), port, &mut io::writer(rt))
 }
@@ -106,13 +108,18 @@ fn do_task(rt: &HostRuntime, task: Task<'_>) -> Result<u8, u8> {
     }
 }
 
-/// Reports why the words ask for no command, and returns the exit status for it.
+/// Reports why the words ask for no command, and returns the exit status for it. After the version
+/// `--verbose` adds what the program was built with.
 fn tell_usage(rt: &HostRuntime, words: &[String]) -> u8 {
     let error = fault_of(rt.alloc(), words);
     if error.kind() == ErrorKind::OutOfMemory {
         return tell_no_memory(&mut io::writer(rt));
     }
     let _ = eprint!(rt; "{error}");
+    let is_verbose = words.iter().any(|word| word.as_str() == "--verbose");
+    if is_verbose && error.kind() == ErrorKind::DisplayVersion {
+        let _ = eprintln!(rt; "commit: {COMMIT}\ntoolchain: {TOOLCHAIN}");
+    }
     2
 }
 

@@ -14,7 +14,7 @@ WIRES = [0, 0, 1, 2, 3]
 STATIONS = [f"52540000000{number}" for number in range(1, 6)]
 ROUTER, HOST = "127.0.0.1", "127.0.5.20"
 NETWORKS, OUTER = [f"0000007{number}" for number in range(4)], "00000011"
-# What a machine wants that has a card and nothing else.
+# What a machine needs that has a card and nothing else.
 ALONE = "-nodefaults -display none -machine pc -accel tcg -m 32 -boot n".split()
 # An emulator that is slow, or a machine that is loaded, gets so long.
 SECONDS = 40

@@ -204,7 +204,7 @@ def end_all(*some):
 
 
 def check_bridge(wires):
-    """The port, the TAP and the bridge of docs/INSTALL.md. A pair of devices stands for the card and what is plugged in
+    """The port, the TAP and the bridge of docs/INSTALL.md. A pair of devices acts as the card and what is plugged in
     there."""
     text, = blocks("Ethernet ports", "toml")
     port, outer = port_of(text), UdpPort(OUTER, ROUTER, UDP_PORT + 50, [HOST])

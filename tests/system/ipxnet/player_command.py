@@ -72,7 +72,7 @@ def check_game(run, port):
 def check_printed(run, process, port):
     """The file that it prints, and its line of the log, are those of `ipx route` with that file."""
     printed, line = process.out.decode(), LINE.format(port, node_of_place((ANY, port)))
-    run.check("it prints the file that it stands for", printed == FILE.format(port), printed)
+    run.check("it prints the file that does the same", printed == FILE.format(port), printed)
     said = process.said()
     run.check("and logs the port of it", len(said) == 1 and f" {line} rcvbuf " in said[0], str(said))
     file = run.world.write("tonight.toml", printed)

@@ -33,7 +33,7 @@ PER_SECOND, SECONDS, PLAYED, AT_ONCE = 10_000, 10, 400, 64
 # So many datagrams are a flood, at this share of the rate or more, without the time for which the machine denied a processor
 # to the router or to who sends.
 DATAGRAMS, SHARE = PER_SECOND * SECONDS, 0.9
-# So many bytes of a socket's room may one datagram want, with what the system adds.
+# So many bytes of a socket's room may one datagram need, with what the system adds.
 OF_ROOM = 4096
 # How much memory it may take more as its tables fill, and how much more in the second half, of 50,000 datagrams.
 MEMORY_KB, LEVEL_KB = 8192, 256

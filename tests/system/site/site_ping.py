@@ -202,7 +202,7 @@ def check_patient(sites, patient, listener):
 
 
 def check_ping(sites, listeners, patient, pressed):
-    """Who is there answers, and who is not, or does not want to, is silent."""
+    """Who is there answers, and who is not, or will not, is silent."""
     check_pressed(sites, *pressed)
     for network, address, routers in ((MIDDLE, NEXT, "1 router"), (FAR, LISTENER, "3 routers")):
         to = f"{network} {node(address)} 4002"

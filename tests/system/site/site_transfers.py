@@ -114,7 +114,7 @@ def check_thirds(sites, listener, senders, statuses, thirds):
 
 
 def check_room_told(sites, room, wanted):
-    """Where sockets get less than they ask for, a host says so just where its buffers want over twice that: a unit
+    """Where sockets get less than they ask for, a host says so just where its buffers need over twice that: a unit
     takes 1,280 bytes."""
     line = f"the socket's receive buffer has only {room} bytes: set net.core.rmem_max = {wanted}"
     for number, buffers in enumerate((64, 8192)):

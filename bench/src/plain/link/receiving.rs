@@ -102,7 +102,7 @@ impl Link {
         self.settle()
     }
 
-    /// Holds the units that stand in order now. Behind an end nothing is kept.
+    /// Holds the units that are in order now. After an end nothing is kept.
     fn settle(&mut self) -> Received {
         while let Some(Some(unit)) = self.ring.get(usize::from(self.held)) {
             let is_end = unit.stream == END_STREAM;
