@@ -7,3 +7,4 @@ pub mod Learned
 pub mod PingTimes
 pub mod Notes
 pub mod Asked
+pub mod Apart

@@ -1,17 +1,18 @@
 -- Few notes are of one IP address, and registrations from one keep those of the others.
-use Rattle.std.proofs.Common.{◌≡◌, ◌≤◌, ◌+◌, ◌-◌, ℕ, List, [], ◌∷◌, ◌++◌, Bool, true, false, Option, Some, None, length, drop, filter, find, not, cond, arith, refl, sym, ap, ◌∙◌}
-use Rattle.std.specs.Prelude.{All, ◌&&◌, ◌==◌, nat_le, if◌then◌else◌}
+use Rattle.std.proofs.Common.{◌≡◌, ◌≤◌, ◌<◌, ◌+◌, ◌-◌, ℕ, List, [], ◌∷◌, ◌++◌, Bool, true, false, Option, Some, None, length, drop, filter, find, not, cond, arith, refl, sym, ap, ◌∙◌, ltb-true}
+use Rattle.std.specs.Prelude.{All, ◌&&◌, ◌==◌, nat_le, nat_lt, if◌then◌else◌}
 use Rattle.std.specs.Net.Addr.{ipv4_octets}
 use Rattle.std.specs.Net.Socket.{v4_ip, v4_port}
 use Rattle.std.specs.Str.{bytes_eq}
-use Rattle.std.proofs.lemmas.Bool.{leb-false, leb-true}
+use Rattle.std.proofs.lemmas.Bool.{and_parts, leb-false, leb-true}
 use Rattle.std.proofs.lemmas.List.{append-nil, length-append, length-drop}
 use Rattle.std.proofs.lemmas.List.Elements.{All-head, All-tail, filter-append}
 use Rattle.std.proofs.lemmas.List.Filters.{length-filter_both}
 use Rattle.std.proofs.lemmas.Slice.Eq.{bytes_eq-Decides}
 use Rattle.std.specs.declared.net.socket_addr.SocketAddrV4.{SocketAddrV4}
+use Rattle.ipxnet_server.specs.declared.ask_times.NoteCause.TheVariants.{Registration, Restart}
 use Rattle.ipxnet_server.specs.declared.noted.Noted.{Noted}
-use Rattle.ipxnet_server.specs.NotedPlaces.{AreFewNotesOfEachIp, RegistrationsKeepOtherNotes, all_noted, is_note_of_ip, is_noted, is_noted_at, max_address_noted, max_noted, note_that_goes, noted_but, noted_with, noted_without, notes_of_ip, notes_of_other_ips, places_noted}
+use Rattle.ipxnet_server.specs.NotedPlaces.{AreFewNotesOfEachIp, RegistrationsKeepOtherNotes, all_noted, has_note_room, is_note_of_ip, is_noted, is_noted_at, max_address_noted, max_noted, note_that_goes, noted_again, noted_but, noted_with, noted_without, notes_of_ip, notes_of_other_ips, places_noted}
 use Rattle.ipxnet_server.specs.ServerInside.{AreNoted}
 use Rattle.ipxnet_server.proofs.Once.{counted, fewer, fewer_behind, fewer_both, found_passes, none_counted, same_place, some_is}
 
@@ -79,7 +80,7 @@ each_with : (now : ℕ) (place : SocketAddrV4) (noted : List Noted) → AreFewNo
 each_with now place noted each q =
     let goes : Option Noted = note_that_goes place noted in
     let kept : List Noted = noted_but goes noted in
-    let d : Noted = record { place = place; since = now } in
+    let d : Noted = record { place = place; since = now; cause = Registration } in
     let n = length kept + 1 - max_noted in
     let p = is_note_of_ip q in
     let all : length (notes_of_ip q kept) ≤ max_address_noted = omega (arith, each q, but_fewer p goes noted) in
@@ -90,13 +91,27 @@ pub few_with : (room now : ℕ) (place : SocketAddrV4) (noted : List Noted) → 
 few_with room now place noted are =
     let goes : Option Noted = note_that_goes place noted in
     let kept : List Noted = noted_but goes noted in
-    let d : Noted = record { place = place; since = now } in
+    let d : Noted = record { place = place; since = now; cause = Registration } in
     let n = length kept + 1 - max_noted in
     let within : length noted ≤ max_noted = are.within in
     let few : length kept ≤ length noted = but_short goes noted in
     record {
       within = omega (arith, within, few, length-append (drop n kept) (d ∷ []), length-drop n kept);
       each = each_with now place noted are.each;
+      all = are.all;
+    }
+
+pub few_again : (room now : ℕ) (place : SocketAddrV4) (noted : List Noted) → AreNoted noted room → has_note_room place noted ≡ true → AreNoted (noted_again place now noted) room
+few_again room now place noted are has =
+    let d : Noted = record { place = place; since = now; cause = Restart (length noted) } in
+    let both = and_parts (nat_lt (length noted) max_noted) (nat_lt (length (notes_of_ip place noted)) max_address_noted) has in
+    let within : length noted < max_noted = ltb-true (length noted) max_noted both.0 in
+    let few : length (notes_of_ip place noted) < max_address_noted = ltb-true (length (notes_of_ip place noted)) max_address_noted both.1 in
+    record {
+      within = omega (arith, within, length-append noted (d ∷ []));
+      each = λ q.
+          let more = each_by place q d noted (bytes_eq (ipv4_octets (v4_ip place)) (ipv4_octets (v4_ip q))) refl (omega (arith, few)) (are.each q) in
+          omega (arith, counted (is_note_of_ip q) noted d, more);
       all = are.all;
     }
 
@@ -154,7 +169,7 @@ with_keeps : (place : SocketAddrV4) (now : ℕ) (noted : List Noted) → AreFewN
     → notes_of_other_ips place (noted_with place now noted) ≡ notes_of_other_ips place noted
 with_keeps place now noted each few =
     let kept : List Noted = noted_but (note_that_goes place noted) noted in
-    let d : Noted = record { place = place; since = now } in
+    let d : Noted = record { place = place; since = now; cause = Registration } in
     let p = is_other place in
     let same : filter p kept ≡ filter p noted = goes_keeps place noted (nat_le max_address_noted (length (notes_of_ip place noted))) in
     let size = length-filter_both (is_note_of_ip place) p (λ x. refl) kept in

@@ -8,7 +8,10 @@ use Rattle.std.proofs.lemmas.List.Folds.{list_any-append}
 use Rattle.ipxnet_server.specs.declared.clients.Client.{Client}
 use Rattle.ipxnet_server.specs.declared.pings.PingTurn.{PingTurn}
 use Rattle.ipxnet_server.specs.declared.noted.Noted.{Noted}
-use Rattle.ipxnet_server.specs.Pings.{AreInOrder, AsksAreLate, AsksAreTwo, IsNextPing, OnlySilentArePinged, PingsAreSeldom, asks_by, asks_in, earlier, first_ask, is_asked, is_one_asked, is_one_pinged, is_pinged, ping_period, pings_by, second_ask, turns_that_ask, turns_that_ping}
+use Rattle.ipxnet_server.specs.declared.ask_times.NoteCause.{NoteCause}
+use Rattle.ipxnet_server.specs.declared.ask_times.NoteCause.TheVariants.{Registration, Restart}
+use Rattle.ipxnet_server.specs.AskTimes.{first_ask, first_ask_of, second_ask_of}
+use Rattle.ipxnet_server.specs.Pings.{AreInOrder, AsksAreLate, AsksAreTwo, IsNextPing, OnlySilentArePinged, PingsAreSeldom, asks_by, asks_in, earlier, is_asked, is_one_asked, is_one_pinged, is_pinged, ping_period, pings_by, turns_that_ask, turns_that_ping}
 
 -- ---- tests
 
@@ -125,7 +128,20 @@ few c before now (time ∷ times) order =
 pub few_pings : PingsAreSeldom
 few_pings c before now times order = few c before now times (in_order before times now order)
 
--- ---- who registered and shows nothing
+-- ---- who is noted and shows nothing
+
+-- the two pings of a note come one after the other, and before 5.5 s more have passed
+pub in_turn : (cause : NoteCause) → first_ask_of cause ≤ second_ask_of cause
+in_turn Registration = omega arith
+in_turn (Restart before) = omega arith
+
+pub comes_soon : (cause : NoteCause) → first_ask_of cause ≤ first_ask
+comes_soon Registration = omega arith
+comes_soon (Restart before) = omega arith
+
+pub follows_soon : (cause : NoteCause) → second_ask_of cause ≤ first_ask_of cause + first_ask
+follows_soon Registration = omega arith
+follows_soon (Restart before) = omega arith
 
 pub next_ask_of_none : (before : ℕ) → IsNextPing (is_one_asked before []) None
 next_ask_of_none before now lt = refl
@@ -156,26 +172,26 @@ if_one false = omega arith
 later_still : (time before after : ℕ) → before ≤ after → nat_le time before ≡ true → nat_le time after ≡ true
 later_still time before after le e = le-leb time after (omega (arith, le, leb-true time before e))
 
-pub asked_later : (before after : ℕ) → before ≤ after → asks_in before ≤ asks_in after
-asked_later before after le =
-    omega (arith, if_le (nat_le first_ask before) (nat_le first_ask after) (later_still first_ask before after le), if_le (nat_le second_ask before) (nat_le second_ask after) (later_still second_ask before after le))
+pub asked_later : (first second before after : ℕ) → before ≤ after → asks_in first second before ≤ asks_in first second after
+asked_later first second before after le =
+    omega (arith, if_le (nat_le first before) (nat_le first after) (later_still first before after le), if_le (nat_le second before) (nat_le second after) (later_still second before after le))
 
-pub two_at_most : (time : ℕ) → asks_in time ≤ 2
-two_at_most time = omega (arith, if_one (nat_le first_ask time), if_one (nat_le second_ask time))
+pub two_at_most : (first second time : ℕ) → asks_in first second time ≤ 2
+two_at_most first second time = omega (arith, if_one (nat_le first time), if_one (nat_le second time))
 
 few_asks : (n : Noted) (before now : ℕ) (times : List ℕ) → InOrder before times now → turns_that_ask before times n + asks_by before n ≤ asks_by now n
 unfolding InOrder
-few_asks n before now [] order = omega (arith, asked_later (before - n.since) (now - n.since) (omega (arith, order)))
+few_asks n before now [] order = omega (arith, asked_later (first_ask_of n.cause) (second_ask_of n.cause) (before - n.since) (now - n.since) (omega (arith, order)))
 few_asks n before now (time ∷ times) order =
     let x = asks_by before n in
     let y = asks_by time n in
     let rest = few_asks n time now times order.1 in
-    let first = one_more (nat_lt x y) x y refl (asked_later (before - n.since) (time - n.since) (omega (arith, order.0))) in
+    let first = one_more (nat_lt x y) x y refl (asked_later (first_ask_of n.cause) (second_ask_of n.cause) (before - n.since) (time - n.since) (omega (arith, order.0))) in
     omega (arith, first, rest)
 
 pub two_asks : AsksAreTwo
 two_asks n before now times order =
-    omega (arith, few_asks n before now times (in_order before times now order), two_at_most (now - n.since))
+    omega (arith, few_asks n before now times (in_order before times now order), two_at_most (first_ask_of n.cause) (second_ask_of n.cause) (now - n.since))
 
 none_yet : (a b : Bool) (x : ℕ) → (b ≡ true → a ≡ true) → x < (if a then 1 else 0) + (if b then 1 else 0) → a ≡ true
 none_yet true b x f lt = refl
@@ -184,6 +200,8 @@ none_yet false false x f lt = absurd (omega (arith, lt))
 
 pub late_asks : AsksAreLate
 late_asks t n e =
+    let first = first_ask_of n.cause in
+    let second = second_ask_of n.cause in
     let time = t.now - n.since in
-    leb-true first_ask time (none_yet (nat_le first_ask time) (nat_le second_ask time) (asks_by t.before n)
-    (λ s. le-leb first_ask time (omega (arith, leb-true second_ask time s))) (ltb-true (asks_by t.before n) (asks_in time) e))
+    leb-true first time (none_yet (nat_le first time) (nat_le second time) (asks_by t.before n)
+    (λ s. le-leb first time (omega (arith, leb-true second time s, in_turn n.cause))) (ltb-true (asks_by t.before n) (asks_in first second time) e))

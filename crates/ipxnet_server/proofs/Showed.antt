@@ -15,7 +15,9 @@ use Rattle.ipxnet_server.specs.declared.recipients.Recipients.{Recipients}
 use Rattle.ipxnet_server.specs.declared.port.ServerPort.{ServerPort}
 use Rattle.ipxnet_server.specs.ServerClients.{are_one_place, client_at, client_that_goes, clients_but, clients_heard, clients_moved, clients_with, forgotten_after, is_client_at, new_client, node_of_place, was_heard_within}
 use Rattle.ipxnet_server.specs.ServerHears.{ServerView, is_of_client, makes_client, server_admitting, server_aged, server_giving, server_gives, server_hearing, server_hears, server_met, stranger_drop}
-use Rattle.ipxnet_server.specs.ServerRuns.{ClientsShowedTheirNodes, Datagram, NoPacket, OfCore, ServerCall, Turn, server_after, server_run, shows_node}
+use Rattle.ipxnet_server.specs.NotedPlaces.{places_noted_again}
+use Rattle.ipxnet_server.specs.PeerServers.{is_joined_place}
+use Rattle.ipxnet_server.specs.ServerRuns.{Again, ClientsShowedTheirNodes, Datagram, NoPacket, OfCore, ServerCall, Turn, server_after, server_run, shows_node}
 use Rattle.ipxnet_server.proofs.Hears.{found_finds, shows_it}
 use Rattle.ipxnet_server.proofs.Once.{same_place}
 use Rattle.ipxnet_server.proofs.Still.{hearing_clients, hearing_rest, one_place, others_clients}
@@ -121,6 +123,14 @@ gives_port : (given : Result Recipients ServerDrop) (l : ServerView) → (server
 gives_port (Ok takers) l = refl
 gives_port (Err d) l = refl
 
+again_clients : (b : Bool) (from : SocketAddrV4) (now : ℕ) (l : ServerView) → (if b then l else record l { noted = places_noted_again from now l.noted }).clients ≡ l.clients
+again_clients true from now l = refl
+again_clients false from now l = refl
+
+again_port : (b : Bool) (from : SocketAddrV4) (now : ℕ) (l : ServerView) → (if b then l else record l { noted = places_noted_again from now l.noted }).port ≡ l.port
+again_port true from now l = refl
+again_port false from now l = refl
+
 aged_has : (now : ℕ) (place : SocketAddrV4) (l : ServerView) → is_some (client_at place (server_aged now l).clients) ≡ true → is_some (client_at place l.clients) ≡ true
 aged_has now place l has = of_kept (is_client_at place) (was_heard_within forgotten_after now) l.clients has
 
@@ -138,6 +148,9 @@ after_has l (OfCore node header size now) place has =
     left (is_some (client_at place l.clients)) false
     (aged_has now place l (sym (ap (λ (known : List Client). is_some (client_at place known)) (gives_clients (server_gives (server_aged now l) node header size) (server_aged now l))) ∙ has))
 after_has l (Turn now) place has = left (is_some (client_at place l.clients)) false (aged_has now place l has)
+after_has l (Again from now) place has =
+    left (is_some (client_at place l.clients)) false
+    (sym (ap (λ (known : List Client). is_some (client_at place known)) (again_clients (is_some (client_at from l.clients) || is_joined_place from l.routers) from now l)) ∙ has)
 
 met_port : (b : Bool) (from : SocketAddrV4) (now : ℕ) (l : ServerView) → (if b then server_admitting from now l else l).port ≡ l.port
 met_port true from now l = refl
@@ -151,6 +164,7 @@ after_port l (Datagram from p size now) =
 after_port l (NoPacket fault now) = refl
 after_port l (OfCore node header size now) = gives_port (server_gives (server_aged now l) node header size) (server_aged now l)
 after_port l (Turn now) = refl
+after_port l (Again from now) = again_port (is_some (client_at from l.clients) || is_joined_place from l.routers) from now l
 
 -- ---- any calls
 

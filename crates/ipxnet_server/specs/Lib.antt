@@ -1,8 +1,10 @@
 pub mod ServerClients
+pub mod AskTimes
 pub mod NotedPlaces
 pub mod Pings
 pub mod PeerServers
 pub mod ServerHears
+pub mod Restarts
 pub mod ServerRuns
 pub mod JoinedLearns
 pub mod ServerCounted

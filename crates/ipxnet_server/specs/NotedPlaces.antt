@@ -1,13 +1,14 @@
--- The addresses that registered at an ipxnet server, have not yet shown that they received the answer, and are
--- still to be pinged. Defined by this project.
-use Rattle.std.specs.Prelude.{◌≡◌, ◌≤◌, ℕ, ◌+◌, ◌-◌, List, [], ◌∷◌, ◌++◌, All, length, drop, filter, find, Bool, true, not, nat_le, nat_lt, Option, Some, None, if◌then◌else◌}
+-- The addresses that registered at an ipxnet server, or were those of its clients before a restart, have not yet
+-- shown their node, and are still to be pinged. Defined by this project.
+use Rattle.std.specs.Prelude.{◌≡◌, ◌≤◌, ◌&&◌, ℕ, ◌+◌, ◌-◌, List, [], ◌∷◌, ◌++◌, All, length, drop, filter, find, Bool, true, not, nat_le, nat_lt, Option, Some, None, if◌then◌else◌}
 use Rattle.std.specs.List.{list_any}
 use Rattle.std.specs.Net.Addr.{ipv4_octets}
 use Rattle.std.specs.Net.Socket.{v4_ip}
 use Rattle.std.specs.Str.{bytes_eq}
 use Rattle.std.specs.declared.net.socket_addr.SocketAddrV4.{SocketAddrV4}
+use Rattle.ipxnet_server.specs.declared.ask_times.NoteCause.TheVariants.{Registration, Restart}
 use Rattle.ipxnet_server.specs.declared.noted.Noted.{Noted}
-use Rattle.ipxnet_server.specs.Pings.{second_ask}
+use Rattle.ipxnet_server.specs.AskTimes.{second_ask_of}
 use Rattle.ipxnet_server.specs.ServerClients.{are_one_place}
 
 -- how many are noted at most
@@ -31,7 +32,7 @@ noted_without place noted = filter (λ n. not (is_noted_at place n)) noted
 -- those that are still to be pinged: the last turn of pings, at this time, came before the second ping was due.
 -- If the clock went back, no time has passed
 abbrev pub is_to_be_asked : ℕ → Noted → Bool
-is_to_be_asked pinged n = nat_lt (pinged - n.since) second_ask
+is_to_be_asked pinged n = nat_lt (pinged - n.since) (second_ask_of n.cause)
 
 abbrev pub noted_left : ℕ → List Noted → List Noted
 noted_left pinged noted = filter (is_to_be_asked pinged) noted
@@ -67,7 +68,7 @@ abbrev pub noted_with : SocketAddrV4 → ℕ → List Noted → List Noted
 noted_with place now noted =
     drop (length (noted_but (note_that_goes place noted) noted) + 1 - max_noted)
     (noted_but (note_that_goes place noted) noted)
-    ++ record { place = place; since = now } ∷ []
+    ++ record { place = place; since = now; cause = Registration } ∷ []
 
 -- an address registered. If it is noted already, nothing changes, so that nobody puts off its pings
 abbrev pub places_noted : SocketAddrV4 → ℕ → List Noted → List Noted
@@ -77,6 +78,22 @@ places_noted place now noted = if is_noted place noted then noted else noted_wit
 abbrev pub all_noted : List Noted → List Noted → List Noted
 all_noted [] noted = noted
 all_noted (r ∷ rest) noted = all_noted rest (places_noted r.place r.since noted)
+
+-- ---- after a restart
+
+-- there is room for one more note without removing another
+abbrev pub has_note_room : SocketAddrV4 → List Noted → Bool
+has_note_room place noted =
+    nat_lt (length noted) max_noted && nat_lt (length (notes_of_ip place noted)) max_address_noted
+
+abbrev pub noted_again : SocketAddrV4 → ℕ → List Noted → List Noted
+noted_again place now noted = noted ++ record { place = place; since = now; cause = Restart (length noted) } ∷ []
+
+-- an address that was that of a client before a restart is noted as the last one, unless it is noted already, or
+-- there is no room for it
+abbrev pub places_noted_again : SocketAddrV4 → ℕ → List Noted → List Noted
+places_noted_again place now noted =
+    if not (is_noted place noted) && has_note_room place noted then noted_again place now noted else noted
 
 -- ---- what follows
 

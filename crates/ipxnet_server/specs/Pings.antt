@@ -4,6 +4,7 @@ use Rattle.std.specs.List.{list_any}
 use Rattle.ipxnet_server.specs.declared.clients.Client.{Client}
 use Rattle.ipxnet_server.specs.declared.noted.Noted.{Noted}
 use Rattle.ipxnet_server.specs.declared.pings.PingTurn.{PingTurn}
+use Rattle.ipxnet_server.specs.AskTimes.{first_ask_of, second_ask_of}
 
 -- a silent client is pinged each time that so many more ms have passed
 abbrev pub ping_period : ℕ
@@ -21,21 +22,13 @@ is_pinged turn c = nat_lt (pings_by turn.before c) (pings_by turn.now c)
 abbrev pub is_one_pinged : ℕ → List Client → ℕ → Bool
 is_one_pinged before clients now = list_any (is_pinged (record { before = before; now = now })) clients
 
--- who registered, and has shown nothing yet, is pinged at these two times in ms after the registration that it is
--- noted by: not before DOSBox has given up to wait for the answer, which it does after 5 s. To register again before
--- the second of them puts off neither
-abbrev pub first_ask : ℕ
-first_ask = 5500
-
-abbrev pub second_ask : ℕ
-second_ask = 8500
-
-abbrev pub asks_in : ℕ → ℕ
-asks_in time = (if nat_le first_ask time then 1 else 0) + (if nat_le second_ask time then 1 else 0)
+-- an address that is noted is due two pings, of which one or both have come after this time
+abbrev pub asks_in : ℕ → ℕ → ℕ → ℕ
+asks_in first second time = (if nat_le first time then 1 else 0) + (if nat_le second time then 1 else 0)
 
 -- how many pings it is due; if the clock went back, no time has passed
 abbrev pub asks_by : ℕ → Noted → ℕ
-asks_by now n = asks_in (now - n.since)
+asks_by now n = asks_in (first_ask_of n.cause) (second_ask_of n.cause) (now - n.since)
 
 -- a turn pings it
 abbrev pub is_asked : PingTurn → Noted → Bool
@@ -78,17 +71,17 @@ abbrev pub PingsAreSeldom : Type 0
 PingsAreSeldom = (c : Client) (before now : ℕ) (times : List ℕ) → AreInOrder (before ∷ times ++ now ∷ [])
     → turns_that_ping before times c + pings_by before c ≤ pings_by now c
 
--- how many turns at these times ping a place that registered and shows nothing
+-- how many turns at these times ping a place that is noted and shows nothing
 abbrev pub turns_that_ask : ℕ → List ℕ → Noted → ℕ
 turns_that_ask before [] n = 0
 turns_that_ask before (time ∷ times) n =
     (if is_asked (record { before = before; now = time }) n then 1 else 0) + turns_that_ask time times n
 
 -- however often there is a turn, it gets at most two pings for each time that it is noted, and none earlier than
--- 5.5 s after the registration that it is noted by
+-- 5.5 s after the registration that it is noted by, or 1 s after the restart
 abbrev pub AsksAreTwo : Type 0
 AsksAreTwo = (n : Noted) (before now : ℕ) (times : List ℕ) → AreInOrder (before ∷ times ++ now ∷ [])
     → turns_that_ask before times n ≤ 2
 
 abbrev pub AsksAreLate : Type 0
-AsksAreLate = (turn : PingTurn) (n : Noted) → is_asked turn n ≡ true → first_ask ≤ turn.now - n.since
+AsksAreLate = (turn : PingTurn) (n : Noted) → is_asked turn n ≡ true → first_ask_of n.cause ≤ turn.now - n.since

@@ -10,19 +10,22 @@ use Rattle.ipx_wire.specs.declared.ipx.packet.IpxHeader.{IpxHeader}
 use Rattle.ipxnet_server.specs.declared.drops.ServerDrop.TheVariants.{Malformed}
 use Rattle.ipxnet_server.specs.declared.port.ServerPort.{ServerPort}
 use Rattle.ipxnet_server.specs.NotedPlaces.{is_noted, is_noted_at}
-use Rattle.ipxnet_server.specs.Pings.{AreInOrder, first_ask, is_asked}
+use Rattle.ipxnet_server.specs.AskTimes.{first_ask}
+use Rattle.ipxnet_server.specs.Pings.{AreInOrder, is_asked}
+use Rattle.ipxnet_server.specs.Restarts.{server_noting_again}
 use Rattle.ipxnet_server.specs.ServerClients.{are_one_place, client_at, node_of_place}
 use Rattle.ipxnet_server.specs.ServerHears.{ServerView, joined_server, server_aged, server_dropping, server_gives, server_giving, server_hearing, server_hears, server_met, server_pinging}
 
 -- a call: a datagram from an address that is a packet, in so many bytes; one that is none; a packet of the core for
--- a node; and a turn of pings. Each is at a time
+-- a node; a turn of pings; and an address that was that of a client before a restart. Each is at a time
 pub data ServerCall : Type 0 where
   Datagram : SocketAddrV4 → PacketView → ℕ → ℕ → ServerCall
   NoPacket : IpxFault → ℕ → ServerCall
   OfCore : Node → Option IpxHeader → ℕ → ℕ → ServerCall
   Turn : ℕ → ServerCall
+  Again : SocketAddrV4 → ℕ → ServerCall
 
--- the server after a call, as the clauses of `hear`, `give` and `begin_pings` say
+-- the server after a call, as the clauses of `hear`, `give`, `begin_pings` and `note_again` say
 abbrev pub server_after : ServerView → ServerCall → ServerView
 server_after l (Datagram from p size now) =
     server_hearing (server_hears (server_met from p.header size now (server_aged now l)) from p size now) from now
@@ -31,6 +34,7 @@ server_after l (NoPacket fault now) = server_dropping (Malformed fault) (server_
 server_after l (OfCore node header size now) =
     server_giving (server_gives (server_aged now l) node header size) (server_aged now l)
 server_after l (Turn now) = server_pinging now l
+server_after l (Again place now) = server_noting_again place now l
 
 abbrev pub server_run : ServerView → List ServerCall → ServerView
 server_run l [] = l
@@ -45,6 +49,7 @@ shows_node port place (Datagram from p size now) =
 shows_node port place (NoPacket fault now) = false
 shows_node port place (OfCore node header size now) = false
 shows_node port place (Turn now) = false
+shows_node port place (Again from now) = false
 
 -- after any calls of a new server, who is a client has shown its node
 abbrev pub ClientsShowedTheirNodes : Type 0
@@ -59,6 +64,7 @@ time_of (Datagram from p size now) = now
 time_of (NoPacket fault now) = now
 time_of (OfCore node header size now) = now
 time_of (Turn now) = now
+time_of (Again place now) = now
 
 -- a call pings an address that is noted: it is a turn, and asks its note
 abbrev pub call_asks : SocketAddrV4 → ServerView → ServerCall → Bool
@@ -68,6 +74,7 @@ call_asks place l (OfCore node header size now) = false
 call_asks place l (Turn now) =
     list_any (λ n. is_noted_at place n && is_asked (record { before = l.pinged; now = now }) n)
     (server_pinging now l).noted
+call_asks place l (Again from now) = false
 
 -- one of these calls does
 abbrev pub run_asks : SocketAddrV4 → ServerView → List ServerCall → Bool

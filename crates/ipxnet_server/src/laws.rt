@@ -4,6 +4,7 @@
 ghost use Rattle.ipxnet_server.specs.JoinedLearns.{NoGivenPacketShowsAClient};
 ghost use Rattle.ipxnet_server.specs.NotedPlaces.{RegistrationsKeepOtherNotes};
 ghost use Rattle.ipxnet_server.specs.Pings.{AsksAreLate, AsksAreTwo, OnlySilentArePinged, PingsAreSeldom};
+ghost use Rattle.ipxnet_server.specs.Restarts.{RestartAsksAreApart};
 ghost use Rattle.ipxnet_server.specs.ServerRuns.{ClientsShowedTheirNodes, WhoStaysNotedIsAsked};
 
 /// A joined server takes no packet of the core of another router for one of that router's clients.
@@ -22,13 +23,14 @@ pub fn pings_are_seldom()
     ensures { PingsAreSeldom }
 {}
 
-/// An address that registered and shows nothing gets at most two pings each time that it is noted,
+/// An address that is noted and shows nothing gets at most two pings each time that it is noted,
 /// however often there is a turn.
 pub fn asks_are_two()
     ensures { AsksAreTwo }
 {}
 
-/// It gets none earlier than 5.5 s after the registration that it is noted by.
+/// It gets none earlier than 5.5 s after the registration that it is noted by, or 1 s after the
+/// restart.
 pub fn asks_are_late()
     ensures { AsksAreLate }
 {}
@@ -43,6 +45,12 @@ pub fn who_stays_noted_is_asked()
 /// most 48 of these.
 pub fn registrations_keep_other_notes()
     ensures { RegistrationsKeepOtherNotes }
+{}
+
+/// Whoever a new server notes again, at one time: no two of them are pinged at one time, but each 20
+/// ms after the one before, so 50 in a second.
+pub fn restart_asks_are_apart()
+    ensures { RestartAsksAreApart }
 {}
 
 /// Who is a client of a server has shown its node: after any calls of a new server, a datagram came

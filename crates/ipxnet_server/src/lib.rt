@@ -10,6 +10,7 @@
 //! to all nodes, or to a node that no client of its server has. They send it only to their clients.
 #![tactic(auto)]
 
+mod ask_times;
 mod client_node;
 mod clients;
 mod counts;
@@ -25,8 +26,13 @@ mod pinging;
 mod pings;
 mod port;
 mod recipients;
+mod restarting;
 mod server;
 
+pub use ask_times::{
+    FIRST_ASK_MS, FIRST_RESTART_ASK_MS, NoteCause, RESTART_STEP_MS, SECOND_ASK_MS,
+    SECOND_RESTART_ASK_MS,
+};
 pub use client_node::node_of;
 pub use clients::{
     Client, FORGOTTEN_AFTER_MS, MAX_ADDRESS_CLIENTS, MAX_CLIENTS, REPLACED_AFTER_MS,
@@ -38,11 +44,11 @@ pub use hearing::{MAX_CLIENT_BYTES, SERVER_SOCKET};
 pub use laws::{
     asks_are_late, asks_are_two, clients_showed_their_nodes, no_given_packet_shows_a_client,
     only_silent_clients_are_pinged, pings_are_seldom, registrations_keep_other_notes,
-    who_stays_noted_is_asked,
+    restart_asks_are_apart, who_stays_noted_is_asked,
 };
 pub use noted::{MAX_ADDRESS_NOTED, MAX_NOTED, Noted};
 pub use peer_servers::{MAX_REMOTE_CLIENTS, REMOTE_FORGOTTEN_AFTER_MS, RemoteClient};
-pub use pings::{FIRST_ASK_MS, PING_PERIOD_MS, PingTurn, SECOND_ASK_MS, sooner};
+pub use pings::{PING_PERIOD_MS, PingTurn, sooner};
 pub use port::{Secret, ServerPort};
 pub use recipients::Recipients;
 pub use server::IpxnetServer;

@@ -1,11 +1,11 @@
-//! Addresses that registered, have not yet shown that they received the answer, and are still to be
-//! pinged.
+//! Addresses that registered, or were those of clients before a restart, have not yet shown their
+//! node, and are still to be pinged.
 
-ghost use Rattle.std.specs.Prelude.{◌≡◌, ◌≤◌, ◌<◌, ◌+◌, ◌-◌, [], IfOk, drop, find, length, option_copied};
+ghost use Rattle.std.specs.Prelude.{◌≡◌, ◌≤◌, ◌<◌, ◌+◌, ◌-◌, [], IfOk, drop, find, length, option_copied, true};
 ghost use Rattle.std.specs.Vec.{vec_capacity, vec_len};
-ghost use Rattle.ipxnet_server.specs.NotedPlaces.{AreFewNotesOfEachIp, is_note_of_ip, is_noted, max_noted, note_that_goes, noted_but, noted_left, noted_with, noted_without, notes_of_ip, places_noted};
+ghost use Rattle.ipxnet_server.specs.NotedPlaces.{AreFewNotesOfEachIp, has_note_room, is_note_of_ip, is_noted, max_noted, note_that_goes, noted_again, noted_but, noted_left, noted_with, noted_without, notes_of_ip, places_noted, places_noted_again};
 
-use crate::pings::SECOND_ASK_MS;
+use crate::ask_times::NoteCause;
 use std::alloc::{AllocError, Global};
 use std::marker::Model;
 use std::net::SocketAddrV4;
@@ -16,13 +16,15 @@ pub const MAX_NOTED: usize = 64;
 /// How many addresses are noted at most that have one IP address.
 pub const MAX_ADDRESS_NOTED: usize = 16;
 
-/// An address that registered.
+/// An address that is still to be pinged.
 #[derive(Clone, Copy, Debug, PartialEq, Eq)]
 pub struct Noted {
     /// The address.
     pub place: SocketAddrV4,
-    /// When it registered, in ms. This stays if it registers again while it is noted.
+    /// When it was noted, in ms. This stays if it registers again while it is noted.
     pub since: u64,
+    /// Why it was noted, which says when it is pinged.
+    pub cause: NoteCause,
 }
 
 /// The noted addresses, in the order in which they were noted.
@@ -70,7 +72,7 @@ fn leave_out_asked(known: &mut Vec<Noted>, pinged: u64)
     ensures fewer { vec_len known.new ≤ vec_len known.old }
     ensures capacity { vec_capacity known.new ≡ vec_capacity known.old }
 {
-    known.retain(|noted| pinged.saturating_sub(noted.since) < SECOND_ASK_MS);
+    known.retain(|noted| pinged.saturating_sub(noted.since) < noted.cause.second_ask());
 }
 
 /// Removes the address that was noted before all others, if there is no room for another.
@@ -112,6 +114,13 @@ fn find_of_ip(known: &[Noted], place: SocketAddrV4) -> Option<&Noted>
     ensures { option_copied result ≡ find (is_note_of_ip place) known.now }
 {
     known.iter().find(|noted| is_of_ip(noted, place))
+}
+
+/// Whether one more address is noted without removing another.
+fn has_room(known: &[Noted], place: SocketAddrV4) -> bool
+    ensures { result ≡ has_note_room place known.now }
+{
+    known.len() < MAX_NOTED && count_of_ip(known, place) < MAX_ADDRESS_NOTED
 }
 
 /// The address that goes if one more of its IP address is noted.
@@ -166,8 +175,36 @@ impl NotedPlaces {
         leave_out_one(&mut self.known, goes);
         make_space(&mut self.known);
         let last = self.known.len();
-        let noted = Noted { place, since: now };
+        let noted = Noted {
+            place,
+            since: now,
+            cause: NoteCause::Registration,
+        };
         self.known.insert(last, noted).unwrap();
+    }
+
+    /// Notes one more address, of a client before a restart, as the last one.
+    fn add_again(&mut self, place: SocketAddrV4, now: u64)
+        requires { has_note_room place self.old ≡ true }
+        ensures { self.new ≡ noted_again place now self.old }
+    {
+        let before = self.known.len();
+        let noted = Noted {
+            place,
+            since: now,
+            cause: NoteCause::Restart(before),
+        };
+        self.known.insert(before, noted).unwrap();
+    }
+
+    /// Notes an address that was that of a client before a restart, unless it is noted already, or
+    /// there is no room. The notes of others stay as they are.
+    pub fn put_again(&mut self, place: SocketAddrV4, now: u64)
+        ensures { self.new ≡ places_noted_again place now self.old }
+    {
+        if !is_one(&self.known, place) && has_room(&self.known, place) {
+            self.add_again(place, now);
+        }
     }
 
     /// Notes an address that registered now. If it is noted already, its note stays as it is:

@@ -9,13 +9,6 @@ use crate::noted::Noted;
 /// A client is pinged each time that it was silent for so many more milliseconds.
 pub const PING_PERIOD_MS: u64 = 25_000;
 
-/// Who registered, and has shown nothing yet, is pinged this many milliseconds after the
-/// registration that it is noted by, and once more after the next. DOSBox waits 5 s for the answer,
-/// and takes any datagram for it.
-pub const FIRST_ASK_MS: u64 = 5500;
-
-pub const SECOND_ASK_MS: u64 = 8500;
-
 /// A turn in which silent clients are pinged.
 #[derive(Clone, Copy, Debug, PartialEq, Eq)]
 pub struct PingTurn {
@@ -37,7 +30,7 @@ fn asks_due(now: u64, noted: &Noted) -> u64
     ensures { result ≡ asks_by now noted.now }
 {
     let time = now.saturating_sub(noted.since);
-    u64::from(FIRST_ASK_MS <= time) + u64::from(SECOND_ASK_MS <= time)
+    u64::from(noted.cause.first_ask() <= time) + u64::from(noted.cause.second_ask() <= time)
 }
 
 impl PingTurn {
@@ -49,8 +42,9 @@ impl PingTurn {
         silent_periods(self.before, client) < silent_periods(self.now, client)
     }
 
-    /// Whether a noted address is pinged: since the turn before, 5.5 s or 8.5 s have passed after
-    /// the registration that it is noted by.
+    /// Whether a noted address is pinged: since the turn before, the time of one of its two pings
+    /// has come. These are 5.5 s and 8.5 s after the registration that it is noted by, or about 1 s
+    /// and 4 s after a restart.
     pub fn asks(self, noted: &Noted) -> bool
         ensures { result ≡ is_asked self noted.now }
     {
@@ -90,14 +84,16 @@ pub fn next_ping(before: u64, clients: &[Client]) -> Option<u64>
     next
 }
 
-/// When an address that registered is pinged next if it shows nothing, after a turn at `before`.
+/// When an address that is noted is pinged next if it shows nothing, after a turn at `before`.
 /// None if it is pinged no more, or if no clock can show that time.
 fn next_ask_of(before: u64, noted: &Noted) -> Option<u64>
     ensures { IsNextPing (λ now. is_asked (record { before = before; now = now }) noted.now) result }
 {
+    let first = noted.cause.first_ask();
+    let second = noted.cause.second_ask();
     match asks_due(before, noted) {
-        0 => noted.since.checked_add(FIRST_ASK_MS),
-        1 => noted.since.checked_add(SECOND_ASK_MS),
+        0 => noted.since.checked_add(first),
+        1 => noted.since.checked_add(second),
         _ => None,
     }
 }

@@ -6,7 +6,7 @@ use crate::fixture::{
 };
 use ipx_wire::{IpxFault, Network, Node};
 use ipxnet_server::{
-    Client, Disposition, IpxnetServer, Noted, Secret, ServerDrop, ServerPort, node_of,
+    Client, Disposition, IpxnetServer, NoteCause, Noted, Secret, ServerDrop, ServerPort, node_of,
 };
 use std::net::{Ipv4Addr, SocketAddrV4};
 use std::test::Fail;
@@ -40,10 +40,12 @@ fn answers(rt: HostRuntime) -> Result<(), Fail> {
     let first = Noted {
         place: first_place(),
         since: 7,
+        cause: NoteCause::Registration,
     };
     let third = Noted {
         place: third_place(),
         since: 8,
+        cause: NoteCause::Registration,
     };
     assert_eq!(rt; server.noted(), [first, third].as_slice());
     Ok(())

@@ -1,5 +1,6 @@
 use Rattle.std.proofs.Common.{◌≡◌, ◌+◌, ◌-◌, ℕ, List, [], ◌∷◌, ◌++◌, length, take, drop, sym, ap, subst, ◌∙◌, rules}
 use Rattle.std.specs.Vec.{vec_capacity}
+use Rattle.ipxnet_server.specs.declared.ask_times.NoteCause.TheVariants.{Registration}
 use Rattle.ipxnet_server.specs.declared.noted.Noted.{Noted}
 use Rattle.ipxnet_server.specs.NotedPlaces.{max_noted, note_that_goes, noted_but, noted_with}
 use Rattle.ipxnet_server.specs.ServerInside.{AreNoted}
@@ -13,7 +14,7 @@ invariant_of-self c =
     let now = c.args.now in
     let known : List Noted = c.self.inside.known.items in
     let kept : List Noted = noted_but (note_that_goes place known) known in
-    let d : Noted = record { place = place; since = now } in
+    let d : Noted = record { place = place; since = now; cause = Registration } in
     let without : c.leave_out_one.new.known.items ≡ kept = search rules in
     let room : List Noted = c.make_space.new.known.items in
     let made : room ≡ drop (length kept + 1 - max_noted) kept = c.make_space.ensures.items ∙ ap (λ (l : List Noted). drop (length l + 1 - max_noted) l) without in
